@@ -1,5 +1,5 @@
-// Tries the parser against the plain program, on all texts of at most so many letters: the first argument says how many. It
-// prints what disagreed, and then how much was tried.
+// Tries the parser against the plain program, on all texts of at most so many letters: the first argument says how
+// many. It prints what disagreed, and then how much was tried.
 #![tactic(auto)]
 
 use blocks_body::Blocks;

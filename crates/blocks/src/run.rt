@@ -11,8 +11,8 @@ use std::io::{Read, Write};
 
 /// Reads `input` whole and writes its outline to `output`; answers the status that the program ends with.
 ///
-/// `args` leaves out the program's name. Where the status is not 0, one line on `errors` says why: an unknown argument or no
-/// text (2), want of memory (3), or a read or a write that failed (4).
+/// `args` leaves out the program's name. Where the status is not 0, one line on `errors` says why: an unknown argument
+/// or no text (2), want of memory (3), or a read or a write that failed (4).
 pub fn run<R: Read, W: Write, E: Write>(
     alloc: Global,
     args: &[String],

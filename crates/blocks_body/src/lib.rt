@@ -10,7 +10,8 @@ use md_engine::message::Message;
 use md_program::body::{Body, Outlined};
 use std::alloc::Global;
 
-/// The parser of blocks. Of the constructs it has block quotes, ATX headings and thematic breaks, and turns the others off.
+/// The parser of blocks. Of the constructs it has block quotes, ATX headings and thematic breaks, and turns the others
+/// off.
 pub struct Blocks;
 
 impl Body for Blocks {

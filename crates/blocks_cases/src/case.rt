@@ -71,8 +71,8 @@ fn constructs_of(set: &str) -> Option<Constructs> {
     }
 }
 
-/// The output that a row's outline stands for: an empty line goes before the labels, and where they are left out there are
-/// none.
+/// The output that a row's outline stands for: an empty line goes before the labels, and where they are left out there
+/// are none.
 fn output_of(alloc: Global, outline: &str) -> Result<String, AllocError> {
     let mut output = String::new(alloc);
     let mut has_labels = false;

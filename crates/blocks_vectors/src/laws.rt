@@ -1,5 +1,5 @@
-// Tries the laws of nesting: a text that is quoted, or indented as an item, has the same outline one container deeper, and
-// the same labels.
+// Tries the laws of nesting: a text that is quoted, or indented as an item, has the same outline one container deeper,
+// and the same labels.
 
 use crate::report::Report;
 use crate::rows::printed;

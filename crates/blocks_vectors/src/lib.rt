@@ -1,4 +1,5 @@
-// Tries bodies of the parser: on the rows of `blocks_cases`, on long texts, on the laws of nesting, and against each other.
+// Tries bodies of the parser: on the rows of `blocks_cases`, on long texts, on the laws of nesting, and against each
+// other.
 #![tactic(auto)]
 
 pub mod agree;

@@ -35,7 +35,8 @@ pub fn prefixed(
     Ok(wrapped)
 }
 
-/// The text of so many letters of an alphabet that a number stands for: its digits choose the letters, the last one first.
+/// The text of so many letters of an alphabet that a number stands for: its digits choose the letters, the last one
+/// first.
 pub fn numbered(
     alloc: Global,
     alphabet: &[&str],

@@ -7,7 +7,8 @@ use Rattle.blocks_body.specs.Built.{built_from}
 use Rattle.markdown_blocks.specs.Parsed.{IsParsed}
 use Rattle.events_body.specs.PrintedEvents.{printed_events}
 
--- The printed form of events that are known to be those of the text, as `parse` answers them under what is there of the options.
+-- The printed form of events that are known to be those of the text, as `parse` answers them under what is there of the
+-- options.
 pub record PrintsEvents (text : List ℕ) (options : ParseOptions) (bytes : List ℕ) : Type 0 where
   pub events : List Event
   pub state : ParseState

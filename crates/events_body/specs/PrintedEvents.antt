@@ -95,11 +95,13 @@ sign Exit = codes "- "
 -- line, column, byte, and the columns of a tab, each behind a space
 unfoldable pub printed_point : Point → List ℕ
 printed_point p =
-    (codes " " ++ decimal p.line) ++ (codes " " ++ decimal p.column) ++ (codes " " ++ decimal p.index) ++ codes " " ++ decimal p.vs
+    (codes " " ++ decimal p.line) ++ (codes " " ++ decimal p.column) ++ (codes " " ++ decimal p.index) ++ codes " "
+    ++ decimal p.vs
 
 -- two spaces for each part around the event, its sign, its name and its point
 unfoldable pub printed_event : ℕ → Event → List ℕ
-printed_event depth event = repeat depth (codes "  ") ++ sign event.kind ++ name_text event.name ++ printed_point event.point ++ line_end
+printed_event depth event =
+    repeat depth (codes "  ") ++ sign event.kind ++ name_text event.name ++ printed_point event.point ++ line_end
 
 -- how many parts stand around an event, where so many are open in front of it: an exit stands as deep as its enter
 abbrev pub depth_at : ℕ → Kind → ℕ
@@ -114,7 +116,8 @@ open_behind around Exit = around - 1
 -- the lines of events, where so many parts are open in front of the first
 abbrev pub printed_within : ℕ → List Event → List ℕ
 printed_within around [] = []
-printed_within around (e ∷ es) = printed_event (depth_at around e.kind) e ++ printed_within (open_behind around e.kind) es
+printed_within around (e ∷ es) =
+    printed_event (depth_at around e.kind) e ++ printed_within (open_behind around e.kind) es
 
 -- the lines of all events of a text
 abbrev pub printed_events : List Event → List ℕ

@@ -12,13 +12,16 @@ use Rattle.md_definition.specs.State.{Container}
 use Rattle.md_outline.specs.Between.{is_between}
 use Rattle.markdown_blocks.specs.Change.{ends_of}
 use Rattle.markdown_blocks.specs.Fronted.{contained, rest_from, rest_line}
-use Rattle.markdown_blocks.specs.Rows.{leaf_behind, final_row, first_row, group_done, group_events, group_kind, ending_of, Group, Lines, Row, Single, behind_row, ending_events, groups, groups_events, is_text, tail_events}
+use Rattle.markdown_blocks.specs.Rows.{leaf_behind, final_row, first_row, group_done, group_events, group_kind}
+use Rattle.markdown_blocks.specs.Rows.{ending_of, Group, Lines, Row, Single, behind_row, ending_events, groups}
+use Rattle.markdown_blocks.specs.Rows.{groups_events, is_text, tail_events}
 use Rattle.markdown_blocks.proofs.EachRow.{EachGroup, EachRow, OfGroup, groups-each, last-each}
 use Rattle.markdown_blocks.proofs.FrontStands.{fronts-between}
 use Rattle.markdown_blocks.proofs.JoinedLemmas.{behind-is, behind-none}
 use Rattle.markdown_blocks.proofs.NestedRows.{ByGroups, rows-hold}
 use Rattle.markdown_blocks.proofs.RowFacts.{AreRows, IsLine, IsRow, behind_line}
-use Rattle.markdown_blocks.proofs.BetweenFacts.{AreBetween, between-append, between-end, between-more, between-pair, ending-before, ending-behind}
+use Rattle.markdown_blocks.proofs.BetweenFacts.{AreBetween, between-append, between-end, between-more, between-pair}
+use Rattle.markdown_blocks.proofs.BetweenFacts.{ending-before, ending-behind}
 use Rattle.markdown_blocks.specs.Registry.{container_name}
 
 -- Lines.
@@ -29,26 +32,36 @@ pub record RowBetween (bytes : List ℕ) (row : Row) : Type 0 where
   pub end : is_between bytes row.end.index ≡ true
   pub behind : is_between bytes (behind_row row).index ≡ true
 
-ending-between : (bytes : List ℕ) (name : Name) (row : Row) → is_between bytes row.end.index ≡ true → is_between bytes (behind_row row).index ≡ true → AreBetween bytes (ending_events name row)
+ending-between : (bytes : List ℕ) (name : Name) (row : Row) → is_between bytes row.end.index ≡ true →
+    is_between bytes (behind_row row).index ≡ true → AreBetween bytes (ending_events name row)
 ending-between bytes name row end = go row.after
   where
-    go : (after : Option Point) → is_between bytes (behind_row (record row { after = after })).index ≡ true → AreBetween bytes (ending_events name (record row { after = after }))
+    go : (after : Option Point) → is_between bytes (behind_row (record row { after = after })).index ≡ true →
+        AreBetween bytes (ending_events name (record row { after = after }))
     go None h = refl
     go (Some q) h = between-pair bytes name row.end q end h
 
 -- the ends of containers, and an ending
-tail-between : (bytes : List ℕ) (name : Name) (row : Row) → is_between bytes row.end.index ≡ true → is_between bytes (behind_row row).index ≡ true → AreBetween bytes (tail_events name row)
-tail-between bytes name row end behind = between-append bytes (ends_of row.leaves row.end) (ending_events name row) (go row.leaves) (ending-between bytes name row end behind)
+tail-between : (bytes : List ℕ) (name : Name) (row : Row) → is_between bytes row.end.index ≡ true →
+    is_between bytes (behind_row row).index ≡ true → AreBetween bytes (tail_events name row)
+tail-between bytes name row end behind =
+    between-append bytes (ends_of row.leaves row.end) (ending_events name row) (go row.leaves)
+    (ending-between bytes name row end behind)
   where
     go : (cs : List Container) → AreBetween bytes (ends_of cs row.end)
     go [] = refl
-    go (c ∷ cs) = between-append bytes (ends_of cs row.end) (exit (container_name c) row.end ∷ []) (go cs) (between-more bytes (exit (container_name c) row.end) [] end refl)
+    go (c ∷ cs) =
+        between-append bytes (ends_of cs row.end) (exit (container_name c) row.end ∷ []) (go cs)
+        (between-more bytes (exit (container_name c) row.end) [] end refl)
 
 -- Groups.
 
 -- what stands in front of a line, a block, and what follows it
-line-between : (bytes : List ℕ) (name : Name) (front inside : List Event) (row : Row) → RowBetween bytes row → AreBetween bytes front → AreBetween bytes inside → AreBetween bytes (front ++ inside ++ tail_events name row)
-line-between bytes name front inside row b h k = between-append bytes (front ++ inside) (tail_events name row) (between-append bytes front inside h k) (tail-between bytes name row b.end b.behind)
+line-between : (bytes : List ℕ) (name : Name) (front inside : List Event) (row : Row) → RowBetween bytes row →
+    AreBetween bytes front → AreBetween bytes inside → AreBetween bytes (front ++ inside ++ tail_events name row)
+line-between bytes name front inside row b h k =
+    between-append bytes (front ++ inside) (tail_events name row) (between-append bytes front inside h k)
+    (tail-between bytes name row b.end b.behind)
 
 -- of a group, the first line and the last
 first-between : (bytes : List ℕ) (group : Group) → OfGroup (RowBetween bytes) group → RowBetween bytes (first_row group)
@@ -61,7 +74,8 @@ final-between bytes (Lines row rows) h = last-each (RowBetween bytes) row rows h
 
 -- groups of such lines, the first of which begins between characters
 abbrev BetweenGroups : List ℕ → List Name → Point → List Group → Type 0
-BetweenGroups bytes names p gs = is_between bytes p.index ≡ true → EachGroup (RowBetween bytes) gs → AreBetween bytes (groups_events bytes gs)
+BetweenGroups bytes names p gs =
+    is_between bytes p.index ≡ true → EachGroup (RowBetween bytes) gs → AreBetween bytes (groups_events bytes gs)
 
 between-by_groups : (bytes : List ℕ) → ByGroups bytes (BetweenGroups bytes)
 between-by_groups bytes = record {
@@ -71,12 +85,17 @@ between-by_groups bytes = record {
       let first : RowBetween bytes row = first-between bytes group h.0 in
       let last : RowBetween bytes (final_row group) = final-between bytes group h.0 in
       between-append bytes (group_events bytes group) (groups_events bytes gs)
-      (line-between bytes (ending_of (group_kind group)) row.front (group_done bytes group) (final_row group) last (fronts-between bytes row.change.opens p row.first row.front from o.front).0 (o.leaf.1.between first.first last.end))
+      (line-between bytes (ending_of (group_kind group)) row.front (group_done bytes group) (final_row group) last
+      (fronts-between bytes row.change.opens p row.first row.front from o.front).0
+      (o.leaf.1.between first.first last.end))
       (on last.behind h.1);
 }
 
 -- Each line of a text stands so.
-pub rows-stand : (options : ParseOptions) (bytes : List ℕ) (open_before : List Container) (still : HeldLeaf) (p : Point) (lines : List (List ℕ)) (rows : List Row) → is_between bytes p.index ≡ true → AreRows options bytes open_before still p lines rows → EachRow (RowBetween bytes) rows
+pub rows-stand : (options : ParseOptions) (bytes : List ℕ) (open_before : List Container) (still : HeldLeaf) (p : Point)
+    (lines : List (List ℕ)) (rows : List Row) →
+    is_between bytes p.index ≡ true → AreRows options bytes open_before still p lines rows →
+    EachRow (RowBetween bytes) rows
 rows-stand options bytes open_before still p (line ∷ []) (row ∷ []) from are =
     let at : IsLine options bytes open_before still p line row = are.0 in
     let rest : List ℕ = rest_line (contained options open_before still (rest_from p line)).rest in
@@ -104,10 +123,15 @@ rows-stand options bytes open_before still p (line ∷ next ∷ lines) (row ∷ 
         end = end;
         behind = subst (λ (q : Point). is_between bytes q.index ≡ true) (sym behind) after;
       },
-      rows-stand options bytes (behind_line options open_before still p line) (leaf_behind row.kind) are.2 (next ∷ lines) (below ∷ rows) after are.5,
+      rows-stand options bytes (behind_line options open_before still p line) (leaf_behind row.kind) are.2
+          (next ∷ lines) (below ∷ rows) after are.5,
     )
 rows-stand options bytes open_before still p lines rows from are = absurd are
 
 -- The groups of the lines of a text stand between its characters.
-pub rows-between : (options : ParseOptions) (bytes : List ℕ) (p : Point) (lines : List (List ℕ)) (rows : List Row) → is_between bytes p.index ≡ true → AreRows options bytes [] held_leaf.None p lines rows → AreBetween bytes (groups_events bytes (groups rows))
-rows-between options bytes p lines rows from are = rows-hold bytes (BetweenGroups bytes) (between-by_groups bytes) options p lines rows are from (groups-each (RowBetween bytes) rows (rows-stand options bytes [] held_leaf.None p lines rows from are))
+pub rows-between : (options : ParseOptions) (bytes : List ℕ) (p : Point) (lines : List (List ℕ)) (rows : List Row) →
+    is_between bytes p.index ≡ true → AreRows options bytes [] held_leaf.None p lines rows →
+    AreBetween bytes (groups_events bytes (groups rows))
+rows-between options bytes p lines rows from are =
+    rows-hold bytes (BetweenGroups bytes) (between-by_groups bytes) options p lines rows are from
+    (groups-each (RowBetween bytes) rows (rows-stand options bytes [] held_leaf.None p lines rows from are))

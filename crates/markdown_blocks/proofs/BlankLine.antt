@@ -78,13 +78,17 @@ white-facts bytes line rest b p blank text = record {
     nested = around-nested n.SpaceOrTab p q [] (balanced-none, (tt, before-text (b ∷ line) p))
 
     stood : Stood bytes white
-    stood = stood-pair bytes n.SpaceOrTab p q (over-stands bytes n.SpaceOrTab p q (b ∷ line) (over-front bytes p q (b ∷ line) rest text (omega arith) refl) (begins-cut n.SpaceOrTab p refl) blank)
+    stood =
+        stood-pair bytes n.SpaceOrTab p q
+        (over-stands bytes n.SpaceOrTab p q (b ∷ line) (over-front bytes p q (b ∷ line) rest text (omega arith) refl)
+        (begins-cut n.SpaceOrTab p refl) blank)
 
 -- A blank line shows no block.
 pub blank-facts : (bytes line : List ℕ) (r : Rest) (p q : Point) → is_blank r.bytes ≡ true → LineAt bytes r line p q →
     LeafFacts bytes None p q (blank_line line p) (blank_line line p)
 blank-facts bytes line r p q blank at =
-    subst (λ (x : Point). LeafFacts bytes None p x (blank_line line p) (blank_line line p)) (sym at.end) (go line (ap is_blank at.line_is ∙ line-blank r ∙ blank) text)
+    subst (λ (x : Point). LeafFacts bytes None p x (blank_line line p) (blank_line line p)) (sym at.end)
+    (go line (ap is_blank at.line_is ∙ line-blank r ∙ blank) text)
   where
     text : drop p.index bytes ≡ line ++ drop q.index bytes
     text = line-stands bytes r line p q at

@@ -1,5 +1,6 @@
 -- What the plain layer gives for a chunk: its pieces stand, and it keeps the grammar of a text.
-use Rattle.std.proofs.Common.{◌≡◌, ℕ, ◌+◌, ◌<◌, Bool, true, false, cond, List, [], ◌∷◌, ◌++◌, length, drop, slice_range, refl, ap, sym, ◌∙◌, subst, append_assoc, append-nil, arith}
+use Rattle.std.proofs.Common.{◌≡◌, ℕ, ◌+◌, ◌<◌, Bool, true, false, cond, List, [], ◌∷◌, ◌++◌, length, drop, slice_range}
+use Rattle.std.proofs.Common.{refl, ap, sym, ◌∙◌, subst, append_assoc, append-nil, arith}
 use Rattle.std.specs.Prelude.{◌==◌, not}
 use Rattle.std.proofs.lemmas.Bool.{and_from, and_parts}
 use Rattle.std.proofs.lemmas.Bool.Decides.{nat_tests}
@@ -21,7 +22,8 @@ use Rattle.md_seam.proofs.GrammarLemmas.{IsWord, leads-append, leads-unless, may
 use Rattle.md_seam.proofs.InlineLemmas.{past-index, past-vs}
 use Rattle.md_definition.proofs.TextsLemmas.{Both, Ending, LineFeed, NoEnding, Return, ending_bytes}
 use Rattle.markdown_blocks.proofs.LineTexts.{one-last, one-next, past-whole, piece, without-none, without-one}
-use Rattle.markdown_blocks.proofs.PieceFacts.{Over, Starts, Stood, begins-cut, begins-whole, chunk-stands, chunk_span, over-front, over-stands, span, stood-append, stood-unless_empty}
+use Rattle.markdown_blocks.proofs.PieceFacts.{Over, Starts, Stood, begins-cut, begins-whole, chunk-stands, chunk_span}
+use Rattle.markdown_blocks.proofs.PieceFacts.{over-front, over-stands, span, stood-append, stood-unless_empty}
 use Rattle.markdown_blocks.proofs.PiecesLemmas.{Tiled}
 
 -- Pieces.
@@ -55,14 +57,18 @@ starts-some p q es lt = subst (λ (x : Bool). Starts (cond x [] (pair n.Data p q
 -- by its line and what follows that
 chunked-by : (bytes line tail : List ℕ) (p q : Point) → 0 < length line → NoEnding line → q.vs ≡ 0 →
     q.index ≡ p.index + length (line ++ tail) → slice_range bytes p.index q.index ≡ line ++ tail →
-    without_ending (line ++ tail) ≡ line → is_one_line (split_lines (line ++ tail)) true ≡ true → Stood bytes (pair_unless_empty n.LineEnding (past_text line p) q) → Chunked bytes p q
+    without_ending (line ++ tail) ≡ line → is_one_line (split_lines (line ++ tail)) true ≡ true →
+    Stood bytes (pair_unless_empty n.LineEnding (past_text line p) q) → Chunked bytes p q
 chunked-by bytes line tail p q some none whole size slice without one ending = record {
   linked =
-      chunk-stands bytes n.Data p q (line ++ tail) (record { some = omega (arith, size, sizes); whole = whole; slice = slice }) refl one;
+      chunk-stands bytes n.Data p q (line ++ tail)
+      (record { some = omega (arith, size, sizes); whole = whole; slice = slice }) refl one;
   read =
-      subst BothStand (sym end) (stood-append bytes (pair_unless_empty n.Data p r) (pair_unless_empty n.LineEnding r q) text ending);
+      subst BothStand (sym end)
+      (stood-append bytes (pair_unless_empty n.Data p r) (pair_unless_empty n.LineEnding r q) text ending);
   starts =
-      subst (λ (e : Point). Starts (pair_unless_empty n.Data p e ++ pair_unless_empty n.LineEnding e q)) (sym end) (starts-some p r (pair_unless_empty n.LineEnding r q) over.some);
+      subst (λ (e : Point). Starts (pair_unless_empty n.Data p e ++ pair_unless_empty n.LineEnding e q)) (sym end)
+      (starts-some p r (pair_unless_empty n.LineEnding r q) over.some);
 }
   where
     r : Point
@@ -88,7 +94,8 @@ chunked-by bytes line tail p q some none whole size slice without one ending = r
 
     text : Stood bytes (pair_unless_empty n.Data p r)
     text =
-        stood-unless_empty bytes n.Data p r (λ apart. over-stands bytes n.Data p r line over (begins-cut n.Data p refl) (in_line line none))
+        stood-unless_empty bytes n.Data p r
+        (λ apart. over-stands bytes n.Data p r line over (begins-cut n.Data p refl) (in_line line none))
 
 -- a line without its ending
 pub chunked-alone : (bytes line : List ℕ) (p q : Point) → 0 < length line → NoEnding line → q.vs ≡ 0 →
@@ -96,7 +103,8 @@ pub chunked-alone : (bytes line : List ℕ) (p q : Point) → 0 < length line �
 chunked-alone bytes line p q some none whole size slice =
     let same : line ++ [] ≡ line = append-nil line in
     let long : length (line ++ []) ≡ length line = ap (λ (l : List ℕ). length l) same in
-    chunked-by bytes line [] p q some none whole (omega (arith, size, long)) (slice ∙ sym same) (ap without_ending same ∙ without-none line none)
+    chunked-by bytes line [] p q some none whole (omega (arith, size, long)) (slice ∙ sym same)
+    (ap without_ending same ∙ without-none line none)
     (ap (λ (l : List ℕ). is_one_line (split_lines l) true) same ∙ one-last line some none true refl)
     (stood-unless_empty bytes n.LineEnding (past_text line p) q (λ apart. absurd (here line some size apart)))
   where
@@ -116,7 +124,9 @@ pub ending-stands : (bytes : List ℕ) (name : Name) (p q : Point) →
     ((ending : Ending) → stands_over name (ending_bytes ending) ≡ true) → p.vs ≡ 0 → IsEnding bytes p q →
     piece_stands bytes (span name p q) ≡ true
 ending-stands bytes name p q named whole is =
-    over-stands bytes name p q (ending_bytes is.ending) (let some = ending-some is.ending in record { some = omega (arith, is.size); whole = is.whole; slice = is.text }) (begins-whole name p whole) (named is.ending)
+    over-stands bytes name p q (ending_bytes is.ending)
+    (let some = ending-some is.ending in record { some = omega (arith, is.size); whole = is.whole; slice = is.text })
+    (begins-whole name p whole) (named is.ending)
 
 -- each ending is one
 pub line-ending : (ending : Ending) → is_line_ending (ending_bytes ending) ≡ true
@@ -130,13 +140,16 @@ pub chunked-ended : (bytes line : List ℕ) (p q : Point) → 0 < length line �
     Chunked bytes p q
 chunked-ended bytes line p q some none slice is =
     let index : (past_text line p).index ≡ p.index + length line = past-index line p in
-    let long : length (line ++ ending_bytes is.ending) ≡ length line + length (ending_bytes is.ending) = length-append line (ending_bytes is.ending) in
+    let long : length (line ++ ending_bytes is.ending) ≡
+    length line + length (ending_bytes is.ending) = length-append line (ending_bytes is.ending) in
     let text : slice_range bytes p.index q.index ≡ line ++ ending_bytes is.ending =
     slice-split bytes p.index (past_text line p).index q.index (omega (arith, index)) (omega (arith, is.size))
     ∙ ap (λ (l : List ℕ). l ++ slice_range bytes (past_text line p).index q.index) slice
     ∙ ap (λ (l : List ℕ). line ++ l) is.text in
-    chunked-by bytes line (ending_bytes is.ending) p q some none is.whole (omega (arith, is.size, index, long)) text (without-one line is.ending none) (one-next line is.ending none true)
-    (stood-unless_empty bytes n.LineEnding (past_text line p) q (λ apart. ending-stands bytes n.LineEnding (past_text line p) q line-ending (past-whole line p some) is))
+    chunked-by bytes line (ending_bytes is.ending) p q some none is.whole (omega (arith, is.size, index, long)) text
+    (without-one line is.ending none) (one-next line is.ending none true)
+    (stood-unless_empty bytes n.LineEnding (past_text line p) q
+    (λ apart. ending-stands bytes n.LineEnding (past_text line p) q line-ending (past-whole line p some) is))
 
 -- Its events are a word of a text.
 
@@ -156,7 +169,9 @@ chunk-word bytes first chunk =
     record {
       left = maybe ending.0 n.LineEnding mid;
       leads =
-          leads-append plain_text (text_left first ∷ []) (mid ∷ []) (maybe ending.0 n.LineEnding mid ∷ []) (pair_unless_empty n.Data chunk.first end) (pair_unless_empty n.LineEnding end chunk.after) line.1 ending.1;
+          leads-append plain_text (text_left first ∷ []) (mid ∷ []) (maybe ending.0 n.LineEnding mid ∷ [])
+          (pair_unless_empty n.Data chunk.first end)
+          (pair_unless_empty n.LineEnding end chunk.after) line.1 ending.1;
       ends = ends first line.0 ending.0;
     }
   where

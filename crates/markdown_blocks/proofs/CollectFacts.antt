@@ -1,5 +1,6 @@
 -- What a text that is being read comes to, event by event.
-use Rattle.std.proofs.Common.{◌≡◌, ℕ, ◌-◌, ◌≤◌, true, List, [], ◌∷◌, ◌++◌, take, drop, slice_range, ap, ◌∙◌, append_assoc, arith}
+use Rattle.std.proofs.Common.{◌≡◌, ℕ, ◌-◌, ◌≤◌, true, List, [], ◌∷◌, ◌++◌, take, drop, slice_range, ap, ◌∙◌}
+use Rattle.std.proofs.Common.{append_assoc, arith}
 use Rattle.std.proofs.lemmas.Bool.{and_from, and_parts}
 use Rattle.md_engine.specs.declared.event.Event.{Event}
 use Rattle.md_definition.specs.Rest.{is_blank, is_white}
@@ -13,18 +14,28 @@ slice-none bytes i = let none : i - i ≡ 0 = omega arith in ap (λ (k : ℕ). t
 
 -- From a byte on, a text that is being read comes to these bytes with these events; what stands before is kept.
 abbrev pub Collects : List ℕ → List Event → ℕ → ℕ → List ℕ → Type 0
-Collects bytes es from end all = (t : Text) → t.from ≤ from → text_to bytes end (text_after bytes t es) ≡ t.front ++ (slice_range bytes t.from from ++ all)
+Collects bytes es from end all =
+    (t : Text) → t.from ≤ from →
+    text_to bytes end (text_after bytes t es) ≡ t.front ++ (slice_range bytes t.from from ++ all)
 
 -- what an inline layer gives
-pub collects-inline : (bytes : List ℕ) (es : List Event) (from end : ℕ) → Roles QuietOrEnding es → from ≤ end → Collects bytes es from end (slice_range bytes from end)
-collects-inline bytes es from end inline le = λ t h. ap (text_to bytes end) (text-inline bytes t es inline) ∙ ap (λ (l : List ℕ). t.front ++ l) (slice-split bytes t.from from end h le)
+pub collects-inline : (bytes : List ℕ) (es : List Event) (from end : ℕ) → Roles QuietOrEnding es → from ≤ end →
+    Collects bytes es from end (slice_range bytes from end)
+collects-inline bytes es from end inline le =
+    λ t h. ap (text_to bytes end) (text-inline bytes t es inline)
+    ∙ ap (λ (l : List ℕ). t.front ++ l) (slice-split bytes t.from from end h le)
 
 -- and what comes behind it
-pub collects-behind : (bytes : List ℕ) (xs ys : List Event) (from end : ℕ) (all : List ℕ) → Roles QuietOrEnding xs → Collects bytes ys from end all → Collects bytes (xs ++ ys) from end all
-collects-behind bytes xs ys from end all inline c = λ t h. ap (text_to bytes end) (text_after-append bytes t xs ys ∙ ap (λ (x : Text). text_after bytes x ys) (text-inline bytes t xs inline)) ∙ c t h
+pub collects-behind : (bytes : List ℕ) (xs ys : List Event) (from end : ℕ) (all : List ℕ) → Roles QuietOrEnding xs →
+    Collects bytes ys from end all → Collects bytes (xs ++ ys) from end all
+collects-behind bytes xs ys from end all inline c =
+    λ t h. ap (text_to bytes end)
+    (text_after-append bytes t xs ys ∙ ap (λ (x : Text). text_after bytes x ys) (text-inline bytes t xs inline))
+    ∙ c t h
 
 -- from an earlier byte on
-pub collects-back : (bytes : List ℕ) (es : List Event) (i from end : ℕ) (all : List ℕ) → i ≤ from → Collects bytes es from end all → Collects bytes es i end (slice_range bytes i from ++ all)
+pub collects-back : (bytes : List ℕ) (es : List Event) (i from end : ℕ) (all : List ℕ) → i ≤ from →
+    Collects bytes es from end all → Collects bytes es i end (slice_range bytes i from ++ all)
 collects-back bytes es i from end all le c = λ t h.
     c t (omega arith)
     ∙ ap (λ (l : List ℕ). t.front ++ (l ++ all)) (slice-split bytes t.from i from h le)
@@ -40,4 +51,6 @@ blank-behind (b ∷ xs) ys h = blank-behind xs ys (and_parts (is_white b) (is_bl
 -- whitespace behind whitespace is whitespace
 pub blank-append : (xs ys : List ℕ) → is_blank xs ≡ true → is_blank ys ≡ true → is_blank (xs ++ ys) ≡ true
 blank-append [] ys h k = k
-blank-append (b ∷ xs) ys h k = let parts = and_parts (is_white b) (is_blank xs) h in and_from (is_white b) (is_blank (xs ++ ys)) parts.0 (blank-append xs ys parts.1 k)
+blank-append (b ∷ xs) ys h k =
+    let parts = and_parts (is_white b) (is_blank xs) h in
+    and_from (is_white b) (is_blank (xs ++ ys)) parts.0 (blank-append xs ys parts.1 k)

@@ -35,7 +35,8 @@ pub record IsPassed (k : ContainerKind) (cells : List Cell) (t : Passed) : Type 
 -- what holds of the rest of a line and its cells, behind which others stand: of any rest at any point
 abbrev pub ByRest : ((line : Line) (text past : List ℕ) (r : Rest) (stop : List Cell) (p : Point) → Type 0) → Type 0
 ByRest P = (line : Line) (text past : List ℕ) (r : Rest) (stop : List Cell) (p : Point) →
-    RestAt text past r p → NoEnding r.bytes → Stops stop → length (rest_cells line r p ++ stop) < 2 ^ 63 → P line text past r stop p
+    RestAt text past r p → NoEnding r.bytes → Stops stop → length (rest_cells line r p ++ stop) < 2 ^ 63 →
+    P line text past r stop p
 
 pub record ContainerLaws (k : ContainerKind) (rules : ContainerRules) : Type 1 where
   -- What is left at its states is what it takes by the cells of a line, and is shorter.
@@ -66,10 +67,12 @@ pub record ContainerLaws (k : ContainerKind) (rules : ContainerRules) : Type 1 w
   -- It opens and goes on where the line definition says, and leaves what it says.
   pub opens_agrees : (options : ParseOptions) (interrupting : Bool) → ByRest (λ line text past r stop p.
       let cells = rest_cells line r p ++ stop in
-      Agree (HasOpening line text past p (past_rest r p) stop cells) (rules.opens options interrupting cells p) (rules.found options interrupting r))
+      Agree (HasOpening line text past p (past_rest r p) stop cells) (rules.opens options interrupting cells p)
+      (rules.found options interrupting r))
   pub goes_agrees : (options : ParseOptions) (c : Container) → IsOf k c → ByRest (λ line text past r stop p.
       let cells = rest_cells line r p ++ stop in
-      Agree (HasFurther line text past p (past_rest r p) stop cells) (rules.goes options c cells p) (continues options c r))
+      Agree (HasFurther line text past p (past_rest r p) stop cells) (rules.goes options c cells p)
+      (continues options c r))
   -- By the line definition what opens is of its kind; it does not go on over an empty line; and with simple blocks in
   -- it, its block is simple.
   pub found_one : (options : ParseOptions) (interrupting : Bool) (r : Rest) (t : Taken) →

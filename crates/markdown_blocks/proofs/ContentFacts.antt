@@ -12,7 +12,8 @@ abbrev pub NoContent : (Content → Bool) → List Event → Type 0
 NoContent wants [] = Unit {0}
 NoContent wants (e ∷ es) = (unwanted : wanted wants e ≡ None) × (name : is_content e.name ≡ false) × NoContent wants es
 
-pub no_content-append : (wants : Content → Bool) (xs ys : List Event) → NoContent wants xs → NoContent wants ys → NoContent wants (xs ++ ys)
+pub no_content-append : (wants : Content → Bool) (xs ys : List Event) → NoContent wants xs → NoContent wants ys →
+    NoContent wants (xs ++ ys)
 no_content-append wants [] ys h k = k
 no_content-append wants (e ∷ xs) ys h k = (h.0, h.1, no_content-append wants xs ys h.2 k)
 

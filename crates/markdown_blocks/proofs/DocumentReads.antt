@@ -1,5 +1,7 @@
 -- What the table of the document has read of a text: its mark.
-use Rattle.std.proofs.Common.{◌≡◌, ◌+◌, ◌^◌, ◌<◌, ◌≤◌, ℕ, suc, Bool, true, false, cond, nat_eq, nat_lt, ◌&&◌, ◌||◌, List, [], ◌∷◌, ◌++◌, length, take, drop, Option, Some, None, refl, sym, ◌∙◌, ap, subst, arith}
+use Rattle.std.proofs.Common.{◌≡◌, ◌+◌, ◌^◌, ◌<◌, ◌≤◌, ℕ, suc, Bool, true, false, cond, nat_eq, nat_lt, ◌&&◌, ◌||◌}
+use Rattle.std.proofs.Common.{List, [], ◌∷◌, ◌++◌, length, take, drop, Option, Some, None, refl, sym, ◌∙◌, ap, subst}
+use Rattle.std.proofs.Common.{arith}
 use Rattle.std.specs.Prelude.{◌==◌, slice_index}
 use Rattle.std.specs.List.{list_all}
 use Rattle.std.specs.Cmp.Lexicographic.{pointwise}
@@ -35,7 +37,8 @@ use Rattle.md_seam.specs.Ahead.{point_after}
 use Rattle.md_seam.specs.Events.Nested.{pair}
 use Rattle.md_definition.specs.Preamble.{has_mark}
 use Rattle.md_seam.specs.Spaces.{is_current}
-use Rattle.markdown_blocks.specs.Document.{DocumentStep, ReadsMark, body_point, document_table_scheme, document_transition, mark_end, mark_events}
+use Rattle.markdown_blocks.specs.Document.{DocumentStep, ReadsMark, body_point, document_table_scheme}
+use Rattle.markdown_blocks.specs.Document.{document_transition, mark_end, mark_events}
 use Rattle.markdown_blocks.specs.DocumentRule.{document_at, document_behaves}
 use Rattle.markdown_blocks.specs.Flow.{existing_before_code, flow_end_code, trial_code}
 use Rattle.markdown_blocks.specs.Registry.{may_go_on, may_open}
@@ -69,7 +72,8 @@ byte-seen bytes p b is lt =
     rw (is, feed, return, tab) refl
 
 -- and another byte is not seen as such a one
-other-seen : (bytes : List ℕ) (p : Point) (b c : ℕ) → slice_index bytes p.index ≡ c → 13 < b → p.vs ≡ 0 → (c == b) ≡ false → (seen_at bytes p == b) ≡ false
+other-seen : (bytes : List ℕ) (p : Point) (b c : ℕ) → slice_index bytes p.index ≡ c → 13 < b → p.vs ≡ 0 →
+    (c == b) ≡ false → (seen_at bytes p == b) ≡ false
 other-seen bytes p b c is lt vs e = rw (is, vs) (go (c == 10) (c == 13) (c == 9))
   where
     feed : (10 == b) ≡ false
@@ -82,17 +86,23 @@ other-seen bytes p b c is lt vs e = rw (is, vs) (go (c == 10) (c == 13) (c == 9)
     go false false false = e
 
 -- the first cells are some bytes just where these come first in the text
-are-ahead : (front : List ℕ) (x : Setting) (p : Point) → x.limit ≡ length x.bytes → x.limit < 2 ^ 61 → p.vs ≡ 0 → list_all (nat_lt 13) front ≡ true →
+are-ahead : (front : List ℕ) (x : Setting) (p : Point) → x.limit ≡ length x.bytes → x.limit < 2 ^ 61 → p.vs ≡ 0 →
+    list_all (nat_lt 13) front ≡ true →
     are_next front (text_feed x p) ≡ pointwise nat_eq front (take (length front) (drop p.index x.bytes))
 are-ahead [] x p all small vs high = refl
 are-ahead (b ∷ front) x p all small vs high =
-    let parts : (nat_lt 13 b ≡ true) × (list_all (nat_lt 13) front ≡ true) = and_parts (nat_lt 13 b) (list_all (nat_lt 13) front) high in
-    go (drop p.index x.bytes) refl (let lt = parts.0 in grind (arith, nat_tests)) (are-ahead front x (behind p) all small refl parts.1)
+    let parts : (nat_lt 13 b ≡ true) ×
+    (list_all (nat_lt 13) front ≡ true) = and_parts (nat_lt 13 b) (list_all (nat_lt 13) front) high in
+    go (drop p.index x.bytes) refl (let lt = parts.0 in grind (arith, nat_tests))
+    (are-ahead front x (behind p) all small refl parts.1)
   where
     Same : Type 0
-    Same = are_next front (text_feed x (behind p)) ≡ pointwise nat_eq front (take (length front) (drop (p.index + 1) x.bytes))
+    Same =
+        are_next front (text_feed x (behind p)) ≡
+        pointwise nat_eq front (take (length front) (drop (p.index + 1) x.bytes))
 
-    go : (rest : List ℕ) → drop p.index x.bytes ≡ rest → 13 < b → Same → are_next (b ∷ front) (text_feed x p) ≡ pointwise nat_eq (b ∷ front) (take (suc (length front)) rest)
+    go : (rest : List ℕ) → drop p.index x.bytes ≡ rest → 13 < b → Same →
+        are_next (b ∷ front) (text_feed x p) ≡ pointwise nat_eq (b ∷ front) (take (suc (length front)) rest)
     go [] e above same =
         let none : length (drop p.index x.bytes) ≡ 0 = ap (λ (l : List ℕ). length l) e in
         let past : x.limit ≤ p.index = omega (arith, length-drop p.index x.bytes, none) in
@@ -100,12 +110,15 @@ are-ahead (b ∷ front) x p all small vs high =
     go (c ∷ rest) e above same = by (c == b) refl
       where
         inside : p.index < x.limit
-        inside = let some : length (drop p.index x.bytes) ≡ suc (length rest) = ap (λ (l : List ℕ). length l) e in omega (arith, length-drop p.index x.bytes, some)
+        inside =
+            let some : length (drop p.index x.bytes) ≡ suc (length rest) = ap (λ (l : List ℕ). length l) e in
+            omega (arith, length-drop p.index x.bytes, some)
 
         is : slice_index x.bytes p.index ≡ c
         is = at-next p.index x.bytes c rest e
 
-        by : (t : Bool) → (c == b) ≡ t → are_next (b ∷ front) (text_feed x p) ≡ pointwise nat_eq (b ∷ front) (take (suc (length front)) (c ∷ rest))
+        by : (t : Bool) → (c == b) ≡ t →
+            are_next (b ∷ front) (text_feed x p) ≡ pointwise nat_eq (b ∷ front) (take (suc (length front)) (c ∷ rest))
         by true k =
             let one : c ≡ b = eqb-true c b k in
             let here' : slice_index x.bytes p.index ≡ b = is ∙ one in
@@ -113,7 +126,8 @@ are-ahead (b ∷ front) x p all small vs high =
             ∙ ap (λ (d : ℕ). (d == b) && are_next front (text_feed x (after x p))) (byte-seen x.bytes p b here' above)
             ∙ ap (λ (q : Point). (b == b) && are_next front (text_feed x q)) (byte-behind x p b here' above)
             ∙ ap (λ (t : Bool). (b == b) && t) same
-            ∙ ap (λ (l : List ℕ). (b == b) && pointwise nat_eq front (take (length front) l)) (past-next p.index x.bytes c rest e)
+            ∙ ap (λ (l : List ℕ). (b == b) && pointwise nat_eq front (take (length front) l))
+            (past-next p.index x.bytes c rest e)
             ∙ ap (λ (d : ℕ). nat_eq b d && pointwise nat_eq front (take (length front) rest)) (sym one)
         by false k =
             let other : nat_eq b c ≡ false = grind (arith, nat_tests) in
@@ -121,20 +135,32 @@ are-ahead (b ∷ front) x p all small vs high =
             ∙ ap (λ (t : Bool). t && are_next front (text_feed x (after x p))) (other-seen x.bytes p b c is above vs k)
             ∙ sym (ap (λ (t : Bool). t && pointwise nat_eq front (take (length front) rest)) other)
 
-text-marked : (bytes : List ℕ) (options : ParseOptions) → length bytes < 2 ^ 61 → are_next mark (text_cells bytes options first_point) ≡ has_mark bytes
-text-marked bytes options small = are-ahead mark (text_setting bytes options first_point) first_point refl small refl refl
+text-marked : (bytes : List ℕ) (options : ParseOptions) → length bytes < 2 ^ 61 →
+    are_next mark (text_cells bytes options first_point) ≡ has_mark bytes
+text-marked bytes options small =
+    are-ahead mark (text_setting bytes options first_point) first_point refl small refl refl
 
 -- behind a mark each of its bytes is a column
-mark-cells : (bytes : List ℕ) (options : ParseOptions) → length bytes < 2 ^ 61 → has_mark bytes ≡ true → point_after (take 3 (text_cells bytes options first_point)) first_point ≡ mark_end
+mark-cells : (bytes : List ℕ) (options : ParseOptions) → length bytes < 2 ^ 61 → has_mark bytes ≡ true →
+    point_after (take 3 (text_cells bytes options first_point)) first_point ≡ mark_end
 mark-cells bytes options small h =
     let x = text_setting bytes options first_point in
     let most = mark-length bytes h in
     ap (λ (cells : List Cell). point_after (take 3 cells) first_point)
-    (line-feed x (239 ∷ 187 ∷ 191 ∷ []) (drop 3 bytes) first_point (record { small = small; text = mark-bytes bytes h; no_ending = (refl, (refl, (refl, tt))); within = omega (arith, most); whole = refl; column = omega arith }))
+    (line-feed x (239 ∷ 187 ∷ 191 ∷ []) (drop 3 bytes) first_point
+    (record {
+      small = small;
+      text = mark-bytes bytes h;
+      no_ending = (refl, (refl, (refl, tt)));
+      within = omega (arith, most);
+      whole = refl;
+      column = omega arith;
+    }))
 
 -- What the document comes to.
 
-bom-there : (cells : List Cell) (h : Here) (p : Point) → are_next mark cells ≡ true → point_after (take 3 cells) h.point ≡ p →
+bom-there : (cells : List Cell) (h : Here) (p : Point) → are_next mark cells ≡ true →
+    point_after (take 3 cells) h.point ≡ p →
     bom_at cells h ≡ Accepts (record h { events = h.events ++ pair ByteOrderMark h.point p; point = p }) (drop 3 cells)
 unfolding bom_at
 bom-there cells h p e k = rw (e, k) refl
@@ -147,18 +173,33 @@ abbrev begun : List ℕ → ParseOptions → Here
 begun bytes options = here (fresh bytes options first_point)
 
 document-accepts : (bytes : List ℕ) (options : ParseOptions) → length bytes < 2 ^ 61 →
-    (rest : List Cell) × (document_at (text_cells bytes options first_point) (begun bytes options) ≡ Accepts (record (begun bytes options) { events = mark_events bytes; point = body_point bytes }) rest)
+    (rest : List Cell) ×
+    (document_at (text_cells bytes options first_point) (begun bytes options) ≡
+    Accepts (record (begun bytes options) { events = mark_events bytes; point = body_point bytes }) rest)
 document-accepts bytes options small = go (has_mark bytes) refl
   where
     cells : List Cell
     cells = text_cells bytes options first_point
 
     onward : Outcome → Outcome
-    onward o = tried o (λ rest k. Accepts k rest) (λ s g. Accepts (record (begun bytes options) { scratch = s; flags = g }) cells)
+    onward o =
+        tried o (λ rest k. Accepts k rest)
+        (λ s g. Accepts (record (begun bytes options) { scratch = s; flags = g }) cells)
 
     go : (x : Bool) → has_mark bytes ≡ x →
-        (rest : List Cell) × (document_at cells (begun bytes options) ≡ Accepts (record (begun bytes options) { events = cond x (pair ByteOrderMark first_point mark_end) []; point = cond x mark_end first_point }) rest)
-    go true e = (drop 3 cells, ap onward (bom-there cells (begun bytes options) mark_end (text-marked bytes options small ∙ e) (mark-cells bytes options small e)))
+        (rest : List Cell) ×
+        (document_at cells (begun bytes options) ≡
+        Accepts
+        (record (begun bytes options) {
+          events = cond x (pair ByteOrderMark first_point mark_end) [];
+          point = cond x mark_end first_point;
+        }) rest)
+    go true e = (
+      drop 3 cells,
+      ap onward
+          (bom-there cells (begun bytes options) mark_end (text-marked bytes options small ∙ e)
+          (mark-cells bytes options small e)),
+    )
     go false e = (cells, ap onward (bom-none cells (begun bytes options) (text-marked bytes options small ∙ e)))
 
 -- No resolver is registered.
@@ -202,31 +243,40 @@ left-resolvers : (w : World) (outer : List Frame) (f : Frame) (b : Bool) → (le
 left-resolvers w outer f true = refl
 left-resolvers w outer f false = refl
 
-runs-resolvers : (is_end : Bool) (s : State) (w : World) (s' : State) (w' : World) → Runs DocumentStep is_end s w s' w' → w'.resolvers ≡ w.resolvers
+runs-resolvers : (is_end : Bool) (s : State) (w : World) (s' : State) (w' : World) →
+    Runs DocumentStep is_end s w s' w' → w'.resolvers ≡ w.resolvers
 runs-resolvers is_end s w s' w' Stays = refl
 runs-resolvers is_end s w s' w' (ThenLeaves t v t' v' run l) =
-    ap (λ (x : World). x.resolvers) l.new ∙ left-resolvers v l.outer l.frame (goes_back l.frame t) ∙ runs-resolvers is_end s w t v run
+    ap (λ (x : World). x.resolvers) l.new ∙ left-resolvers v l.outer l.frame (goes_back l.frame t)
+    ∙ runs-resolvers is_end s w t v run
 runs-resolvers is_end s w s' w' (ThenCalls t v t' v' run c) =
-    ap (λ (x : World). x.resolvers) c.step.new_is ∙ went-resolvers c.name (reading v) ∙ runs-resolvers is_end s w t v run
+    ap (λ (x : World). x.resolvers) c.step.new_is ∙ went-resolvers c.name (reading v)
+    ∙ runs-resolvers is_end s w t v run
 
 -- What was read.
 
 -- a whole run that accepts ends in what is accepted
-accepted : (e : State) (h k : Here) (rest cells : List Cell) → IsEnd e → Accepts h rest ≡ goes document_behaves e cells k → h ≡ k
+accepted : (e : State) (h k : Here) (rest cells : List Cell) → IsEnd e →
+    Accepts h rest ≡ goes document_behaves e cells k → h ≡ k
 accepted Ok h k rest cells t is = cc
 accepted Nok h k rest cells t is = cc
 accepted Error h k rest cells t is = absurd t
 accepted (Next name) h k rest cells t is = absurd t
 accepted (Retry name) h k rest cells t is = absurd t
 
-document-reads : (R : Resolution) (bytes : List ℕ) (options : ParseOptions) (end : State) (at : World) (found : Found) (new : World) → length bytes < 2 ^ 61 →
-    Runs DocumentStep false (Next (s.Document document.Start)) (reads_to (fresh bytes options first_point) (length bytes)) end at →
+document-reads : (R : Resolution) (bytes : List ℕ) (options : ParseOptions) (end : State) (at : World) (found : Found)
+    (new : World) →
+    length bytes < 2 ^ 61 →
+    Runs DocumentStep false (Next (s.Document document.Start))
+    (reads_to (fresh bytes options first_point) (length bytes)) end at →
     Flushes DocumentStep R end at true found new → ReadsMark bytes new
 document-reads R bytes options end at found new small run f =
     record {
       events = ap (λ (w : World). w.events) same ∙ sym (ap (λ (h : Here). h.events) ended);
       point = ap (λ (w : World). w.point) same ∙ sym (ap (λ (h : Here). h.point) ended);
-      bytes_are = ap (λ (w : World). w.setting.bytes) same ∙ ap (λ (x : Setting). x.bytes) (runs-setting DocumentStep true end at f.end f.at f.runs ∙ kept);
+      bytes_are =
+          ap (λ (w : World). w.setting.bytes) same
+          ∙ ap (λ (x : Setting). x.bytes) (runs-setting DocumentStep true end at f.end f.at f.runs ∙ kept);
     }
   where
     x : Setting
@@ -238,20 +288,26 @@ document-reads R bytes options end at found new small run f =
     stood : stands document_table_scheme w0 (Next (s.Document document.Start))
     stood = (refl, record { ok = λ s q t is up way. tt; nok = λ s q t is up. tt })
 
-    pushed : (comes_to document_behaves (text_feed x) (Next (s.Document document.Start)) w0 ≡ comes_to document_behaves (text_feed x) end at) × stands document_table_scheme at (plain end)
+    pushed : (comes_to document_behaves (text_feed x) (Next (s.Document document.Start)) w0 ≡
+        comes_to document_behaves (text_feed x) end at) ×
+        stands document_table_scheme at (plain end)
     pushed =
-        runs-mean DocumentStep document_table_scheme options document_behaves false (text_feed x) (Next (s.Document document.Start)) w0 (document_means options false) document_stands
+        runs-mean DocumentStep document_table_scheme options document_behaves false (text_feed x)
+        (Next (s.Document document.Start)) w0 (document_means options false) document_stands
         (text-follows x (length bytes) false small (omega arith) (λ e. cc)) refl stood end at run
 
     kept : at.setting ≡ x
     kept = runs-setting DocumentStep false (Next (s.Document document.Start)) w0 end at run
 
-    flushed : comes_to document_behaves (text_feed x) end at ≡ goes document_behaves f.end (text_feed x f.at.point) (here f.at)
+    flushed : comes_to document_behaves (text_feed x) end at ≡
+        goes document_behaves f.end (text_feed x f.at.point) (here f.at)
     flushed =
         let P : Setting → Type 0 = λ y. Follows (text_feed x) y true in
         let Q : Setting → Type 0 = λ y. y.options ≡ options in
-        flush-means DocumentStep R document_table_scheme options document_behaves (text_feed x) end at true found new (document_means options true) document_stands
-        (subst P (sym kept) (text-follows x x.limit true small (omega arith) (λ e. refl))) (subst Q (sym kept) refl) pushed.1 f
+        flush-means DocumentStep R document_table_scheme options document_behaves (text_feed x) end at true found new
+        (document_means options true) document_stands
+        (subst P (sym kept) (text-follows x x.limit true small (omega arith) (λ e. refl)))
+        (subst Q (sym kept) refl) pushed.1 f
 
     ended : record (begun bytes options) { events = mark_events bytes; point = body_point bytes } ≡ here f.at
     ended =
@@ -259,16 +315,21 @@ document-reads R bytes options end at found new small run f =
         accepted f.end _ (here f.at) front.0 (text_feed x f.at.point) f.ends (sym front.1 ∙ pushed.0 ∙ flushed)
 
     none : f.at.resolvers ≡ []
-    none = runs-resolvers true end at f.end f.at f.runs ∙ runs-resolvers false (Next (s.Document document.Start)) w0 end at run
+    none =
+        runs-resolvers true end at f.end f.at f.runs
+        ∙ runs-resolvers false (Next (s.Document document.Start)) w0 end at run
 
     same : new ≡ record f.at { resolvers = [] }
     same = (resolved-none R (record f.at { resolvers = [] }) f.at.resolvers found new f.resolved none).1
 
 -- the same for a tokenizer that is known to be fresh
-pub document-reads-from : (R : Resolution) (bytes : List ℕ) (options : ParseOptions) (start : World) (to : ℕ) (end : State) (at : World) (found : Found) (new : World) → start ≡ fresh bytes options first_point → to ≡ length bytes → length bytes < 2 ^ 61 →
+pub document-reads-from : (R : Resolution) (bytes : List ℕ) (options : ParseOptions) (start : World) (to : ℕ)
+    (end : State) (at : World) (found : Found) (new : World) →
+    start ≡ fresh bytes options first_point → to ≡ length bytes → length bytes < 2 ^ 61 →
     Runs DocumentStep false (Next (s.Document document.Start)) (reads_to start to) end at →
     Flushes DocumentStep R end at true found new → ReadsMark bytes new
 document-reads-from R bytes options start to end at found new same all small run f =
-    let P : World → Type 0 = λ w. Runs DocumentStep false (Next (s.Document document.Start)) (reads_to w (length bytes)) end at in
+    let P : World →
+    Type 0 = λ w. Runs DocumentStep false (Next (s.Document document.Start)) (reads_to w (length bytes)) end at in
     let Q : ℕ → Type 0 = λ n. Runs DocumentStep false (Next (s.Document document.Start)) (reads_to start n) end at in
     document-reads R bytes options end at found new small (subst P same (subst Q all run)) f

@@ -15,7 +15,8 @@ use Rattle.md_leaves.specs.Bom.{bom_scheme}
 use Rattle.md_leaves.proofs.BomGoods.{BomFits, bom_does}
 use Rattle.md_seam.specs.Spaces.{IsRest, rest_ready}
 use Rattle.md_seam.proofs.SpacesGoods.{Does}
-use Rattle.markdown_blocks.specs.Document.{document_own_transition, document_owner, document_scheme, document_table_scheme, document_transition, start_transition}
+use Rattle.markdown_blocks.specs.Document.{document_own_transition, document_owner, document_scheme}
+use Rattle.markdown_blocks.specs.Document.{document_table_scheme, document_transition, start_transition}
 
 bom_fits : BomFits document_table_scheme
 bom_fits = record { each = λ state. fits document_owner (n.Bom state) }
@@ -25,14 +26,30 @@ good_start : (w : World) → rest_ready (spot w) (after_all document_table_schem
     Does document_table_scheme (n.Document document.Start) w (start_transition w)
 good_start w r =
     let behind = fits document_owner (n.Document document.BeforeFrontmatter) in (
-      begins_try document_table_scheme document_scheme bom_scheme (n.Document document.Start) (n.Bom bom.Start) w IsRest IsRest w.events w.scratch
-          (record { ok = Next (n.Document document.BeforeFrontmatter); nok = Next (n.Document document.BeforeFrontmatter); is_check = false; events_len = length w.events; point = w.point })
+      begins_try document_table_scheme document_scheme bom_scheme (n.Document document.Start)
+          (n.Bom bom.Start) w IsRest IsRest w.events w.scratch
+          (record {
+            ok = Next (n.Document document.BeforeFrontmatter);
+            nok = Next (n.Document document.BeforeFrontmatter);
+            is_check = false;
+            events_len = length w.events;
+            point = w.point;
+          })
           (fits document_owner (n.Document document.Start)) (fits document_owner (n.Bom bom.Start)) behind behind refl
           (record {
-            ok = λ s q t is up way. (is, later_at _ _ (spot w) (after_all document_table_scheme w.frames) q t s up way r.1);
+            ok =
+                λ s q t is up way. (
+                  is,
+                  later_at _ _ (spot w) (after_all document_table_scheme w.frames) q t s up way r.1,
+                );
             ok_level = omega arith;
             ok_rank = λ s t is up. omega arith;
-            nok = λ s t is up. (is, later_at _ _ (spot w) (after_all document_table_scheme w.frames) w.point t s up (stays t.limit w.point) r.1);
+            nok =
+                λ s t is up. (
+                  is,
+                  later_at _ _ (spot w) (after_all document_table_scheme w.frames) w.point t s up
+                      (stays t.limit w.point) r.1,
+                );
             nok_level = omega arith;
             nok_rank = λ s t is up. omega arith;
           }) (λ K e. (r.0, e)) (omega arith) (omega arith) (omega arith),
@@ -47,7 +64,8 @@ front_does document.BeforeFrontmatter w r =
     (accepts document_table_scheme (n.Document document.BeforeFrontmatter) w _ _ w.events w.scratch r.1 r.0, refl)
 front_does state w r = absurd r
 
-pub document_does : (name : StateName) (w : World) → w.current ≡ looks w → stands document_table_scheme w (Next name) → Does document_table_scheme name w (document_transition name w)
+pub document_does : (name : StateName) (w : World) → w.current ≡ looks w → stands document_table_scheme w (Next name) →
+    Does document_table_scheme name w (document_transition name w)
 document_does (n.Bom state) w c r = bom_does document_table_scheme state w bom_fits c r
 document_does (n.Document state) w c r = front_does state w r
 document_does name w c r = absurd r

@@ -52,7 +52,9 @@ pub joined-each : (P : Event → Type 0) → ((e : Event) (q : Point) → P e �
 joined-each P moves [] h = tt
 joined-each P moves (e ∷ []) h = h
 joined-each P moves (e ∷ f ∷ []) h = h
-joined-each P moves (e ∷ f ∷ g ∷ es) h = go (is_exit e.kind && is_content e.name && goes_on (f ∷ g ∷ es)) (joined-each P moves es h.1.1.1) (joined-each P moves (f ∷ g ∷ es) h.1)
+joined-each P moves (e ∷ f ∷ g ∷ es) h =
+    go (is_exit e.kind && is_content e.name && goes_on (f ∷ g ∷ es)) (joined-each P moves es h.1.1.1)
+    (joined-each P moves (f ∷ g ∷ es) h.1)
   where
     go : (x : Bool) → Each P (joined es) → Each P (joined (f ∷ g ∷ es)) →
         Each P (cond x (record e { point = g.point } ∷ joined es) (e ∷ joined (f ∷ g ∷ es)))
@@ -64,7 +66,8 @@ pub settled-each : (P : Event → Type 0) → ((e : Event) (q : Point) → P e �
     (chunks : List Chunk) (es : List Event) → Each P es → Each P (settled chunks es)
 settled-each P moves chunks [] h = tt
 settled-each P moves [] (e ∷ es) h = h
-settled-each P moves (chunk ∷ chunks) (e ∷ es) h = go (is_data_end e) (settled-each P moves chunks es h.1) (settled-each P moves (chunk ∷ chunks) es h.1)
+settled-each P moves (chunk ∷ chunks) (e ∷ es) h =
+    go (is_data_end e) (settled-each P moves chunks es h.1) (settled-each P moves (chunk ∷ chunks) es h.1)
   where
     go : (x : Bool) → Each P (settled chunks es) → Each P (settled (chunk ∷ chunks) es) →
         Each P (cond x (record e { point = chunk.after } ∷ settled chunks es) (e ∷ settled (chunk ∷ chunks) es))

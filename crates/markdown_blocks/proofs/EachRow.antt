@@ -1,6 +1,7 @@
 -- What holds of each line of a text holds of each line of its groups.
 use Rattle.std.proofs.Common.{Bool, true, false, cond, List, [], ◌∷◌}
-use Rattle.markdown_blocks.specs.Rows.{BlankRow, Group, LeafRow, Lines, Row, RowKind, Single, TextRow, goes_on, groups, last_row, onto_groups}
+use Rattle.markdown_blocks.specs.Rows.{BlankRow, Group, LeafRow, Lines, Row, RowKind, Single, TextRow, goes_on, groups}
+use Rattle.markdown_blocks.specs.Rows.{last_row, onto_groups}
 
 abbrev pub EachRow : (Row → Type 0) → List Row → Type 0
 EachRow P [] = Unit {0}
@@ -14,7 +15,8 @@ abbrev pub EachGroup : (Row → Type 0) → List Group → Type 0
 EachGroup P [] = Unit {0}
 EachGroup P (group ∷ groups) = OfGroup P group × EachGroup P groups
 
-onto-each : (P : Row → Type 0) (row : Row) (kind : RowKind) (gs : List Group) → P row → EachGroup P gs → EachGroup P (onto_groups row kind gs)
+onto-each : (P : Row → Type 0) (row : Row) (kind : RowKind) (gs : List Group) → P row → EachGroup P gs →
+    EachGroup P (onto_groups row kind gs)
 onto-each P row BlankRow gs h k = (h, k)
 onto-each P row (LeafRow l) gs h k = (h, k)
 onto-each P row TextRow [] h k = ((h, tt), k)

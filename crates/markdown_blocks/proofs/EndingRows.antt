@@ -1,6 +1,7 @@
 -- The endings of blank lines are told from others, before the text of a document is read and once it is.
 use Rattle.md_engine.specs.declared.tokenizer.held_leaf.HeldLeaf.TheVariants as held_leaf
-use Rattle.std.proofs.Common.{◌≡◌, ℕ, Bool, true, false, cond, List, [], ◌∷◌, ◌++◌, refl, ap, sym, ◌∙◌, append_assoc, ◌≢◌}
+use Rattle.std.proofs.Common.{◌≡◌, ℕ, Bool, true, false, cond, List, [], ◌∷◌, ◌++◌, refl, ap, sym, ◌∙◌, append_assoc}
+use Rattle.std.proofs.Common.{◌≢◌}
 use Rattle.std.specs.Prelude.{Option, Some, None}
 use Rattle.md_engine.specs.declared.configuration.ParseOptions.{ParseOptions}
 use Rattle.md_engine.specs.declared.event.Event.{Event}
@@ -18,7 +19,9 @@ use Rattle.md_seam.proofs.EndingsLemmas.{AreOthers, Leads, leads-append, others-
 use Rattle.markdown_blocks.specs.Registry.{container_name, text_leaf}
 use Rattle.markdown_blocks.specs.Change.{ends_of}
 use Rattle.markdown_blocks.specs.Document.{body_point, mark_end, mark_events}
-use Rattle.markdown_blocks.specs.Rows.{final_row, first_row, group_done, group_kind, BlankRow, Group, Lines, Row, RowKind, Single, TextRow, ending_events, goes_on, group_events, groups, groups_events, onto_groups, tail_events, LeafRow, ending_of}
+use Rattle.markdown_blocks.specs.Rows.{final_row, first_row, group_done, group_kind, BlankRow, Group, Lines, Row}
+use Rattle.markdown_blocks.specs.Rows.{RowKind, Single, TextRow, ending_events, goes_on, group_events, groups}
+use Rattle.markdown_blocks.specs.Rows.{groups_events, onto_groups, tail_events, LeafRow, ending_of}
 use Rattle.markdown_blocks.specs.Unread.{group_unread, listed_group, listed_groups}
 use Rattle.markdown_blocks.proofs.GroupLemmas.{AreGroups, EndsBeforeGroups, HasFront, IsSingle, groups-are, rows-end}
 use Rattle.markdown_blocks.proofs.JoinedLemmas.{EachEnds, EachNoContent, ending-is}
@@ -35,7 +38,9 @@ use Rattle.markdown_blocks.proofs.LeafFacts.{LeafFacts, spot_behind}
 -- the ends of containers
 ends-others : (cs : List Container) (p : Point) → AreOthers (ends_of cs p)
 ends-others [] p = refl
-ends-others (c ∷ cs) p = others-append (ends_of cs p) (exit (container_name c) p ∷ []) (ends-others cs p) (container-others c (exit (container_name c) p) refl)
+ends-others (c ∷ cs) p =
+    others-append (ends_of cs p) (exit (container_name c) p ∷ []) (ends-others cs p)
+    (container-others c (exit (container_name c) p) refl)
 
 -- Groups.
 
@@ -61,7 +66,8 @@ onto-ended row TextRow (Lines below rows ∷ gs) h k = go (goes_on row below)
 groups-ended : (rows : List Row) → EachEnds rows → EachEnded (groups rows)
 groups-ended [] h = tt
 groups-ended (row ∷ []) h = onto-ended row row.kind [] tt tt
-groups-ended (row ∷ below ∷ rows) h = onto-ended row row.kind (groups (below ∷ rows)) (ends (groups (below ∷ rows))) (groups-ended (below ∷ rows) h.2)
+groups-ended (row ∷ below ∷ rows) h =
+    onto-ended row row.kind (groups (below ∷ rows)) (ends (groups (below ∷ rows))) (groups-ended (below ∷ rows) h.2)
   where
     ends : (gs : List Group) → EndsBeforeGroups row gs
     ends [] = tt
@@ -69,7 +75,8 @@ groups-ended (row ∷ below ∷ rows) h = onto-ended row row.kind (groups (below
 
 -- the events of groups, by what stands in the place of each
 abbrev group_with : (Group → List Event) → Group → List Event
-group_with leaf group = (first_row group).front ++ leaf group ++ tail_events (ending_of (group_kind group)) (final_row group)
+group_with leaf group =
+    (first_row group).front ++ leaf group ++ tail_events (ending_of (group_kind group)) (final_row group)
 
 abbrev groups_with : (Group → List Event) → List Group → List Event
 groups_with leaf [] = []
@@ -87,7 +94,8 @@ read-with bytes (group ∷ gs) = ap (λ (l : List Event). group_events bytes gro
 -- What is known of the leaf of a group: whether it shows a block, and that an ending with its name may stand behind it.
 record LeafEnds (bytes : List ℕ) (group : Group) : Type 0 where
   block : Option Block
-  facts : LeafFacts bytes block (first_row group).first (final_row group).end (group_unread bytes group) (group_done bytes group)
+  facts : LeafFacts bytes block (first_row group).first (final_row group).end (group_unread bytes group)
+      (group_done bytes group)
   ends : (p q : Point) → Leads (spot_behind block) line_start (pair (ending_of (group_kind group)) p q)
 
 -- What stands in the place of a group.
@@ -104,7 +112,8 @@ tail-stands : (leaf : Group → List Event) (s : Spot) (name : Name) (last : Row
     Stand leaf gs → endings_stand_from s (tail_events name last ++ groups_with leaf gs) ≡ true
 tail-stands leaf s name last gs same ends before on =
     let behind : List Event = ending_events name last ++ groups_with leaf gs in
-    ap (endings_stand_from s) (append_assoc (ends_of last.leaves last.end) (ending_events name last) (groups_with leaf gs))
+    ap (endings_stand_from s)
+    (append_assoc (ends_of last.leaves last.end) (ending_events name last) (groups_with leaf gs))
     ∙ others-lead s (ends_of last.leaves last.end) same (ends-others last.leaves last.end) behind
     ∙ go gs before on
   where
@@ -116,17 +125,22 @@ tail-stands leaf s name last gs same ends before on =
     go : (gs : List Group) → EndsBeforeGroups last gs → Stand leaf gs →
         endings_stand_from s (ending_events name last ++ groups_with leaf gs) ≡ true
     go [] h k = alone last.after
-    go (group ∷ gs) h k = ap (λ (l : List Event). endings_stand_from s (l ++ groups_with leaf (group ∷ gs))) (ending-is name last h.0 h.1) ∙ ends last.end h.0 (groups_with leaf (group ∷ gs)) ∙ k
+    go (group ∷ gs) h k =
+        ap (λ (l : List Event). endings_stand_from s (l ++ groups_with leaf (group ∷ gs))) (ending-is name last h.0 h.1)
+        ∙ ends last.end h.0 (groups_with leaf (group ∷ gs)) ∙ k
 
 -- a group in front of further ones
-line-stands : (bytes : List ℕ) (leaf : Group → List Event) (s : Spot) (name : Name) (row last : Row) (es : List Event) (gs : List Group) →
+line-stands : (bytes : List ℕ) (leaf : Group → List Event) (s : Spot) (name : Name) (row last : Row) (es : List Event)
+    (gs : List Group) →
     HasFront bytes row → Leads line_start s es → is_filled s ≡ s.after_leaf →
     ((p q : Point) → Leads s line_start (pair name p q)) → EndsBeforeGroups last gs → Stand leaf gs →
     endings_stand_from line_start ((row.front ++ es ++ tail_events name last) ++ groups_with leaf gs) ≡ true
 line-stands bytes leaf s name row last es gs front h same ends before on =
     let behind : List Event = tail_events name last ++ groups_with leaf gs in
     ap (endings_stand_from line_start) (append_assoc (row.front ++ es) (tail_events name last) (groups_with leaf gs))
-    ∙ leads-append line_start line_start s row.front es (others-lead line_start row.front refl (fronts-others bytes row.change.opens front.0 row.first row.front front.1)) h behind
+    ∙ leads-append line_start line_start s row.front es
+    (others-lead line_start row.front refl
+    (fronts-others bytes row.change.opens front.0 row.first row.front front.1)) h behind
     ∙ tail-stands leaf s name last gs same ends before on
 
 -- where a line stands behind its leaf, it is filled or not,
@@ -146,16 +160,26 @@ group-ends : (options : ParseOptions) (bytes : List ℕ) (group : Group) (gs : L
     AreGroups options bytes (group ∷ gs) → LeafEnds bytes group
 group-ends options bytes (Single row) gs are =
     let is : IsSingle options bytes row = are.0 in
-    record { block = block_of row.kind is.is.rest; facts = row-facts options bytes is.line row is.is is.other; ends = λ p q. ending-leads row.kind is.is.rest p q is.other }
+    record {
+      block = block_of row.kind is.is.rest;
+      facts = row-facts options bytes is.line row is.is is.other;
+      ends = λ p q. ending-leads row.kind is.is.rest p q is.other;
+    }
 group-ends options bytes (Lines row rows) gs are =
-    record { block = Some (text_leaf.block (texts (kept-of options bytes row rows are.0))); facts = text-facts options bytes row rows are.0; ends = λ p q ys. refl }
+    record {
+      block = Some (text_leaf.block (texts (kept-of options bytes row rows are.0)));
+      facts = text-facts options bytes row rows are.0;
+      ends = λ p q ys. refl;
+    }
 
 groups-stand : (options : ParseOptions) (bytes : List ℕ) (leaf : Group → List Event) (gs : List Group) →
     Within bytes leaf → AreGroups options bytes gs → EachEnded gs → Stand leaf gs
 groups-stand options bytes leaf [] within are ended = refl
 groups-stand options bytes leaf (group ∷ gs) within are ended =
     let is : LeafEnds bytes group = group-ends options bytes group gs are in
-    line-stands bytes leaf (spot_behind is.block) (ending_of (group_kind group)) (first_row group) (final_row group) (leaf group) gs (group-front options bytes group gs are) (within group is) (spot-filled is.block) is.ends ended.0
+    line-stands bytes leaf (spot_behind is.block) (ending_of (group_kind group)) (first_row group) (final_row group)
+    (leaf group) gs (group-front options bytes group gs are) (within group is)
+    (spot-filled is.block) is.ends ended.0
     (groups-stand options bytes leaf gs within (more-groups options bytes group gs are) ended.1)
 
 -- The events of a text.
@@ -168,7 +192,8 @@ mark-leads bytes = go (has_mark bytes)
     go true = λ ys. refl
     go false = λ ys. refl
 
-endings-with : (options : ParseOptions) (bytes : List ℕ) (lines : List (List ℕ)) (rows : List Row) (leaf : Group → List Event) (events : List Event) →
+endings-with : (options : ParseOptions) (bytes : List ℕ) (lines : List (List ℕ)) (rows : List Row)
+    (leaf : Group → List Event) (events : List Event) →
     Within bytes leaf →
     groups_with leaf (groups rows) ≡ events → AreRows options bytes [] held_leaf.None (body_point bytes) lines rows →
     EachNoContent rows → endings_stand (mark_events bytes ++ events) ≡ true
@@ -176,7 +201,9 @@ endings-with options bytes lines rows leaf events within same are quiet =
     let p : Point = body_point bytes in
     mark-leads bytes events
     ∙ ap (endings_stand_from line_start) (sym same)
-    ∙ groups-stand options bytes leaf (groups rows) within (groups-are options bytes [] held_leaf.None p lines rows are quiet) (groups-ended rows (rows-end options bytes [] held_leaf.None p lines rows are))
+    ∙ groups-stand options bytes leaf (groups rows) within
+    (groups-are options bytes [] held_leaf.None p lines rows are quiet)
+    (groups-ended rows (rows-end options bytes [] held_leaf.None p lines rows are))
 
 -- The endings of a text stand before its text parts are read,
 pub blocks-endings : (options : ParseOptions) (bytes : List ℕ) (lines : List (List ℕ)) (rows : List Row) →

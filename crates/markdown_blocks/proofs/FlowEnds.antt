@@ -8,7 +8,9 @@ use Rattle.md_engine.specs.World.{Flags}
 use Rattle.md_content.specs.ChunkRule.{chunk_at, inside_chunk}
 use Rattle.md_leaves.specs.BlankRule.{blank_at}
 use Rattle.md_seam.proofs.FeedLines.{Stops}
-use Rattle.markdown_blocks.specs.FlowRule.{Rule, blank_ended, content_of, ended, ended_to, existing_by, existing_from, flow_at, flow_lines, leaf_of, leaves_of, line_ended, line_then, new_from, new_of, opened, tried}
+use Rattle.markdown_blocks.specs.FlowRule.{Rule, blank_ended, content_of, ended, ended_to, existing_by, existing_from}
+use Rattle.markdown_blocks.specs.FlowRule.{flow_at, flow_lines, leaf_of, leaves_of, line_ended, line_then, new_from}
+use Rattle.markdown_blocks.specs.FlowRule.{new_of, opened, tried}
 use Rattle.markdown_blocks.specs.LineFlags.{begun_line, blanked, next_container, stays, went_on}
 use Rattle.markdown_blocks.specs.Registry.{LeafName, continues_at, leaf, new_container_at, trials}
 use Rattle.markdown_blocks.proofs.FlowLemmas.{blank_at-shrinks, chunk_at-shrinks}
@@ -28,15 +30,19 @@ Finishes Fails = ⊥
 abbrev Ends : ℕ → Rule → Type 0
 Ends n next = (cells : List Cell) (h : Here) → length cells < n → Finishes (next cells h)
 
-ended-finishes : (n : ℕ) (next : Rule) → Ends n next → (cells : List Cell) (h : Here) → Stops cells → length cells ≤ n → Finishes (ended next cells h)
+ended-finishes : (n : ℕ) (next : Rule) → Ends n next → (cells : List Cell) (h : Here) → Stops cells → length cells ≤ n →
+    Finishes (ended next cells h)
 ended-finishes n next ends [] h at le = refl
 ended-finishes n next ends (c ∷ cs) h at le = rw at (ends cs _ (omega arith))
 
-line_ended-finishes : (n : ℕ) (next : Rule) → Ends n next → (cells : List Cell) (h : Here) → Stops cells → length cells ≤ n → Finishes (line_ended next cells h)
-line_ended-finishes n next ends cells h at le = ended-finishes n next ends cells (ended_to (stays h.flags) h.flags.line_end h) at le
+line_ended-finishes : (n : ℕ) (next : Rule) → Ends n next → (cells : List Cell) (h : Here) → Stops cells →
+    length cells ≤ n → Finishes (line_ended next cells h)
+line_ended-finishes n next ends cells h at le =
+    ended-finishes n next ends cells (ended_to (stays h.flags) h.flags.line_end h) at le
 
 tried-finishes : (n : ℕ) (onward : Rule) (otherwise : Scratch → Flags → Outcome) (o : Outcome) → Shrinks n o →
-    ((cells : List Cell) (h : Here) → Stops cells → length cells ≤ n → Finishes (onward cells h)) → ((s : Scratch) (g : Flags) → Finishes (otherwise s g)) → Finishes (tried o onward otherwise)
+    ((cells : List Cell) (h : Here) → Stops cells → length cells ≤ n → Finishes (onward cells h)) →
+    ((s : Scratch) (g : Flags) → Finishes (otherwise s g)) → Finishes (tried o onward otherwise)
 tried-finishes n onward otherwise (Accepts h rest) shrinks a b = a rest h (stops-same rest shrinks.1) shrinks.0
 tried-finishes n onward otherwise (Refuses s g) shrinks a b = b s g
 tried-finishes n onward otherwise Fails shrinks a b = absurd shrinks
@@ -50,7 +56,8 @@ chunk_at-takes : (cells : List Cell) (h : Here) → Takes (chunk_at cells h)
 unfolding chunk_at inside_chunk
 chunk_at-takes cells h = tt
 
-content-finishes : (next : Rule) (cells : List Cell) (h : Here) → Ends (length cells) next → Finishes (content_of next cells h)
+content-finishes : (next : Rule) (cells : List Cell) (h : Here) → Ends (length cells) next →
+    Finishes (content_of next cells h)
 content-finishes next cells h ends = go (chunk_at cells h) (chunk_at-takes cells h) (chunk_at-shrinks cells h)
   where
     go : (o : Outcome) → Takes o → Shrinks (length cells) o → Finishes (tried o (line_ended next) Refuses)
@@ -59,14 +66,17 @@ content-finishes next cells h ends = go (chunk_at cells h) (chunk_at-takes cells
     go Fails t shrinks = absurd t
 
 -- so one of the leaves that are tried does, or content behind them
-leaves-finish : (options : ParseOptions) (next : Rule) (ls : List LeafName) (cells : List Cell) (h : Here) → Ends (length cells) next →
+leaves-finish : (options : ParseOptions) (next : Rule) (ls : List LeafName) (cells : List Cell) (h : Here) →
+    Ends (length cells) next →
     Finishes (leaves_of options next ls cells h)
 leaves-finish options next [] cells h ends = content-finishes next cells h ends
 leaves-finish options next (l ∷ ls) cells h ends =
-    tried-finishes _ (line_ended next) _ ((leaf l).trial options cells h) ((laws l).shrinks options cells h) (line_ended-finishes _ next ends)
+    tried-finishes _ (line_ended next) _ ((leaf l).trial options cells h) ((laws l).shrinks options cells h)
+    (line_ended-finishes _ next ends)
     (λ s g. leaves-finish options next ls cells (record h { scratch = s; flags = g }) ends)
 
-leaf-finishes : (options : ParseOptions) (next : Rule) (cells : List Cell) (h : Here) → Ends (length cells) next → Finishes (leaf_of options next cells h)
+leaf-finishes : (options : ParseOptions) (next : Rule) (cells : List Cell) (h : Here) → Ends (length cells) next →
+    Finishes (leaf_of options next cells h)
 leaf-finishes options next cells h ends =
     tried-finishes _ (blank_ended next) _ (blank_at cells h) (blank_at-shrinks cells h)
     (λ rest k at le. line_ended-finishes _ next ends rest (record k { flags = blanked k.flags }) at le)
@@ -74,7 +84,8 @@ leaf-finishes options next cells h ends =
 
 -- Containers.
 
-tried-shorter : (n : ℕ) (onward : Rule) (otherwise : Scratch → Flags → Outcome) (o : Outcome) → Shortens n o → Ends n onward → ((s : Scratch) (g : Flags) → Finishes (otherwise s g)) → Finishes (tried o onward otherwise)
+tried-shorter : (n : ℕ) (onward : Rule) (otherwise : Scratch → Flags → Outcome) (o : Outcome) → Shortens n o →
+    Ends n onward → ((s : Scratch) (g : Flags) → Finishes (otherwise s g)) → Finishes (tried o onward otherwise)
 tried-shorter n onward otherwise (Accepts h rest) t a b = a rest h t
 tried-shorter n onward otherwise (Refuses s g) t a b = b s g
 tried-shorter n onward otherwise Fails t a b = absurd t
@@ -83,34 +94,47 @@ tried-shorter n onward otherwise Fails t a b = absurd t
 shorter : (n m : ℕ) (next : Rule) → m ≤ n → Ends n next → Ends m next
 shorter n m next le ends cells h lt = ends cells h (omega (arith, le, lt))
 
-new-finishes : (options : ParseOptions) (next : Rule) (n : ℕ) (cells : List Cell) (h : Here) → Ends (length cells) next → Finishes (new_from options next n cells h)
+new-finishes : (options : ParseOptions) (next : Rule) (n : ℕ) (cells : List Cell) (h : Here) →
+    Ends (length cells) next → Finishes (new_from options next n cells h)
 unfolding new_from
-new-finishes options next zero cells h ends = leaf-finishes options next cells (record h { flags = begun_line h.flags }) ends
+new-finishes options next zero cells h ends =
+    leaf-finishes options next cells (record h { flags = begun_line h.flags }) ends
 new-finishes options next (suc n) cells h ends =
-    tried-shorter (length cells) _ _ (new_container_at options cells h) (new-shortens options cells h) (λ rest k lt. new-finishes options next n rest (opened k) (shorter (length cells) (length rest) next (omega (arith, lt)) ends))
+    tried-shorter (length cells) _ _ (new_container_at options cells h) (new-shortens options cells h)
+    (λ rest k lt.
+    new-finishes options next n rest (opened k) (shorter (length cells) (length rest) next (omega (arith, lt)) ends))
     (λ s g. leaf-finishes options next cells (record h { scratch = s; flags = begun_line g }) ends)
 
-opened-finishes : (options : ParseOptions) (next : Rule) (cells : List Cell) (h : Here) → Ends (length cells) next → Finishes (new_of options next cells h)
+opened-finishes : (options : ParseOptions) (next : Rule) (cells : List Cell) (h : Here) → Ends (length cells) next →
+    Finishes (new_of options next cells h)
 unfolding new_of
 opened-finishes options next cells h ends = new-finishes options next (suc (length cells)) cells h ends
 
-asked-finishes : (options : ParseOptions) (next further : Rule) (o : Option Container) (cells : List Cell) (h : Here) → Ends (length cells) next → Ends (length cells) further → Finishes (existing_by options next further o cells h)
+asked-finishes : (options : ParseOptions) (next further : Rule) (o : Option Container) (cells : List Cell) (h : Here) →
+    Ends (length cells) next → Ends (length cells) further → Finishes (existing_by options next further o cells h)
 asked-finishes options next further None cells h ends more = opened-finishes options next cells h ends
 asked-finishes options next further (Some c) cells h ends more =
-    tried-shorter (length cells) _ _ (continues_at options c.kind cells h) (continues-shortens options c.kind cells h) (λ rest k lt. more rest (record k { flags = went_on k.flags }) lt) (λ s g. opened-finishes options next cells (record h { scratch = s; flags = g }) ends)
+    tried-shorter (length cells) _ _ (continues_at options c.kind cells h) (continues-shortens options c.kind cells h)
+    (λ rest k lt. more rest (record k { flags = went_on k.flags }) lt)
+    (λ s g. opened-finishes options next cells (record h { scratch = s; flags = g }) ends)
 
-existing-finishes : (options : ParseOptions) (next : Rule) (n : ℕ) (cells : List Cell) (h : Here) → Ends (length cells) next → Finishes (existing_from options next n cells h)
+existing-finishes : (options : ParseOptions) (next : Rule) (n : ℕ) (cells : List Cell) (h : Here) →
+    Ends (length cells) next → Finishes (existing_from options next n cells h)
 unfolding existing_from
 existing-finishes options next zero cells h ends = opened-finishes options next cells h ends
 existing-finishes options next (suc n) cells h ends =
-    asked-finishes options next (existing_from options next n) (next_container h.flags) cells h ends (λ rest k lt. existing-finishes options next n rest k (shorter (length cells) (length rest) next (omega (arith, lt)) ends))
+    asked-finishes options next (existing_from options next n) (next_container h.flags) cells h ends
+    (λ rest k lt.
+    existing-finishes options next n rest k (shorter (length cells) (length rest) next (omega (arith, lt)) ends))
 
 -- Lines.
 
 lines-finish : (options : ParseOptions) (n : ℕ) → Ends n (flow_lines options n)
 unfolding flow_lines line_then
 lines-finish options zero cells h lt = absurd (omega arith)
-lines-finish options (suc n) cells h lt = existing-finishes options (flow_lines options n) (suc (length cells)) cells h (λ rest k le. lines-finish options n rest k (omega arith))
+lines-finish options (suc n) cells h lt =
+    existing-finishes options (flow_lines options n) (suc (length cells)) cells h
+    (λ rest k le. lines-finish options n rest k (omega arith))
 
 pub flow_finishes : (options : ParseOptions) (cells : List Cell) (h : Here) → Finishes (flow_at options cells h)
 unfolding flow_at

@@ -1,5 +1,6 @@
 -- Flow goes line by line.
-use Rattle.std.proofs.Common.{◌≡◌, ℕ, zero, suc, ◌<◌, ◌≤◌, cond, nat_eq, List, [], ◌∷◌, length, Option, Some, None, refl, ap, arith}
+use Rattle.std.proofs.Common.{◌≡◌, ℕ, zero, suc, ◌<◌, ◌≤◌, cond, nat_eq, List, [], ◌∷◌, length, Option, Some, None}
+use Rattle.std.proofs.Common.{refl, ap, arith}
 use Rattle.md_engine.specs.declared.configuration.ParseOptions.{ParseOptions}
 use Rattle.md_engine.specs.declared.tokenizer.container.Container.{Container}
 use Rattle.md_engine.specs.declared.tokenizer.Scratch.{Scratch}
@@ -9,7 +10,9 @@ use Rattle.md_content.specs.ChunkRule.{chunk_at, inside_chunk}
 use Rattle.md_leaves.specs.BlankRule.{blank_at}
 use Rattle.md_seam.specs.Ahead.{line_bytes}
 use Rattle.md_definition.specs.Rest.{is_blank}
-use Rattle.markdown_blocks.specs.FlowRule.{Rule, behind_containers, blank_ended, ended, ended_to, existing_by, existing_from, flow_at, flow_lines, leaf_of, leaves_of, line_ended, line_then, new_from, new_of, opened, tried}
+use Rattle.markdown_blocks.specs.FlowRule.{Rule, behind_containers, blank_ended, ended, ended_to, existing_by}
+use Rattle.markdown_blocks.specs.FlowRule.{existing_from, flow_at, flow_lines, leaf_of, leaves_of, line_ended}
+use Rattle.markdown_blocks.specs.FlowRule.{line_then, new_from, new_of, opened, tried}
 use Rattle.markdown_blocks.specs.LineFlags.{begun_line, blanked, next_container, stays, went_on}
 use Rattle.markdown_blocks.specs.Registry.{LeafName, continues_at, leaf, new_container_at, trials}
 use Rattle.markdown_blocks.proofs.FromEnding.{from_ending-again, from_ending-shrinks}
@@ -22,7 +25,8 @@ use Rattle.md_containers.proofs.Shorter.{Shortens}
 
 pub blank_at-shrinks : (cells : List Cell) (h : Here) → Shrinks (length cells) (blank_at cells h)
 unfolding blank_at
-blank_at-shrinks cells h = cond-shrinks _ (is_blank (line_bytes cells)) _ _ (from_ending-shrinks cells, from_ending-again cells) tt
+blank_at-shrinks cells h =
+    cond-shrinks _ (is_blank (line_bytes cells)) _ _ (from_ending-shrinks cells, from_ending-again cells) tt
 
 pub chunk_at-shrinks : (cells : List Cell) (h : Here) → Shrinks (length cells) (chunk_at cells h)
 unfolding chunk_at inside_chunk
@@ -40,7 +44,8 @@ AgreeAt n f g = (cells : List Cell) (h : Here) → length cells ≤ n → f cell
 
 ended-same : (n : ℕ) (f g : Rule) → Agree n f g → AgreeAt n (ended f) (ended g)
 ended-same n f g agree [] h le = refl
-ended-same n f g agree (c ∷ cs) h le = ap (λ (o : Outcome). cond (nat_eq c.byte 10) o (Refuses h.scratch h.flags)) (agree cs _ (omega arith))
+ended-same n f g agree (c ∷ cs) h le =
+    ap (λ (o : Outcome). cond (nat_eq c.byte 10) o (Refuses h.scratch h.flags)) (agree cs _ (omega arith))
 
 line_ended-same : (n : ℕ) (f g : Rule) → Agree n f g → AgreeAt n (line_ended f) (line_ended g)
 line_ended-same n f g agree cells h le = ended-same n f g agree cells (ended_to (stays h.flags) h.flags.line_end h) le
@@ -48,100 +53,137 @@ line_ended-same n f g agree cells h le = ended-same n f g agree cells (ended_to 
 blank_ended-same : (n : ℕ) (f g : Rule) → Agree n f g → AgreeAt n (blank_ended f) (blank_ended g)
 blank_ended-same n f g agree cells h le = line_ended-same n f g agree cells (record h { flags = blanked h.flags }) le
 
-tried-same : (n : ℕ) (f g : Rule) → AgreeAt n f g → (o : Outcome) (a b : Scratch → Flags → Outcome) → Shrinks n o → ((s : Scratch) (t : Flags) → a s t ≡ b s t) → tried o f a ≡ tried o g b
+tried-same : (n : ℕ) (f g : Rule) → AgreeAt n f g → (o : Outcome) (a b : Scratch → Flags → Outcome) → Shrinks n o →
+    ((s : Scratch) (t : Flags) → a s t ≡ b s t) → tried o f a ≡ tried o g b
 tried-same n f g agree (Accepts h rest) a b shrinks same = agree rest h shrinks.0
 tried-same n f g agree (Refuses s t) a b shrinks same = same s t
 tried-same n f g agree Fails a b shrinks same = refl
 
 -- the same behind what takes a cell at least
-tried-shorter : (n : ℕ) (f g : Rule) → Agree n f g → (o : Outcome) (a b : Scratch → Flags → Outcome) → Shortens n o → ((s : Scratch) (t : Flags) → a s t ≡ b s t) → tried o f a ≡ tried o g b
+tried-shorter : (n : ℕ) (f g : Rule) → Agree n f g → (o : Outcome) (a b : Scratch → Flags → Outcome) → Shortens n o →
+    ((s : Scratch) (t : Flags) → a s t ≡ b s t) → tried o f a ≡ tried o g b
 tried-shorter n f g agree (Accepts h rest) a b lt same = agree rest h lt
 tried-shorter n f g agree (Refuses s t) a b lt same = same s t
 tried-shorter n f g agree Fails a b lt same = refl
 
 -- leaves that are tried one after another, and content behind them
-leaves_of-same : (options : ParseOptions) (f g : Rule) (ls : List LeafName) (cells : List Cell) (h : Here) → Agree (length cells) f g →
+leaves_of-same : (options : ParseOptions) (f g : Rule) (ls : List LeafName) (cells : List Cell) (h : Here) →
+    Agree (length cells) f g →
     leaves_of options f ls cells h ≡ leaves_of options g ls cells h
 leaves_of-same options f g [] cells h agree =
-    tried-same _ (line_ended f) (line_ended g) (line_ended-same _ f g agree) (chunk_at cells h) Refuses Refuses (chunk_at-shrinks cells h) (λ s t. refl)
+    tried-same _ (line_ended f) (line_ended g) (line_ended-same _ f g agree) (chunk_at cells h) Refuses Refuses
+    (chunk_at-shrinks cells h) (λ s t. refl)
 leaves_of-same options f g (l ∷ ls) cells h agree =
-    tried-same _ (line_ended f) (line_ended g) (line_ended-same _ f g agree) ((leaf l).trial options cells h) _ _ ((laws l).shrinks options cells h)
+    tried-same _ (line_ended f) (line_ended g) (line_ended-same _ f g agree) ((leaf l).trial options cells h) _ _
+    ((laws l).shrinks options cells h)
     (λ s t. leaves_of-same options f g ls cells (record h { scratch = s; flags = t }) agree)
 
-leaf_of-same : (options : ParseOptions) (f g : Rule) (cells : List Cell) (h : Here) → Agree (length cells) f g → leaf_of options f cells h ≡ leaf_of options g cells h
+leaf_of-same : (options : ParseOptions) (f g : Rule) (cells : List Cell) (h : Here) → Agree (length cells) f g →
+    leaf_of options f cells h ≡ leaf_of options g cells h
 leaf_of-same options f g cells h agree =
-    tried-same _ (blank_ended f) (blank_ended g) (blank_ended-same _ f g agree) (blank_at cells h) _ _ (blank_at-shrinks cells h)
+    tried-same _ (blank_ended f) (blank_ended g) (blank_ended-same _ f g agree) (blank_at cells h) _ _
+    (blank_at-shrinks cells h)
     (λ s t. leaves_of-same options f g trials cells (record h { scratch = s; flags = t }) agree)
 
 -- Containers.
 
-new_from-same : (options : ParseOptions) (f g : Rule) (n : ℕ) (cells : List Cell) (h : Here) → Agree (length cells) f g → new_from options f n cells h ≡ new_from options g n cells h
+new_from-same : (options : ParseOptions) (f g : Rule) (n : ℕ) (cells : List Cell) (h : Here) →
+    Agree (length cells) f g → new_from options f n cells h ≡ new_from options g n cells h
 unfolding new_from
-new_from-same options f g zero cells h agree = leaf_of-same options f g cells (record h { flags = begun_line h.flags }) agree
+new_from-same options f g zero cells h agree =
+    leaf_of-same options f g cells (record h { flags = begun_line h.flags }) agree
 new_from-same options f g (suc n) cells h agree =
-    tried-shorter (length cells) _ _ (λ rest k lt. new_from-same options f g n rest (opened k) (λ cs j less. agree cs j (omega (arith, less, lt)))) (new_container_at options cells h) _ _ (new-shortens options cells h)
+    tried-shorter (length cells) _ _
+    (λ rest k lt. new_from-same options f g n rest (opened k) (λ cs j less. agree cs j (omega (arith, less, lt))))
+    (new_container_at options cells h) _ _ (new-shortens options cells h)
     (λ s t. leaf_of-same options f g cells (record h { scratch = s; flags = begun_line t }) agree)
 
 -- more containers than cells change nothing
-new_from-enough : (options : ParseOptions) (next : Rule) (n m : ℕ) (cells : List Cell) (h : Here) → length cells < n → length cells < m → new_from options next n cells h ≡ new_from options next m cells h
+new_from-enough : (options : ParseOptions) (next : Rule) (n m : ℕ) (cells : List Cell) (h : Here) → length cells < n →
+    length cells < m → new_from options next n cells h ≡ new_from options next m cells h
 unfolding new_from
 new_from-enough options next zero m cells h a b = absurd (omega arith)
 new_from-enough options next (suc n) zero cells h a b = absurd (omega arith)
 new_from-enough options next (suc n) (suc m) cells h a b =
-    tried-shorter (length cells) _ _ (λ rest k lt. new_from-enough options next n m rest (opened k) (omega (arith, lt, a)) (omega (arith, lt, b))) (new_container_at options cells h) _ _ (new-shortens options cells h) (λ s t. refl)
+    tried-shorter (length cells) _ _
+    (λ rest k lt. new_from-enough options next n m rest (opened k) (omega (arith, lt, a)) (omega (arith, lt, b)))
+    (new_container_at options cells h) _ _ (new-shortens options cells h) (λ s t. refl)
 
 -- a container opens, or the leaf of the line follows
 pub new_by_container : (options : ParseOptions) (next : Rule) (cells : List Cell) (h : Here) →
-    new_of options next cells h ≡ tried (new_container_at options cells h) (λ rest k. new_of options next rest (opened k)) (λ s g. behind_containers options next cells (record h { scratch = s; flags = g }))
+    new_of options next cells h ≡
+    tried (new_container_at options cells h) (λ rest k. new_of options next rest (opened k))
+    (λ s g. behind_containers options next cells (record h { scratch = s; flags = g }))
 unfolding new_of new_from
 new_by_container options next cells h =
-    tried-shorter (length cells) _ _ (λ rest k lt. new_from-enough options next (length cells) (suc (length rest)) rest (opened k) lt (omega arith)) (new_container_at options cells h) _ _ (new-shortens options cells h) (λ s t. refl)
+    tried-shorter (length cells) _ _
+    (λ rest k lt. new_from-enough options next (length cells) (suc (length rest)) rest (opened k) lt (omega arith))
+    (new_container_at options cells h) _ _ (new-shortens options cells h) (λ s t. refl)
 
-new_of-same : (options : ParseOptions) (f g : Rule) (cells : List Cell) (h : Here) → Agree (length cells) f g → new_of options f cells h ≡ new_of options g cells h
+new_of-same : (options : ParseOptions) (f g : Rule) (cells : List Cell) (h : Here) → Agree (length cells) f g →
+    new_of options f cells h ≡ new_of options g cells h
 unfolding new_of
 new_of-same options f g cells h agree = new_from-same options f g (suc (length cells)) cells h agree
 
-existing_by-same : (options : ParseOptions) (f g further other : Rule) (o : Option Container) (cells : List Cell) (h : Here) → Agree (length cells) f g → Agree (length cells) further other →
+existing_by-same : (options : ParseOptions) (f g further other : Rule) (o : Option Container) (cells : List Cell)
+    (h : Here) →
+    Agree (length cells) f g → Agree (length cells) further other →
     existing_by options f further o cells h ≡ existing_by options g other o cells h
 existing_by-same options f g further other None cells h agree more = new_of-same options f g cells h agree
 existing_by-same options f g further other (Some c) cells h agree more =
-    tried-shorter (length cells) _ _ (λ rest k lt. more rest (record k { flags = went_on k.flags }) lt) (continues_at options c.kind cells h) _ _ (continues-shortens options c.kind cells h) (λ s t. new_of-same options f g cells (record h { scratch = s; flags = t }) agree)
+    tried-shorter (length cells) _ _ (λ rest k lt. more rest (record k { flags = went_on k.flags }) lt)
+    (continues_at options c.kind cells h) _ _ (continues-shortens options c.kind cells h)
+    (λ s t. new_of-same options f g cells (record h { scratch = s; flags = t }) agree)
 
-existing_from-same : (options : ParseOptions) (f g : Rule) (n : ℕ) (cells : List Cell) (h : Here) → Agree (length cells) f g → existing_from options f n cells h ≡ existing_from options g n cells h
+existing_from-same : (options : ParseOptions) (f g : Rule) (n : ℕ) (cells : List Cell) (h : Here) →
+    Agree (length cells) f g → existing_from options f n cells h ≡ existing_from options g n cells h
 unfolding existing_from
 existing_from-same options f g zero cells h agree = new_of-same options f g cells h agree
 existing_from-same options f g (suc n) cells h agree =
-    existing_by-same options f g (existing_from options f n) (existing_from options g n) (next_container h.flags) cells h agree (λ rest k lt. existing_from-same options f g n rest k (λ cs j less. agree cs j (omega (arith, less, lt))))
+    existing_by-same options f g (existing_from options f n) (existing_from options g n)
+    (next_container h.flags) cells h agree
+    (λ rest k lt. existing_from-same options f g n rest k (λ cs j less. agree cs j (omega (arith, less, lt))))
 
-existing_from-enough : (options : ParseOptions) (next : Rule) (n m : ℕ) (cells : List Cell) (h : Here) → length cells < n → length cells < m → existing_from options next n cells h ≡ existing_from options next m cells h
+existing_from-enough : (options : ParseOptions) (next : Rule) (n m : ℕ) (cells : List Cell) (h : Here) →
+    length cells < n → length cells < m → existing_from options next n cells h ≡ existing_from options next m cells h
 unfolding existing_from
 existing_from-enough options next zero m cells h a b = absurd (omega arith)
 existing_from-enough options next (suc n) zero cells h a b = absurd (omega arith)
 existing_from-enough options next (suc n) (suc m) cells h a b =
-    existing_by-same options next next (existing_from options next n) (existing_from options next m) (next_container h.flags) cells h (λ rest k lt. refl)
+    existing_by-same options next next (existing_from options next n) (existing_from options next m)
+    (next_container h.flags) cells h (λ rest k lt. refl)
     (λ rest k lt. existing_from-enough options next n m rest k (omega (arith, lt, a)) (omega (arith, lt, b)))
 
 -- the next container is asked whether it goes on, and then the same behind its prefix
-pub line_by_container : (options : ParseOptions) (next : Rule) (cells : List Cell) (h : Here) → line_then options next cells h ≡ existing_by options next (line_then options next) (next_container h.flags) cells h
+pub line_by_container : (options : ParseOptions) (next : Rule) (cells : List Cell) (h : Here) →
+    line_then options next cells h ≡ existing_by options next (line_then options next) (next_container h.flags) cells h
 unfolding line_then existing_from
 line_by_container options next cells h =
-    existing_by-same options next next (existing_from options next (length cells)) (line_then options next) (next_container h.flags) cells h (λ rest k lt. refl)
+    existing_by-same options next next (existing_from options next (length cells)) (line_then options next)
+    (next_container h.flags) cells h (λ rest k lt. refl)
     (λ rest k lt. existing_from-enough options next (length cells) (suc (length rest)) rest k lt (omega arith))
 
 -- Lines.
 
-line_then-same : (options : ParseOptions) (f g : Rule) (cells : List Cell) (h : Here) → Agree (length cells) f g → line_then options f cells h ≡ line_then options g cells h
+line_then-same : (options : ParseOptions) (f g : Rule) (cells : List Cell) (h : Here) → Agree (length cells) f g →
+    line_then options f cells h ≡ line_then options g cells h
 unfolding line_then
 line_then-same options f g cells h agree = existing_from-same options f g (suc (length cells)) cells h agree
 
 -- more lines than cells change nothing
-enough : (options : ParseOptions) (n m : ℕ) (cells : List Cell) (h : Here) → length cells < n → length cells < m → flow_lines options n cells h ≡ flow_lines options m cells h
+enough : (options : ParseOptions) (n m : ℕ) (cells : List Cell) (h : Here) → length cells < n → length cells < m →
+    flow_lines options n cells h ≡ flow_lines options m cells h
 unfolding flow_lines
 enough options zero m cells h a b = absurd (omega arith)
 enough options (suc n) zero cells h a b = absurd (omega arith)
-enough options (suc n) (suc m) cells h a b = line_then-same options (flow_lines options n) (flow_lines options m) cells h (λ rest k lt. enough options n m rest k (omega arith) (omega arith))
+enough options (suc n) (suc m) cells h a b =
+    line_then-same options (flow_lines options n) (flow_lines options m) cells h
+    (λ rest k lt. enough options n m rest k (omega arith) (omega arith))
 
 -- what flow means: the first line, and then the same behind it
-pub flow_by_line : (options : ParseOptions) (cells : List Cell) (h : Here) → flow_at options cells h ≡ line_then options (flow_at options) cells h
+pub flow_by_line : (options : ParseOptions) (cells : List Cell) (h : Here) →
+    flow_at options cells h ≡ line_then options (flow_at options) cells h
 unfolding flow_at flow_lines
-flow_by_line options cells h = line_then-same options (flow_lines options (length cells)) (flow_at options) cells h (λ rest k lt. enough options (length cells) (suc (length rest)) rest k lt (omega arith))
+flow_by_line options cells h =
+    line_then-same options (flow_lines options (length cells)) (flow_at options) cells h
+    (λ rest k lt. enough options (length cells) (suc (length rest)) rest k lt (omega arith))

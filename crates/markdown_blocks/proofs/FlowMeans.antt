@@ -1,5 +1,6 @@
 -- Each state of flow takes one step of what flow means.
-use Rattle.std.proofs.Common.{◌≡◌, ◌⊎◌, inl, inr, ℕ, Bool, true, false, cond, nat_eq, List, [], ◌∷◌, ◌++◌, length, take, Option, Some, None, refl, sym, ◌∙◌, ap, subst, arith, append_assoc}
+use Rattle.std.proofs.Common.{◌≡◌, ◌⊎◌, inl, inr, ℕ, Bool, true, false, cond, nat_eq, List, [], ◌∷◌, ◌++◌, length, take}
+use Rattle.std.proofs.Common.{Option, Some, None, refl, sym, ◌∙◌, ap, subst, arith, append_assoc}
 use Rattle.std.proofs.lemmas.List.{take_all}
 use Rattle.md_engine.specs.declared.configuration.ParseOptions.{ParseOptions}
 use Rattle.md_engine.specs.declared.event.Event.{Event}
@@ -18,7 +19,8 @@ use Rattle.md_engine.specs.declared.state.State.TheVariants.{Nok, Next}
 use Rattle.md_engine.specs.declared.tokenizer.container.Container.{Container}
 use Rattle.md_engine.specs.declared.tokenizer.Frame.{Frame}
 use Rattle.md_engine.specs.declared.tokenizer.Scratch.{Scratch}
-use Rattle.md_engine.specs.Meaning.{Accepts, Behaviour, Cell, Fails, Feed, Here, Outcome, Refuses, Steps, goes, here, resume}
+use Rattle.md_engine.specs.Meaning.{Accepts, Behaviour, Cell, Fails, Feed, Here, Outcome, Refuses, Steps, goes, here}
+use Rattle.md_engine.specs.Meaning.{resume}
 use Rattle.md_engine.specs.Run.{reading}
 use Rattle.md_engine.specs.Scheme.{after_all, spot, stands}
 use Rattle.md_engine.specs.Standing.{MeansAt, StandsOn}
@@ -38,29 +40,46 @@ use Rattle.md_seam.proofs.SpacesGoods.{does-stands}
 use Rattle.md_seam.proofs.WhiteSteps.{white_steps}
 use Rattle.markdown_blocks.specs.Document.{document_own_transition}
 use Rattle.markdown_blocks.specs.Fed.{feeds}
-use Rattle.markdown_blocks.specs.Flow.{after_transition, before_content_transition, before_transition, blank_line_after_transition, blank_line_code, containers_after_transition, existing_after_transition, existing_before_code, flow_end_code, flow_end_transition, flow_own_transition, leaf_transition, new_after_transition, new_before_transition, start_transition, trial_code}
-use Rattle.markdown_blocks.specs.FlowRule.{HasFlow, Rule, behind_containers, blank_ended, ended, ended_to, existing_by, flow_at, leaves_of, line_ended, line_then, new_of, nonblank_of, opened, tried}
+use Rattle.markdown_blocks.specs.Flow.{after_transition, before_content_transition, before_transition}
+use Rattle.markdown_blocks.specs.Flow.{blank_line_after_transition, blank_line_code, containers_after_transition}
+use Rattle.markdown_blocks.specs.Flow.{existing_after_transition, existing_before_code, flow_end_code}
+use Rattle.markdown_blocks.specs.Flow.{flow_end_transition, flow_own_transition, leaf_transition, new_after_transition}
+use Rattle.markdown_blocks.specs.Flow.{new_before_transition, start_transition, trial_code}
+use Rattle.markdown_blocks.specs.FlowRule.{HasFlow, Rule, behind_containers, blank_ended, ended, ended_to, existing_by}
+use Rattle.markdown_blocks.specs.FlowRule.{flow_at, leaves_of, line_ended, line_then, new_of, nonblank_of, opened}
+use Rattle.markdown_blocks.specs.FlowRule.{tried}
 use Rattle.markdown_blocks.specs.LineFlags as flags
 use Rattle.markdown_blocks.specs.LineFlags.{ending_name, next_container, next_line, went_on}
-use Rattle.markdown_blocks.specs.States.{FlowStep, flow_behaves, flow_behaves_by, flow_table_scheme, flow_transition, leaf_owner}
-use Rattle.markdown_blocks.specs.Registry.{behind, front_of, leaf, LeafName, may_go_on, may_open, new_kind, next_of, trials, tried_at}
+use Rattle.markdown_blocks.specs.States.{FlowStep, flow_behaves, flow_behaves_by, flow_table_scheme, flow_transition}
+use Rattle.markdown_blocks.specs.States.{leaf_owner}
+use Rattle.markdown_blocks.specs.Registry.{behind, front_of, leaf, LeafName, may_go_on, may_open, new_kind, next_of}
+use Rattle.markdown_blocks.specs.Registry.{trials, tried_at}
 use Rattle.markdown_blocks.proofs.FlowLemmas.{flow_by_line, line_by_container, new_by_container}
 use Rattle.markdown_blocks.proofs.States.{flow_does}
 use Rattle.markdown_blocks.proofs.Trials.{left-before, left-next}
-use Rattle.markdown_blocks.proofs.Registry.{construct-steps, container-states, leaf-states, tried-before, white_has, container-laws, laws, leaf-starts, left-before, left-next}
+use Rattle.markdown_blocks.proofs.Registry.{construct-steps, container-states, leaf-states, tried-before, white_has}
+use Rattle.markdown_blocks.proofs.Registry.{container-laws, laws, leaf-starts, left-before, left-next}
 
 -- an attempt that was begun here
 abbrev frame_here : State → State → World → Frame
 frame_here ok nok w = record { ok = ok; nok = nok; is_check = false; events_len = length w.events; point = w.point }
 
 -- what it comes to
-resumed : (B : Behaviour) (feed : Feed) (w : World) (ok nok : State) (o : Outcome) (onward : Rule) (otherwise : Scratch → Flags → Outcome) →
-    ((cells : List Cell) (h : Here) → goes B ok cells h ≡ onward cells h) → ((s : Scratch) (g : Flags) → goes B nok (feed w.point) (record { events = w.events; point = w.point; scratch = s; flags = g }) ≡ otherwise s g) →
+resumed : (B : Behaviour) (feed : Feed) (w : World) (ok nok : State) (o : Outcome) (onward : Rule)
+    (otherwise : Scratch → Flags → Outcome) →
+    ((cells : List Cell) (h : Here) → goes B ok cells h ≡ onward cells h) →
+    ((s : Scratch) (g : Flags) →
+    goes B nok (feed w.point) (record { events = w.events; point = w.point; scratch = s; flags = g }) ≡
+    otherwise s g) →
     tried o onward otherwise ≡ resume B feed w.events (frame_here ok nok w) o
 resumed B feed w ok nok (Accepts h rest) y z a b = sym (a rest h)
 resumed B feed w ok nok (Refuses s g) y z a b =
     let back : take (length w.events) w.events ≡ w.events = take_all (length w.events) w.events (omega arith) in
-    sym (ap (λ (x : List Event). goes B nok (feed w.point) (record { events = x; point = w.point; scratch = s; flags = g })) back ∙ b s g)
+    sym
+    (ap
+    (λ (x : List Event).
+    goes B nok (feed w.point) (record { events = x; point = w.point; scratch = s; flags = g })) back
+    ∙ b s g)
 resumed B feed w ok nok Fails y z a b = refl
 
 -- What is left at a state where a construct is tried, at the construct's first state, and at those behind it; where it
@@ -93,11 +112,13 @@ looks test feed w s e = ap test (first-seen feed w s) ∙ e
 
 existing_before_steps : (B : Behaviour) (feed : Feed) (w : World) (options : ParseOptions) (next : Rule)
     (o : Option Container) → HasFlow B options next → Sees feed w → IsRest w.scratch → next_container w.flags ≡ o →
-    Steps B feed (Next (n.Document document.ContainerExistingBefore)) w (existing_before_code w o).to (existing_before_code w o).world
+    Steps B feed (Next (n.Document document.ContainerExistingBefore)) w (existing_before_code w o).to
+    (existing_before_code w o).world
 existing_before_steps B feed w options next None has s is e =
     passes B feed _ _ w w refl refl
     (has.containers document.ContainerExistingBefore _ _ ∙ line_by_container options next (feed w.point) (here w)
-    ∙ ap (λ (o : Option Container). existing_by options next (line_then options next) o (feed w.point) (here w)) e ∙ sym (has.containers document.ContainerNewBefore _ _))
+    ∙ ap (λ (o : Option Container). existing_by options next (line_then options next) o (feed w.point) (here w)) e
+    ∙ sym (has.containers document.ContainerNewBefore _ _))
 existing_before_steps B feed w options next (Some c) has s is e =
     let onward : Rule = λ rest k. line_then options next rest (record k { flags = went_on k.flags }) in
     let otherwise : Scratch → Flags → Outcome =
@@ -118,13 +139,16 @@ existing_before_steps B feed w options next (Some c) has s is e =
 
 existing_after_steps : (B : Behaviour) (feed : Feed) (w : World) (options : ParseOptions) (next : Rule) →
     HasFlow B options next →
-    Steps B feed (Next (n.Document document.ContainerExistingAfter)) w (existing_after_transition w).to (existing_after_transition w).world
+    Steps B feed (Next (n.Document document.ContainerExistingAfter)) w (existing_after_transition w).to
+    (existing_after_transition w).world
 existing_after_steps B feed w options next has =
-    passes B feed _ _ w (existing_after_transition w).world refl refl (has.containers document.ContainerExistingAfter _ _ ∙ sym (has.containers document.ContainerExistingBefore _ _))
+    passes B feed _ _ w (existing_after_transition w).world refl refl
+    (has.containers document.ContainerExistingAfter _ _ ∙ sym (has.containers document.ContainerExistingBefore _ _))
 
 new_before_steps : (B : Behaviour) (feed : Feed) (w : World) (options : ParseOptions) (next : Rule) →
     HasFlow B options next → Sees feed w → IsRest w.scratch →
-    Steps B feed (Next (n.Document document.ContainerNewBefore)) w (new_before_transition w).to (new_before_transition w).world
+    Steps B feed (Next (n.Document document.ContainerNewBefore)) w (new_before_transition w).to
+    (new_before_transition w).world
 new_before_steps B feed w options next has s is =
     let onward : Rule = λ rest k. new_of options next rest (opened k) in
     let otherwise : Scratch → Flags → Outcome =
@@ -144,15 +168,19 @@ new_before_steps B feed w options next has s is =
 -- where containers end no attempt is around, so none goes back to events before these ends
 new_after_steps : (B : Behaviour) (feed : Feed) (w : World) (options : ParseOptions) (next : Rule) →
     HasFlow B options next → w.frames ≡ [] →
-    Steps B feed (Next (n.Document document.ContainerNewAfter)) w (new_after_transition w).to (new_after_transition w).world
+    Steps B feed (Next (n.Document document.ContainerNewAfter)) w (new_after_transition w).to
+    (new_after_transition w).world
 new_after_steps B feed w options next has none =
-    changes B feed _ _ w (new_after_transition w).world none none (has.containers document.ContainerNewAfter _ _ ∙ sym (has.containers document.ContainerNewBefore _ _))
+    changes B feed _ _ w (new_after_transition w).world none none
+    (has.containers document.ContainerNewAfter _ _ ∙ sym (has.containers document.ContainerNewBefore _ _))
 
 containers_after_steps : (B : Behaviour) (feed : Feed) (w : World) (options : ParseOptions) (next : Rule) →
     HasFlow B options next →
-    Steps B feed (Next (n.Document document.ContainersAfter)) w (containers_after_transition w).to (containers_after_transition w).world
+    Steps B feed (Next (n.Document document.ContainersAfter)) w (containers_after_transition w).to
+    (containers_after_transition w).world
 containers_after_steps B feed w options next has =
-    passes B feed _ _ w (containers_after_transition w).world refl refl (has.containers document.ContainersAfter _ _ ∙ sym (has.leaves flow.Start _ _))
+    passes B feed _ _ w (containers_after_transition w).world refl refl
+    (has.containers document.ContainersAfter _ _ ∙ sym (has.leaves flow.Start _ _))
 
 -- The leaf of a line.
 
@@ -210,19 +238,23 @@ before_steps l B feed w options next has s is =
 
 before_content_steps : (B : Behaviour) (feed : Feed) (w : World) (options : ParseOptions) (next : Rule) →
     HasFlow B options next →
-    Steps B feed (Next (n.Flow flow.BeforeContent)) w (before_content_transition w).to (before_content_transition w).world
+    Steps B feed (Next (n.Flow flow.BeforeContent)) w (before_content_transition w).to
+    (before_content_transition w).world
 before_content_steps B feed w options next has =
     let f : Frame = frame_here (Next (n.Flow flow.After)) Nok w in
     begins_only B feed _ _ w (before_content_transition w).world f refl refl
     (has.leaves flow.BeforeContent _ _
-    ∙ resumed B feed w (Next (n.Flow flow.After)) Nok (chunk_at (feed w.point) (here w)) (line_ended next) Refuses (has.leaves flow.After) (λ s g. refl)
+    ∙ resumed B feed w (Next (n.Flow flow.After)) Nok (chunk_at (feed w.point) (here w)) (line_ended next) Refuses
+    (has.leaves flow.After) (λ s g. refl)
     ∙ ap (resume B feed w.events f) (sym (has.chunk.each content.ChunkStart _ _)))
 
 blank_line_after_steps : (B : Behaviour) (feed : Feed) (w : World) (options : ParseOptions) (next : Rule) →
     HasFlow B options next →
-    Steps B feed (Next (n.Flow flow.BlankLineAfter)) w (blank_line_after_transition w).to (blank_line_after_transition w).world
+    Steps B feed (Next (n.Flow flow.BlankLineAfter)) w (blank_line_after_transition w).to
+    (blank_line_after_transition w).world
 blank_line_after_steps B feed w options next has =
-    passes B feed _ _ w (blank_line_after_transition w).world refl refl (has.leaves flow.BlankLineAfter _ _ ∙ sym (has.containers document.FlowEnd _ _))
+    passes B feed _ _ w (blank_line_after_transition w).world refl refl
+    (has.leaves flow.BlankLineAfter _ _ ∙ sym (has.containers document.FlowEnd _ _))
 
 after_steps : (B : Behaviour) (feed : Feed) (w : World) (options : ParseOptions) (next : Rule) →
     HasFlow B options next →
@@ -235,34 +267,49 @@ after_steps B feed w options next has =
 -- either no ending is taken, or the state behind it means what the rule does
 abbrev GoesOn : Behaviour → Rule → ℕ → Type 0
 GoesOn B next size =
-    (size ≡ 0) ⊎ ((cells : List Cell) (h : Here) → next cells h ≡ B (n.Document document.ContainerExistingBefore) cells h)
+    (size ≡ 0) ⊎
+    ((cells : List Cell) (h : Here) → next cells h ≡ B (n.Document document.ContainerExistingBefore) cells h)
 
 -- behind an ending that is taken here
 abbrev behind_ending : World → World
-behind_ending v = record (exited (taken (entered v (ending_name v.flags.blank))) (ending_name v.flags.blank)) { flags = next_line (length v.events) v.flags }
+behind_ending v =
+    record (exited (taken (entered v (ending_name v.flags.blank))) (ending_name v.flags.blank)) { flags = next_line (length v.events) v.flags }
 
 -- and what is left behind it is what the rule makes of the rest
-ending_left : (feed : Feed) (v : World) (next : Rule) (b : ℕ) → nat_eq b 10 ≡ true → ended next (ahead feed v (Some b)) (here v) ≡ next (feed (behind_ending v).point) (here (behind_ending v))
+ending_left : (feed : Feed) (v : World) (next : Rule) (b : ℕ) → nat_eq b 10 ≡ true →
+    ended next (ahead feed v (Some b)) (here v) ≡ next (feed (behind_ending v).point) (here (behind_ending v))
 ending_left feed v next b e =
     let q = after v.setting v.point in
     let name = ending_name v.flags.blank in
-    let split : v.events ++ enter name v.point ∷ [] ++ exit name q ∷ [] ≡ v.events ++ pair name v.point q = append_assoc v.events (enter name v.point ∷ []) (exit name q ∷ []) in
-    rw e (ap (λ (x : List Event). next (feed q) (record { events = x; point = q; scratch = v.scratch; flags = next_line (length v.events) v.flags })) (sym split))
+    let split : v.events ++ enter name v.point ∷ [] ++ exit name q ∷ [] ≡
+    v.events ++ pair name v.point q = append_assoc v.events (enter name v.point ∷ []) (exit name q ∷ []) in
+    rw e
+    (ap
+    (λ (x : List Event).
+    next (feed q)
+    (record { events = x; point = q; scratch = v.scratch; flags = next_line (length v.events) v.flags }))
+    (sym split))
 
 -- where containers ended that did not go on
-flow_end_code_steps : (B : Behaviour) (feed : Feed) (w v : World) (options : ParseOptions) (next : Rule) (o : Option ℕ) →
+flow_end_code_steps : (B : Behaviour) (feed : Feed) (w v : World) (options : ParseOptions) (next : Rule)
+    (o : Option ℕ) →
     HasFlow B options next → w.frames ≡ [] → v.frames ≡ [] → feed v.point ≡ ahead feed v o →
     GoesOn B next (feeds (n.Document document.FlowEnd) o) →
     goes B (Next (n.Document document.FlowEnd)) (feed w.point) (here w) ≡ ended next (ahead feed v o) (here v) →
     Steps B feed (Next (n.Document document.FlowEnd)) w (flow_end_code v o).to (flow_end_code v o).world
 flow_end_code_steps B feed w v options next None has none also sees on is =
-    changes B feed _ _ w (flow_end_code v None).world none also (is ∙ ap (Accepts (ended_to 0 (length v.events) (here v))) (sym sees))
+    changes B feed _ _ w (flow_end_code v None).world none also
+    (is ∙ ap (Accepts (ended_to 0 (length v.events) (here v))) (sym sees))
 flow_end_code_steps B feed w v options next (Some b) has none also sees on is = go (nat_eq b 10) refl on
   where
-    go : (x : Bool) → nat_eq b 10 ≡ x → GoesOn B next (cond x 1 0) → Steps B feed (Next (n.Document document.FlowEnd)) w (flow_end_code v (Some b)).to (flow_end_code v (Some b)).world
+    go : (x : Bool) → nat_eq b 10 ≡ x → GoesOn B next (cond x 1 0) →
+        Steps B feed (Next (n.Document document.FlowEnd)) w (flow_end_code v (Some b)).to
+        (flow_end_code v (Some b)).world
     go true e (inl none_fed) = absurd (omega (arith, none_fed))
     go true e (inr meets) =
-        rw e (changes B feed _ (Next (n.Document document.ContainerExistingBefore)) w (behind_ending v) none also (is ∙ ending_left feed v next b e ∙ meets _ _))
+        rw e
+        (changes B feed _ (Next (n.Document document.ContainerExistingBefore)) w (behind_ending v) none also
+        (is ∙ ending_left feed v next b e ∙ meets _ _))
     go false e on = rw e (changes B feed _ Nok w v none also (is ∙ rw e refl))
 
 flow_end_steps : (B : Behaviour) (feed : Feed) (w : World) (options : ParseOptions) (next : Rule) →
@@ -270,7 +317,9 @@ flow_end_steps : (B : Behaviour) (feed : Feed) (w : World) (options : ParseOptio
     GoesOn B next (feeds (n.Document document.FlowEnd) w.current) →
     Steps B feed (Next (n.Document document.FlowEnd)) w (flow_end_transition w).to (flow_end_transition w).world
 flow_end_steps B feed w options next has s none on =
-    flow_end_code_steps B feed w (closed w (flags.stays w.flags) w.flags.line_end) options next w.current has none none s.next on (has.containers document.FlowEnd _ _ ∙ ap (λ (x : List Cell). line_ended next x (here w)) s.next)
+    flow_end_code_steps B feed w
+    (closed w (flags.stays w.flags) w.flags.line_end) options next w.current has none none s.next on
+    (has.containers document.FlowEnd _ _ ∙ ap (λ (x : List Cell). line_ended next x (here w)) s.next)
 
 flow_has : (options : ParseOptions) (next : Rule) → HasFlow (flow_behaves_by options next) options next
 flow_has options next = record {
@@ -287,7 +336,8 @@ flow_has options next = record {
 containers_steps : (B : Behaviour) (feed : Feed) (next : Rule) (state : DocumentState) (w : World) →
     HasFlow B w.setting.options next → Sees feed w →
     stands flow_table_scheme w (Next (n.Document state)) → GoesOn B next (feeds (n.Document state) w.current) →
-    Steps B feed (Next (n.Document state)) w (document_own_transition state w).to (document_own_transition state w).world
+    Steps B feed (Next (n.Document state)) w (document_own_transition state w).to
+    (document_own_transition state w).world
 containers_steps B feed next document.ContainerExistingBefore w has s at on =
     existing_before_steps B feed w _ _ _ has s at.0.0 refl
 containers_steps B feed next document.ContainerExistingAfter w has s at on = existing_after_steps B feed w _ _ has
@@ -300,13 +350,15 @@ containers_steps B feed next document.FlowEnd w has s at on =
 containers_steps B feed next state w has s at on = absurd at
 
 -- the states in front of a leaf,
-leaf_steps : (B : Behaviour) (feed : Feed) (next : Rule) (state : FlowState) (o : Option LeafName) → tried_at state ≡ o → (w : World) →
+leaf_steps : (B : Behaviour) (feed : Feed) (next : Rule) (state : FlowState) (o : Option LeafName) →
+    tried_at state ≡ o → (w : World) →
     HasFlow B w.setting.options next → Sees feed w →
     (leaf_owner o).ready (n.Flow state) (spot w) (after_all flow_table_scheme w.frames) →
     Steps B feed (Next (n.Flow state)) w (leaf_transition o w).to (leaf_transition o w).world
 leaf_steps B feed next state None e w has s at = absurd at
 leaf_steps B feed next state (Some l) e w has s at =
-    let P : FlowState → Type 0 = λ x. Steps B feed (Next (n.Flow x)) w (before_transition l w).to (before_transition l w).world in
+    let P : FlowState →
+    Type 0 = λ x. Steps B feed (Next (n.Flow x)) w (before_transition l w).to (before_transition l w).world in
     subst P (tried-before state l e) (before_steps l B feed w _ _ has s at.0.0)
 
 -- and those in front of none, or behind it
@@ -322,9 +374,11 @@ leaves_steps B feed next flow.After w has s at = after_steps B feed w _ _ has
 leaves_steps B feed next state w has s at = leaf_steps B feed next state (tried_at state) refl w has s at
 
 -- each state takes one step of what it means
-each_steps : (is_name : ResolveName → ResolveName → Bool) (feed : Feed) (next : Rule) (name : StateName) (w : World) → Sees feed w → stands flow_table_scheme w (Next name) →
+each_steps : (is_name : ResolveName → ResolveName → Bool) (feed : Feed) (next : Rule) (name : StateName) (w : World) →
+    Sees feed w → stands flow_table_scheme w (Next name) →
     GoesOn (flow_behaves_by w.setting.options next) next (feeds name w.current) →
-    Steps (flow_behaves_by w.setting.options next) feed (Next name) w (flow_transition is_name name w).to (flow_transition is_name name w).world
+    Steps (flow_behaves_by w.setting.options next) feed (Next name) w (flow_transition is_name name w).to
+    (flow_transition is_name name w).world
 each_steps is_name feed next name w s at on = go name at on
   where
     B : Behaviour
@@ -333,7 +387,8 @@ each_steps is_name feed next name w s at on = go name at on
     has : HasFlow B w.setting.options next
     has = flow_has w.setting.options next
 
-    go : (name : StateName) → stands flow_table_scheme w (Next name) → GoesOn B next (feeds name w.current) → Steps B feed (Next name) w (flow_transition is_name name w).to (flow_transition is_name name w).world
+    go : (name : StateName) → stands flow_table_scheme w (Next name) → GoesOn B next (feeds name w.current) →
+        Steps B feed (Next name) w (flow_transition is_name name w).to (flow_transition is_name name w).world
     go (n.BlankLine state) at on = blank_steps B feed state w has.blank s at.0
     go (n.Content state) at on = chunk_steps B feed (is_name r.Content) state w has.chunk s
     go (n.Document state) at on = containers_steps B feed next state w has s at on
@@ -342,8 +397,11 @@ each_steps is_name feed next name w s at on = go name at on
     go name at on = construct-steps is_name feed next name w s at
 
 -- whatever follows behind the line, a call that takes no ending is one step of what flow means
-pub flow-steps-by : (is_name : ResolveName → ResolveName → Bool) (feed : Feed) (next : Rule) (name : StateName) (w : World) → Sees feed w → stands flow_table_scheme w (Next name) → feeds name w.current ≡ 0 →
-    Steps (flow_behaves_by w.setting.options next) feed (Next name) w (flow_transition is_name name w).to (flow_transition is_name name w).world
+pub flow-steps-by : (is_name : ResolveName → ResolveName → Bool) (feed : Feed) (next : Rule) (name : StateName)
+    (w : World) →
+    Sees feed w → stands flow_table_scheme w (Next name) → feeds name w.current ≡ 0 →
+    Steps (flow_behaves_by w.setting.options next) feed (Next name) w (flow_transition is_name name w).to
+    (flow_transition is_name name w).world
 flow-steps-by is_name feed next name w s at none = each_steps is_name feed next name w s at (inl none)
 
 -- an ending is taken with no attempt around, and then the rule goes on
@@ -351,11 +409,14 @@ pub record Takes (next : Rule) (feed : Feed) (w : World) (to : State) (new : Wor
   pub frames : w.frames ≡ []
   pub to_is : to ≡ Next (n.Document document.ContainerExistingBefore)
   pub still : new.frames ≡ []
-  pub goes_on : goes (flow_behaves_by w.setting.options next) (Next (n.Document document.FlowEnd)) (feed w.point) (here w) ≡ next (feed new.point) (here new)
+  pub goes_on : goes (flow_behaves_by w.setting.options next) (Next (n.Document document.FlowEnd)) (feed w.point)
+      (here w) ≡
+      next (feed new.point) (here new)
 
 pub ending-taken : (is_name : ResolveName → ResolveName → Bool) (feed : Feed) (next : Rule) (w : World) → Sees feed w →
     stands flow_table_scheme w (Next (n.Document document.FlowEnd)) → w.current ≡ Some 10 →
-    Takes next feed w (flow_transition is_name (n.Document document.FlowEnd) w).to (flow_transition is_name (n.Document document.FlowEnd) w).world
+    Takes next feed w (flow_transition is_name (n.Document document.FlowEnd) w).to
+    (flow_transition is_name (n.Document document.FlowEnd) w).world
 ending-taken is_name feed next w s at is = subst P (sym (ap (flow_end_code v) is)) taken_here
   where
     v : World
@@ -372,16 +433,23 @@ ending-taken is_name feed next w s at is = subst P (sym (ap (flow_end_code v) is
       frames = none;
       to_is = refl;
       still = none;
-      goes_on = ap (λ (x : List Cell). line_ended next x (here w)) (s.next ∙ ap (ahead feed w) is) ∙ ending_left feed v next 10 refl;
+      goes_on =
+          ap (λ (x : List Cell). line_ended next x (here w)) (s.next ∙ ap (ahead feed w) is)
+          ∙ ending_left feed v next 10 refl;
     }
 
 -- each state of flow takes one step of what flow means: behind a line all further lines follow
-pub flow_means : (is_name : ResolveName → ResolveName → Bool) (options : ParseOptions) (is_end : Bool) → MeansAt (FlowStep is_name) flow_table_scheme options (flow_behaves options) is_end
+pub flow_means : (is_name : ResolveName → ResolveName → Bool) (options : ParseOptions) (is_end : Bool) →
+    MeansAt (FlowStep is_name) flow_table_scheme options (flow_behaves options) is_end
 flow_means is_name options is_end feed name w to new f called step =
     steps-as (flow_behaves options) feed (Next name) _ to (reading w) _ new step.to_is step.new_is
-    (rw (sym called.options) (each_steps is_name feed (flow_at w.setting.options) name (reading w) (sees feed w is_end f called.may) called.stands (inr (flow_by_line w.setting.options))))
+    (rw (sym called.options)
+    (each_steps is_name feed (flow_at w.setting.options) name (reading w)
+    (sees feed w is_end f called.may) called.stands (inr (flow_by_line w.setting.options))))
 
 -- and comes to where the table stands
 pub flow_stands : (is_name : ResolveName → ResolveName → Bool) → StandsOn (FlowStep is_name) flow_table_scheme
 flow_stands is_name name w to new at step =
-    does-stands flow_table_scheme name (reading w) (flow_transition is_name name (reading w)) to new step.to_is step.new_is (flow_does is_name name (reading w) refl at)
+    does-stands flow_table_scheme name (reading w)
+    (flow_transition is_name name (reading w)) to new step.to_is step.new_is
+    (flow_does is_name name (reading w) refl at)

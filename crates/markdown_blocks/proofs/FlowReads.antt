@@ -1,6 +1,7 @@
 -- What flow has read of a text, by what pushing and flushing it do.
 use Rattle.md_engine.specs.declared.tokenizer.held_leaf.HeldLeaf.TheVariants as held_leaf
-use Rattle.std.proofs.Common.{◌≡◌, ◌≢◌, ◌⊎◌, inl, inr, ◌^◌, ◌<◌, ℕ, suc, Bool, true, false, List, [], ◌∷◌, ◌++◌, length, Option, refl, sym, ◌∙◌, ap, ap₂, subst, arith, map}
+use Rattle.std.proofs.Common.{◌≡◌, ◌≢◌, ◌⊎◌, inl, inr, ◌^◌, ◌<◌, ℕ, suc, Bool, true, false, List, [], ◌∷◌, ◌++◌, length}
+use Rattle.std.proofs.Common.{Option, refl, sym, ◌∙◌, ap, ap₂, subst, arith, map}
 use Rattle.std.proofs.lemmas.Bool.{or_from}
 use Rattle.md_engine.specs.declared.configuration.ParseOptions.{ParseOptions}
 use Rattle.md_engine.specs.declared.event.Event.{Event}
@@ -32,7 +33,8 @@ use Rattle.markdown_blocks.specs.FlowReads.{FlowReads, has_text, text_cells, tex
 use Rattle.markdown_blocks.specs.Resolved.{resolved_as}
 use Rattle.markdown_blocks.specs.FlowRule.{flow_at}
 use Rattle.markdown_blocks.specs.Registry.{is_own, resolved, resolver}
-use Rattle.markdown_blocks.specs.Rows.{BlankRow, LeafRow, Row, RowKind, TextRow, is_text, leaf_events, row_events, row_events_by, rows_events, tail_events}
+use Rattle.markdown_blocks.specs.Rows.{BlankRow, LeafRow, Row, RowKind, TextRow, is_text, leaf_events, row_events}
+use Rattle.markdown_blocks.specs.Rows.{row_events_by, rows_events, tail_events}
 use Rattle.markdown_blocks.specs.States.{FlowStep, flow_behaves, flow_table_scheme}
 use Rattle.markdown_blocks.proofs.EachEvent.{each-behind, each-front}
 use Rattle.markdown_blocks.proofs.EachRow.{EachRow}
@@ -52,7 +54,8 @@ left-registers w outer f true h = goes-back f.events_len w.events w.resolvers h
 left-registers w outer f false h = h
 
 -- and so does a run
-runs-register : (is_end : Bool) (s : State) (w : World) → Registers w → (s' : State) (w' : World) → Runs (FlowStep same_name) is_end s w s' w' → Registers w'
+runs-register : (is_end : Bool) (s : State) (w : World) → Registers w → (s' : State) (w' : World) →
+    Runs (FlowStep same_name) is_end s w s' w' → Registers w'
 runs-register is_end s w h s' w' Stays = h
 runs-register is_end s w h s' w' (ThenLeaves t v t' v' run l) =
     let P : World → Type 0 = λ x. Registers x in
@@ -77,12 +80,14 @@ snoc-same (m ∷ a) (n ∷ b) x y e =
     let same : m ≡ n = cc in
     (ap₂ (λ (p : ResolveName) (q : List ResolveName). p ∷ q) same rest.0, rest.1)
 
-pub resolved-none : (R : Resolution) (w : World) (names : List ResolveName) (found : Found) (new : World) → Resolved R w names found new → names ≡ [] → (found ≡ nothing) × (new ≡ w)
+pub resolved-none : (R : Resolution) (w : World) (names : List ResolveName) (found : Found) (new : World) →
+    Resolved R w names found new → names ≡ [] → (found ≡ nothing) × (new ≡ w)
 resolved-none R w names found new NoneYet e = (refl, refl)
 resolved-none R w names found new (More ns name f more v v' h step) e = absurd (snoc-some ns name e)
 
 -- the last that ran, behind the others
-record RanLast (R : Resolution) (w : World) (others : List ResolveName) (last : ResolveName) (found : Found) (new : World) : Type 0 where
+record RanLast (R : Resolution) (w : World) (others : List ResolveName) (last : ResolveName) (found : Found)
+    (new : World) : Type 0 where
   mid : World
   mid_found : Found
   more : Option Found
@@ -90,14 +95,22 @@ record RanLast (R : Resolution) (w : World) (others : List ResolveName) (last : 
   resolved : R last mid more new
   found_is : found ≡ with_found mid_found more
 
-resolved-last : (R : Resolution) (w : World) (names : List ResolveName) (found : Found) (new : World) → Resolved R w names found new → (others : List ResolveName) (last : ResolveName) → names ≡ others ++ last ∷ [] →
+resolved-last : (R : Resolution) (w : World) (names : List ResolveName) (found : Found) (new : World) →
+    Resolved R w names found new → (others : List ResolveName) (last : ResolveName) → names ≡ others ++ last ∷ [] →
     RanLast R w others last found new
 resolved-last R w names found new NoneYet others last e = absurd (snoc-some others last (sym e))
 resolved-last R w names found new (More ns name f more v v' h step) others last e =
     let same = snoc-same ns others name last e in
     let P : List ResolveName → Type 0 = λ x. Resolved R w x f v in
     let Q : ResolveName → Type 0 = λ x. R x v more v' in
-    record { mid = v; mid_found = f; more = more; before = subst P same.0 h; resolved = subst Q same.1 step; found_is = refl }
+    record {
+      mid = v;
+      mid_found = f;
+      more = more;
+      before = subst P same.0 h;
+      resolved = subst Q same.1 step;
+      found_is = refl;
+    }
 
 -- one ran once
 record RanOnce (R : Resolution) (name : ResolveName) (at : World) (was found : Found) (new : World) : Type 0 where
@@ -117,22 +130,33 @@ record Ran (R : Resolution) (content own : Bool) (w : World) (found : Found) (ne
   reads : RanIf R r.Content content w nothing mid_found mid
   sets : RanIf R resolver own mid mid_found found new
 
-resolved-content : (R : Resolution) (w : World) (b : Bool) (names : List ResolveName) (found : Found) (new : World) → Resolved R w names found new → names ≡ named b false → RanIf R r.Content b w nothing found new
+resolved-content : (R : Resolution) (w : World) (b : Bool) (names : List ResolveName) (found : Found) (new : World) →
+    Resolved R w names found new → names ≡ named b false → RanIf R r.Content b w nothing found new
 resolved-content R w true names found new h e =
     let last = resolved-last R w names found new h [] r.Content e in
     let none = resolved-none R w [] last.mid_found last.mid last.before refl in
     let P : World → Type 0 = λ x. R r.Content x last.more new in
-    record { more = last.more; resolved = subst P none.1 last.resolved; found_is = last.found_is ∙ ap (λ (x : Found). with_found x last.more) none.0 }
+    record {
+      more = last.more;
+      resolved = subst P none.1 last.resolved;
+      found_is = last.found_is ∙ ap (λ (x : Found). with_found x last.more) none.0;
+    }
 resolved-content R w false names found new h e = resolved-none R w names found new h e
 
 own-last : (b : Bool) → named b true ≡ named b false ++ resolver ∷ []
 own-last true = refl
 own-last false = refl
 
-resolved-named : (R : Resolution) (w : World) (b c : Bool) (names : List ResolveName) (found : Found) (new : World) → Resolved R w names found new → names ≡ named b c → Ran R b c w found new
+resolved-named : (R : Resolution) (w : World) (b c : Bool) (names : List ResolveName) (found : Found) (new : World) →
+    Resolved R w names found new → names ≡ named b c → Ran R b c w found new
 resolved-named R w b true names found new h e =
     let last = resolved-last R w names found new h (named b false) resolver (e ∙ own-last b) in
-    record { mid = last.mid; mid_found = last.mid_found; reads = resolved-content R w b (named b false) last.mid_found last.mid last.before refl; sets = record { more = last.more; resolved = last.resolved; found_is = last.found_is } }
+    record {
+      mid = last.mid;
+      mid_found = last.mid_found;
+      reads = resolved-content R w b (named b false) last.mid_found last.mid last.before refl;
+      sets = record { more = last.more; resolved = last.resolved; found_is = last.found_is };
+    }
 resolved-named R w b false names found new h e =
     record { mid = new; mid_found = found; reads = resolved-content R w b names found new h e; sets = (refl, refl) }
 
@@ -142,14 +166,17 @@ no_ends-text : (k : RowKind) (row : Row) → NoEnds is_content (row_events_by k 
 no_ends-text k row o e =
     let P : RowKind → Type 0 = λ x. NoEnds is_content (row_events_by x row) in
     let leaf : List Event = leaf_events TextRow row in
-    let inside = each-behind (IsNoEnd is_content) row.front leaf (each-front (IsNoEnd is_content) (row.front ++ leaf) (tail_events n.LineEnding row) (subst P e o)) in
+    let inside = each-behind (IsNoEnd is_content) row.front leaf
+    (each-front (IsNoEnd is_content) (row.front ++ leaf) (tail_events n.LineEnding row) (subst P e o)) in
     let bad : true ≡ false = inside.1.0 in
     absurd (cc)
 
 no-text : (rows : List Row) → NoEnds is_content (rows_events rows) → has_text rows ≡ false
 no-text [] o = refl
 no-text (row ∷ rows) o =
-    or_from (is_text row.kind) (has_text rows) (other row.kind (no_ends-text row.kind row (each-front (IsNoEnd is_content) (row_events row) (rows_events rows) o)))
+    or_from (is_text row.kind) (has_text rows)
+    (other row.kind
+    (no_ends-text row.kind row (each-front (IsNoEnd is_content) (row_events row) (rows_events rows) o)))
     (no-text rows (each-behind (IsNoEnd is_content) (row_events row) (rows_events rows) o))
   where
     other : (kind : RowKind) → kind ≢ TextRow → is_text kind ≡ false
@@ -160,24 +187,37 @@ no-text (row ∷ rows) o =
 -- The steps behind the states, whether each resolver ran or not.
 
 -- content is read
-record ContentRead (bytes : List ℕ) (options : ParseOptions) (rows : List Row) (at : World) (found : Found) (new : World) : Type 0 where
+record ContentRead (bytes : List ℕ) (options : ParseOptions) (rows : List Row) (at : World) (found : Found)
+    (new : World) : Type 0 where
   rest : new ≡ record at { events = new.events }
   read : Substituted wants_content (content_readings bytes options) [] 0 (joined (rows_events rows)) new.events
   found_is : ((has_text rows ≡ false) × (found ≡ nothing)) ⊎ (found ≡ found_in_content new.events)
 
-content-step : (bytes : List ℕ) (options : ParseOptions) (rows : List Row) (b : Bool) (at : World) (found : Found) (new : World) → EachRow IsFramed rows → EachNoContent rows →
-    at.events ≡ rows_events rows → at.setting.bytes ≡ bytes → at.setting.options ≡ options → (b ≡ false → NoEnds is_content (rows_events rows)) → RanIf resolved_as r.Content b at nothing found new →
+content-step : (bytes : List ℕ) (options : ParseOptions) (rows : List Row) (b : Bool) (at : World) (found : Found)
+    (new : World) →
+    EachRow IsFramed rows → EachNoContent rows →
+    at.events ≡ rows_events rows → at.setting.bytes ≡ bytes → at.setting.options ≡ options →
+    (b ≡ false → NoEnds is_content (rows_events rows)) → RanIf resolved_as r.Content b at nothing found new →
     ContentRead bytes options rows at found new
 content-step bytes options rows true at found new framed quiet events text set others h =
     let resolves : Resolves at h.more new = h.resolved in
-    let A : List ℕ → Type 0 = λ l. Substituted wants_content (content_readings l at.setting.options) [] 0 (joined at.events) new.events in
-    let B : ParseOptions → Type 0 = λ o. Substituted wants_content (content_readings bytes o) [] 0 (joined at.events) new.events in
-    let C : List Event → Type 0 = λ l. Substituted wants_content (content_readings bytes options) [] 0 (joined l) new.events in
-    record { rest = resolves.rest; read = subst C events (subst B set (subst A text resolves.events)); found_is = inr (h.found_is ∙ ap (with_found nothing) resolves.found_is) }
+    let A : List ℕ →
+    Type 0 = λ l. Substituted wants_content (content_readings l at.setting.options) [] 0
+    (joined at.events) new.events in
+    let B : ParseOptions →
+    Type 0 = λ o. Substituted wants_content (content_readings bytes o) [] 0 (joined at.events) new.events in
+    let C : List Event →
+    Type 0 = λ l. Substituted wants_content (content_readings bytes options) [] 0 (joined l) new.events in
+    record {
+      rest = resolves.rest;
+      read = subst C events (subst B set (subst A text resolves.events));
+      found_is = inr (h.found_is ∙ ap (with_found nothing) resolves.found_is);
+    }
 content-step bytes options rows false at found new framed quiet events text set others h =
     let none : has_text rows ≡ false = no-text rows (others refl) in
     let same : new.events ≡ rows_events rows = ap (λ (w : World). w.events) h.1 ∙ events in
-    let P : List Event → Type 0 = λ l. Substituted wants_content (content_readings bytes options) [] 0 (joined (rows_events rows)) l in
+    let P : List Event →
+    Type 0 = λ l. Substituted wants_content (content_readings bytes options) [] 0 (joined (rows_events rows)) l in
     record {
       rest = h.1 ∙ ap (λ (l : List Event). record at { events = l }) (sym (ap (λ (w : World). w.events) h.1));
       read = subst P (sym same) (content-same (content_readings bytes options) rows framed quiet none);
@@ -185,45 +225,72 @@ content-step bytes options rows false at found new framed quiet events text set 
     }
 
 -- and what is the registry's own is set
-own-step : (b : Bool) (at : World) (was found : Found) (new : World) → (b ≡ false → AreOutside at.events) → RanIf resolved_as resolver b at was found new → (found ≡ was) × (new ≡ record at { events = resolved at.events })
+own-step : (b : Bool) (at : World) (was found : Found) (new : World) → (b ≡ false → AreOutside at.events) →
+    RanIf resolved_as resolver b at was found new → (found ≡ was) × (new ≡ record at { events = resolved at.events })
 own-step true at was found new outside h = (h.found_is ∙ ap (with_found was) h.resolved.0, h.resolved.1)
-own-step false at was found new outside h = (h.0, h.1 ∙ ap (λ (l : List Event). record at { events = l }) (sym (outside-same at.events (outside refl))))
+own-step false at was found new outside h =
+    (h.0, h.1 ∙ ap (λ (l : List Event). record at { events = l }) (sym (outside-same at.events (outside refl))))
 
 -- what flow has read of a text from a point on, once all of it was pushed and flushed
-pub flow-reads : (bytes : List ℕ) (options : ParseOptions) (p : Point) (end : State) (at : World) (found : Found) (new : World) → length bytes < 2 ^ 61 →
-    Runs (FlowStep same_name) false (Next (s.Document document.ContainerExistingBefore)) (reads_to (fresh bytes options p) (length bytes)) end at →
+pub flow-reads : (bytes : List ℕ) (options : ParseOptions) (p : Point) (end : State) (at : World) (found : Found)
+    (new : World) →
+    length bytes < 2 ^ 61 →
+    Runs (FlowStep same_name) false (Next (s.Document document.ContainerExistingBefore))
+    (reads_to (fresh bytes options p) (length bytes)) end at →
     Flushes (FlowStep same_name) resolved_as end at true found new →
     FlowReads bytes options p found new
 flow-reads bytes options p end at found new small run f =
-    go (runs-register true end at (runs-register false (Next (s.Document document.ContainerExistingBefore)) (reads_to w0 (length bytes)) none-yet end at run) f.end f.at f.runs)
+    go
+    (runs-register true end at
+    (runs-register false (Next (s.Document document.ContainerExistingBefore))
+    (reads_to w0 (length bytes)) none-yet end at run) f.end f.at f.runs)
   where
     w0 : World
     w0 = fresh bytes options p
 
-    begun : stands flow_table_scheme (reads_to (fresh bytes options p) (length bytes)) (Next (s.Document document.ContainerExistingBefore))
+    begun : stands flow_table_scheme (reads_to (fresh bytes options p) (length bytes))
+        (Next (s.Document document.ContainerExistingBefore))
     begun = ((refl, record { ok = λ s q t is up way. tt; nok = λ s q t is up. tt }), tt)
 
-    pushed : (comes_to (flow_behaves options) (text_feed (text_setting bytes options p)) (Next (s.Document document.ContainerExistingBefore)) (fresh bytes options p) ≡ comes_to (flow_behaves options) (text_feed (text_setting bytes options p)) end at) × stands flow_table_scheme at (plain end)
-    pushed = flow_push same_name (Next (s.Document document.ContainerExistingBefore)) end (fresh bytes options p) at (length bytes) (length bytes) small (omega arith) begun run
+    pushed : (comes_to (flow_behaves options) (text_feed (text_setting bytes options p))
+        (Next (s.Document document.ContainerExistingBefore)) (fresh bytes options p) ≡
+        comes_to (flow_behaves options) (text_feed (text_setting bytes options p)) end at) ×
+        stands flow_table_scheme at (plain end)
+    pushed =
+        flow_push same_name (Next (s.Document document.ContainerExistingBefore)) end (fresh bytes options p) at
+        (length bytes) (length bytes) small (omega arith) begun run
 
     kept : at.setting ≡ text_setting bytes options p
-    kept = runs-setting (FlowStep same_name) false (Next (s.Document document.ContainerExistingBefore)) (reads_to (fresh bytes options p) (length bytes)) end at run
+    kept =
+        runs-setting (FlowStep same_name) false (Next (s.Document document.ContainerExistingBefore))
+        (reads_to (fresh bytes options p) (length bytes)) end at run
 
     limit : at.setting.limit < 2 ^ 61
     limit = let P : Setting → Type 0 = λ y. y.limit < 2 ^ 61 in subst P (sym kept) small
 
-    means : comes_to (flow_behaves at.setting.options) (text_feed at.setting) end at ≡ flow_at at.setting.options (text_cells bytes options p) (here (fresh bytes options p))
+    means : comes_to (flow_behaves at.setting.options) (text_feed at.setting) end at ≡
+        flow_at at.setting.options (text_cells bytes options p) (here (fresh bytes options p))
     means =
-        let P : Setting → Type 0 = λ y. comes_to (flow_behaves y.options) (text_feed y) end at ≡ flow_at y.options (text_cells bytes options p) (here (fresh bytes options p)) in
-        subst P (sym kept) (sym pushed.0 ∙ sym (flow_by_line options (text_cells bytes options p) (here (fresh bytes options p))))
+        let P : Setting →
+        Type 0 = λ y. comes_to (flow_behaves y.options) (text_feed y) end at ≡
+        flow_at y.options (text_cells bytes options p) (here (fresh bytes options p)) in
+        subst P (sym kept)
+        (sym pushed.0 ∙ sym (flow_by_line options (text_cells bytes options p) (here (fresh bytes options p))))
 
     out : flow_at options (text_cells bytes options p) (here (fresh bytes options p)) ≡ Accepts (here f.at) []
     out =
-        let P : Setting → Type 0 = λ y. flow_at y.options (text_cells bytes options p) (here (fresh bytes options p)) ≡ Accepts (here f.at) [] in
-        subst P kept (flow_outcome same_name resolved_as end at true found new (text_cells bytes options p) (here (fresh bytes options p)) limit pushed.1 means f)
+        let P : Setting →
+        Type 0 = λ y. flow_at y.options (text_cells bytes options p) (here (fresh bytes options p)) ≡
+        Accepts (here f.at) [] in
+        subst P kept
+        (flow_outcome same_name resolved_as end at true found new (text_cells bytes options p)
+        (here (fresh bytes options p)) limit pushed.1 means f)
 
     -- the run of a push and a flush, which ends with the text
-    ends : (e : State) → IsEnd e → goes (flow_behaves at.setting.options) e (text_feed at.setting f.at.point) (here f.at) ≡ Accepts (here f.at) [] → (e ≡ Ok) × (text_feed at.setting f.at.point ≡ [])
+    ends : (e : State) → IsEnd e →
+        goes (flow_behaves at.setting.options) e (text_feed at.setting f.at.point) (here f.at) ≡
+        Accepts (here f.at) [] →
+        (e ≡ Ok) × (text_feed at.setting f.at.point ≡ [])
     ends Ok t e = (refl, cc)
     ends Nok t e = cc
     ends Error t e = absurd t
@@ -232,16 +299,26 @@ flow-reads bytes options p end at found new small run f =
 
     ran_so : FlowRan bytes options p f.end f.at
     ran_so =
-        let same : flow_at at.setting.options (text_cells bytes options p) (here (fresh bytes options p)) ≡ goes (flow_behaves at.setting.options) f.end (text_feed at.setting f.at.point) (here f.at) =
+        let same : flow_at at.setting.options (text_cells bytes options p) (here (fresh bytes options p)) ≡
+        goes (flow_behaves at.setting.options) f.end (text_feed at.setting f.at.point) (here f.at) =
         sym means ∙ flow_flush same_name resolved_as end at true found new limit pushed.1 f in
-        let comes : goes (flow_behaves at.setting.options) f.end (text_feed at.setting f.at.point) (here f.at) ≡ Accepts (here f.at) [] =
-        sym same ∙ flow_outcome same_name resolved_as end at true found new (text_cells bytes options p) (here (fresh bytes options p)) limit pushed.1 means f in
+        let comes : goes (flow_behaves at.setting.options) f.end (text_feed at.setting f.at.point) (here f.at) ≡
+        Accepts (here f.at) [] =
+        sym same
+        ∙ flow_outcome same_name resolved_as end at true found new (text_cells bytes options p)
+        (here (fresh bytes options p)) limit pushed.1 means f in
         let done = ends f.end f.ends comes in
-        flow-ran bytes options p f.end f.at small (runs-append (FlowStep same_name) true (Next (s.Document document.ContainerExistingBefore)) (reads_to (fresh bytes options p) (length bytes)) end at f.end f.at (runs-at_end (FlowStep same_name) (Next (s.Document document.ContainerExistingBefore)) (reads_to (fresh bytes options p) (length bytes)) end at run) f.runs)
+        flow-ran bytes options p f.end f.at small
+        (runs-append (FlowStep same_name) true (Next (s.Document document.ContainerExistingBefore))
+        (reads_to (fresh bytes options p) (length bytes)) end at f.end f.at
+        (runs-at_end (FlowStep same_name) (Next (s.Document document.ContainerExistingBefore))
+        (reads_to (fresh bytes options p) (length bytes)) end at run) f.runs)
         done.0 f.none_left (ap (λ (x : Setting). text_feed x f.at.point) (sym kept) ∙ done.1)
 
     events : f.at.events ≡ rows_events (text_rows options bytes p)
-    events = flow_at-rows options (text_cells bytes options p) (here (fresh bytes options p)) (here f.at) [] refl refl refl refl refl refl refl out
+    events =
+        flow_at-rows options (text_cells bytes options p) (here (fresh bytes options p))
+        (here f.at) [] refl refl refl refl refl refl refl out
 
     setting : f.at.setting ≡ text_setting bytes options p
     setting = runs-setting (FlowStep same_name) true end at f.end f.at f.runs ∙ kept
@@ -250,26 +327,36 @@ flow-reads bytes options p end at found new small run f =
     rows = text_rows options bytes p
 
     quiet : EachNoContent rows
-    quiet = rows_at-no_content options (suc (length (text_cells bytes options p))) [] held_leaf.None (text_cells bytes options p) p
+    quiet =
+        rows_at-no_content options (suc (length (text_cells bytes options p))) [] held_leaf.None
+        (text_cells bytes options p) p
 
     framed : EachRow IsFramed rows
-    framed = rows_at-framed options (suc (length (text_cells bytes options p))) [] held_leaf.None (text_cells bytes options p) p
+    framed =
+        rows_at-framed options (suc (length (text_cells bytes options p))) [] held_leaf.None
+        (text_cells bytes options p) p
 
     go : Registers f.at → FlowReads bytes options p found new
     go registers =
         let w : World = record f.at { resolvers = [] } in
-        let ran = resolved-named resolved_as w registers.content registers.own f.at.resolvers found new f.resolved registers.names_are in
+        let ran = resolved-named resolved_as w registers.content registers.own f.at.resolvers found new f.resolved
+        registers.names_are in
         let P : List Event → Type 0 = λ es. NoEnds is_content es in
         let Q : List Event → Type 0 = λ es. NoEnds is_own es in
         let read : ContentRead bytes options rows w ran.mid_found ran.mid =
-        content-step bytes options rows registers.content w ran.mid_found ran.mid framed quiet events (ap (λ (x : Setting). x.bytes) setting) (ap (λ (x : Setting). x.options) setting)
+        content-step bytes options rows registers.content w ran.mid_found ran.mid framed quiet events
+        (ap (λ (x : Setting). x.bytes) setting) (ap (λ (x : Setting). x.options) setting)
         (λ e. subst P events (registers.no_content e)) ran.reads in
         let set : (found ≡ ran.mid_found) × (new ≡ record ran.mid { events = resolved ran.mid.events }) =
         own-step registers.own ran.mid ran.mid_found found new
-        (λ e. reading-outside bytes options (rows_events rows) ran.mid.events (rows-outside rows framed (subst Q events (registers.no_own e))) read.read) ran.sets in
-        let all : new ≡ record w { events = resolved ran.mid.events } = set.1 ∙ ap (λ (x : World). record x { events = resolved ran.mid.events }) read.rest in
+        (λ e.
+        reading-outside bytes options (rows_events rows) ran.mid.events
+        (rows-outside rows framed (subst Q events (registers.no_own e))) read.read) ran.sets in
+        let all : new ≡ record w { events = resolved ran.mid.events } = set.1
+        ∙ ap (λ (x : World). record x { events = resolved ran.mid.events }) read.rest in
         let is : new.events ≡ resolved ran.mid.events = ap (λ (x : World). x.events) all in
-        let F : Found → Type 0 = λ x. ((has_text rows ≡ false) × (x ≡ nothing)) ⊎ (x ≡ found_in_content ran.mid.events) in
+        let F : Found →
+        Type 0 = λ x. ((has_text rows ≡ false) × (x ≡ nothing)) ⊎ (x ≡ found_in_content ran.mid.events) in
         record {
           end = f.end;
           ended = f.at;
@@ -285,14 +372,23 @@ flow-reads bytes options p end at found new small run f =
         }
 
 -- the same for a tokenizer that is known to be fresh, whose test of names is known to be that one
-pub flow-reads-from : (is_name : ResolveName → ResolveName → Bool) (bytes : List ℕ) (options : ParseOptions) (p : Point) (start : World) (to : ℕ) (end : State) (at : World) (found : Found) (new : World) →
-    ((a b : ResolveName) → is_name a b ≡ same_name a b) → start ≡ fresh bytes options p → to ≡ length bytes → length bytes < 2 ^ 61 →
-    Runs (FlowStep is_name) false (Next (s.Document document.ContainerExistingBefore)) (reads_to start to) end at → Flushes (FlowStep is_name) resolved_as end at true found new → FlowReads bytes options p found new
+pub flow-reads-from : (is_name : ResolveName → ResolveName → Bool) (bytes : List ℕ) (options : ParseOptions) (p : Point)
+    (start : World) (to : ℕ) (end : State) (at : World) (found : Found) (new : World) →
+    ((a b : ResolveName) → is_name a b ≡ same_name a b) → start ≡ fresh bytes options p → to ≡ length bytes →
+    length bytes < 2 ^ 61 →
+    Runs (FlowStep is_name) false (Next (s.Document document.ContainerExistingBefore)) (reads_to start to) end at →
+    Flushes (FlowStep is_name) resolved_as end at true found new → FlowReads bytes options p found new
 flow-reads-from is_name bytes options p start to end at found new names same all small run f =
     let named : is_name ≡ same_name = λ i a b. names a b i in
-    let P : World → Type 0 = λ w. Runs (FlowStep same_name) false (Next (s.Document document.ContainerExistingBefore)) (reads_to w (length bytes)) end at in
-    let Q : ℕ → Type 0 = λ n. Runs (FlowStep same_name) false (Next (s.Document document.ContainerExistingBefore)) (reads_to start n) end at in
-    let S : (ResolveName → ResolveName → Bool) → Type 0 = λ t. Runs (FlowStep t) false (Next (s.Document document.ContainerExistingBefore)) (reads_to start to) end at in
+    let P : World →
+    Type 0 = λ w. Runs (FlowStep same_name) false (Next (s.Document document.ContainerExistingBefore))
+    (reads_to w (length bytes)) end at in
+    let Q : ℕ →
+    Type 0 = λ n. Runs (FlowStep same_name) false (Next (s.Document document.ContainerExistingBefore))
+    (reads_to start n) end at in
+    let S : (ResolveName → ResolveName → Bool) →
+    Type 0 = λ t. Runs (FlowStep t) false (Next (s.Document document.ContainerExistingBefore))
+    (reads_to start to) end at in
     let F : (ResolveName → ResolveName → Bool) → Type 0 = λ t. Flushes (FlowStep t) resolved_as end at true found new in
     flow-reads bytes options p end at found new small (subst P same (subst Q all (subst S named run))) (subst F named f)
 
@@ -309,9 +405,11 @@ map-nil f [] e = refl
 map-nil f (x ∷ xs) e = cc
 
 -- what flow finds is no label
-pub reads-labels : (bytes : List ℕ) (options : ParseOptions) (p : Point) (found : Found) (new : World) → FlowReads bytes options p found new → NoLabels found
+pub reads-labels : (bytes : List ℕ) (options : ParseOptions) (p : Point) (found : Found) (new : World) →
+    FlowReads bytes options p found new → NoLabels found
 reads-labels bytes options p found new h = go h.found_is
   where
-    go : ((has_text (text_rows options bytes p) ≡ false) × (found ≡ nothing)) ⊎ (found ≡ found_in_content h.content) → NoLabels found
+    go : ((has_text (text_rows options bytes p) ≡ false) × (found ≡ nothing)) ⊎ (found ≡ found_in_content h.content) →
+        NoLabels found
     go (inl none) = rw none.1 (record { definitions = refl; footnotes = refl })
     go (inr some) = rw some (record { definitions = refl; footnotes = refl })

@@ -2,7 +2,9 @@
 use Rattle.markdown_blocks.specs.HeldLeaf.{takes_lazy}
 use Rattle.md_engine.specs.declared.tokenizer.held_leaf.HeldLeaf.TheVariants as held_leaf
 use Rattle.md_engine.specs.declared.tokenizer.held_leaf.HeldLeaf.{HeldLeaf}
-use Rattle.std.proofs.Common.{◌≡◌, ℕ, zero, suc, ◌+◌, ◌<◌, ◌≤◌, Bool, true, false, cond, ◌&&◌, nat_eq, List, [], ◌∷◌, ◌++◌, length, take, drop, Option, Some, None, refl, sym, ◌∙◌, ap, ap₂, subst, arith, append_assoc, append-nil, length-drop}
+use Rattle.std.proofs.Common.{◌≡◌, ℕ, zero, suc, ◌+◌, ◌<◌, ◌≤◌, Bool, true, false, cond, ◌&&◌, nat_eq, List, [], ◌∷◌}
+use Rattle.std.proofs.Common.{◌++◌, length, take, drop, Option, Some, None, refl, sym, ◌∙◌, ap, ap₂, subst, arith}
+use Rattle.std.proofs.Common.{append_assoc, append-nil, length-drop}
 use Rattle.std.specs.Prelude.{nat_lt, slice_get}
 use Rattle.std.proofs.Math.ListN.{drop_of_length-le}
 use Rattle.std.proofs.Math.Seq.{drop-append_seam, drop-length, take-append_seam, take-length}
@@ -25,17 +27,24 @@ use Rattle.md_definition.specs.Rest.{is_blank}
 use Rattle.md_seam.specs.Spaces.{IsRest}
 use Rattle.md_definition.specs.State.{Container}
 use Rattle.markdown_blocks.specs.Change.{Change, change_by, ends_of, interrupts, open_behind, others_of}
-use Rattle.markdown_blocks.specs.FlowRule.{Rule, behind_containers, blank_ended, ended, ended_to, existing_by, existing_from, flow_at, flow_lines, leaf_of, leaves_of, line_ended, line_then, new_from, new_of, nonblank_of, opened, tried}
+use Rattle.markdown_blocks.specs.FlowRule.{Rule, behind_containers, blank_ended, ended, ended_to, existing_by}
+use Rattle.markdown_blocks.specs.FlowRule.{existing_from, flow_at, flow_lines, leaf_of, leaves_of, line_ended}
+use Rattle.markdown_blocks.specs.FlowRule.{line_then, new_from, new_of, nonblank_of, opened, tried}
 use Rattle.markdown_blocks.specs.LineFlags.{begun_line, ending_name, next_line, stays, went_on}
 use Rattle.markdown_blocks.specs.Passed.{Passed, passed_by, passed_here}
-use Rattle.markdown_blocks.specs.Registry.{first_of, goes_at, leaf, LeafName, MatchesContainer, new_kind, opens_at, trials}
-use Rattle.markdown_blocks.specs.Rows.{leaf_behind, BlankRow, Front, Held, LeafRow, Row, RowKind, TextRow, after_ending, closes_before, ending_of, held_at, held_by, held_of, in_front, inside_of, is_lazy, is_text, kind_of, leaf_events, new_front, no_front, row_events, row_kind, row_of, rows_at, rows_events, went_front}
+use Rattle.markdown_blocks.specs.Registry.{first_of, goes_at, leaf, LeafName, MatchesContainer, new_kind, opens_at}
+use Rattle.markdown_blocks.specs.Registry.{trials}
+use Rattle.markdown_blocks.specs.Rows.{leaf_behind, BlankRow, Front, Held, LeafRow, Row, RowKind, TextRow, after_ending}
+use Rattle.markdown_blocks.specs.Rows.{closes_before, ending_of, held_at, held_by, held_of, in_front, inside_of}
+use Rattle.markdown_blocks.specs.Rows.{is_lazy, is_text, kind_of, leaf_events, new_front, no_front, row_events}
+use Rattle.markdown_blocks.specs.Rows.{row_kind, row_of, rows_at, rows_events, went_front}
 use Rattle.markdown_blocks.specs.Stands.{AreOpen}
 use Rattle.markdown_blocks.proofs.ContainedLemmas.{lazy-some}
 use Rattle.markdown_blocks.proofs.FromEnding.{from_ending-shrinks}
 use Rattle.markdown_blocks.proofs.LeafRows.{blank-refused, blank-took, chunk-took}
 use Rattle.markdown_blocks.proofs.Registry.{laws}
-use Rattle.markdown_blocks.proofs.RegistryContainers.{further-is, goes-same, goes-shorter, known-name, opening-is, opens-same, opens-shorter}
+use Rattle.markdown_blocks.proofs.RegistryContainers.{further-is, goes-same, goes-shorter, known-name, opening-is}
+use Rattle.markdown_blocks.proofs.RegistryContainers.{opens-same, opens-shorter}
 
 -- The leaf of a line, by its kind.
 
@@ -67,26 +76,33 @@ kind-by : (options : ParseOptions) (cells : List Cell) (x : Bool) → is_blank (
 kind-by options cells x e = ap (λ (y : Bool). cond y BlankRow (kind_of (taker options cells trials))) e
 
 -- of leaves that are tried one after another, the first that takes the line has it; if none does, it is text
-leaves-are : (options : ParseOptions) (next : Rule) (ls : List LeafName) (cells : List Cell) (h : Here) → IsRest h.scratch →
-    leaves_of options next ls cells h ≡ line_ended next (from_ending cells) (leaf_here options cells h (kind_of (taker options cells ls)))
+leaves-are : (options : ParseOptions) (next : Rule) (ls : List LeafName) (cells : List Cell) (h : Here) →
+    IsRest h.scratch →
+    leaves_of options next ls cells h ≡
+    line_ended next (from_ending cells) (leaf_here options cells h (kind_of (taker options cells ls)))
 leaves-are options next [] cells h is = ap (λ (o : Outcome). tried o (line_ended next) Refuses) (chunk-took cells h)
-leaves-are options next (l ∷ ls) cells h is = go ((leaf l).takes options cells) refl (leaves-are options next ls cells h is)
+leaves-are options next (l ∷ ls) cells h is =
+    go ((leaf l).takes options cells) refl (leaves-are options next ls cells h is)
   where
     onward : Outcome → Outcome
     onward o = tried o (line_ended next) (λ s g. leaves_of options next ls cells (record h { scratch = s; flags = g }))
 
     Done : Option LeafName → Type 0
-    Done o = leaves_of options next (l ∷ ls) cells h ≡ line_ended next (from_ending cells) (leaf_here options cells h (kind_of o))
+    Done o =
+        leaves_of options next (l ∷ ls) cells h ≡
+        line_ended next (from_ending cells) (leaf_here options cells h (kind_of o))
 
     go : (x : Bool) → (leaf l).takes options cells ≡ x →
-        leaves_of options next ls cells h ≡ line_ended next (from_ending cells) (leaf_here options cells h (kind_of (taker options cells ls))) →
+        leaves_of options next ls cells h ≡
+        line_ended next (from_ending cells) (leaf_here options cells h (kind_of (taker options cells ls))) →
         Done (cond x (Some l) (taker options cells ls))
     go true takes more = ap onward ((laws l).took options cells h is takes)
     go false takes more = ap onward ((laws l).refused options cells h is takes) ∙ more
 
 -- the rest of a line is what its kind says
 leaf-is : (options : ParseOptions) (next : Rule) (cells : List Cell) (h : Here) → IsRest h.scratch →
-    leaf_of options next cells h ≡ line_ended next (from_ending cells) (leaf_here options cells h (row_kind options cells))
+    leaf_of options next cells h ≡
+    line_ended next (from_ending cells) (leaf_here options cells h (row_kind options cells))
 leaf-is options next cells h is = go (is_blank (line_bytes cells)) refl
   where
     onward : Outcome → Outcome
@@ -97,7 +113,9 @@ leaf-is options next cells h is = go (is_blank (line_bytes cells)) refl
 
     go : (x : Bool) → is_blank (line_bytes cells) ≡ x → leaf_of options next cells h ≡ behind (row_kind options cells)
     go true e = ap onward (blank-took cells h e) ∙ ap behind (sym (kind-by options cells true e))
-    go false e = ap onward (blank-refused cells h e) ∙ leaves-are options next trials cells h is ∙ ap behind (sym (kind-by options cells false e))
+    go false e =
+        ap onward (blank-refused cells h e) ∙ leaves-are options next trials cells h is
+        ∙ ap behind (sym (kind-by options cells false e))
 
 -- The containers that the tokenizer holds.
 
@@ -107,20 +125,23 @@ open-length [] (c ∷ cs) are = absurd are
 open-length (k ∷ ks) [] are = absurd are
 open-length (k ∷ ks) (c ∷ cs) are = let more = open-length ks cs are.1 in omega arith
 
-open-append : (ks ls : List Known) (cs ds : List Container) → AreOpen ks cs → AreOpen ls ds → AreOpen (ks ++ ls) (cs ++ ds)
+open-append : (ks ls : List Known) (cs ds : List Container) → AreOpen ks cs → AreOpen ls ds →
+    AreOpen (ks ++ ls) (cs ++ ds)
 open-append [] ls [] ds are more = more
 open-append [] ls (c ∷ cs) ds are more = absurd are
 open-append (k ∷ ks) ls [] ds are more = absurd are
 open-append (k ∷ ks) ls (c ∷ cs) ds are more = (are.0, open-append ks ls cs ds are.1 more)
 
 -- those up to a place, and those behind it
-open-parts : (ks : List Known) (cs ds : List Container) → AreOpen ks (cs ++ ds) → AreOpen (take (length cs) ks) cs × AreOpen (drop (length cs) ks) ds
+open-parts : (ks : List Known) (cs ds : List Container) → AreOpen ks (cs ++ ds) →
+    AreOpen (take (length cs) ks) cs × AreOpen (drop (length cs) ks) ds
 open-parts ks [] ds are = (tt, are)
 open-parts [] (c ∷ cs) ds are = absurd are
 open-parts (k ∷ ks) (c ∷ cs) ds are = let more = open-parts ks cs ds are.1 in ((are.0, more.0), more.1)
 
 open-all : (n : ℕ) (ks : List Known) (cs : List Container) → n ≡ length ks → AreOpen ks cs → AreOpen (take n ks) cs
-open-all n ks cs e are = let P : List Known → Type 0 = λ l. AreOpen l cs in subst P (sym (ap (λ (m : ℕ). take m ks) e ∙ take-length ks)) are
+open-all n ks cs e are =
+    let P : List Known → Type 0 = λ l. AreOpen l cs in subst P (sym (ap (λ (m : ℕ). take m ks) e ∙ take-length ks)) are
 
 -- the next one, behind so many
 record IsNext (ks : List Known) (n : ℕ) (c : Container) (cs : List Container) : Type 0 where
@@ -130,11 +151,14 @@ record IsNext (ks : List Known) (n : ℕ) (c : Container) (cs : List Container) 
   more : AreOpen (drop (suc n) ks) cs
   inside : n < length ks
 
-open-next : (n : ℕ) (ks : List Known) (c : Container) (cs : List Container) → AreOpen (drop n ks) (c ∷ cs) → IsNext ks n c cs
+open-next : (n : ℕ) (ks : List Known) (c : Container) (cs : List Container) → AreOpen (drop n ks) (c ∷ cs) →
+    IsNext ks n c cs
 open-next zero [] c cs are = absurd are
 open-next zero (k ∷ ks) c cs are = record { held = k; found = refl; is = are.0; more = are.1; inside = omega arith }
 open-next (suc n) [] c cs are = absurd are
-open-next (suc n) (k ∷ ks) c cs are = let next = open-next n ks c cs are in record { held = next.held; found = next.found; is = next.is; more = next.more; inside = omega (arith, next.inside) }
+open-next (suc n) (k ∷ ks) c cs are =
+    let next = open-next n ks c cs are in
+    record { held = next.held; found = next.found; is = next.is; more = next.more; inside = omega (arith, next.inside) }
 
 -- The ends of containers.
 
@@ -142,11 +166,14 @@ ends-are : (ks : List Known) (cs : List Container) (p : Point) → AreOpen ks cs
 ends-are [] [] p are = refl
 ends-are [] (c ∷ cs) p are = absurd are
 ends-are (k ∷ ks) [] p are = absurd are
-ends-are (k ∷ ks) (c ∷ cs) p are = ap₂ (λ (es : List Event) (name : Name). es ++ exit name p ∷ []) (ends-are ks cs p are.1) (known-name k c are.0)
+ends-are (k ∷ ks) (c ∷ cs) p are =
+    ap₂ (λ (es : List Event) (name : Name). es ++ exit name p ∷ []) (ends-are ks cs p are.1) (known-name k c are.0)
 
 -- where these events stand behind the line before, and whatever follows them
 abbrev pub Ends : List Known → List Event → Point → Type 0
-Ends ks tail p = (keep : ℕ) (more : List Event) (q : Point) → ends_at (drop keep ks) (point_of (tail ++ more) q) ≡ ends_at (drop keep ks) p
+Ends ks tail p =
+    (keep : ℕ) (more : List Event) (q : Point) →
+    ends_at (drop keep ks) (point_of (tail ++ more) q) ≡ ends_at (drop keep ks) p
 
 ends-behind : (ks : List Known) (e : Event) (tail : List Event) → Ends ks (e ∷ tail) e.point
 ends-behind ks e tail keep more q = refl
@@ -156,22 +183,26 @@ ends-none ks p e keep more q =
     let none : drop keep ks ≡ [] = drop_of_length-le ks (omega (arith, ap length e)) in
     ap (λ (l : List Known). ends_at l (point_of more q)) none ∙ ap (λ (l : List Known). ends_at l p) (sym none)
 
-closed-ends : (front tail more es : List Event) (p q : Point) (keep at : ℕ) (ks : List Known) (cs : List Container) → Ends ks tail p → AreOpen (drop keep ks) cs → at ≡ length front → es ≡ front ++ (tail ++ more) →
+closed-ends : (front tail more es : List Event) (p q : Point) (keep at : ℕ) (ks : List Known) (cs : List Container) →
+    Ends ks tail p → AreOpen (drop keep ks) cs → at ≡ length front → es ≡ front ++ (tail ++ more) →
     closed_events keep at ks es q ≡ front ++ (ends_of cs p ++ (tail ++ more))
 closed-ends front tail more es p q keep at ks cs ends are begin same =
     ap₂ (λ (n : ℕ) (xs : List Event). put n (ends_at (drop keep ks) (point_of (drop n xs) q)) xs) begin same
-    ∙ ap₂ (λ (a b : List Event). (a ++ ends_at (drop keep ks) (point_of b q)) ++ b) (take-append_seam front (tail ++ more)) (drop-append_seam front (tail ++ more))
+    ∙ ap₂ (λ (a b : List Event). (a ++ ends_at (drop keep ks) (point_of b q)) ++ b)
+    (take-append_seam front (tail ++ more)) (drop-append_seam front (tail ++ more))
     ∙ append_assoc front (ends_at (drop keep ks) (point_of (tail ++ more) q)) (tail ++ more)
     ∙ ap (λ (xs : List Event). front ++ (xs ++ (tail ++ more))) (ends keep more q ∙ ends-are (drop keep ks) cs p are)
 
-closed-none : (keep at : ℕ) (ks : List Known) (es : List Event) (q : Point) → length ks ≤ keep → closed_events keep at ks es q ≡ es
+closed-none : (keep at : ℕ) (ks : List Known) (es : List Event) (q : Point) → length ks ≤ keep →
+    closed_events keep at ks es q ≡ es
 closed-none keep at ks es q all =
     ap (λ (xs : List Known). put at (ends_at xs (point_of (drop at es) q)) es) (drop_of_length-le ks all)
     ∙ ap (λ (xs : List Event). xs ++ drop at es) (append-nil (take at es))
     ∙ take-append-drop at es
 
 -- none opens where nothing is left
-opens-none : (options : ParseOptions) (interrupting : Bool) (cells : List Cell) (p : Point) → length cells ≤ 0 → opens_at options interrupting cells p ≡ None
+opens-none : (options : ParseOptions) (interrupting : Bool) (cells : List Cell) (p : Point) → length cells ≤ 0 →
+    opens_at options interrupting cells p ≡ None
 opens-none options interrupting cells p most = go (opens_at options interrupting cells p) refl
   where
     go : (x : Option Passed) → opens_at options interrupting cells p ≡ x → x ≡ None
@@ -180,40 +211,54 @@ opens-none options interrupting cells p most = go (opens_at options interrupting
 
 -- Containers that are open.
 
-went-shorter : (options : ParseOptions) (cs : List Container) (cells : List Cell) (p : Point) → length (went_front options cs cells p).cells ≤ length cells
+went-shorter : (options : ParseOptions) (cs : List Container) (cells : List Cell) (p : Point) →
+    length (went_front options cs cells p).cells ≤ length cells
 went-shorter options [] cells p = omega arith
-went-shorter options (c ∷ cs) cells p = go (goes_at options c cells p) refl (λ t. went-shorter options cs t.cells t.point)
+went-shorter options (c ∷ cs) cells p =
+    go (goes_at options c cells p) refl (λ t. went-shorter options cs t.cells t.point)
   where
     Shorter : Front → Type 0
     Shorter f = length f.cells ≤ length cells
 
-    go : (x : Option Passed) → goes_at options c cells p ≡ x → ((t : Passed) → length (went_front options cs t.cells t.point).cells ≤ length t.cells) →
+    go : (x : Option Passed) → goes_at options c cells p ≡ x →
+        ((t : Passed) → length (went_front options cs t.cells t.point).cells ≤ length t.cells) →
         Shorter (elim x [ None ↦ no_front cells p | Some t ↦ in_front t (went_front options cs t.cells t.point) ])
     go None e more = omega arith
     go (Some t) e more = omega (arith, more t, goes-shorter options c cells p t e)
 
-new-shorter : (options : ParseOptions) (interrupting : Bool) (size : ℕ) (cells : List Cell) (p : Point) → length (new_front options interrupting size cells p).cells ≤ length cells
+new-shorter : (options : ParseOptions) (interrupting : Bool) (size : ℕ) (cells : List Cell) (p : Point) →
+    length (new_front options interrupting size cells p).cells ≤ length cells
 new-shorter options interrupting zero cells p = omega arith
-new-shorter options interrupting (suc size) cells p = go (opens_at options interrupting cells p) refl (λ t. new-shorter options false size t.cells t.point)
+new-shorter options interrupting (suc size) cells p =
+    go (opens_at options interrupting cells p) refl (λ t. new-shorter options false size t.cells t.point)
   where
     Shorter : Front → Type 0
     Shorter f = length f.cells ≤ length cells
 
-    go : (x : Option Passed) → opens_at options interrupting cells p ≡ x → ((t : Passed) → length (new_front options false size t.cells t.point).cells ≤ length t.cells) →
-        Shorter (elim x [ None ↦ no_front cells p | Some t ↦ in_front t (new_front options false size t.cells t.point) ])
+    go : (x : Option Passed) → opens_at options interrupting cells p ≡ x →
+        ((t : Passed) → length (new_front options false size t.cells t.point).cells ≤ length t.cells) →
+        Shorter
+        (elim x [ None ↦ no_front cells p | Some t ↦ in_front t (new_front options false size t.cells t.point) ])
     go None e more = omega arith
     go (Some t) e more = omega (arith, more t, opens-shorter options interrupting cells p t e)
 
 -- those that went on, and the others, are still those that the tokenizer holds
-went-open : (options : ParseOptions) (ks : List Known) (cs : List Container) (cells : List Cell) (p : Point) → AreOpen ks cs → AreOpen ks ((went_front options cs cells p).containers ++ others_of cs (went_front options cs cells p).containers)
+went-open : (options : ParseOptions) (ks : List Known) (cs : List Container) (cells : List Cell) (p : Point) →
+    AreOpen ks cs →
+    AreOpen ks ((went_front options cs cells p).containers ++ others_of cs (went_front options cs cells p).containers)
 went-open options ks [] cells p are = are
 went-open options [] (c ∷ cs) cells p are = absurd are
-went-open options (k ∷ ks) (c ∷ cs) cells p are = go (goes_at options c cells p) refl (λ t. went-open options ks cs t.cells t.point are.1)
+went-open options (k ∷ ks) (c ∷ cs) cells p are =
+    go (goes_at options c cells p) refl (λ t. went-open options ks cs t.cells t.point are.1)
   where
     Kept : Front → Type 0
     Kept f = AreOpen (k ∷ ks) (f.containers ++ others_of (c ∷ cs) f.containers)
 
-    go : (x : Option Passed) → goes_at options c cells p ≡ x → ((t : Passed) → AreOpen ks ((went_front options cs t.cells t.point).containers ++ others_of cs (went_front options cs t.cells t.point).containers)) →
+    go : (x : Option Passed) → goes_at options c cells p ≡ x →
+        ((t : Passed) →
+        AreOpen ks
+        ((went_front options cs t.cells t.point).containers
+        ++ others_of cs (went_front options cs t.cells t.point).containers)) →
         Kept (elim x [ None ↦ no_front cells p | Some t ↦ in_front t (went_front options cs t.cells t.point) ])
     go None e more = are
     go (Some t) e more = (goes-same options k c cells p t are.0 e, more t)
@@ -224,20 +269,34 @@ with_continued n h = record h { flags = record h.flags { continued = n } }
 
 -- and these, with their prefixes
 abbrev gone : ℕ → Front → Here → Here
-gone n f h = record h { events = h.events ++ f.events; point = f.point; flags = record h.flags { continued = n + length f.containers } }
+gone n f h = record h {
+  events = h.events ++ f.events;
+  point = f.point;
+  flags = record h.flags { continued = n + length f.containers };
+}
 
-existing-is : (options : ParseOptions) (next : Rule) (m n : ℕ) (cs : List Container) (cells : List Cell) (h : Here) → IsRest h.scratch → length cells < m → AreOpen (drop n h.flags.containers) cs →
-    existing_from options next m cells (with_continued n h) ≡ new_of options next (went_front options cs cells h.point).cells (gone n (went_front options cs cells h.point) h)
+existing-is : (options : ParseOptions) (next : Rule) (m n : ℕ) (cs : List Container) (cells : List Cell) (h : Here) →
+    IsRest h.scratch → length cells < m → AreOpen (drop n h.flags.containers) cs →
+    existing_from options next m cells (with_continued n h) ≡
+    new_of options next (went_front options cs cells h.point).cells (gone n (went_front options cs cells h.point) h)
 unfolding existing_from
 existing-is options next zero n cs cells h is some are = absurd (omega arith)
 existing-is options next (suc m) n [] cells h is some are =
     let none : length (drop n h.flags.containers) ≡ 0 = open-length (drop n h.flags.containers) [] are in
-    let past : slice_get h.flags.containers n ≡ None = slice_get_past h.flags.containers n (omega (arith, none, length-drop n h.flags.containers)) in
+    let past : slice_get h.flags.containers n ≡
+    None = slice_get_past h.flags.containers n (omega (arith, none, length-drop n h.flags.containers)) in
     let same : n + 0 ≡ n = omega arith in
     ap (λ (o : Option Known). existing_by options next (existing_from options next m) o cells (with_continued n h)) past
-    ∙ ap₂ (λ (es : List Event) (x : ℕ). new_of options next cells (record h { events = es; flags = record h.flags { continued = x } })) (sym (append-nil h.events)) (sym same)
+    ∙ ap₂
+    (λ (es : List Event) (x : ℕ).
+    new_of options next cells (record h { events = es; flags = record h.flags { continued = x } }))
+    (sym (append-nil h.events)) (sym same)
 existing-is options next (suc m) n (c ∷ cs) cells h is some are =
-    go (λ t lt. existing-is options next m (suc n) cs t.cells (passed_here t h) is lt (open-next n h.flags.containers c cs are).more) (goes_at options c cells h.point) refl
+    go
+    (λ t lt.
+    existing-is options next m (suc n) cs t.cells (passed_here t h) is lt
+    (open-next n h.flags.containers c cs are).more)
+    (goes_at options c cells h.point) refl
   where
     first : IsNext h.flags.containers n c cs
     first = open-next n h.flags.containers c cs are
@@ -246,10 +305,16 @@ existing-is options next (suc m) n (c ∷ cs) cells h is some are =
     at = with_continued n h
 
     onward : Outcome → Outcome
-    onward o = tried o (λ rest x. existing_from options next m rest (record x { flags = went_on x.flags })) (λ s g. new_of options next cells (record (with_continued n h) { scratch = s; flags = g }))
+    onward o =
+        tried o (λ rest x. existing_from options next m rest (record x { flags = went_on x.flags }))
+        (λ s g. new_of options next cells (record (with_continued n h) { scratch = s; flags = g }))
 
     begins : existing_from options next (suc m) cells at ≡ onward (passed_by (goes_at options c cells h.point) at)
-    begins = ap (λ (o : Option Known). existing_by options next (existing_from options next m) o cells (with_continued n h)) first.found ∙ ap onward (further-is options first.held c cells (with_continued n h) is first.is)
+    begins =
+        ap
+        (λ (o : Option Known).
+        existing_by options next (existing_from options next m) o cells (with_continued n h)) first.found
+        ∙ ap onward (further-is options first.held c cells (with_continued n h) is first.is)
 
     Done : Front → Type 0
     Done x = existing_from options next (suc m) cells at ≡ new_of options next x.cells (gone n x h)
@@ -259,42 +324,65 @@ existing-is options next (suc m) n (c ∷ cs) cells h is some are =
 
     Further : Type 0
     Further = (t : Passed) → length t.cells < m →
-        existing_from options next m t.cells (with_continued (suc n) (passed_here t h)) ≡ new_of options next (went_front options cs t.cells t.point).cells (gone (suc n) (went_front options cs t.cells t.point) (passed_here t h))
+        existing_from options next m t.cells (with_continued (suc n) (passed_here t h)) ≡
+        new_of options next (went_front options cs t.cells t.point).cells
+        (gone (suc n) (went_front options cs t.cells t.point) (passed_here t h))
 
-    go : Further → (x : Option Passed) → goes_at options c cells h.point ≡ x → Done (elim x [ None ↦ no_front cells h.point | Some t ↦ in_front t (went_front options cs t.cells t.point) ])
+    go : Further → (x : Option Passed) → goes_at options c cells h.point ≡ x →
+        Done (elim x [ None ↦ no_front cells h.point | Some t ↦ in_front t (went_front options cs t.cells t.point) ])
     go more None e =
         let same : n ≡ n + 0 = omega arith in
         begins
         ∙ ap (λ (x : Option Passed). onward (passed_by x at)) e
-        ∙ ap₂ (λ (es : List Event) (x : ℕ). new_of options next cells (record h { events = es; flags = record h.flags { continued = x } })) (sym (append-nil h.events)) same
+        ∙ ap₂
+        (λ (es : List Event) (x : ℕ).
+        new_of options next cells (record h { events = es; flags = record h.flags { continued = x } }))
+        (sym (append-nil h.events)) same
     go more (Some t) e =
         let f : Front = went_front options cs t.cells t.point in
         let same : suc n + length f.containers ≡ n + suc (length f.containers) = omega arith in
         begins
         ∙ ap (λ (x : Option Passed). onward (passed_by x at)) e
-        ∙ ap (λ (x : Bool). existing_from options next m t.cells (with_continued (cond x (suc n) n) (passed_here t h))) fits
+        ∙ ap
+        (λ (x : Bool).
+        existing_from options next m t.cells (with_continued (cond x (suc n) n) (passed_here t h))) fits
         ∙ more t (omega (arith, goes-shorter options c cells h.point t e))
-        ∙ ap₂ (λ (es : List Event) (x : ℕ). new_of options next f.cells (record h { events = es; point = f.point; flags = record h.flags { continued = x } })) (append_assoc h.events t.events f.events) same
+        ∙ ap₂
+        (λ (es : List Event) (x : ℕ).
+        new_of options next f.cells
+        (record h { events = es; point = f.point; flags = record h.flags { continued = x } }))
+        (append_assoc h.events t.events f.events) same
 
 -- Containers that open.
 
-new-by : (options : ParseOptions) (next : Rule) (interrupting : Bool) (m : ℕ) (cells : List Cell) (h : Here) (x : Option Passed) → IsRest h.scratch → opens_at options interrupting cells h.point ≡ x →
-    new_from options next (suc m) cells h ≡ tried (passed_by x h) (λ rest k. new_from options next m rest (opened k)) (λ s g. behind_containers options next cells (record h { scratch = s; flags = g }))
+new-by : (options : ParseOptions) (next : Rule) (interrupting : Bool) (m : ℕ) (cells : List Cell) (h : Here)
+    (x : Option Passed) →
+    IsRest h.scratch → opens_at options interrupting cells h.point ≡ x →
+    new_from options next (suc m) cells h ≡
+    tried (passed_by x h) (λ rest k. new_from options next m rest (opened k))
+    (λ s g. behind_containers options next cells (record h { scratch = s; flags = g }))
 unfolding new_from
 new-by options next interrupting m cells h x is e =
-    ap (λ (o : Outcome). tried o (λ rest k. new_from options next m rest (opened k)) (λ s g. behind_containers options next cells (record h { scratch = s; flags = g })))
+    ap
+    (λ (o : Outcome).
+    tried o (λ rest k. new_from options next m rest (opened k))
+    (λ s g. behind_containers options next cells (record h { scratch = s; flags = g })))
     (opening-is options interrupting cells h is ∙ ap (λ (y : Option Passed). passed_by y h) e)
 
-new-none : (options : ParseOptions) (next : Rule) (interrupting : Bool) (m : ℕ) (cells : List Cell) (h : Here) → IsRest h.scratch → opens_at options interrupting cells h.point ≡ None →
+new-none : (options : ParseOptions) (next : Rule) (interrupting : Bool) (m : ℕ) (cells : List Cell) (h : Here) →
+    IsRest h.scratch → opens_at options interrupting cells h.point ≡ None →
     new_from options next (suc m) cells h ≡ behind_containers options next cells h
 new-none options next interrupting m cells h is e = new-by options next interrupting m cells h None is e
 
-new-one : (options : ParseOptions) (next : Rule) (interrupting : Bool) (m : ℕ) (cells : List Cell) (h : Here) (t : Passed) → IsRest h.scratch → opens_at options interrupting cells h.point ≡ Some t →
+new-one : (options : ParseOptions) (next : Rule) (interrupting : Bool) (m : ℕ) (cells : List Cell) (h : Here)
+    (t : Passed) →
+    IsRest h.scratch → opens_at options interrupting cells h.point ≡ Some t →
     new_from options next (suc m) cells h ≡ new_from options next m t.cells (opened (passed_here t h))
 new-one options next interrupting m cells h t is e = new-by options next interrupting m cells h (Some t) is e
 
 -- where these containers went on or are new, more of them open
-record Opened (options : ParseOptions) (next : Rule) (cs : List Container) (h : Here) (f : Front) (o : Outcome) : Type 0 where
+record Opened (options : ParseOptions) (next : Rule) (cs : List Container) (h : Here) (f : Front)
+    (o : Outcome) : Type 0 where
   new : Here
   is : o ≡ behind_containers options next f.cells new
   rest : IsRest new.scratch
@@ -306,7 +394,10 @@ record Opened (options : ParseOptions) (next : Rule) (cs : List Container) (h : 
   blank : new.flags.blank ≡ h.flags.blank
 
 -- none does
-opened-none : (options : ParseOptions) (next : Rule) (cs : List Container) (cells : List Cell) (h : Here) (o : Outcome) → o ≡ behind_containers options next cells h → IsRest h.scratch → AreOpen h.flags.containers cs → h.flags.continued ≡ length h.flags.containers → h.flags.leaf ≡ held_leaf.None →
+opened-none : (options : ParseOptions) (next : Rule) (cs : List Container) (cells : List Cell) (h : Here)
+    (o : Outcome) →
+    o ≡ behind_containers options next cells h → IsRest h.scratch → AreOpen h.flags.containers cs →
+    h.flags.continued ≡ length h.flags.containers → h.flags.leaf ≡ held_leaf.None →
     Opened options next cs h (no_front cells h.point) o
 opened-none options next cs cells h o same is are all shut = record {
   new = h;
@@ -320,31 +411,52 @@ opened-none options next cs cells h o same is are all shut = record {
   blank = refl;
 }
 
-new-more : (options : ParseOptions) (next : Rule) (m size : ℕ) (cs : List Container) (cells : List Cell) (h : Here) → IsRest h.scratch → length cells < m → length cells ≤ size → AreOpen h.flags.containers cs → h.flags.continued ≡ length h.flags.containers → h.flags.leaf ≡ held_leaf.None →
+new-more : (options : ParseOptions) (next : Rule) (m size : ℕ) (cs : List Container) (cells : List Cell) (h : Here) →
+    IsRest h.scratch → length cells < m → length cells ≤ size → AreOpen h.flags.containers cs →
+    h.flags.continued ≡ length h.flags.containers → h.flags.leaf ≡ held_leaf.None →
     Opened options next cs h (new_front options false size cells h.point) (new_from options next m cells h)
 new-more options next zero size cs cells h is some most are all shut = absurd (omega arith)
 new-more options next (suc m) zero cs cells h is some most are all shut =
-    opened-none options next cs cells h (new_from options next (suc m) cells h) (new-none options next false m cells h is (opens-none options false cells h.point most)) is are all shut
+    opened-none options next cs cells h (new_from options next (suc m) cells h)
+    (new-none options next false m cells h is (opens-none options false cells h.point most)) is are all shut
 new-more options next (suc m) (suc size) cs cells h is some most are all shut =
-    go (λ t lt le more. new-more options next m size (cs ++ t.container ∷ []) t.cells (opened (passed_here t h)) is lt le more refl refl) (opens_at options false cells h.point) refl
+    go
+    (λ t lt le more.
+    new-more options next m size (cs ++ t.container ∷ []) t.cells (opened (passed_here t h)) is lt le more refl refl)
+    (opens_at options false cells h.point) refl
   where
     new : Known
     new = record { kind = new_kind }
 
     Further : Type 0
-    Further = (t : Passed) → length t.cells < m → length t.cells ≤ size → AreOpen (opened (passed_here t h)).flags.containers (cs ++ t.container ∷ []) →
-        Opened options next (cs ++ t.container ∷ []) (opened (passed_here t h)) (new_front options false size t.cells t.point) (new_from options next m t.cells (opened (passed_here t h)))
+    Further =
+        (t : Passed) → length t.cells < m → length t.cells ≤ size →
+        AreOpen (opened (passed_here t h)).flags.containers (cs ++ t.container ∷ []) →
+        Opened options next (cs ++ t.container ∷ []) (opened (passed_here t h))
+        (new_front options false size t.cells t.point) (new_from options next m t.cells (opened (passed_here t h)))
 
     go : Further → (x : Option Passed) → opens_at options false cells h.point ≡ x →
-        Opened options next cs h (elim x [ None ↦ no_front cells h.point | Some t ↦ in_front t (new_front options false size t.cells t.point) ]) (new_from options next (suc m) cells h)
-    go more None e = opened-none options next cs cells h (new_from options next (suc m) cells h) (new-none options next false m cells h is e) is are all shut
+        Opened options next cs h
+        (elim x [
+          | None ↦ no_front cells h.point
+          | Some t ↦ in_front t (new_front options false size t.cells t.point)
+        ])
+        (new_from options next (suc m) cells h)
+    go more None e =
+        opened-none options next cs cells h (new_from options next (suc m) cells h)
+        (new-none options next false m cells h is e) is are all shut
     go more (Some t) e =
         let shorter = opens-shorter options false cells h.point t e in
         let f : Front = new_front options false size t.cells t.point in
         let begun : AreOpen (opened (passed_here t h)).flags.containers (cs ++ t.container ∷ []) =
-        open-append (take h.flags.continued h.flags.containers) (new ∷ []) cs (t.container ∷ []) (open-all h.flags.continued h.flags.containers cs all are) (opens-same options false cells h.point t e, tt) in
+        open-append (take h.flags.continued h.flags.containers) (new ∷ []) cs (t.container ∷ [])
+        (open-all h.flags.continued h.flags.containers cs all are)
+        (opens-same options false cells h.point t e, tt) in
         let o = more t (omega (arith, shorter)) (omega (arith, shorter)) begun in
-        let none : (opened (passed_here t h)).events ≡ h.events ++ t.events = closed-none h.flags.continued h.flags.line_end h.flags.containers (h.events ++ t.events) t.point (omega arith) in
+        let none : (opened (passed_here t h)).events ≡
+        h.events
+        ++ t.events = closed-none h.flags.continued h.flags.line_end h.flags.containers
+        (h.events ++ t.events) t.point (omega arith) in
         let P : List Container → Type 0 = λ l. AreOpen o.new.flags.containers l in
         record {
           new = o.new;
@@ -361,18 +473,23 @@ new-more options next (suc m) (suc size) cs cells h is some most are all shut =
 -- The containers of a line, and its leaf.
 
 -- a line was read up to its ending: what stands behind the line before, and what it adds
-pub record Done (next : Rule) (options : ParseOptions) (front tail : List Event) (p : Point) (x : Held) (o : Outcome) : Type 0 where
+pub record Done (next : Rule) (options : ParseOptions) (front tail : List Event) (p : Point) (x : Held)
+    (o : Outcome) : Type 0 where
   pub new : Here
   pub is : o ≡ ended next (from_ending x.cells) new
   pub rest : IsRest new.scratch
-  pub events : new.events ≡ front ++ (ends_of x.change.closes p ++ (tail ++ (x.front ++ added_by options x.cells x.point (row_kind options x.cells))))
+  pub events : new.events ≡
+      front
+      ++ (ends_of x.change.closes p
+      ++ (tail ++ (x.front ++ added_by options x.cells x.point (row_kind options x.cells))))
   pub point : new.point ≡ line_end x.cells x.point
   pub containers : AreOpen new.flags.containers (open_behind x.change)
   pub leaf : new.flags.leaf ≡ leaf_behind (row_kind options x.cells)
   pub blank : new.flags.blank ≡ blank_by (row_kind options x.cells) false
 
 -- behind the containers that went on
-record Between (front tail : List Event) (p : Point) (cs : List Container) (still : HeldLeaf) (w : Front) (h : Here) : Type 0 where
+record Between (front tail : List Event) (p : Point) (cs : List Container) (still : HeldLeaf) (w : Front)
+    (h : Here) : Type 0 where
   rest : IsRest h.scratch
   events : h.events ≡ front ++ (tail ++ w.events)
   containers : AreOpen h.flags.containers (w.containers ++ others_of cs w.containers)
@@ -394,11 +511,13 @@ lazy-behind (LeafRow l) = refl
 lazy-behind TextRow = refl
 
 -- those that stay, and those that end, are all that went on or did not
-change-parts : (x : Bool) (went others : List Container) → let c = change_by x went others [] in c.stays ++ c.closes ≡ went ++ others
+change-parts : (x : Bool) (went others : List Container) → let c =
+    change_by x went others [] in c.stays ++ c.closes ≡ went ++ others
 change-parts true went others = append-nil (went ++ others)
 change-parts false went others = refl
 
-change-stays : (x : Bool) (went others : List Container) → length (change_by x went others []).stays ≡ cond x (length (went ++ others)) (length went)
+change-stays : (x : Bool) (went others : List Container) →
+    length (change_by x went others []).stays ≡ cond x (length (went ++ others)) (length went)
 change-stays true went others = refl
 change-stays false went others = refl
 
@@ -409,20 +528,30 @@ change-none false went others = append-nil went
 regroup-ends : (front tail w added : List Event) → (front ++ (tail ++ w)) ++ added ≡ front ++ (tail ++ (w ++ added))
 regroup-ends front tail w added = simp append_assoc
 
-regroup-line : (front ends tail w begin more added : List Event) → ((front ++ (ends ++ (tail ++ (w ++ begin)))) ++ more) ++ added ≡ front ++ (ends ++ (tail ++ ((w ++ (begin ++ more)) ++ added)))
+regroup-line : (front ends tail w begin more added : List Event) →
+    ((front ++ (ends ++ (tail ++ (w ++ begin)))) ++ more) ++ added ≡
+    front ++ (ends ++ (tail ++ ((w ++ (begin ++ more)) ++ added)))
 regroup-line front ends tail w begin more added = simp append_assoc
 
 -- no container opens
-done-none : (options : ParseOptions) (next : Rule) (front tail : List Event) (p : Point) (cs : List Container) (still : HeldLeaf) (w : Front) (cells : List Cell) (h : Here) → Between front tail p cs still w h →
-    Done next options front tail p (held_of options cs still w (no_front cells h.point)) (behind_containers options next cells h)
+done-none : (options : ParseOptions) (next : Rule) (front tail : List Event) (p : Point) (cs : List Container)
+    (still : HeldLeaf) (w : Front) (cells : List Cell) (h : Here) →
+    Between front tail p cs still w h →
+    Done next options front tail p (held_of options cs still w (no_front cells h.point))
+    (behind_containers options next cells h)
 done-none options next front tail p cs still w cells h b = record {
   new = ended_to keep leaf.flags.line_end leaf;
   is = leaf-is options next cells (record h { flags = begun_line h.flags }) b.rest;
   rest = b.rest;
-  events = closed-ends front tail (w.events ++ added) leaf.events p leaf.point keep leaf.flags.line_end h.flags.containers c.closes b.ends parts.1 b.line_end (ap (λ (es : List Event). es ++ added) b.events ∙ regroup-ends front tail w.events added)
+  events =
+      closed-ends front tail
+      (w.events ++ added) leaf.events p leaf.point keep leaf.flags.line_end h.flags.containers c.closes b.ends parts.1 b.line_end
+      (ap (λ (es : List Event). es ++ added) b.events ∙ regroup-ends front tail w.events added)
       ∙ ap (λ (es : List Event). front ++ (ends_of c.closes p ++ (tail ++ (es ++ added)))) (sym (append-nil w.events));
   point = refl;
-  containers = let P : List Container → Type 0 = λ l. AreOpen (take keep h.flags.containers) l in subst P (sym (change-none (is_lazy still [] k) w.containers (others_of cs w.containers))) parts.0;
+  containers =
+      let P : List Container → Type 0 = λ l. AreOpen (take keep h.flags.containers) l in
+      subst P (sym (change-none (is_lazy still [] k) w.containers (others_of cs w.containers))) parts.0;
   leaf = refl;
   blank = ap (λ (x : Bool). blank_by k x) b.blank;
 }
@@ -444,30 +573,43 @@ done-none options next front tail p cs still w cells h b = record {
 
     kept : keep ≡ length c.stays
     kept =
-        ap₂ (λ (x : HeldLeaf) (y : Bool). cond (takes_lazy x && y) (length h.flags.containers) h.flags.continued) b.leaf (lazy-behind k)
-        ∙ ap₂ (λ (x y : ℕ). cond (takes_lazy still && is_text k) x y) (open-length h.flags.containers (w.containers ++ others_of cs w.containers) b.containers) b.continued
-        ∙ ap (λ (x : Bool). cond x (length (w.containers ++ others_of cs w.containers)) (length w.containers)) (sym (lazy-none still k))
+        ap₂ (λ (x : HeldLeaf) (y : Bool). cond (takes_lazy x && y) (length h.flags.containers) h.flags.continued) b.leaf
+        (lazy-behind k)
+        ∙ ap₂ (λ (x y : ℕ). cond (takes_lazy still && is_text k) x y)
+        (open-length h.flags.containers (w.containers ++ others_of cs w.containers) b.containers) b.continued
+        ∙ ap (λ (x : Bool). cond x (length (w.containers ++ others_of cs w.containers)) (length w.containers))
+        (sym (lazy-none still k))
         ∙ sym (change-stays (is_lazy still [] k) w.containers (others_of cs w.containers))
 
     parts : AreOpen (take keep h.flags.containers) c.stays × AreOpen (drop keep h.flags.containers) c.closes
     parts =
-        let P : ℕ → Type 0 = λ n. AreOpen (take n h.flags.containers) c.stays × AreOpen (drop n h.flags.containers) c.closes in
+        let P : ℕ →
+        Type 0 = λ n. AreOpen (take n h.flags.containers) c.stays × AreOpen (drop n h.flags.containers) c.closes in
         let Q : List Container → Type 0 = λ l. AreOpen h.flags.containers l in
-        subst P (sym kept) (open-parts h.flags.containers c.stays c.closes (subst Q (sym (change-parts (is_lazy still [] k) w.containers (others_of cs w.containers))) b.containers))
+        subst P (sym kept)
+        (open-parts h.flags.containers c.stays c.closes
+        (subst Q (sym (change-parts (is_lazy still [] k) w.containers (others_of cs w.containers))) b.containers))
 
 -- containers open
-done-some : (options : ParseOptions) (next : Rule) (front tail : List Event) (p : Point) (cs : List Container) (still : HeldLeaf) (w f : Front) (t : Passed) (h : Here) (o : Outcome) → Between front tail p cs still w h →
-    Opened options next (w.containers ++ t.container ∷ []) (opened (passed_here t h)) f o → Done next options front tail p (held_of options cs still w (in_front t f)) o
+done-some : (options : ParseOptions) (next : Rule) (front tail : List Event) (p : Point) (cs : List Container)
+    (still : HeldLeaf) (w f : Front) (t : Passed) (h : Here) (o : Outcome) →
+    Between front tail p cs still w h →
+    Opened options next (w.containers ++ t.container ∷ []) (opened (passed_here t h)) f o →
+    Done next options front tail p (held_of options cs still w (in_front t f)) o
 done-some options next front tail p cs still w f t h out b o =
     subst P (sym (lazy-some still t.container f.containers k)) (record {
       new = ended_to keep leaf.flags.line_end leaf;
       is = o.is ∙ leaf-is options next f.cells (record o.new { flags = begun_line o.new.flags }) o.rest;
       rest = o.rest;
       events = closed-none keep leaf.flags.line_end o.new.flags.containers leaf.events leaf.point (omega (arith, kept))
-          ∙ ap₂ (λ (es : List Event) (q : Point). es ++ added_by options f.cells q k) (o.events ∙ ap (λ (es : List Event). es ++ f.events) first) o.point
-          ∙ regroup-line front (ends_of (others_of cs w.containers) p) tail w.events t.events f.events (added_by options f.cells f.point k);
+          ∙ ap₂ (λ (es : List Event) (q : Point). es ++ added_by options f.cells q k)
+          (o.events ∙ ap (λ (es : List Event). es ++ f.events) first) o.point
+          ∙ regroup-line front (ends_of (others_of cs w.containers) p) tail w.events t.events f.events
+          (added_by options f.cells f.point k);
       point = ap (λ (q : Point). line_end f.cells q) o.point;
-      containers = open-all keep o.new.flags.containers (w.containers ++ t.container ∷ f.containers) kept (subst Q (append_assoc w.containers (t.container ∷ []) f.containers) o.containers);
+      containers =
+          open-all keep o.new.flags.containers (w.containers ++ t.container ∷ f.containers) kept
+          (subst Q (append_assoc w.containers (t.container ∷ []) f.containers) o.containers);
       leaf = refl;
       blank = ap (λ (x : Bool). blank_by k x) (o.blank ∙ b.blank);
     })
@@ -488,45 +630,74 @@ done-some options next front tail p cs still w f t h out b o =
     keep = stays leaf.flags
 
     kept : keep ≡ length o.new.flags.containers
-    kept = ap (λ (x : HeldLeaf). cond (takes_lazy x && takes_lazy (leaf_behind k)) (length o.new.flags.containers) o.new.flags.continued) o.leaf ∙ o.all
+    kept =
+        ap
+        (λ (x : HeldLeaf).
+        cond (takes_lazy x && takes_lazy (leaf_behind k)) (length o.new.flags.containers) o.new.flags.continued) o.leaf
+        ∙ o.all
 
     ended : AreOpen (drop h.flags.continued h.flags.containers) (others_of cs w.containers)
     ended =
         let R : ℕ → Type 0 = λ n. AreOpen (drop n h.flags.containers) (others_of cs w.containers) in
-        subst R (sym b.continued) (open-parts h.flags.containers w.containers (others_of cs w.containers) b.containers).1
+        subst R (sym b.continued)
+        (open-parts h.flags.containers w.containers (others_of cs w.containers) b.containers).1
 
-    first : (opened (passed_here t h)).events ≡ front ++ (ends_of (others_of cs w.containers) p ++ (tail ++ (w.events ++ t.events)))
-    first = closed-ends front tail (w.events ++ t.events) (h.events ++ t.events) p t.point h.flags.continued h.flags.line_end h.flags.containers (others_of cs w.containers) b.ends ended b.line_end
+    first : (opened (passed_here t h)).events ≡
+        front ++ (ends_of (others_of cs w.containers) p ++ (tail ++ (w.events ++ t.events)))
+    first =
+        closed-ends front tail (w.events ++ t.events)
+        (h.events ++ t.events) p t.point h.flags.continued h.flags.line_end h.flags.containers
+        (others_of cs w.containers) b.ends ended b.line_end
         (ap (λ (es : List Event). es ++ t.events) b.events ∙ regroup-ends front tail w.events t.events)
 
 -- the same for another outcome
-done-same : (options : ParseOptions) (next : Rule) (front tail : List Event) (p : Point) (x : Held) (a b : Outcome) → a ≡ b → Done next options front tail p x b → Done next options front tail p x a
-done-same options next front tail p x a b e d = let P : Outcome → Type 0 = λ o. Done next options front tail p x o in subst P (sym e) d
+done-same : (options : ParseOptions) (next : Rule) (front tail : List Event) (p : Point) (x : Held) (a b : Outcome) →
+    a ≡ b → Done next options front tail p x b → Done next options front tail p x a
+done-same options next front tail p x a b e d =
+    let P : Outcome → Type 0 = λ o. Done next options front tail p x o in subst P (sym e) d
 
-new-done : (options : ParseOptions) (next : Rule) (front tail : List Event) (p : Point) (cs : List Container) (still : HeldLeaf) (interrupting : Bool) (w : Front) (m size : ℕ) (cells : List Cell) (h : Here) → Between front tail p cs still w h → length cells ≤ m → length cells ≤ size →
-    Done next options front tail p (held_of options cs still w (new_front options interrupting size cells h.point)) (new_from options next (suc m) cells h)
+new-done : (options : ParseOptions) (next : Rule) (front tail : List Event) (p : Point) (cs : List Container)
+    (still : HeldLeaf) (interrupting : Bool) (w : Front) (m size : ℕ) (cells : List Cell) (h : Here) →
+    Between front tail p cs still w h → length cells ≤ m → length cells ≤ size →
+    Done next options front tail p (held_of options cs still w (new_front options interrupting size cells h.point))
+    (new_from options next (suc m) cells h)
 new-done options next front tail p cs still interrupting w m zero cells h b some most =
-    done-same options next front tail p _ _ _ (new-none options next interrupting m cells h b.rest (opens-none options interrupting cells h.point most)) (done-none options next front tail p cs still w cells h b)
-new-done options next front tail p cs still interrupting w m (suc size) cells h b some most = go (opens_at options interrupting cells h.point) refl
+    done-same options next front tail p _ _ _
+    (new-none options next interrupting m cells h b.rest (opens-none options interrupting cells h.point most))
+    (done-none options next front tail p cs still w cells h b)
+new-done options next front tail p cs still interrupting w m (suc size) cells h b some most =
+    go (opens_at options interrupting cells h.point) refl
   where
     new : Known
     new = record { kind = new_kind }
 
     go : (x : Option Passed) → opens_at options interrupting cells h.point ≡ x →
-        Done next options front tail p (held_of options cs still w (elim x [ None ↦ no_front cells h.point | Some t ↦ in_front t (new_front options false size t.cells t.point) ])) (new_from options next (suc m) cells h)
-    go None e = done-same options next front tail p _ _ _ (new-none options next interrupting m cells h b.rest e) (done-none options next front tail p cs still w cells h b)
+        Done next options front tail p
+        (held_of options cs still w
+        (elim x [
+          | None ↦ no_front cells h.point
+          | Some t ↦ in_front t (new_front options false size t.cells t.point)
+        ]))
+        (new_from options next (suc m) cells h)
+    go None e =
+        done-same options next front tail p _ _ _ (new-none options next interrupting m cells h b.rest e)
+        (done-none options next front tail p cs still w cells h b)
     go (Some t) e =
         let shorter = opens-shorter options interrupting cells h.point t e in
         let R : ℕ → Type 0 = λ n. AreOpen (take n h.flags.containers) w.containers in
-        let stayed : AreOpen (take h.flags.continued h.flags.containers) w.containers = subst R (sym b.continued) (open-parts h.flags.containers w.containers (others_of cs w.containers) b.containers).0 in
+        let stayed : AreOpen (take h.flags.continued h.flags.containers) w.containers = subst R (sym b.continued)
+        (open-parts h.flags.containers w.containers (others_of cs w.containers) b.containers).0 in
         let begun : AreOpen (opened (passed_here t h)).flags.containers (w.containers ++ t.container ∷ []) =
-        open-append (take h.flags.continued h.flags.containers) (new ∷ []) w.containers (t.container ∷ []) stayed (opens-same options interrupting cells h.point t e, tt) in
+        open-append (take h.flags.continued h.flags.containers) (new ∷ []) w.containers (t.container ∷ []) stayed
+        (opens-same options interrupting cells h.point t e, tt) in
         done-same options next front tail p _ _ _ (new-one options next interrupting m cells h t b.rest e)
         (done-some options next front tail p cs still w (new_front options false size t.cells t.point) t h _ b
-        (new-more options next m size (w.containers ++ t.container ∷ []) t.cells (opened (passed_here t h)) b.rest (omega (arith, shorter)) (omega (arith, shorter)) begun refl refl))
+        (new-more options next m size (w.containers ++ t.container ∷ []) t.cells (opened (passed_here t h)) b.rest
+        (omega (arith, shorter)) (omega (arith, shorter)) begun refl refl))
 
 -- at the begin of a line
-pub record Begins (front tail : List Event) (p : Point) (cs : List Container) (still : HeldLeaf) (h : Here) : Type 0 where
+pub record Begins (front tail : List Event) (p : Point) (cs : List Container) (still : HeldLeaf)
+    (h : Here) : Type 0 where
   pub rest : IsRest h.scratch
   pub events : h.events ≡ front ++ tail
   pub containers : AreOpen h.flags.containers cs
@@ -536,13 +707,17 @@ pub record Begins (front tail : List Event) (p : Point) (cs : List Container) (s
   pub line_end : h.flags.line_end ≡ length front
   pub ends : Ends h.flags.containers tail p
 
-pub line-done : (options : ParseOptions) (next : Rule) (front tail : List Event) (p : Point) (cs : List Container) (still : HeldLeaf) (cells : List Cell) (h : Here) → Begins front tail p cs still h →
+pub line-done : (options : ParseOptions) (next : Rule) (front tail : List Event) (p : Point) (cs : List Container)
+    (still : HeldLeaf) (cells : List Cell) (h : Here) →
+    Begins front tail p cs still h →
     Done next options front tail p (held_at options cs still cells h.point) (line_then options next cells h)
 unfolding line_then new_of held_at
 line-done options next front tail p cs still cells h b =
     done-same options next front tail p _ _ _
-    (ap (λ (k : ℕ). existing_from options next (suc (length cells)) cells (with_continued k h)) b.continued ∙ existing-is options next (suc (length cells)) 0 cs cells h b.rest (omega arith) b.containers)
-    (new-done options next front tail p cs still (interrupts still (others_of cs w.containers)) w (length w.cells) (length w.cells) w.cells (gone 0 w h) between (omega arith) (omega arith))
+    (ap (λ (k : ℕ). existing_from options next (suc (length cells)) cells (with_continued k h)) b.continued
+    ∙ existing-is options next (suc (length cells)) 0 cs cells h b.rest (omega arith) b.containers)
+    (new-done options next front tail p cs still (interrupts still (others_of cs w.containers)) w (length w.cells)
+    (length w.cells) w.cells (gone 0 w h) between (omega arith) (omega arith))
   where
     w : Front
     w = went_front options cs cells h.point
@@ -562,7 +737,9 @@ line-done options next front tail p cs still cells h b =
 -- Rows.
 
 -- what a row says of its leaf is what is added
-leaf-added : (options : ParseOptions) (x : Held) (ls : List Container) (below : List Row) (k : RowKind) → leaf_events k (record (row_of options x below) { leaves = ls; inside = inside_of options x.cells x.point k }) ≡ added_by options x.cells x.point k
+leaf-added : (options : ParseOptions) (x : Held) (ls : List Container) (below : List Row) (k : RowKind) →
+    leaf_events k (record (row_of options x below) { leaves = ls; inside = inside_of options x.cells x.point k }) ≡
+    added_by options x.cells x.point k
 leaf-added options x ls below BlankRow = refl
 leaf-added options x ls below (LeafRow l) = refl
 leaf-added options x ls below TextRow = refl
@@ -573,7 +750,8 @@ ending-named (LeafRow l) = refl
 ending-named TextRow = refl
 
 regroup-row : (front ends tail w added more ending rows : List Event) →
-    (front ++ (ends ++ (tail ++ (w ++ added)))) ++ (more ++ (ending ++ rows)) ≡ front ++ (ends ++ (tail ++ (((w ++ added) ++ (more ++ ending)) ++ rows)))
+    (front ++ (ends ++ (tail ++ (w ++ added)))) ++ (more ++ (ending ++ rows)) ≡
+    front ++ (ends ++ (tail ++ (((w ++ added) ++ (more ++ ending)) ++ rows)))
 regroup-row front ends tail w added more ending rows = simp append_assoc
 
 -- What stands behind a line.
@@ -589,14 +767,25 @@ ending_here name p (c ∷ cs) = pair name p c.after
 
 -- what flow adds from the begin of a line on, with so many lines at most
 abbrev Adds : ParseOptions → ℕ → Rule → Type 0
-Adds options m next = (front tail : List Event) (p : Point) (cs : List Container) (still : HeldLeaf) (cells : List Cell) (h new : Here) (rest : List Cell) → length cells < m → Begins front tail p cs still h → next cells h ≡ Accepts new rest →
-    new.events ≡ front ++ (ends_of (closes_before cs (rows_at options m cs still cells h.point)) p ++ (tail ++ rows_events (rows_at options m cs still cells h.point)))
+Adds options m next =
+    (front tail : List Event) (p : Point) (cs : List Container) (still : HeldLeaf) (cells : List Cell) (h new : Here)
+    (rest : List Cell) →
+    length cells < m → Begins front tail p cs still h → next cells h ≡ Accepts new rest →
+    new.events ≡
+    front
+    ++ (ends_of (closes_before cs (rows_at options m cs still cells h.point)) p
+    ++ (tail ++ rows_events (rows_at options m cs still cells h.point)))
 
 -- behind the ending of a line, at the begin of the next
 abbrev pub next_here : Cell → Here → Here
-next_here c h = record h { events = h.events ++ pair (ending_name h.flags.blank) h.point c.after; point = c.after; flags = next_line (length h.events) h.flags }
+next_here c h = record h {
+  events = h.events ++ pair (ending_name h.flags.blank) h.point c.after;
+  point = c.after;
+  flags = next_line (length h.events) h.flags;
+}
 
-pub next-begins : (cs : List Container) (still : HeldLeaf) (c : Cell) (h : Here) → IsRest h.scratch → h.flags.leaf ≡ still → AreOpen h.flags.containers cs →
+pub next-begins : (cs : List Container) (still : HeldLeaf) (c : Cell) (h : Here) → IsRest h.scratch →
+    h.flags.leaf ≡ still → AreOpen h.flags.containers cs →
     Begins h.events (pair (ending_name h.flags.blank) h.point c.after) h.point cs still (next_here c h)
 next-begins cs still c h is held are = record {
   rest = is;
@@ -606,14 +795,22 @@ next-begins cs still c h is held are = record {
   leaf = held;
   blank = refl;
   line_end = refl;
-  ends = ends-behind h.flags.containers (enter (ending_name h.flags.blank) h.point) (exit (ending_name h.flags.blank) c.after ∷ []);
+  ends =
+      ends-behind h.flags.containers (enter (ending_name h.flags.blank) h.point)
+      (exit (ending_name h.flags.blank) c.after ∷ []);
 }
 
-ended-adds : (options : ParseOptions) (m : ℕ) (next : Rule) → Adds options m next → (cs : List Container) (still : HeldLeaf) (left : List Cell) (h new : Here) (rest : List Cell) → length left ≤ m → IsRest h.scratch → h.flags.leaf ≡ still → AreOpen h.flags.containers cs → ended next left h ≡ Accepts new rest →
-    new.events ≡ h.events ++ (ends_of (closes_before cs (rows_below options m cs still left)) h.point ++ (ending_here (ending_name h.flags.blank) h.point left ++ rows_events (rows_below options m cs still left)))
+ended-adds : (options : ParseOptions) (m : ℕ) (next : Rule) → Adds options m next →
+    (cs : List Container) (still : HeldLeaf) (left : List Cell) (h new : Here) (rest : List Cell) → length left ≤ m →
+    IsRest h.scratch → h.flags.leaf ≡ still → AreOpen h.flags.containers cs → ended next left h ≡ Accepts new rest →
+    new.events ≡
+    h.events
+    ++ (ends_of (closes_before cs (rows_below options m cs still left)) h.point
+    ++ (ending_here (ending_name h.flags.blank) h.point left ++ rows_events (rows_below options m cs still left)))
 ended-adds options m next adds cs still [] h new rest fits is held are e =
     ap (λ (x : Here). x.events) same
-    ∙ ap₂ (λ (a b : List Event). (a ++ ends_at h.flags.containers (point_of b h.point)) ++ b) (take-length h.events) (drop-length h.events)
+    ∙ ap₂ (λ (a b : List Event). (a ++ ends_at h.flags.containers (point_of b h.point)) ++ b) (take-length h.events)
+    (drop-length h.events)
     ∙ append_assoc h.events (ends_at h.flags.containers h.point) []
     ∙ ap (λ (es : List Event). h.events ++ (es ++ [])) (ends-are h.flags.containers cs h.point are)
   where
@@ -625,17 +822,28 @@ ended-adds options m next adds cs still (x ∷ xs) h new rest fits is held are e
     name = ending_name h.flags.blank
 
     go : (b : Bool) → cond b (next xs (next_here x h)) (Refuses h.scratch h.flags) ≡ Accepts new rest →
-        new.events ≡ h.events ++ (ends_of (closes_before cs (rows_at options m cs still xs x.after)) h.point ++ (pair (ending_name h.flags.blank) h.point x.after ++ rows_events (rows_at options m cs still xs x.after)))
-    go true k = adds h.events (pair name h.point x.after) h.point cs still xs (next_here x h) new rest (omega arith) (next-begins cs still x h is held are) k
+        new.events ≡
+        h.events
+        ++ (ends_of (closes_before cs (rows_at options m cs still xs x.after)) h.point
+        ++ (pair (ending_name h.flags.blank) h.point x.after ++ rows_events (rows_at options m cs still xs x.after)))
+    go true k =
+        adds h.events (pair name h.point x.after) h.point cs still xs (next_here x h) new rest (omega arith)
+        (next-begins cs still x h is held are) k
     go false k = cc
 
-pub held-shorter : (options : ParseOptions) (cs : List Container) (still : HeldLeaf) (cells : List Cell) (p : Point) → length (held_at options cs still cells p).cells ≤ length cells
+pub held-shorter : (options : ParseOptions) (cs : List Container) (still : HeldLeaf) (cells : List Cell) (p : Point) →
+    length (held_at options cs still cells p).cells ≤ length cells
 unfolding held_at
 held-shorter options cs still cells p =
     let w = went_front options cs cells p in
-    omega (arith, went-shorter options cs cells p, new-shorter options (interrupts still (others_of cs w.containers)) (length w.cells) w.cells w.point)
+    omega (
+      arith,
+      went-shorter options cs cells p,
+      new-shorter options (interrupts still (others_of cs w.containers)) (length w.cells) w.cells w.point,
+    )
 
-ending-same : (name : Name) (p : Point) (left : List Cell) → ending_here name p left ≡ elim (after_ending left) [ None ↦ [] | Some q ↦ pair name p q ]
+ending-same : (name : Name) (p : Point) (left : List Cell) →
+    ending_here name p left ≡ elim (after_ending left) [ None ↦ [] | Some q ↦ pair name p q ]
 ending-same name p [] = refl
 ending-same name p (c ∷ cs) = refl
 
@@ -644,14 +852,26 @@ abbrev pub leaving : List Container → Row → Row
 leaving ls row = record row { leaves = ls }
 
 -- what a line added, the ends of containers and its ending are the events of its row
-pub row-adds : (next : Rule) (options : ParseOptions) (front tail : List Event) (p : Point) (x : Held) (o : Outcome) (d : Done next options front tail p x o) (ls : List Container) (left : List Cell) (below : List Row) (more : List Event) → from_ending x.cells ≡ left →
-    d.new.events ++ (ends_of ls d.new.point ++ (ending_here (ending_name d.new.flags.blank) d.new.point left ++ more)) ≡ front ++ (ends_of x.change.closes p ++ (tail ++ (row_events (leaving ls (row_of options x below)) ++ more)))
+pub row-adds : (next : Rule) (options : ParseOptions) (front tail : List Event) (p : Point) (x : Held) (o : Outcome)
+    (d : Done next options front tail p x o) (ls : List Container) (left : List Cell) (below : List Row)
+    (more : List Event) →
+    from_ending x.cells ≡ left →
+    d.new.events ++ (ends_of ls d.new.point ++ (ending_here (ending_name d.new.flags.blank) d.new.point left ++ more)) ≡
+    front ++ (ends_of x.change.closes p ++ (tail ++ (row_events (leaving ls (row_of options x below)) ++ more)))
 row-adds next options front tail p x o d ls left below more e =
     ap (λ (cells : List Cell). d.new.events ++ behind cells d.new.point (ending_name d.new.flags.blank)) (sym e)
     ∙ ap (λ (q : Point). d.new.events ++ behind (from_ending x.cells) q (ending_name d.new.flags.blank)) d.point
-    ∙ ap₂ (λ (es : List Event) (name : Name). es ++ behind (from_ending x.cells) (line_end x.cells x.point) name) d.events (ap ending_name d.blank ∙ ending-named k)
-    ∙ regroup-row front (ends_of x.change.closes p) tail x.front (added_by options x.cells x.point k) (ends_of ls (line_end x.cells x.point)) (ending_here (ending_of k) (line_end x.cells x.point) (from_ending x.cells)) more
-    ∙ ap₂ (λ (a c : List Event). front ++ (ends_of x.change.closes p ++ (tail ++ (((x.front ++ a) ++ (ends_of ls (line_end x.cells x.point) ++ c)) ++ more))))
+    ∙ ap₂
+    (λ (es : List Event) (name : Name). es ++ behind (from_ending x.cells) (line_end x.cells x.point) name) d.events
+    (ap ending_name d.blank ∙ ending-named k)
+    ∙ regroup-row front (ends_of x.change.closes p) tail x.front (added_by options x.cells x.point k)
+    (ends_of ls (line_end x.cells x.point))
+    (ending_here (ending_of k) (line_end x.cells x.point) (from_ending x.cells)) more
+    ∙ ap₂
+    (λ (a c : List Event).
+    front
+    ++ (ends_of x.change.closes p
+    ++ (tail ++ (((x.front ++ a) ++ (ends_of ls (line_end x.cells x.point) ++ c)) ++ more))))
     (sym (leaf-added options x ls below k)) (ending-same (ending_of k) (line_end x.cells x.point) (from_ending x.cells))
   where
     k : RowKind
@@ -660,15 +880,21 @@ row-adds next options front tail p x o d ls left below more e =
     behind : List Cell → Point → Name → List Event
     behind cells q name = ends_of ls q ++ (ending_here name q cells ++ more)
 
--- flow adds the events of the rows, and the ends of the containers that the first of them closes in front of the ending before it
+-- flow adds the events of the rows, and the ends of the containers that the first of them closes in front of the ending
+-- before it
 flow-adds : (options : ParseOptions) (m : ℕ) → Adds options m (flow_lines options m)
 unfolding flow_lines
 flow-adds options zero front tail p cs still cells h new rest fits b e = absurd (omega arith)
 flow-adds options (suc m) front tail p cs still cells h new rest fits b e =
-    ended-adds options m (flow_lines options m) (flow-adds options m) (open_behind x.change) (leaf_behind k) left d.new new rest (omega (arith, from_ending-shrinks x.cells, held-shorter options cs still cells h.point)) d.rest d.leaf d.containers (sym d.is ∙ e)
-    ∙ row-adds (flow_lines options m) options front tail p x (line_then options (flow_lines options m) cells h) d (closes_before (open_behind x.change) below) left below (rows_events below) refl
+    ended-adds options m (flow_lines options m) (flow-adds options m) (open_behind x.change)
+    (leaf_behind k) left d.new new rest
+    (omega (arith, from_ending-shrinks x.cells, held-shorter options cs still cells h.point)) d.rest d.leaf d.containers
+    (sym d.is ∙ e)
+    ∙ row-adds (flow_lines options m) options front tail p x (line_then options (flow_lines options m) cells h) d
+    (closes_before (open_behind x.change) below) left below (rows_events below) refl
   where
-    d : Done (flow_lines options m) options front tail p (held_at options cs still cells h.point) (line_then options (flow_lines options m) cells h)
+    d : Done (flow_lines options m) options front tail p (held_at options cs still cells h.point)
+        (line_then options (flow_lines options m) cells h)
     d = line-done options (flow_lines options m) front tail p cs still cells h b
 
     x : Held
@@ -684,12 +910,15 @@ flow-adds options (suc m) front tail p cs still cells h new rest fits b e =
     below = rows_below options m (open_behind x.change) (leaf_behind k) left
 
 -- before the first line no container ends
-pub no-closes : (options : ParseOptions) (cells : List Cell) (p : Point) → (held_at options [] held_leaf.None cells p).change.closes ≡ []
+pub no-closes : (options : ParseOptions) (cells : List Cell) (p : Point) →
+    (held_at options [] held_leaf.None cells p).change.closes ≡ []
 unfolding held_at
 no-closes options cells p = refl
 
 -- at the begin of a text
-pub text-begins : (h : Here) → IsRest h.scratch → h.events ≡ [] → h.flags.containers ≡ [] → h.flags.continued ≡ 0 → h.flags.leaf ≡ held_leaf.None → h.flags.blank ≡ false → h.flags.line_end ≡ 0 → Begins [] [] h.point [] held_leaf.None h
+pub text-begins : (h : Here) → IsRest h.scratch → h.events ≡ [] → h.flags.containers ≡ [] → h.flags.continued ≡ 0 →
+    h.flags.leaf ≡ held_leaf.None → h.flags.blank ≡ false → h.flags.line_end ≡ 0 →
+    Begins [] [] h.point [] held_leaf.None h
 text-begins h is none shut continued leaf blank line_end = record {
   rest = is;
   events = none;
@@ -702,9 +931,16 @@ text-begins h is none shut continued leaf blank line_end = record {
 }
 
 -- so the rule of all lines adds the events of all rows
-pub flow_at-rows : (options : ParseOptions) (cells : List Cell) (h new : Here) (rest : List Cell) → IsRest h.scratch → h.events ≡ [] → h.flags.containers ≡ [] → h.flags.continued ≡ 0 → h.flags.leaf ≡ held_leaf.None → h.flags.blank ≡ false → h.flags.line_end ≡ 0 →
-    flow_at options cells h ≡ Accepts new rest → new.events ≡ rows_events (rows_at options (suc (length cells)) [] held_leaf.None cells h.point)
+pub flow_at-rows : (options : ParseOptions) (cells : List Cell) (h new : Here) (rest : List Cell) → IsRest h.scratch →
+    h.events ≡ [] → h.flags.containers ≡ [] → h.flags.continued ≡ 0 → h.flags.leaf ≡ held_leaf.None →
+    h.flags.blank ≡ false → h.flags.line_end ≡ 0 →
+    flow_at options cells h ≡ Accepts new rest →
+    new.events ≡ rows_events (rows_at options (suc (length cells)) [] held_leaf.None cells h.point)
 unfolding flow_at
 flow_at-rows options cells h new rest is none shut continued leaf blank line_end e =
-    flow-adds options (suc (length cells)) [] [] h.point [] held_leaf.None cells h new rest (omega arith) (text-begins h is none shut continued leaf blank line_end) e
-    ∙ ap (λ (cs : List Container). ends_of cs h.point ++ rows_events (rows_at options (suc (length cells)) [] held_leaf.None cells h.point)) (no-closes options cells h.point)
+    flow-adds options (suc (length cells)) [] [] h.point [] held_leaf.None cells h new rest (omega arith)
+    (text-begins h is none shut continued leaf blank line_end) e
+    ∙ ap
+    (λ (cs : List Container).
+    ends_of cs h.point ++ rows_events (rows_at options (suc (length cells)) [] held_leaf.None cells h.point))
+    (no-closes options cells h.point)

@@ -11,7 +11,9 @@ use Rattle.md_seam.proofs.StaysLemmas.{stays-on}
 
 -- of a state that takes each byte of a class, whichever resolver is looked for
 pub flow-stays : (is_name : ResolveName → ResolveName → Bool) (name : StateName) (o : Option Class) →
-    IfSome o (λ c. TakesEach c name (flow_transition is_name name)) → IfSome o (λ c. StaysOn (FlowStep is_name) flow_table_scheme name c)
+    IfSome o (λ c. TakesEach c name (flow_transition is_name name)) →
+    IfSome o (λ c. StaysOn (FlowStep is_name) flow_table_scheme name c)
 flow-stays is_name name None h = tt
 flow-stays is_name name (Some c) h =
-    stays-on (FlowStep is_name) flow_table_scheme name c (flow_transition is_name name) (λ w to new e k. record { to_is = e; new_is = k }) (flow_does is_name name) h
+    stays-on (FlowStep is_name) flow_table_scheme name c (flow_transition is_name name)
+    (λ w to new e k. record { to_is = e; new_is = k }) (flow_does is_name name) h

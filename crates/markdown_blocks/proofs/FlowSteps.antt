@@ -1,6 +1,8 @@
--- Behind the states of flow each resolver is a step that changes nothing where no line is its own: then it does not matter whether it ran.
+-- Behind the states of flow each resolver is a step that changes nothing where no line is its own: then it does not
+-- matter whether it ran.
 use Rattle.md_engine.specs.declared.tokenizer.held_leaf.HeldLeaf.{HeldLeaf}
-use Rattle.std.proofs.Common.{◌≡◌, ◌≢◌, ℕ, zero, suc, Bool, true, false, cond, ◌&&◌, ◌==◌, List, [], ◌∷◌, ◌++◌, length, refl, ap, sym, ◌∙◌, subst, append-nil}
+use Rattle.std.proofs.Common.{◌≡◌, ◌≢◌, ℕ, zero, suc, Bool, true, false, cond, ◌&&◌, ◌==◌, List, [], ◌∷◌, ◌++◌, length}
+use Rattle.std.proofs.Common.{refl, ap, sym, ◌∙◌, subst, append-nil}
 use Rattle.std.specs.Prelude.{Option, Some, None}
 use Rattle.std.proofs.lemmas.Bool.{or_parts}
 use Rattle.md_engine.specs.declared.configuration.ParseOptions.{ParseOptions}
@@ -19,7 +21,9 @@ use Rattle.md_seam.specs.Substituted.{Readings, Substituted}
 use Rattle.markdown_blocks.proofs.ContainerNames.{is_front}
 use Rattle.markdown_blocks.specs.Change.{interrupts, open_behind, others_of}
 use Rattle.markdown_blocks.specs.FlowReads.{has_text}
-use Rattle.markdown_blocks.specs.Rows.{leaf_behind, BlankRow, Front, Held, Row, RowKind, TextRow, ending_of, held_at, in_front, inside_of, is_text, leaf_events, new_front, no_front, row_events, row_kind, rows_at, rows_by, rows_events, tail_events, went_front, LeafRow}
+use Rattle.markdown_blocks.specs.Rows.{leaf_behind, BlankRow, Front, Held, Row, RowKind, TextRow, ending_of, held_at}
+use Rattle.markdown_blocks.specs.Rows.{in_front, inside_of, is_text, leaf_events, new_front, no_front, row_events}
+use Rattle.markdown_blocks.specs.Rows.{row_kind, rows_at, rows_by, rows_events, tail_events, went_front, LeafRow}
 use Rattle.markdown_blocks.proofs.EachEvent.{Each, each-behind, each-front, joined-each, each-append}
 use Rattle.markdown_blocks.proofs.EachRow.{EachRow}
 use Rattle.markdown_blocks.specs.Registry.{is_own, goes_at, opens_at}
@@ -40,29 +44,37 @@ abbrev events_of : Front → List Event
 events_of f = f.events
 
 -- one more in front of others
-more-front : (f : Passed → Front) (none : Front) → ((t : Passed) → AreFront (f t).events) → AreFront none.events → (o : Option Passed) → ((t : Passed) → o ≡ Some t → AreFront t.events) → AreFront (events_of (elim o [ None ↦ none | Some t ↦ in_front t (f t) ]))
+more-front : (f : Passed → Front) (none : Front) → ((t : Passed) → AreFront (f t).events) → AreFront none.events →
+    (o : Option Passed) → ((t : Passed) → o ≡ Some t → AreFront t.events) →
+    AreFront (events_of (elim o [ None ↦ none | Some t ↦ in_front t (f t) ]))
 more-front f none below h None k = h
 more-front f none below h (Some t) k = each-append (IsNamed is_front) t.events (f t).events (k t refl) (below t)
 
 -- all that go on
-went-are : (options : ParseOptions) (cs : List Container) (cells : List Cell) (p : Point) → AreFront (went_front options cs cells p).events
+went-are : (options : ParseOptions) (cs : List Container) (cells : List Cell) (p : Point) →
+    AreFront (went_front options cs cells p).events
 went-are options [] cells p = tt
 went-are options (c ∷ cs) cells p =
-    more-front (λ (t : Passed). went_front options cs t.cells t.point) (no_front cells p) (λ t. went-are options cs t.cells t.point) tt (goes_at options c cells p) (goes-front options c cells p)
+    more-front (λ (t : Passed). went_front options cs t.cells t.point) (no_front cells p)
+    (λ t. went-are options cs t.cells t.point) tt (goes_at options c cells p) (goes-front options c cells p)
 
 -- all that open
-new-are : (options : ParseOptions) (interrupting : Bool) (size : ℕ) (cells : List Cell) (p : Point) → AreFront (new_front options interrupting size cells p).events
+new-are : (options : ParseOptions) (interrupting : Bool) (size : ℕ) (cells : List Cell) (p : Point) →
+    AreFront (new_front options interrupting size cells p).events
 new-are options interrupting zero cells p = tt
 new-are options interrupting (suc size) cells p =
-    more-front (λ (t : Passed). new_front options false size t.cells t.point) (no_front cells p) (λ t. new-are options false size t.cells t.point) tt
+    more-front (λ (t : Passed). new_front options false size t.cells t.point) (no_front cells p)
+    (λ t. new-are options false size t.cells t.point) tt
     (opens_at options interrupting cells p) (opens-front options interrupting cells p)
 
 -- all of it
-held-are : (options : ParseOptions) (cs : List Container) (still : HeldLeaf) (cells : List Cell) (p : Point) → AreFront (held_at options cs still cells p).front
+held-are : (options : ParseOptions) (cs : List Container) (still : HeldLeaf) (cells : List Cell) (p : Point) →
+    AreFront (held_at options cs still cells p).front
 unfolding held_at
 held-are options cs still cells p =
     let went : Front = went_front options cs cells p in
-    let new : Front = new_front options (interrupts still (others_of cs went.containers)) (length went.cells) went.cells went.point in
+    let new : Front = new_front options (interrupts still (others_of cs went.containers))
+    (length went.cells) went.cells went.point in
     each-append (IsNamed is_front) went.events new.events (went-are options cs cells p)
     (new-are options (interrupts still (others_of cs went.containers)) (length went.cells) went.cells went.point)
 
@@ -74,33 +86,46 @@ white-outside true p q = (refl, (refl, tt))
 white-outside false p q = tt
 
 -- where nothing ends in a line that a resolver rewrites, nothing begins
-inside-own : (options : ParseOptions) (cells : List Cell) (p : Point) (kind : RowKind) → NoEnds is_own (inside_of options cells p kind) → AreOutside (inside_of options cells p kind)
+inside-own : (options : ParseOptions) (cells : List Cell) (p : Point) (kind : RowKind) →
+    NoEnds is_own (inside_of options cells p kind) → AreOutside (inside_of options cells p kind)
 inside-own options cells p BlankRow h = white-outside (begins_white cells) p (line_end cells p)
 inside-own options cells p (LeafRow l) h = (laws l).own options cells p h
 inside-own options cells p TextRow h = tt
 
--- prefixes and begins of containers stand in front of a line, and in it begins nothing of a resolver that does not end there
+-- prefixes and begins of containers stand in front of a line, and in it begins nothing of a resolver that does not end
+-- there
 pub record IsFramed (row : Row) : Type 0 where
   pub front : AreFront row.front
   pub own : NoEnds is_own row.inside → AreOutside row.inside
 
 -- so it is in the lines that flow reads
-rows_by-framed : (options : ParseOptions) (h : Held) (further : List Container → HeldLeaf → List Cell → Point → List Row) → AreFront h.front →
-    ((open_before : List Container) (still : HeldLeaf) (cells : List Cell) (p : Point) → EachRow IsFramed (further open_before still cells p)) → EachRow IsFramed (rows_by options h further)
-rows_by-framed options h further front each = (record { front = front; own = inside-own options h.cells h.point (row_kind options h.cells) }, go (from_ending h.cells))
+rows_by-framed : (options : ParseOptions) (h : Held)
+    (further : List Container → HeldLeaf → List Cell → Point → List Row) →
+    AreFront h.front →
+    ((open_before : List Container) (still : HeldLeaf) (cells : List Cell) (p : Point) →
+    EachRow IsFramed (further open_before still cells p)) →
+    EachRow IsFramed (rows_by options h further)
+rows_by-framed options h further front each = (
+  record { front = front; own = inside-own options h.cells h.point (row_kind options h.cells) },
+  go (from_ending h.cells),
+)
   where
     still : HeldLeaf
     still = leaf_behind (row_kind options h.cells)
 
-    go : (rest : List Cell) → EachRow IsFramed (elim rest [ [] ↦ [] | c ∷ cs ↦ further (open_behind h.change) still cs c.after ])
+    go : (rest : List Cell) →
+        EachRow IsFramed (elim rest [ [] ↦ [] | c ∷ cs ↦ further (open_behind h.change) still cs c.after ])
     go [] = tt
     go (c ∷ cs) = each (open_behind h.change) still cs c.after
 
 -- however many there are
-pub rows_at-framed : (options : ParseOptions) (size : ℕ) (open_before : List Container) (still : HeldLeaf) (cells : List Cell) (p : Point) → EachRow IsFramed (rows_at options size open_before still cells p)
+pub rows_at-framed : (options : ParseOptions) (size : ℕ) (open_before : List Container) (still : HeldLeaf)
+    (cells : List Cell) (p : Point) →
+    EachRow IsFramed (rows_at options size open_before still cells p)
 rows_at-framed options zero open_before still cells p = tt
 rows_at-framed options (suc size) open_before still cells p =
-    rows_by-framed options (held_at options open_before still cells p) (rows_at options size) (held-are options open_before still cells p) (rows_at-framed options size)
+    rows_by-framed options (held_at options open_before still cells p) (rows_at options size)
+    (held-are options open_before still cells p) (rows_at-framed options size)
 
 -- Reading content.
 
@@ -111,26 +136,32 @@ text-kind BlankRow e k = cc
 text-kind (LeafRow l) e k = cc
 
 -- where no line is text there is no content
-rows-no_content : (wants : Content → Bool) → wants content.Text ≡ false → (rows : List Row) → EachRow IsFramed rows → EachNoContent rows → has_text rows ≡ false → NoContent wants (rows_events rows)
+rows-no_content : (wants : Content → Bool) → wants content.Text ≡ false → (rows : List Row) → EachRow IsFramed rows →
+    EachNoContent rows → has_text rows ≡ false → NoContent wants (rows_events rows)
 rows-no_content wants w [] framed quiet none = tt
 rows-no_content wants w (row ∷ rows) framed quiet none =
     let other = or_parts (is_text row.kind) (has_text rows) none in
     no_content-append wants (row_events row) (rows_events rows)
-    (events-no_content wants row row.kind refl (text-kind row.kind other.0) (front-no_content wants row.front framed.0.front) (quiet.0 wants w))
+    (events-no_content wants row row.kind refl (text-kind row.kind other.0)
+    (front-no_content wants row.front framed.0.front) (quiet.0 wants w))
     (rows-no_content wants w rows framed.1 quiet.1 other.1)
 
 -- Where no line is text, reading content changes nothing.
-pub content-same : (reads : Readings) (rows : List Row) → EachRow IsFramed rows → EachNoContent rows → has_text rows ≡ false → Substituted wants_content reads [] 0 (joined (rows_events rows)) (rows_events rows)
+pub content-same : (reads : Readings) (rows : List Row) → EachRow IsFramed rows → EachNoContent rows →
+    has_text rows ≡ false → Substituted wants_content reads [] 0 (joined (rows_events rows)) (rows_events rows)
 content-same reads rows framed quiet none =
     let es : List Event = rows_events rows in
-    let same : joined es ≡ es = ap joined (sym (append-nil es)) ∙ joined-passes es [] (rows-no_content nothing refl rows framed quiet none) ∙ append-nil es in
+    let same : joined es ≡ es = ap joined (sym (append-nil es))
+    ∙ joined-passes es [] (rows-no_content nothing refl rows framed quiet none) ∙ append-nil es in
     subst (λ (l : List Event). Substituted wants_content reads [] 0 l es) (sym same)
-    (keeps wants_content reads [] 0 es (no_content-unwanted wants_content es (rows-no_content wants_content refl rows framed quiet none)))
+    (keeps wants_content reads [] 0 es
+    (no_content-unwanted wants_content es (rows-no_content wants_content refl rows framed quiet none)))
 
 -- The resolvers behind that of content.
 
 -- what flow adds for a line, but for what stands around it
-leaf-outside : (row : Row) (kind : RowKind) → IsFramed row → NoEnds is_own (leaf_events kind row) → AreOutside (leaf_events kind row)
+leaf-outside : (row : Row) (kind : RowKind) → IsFramed row → NoEnds is_own (leaf_events kind row) →
+    AreOutside (leaf_events kind row)
 leaf-outside row BlankRow framed h = framed.own h
 leaf-outside row (LeafRow l) framed h = framed.own h
 leaf-outside row TextRow framed h = (refl, (refl, tt))
@@ -141,17 +172,23 @@ row-outside row framed h =
     let tail : List Event = tail_events (ending_of row.kind) row in
     let inside = each-behind (IsNoEnd is_own) row.front leaf (each-front (IsNoEnd is_own) (row.front ++ leaf) tail h) in
     outside-append (row.front ++ leaf) tail
-    (outside-append row.front leaf (front-outside row.front framed.front) (leaf-outside row row.kind framed inside)) (tail-outside (ending_of row.kind) row (ending-own row.kind))
+    (outside-append row.front leaf (front-outside row.front framed.front) (leaf-outside row row.kind framed inside))
+    (tail-outside (ending_of row.kind) row (ending-own row.kind))
 
 -- where nothing of a resolver ends in the lines of a text, nothing of it begins
-pub rows-outside : (rows : List Row) → EachRow IsFramed rows → NoEnds is_own (rows_events rows) → AreOutside (rows_events rows)
+pub rows-outside : (rows : List Row) → EachRow IsFramed rows → NoEnds is_own (rows_events rows) →
+    AreOutside (rows_events rows)
 rows-outside [] framed h = tt
 rows-outside (row ∷ rows) framed h =
-    outside-append (row_events row) (rows_events rows) (row-outside row framed.0 (each-front (IsNoEnd is_own) (row_events row) (rows_events rows) h))
+    outside-append (row_events row) (rows_events rows)
+    (row-outside row framed.0 (each-front (IsNoEnd is_own) (row_events row) (rows_events rows) h))
     (rows-outside rows framed.1 (each-behind (IsNoEnd is_own) (row_events row) (rows_events rows) h))
 
 -- so nothing of a resolver begins where content is read and nothing did before
-pub reading-outside : (bytes : List ℕ) (options : ParseOptions) (es out : List Event) → AreOutside es → Substituted wants_content (content_readings bytes options) [] 0 (joined es) out → AreOutside out
+pub reading-outside : (bytes : List ℕ) (options : ParseOptions) (es out : List Event) → AreOutside es →
+    Substituted wants_content (content_readings bytes options) [] 0 (joined es) out → AreOutside out
 reading-outside bytes options es out h s =
-    keeps-each IsOutside wants_content (content_readings bytes options) (λ content chunks answer is. subst (Each IsOutside) (sym is) (text-laws.outside bytes options chunks)) [] 0 (joined es) out tt
+    keeps-each IsOutside wants_content (content_readings bytes options)
+    (λ content chunks answer is. subst (Each IsOutside) (sym is) (text-laws.outside bytes options chunks)) [] 0
+    (joined es) out tt
     (joined-each IsOutside (λ e q h. h) es h) s

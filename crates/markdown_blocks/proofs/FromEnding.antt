@@ -27,7 +27,8 @@ pub from_ending-again : (cells : List Cell) → from_ending (from_ending cells) 
 from_ending-again [] = refl
 from_ending-again (c ∷ cs) = go (nat_eq c.byte 10) refl (from_ending-again cs)
   where
-    go : (x : Bool) → nat_eq c.byte 10 ≡ x → from_ending (from_ending cs) ≡ from_ending cs → from_ending (cond x (c ∷ cs) (from_ending cs)) ≡ cond x (c ∷ cs) (from_ending cs)
+    go : (x : Bool) → nat_eq c.byte 10 ≡ x → from_ending (from_ending cs) ≡ from_ending cs →
+        from_ending (cond x (c ∷ cs) (from_ending cs)) ≡ cond x (c ∷ cs) (from_ending cs)
     go true e h = ap (λ (y : Bool). cond y (c ∷ cs) (from_ending cs)) e
     go false e h = h
 

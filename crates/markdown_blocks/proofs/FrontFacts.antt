@@ -10,6 +10,8 @@ use Rattle.markdown_blocks.proofs.PrefixFacts.{Continues, Opens}
 -- all of it, from a point to a point, with the begins of these containers, the outermost first
 pub data LinePrefix (bytes : List ℕ) : List Container → Point → Point → List Event → Type 0 where
   Behind : (p : Point) → LinePrefix bytes [] p p []
-  Goes : (opens : List Container) (p q r : Point) (es fs : List Event) → Continues bytes p q es → LinePrefix bytes opens q r fs → LinePrefix bytes opens p r (es ++ fs)
-  Begins : (c : Container) (opens : List Container) (p q r : Point) (es fs : List Event) → Opens bytes c p q es → LinePrefix bytes opens q r fs →
+  Goes : (opens : List Container) (p q r : Point) (es fs : List Event) → Continues bytes p q es →
+      LinePrefix bytes opens q r fs → LinePrefix bytes opens p r (es ++ fs)
+  Begins : (c : Container) (opens : List Container) (p q r : Point) (es fs : List Event) → Opens bytes c p q es →
+      LinePrefix bytes opens q r fs →
       LinePrefix bytes (c ∷ opens) p r (enter (container_name c) p ∷ es ++ fs)

@@ -1,6 +1,7 @@
--- What holds of the events in front of a line: they are prefixes and begins of containers, and nothing of it is read later. So it is
--- with the ends of containers.
-use Rattle.std.proofs.Common.{◌≡◌, ℕ, Bool, true, false, cond, ◌&&◌, List, [], ◌∷◌, ◌++◌, refl, ap, sym, ◌∙◌, subst, append_assoc}
+-- What holds of the events in front of a line: they are prefixes and begins of containers, and nothing of it is read
+-- later. So it is with the ends of containers.
+use Rattle.std.proofs.Common.{◌≡◌, ℕ, Bool, true, false, cond, ◌&&◌, List, [], ◌∷◌, ◌++◌, refl, ap, sym, ◌∙◌, subst}
+use Rattle.std.proofs.Common.{append_assoc}
 use Rattle.md_engine.specs.declared.event.Event.{Event}
 use Rattle.md_engine.specs.declared.event.Name.{Name}
 use Rattle.md_engine.specs.declared.event.Name.TheVariants as n
@@ -15,7 +16,8 @@ use Rattle.markdown_blocks.specs.Rows.{Row}
 use Rattle.markdown_blocks.proofs.FrontFacts.{LinePrefix}
 use Rattle.markdown_blocks.proofs.FrontFacts.LinePrefix.{Begins, Behind, Goes}
 use Rattle.markdown_blocks.proofs.ContainerNames.{container-facts, is_front}
-use Rattle.markdown_blocks.proofs.PrefixNames.{names-no_parts, names-unlinked, AreFront, ArePrefixes, prefixes-front, IsNamed}
+use Rattle.markdown_blocks.proofs.PrefixNames.{names-no_parts, names-unlinked, AreFront, ArePrefixes, prefixes-front}
+use Rattle.markdown_blocks.proofs.PrefixNames.{IsNamed}
 use Rattle.markdown_blocks.proofs.PartFacts.{NoLinks, NoParts}
 use Rattle.markdown_blocks.specs.Registry.{container_name}
 
@@ -26,26 +28,37 @@ HasFront bytes row = (p : Point) × LinePrefix bytes row.change.opens p row.firs
 -- What they are.
 
 -- where no container begins there are prefixes alone
-pub fronts-prefixes : (bytes : List ℕ) (opens : List Container) (p q : Point) (es : List Event) → opens ≡ [] → LinePrefix bytes opens p q es → ArePrefixes es
+pub fronts-prefixes : (bytes : List ℕ) (opens : List Container) (p q : Point) (es : List Event) → opens ≡ [] →
+    LinePrefix bytes opens p q es → ArePrefixes es
 fronts-prefixes bytes opens p q es none (Behind r) = tt
-fronts-prefixes bytes opens p q es none (Goes same first mid last xs ys is more) = each-append (IsNamed is_prefix) xs ys is.names (fronts-prefixes bytes same mid last ys none more)
+fronts-prefixes bytes opens p q es none (Goes same first mid last xs ys is more) =
+    each-append (IsNamed is_prefix) xs ys is.names (fronts-prefixes bytes same mid last ys none more)
 fronts-prefixes bytes opens p q es none (Begins c below first mid last xs ys is more) = cc
 
-pub fronts-are : (bytes : List ℕ) (opens : List Container) (p q : Point) (es : List Event) → LinePrefix bytes opens p q es → AreFront es
+pub fronts-are : (bytes : List ℕ) (opens : List Container) (p q : Point) (es : List Event) →
+    LinePrefix bytes opens p q es → AreFront es
 fronts-are bytes opens p q es (Behind r) = tt
-fronts-are bytes opens p q es (Goes same first mid last xs ys is more) = each-append (IsNamed is_front) xs ys (prefixes-front xs is.names) (fronts-are bytes same mid last ys more)
-fronts-are bytes opens p q es (Begins c below first mid last xs ys is more) = (((container-facts c).front, refl), each-append (IsNamed is_front) xs ys is.names (fronts-are bytes below mid last ys more))
+fronts-are bytes opens p q es (Goes same first mid last xs ys is more) =
+    each-append (IsNamed is_front) xs ys (prefixes-front xs is.names) (fronts-are bytes same mid last ys more)
+fronts-are bytes opens p q es (Begins c below first mid last xs ys is more) = (
+  ((container-facts c).front, refl),
+  each-append (IsNamed is_front) xs ys is.names (fronts-are bytes below mid last ys more),
+)
 
 -- so are the ends of containers
 pub ends-are : (cs : List Container) (p : Point) → AreFront (ends_of cs p)
 ends-are [] p = tt
-ends-are (c ∷ cs) p = each-append (IsNamed is_front) (ends_of cs p) (exit (container_name c) p ∷ []) (ends-are cs p) (((container-facts c).front, refl), tt)
+ends-are (c ∷ cs) p =
+    each-append (IsNamed is_front) (ends_of cs p) (exit (container_name c) p ∷ []) (ends-are cs p)
+    (((container-facts c).front, refl), tt)
 
 -- the first of some ends is that of a container
-pub ends-first : (P : List Event → Type 0) (c : Container) (cs : List Container) (p : Point) (es : List Event) → ((d : Container) (fs : List Event) → P (exit (container_name d) p ∷ fs)) → P (ends_of (c ∷ cs) p ++ es)
+pub ends-first : (P : List Event → Type 0) (c : Container) (cs : List Container) (p : Point) (es : List Event) →
+    ((d : Container) (fs : List Event) → P (exit (container_name d) p ∷ fs)) → P (ends_of (c ∷ cs) p ++ es)
 ends-first P c [] p es h = h c es
 ends-first P c (d ∷ cs) p es h =
-    subst P (sym (append_assoc (ends_of (d ∷ cs) p) (exit (container_name c) p ∷ []) es)) (ends-first P d cs p (exit (container_name c) p ∷ es) h)
+    subst P (sym (append_assoc (ends_of (d ∷ cs) p) (exit (container_name c) p ∷ []) es))
+    (ends-first P d cs p (exit (container_name c) p ∷ es) h)
 
 -- none of them is content
 pub front-content : (name : Name) → is_front name ≡ true → is_content name ≡ false
@@ -57,23 +70,30 @@ front-content _ h = refl
 -- a line of content goes on over prefixes
 pub prefixes-content : (xs ys : List Event) → ArePrefixes xs → content_behind (xs ++ ys) ≡ content_behind ys
 prefixes-content [] ys h = refl
-prefixes-content (e ∷ xs) ys h = ap (λ (x : Bool). cond x (content_behind (xs ++ ys)) (is_enter e.kind && is_content e.name)) h.0.0 ∙ prefixes-content xs ys h.1
+prefixes-content (e ∷ xs) ys h =
+    ap (λ (x : Bool). cond x (content_behind (xs ++ ys)) (is_enter e.kind && is_content e.name)) h.0.0
+    ∙ prefixes-content xs ys h.1
 
-pub fronts-stop : (bytes : List ℕ) (opens : List Container) (p q : Point) (es : List Event) → (ys : List Event) → is_none opens ≡ false → LinePrefix bytes opens p q es → content_behind (es ++ ys) ≡ false
+pub fronts-stop : (bytes : List ℕ) (opens : List Container) (p q : Point) (es : List Event) → (ys : List Event) →
+    is_none opens ≡ false → LinePrefix bytes opens p q es → content_behind (es ++ ys) ≡ false
 fronts-stop bytes opens p q es ys some (Behind r) = cc
 fronts-stop bytes opens p q es ys some (Goes same first mid last xs fs is more) =
-    ap content_behind (append_assoc xs fs ys) ∙ prefixes-content xs (fs ++ ys) is.names ∙ fronts-stop bytes same mid last fs ys some more
-fronts-stop bytes opens p q es ys some (Begins c below first mid last xs fs is more) = (container-facts c).begin_stops first ((xs ++ fs) ++ ys)
+    ap content_behind (append_assoc xs fs ys) ∙ prefixes-content xs (fs ++ ys) is.names
+    ∙ fronts-stop bytes same mid last fs ys some more
+fronts-stop bytes opens p q es ys some (Begins c below first mid last xs fs is more) =
+    (container-facts c).begin_stops first ((xs ++ fs) ++ ys)
 
 -- Nothing of them is read later, and none begins or ends a text part.
 
-pub fronts-unlinked : (bytes : List ℕ) (opens : List Container) (p q : Point) (es : List Event) → LinePrefix bytes opens p q es → NoLinks es
+pub fronts-unlinked : (bytes : List ℕ) (opens : List Container) (p q : Point) (es : List Event) →
+    LinePrefix bytes opens p q es → NoLinks es
 fronts-unlinked bytes opens p q es is = names-unlinked es (fronts-are bytes opens p q es is)
 
 pub ends-unlinked : (cs : List Container) (p : Point) → NoLinks (ends_of cs p)
 ends-unlinked cs p = names-unlinked (ends_of cs p) (ends-are cs p)
 
-pub fronts-no_parts : (bytes : List ℕ) (opens : List Container) (p q : Point) (es : List Event) → LinePrefix bytes opens p q es → NoParts es
+pub fronts-no_parts : (bytes : List ℕ) (opens : List Container) (p q : Point) (es : List Event) →
+    LinePrefix bytes opens p q es → NoParts es
 fronts-no_parts bytes opens p q es is = names-no_parts es (fronts-are bytes opens p q es is)
 
 pub ends-no_parts : (cs : List Container) (p : Point) → NoParts (ends_of cs p)

@@ -12,12 +12,20 @@ spans-grow : (p q : Point) (es : List Event) → Spans p q es → p.index ≤ q.
 spans-grow p q es h = order-grows p q (at_or_before-trans p (last_point p es) q (forward-last p es h.0) h.1)
 
 -- a point does not come behind where the front ends
-pub fronts-grow : (bytes : List ℕ) (opens : List Container) (p q : Point) (es : List Event) → LinePrefix bytes opens p q es → p.index ≤ q.index
+pub fronts-grow : (bytes : List ℕ) (opens : List Container) (p q : Point) (es : List Event) →
+    LinePrefix bytes opens p q es → p.index ≤ q.index
 fronts-grow bytes opens p q es (Behind at) = omega arith
-fronts-grow bytes opens p q es (Goes same first mid last xs ys is more) = let one = spans-grow first mid xs is.common.nested.1 in let further = fronts-grow bytes same mid last ys more in omega arith
-fronts-grow bytes opens p q es (Begins c below first mid last xs ys is more) = let one = spans-grow first mid xs is.common.nested.1 in let further = fronts-grow bytes below mid last ys more in omega arith
+fronts-grow bytes opens p q es (Goes same first mid last xs ys is more) =
+    let one = spans-grow first mid xs is.common.nested.1 in let further = fronts-grow bytes same mid last ys more in
+    omega arith
+fronts-grow bytes opens p q es (Begins c below first mid last xs ys is more) =
+    let one = spans-grow first mid xs is.common.nested.1 in let further = fronts-grow bytes below mid last ys more in
+    omega arith
 
-pub fronts-line : (bytes : List ℕ) (opens : List Container) (p q : Point) (es : List Event) → LinePrefix bytes opens p q es → q.line ≡ p.line
+pub fronts-line : (bytes : List ℕ) (opens : List Container) (p q : Point) (es : List Event) →
+    LinePrefix bytes opens p q es → q.line ≡ p.line
 fronts-line bytes opens p q es (Behind at) = refl
-fronts-line bytes opens p q es (Goes same first mid last xs ys is more) = fronts-line bytes same mid last ys more ∙ is.common.line
-fronts-line bytes opens p q es (Begins c below first mid last xs ys is more) = fronts-line bytes below mid last ys more ∙ is.common.line
+fronts-line bytes opens p q es (Goes same first mid last xs ys is more) =
+    fronts-line bytes same mid last ys more ∙ is.common.line
+fronts-line bytes opens p q es (Begins c below first mid last xs ys is more) =
+    fronts-line bytes below mid last ys more ∙ is.common.line

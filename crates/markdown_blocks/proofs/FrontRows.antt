@@ -1,7 +1,8 @@
--- The containers of a line that flow reads are those of its bytes: which go on and open, what stands in front of the line, and what is
--- left of it.
+-- The containers of a line that flow reads are those of its bytes: which go on and open, what stands in front of the
+-- line, and what is left of it.
 use Rattle.md_engine.specs.declared.tokenizer.held_leaf.HeldLeaf.{HeldLeaf}
-use Rattle.std.proofs.Common.{◌≡◌, ℕ, zero, suc, ◌^◌, ◌<◌, ◌≤◌, Bool, true, false, List, [], ◌∷◌, ◌++◌, length, Option, Some, None, refl, sym, ap, ap₂, ◌∙◌, subst, arith, append_assoc}
+use Rattle.std.proofs.Common.{◌≡◌, ℕ, zero, suc, ◌^◌, ◌<◌, ◌≤◌, Bool, true, false, List, [], ◌∷◌, ◌++◌, length, Option}
+use Rattle.std.proofs.Common.{Some, None, refl, sym, ap, ap₂, ◌∙◌, subst, arith, append_assoc}
 use Rattle.md_engine.specs.declared.configuration.ParseOptions.{ParseOptions}
 use Rattle.md_engine.specs.declared.event.Event.{Event}
 use Rattle.md_engine.specs.declared.event.Point.{Point}
@@ -15,11 +16,13 @@ use Rattle.md_seam.proofs.FeedLines.{Stops}
 use Rattle.md_seam.proofs.RestCells.{RestAt, past_rest, rest_cells}
 use Rattle.md_definition.proofs.TextsLemmas.{NoEnding}
 use Rattle.markdown_blocks.specs.Change.{change_by, interrupts, open_behind, others_of}
-use Rattle.markdown_blocks.specs.Fronted.{Contained, Prefixed, contained, contained_behind, contained_by, contained_of, no_prefix, one_more, prefixes_new, prefixes_on}
+use Rattle.markdown_blocks.specs.Fronted.{Contained, Prefixed, contained, contained_behind, contained_by, contained_of}
+use Rattle.markdown_blocks.specs.Fronted.{no_prefix, one_more, prefixes_new, prefixes_on}
 use Rattle.markdown_blocks.specs.Parsed.{IsBuilt}
 use Rattle.markdown_blocks.specs.Passed.{Passed}
 use Rattle.markdown_blocks.specs.Registry.{goes_at, opens_at}
-use Rattle.markdown_blocks.specs.Rows.{Front, Held, held_at, held_behind, held_by, in_front, is_lazy, line_kind, new_front, no_front, row_kind, went_front}
+use Rattle.markdown_blocks.specs.Rows.{Front, Held, held_at, held_behind, held_by, in_front, is_lazy, line_kind}
+use Rattle.markdown_blocks.specs.Rows.{new_front, no_front, row_kind, went_front}
 use Rattle.markdown_blocks.proofs.ContainedLemmas.{change-opens}
 use Rattle.markdown_blocks.proofs.FrontFacts.{Behind, Begins, LinePrefix, Goes}
 use Rattle.markdown_blocks.proofs.RowKinds.{kind-rest}
@@ -30,7 +33,8 @@ use Rattle.markdown_blocks.proofs.RegistryContainers.{goes-agrees, opens-agrees}
 -- What stands in front of a line.
 
 -- containers by the cells of a line and by its bytes
-record HasFront (line : Line) (text past : List ℕ) (end : Point) (stop cells : List Cell) (f : Front) (q : Prefixed) : Type 0 where
+record HasFront (line : Line) (text past : List ℕ) (end : Point) (stop cells : List Cell) (f : Front)
+    (q : Prefixed) : Type 0 where
   containers : f.containers ≡ q.containers
   read : AreRead f.containers
   fed : f.cells ≡ rest_cells line q.rest f.point ++ stop
@@ -39,11 +43,23 @@ record HasFront (line : Line) (text past : List ℕ) (end : Point) (stop cells :
   no_ending : NoEnding q.rest.bytes
   shorter : length f.cells ≤ length cells
 
-front-none : (line : Line) (text past : List ℕ) (r : Rest) (stop : List Cell) (p : Point) → RestAt text past r p → NoEnding r.bytes →
-    HasFront line text past (past_rest r p) stop (rest_cells line r p ++ stop) (no_front (rest_cells line r p ++ stop) p) (no_prefix r)
-front-none line text past r stop p is h = record { containers = refl; read = tt; fed = refl; stands = is; ends = refl; no_ending = h; shorter = omega arith }
+front-none : (line : Line) (text past : List ℕ) (r : Rest) (stop : List Cell) (p : Point) → RestAt text past r p →
+    NoEnding r.bytes →
+    HasFront line text past (past_rest r p) stop (rest_cells line r p ++ stop)
+    (no_front (rest_cells line r p ++ stop) p) (no_prefix r)
+front-none line text past r stop p is h = record {
+  containers = refl;
+  read = tt;
+  fed = refl;
+  stands = is;
+  ends = refl;
+  no_ending = h;
+  shorter = omega arith;
+}
 
-front-more : (line : Line) (text past : List ℕ) (end : Point) (stop cells : List Cell) (a : Passed) (t : Taken) (f : Front) (q : Prefixed) → HasPassed line text past end stop cells a t → HasFront line text past (past_rest t.rest a.point) stop a.cells f q →
+front-more : (line : Line) (text past : List ℕ) (end : Point) (stop cells : List Cell) (a : Passed) (t : Taken)
+    (f : Front) (q : Prefixed) →
+    HasPassed line text past end stop cells a t → HasFront line text past (past_rest t.rest a.point) stop a.cells f q →
     HasFront line text past end stop cells (in_front a f) (one_more t.container q)
 front-more line text past end stop cells a t f q one is = record {
   containers = ap₂ (λ (c : Container) (cs : List Container). c ∷ cs) one.container is.containers;
@@ -56,36 +72,61 @@ front-more line text past end stop cells a t f q one is = record {
 }
 
 -- those that go on: more may stand behind them
-record HasWent (line : Line) (text past : List ℕ) (p end : Point) (stop cells : List Cell) (f : Front) (q : Prefixed) : Type 0 where
+record HasWent (line : Line) (text past : List ℕ) (p end : Point) (stop cells : List Cell) (f : Front)
+    (q : Prefixed) : Type 0 where
   front : HasFront line text past end stop cells f q
-  fronts : (opens : List Container) (r : Point) (es : List Event) → LinePrefix text opens f.point r es → LinePrefix text opens p r (f.events ++ es)
+  fronts : (opens : List Container) (r : Point) (es : List Event) → LinePrefix text opens f.point r es →
+      LinePrefix text opens p r (f.events ++ es)
 
-went-none : (line : Line) (text past : List ℕ) (r : Rest) (stop : List Cell) (p : Point) → RestAt text past r p → NoEnding r.bytes → HasWent line text past p (past_rest r p) stop (rest_cells line r p ++ stop) (no_front (rest_cells line r p ++ stop) p) (no_prefix r)
-went-none line text past r stop p is h = record { front = front-none line text past r stop p is h; fronts = λ opens q es fs. fs }
-
-went-more : (line : Line) (text past : List ℕ) (p end : Point) (stop cells : List Cell) (a : Passed) (t : Taken) (f : Front) (q : Prefixed) → HasFurther line text past p end stop cells a t →
-    HasWent line text past a.point (past_rest t.rest a.point) stop a.cells f q → HasWent line text past p end stop cells (in_front a f) (one_more t.container q)
-went-more line text past p end stop cells a t f q one is = record {
-  front = front-more line text past end stop cells a t f q one.passes is.front;
-  fronts = λ opens r es fs. subst (LinePrefix text opens p r) (sym (append_assoc a.events f.events es)) (Goes opens p a.point r a.events (f.events ++ es) one.further (is.fronts opens r es fs));
+went-none : (line : Line) (text past : List ℕ) (r : Rest) (stop : List Cell) (p : Point) → RestAt text past r p →
+    NoEnding r.bytes →
+    HasWent line text past p (past_rest r p) stop (rest_cells line r p ++ stop)
+    (no_front (rest_cells line r p ++ stop) p) (no_prefix r)
+went-none line text past r stop p is h = record {
+  front = front-none line text past r stop p is h;
+  fronts = λ opens q es fs. fs;
 }
 
-went-is : (options : ParseOptions) (line : Line) (text past : List ℕ) (cs : List Container) (r : Rest) (stop : List Cell) (p : Point) → AreRead cs → RestAt text past r p → NoEnding r.bytes → Stops stop → length (rest_cells line r p ++ stop) < 2 ^ 63 →
-    HasWent line text past p (past_rest r p) stop (rest_cells line r p ++ stop) (went_front options cs (rest_cells line r p ++ stop) p) (prefixes_on options cs r)
+went-more : (line : Line) (text past : List ℕ) (p end : Point) (stop cells : List Cell) (a : Passed) (t : Taken)
+    (f : Front) (q : Prefixed) →
+    HasFurther line text past p end stop cells a t →
+    HasWent line text past a.point (past_rest t.rest a.point) stop a.cells f q →
+    HasWent line text past p end stop cells (in_front a f) (one_more t.container q)
+went-more line text past p end stop cells a t f q one is = record {
+  front = front-more line text past end stop cells a t f q one.passes is.front;
+  fronts =
+      λ opens r es fs. subst (LinePrefix text opens p r) (sym (append_assoc a.events f.events es))
+      (Goes opens p a.point r a.events (f.events ++ es) one.further (is.fronts opens r es fs));
+}
+
+went-is : (options : ParseOptions) (line : Line) (text past : List ℕ) (cs : List Container) (r : Rest)
+    (stop : List Cell) (p : Point) →
+    AreRead cs → RestAt text past r p → NoEnding r.bytes → Stops stop → length (rest_cells line r p ++ stop) < 2 ^ 63 →
+    HasWent line text past p (past_rest r p) stop (rest_cells line r p ++ stop)
+    (went_front options cs (rest_cells line r p ++ stop) p) (prefixes_on options cs r)
 went-is options line text past [] r stop p read is h k short = went-none line text past r stop p is h
-went-is options line text past (c ∷ cs) r stop p read is h k short = go (goes_at options c cells p) (continues options c r) (goes-agrees options c read.0 line text past r stop p is h k short)
-    (λ (s : Rest) (u : Point) (at : RestAt text past s u) (none : NoEnding s.bytes) (few : length (rest_cells line s u ++ stop) < 2 ^ 63). went-is options line text past cs s stop u read.1 at none k few)
+went-is options line text past (c ∷ cs) r stop p read is h k short =
+    go (goes_at options c cells p) (continues options c r)
+    (goes-agrees options c read.0 line text past r stop p is h k short)
+    (λ (s : Rest) (u : Point) (at : RestAt text past s u) (none : NoEnding s.bytes)
+    (few : length (rest_cells line s u ++ stop) < 2 ^ 63). went-is options line text past cs s stop u read.1 at none k few)
   where
     cells : List Cell
     cells = rest_cells line r p ++ stop
 
     -- the same of any rest, with one container less
     Further : Type 0
-    Further = (s : Rest) (u : Point) → RestAt text past s u → NoEnding s.bytes → length (rest_cells line s u ++ stop) < 2 ^ 63 →
-        HasWent line text past u (past_rest s u) stop (rest_cells line s u ++ stop) (went_front options cs (rest_cells line s u ++ stop) u) (prefixes_on options cs s)
+    Further =
+        (s : Rest) (u : Point) → RestAt text past s u → NoEnding s.bytes →
+        length (rest_cells line s u ++ stop) < 2 ^ 63 →
+        HasWent line text past u (past_rest s u) stop (rest_cells line s u ++ stop)
+        (went_front options cs (rest_cells line s u ++ stop) u) (prefixes_on options cs s)
 
-    go : (passed : Option Passed) (taken : Option Taken) → Agree (HasFurther line text past p (past_rest r p) stop cells) passed taken → Further →
-        HasWent line text past p (past_rest r p) stop cells (elim passed [ None ↦ no_front cells p | Some a ↦ in_front a (went_front options cs a.cells a.point) ]) (elim taken [ None ↦ no_prefix r | Some t ↦ one_more t.container (prefixes_on options cs t.rest) ])
+    go : (passed : Option Passed) (taken : Option Taken) →
+        Agree (HasFurther line text past p (past_rest r p) stop cells) passed taken → Further →
+        HasWent line text past p (past_rest r p) stop cells
+        (elim passed [ None ↦ no_front cells p | Some a ↦ in_front a (went_front options cs a.cells a.point) ])
+        (elim taken [ None ↦ no_prefix r | Some t ↦ one_more t.container (prefixes_on options cs t.rest) ])
     go None None has more = went-none line text past r stop p is h
     go None (Some t) has more = absurd has
     go (Some a) None has more = absurd has
@@ -93,61 +134,95 @@ went-is options line text past (c ∷ cs) r stop p read is h k short = go (goes_
         let one = has.passes in
         let size = ap length one.fed in
         let le = one.shorter in
-        went-more line text past p (past_rest r p) stop cells a t (went_front options cs a.cells a.point) (prefixes_on options cs t.rest) has
-        (subst (λ (l : List Cell). HasWent line text past a.point (past_rest t.rest a.point) stop l (went_front options cs l a.point) (prefixes_on options cs t.rest)) (sym one.fed) (more t.rest a.point one.stands one.no_ending (omega (arith, size, le, short))))
+        went-more line text past p (past_rest r p) stop cells a t (went_front options cs a.cells a.point)
+        (prefixes_on options cs t.rest) has
+        (subst
+        (λ (l : List Cell).
+        HasWent line text past a.point (past_rest t.rest a.point) stop l (went_front options cs l a.point)
+        (prefixes_on options cs t.rest))
+        (sym one.fed) (more t.rest a.point one.stands one.no_ending (omega (arith, size, le, short))))
 
 -- those that open
-record HasNew (line : Line) (text past : List ℕ) (p end : Point) (stop cells : List Cell) (f : Front) (q : Prefixed) : Type 0 where
+record HasNew (line : Line) (text past : List ℕ) (p end : Point) (stop cells : List Cell) (f : Front)
+    (q : Prefixed) : Type 0 where
   front : HasFront line text past end stop cells f q
   fronts : LinePrefix text f.containers p f.point f.events
 
-new-none : (line : Line) (text past : List ℕ) (r : Rest) (stop : List Cell) (p : Point) → RestAt text past r p → NoEnding r.bytes → HasNew line text past p (past_rest r p) stop (rest_cells line r p ++ stop) (no_front (rest_cells line r p ++ stop) p) (no_prefix r)
+new-none : (line : Line) (text past : List ℕ) (r : Rest) (stop : List Cell) (p : Point) → RestAt text past r p →
+    NoEnding r.bytes →
+    HasNew line text past p (past_rest r p) stop (rest_cells line r p ++ stop)
+    (no_front (rest_cells line r p ++ stop) p) (no_prefix r)
 new-none line text past r stop p is h = record { front = front-none line text past r stop p is h; fronts = Behind p }
 
-new-more : (line : Line) (text past : List ℕ) (p end : Point) (stop cells : List Cell) (a : Passed) (t : Taken) (f : Front) (q : Prefixed) → HasOpening line text past p end stop cells a t →
-    HasNew line text past a.point (past_rest t.rest a.point) stop a.cells f q → HasNew line text past p end stop cells (in_front a f) (one_more t.container q)
+new-more : (line : Line) (text past : List ℕ) (p end : Point) (stop cells : List Cell) (a : Passed) (t : Taken)
+    (f : Front) (q : Prefixed) →
+    HasOpening line text past p end stop cells a t →
+    HasNew line text past a.point (past_rest t.rest a.point) stop a.cells f q →
+    HasNew line text past p end stop cells (in_front a f) (one_more t.container q)
 new-more line text past p end stop cells a t f q one is = record {
   front = front-more line text past end stop cells a t f q one.passes is.front;
-  fronts = subst (λ (es : List Event). LinePrefix text (a.container ∷ f.containers) p f.point (es ++ f.events)) (sym one.events) (Begins a.container f.containers p a.point f.point one.inside f.events one.opening is.fronts);
+  fronts =
+      subst (λ (es : List Event). LinePrefix text (a.container ∷ f.containers) p f.point (es ++ f.events))
+      (sym one.events) (Begins a.container f.containers p a.point f.point one.inside f.events one.opening is.fronts);
 }
 
 -- one more, if one opens
 abbrev new_by : ParseOptions → ℕ → List Cell → Point → Option Passed → Front
-new_by options size cells p passed = elim passed [ None ↦ no_front cells p | Some a ↦ in_front a (new_front options false size a.cells a.point) ]
+new_by options size cells p passed = elim passed [
+  | None ↦ no_front cells p
+  | Some a ↦ in_front a (new_front options false size a.cells a.point)
+]
 
 abbrev prefixes_by : ParseOptions → ℕ → Rest → Option Taken → Prefixed
-prefixes_by options size r taken = elim taken [ None ↦ no_prefix r | Some t ↦ one_more t.container (prefixes_new options false size t.rest) ]
+prefixes_by options size r taken = elim taken [
+  | None ↦ no_prefix r
+  | Some t ↦ one_more t.container (prefixes_new options false size t.rest)
+]
 
 -- with as much room as there is, and with more
-new-is : (options : ParseOptions) (interrupting : Bool) (line : Line) (text past : List ℕ) (room size : ℕ) (r : Rest) (stop : List Cell) (p : Point) → IsBuilt options → RestAt text past r p → NoEnding r.bytes → Stops stop → length (rest_cells line r p ++ stop) < 2 ^ 63 →
+new-is : (options : ParseOptions) (interrupting : Bool) (line : Line) (text past : List ℕ) (room size : ℕ) (r : Rest)
+    (stop : List Cell) (p : Point) →
+    IsBuilt options → RestAt text past r p → NoEnding r.bytes → Stops stop →
+    length (rest_cells line r p ++ stop) < 2 ^ 63 →
     length (rest_cells line r p ++ stop) ≤ room → length r.bytes ≤ size →
-    HasNew line text past p (past_rest r p) stop (rest_cells line r p ++ stop) (new_front options interrupting room (rest_cells line r p ++ stop) p) (prefixes_new options interrupting size r)
-new-is options interrupting line text past zero zero r stop p built is h k short some few = new-none line text past r stop p is h
+    HasNew line text past p (past_rest r p) stop (rest_cells line r p ++ stop)
+    (new_front options interrupting room (rest_cells line r p ++ stop) p) (prefixes_new options interrupting size r)
+new-is options interrupting line text past zero zero r stop p built is h k short some few =
+    new-none line text past r stop p is h
 new-is options interrupting line text past zero (suc size) r stop p built is h k short some few =
-    go (opens_at options interrupting cells p) (opens options interrupting r) (opens-agrees options interrupting built line text past r stop p is h k short)
+    go (opens_at options interrupting cells p) (opens options interrupting r)
+    (opens-agrees options interrupting built line text past r stop p is h k short)
   where
     cells : List Cell
     cells = rest_cells line r p ++ stop
 
-    go : (passed : Option Passed) (taken : Option Taken) → Agree (HasOpening line text past p (past_rest r p) stop cells) passed taken → HasNew line text past p (past_rest r p) stop cells (no_front cells p) (prefixes_by options size r taken)
+    go : (passed : Option Passed) (taken : Option Taken) →
+        Agree (HasOpening line text past p (past_rest r p) stop cells) passed taken →
+        HasNew line text past p (past_rest r p) stop cells (no_front cells p) (prefixes_by options size r taken)
     go None None has = new-none line text past r stop p is h
     go None (Some t) has = absurd has
     go (Some a) None has = absurd has
     go (Some a) (Some t) has = let lt = has.fewer in absurd (omega (arith, lt, some))
 new-is options interrupting line text past (suc room) zero r stop p built is h k short some few =
-    go (opens_at options interrupting cells p) (opens options interrupting r) refl (opens-agrees options interrupting built line text past r stop p is h k short)
+    go (opens_at options interrupting cells p) (opens options interrupting r) refl
+    (opens-agrees options interrupting built line text past r stop p is h k short)
   where
     cells : List Cell
     cells = rest_cells line r p ++ stop
 
-    go : (passed : Option Passed) (taken : Option Taken) → opens options interrupting r ≡ taken → Agree (HasOpening line text past p (past_rest r p) stop cells) passed taken → HasNew line text past p (past_rest r p) stop cells (new_by options room cells p passed) (no_prefix r)
+    go : (passed : Option Passed) (taken : Option Taken) → opens options interrupting r ≡ taken →
+        Agree (HasOpening line text past p (past_rest r p) stop cells) passed taken →
+        HasNew line text past p (past_rest r p) stop cells (new_by options room cells p passed) (no_prefix r)
     go None None e has = new-none line text past r stop p is h
     go None (Some t) e has = absurd has
     go (Some a) None e has = absurd has
     go (Some a) (Some t) e has = let lt = opens-leaves options interrupting r t e in absurd (omega (arith, lt, few))
 new-is options interrupting line text past (suc room) (suc size) r stop p built is h k short some few =
-    go (opens_at options interrupting cells p) (opens options interrupting r) refl (opens-agrees options interrupting built line text past r stop p is h k short)
-    (λ (s : Rest) (u : Point) (at : RestAt text past s u) (none : NoEnding s.bytes) (fits : length (rest_cells line s u ++ stop) < 2 ^ 63) (le : length (rest_cells line s u ++ stop) ≤ room) (ge : length s.bytes ≤ size).
+    go (opens_at options interrupting cells p) (opens options interrupting r) refl
+    (opens-agrees options interrupting built line text past r stop p is h k short)
+    (λ (s : Rest) (u : Point) (at : RestAt text past s u) (none : NoEnding s.bytes)
+    (fits : length (rest_cells line s u ++ stop) < 2 ^ 63) (le : length (rest_cells line s u ++ stop) ≤ room)
+    (ge : length s.bytes ≤ size).
     new-is options false line text past room size s stop u built at none k fits le ge)
   where
     cells : List Cell
@@ -155,11 +230,17 @@ new-is options interrupting line text past (suc room) (suc size) r stop p built 
 
     -- the same of any rest that is shorter
     Further : Type 0
-    Further = (s : Rest) (u : Point) → RestAt text past s u → NoEnding s.bytes → length (rest_cells line s u ++ stop) < 2 ^ 63 → length (rest_cells line s u ++ stop) ≤ room → length s.bytes ≤ size →
-        HasNew line text past u (past_rest s u) stop (rest_cells line s u ++ stop) (new_front options false room (rest_cells line s u ++ stop) u) (prefixes_new options false size s)
+    Further =
+        (s : Rest) (u : Point) → RestAt text past s u → NoEnding s.bytes →
+        length (rest_cells line s u ++ stop) < 2 ^ 63 → length (rest_cells line s u ++ stop) ≤ room →
+        length s.bytes ≤ size →
+        HasNew line text past u (past_rest s u) stop (rest_cells line s u ++ stop)
+        (new_front options false room (rest_cells line s u ++ stop) u) (prefixes_new options false size s)
 
-    go : (passed : Option Passed) (taken : Option Taken) → opens options interrupting r ≡ taken → Agree (HasOpening line text past p (past_rest r p) stop cells) passed taken → Further →
-        HasNew line text past p (past_rest r p) stop cells (new_by options room cells p passed) (prefixes_by options size r taken)
+    go : (passed : Option Passed) (taken : Option Taken) → opens options interrupting r ≡ taken →
+        Agree (HasOpening line text past p (past_rest r p) stop cells) passed taken → Further →
+        HasNew line text past p (past_rest r p) stop cells (new_by options room cells p passed)
+        (prefixes_by options size r taken)
     go None None e has more = new-none line text past r stop p is h
     go None (Some t) e has more = absurd has
     go (Some a) None e has more = absurd has
@@ -168,14 +249,18 @@ new-is options interrupting line text past (suc room) (suc size) r stop p built 
         let long = ap length one.fed in
         let lt = has.fewer in
         let fewer = opens-leaves options interrupting r t e in
-        new-more line text past p (past_rest r p) stop cells a t (new_front options false room a.cells a.point) (prefixes_new options false size t.rest) has
-        (subst (λ (l : List Cell). HasNew line text past a.point (past_rest t.rest a.point) stop l (new_front options false room l a.point) (prefixes_new options false size t.rest)) (sym one.fed)
-        (more t.rest a.point one.stands one.no_ending (omega (arith, long, lt, short)) (omega (arith, long, lt, some)) (omega (arith, fewer, few))))
+        new-more line text past p (past_rest r p) stop cells a t (new_front options false room a.cells a.point)
+        (prefixes_new options false size t.rest) has
+        (subst (λ (l : List Cell). HasNew line text past a.point (past_rest t.rest a.point) stop l
+        (new_front options false room l a.point) (prefixes_new options false size t.rest)) (sym one.fed)
+        (more t.rest a.point one.stands one.no_ending (omega (arith, long, lt, short)) (omega (arith, long, lt, some))
+        (omega (arith, fewer, few))))
 
 -- The containers of a line.
 
 -- by its cells and by its bytes; flow reads all that are open behind it
-pub record HasHeld (line : Line) (text past : List ℕ) (p end : Point) (stop cells : List Cell) (h : Held) (c : Contained) : Type 0 where
+pub record HasHeld (line : Line) (text past : List ℕ) (p end : Point) (stop cells : List Cell) (h : Held)
+    (c : Contained) : Type 0 where
   pub change : h.change ≡ c.change
   pub read : AreRead (open_behind h.change)
   pub fed : h.cells ≡ rest_cells line c.rest h.point ++ stop
@@ -185,25 +270,38 @@ pub record HasHeld (line : Line) (text past : List ℕ) (p end : Point) (stop ce
   pub front : LinePrefix text h.change.opens p h.point h.front
   pub shorter : length h.cells ≤ length cells
 
-read-behind : (lazy : Bool) (went others opens : List Container) → AreRead went → AreRead others → AreRead opens → AreRead (open_behind (change_by lazy went others opens))
+read-behind : (lazy : Bool) (went others opens : List Container) → AreRead went → AreRead others → AreRead opens →
+    AreRead (open_behind (change_by lazy went others opens))
 read-behind true went others opens a b c = read-append (went ++ others) opens (read-append went others a b) c
 read-behind false went others opens a b c = read-append went opens a c
 
-held-by : (line : Line) (text past : List ℕ) (p end : Point) (stop cells : List Cell) (cs : List Container) (lazy : Bool) (went new : Front) (on more : Prefixed) → AreRead cs → HasWent line text past p end stop cells went on →
-    HasNew line text past went.point (past_rest on.rest went.point) stop went.cells new more → HasHeld line text past p end stop cells (held_by cs lazy went new) (contained_by cs lazy on more)
+held-by : (line : Line) (text past : List ℕ) (p end : Point) (stop cells : List Cell) (cs : List Container)
+    (lazy : Bool) (went new : Front) (on more : Prefixed) →
+    AreRead cs → HasWent line text past p end stop cells went on →
+    HasNew line text past went.point (past_rest on.rest went.point) stop went.cells new more →
+    HasHeld line text past p end stop cells (held_by cs lazy went new) (contained_by cs lazy on more)
 held-by line text past p end stop cells cs lazy went new on more read a b = record {
   change = ap₂ (λ (w o : List Container). change_by lazy w (others_of cs w) o) a.front.containers b.front.containers;
-  read = read-behind lazy went.containers (others_of cs went.containers) new.containers a.front.read (read-drop (length went.containers) cs read) b.front.read;
+  read =
+      read-behind lazy went.containers (others_of cs went.containers) new.containers a.front.read
+      (read-drop (length went.containers) cs read) b.front.read;
   fed = b.front.fed;
   stands = b.front.stands;
   ends = b.front.ends ∙ a.front.ends;
   no_ending = b.front.no_ending;
-  front = subst (λ (opens : List Container). LinePrefix text opens p new.point (went.events ++ new.events)) (sym (change-opens lazy went.containers (others_of cs went.containers) new.containers)) (a.fronts new.containers new.point new.events b.fronts);
+  front =
+      subst (λ (opens : List Container). LinePrefix text opens p new.point (went.events ++ new.events))
+      (sym (change-opens lazy went.containers (others_of cs went.containers) new.containers))
+      (a.fronts new.containers new.point new.events b.fronts);
   shorter = let le = a.front.shorter in let ge = b.front.shorter in omega arith;
 }
 
-held-behind : (options : ParseOptions) (line : Line) (text past : List ℕ) (p end : Point) (stop cells : List Cell) (cs : List Container) (still : HeldLeaf) (went : Front) (on : Prefixed) → IsBuilt options → AreRead cs → Stops stop → length cells < 2 ^ 63 →
-    HasWent line text past p end stop cells went on → HasHeld line text past p end stop cells (held_behind options cs still went) (contained_behind options cs still on)
+held-behind : (options : ParseOptions) (line : Line) (text past : List ℕ) (p end : Point) (stop cells : List Cell)
+    (cs : List Container) (still : HeldLeaf) (went : Front) (on : Prefixed) →
+    IsBuilt options → AreRead cs → Stops stop → length cells < 2 ^ 63 →
+    HasWent line text past p end stop cells went on →
+    HasHeld line text past p end stop cells (held_behind options cs still went)
+    (contained_behind options cs still on)
 held-behind options line text past p end stop cells cs still went on built read k short is =
     let le = is.front.shorter in
     let size = ap length is.front.fed in
@@ -211,24 +309,43 @@ held-behind options line text past p end stop cells cs still went on built read 
     let new : Front = new_front options interrupting (length went.cells) went.cells went.point in
     let more : Prefixed = prefixes_new options interrupting (length on.rest.bytes) on.rest in
     let opened : HasNew line text past went.point (past_rest on.rest went.point) stop went.cells new more =
-    subst (λ (l : List Cell). HasNew line text past went.point (past_rest on.rest went.point) stop l (new_front options interrupting (length l) l went.point) more) (sym is.front.fed)
-    (new-is options interrupting line text past (length (rest_cells line on.rest went.point ++ stop)) (length on.rest.bytes) on.rest stop went.point built is.front.stands is.front.no_ending k (omega (arith, le, size, short)) (omega arith) (omega arith)) in
+    subst
+    (λ (l : List Cell).
+    HasNew line text past went.point (past_rest on.rest went.point) stop l
+    (new_front options interrupting (length l) l went.point) more)
+    (sym is.front.fed)
+    (new-is options interrupting line text past (length (rest_cells line on.rest went.point ++ stop))
+    (length on.rest.bytes) on.rest stop went.point built is.front.stands is.front.no_ending k
+    (omega (arith, le, size, short)) (omega arith) (omega arith)) in
     let shorter = opened.front.shorter in
     let few = ap length opened.front.fed in
     let kind : row_kind options new.cells ≡ line_kind options more.rest =
     ap (row_kind options) opened.front.fed
-    ∙ kind-rest options line text past more.rest new.point stop opened.front.stands opened.front.no_ending k (omega (arith, le, shorter, few, short)) in
-    let lazy : is_lazy still new.containers (row_kind options new.cells) ≡ is_lazy still more.containers (line_kind options more.rest) = ap₂ (is_lazy still) opened.front.containers kind in
+    ∙ kind-rest options line text past more.rest new.point stop opened.front.stands opened.front.no_ending k
+    (omega (arith, le, shorter, few, short)) in
+    let lazy : is_lazy still new.containers (row_kind options new.cells) ≡
+    is_lazy still more.containers (line_kind options more.rest) = ap₂
+    (is_lazy still) opened.front.containers kind in
     let behind : contained_of options cs still on more ≡ contained_behind options cs still on =
-    ap (λ (w : List Container). contained_of options cs still on (prefixes_new options (interrupts still (others_of cs w)) (length on.rest.bytes) on.rest)) is.front.containers in
+    ap
+    (λ (w : List Container).
+    contained_of options cs still on
+    (prefixes_new options (interrupts still (others_of cs w)) (length on.rest.bytes) on.rest)) is.front.containers in
     subst (HasHeld line text past p end stop cells (held_behind options cs still went)) behind
-    (subst (λ (x : Bool). HasHeld line text past p end stop cells (held_behind options cs still went) (contained_by cs x on more)) lazy
-    (held-by line text past p end stop cells cs (is_lazy still new.containers (row_kind options new.cells)) went new on more read is opened))
+    (subst (λ (x : Bool). HasHeld line text past p end stop cells (held_behind options cs still went)
+    (contained_by cs x on more)) lazy
+    (held-by line text past p end stop cells cs
+    (is_lazy still new.containers (row_kind options new.cells)) went new on more read is opened))
 
 -- which containers go on and open on a line, what stands in front of it, and what is left of it
-pub held-is : (options : ParseOptions) (line : Line) (text past : List ℕ) (cs : List Container) (still : HeldLeaf) (r : Rest) (stop : List Cell) (p : Point) → IsBuilt options → AreRead cs → RestAt text past r p → NoEnding r.bytes → Stops stop → length (rest_cells line r p ++ stop) < 2 ^ 63 →
-    HasHeld line text past p (past_rest r p) stop (rest_cells line r p ++ stop) (held_at options cs still (rest_cells line r p ++ stop) p) (contained options cs still r)
+pub held-is : (options : ParseOptions) (line : Line) (text past : List ℕ) (cs : List Container) (still : HeldLeaf)
+    (r : Rest) (stop : List Cell) (p : Point) →
+    IsBuilt options → AreRead cs → RestAt text past r p → NoEnding r.bytes → Stops stop →
+    length (rest_cells line r p ++ stop) < 2 ^ 63 →
+    HasHeld line text past p (past_rest r p) stop (rest_cells line r p ++ stop)
+    (held_at options cs still (rest_cells line r p ++ stop) p) (contained options cs still r)
 unfolding held_at contained
 held-is options line text past cs still r stop p built read is h k short =
-    held-behind options line text past p (past_rest r p) stop (rest_cells line r p ++ stop) cs still (went_front options cs (rest_cells line r p ++ stop) p) (prefixes_on options cs r) built read k short
+    held-behind options line text past p (past_rest r p) stop (rest_cells line r p ++ stop) cs still
+    (went_front options cs (rest_cells line r p ++ stop) p) (prefixes_on options cs r) built read k short
     (went-is options line text past cs r stop p read is h k short)

@@ -9,7 +9,8 @@ use Rattle.md_engine.specs.declared.state.content.State.TheVariants as content
 use Rattle.md_engine.specs.declared.state.State.TheVariants.{Nok, Next}
 use Rattle.md_engine.specs.declared.tokenizer.container.Container.{Container}
 use Rattle.md_engine.specs.declared.tokenizer.container.name.ContainerKind.{ContainerKind}
-use Rattle.md_engine.specs.Scheme.{After, EndsLater, Fits, Scheme, Spot, Tries, TriesLater, after_all, seen, spot, spot_at}
+use Rattle.md_engine.specs.Scheme.{After, EndsLater, Fits, Scheme, Spot, Tries, TriesLater, after_all, seen, spot}
+use Rattle.md_engine.specs.Scheme.{spot_at}
 use Rattle.md_engine.specs.World.{World, closed}
 use Rattle.md_engine.proofs.Falls.{later, later_at}
 use Rattle.md_engine.proofs.Local.{accepts, begins_later, begins_try, consumes, refuses, turns}
@@ -18,12 +19,17 @@ use Rattle.md_content.specs.Chunks.{chunk_scheme}
 use Rattle.md_leaves.specs.Blank.{blank_scheme, may_begin}
 use Rattle.md_seam.specs.Spaces.{IsRest, rest_ready}
 use Rattle.md_seam.proofs.SpacesGoods.{Does, seen-some}
-use Rattle.markdown_blocks.specs.Flow.{after_transition, before_content_transition, before_transition, blank_line_after_transition, blank_line_code, containers_after_transition, existing_after_transition, existing_before_code, flow_end_code, flow_rank, flow_ready, flow_scheme, new_after_transition, new_before_transition, start_transition, trial_code}
+use Rattle.markdown_blocks.specs.Flow.{after_transition, before_content_transition, before_transition}
+use Rattle.markdown_blocks.specs.Flow.{blank_line_after_transition, blank_line_code, containers_after_transition}
+use Rattle.markdown_blocks.specs.Flow.{existing_after_transition, existing_before_code, flow_end_code, flow_rank}
+use Rattle.markdown_blocks.specs.Flow.{flow_ready, flow_scheme, new_after_transition, new_before_transition}
+use Rattle.markdown_blocks.specs.Flow.{start_transition, trial_code}
 use Rattle.markdown_blocks.specs.LineFlags as flags
-use Rattle.markdown_blocks.specs.Registry.{LeafName, first_container, front_of, goes_on_with, leaf, may_go_on, may_open, next_of, trials}
+use Rattle.markdown_blocks.specs.Registry.{LeafName, first_container, front_of, goes_on_with, leaf, may_go_on, may_open}
+use Rattle.markdown_blocks.specs.Registry.{next_of, trials}
 
--- what a table has of a leaf on one line: the states in front of it and of the next are those of flow, and fall; its first state is of
--- a lower level, and ready at rest
+-- what a table has of a leaf on one line: the states in front of it and of the next are those of flow, and fall; its
+-- first state is of a lower level, and ready at rest
 pub record LeafFits (T : Scheme) (l : LeafName) : Type 1 where
   pub own : Scheme
   pub starts : Fits T own (leaf l).start
@@ -35,7 +41,8 @@ pub record LeafFits (T : Scheme) (l : LeafName) : Type 1 where
   pub next_low : (flow_rank (n.Flow (next_of l))).number < (flow_scheme.tries (n.Flow (next_of l))).number
   pub behind_low : (flow_rank (n.Flow flow.After)).number < (flow_scheme.tries (n.Flow (next_of l))).number
 
--- the same of containers: of the first state of one that may open, and of the states in front of the prefixes of those that are open
+-- the same of containers: of the first state of one that may open, and of the states in front of the prefixes of those
+-- that are open
 pub record ContainerFits (T : Scheme) (start : StateName) : Type 1 where
   pub own : Scheme
   pub starts : Fits T own start
@@ -71,7 +78,9 @@ looked T n start ok nok w false here next r lt tried =
 prefix_tries : (ok nok : StateName) (w : World) (K : After) → flow_ready (spot w) K →
     (flow_scheme.rank nok (spot w)).number < (flow_scheme.tries nok).number →
     ((x : Spot) → flow_scheme.rank nok x ≡ flow_scheme.rank nok (spot w)) →
-    TriesLater flow_scheme (record { ok = Next ok; nok = Next nok; is_check = false; events_len = length w.events; point = w.point }) IsRest IsRest (spot w) K
+    TriesLater flow_scheme
+    (record { ok = Next ok; nok = Next nok; is_check = false; events_len = length w.events; point = w.point }) IsRest IsRest
+    (spot w) K
 prefix_tries ok nok w K r low_nok same_nok = record {
   moves_on = refl;
   ok = λ s q t is up way. ((is, later_at _ _ (spot w) K q t s up (passes-reaches t.limit w.point q way) r.0.1), r.1);
@@ -84,18 +93,27 @@ prefix_tries ok nok w K r low_nok same_nok = record {
 pub good_existing_before : (T : Scheme) (w : World) (o : Option Container) → FlowFits T →
     ((k : ContainerKind) → ContainerFits T (goes_on_with k)) → flow_ready (spot w) (after_all T w.frames) →
     Does T (n.Document document.ContainerExistingBefore) w (existing_before_code w o)
-good_existing_before T w None has inner r = (turns T flow_scheme _ _ w w.events w.scratch has.existing_before has.new_before r (omega arith) (omega arith), refl)
+good_existing_before T w None has inner r = (
+  turns T flow_scheme _ _ w w.events w.scratch has.existing_before has.new_before r (omega arith) (omega arith),
+  refl,
+)
 good_existing_before T w (Some c) has inner r =
     let i : ContainerFits T (goes_on_with c.kind) = inner c.kind in
     looked T _ _ _ _ w (may_go_on c.kind w.current) has.existing_before has.new_before r (omega arith) (
-      begins_later T flow_scheme i.own (n.Document document.ContainerExistingBefore) (goes_on_with c.kind) w IsRest IsRest w.events w.scratch _ has.existing_before i.starts has.existing_after has.new_before refl
-          (prefix_tries (n.Document document.ContainerExistingAfter) (n.Document document.ContainerNewBefore) w (after_all T w.frames) r (omega arith) (λ x. refl)) (λ K e. i.ready _ K r.0.0 e) i.level (omega arith) (omega arith),
+      begins_later T flow_scheme i.own (n.Document document.ContainerExistingBefore)
+          (goes_on_with c.kind) w IsRest IsRest w.events w.scratch _ has.existing_before i.starts has.existing_after has.new_before refl
+          (prefix_tries (n.Document document.ContainerExistingAfter) (n.Document document.ContainerNewBefore) w
+          (after_all T w.frames) r (omega arith) (λ x. refl))
+          (λ K e. i.ready _ K r.0.0 e) i.level (omega arith) (omega arith),
       refl,
     )
 
 pub good_existing_after : (T : Scheme) (w : World) → FlowFits T → flow_ready (spot w) (after_all T w.frames) →
     Does T (n.Document document.ContainerExistingAfter) w (existing_after_transition w)
-good_existing_after T w has r = (turns T flow_scheme _ _ w w.events w.scratch has.existing_after has.existing_before r (omega arith) (omega arith), refl)
+good_existing_after T w has r = (
+  turns T flow_scheme _ _ w w.events w.scratch has.existing_after has.existing_before r (omega arith) (omega arith),
+  refl,
+)
 
 pub good_new_before : (T : Scheme) (w : World) → FlowFits T → ContainerFits T first_container →
     flow_ready (spot w) (after_all T w.frames) →
@@ -112,24 +130,34 @@ good_new_before T w has inner r =
 
 pub good_new_after : (T : Scheme) (w : World) → FlowFits T → flow_ready (spot w) (after_all T w.frames) →
     Does T (n.Document document.ContainerNewAfter) w (new_after_transition w)
-good_new_after T w has r = (turns T flow_scheme _ _ w (closed w w.flags.continued w.flags.line_end).events w.scratch has.new_after has.new_before r (omega arith) (omega arith), refl)
+good_new_after T w has r = (
+  turns T flow_scheme _ _ w
+      (closed w w.flags.continued w.flags.line_end).events w.scratch has.new_after has.new_before r (omega arith)
+      (omega arith),
+  refl,
+)
 
 pub good_containers_after : (T : Scheme) (w : World) → FlowFits T → flow_ready (spot w) (after_all T w.frames) →
     Does T (n.Document document.ContainersAfter) w (containers_after_transition w)
-good_containers_after T w has r = (turns T flow_scheme _ _ w w.events w.scratch has.containers_after has.start r (omega arith) (omega arith), refl)
+good_containers_after T w has r =
+    (turns T flow_scheme _ _ w w.events w.scratch has.containers_after has.start r (omega arith) (omega arith), refl)
 
 -- The leaf of a line.
 
 pub good_start : (T : Scheme) (w : World) → FlowFits T → flow_ready (spot w) (after_all T w.frames) →
     Does T (n.Flow flow.Start) w (start_transition w)
-good_start T w has r = (turns T flow_scheme _ _ w w.events w.scratch has.start has.blank_line_before r (omega arith) (omega arith), refl)
+good_start T w has r =
+    (turns T flow_scheme _ _ w w.events w.scratch has.start has.blank_line_before r (omega arith) (omega arith), refl)
 
 -- what flow goes on with, after a construct that ends at rest
 flow_tries : (ok nok : StateName) (w : World) (K : After) → flow_ready (spot w) K →
     (flow_scheme.rank ok (spot w)).number < (flow_scheme.tries nok).number →
     (flow_scheme.rank nok (spot w)).number < (flow_scheme.tries nok).number →
-    ((x : Spot) → flow_scheme.rank ok x ≡ flow_scheme.rank ok (spot w)) → ((x : Spot) → flow_scheme.rank nok x ≡ flow_scheme.rank nok (spot w)) →
-    Tries flow_scheme (record { ok = Next ok; nok = Next nok; is_check = false; events_len = length w.events; point = w.point }) IsRest IsRest (spot w) K
+    ((x : Spot) → flow_scheme.rank ok x ≡ flow_scheme.rank ok (spot w)) →
+    ((x : Spot) → flow_scheme.rank nok x ≡ flow_scheme.rank nok (spot w)) →
+    Tries flow_scheme
+    (record { ok = Next ok; nok = Next nok; is_check = false; events_len = length w.events; point = w.point }) IsRest IsRest
+    (spot w) K
 flow_tries ok nok w K r low_ok low_nok same_ok same_nok = record {
   ok = λ s q t is up way. ((is, later_at _ _ (spot w) K q t s up way r.0.1), r.1);
   ok_level = omega arith;
@@ -175,7 +203,15 @@ good_before T l w has inner r =
 pub good_before_content : (T : Scheme) (w : World) → FlowFits T → Fits T chunk_scheme (n.Content content.ChunkStart) →
     flow_ready (spot w) (after_all T w.frames) → Does T (n.Flow flow.BeforeContent) w (before_content_transition w)
 good_before_content T w has inner r = (
-  begins_try T flow_scheme chunk_scheme (n.Flow flow.BeforeContent) (n.Content content.ChunkStart) w IsRest IsRest w.events w.scratch (record { ok = Next (n.Flow flow.After); nok = Nok; is_check = false; events_len = length w.events; point = w.point }) has.before_content inner has.behind tt refl
+  begins_try T flow_scheme chunk_scheme (n.Flow flow.BeforeContent)
+      (n.Content content.ChunkStart) w IsRest IsRest w.events w.scratch
+      (record {
+        ok = Next (n.Flow flow.After);
+        nok = Nok;
+        is_check = false;
+        events_len = length w.events;
+        point = w.point;
+      }) has.before_content inner has.behind tt refl
       (record {
         ok = λ s q t is up way. ((is, later_at _ _ (spot w) (after_all T w.frames) q t s up way r.0.1), r.1);
         ok_level = omega arith;
@@ -189,22 +225,42 @@ good_before_content T w has inner r = (
 
 pub good_blank_line_after : (T : Scheme) (w : World) → FlowFits T → flow_ready (spot w) (after_all T w.frames) →
     Does T (n.Flow flow.BlankLineAfter) w (blank_line_after_transition w)
-good_blank_line_after T w has r = (turns T flow_scheme _ _ w w.events w.scratch has.blank_line_after has.flow_end r (omega arith) (omega arith), refl)
+good_blank_line_after T w has r =
+    (turns T flow_scheme _ _ w w.events w.scratch has.blank_line_after has.flow_end r (omega arith) (omega arith), refl)
 
 pub good_after : (T : Scheme) (w : World) → FlowFits T → flow_ready (spot w) (after_all T w.frames) →
     Does T (n.Flow flow.After) w (after_transition w)
-good_after T w has r = (turns T flow_scheme _ _ w w.events w.scratch has.behind has.flow_end r (omega arith) (omega arith), refl)
+good_after T w has r =
+    (turns T flow_scheme _ _ w w.events w.scratch has.behind has.flow_end r (omega arith) (omega arith), refl)
 
 -- The end of a line.
 
-pub good_flow_end : (T : Scheme) (w : World) (o : Option ℕ) → FlowFits T → flow_ready (spot w) (after_all T w.frames) → seen (spot w) ≡ o →
+pub good_flow_end : (T : Scheme) (w : World) (o : Option ℕ) → FlowFits T → flow_ready (spot w) (after_all T w.frames) →
+    seen (spot w) ≡ o →
     Does T (n.Document document.FlowEnd) w (flow_end_code (closed w (flags.stays w.flags) w.flags.line_end) o)
-good_flow_end T w None has r e = (accepts T _ w _ _ (flow_end_code (closed w (flags.stays w.flags) w.flags.line_end) None).world.events w.scratch r.0.1 r.0.0, refl)
+good_flow_end T w None has r e = (
+  accepts T _ w _ _
+      (flow_end_code (closed w (flags.stays w.flags) w.flags.line_end) None).world.events w.scratch r.0.1 r.0.0,
+  refl,
+)
 good_flow_end T w (Some b) has r e = go (nat_eq b 10) refl
   where
     inside : w.point.index < w.setting.limit
     inside = seen-some (spot w) b e
 
-    go : (x : Bool) → nat_eq b 10 ≡ x → Does T (n.Document document.FlowEnd) w (flow_end_code (closed w (flags.stays w.flags) w.flags.line_end) (Some b))
-    go true k = rw k (consumes T flow_scheme _ _ w (flow_end_code (closed w (flags.stays w.flags) w.flags.line_end) (Some 10)).world.events w.scratch has.flow_end has.existing_before inside ((r.0.0, later _ _ (spot w) _ _ _ (takes w.setting w.point inside) r.0.1), r.1) (omega arith), refl)
-    go false k = rw k (refuses T (n.Document document.FlowEnd) w IsRest IsRest (closed w (flags.stays w.flags) w.flags.line_end).events w.scratch r.0.1 r.0.0, refl)
+    go : (x : Bool) → nat_eq b 10 ≡ x →
+        Does T (n.Document document.FlowEnd) w
+        (flow_end_code (closed w (flags.stays w.flags) w.flags.line_end) (Some b))
+    go true k =
+        rw k (
+          consumes T flow_scheme _ _ w
+              (flow_end_code (closed w (flags.stays w.flags) w.flags.line_end) (Some 10)).world.events w.scratch has.flow_end has.existing_before inside
+              ((r.0.0, later _ _ (spot w) _ _ _ (takes w.setting w.point inside) r.0.1), r.1) (omega arith),
+          refl,
+        )
+    go false k =
+        rw k (
+          refuses T (n.Document document.FlowEnd) w IsRest IsRest
+              (closed w (flags.stays w.flags) w.flags.line_end).events w.scratch r.0.1 r.0.0,
+          refl,
+        )

@@ -28,7 +28,9 @@ behinds-append (name ∷ xs) ys = ap (λ (l : List Expression). behind_block ∷
 -- with one around them
 behinds-around : (xs : List Name) (name : Name) (outer : List Expression) →
     behinds (xs ++ name ∷ []) ++ outer ≡ behinds xs ++ (behind_block ∷ outer)
-behinds-around xs name outer = ap (λ (l : List Expression). l ++ outer) (behinds-append xs (name ∷ [])) ∙ append_assoc (behinds xs) (behind_block ∷ []) outer
+behinds-around xs name outer =
+    ap (λ (l : List Expression). l ++ outer) (behinds-append xs (name ∷ []))
+    ∙ append_assoc (behinds xs) (behind_block ∷ []) outer
 
 -- LinePrefix.
 
@@ -38,11 +40,16 @@ pub front-leads : (text : Expression) (bytes : List ℕ) (opens : List Container
     Leads text (blocks ∷ []) (blocks ∷ behinds (open_names opens)) front
 front-leads text bytes _ p _ _ (Behind _) = λ outer. refl
 front-leads text bytes opens p r _ (Goes _ _ q _ es fs is more) =
-    leads-append text (blocks ∷ []) (blocks ∷ []) (blocks ∷ behinds (open_names opens)) es fs (is.stays text blocks (refl, refl)) (front-leads text bytes opens q r fs more)
+    leads-append text (blocks ∷ []) (blocks ∷ []) (blocks ∷ behinds (open_names opens)) es fs
+    (is.stays text blocks (refl, refl)) (front-leads text bytes opens q r fs more)
 front-leads text bytes _ p r _ (Begins c opens _ q _ es fs is more) =
-    let further : Leads text (blocks ∷ behind_block ∷ []) (blocks ∷ behinds (open_names opens ++ container_name c ∷ [])) fs =
-    λ outer. front-leads text bytes opens q r fs more (behind_block ∷ outer) ∙ ap (λ (l : List Expression). blocks ∷ l) (sym (behinds-around (open_names opens) (container_name c) outer)) in
-    leads-append text (blocks ∷ []) (blocks ∷ behind_block ∷ []) (blocks ∷ behinds (open_names opens ++ container_name c ∷ [])) (enter (container_name c) p ∷ es) fs (is.leads text) further
+    let further : Leads text (blocks ∷ behind_block ∷ [])
+    (blocks ∷ behinds (open_names opens ++ container_name c ∷ [])) fs =
+    λ outer. front-leads text bytes opens q r fs more (behind_block ∷ outer)
+    ∙ ap (λ (l : List Expression). blocks ∷ l) (sym (behinds-around (open_names opens) (container_name c) outer)) in
+    leads-append text (blocks ∷ []) (blocks ∷ behind_block ∷ [])
+    (blocks ∷ behinds (open_names opens ++ container_name c ∷ [])) (enter (container_name c) p ∷ es) fs
+    (is.leads text) further
 
 -- in front of a further line of a leaf, where prefixes may stand
 pub front-stays : (text x : Expression) (bytes : List ℕ) (opens : List Container) (p q : Point) (front : List Event) →
@@ -50,7 +57,8 @@ pub front-stays : (text x : Expression) (bytes : List ℕ) (opens : List Contain
     Leads text (x ∷ []) (x ∷ []) front
 front-stays text x bytes _ p _ _ takes (Behind _) none = λ outer. refl
 front-stays text x bytes opens p r _ takes (Goes _ _ q _ es fs is more) none =
-    leads-append text (x ∷ []) (x ∷ []) (x ∷ []) es fs (is.stays text x takes) (front-stays text x bytes opens q r fs takes more none)
+    leads-append text (x ∷ []) (x ∷ []) (x ∷ []) es fs (is.stays text x takes)
+    (front-stays text x bytes opens q r fs takes more none)
 front-stays text x bytes _ p r _ takes (Begins c opens _ q _ es fs is more) none = cc
 
 -- Behind a line.
@@ -67,15 +75,20 @@ behind-ends false = refl
 
 -- containers end
 pub ends-lead : (text : Expression) (cs : List Container) (p : Point) (block : Bool) →
-    (after : Bool) × Leads text (blocks_behind block ∷ behinds (open_names cs)) (blocks_behind after ∷ []) (ends_of cs p)
+    (after : Bool) ×
+    Leads text (blocks_behind block ∷ behinds (open_names cs)) (blocks_behind after ∷ []) (ends_of cs p)
 ends-lead text [] p block = (block, λ outer. refl)
 ends-lead text (c ∷ cs) p block =
-    let inner : (after : Bool) × Leads text (blocks_behind block ∷ behinds (open_names cs)) (blocks_behind after ∷ []) (ends_of cs p) = ends-lead text cs p block in
+    let inner : (after : Bool) ×
+    Leads text (blocks_behind block ∷ behinds (open_names cs)) (blocks_behind after ∷ [])
+    (ends_of cs p) = ends-lead text cs p block in
     let name : Name = container_name c in (
       true,
       λ outer.
-          ap (λ (l : List Expression). left_of text (blocks_behind block ∷ l) (ends_of cs p ++ exit name p ∷ [])) (behinds-around (open_names cs) name outer)
-          ∙ leads-rest text (blocks_behind block ∷ behinds (open_names cs)) (blocks_behind inner.0 ∷ []) (behind_block ∷ outer) (ends_of cs p) (exit name p ∷ []) inner.1
+          ap (λ (l : List Expression). left_of text (blocks_behind block ∷ l) (ends_of cs p ++ exit name p ∷ []))
+          (behinds-around (open_names cs) name outer)
+          ∙ leads-rest text (blocks_behind block ∷ behinds (open_names cs)) (blocks_behind inner.0 ∷ [])
+          (behind_block ∷ outer) (ends_of cs p) (exit name p ∷ []) inner.1
           ∙ ap (λ (b : Bool). cond b (behind_block ∷ outer) []) (behind-ends inner.0),
     )
 

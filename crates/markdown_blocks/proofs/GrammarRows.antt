@@ -15,10 +15,13 @@ use Rattle.md_definition.specs.Preamble.{has_mark}
 use Rattle.md_seam.proofs.GrammarLemmas.{Leads, keeps-blocks, leads-rest}
 use Rattle.markdown_blocks.specs.Change.{ends_of}
 use Rattle.markdown_blocks.specs.Document.{body_point, mark_end, mark_events}
-use Rattle.markdown_blocks.specs.Rows.{final_row, first_row, group_done, group_kind, BlankRow, Group, Lines, Row, RowKind, Single, TextRow, ending_events, ending_of, group_events, groups, groups_events, onto_groups, goes_on, tail_events, LeafRow}
+use Rattle.markdown_blocks.specs.Rows.{final_row, first_row, group_done, group_kind, BlankRow, Group, Lines, Row}
+use Rattle.markdown_blocks.specs.Rows.{RowKind, Single, TextRow, ending_events, ending_of, group_events, groups}
+use Rattle.markdown_blocks.specs.Rows.{groups_events, onto_groups, goes_on, tail_events, LeafRow}
 use Rattle.markdown_blocks.specs.Unread.{group_unread, listed_group, listed_groups}
 use Rattle.markdown_blocks.proofs.ContainerNames.{open_names}
-use Rattle.markdown_blocks.proofs.GrammarFronts.{behind-ends, behinds, behinds-append, blocks_behind, ending-leads, ends-lead, front-leads}
+use Rattle.markdown_blocks.proofs.GrammarFronts.{behind-ends, behinds, behinds-append, blocks_behind, ending-leads}
+use Rattle.markdown_blocks.proofs.GrammarFronts.{ends-lead, front-leads}
 use Rattle.markdown_blocks.proofs.GroupLemmas.{EndsBeforeGroups, rows-end}
 use Rattle.markdown_blocks.proofs.JoinedLemmas.{EachEnds, EachNoContent, ending-is}
 use Rattle.markdown_blocks.proofs.NestedRows.{ByGroups, Ordered, rows-hold}
@@ -49,7 +52,8 @@ onto-ended row (Lines below rows ∷ gs) ends are TextRow = go (goes_on row belo
 groups-ended : (rows : List Row) → EachEnds rows → AreEnded (groups rows)
 groups-ended [] h = tt
 groups-ended (row ∷ []) h = onto-ended row [] tt tt row.kind
-groups-ended (row ∷ below ∷ rows) h = onto-ended row (groups (below ∷ rows)) (ends (groups (below ∷ rows))) (groups-ended (below ∷ rows) h.2) row.kind
+groups-ended (row ∷ below ∷ rows) h =
+    onto-ended row (groups (below ∷ rows)) (ends (groups (below ∷ rows))) (groups-ended (below ∷ rows) h.2) row.kind
   where
     ends : (gs : List Group) → EndsBeforeGroups row gs
     ends [] = tt
@@ -57,8 +61,8 @@ groups-ended (row ∷ below ∷ rows) h = onto-ended row (groups (below ∷ rows
 
 -- Groups, whatever stands in text parts.
 
--- what stands in the place of a group, from the front of its first line to the ending of its last: behind its leaf, blocks are left as they
--- are behind a block or not
+-- what stands in the place of a group, from the front of its first line to the ending of its last: behind its leaf,
+-- blocks are left as they are behind a block or not
 record Stands (text : Expression) (block : Bool) (group : Group) (events : List Event) : Type 0 where
   leaf : List Event
   leads : Leads text (blocks ∷ []) (blocks_behind block ∷ []) leaf
@@ -71,16 +75,20 @@ all_of each (group ∷ gs) = each group ++ all_of each gs
 
 -- so it is in each group, in these text parts
 abbrev Reads : List ℕ → Expression → (Group → List Event) → Type 0
-Reads bytes text each = (group : Group) → IsGroupLeaf bytes group → (block : Bool) × Stands text block group (each group)
+Reads bytes text each =
+    (group : Group) → IsGroupLeaf bytes group → (block : Bool) × Stands text block group (each group)
 
 -- the text is whole behind events
 abbrev Whole : Expression → List Expression → List Event → Type 0
 Whole text stack events = is_whole (left_of text stack events) ≡ true
 
 -- what is left behind the leaf of lines
-leaf-left : (text : Expression) (bytes : List ℕ) (block : Bool) (names : List Name) (p : Point) (group : Group) (events more : List Event) →
+leaf-left : (text : Expression) (bytes : List ℕ) (block : Bool) (names : List Name) (p : Point) (group : Group)
+    (events more : List Event) →
     Ordered bytes p group → Stands text block group events →
-    left_of text (blocks ∷ behinds names) (events ++ more) ≡ left_of text (blocks_behind block ∷ behinds (open_names (first_row group).change.opens ++ names)) (tail_events (ending_of (group_kind group)) (final_row group) ++ more)
+    left_of text (blocks ∷ behinds names) (events ++ more) ≡
+    left_of text (blocks_behind block ∷ behinds (open_names (first_row group).change.opens ++ names))
+    (tail_events (ending_of (group_kind group)) (final_row group) ++ more)
 leaf-left text bytes block names p group events more o s =
     let row : Row = first_row group in
     let opens : List Expression = behinds (open_names row.change.opens) in
@@ -88,9 +96,11 @@ leaf-left text bytes block names p group events more o s =
     let apart : (row.front ++ s.leaf ++ tail) ++ more ≡ row.front ++ (s.leaf ++ (tail ++ more)) = simp append_assoc in
     ap (λ (es : List Event). left_of text (blocks ∷ behinds names) (es ++ more)) s.is
     ∙ ap (left_of text (blocks ∷ behinds names)) apart
-    ∙ leads-rest text (blocks ∷ []) (blocks ∷ opens) (behinds names) row.front (s.leaf ++ (tail ++ more)) (front-leads text bytes row.change.opens p row.first row.front o.front)
+    ∙ leads-rest text (blocks ∷ []) (blocks ∷ opens) (behinds names) row.front (s.leaf ++ (tail ++ more))
+    (front-leads text bytes row.change.opens p row.first row.front o.front)
     ∙ leads-rest text (blocks ∷ []) (blocks_behind block ∷ []) (opens ++ behinds names) s.leaf (tail ++ more) s.leads
-    ∙ ap (λ (l : List Expression). left_of text (blocks_behind block ∷ l) (tail ++ more)) (sym (behinds-append (open_names row.change.opens) names))
+    ∙ ap (λ (l : List Expression). left_of text (blocks_behind block ∷ l) (tail ++ more))
+    (sym (behinds-append (open_names row.change.opens) names))
 
 -- where nothing follows, nothing is open
 none-whole : (block : Bool) (names : List Name) → is_whole (blocks ∷ behinds names) ≡ true →
@@ -99,7 +109,8 @@ none-whole block [] h = behind-ends block
 none-whole block (name ∷ names) h = cc
 
 -- behind the ends of containers the line ends, if more follows
-ending-whole : (text : Expression) (each : Group → List Event) (block : Bool) (kept : List Name) (row : Row) (kind : RowKind) (gs : List Group) →
+ending-whole : (text : Expression) (each : Group → List Event) (block : Bool) (kept : List Name) (row : Row)
+    (kind : RowKind) (gs : List Group) →
     EndsBeforeGroups row gs → Whole text (blocks ∷ behinds kept) (all_of each gs) →
     Whole text (blocks_behind block ∷ behinds kept) (ending_events (ending_of kind) row ++ all_of each gs)
 ending-whole text each block kept row kind gs ends h = go row.after refl gs ends h
@@ -107,8 +118,11 @@ ending-whole text each block kept row kind gs ends h = go row.after refl gs ends
     some : (q : Point) (more : List Event) → row.after ≡ Some q → Whole text (blocks ∷ behinds kept) more →
         Whole text (blocks_behind block ∷ behinds kept) (ending_events (ending_of kind) row ++ more)
     some q more after k =
-        ap (λ (es : List Event). is_whole (left_of text (blocks_behind block ∷ behinds kept) (es ++ more))) (ending-is (ending_of kind) row q after)
-        ∙ ap is_whole (leads-rest text (blocks_behind block ∷ []) (blocks ∷ []) (behinds kept) (pair (ending_of kind) row.end q) more (ending-leads text kind row.end q block))
+        ap (λ (es : List Event). is_whole (left_of text (blocks_behind block ∷ behinds kept) (es ++ more)))
+        (ending-is (ending_of kind) row q after)
+        ∙ ap is_whole
+        (leads-rest text (blocks_behind block ∷ []) (blocks ∷ []) (behinds kept)
+        (pair (ending_of kind) row.end q) more (ending-leads text kind row.end q block))
         ∙ k
 
     go : (after : Option Point) → row.after ≡ after → (gs : List Group) → EndsBeforeGroups row gs →
@@ -116,21 +130,36 @@ ending-whole text each block kept row kind gs ends h = go row.after refl gs ends
         Whole text (blocks_behind block ∷ behinds kept) (ending_events (ending_of kind) row ++ all_of each gs)
     go (Some q) after gs ends h = some q (all_of each gs) after h
     go None after [] ends h =
-        ap (λ (x : Option Point). is_whole (left_of text (blocks_behind block ∷ behinds kept) (elim x [ None ↦ [] | Some q ↦ pair (ending_of kind) row.end q ] ++ []))) after
+        ap
+        (λ (x : Option Point).
+        is_whole
+        (left_of text (blocks_behind block ∷ behinds kept)
+        (elim x [ None ↦ [] | Some q ↦ pair (ending_of kind) row.end q ] ++ []))) after
         ∙ none-whole block kept h
     go None after (g ∷ gs) ends h = let bad : None ≡ Some ends.0 = sym after ∙ ends.1 in cc
 
 -- what is open behind the leaf ends, or stays open
-tail-whole : (text : Expression) (each : Group → List Event) (block : Bool) (all kept : List Name) (row : Row) (kind : RowKind) (gs : List Group) →
+tail-whole : (text : Expression) (each : Group → List Event) (block : Bool) (all kept : List Name) (row : Row)
+    (kind : RowKind) (gs : List Group) →
     all ≡ open_names row.leaves ++ kept → EndsBeforeGroups row gs →
     Whole text (blocks ∷ behinds kept) (all_of each gs) →
     Whole text (blocks_behind block ∷ behinds all) (tail_events (ending_of kind) row ++ all_of each gs)
 tail-whole text each block all kept row kind gs keeps ends h =
-    let ended : (after : Bool) × Leads text (blocks_behind block ∷ behinds (open_names row.leaves)) (blocks_behind after ∷ []) (ends_of row.leaves row.end) = ends-lead text row.leaves row.end block in
+    let ended : (after : Bool) ×
+    Leads text (blocks_behind block ∷ behinds (open_names row.leaves)) (blocks_behind after ∷ [])
+    (ends_of row.leaves row.end) = ends-lead text row.leaves row.end block in
     let ending : List Event = ending_events (ending_of kind) row ++ all_of each gs in
-    ap (λ (l : List Expression). is_whole (left_of text (blocks_behind block ∷ l) (tail_events (ending_of kind) row ++ all_of each gs))) (ap behinds keeps ∙ behinds-append (open_names row.leaves) kept)
-    ∙ ap (λ (es : List Event). is_whole (left_of text (blocks_behind block ∷ behinds (open_names row.leaves) ++ behinds kept) es)) (append_assoc (ends_of row.leaves row.end) (ending_events (ending_of kind) row) (all_of each gs))
-    ∙ ap is_whole (leads-rest text (blocks_behind block ∷ behinds (open_names row.leaves)) (blocks_behind ended.0 ∷ []) (behinds kept) (ends_of row.leaves row.end) ending ended.1)
+    ap
+    (λ (l : List Expression).
+    is_whole (left_of text (blocks_behind block ∷ l) (tail_events (ending_of kind) row ++ all_of each gs)))
+    (ap behinds keeps ∙ behinds-append (open_names row.leaves) kept)
+    ∙ ap
+    (λ (es : List Event).
+    is_whole (left_of text (blocks_behind block ∷ behinds (open_names row.leaves) ++ behinds kept) es))
+    (append_assoc (ends_of row.leaves row.end) (ending_events (ending_of kind) row) (all_of each gs))
+    ∙ ap is_whole
+    (leads-rest text (blocks_behind block ∷ behinds (open_names row.leaves)) (blocks_behind ended.0 ∷ [])
+    (behinds kept) (ends_of row.leaves row.end) ending ended.1)
     ∙ ending-whole text each ended.0 kept row kind gs ends h
 
 -- The groups of a text, where these names are open.
@@ -145,11 +174,13 @@ whole-by_groups bytes text each reads = record {
   group = λ names kept p group gs o keeps on ended.
       let s : (block : Bool) × Stands text block group (each group) = reads group o.leaf in
       ap is_whole (leaf-left text bytes s.0 names p group (each group) (all_of each gs) o s.1)
-      ∙ tail-whole text each s.0 (open_names (first_row group).change.opens ++ names) kept (final_row group) (group_kind group) gs keeps ended.0 (on ended.1);
+      ∙ tail-whole text each s.0 (open_names (first_row group).change.opens ++ names) kept (final_row group)
+      (group_kind group) gs keeps ended.0 (on ended.1);
 }
 
 -- The mark in front of a text, and its groups.
-rows-keep : (options : ParseOptions) (bytes : List ℕ) (text : Expression) (each : Group → List Event) (lines : List (List ℕ)) (rows : List Row) →
+rows-keep : (options : ParseOptions) (bytes : List ℕ) (text : Expression) (each : Group → List Event)
+    (lines : List (List ℕ)) (rows : List Row) →
     Reads bytes text each → AreRows options bytes [] held_leaf.None (body_point bytes) lines rows → EachNoContent rows →
     keeps_grammar text (mark_events bytes ++ all_of each (groups rows)) ≡ true
 rows-keep options bytes text each lines rows reads are quiet = go (has_mark bytes)
@@ -163,7 +194,8 @@ rows-keep options bytes text each lines rows reads are quiet = go (has_mark byte
         (groups-ended rows (rows-end options bytes [] held_leaf.None p lines rows are))
 
     go : (mark : Bool) →
-        keeps_grammar text (cond mark (pair n.ByteOrderMark first_point mark_end) [] ++ all_of each (groups rows)) ≡ true
+        keeps_grammar text (cond mark (pair n.ByteOrderMark first_point mark_end) [] ++ all_of each (groups rows)) ≡
+        true
     go true = keeps-marked text first_point mark_end (all_of each (groups rows)) whole
     go false = keeps-blocks text (all_of each (groups rows)) whole
 
@@ -171,7 +203,8 @@ rows-keep options bytes text each lines rows reads are quiet = go (has_mark byte
 
 -- each group
 unread-reads : (bytes : List ℕ) → Reads bytes unread_text (listed_group bytes)
-unread-reads bytes group is = (is_some is.0, record { leaf = group_unread bytes group; leads = is.1.unread_word; is = refl })
+unread-reads bytes group is =
+    (is_some is.0, record { leaf = group_unread bytes group; leads = is.1.unread_word; is = refl })
 
 -- all of them
 unread-all : (bytes : List ℕ) (gs : List Group) → listed_groups bytes gs ≡ all_of (listed_group bytes) gs

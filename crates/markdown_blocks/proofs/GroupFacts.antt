@@ -15,20 +15,27 @@ use Rattle.markdown_blocks.proofs.Text.Facts.{kept-of, text-facts}
 -- whichever block it shows
 abbrev pub IsGroupLeaf : List ℕ → Group → Type 0
 IsGroupLeaf bytes group =
-    (block : Option Block) × LeafFacts bytes block (first_row group).first (final_row group).end (group_unread bytes group) (group_done bytes group)
+    (block : Option Block) ×
+    LeafFacts bytes block (first_row group).first (final_row group).end (group_unread bytes group)
+    (group_done bytes group)
 
-pub text-leaf : (options : ParseOptions) (bytes : List ℕ) (row : Row) (rows : List Row) → AreLines options bytes row rows → IsGroupLeaf bytes (Lines row rows)
-text-leaf options bytes row rows h = (Some (text_leaf.block (texts (kept-of options bytes row rows h))), text-facts options bytes row rows h)
+pub text-leaf : (options : ParseOptions) (bytes : List ℕ) (row : Row) (rows : List Row) →
+    AreLines options bytes row rows → IsGroupLeaf bytes (Lines row rows)
+text-leaf options bytes row rows h =
+    (Some (text_leaf.block (texts (kept-of options bytes row rows h))), text-facts options bytes row rows h)
 
 -- that of the first of groups, what stands in front of it, and the others
-pub group-leaf : (options : ParseOptions) (bytes : List ℕ) (group : Group) (gs : List Group) → AreGroups options bytes (group ∷ gs) → IsGroupLeaf bytes group
+pub group-leaf : (options : ParseOptions) (bytes : List ℕ) (group : Group) (gs : List Group) →
+    AreGroups options bytes (group ∷ gs) → IsGroupLeaf bytes group
 group-leaf options bytes (Single row) gs are = row-leaf options bytes are.0.line row are.0.is are.0.other
 group-leaf options bytes (Lines row rows) gs are = text-leaf options bytes row rows are.0
 
-pub group-front : (options : ParseOptions) (bytes : List ℕ) (group : Group) (gs : List Group) → AreGroups options bytes (group ∷ gs) → HasFront bytes (first_row group)
+pub group-front : (options : ParseOptions) (bytes : List ℕ) (group : Group) (gs : List Group) →
+    AreGroups options bytes (group ∷ gs) → HasFront bytes (first_row group)
 group-front options bytes (Single row) gs are = are.0.front
 group-front options bytes (Lines row rows) gs are = are.2
 
-pub more-groups : (options : ParseOptions) (bytes : List ℕ) (group : Group) (gs : List Group) → AreGroups options bytes (group ∷ gs) → AreGroups options bytes gs
+pub more-groups : (options : ParseOptions) (bytes : List ℕ) (group : Group) (gs : List Group) →
+    AreGroups options bytes (group ∷ gs) → AreGroups options bytes gs
 more-groups options bytes (Single row) gs are = are.1
 more-groups options bytes (Lines row rows) gs are = are.3

@@ -1,6 +1,7 @@
 -- The events of the lines of a text, joined and read, are those of its blocks.
 use Rattle.md_engine.specs.declared.tokenizer.held_leaf.HeldLeaf.{HeldLeaf}
-use Rattle.std.proofs.Common.{◌≡◌, ◌≢◌, ℕ, ◌<◌, ◌≤◌, Bool, true, false, cond, ◌&&◌, List, [], ◌∷◌, ◌++◌, length, drop, slice_range, refl, ap, sym, ◌∙◌, subst, append_assoc, append-nil, arith, length-append}
+use Rattle.std.proofs.Common.{◌≡◌, ◌≢◌, ℕ, ◌<◌, ◌≤◌, Bool, true, false, cond, ◌&&◌, List, [], ◌∷◌, ◌++◌, length, drop}
+use Rattle.std.proofs.Common.{slice_range, refl, ap, sym, ◌∙◌, subst, append_assoc, append-nil, arith, length-append}
 use Rattle.std.specs.Prelude.{◌==◌, Option, Some, None}
 use Rattle.std.specs.List.{list_all}
 use Rattle.std.proofs.lemmas.Bool.{and_from, eq-eqb}
@@ -18,7 +19,8 @@ use Rattle.md_content.specs.Joined.{joined}
 use Rattle.md_content.specs.Paragraph.{text_link}
 use Rattle.md_seam.specs.declared.inline.Chunk.{Chunk}
 use Rattle.md_seam.specs.declared.inline.PartKind.TheVariants.{Text}
-use Rattle.md_seam.specs.Events.Inline.{are_lines, is_none, is_one_line, line_end, pair_unless_empty, plain_chunk, plain_events}
+use Rattle.md_seam.specs.Events.Inline.{are_lines, is_none, is_one_line, line_end, pair_unless_empty, plain_chunk}
+use Rattle.md_seam.specs.Events.Inline.{plain_events}
 use Rattle.md_definition.specs.Lines.{without_ending}
 use Rattle.md_seam.specs.Events.Nested.{around, enter, enter_link, exit, pair}
 use Rattle.md_seam.specs.Events.Places.{past_text, same_place}
@@ -27,25 +29,36 @@ use Rattle.md_seam.specs.Substituted.{Readings, Substituted, belongs, chunks_beh
 use Rattle.md_definition.specs.Texts.{split_lines}
 use Rattle.markdown_blocks.specs.Change.{ends_of}
 use Rattle.markdown_blocks.specs.Change as change
-use Rattle.markdown_blocks.specs.Registry.{container_name, first_of, leaf as line_leaf, LeafName, resolved, text_leaf, trials}
-use Rattle.markdown_blocks.specs.Rows.{leaf_behind, BlankRow, Group, LeafRow, Lines, Row, RowKind, Single, TextRow, behind_row, blank_line, chunks_of, ending_events, ending_of, goes_on, group_events, groups, groups_events, is_text, kind_of, last_row, leaf_done, leaf_events, leaf_unread, line_kind, onto_groups, read_lines, row_events, row_events_by, rows_events, single_events_by, tail_events}
+use Rattle.markdown_blocks.specs.Registry.{container_name, first_of, leaf as line_leaf, LeafName, resolved, text_leaf}
+use Rattle.markdown_blocks.specs.Registry.{trials}
+use Rattle.markdown_blocks.specs.Rows.{leaf_behind, BlankRow, Group, LeafRow, Lines, Row, RowKind, Single, TextRow}
+use Rattle.markdown_blocks.specs.Rows.{behind_row, blank_line, chunks_of, ending_events, ending_of, goes_on}
+use Rattle.markdown_blocks.specs.Rows.{group_events, groups, groups_events, is_text, kind_of, last_row, leaf_done}
+use Rattle.markdown_blocks.specs.Rows.{leaf_events, leaf_unread, line_kind, onto_groups, read_lines, row_events}
+use Rattle.markdown_blocks.specs.Rows.{row_events_by, rows_events, single_events_by, tail_events}
 use Rattle.markdown_blocks.specs.Fronted.{contained, cut_tab, rest_from, rest_line}
-use Rattle.markdown_blocks.specs.Unread.{joined_groups, linked, linked_lines, listed_group, listed_groups, listed_row_by, unread_group, unread_groups, text_unread, unread_lines}
+use Rattle.markdown_blocks.specs.Unread.{joined_groups, linked, linked_lines, listed_group, listed_groups}
+use Rattle.markdown_blocks.specs.Unread.{listed_row_by, unread_group, unread_groups, text_unread, unread_lines}
 use Rattle.md_seam.proofs.FeedLines.{ending-some}
 pub use Rattle.markdown_blocks.proofs.FrontNames.{HasFront}
 use Rattle.markdown_blocks.proofs.FrontNames.{ends-first, fronts-prefixes}
 use Rattle.markdown_blocks.proofs.FrontPlaces.{fronts-grow}
-use Rattle.markdown_blocks.proofs.JoinedLemmas.{EachEnds, EachFront, EachNoContent, HasNoContent, behind-is, ending-is, ending-other, events-no_content, has_front-no_content, joined-rows, tail-no_content}
+use Rattle.markdown_blocks.proofs.JoinedLemmas.{EachEnds, EachFront, EachNoContent, HasNoContent, behind-is, ending-is}
+use Rattle.markdown_blocks.proofs.JoinedLemmas.{ending-other, events-no_content, has_front-no_content, joined-rows}
+use Rattle.markdown_blocks.proofs.JoinedLemmas.{tail-no_content}
 use Rattle.markdown_blocks.proofs.FrontFacts.{LinePrefix}
 use Rattle.markdown_blocks.proofs.RowFacts.{AreRows, IsEnding, IsLine, IsRow, behind_line, line-text}
-use Rattle.markdown_blocks.proofs.SubstitutedLemmas.{AllBelong, Becomes, CutAt, EachPrefixed, NextBelongs, Rest, Unwanted, becomes-append, becomes-same, behind-exit, line_after, lines-becomes, passes, places}
+use Rattle.markdown_blocks.proofs.SubstitutedLemmas.{AllBelong, Becomes, CutAt, EachPrefixed, NextBelongs, Rest}
+use Rattle.markdown_blocks.proofs.SubstitutedLemmas.{Unwanted, becomes-append, becomes-same, behind-exit, line_after}
+use Rattle.markdown_blocks.proofs.SubstitutedLemmas.{lines-becomes, passes, places}
 use Rattle.markdown_blocks.proofs.LeafFacts.{ReadsText}
 use Rattle.markdown_blocks.proofs.ContentFacts.{no_content-unwanted}
 use Rattle.markdown_blocks.proofs.ContainerNames.{container-facts}
 use Rattle.md_definition.specs.Rest.{Rest as LineRest, is_blank}
 use Rattle.markdown_blocks.proofs.LineTexts.{one-last, one-next, piece, without-none, without-one}
 use Rattle.markdown_blocks.proofs.OutsideFacts.{AreOutside}
-use Rattle.markdown_blocks.proofs.OutsideLemmas.{around-outside, ending-own, has_front-outside, leaf-set, linked-outside, tail-outside}
+use Rattle.markdown_blocks.proofs.OutsideLemmas.{around-outside, ending-own, has_front-outside, leaf-set}
+use Rattle.markdown_blocks.proofs.OutsideLemmas.{linked-outside, tail-outside}
 use Rattle.markdown_blocks.proofs.Registry.{laws, outside-passes}
 use Rattle.markdown_blocks.proofs.RowLeaf.{row-becomes}
 use Rattle.markdown_blocks.proofs.KindLemmas.{kind-starts}
@@ -57,7 +70,8 @@ abbrev pub AreLines : ParseOptions → List ℕ → Row → List Row → Type 0
 AreLines options bytes row [] = (line : List ℕ) × (is : IsRow options bytes line row) × (row.kind ≡ TextRow)
 AreLines options bytes row (next ∷ rows) =
     (line : List ℕ) × (is : IsRow options bytes line row) × (text : row.kind ≡ TextRow)
-    × (q : Point) × (after : row.after ≡ Some q) × (ending : IsEnding bytes row.end q) × (front : LinePrefix bytes [] q next.first next.front) × AreLines options bytes next rows
+    × (q : Point) × (after : row.after ≡ Some q) × (ending : IsEnding bytes row.end q) ×
+    (front : LinePrefix bytes [] q next.first next.front) × AreLines options bytes next rows
 
 -- a line has an ending if more follows
 abbrev pub EndsBeforeGroups : Row → List Group → Type 0
@@ -76,7 +90,9 @@ pub record IsSingle (options : ParseOptions) (bytes : List ℕ) (row : Row) : Ty
 abbrev pub AreGroups : ParseOptions → List ℕ → List Group → Type 0
 AreGroups options bytes [] = Unit {0}
 AreGroups options bytes (Single row ∷ gs) = IsSingle options bytes row × AreGroups options bytes gs
-AreGroups options bytes (Lines row rows ∷ gs) = AreLines options bytes row rows × EndsBeforeGroups (last_row row rows) gs × HasFront bytes row × AreGroups options bytes gs
+AreGroups options bytes (Lines row rows ∷ gs) =
+    AreLines options bytes row rows × EndsBeforeGroups (last_row row rows) gs × HasFront bytes row ×
+    AreGroups options bytes gs
 
 -- the first line of groups stands behind this point
 abbrev FrontAt : List ℕ → Point → List Group → Type 0
@@ -84,7 +100,8 @@ FrontAt bytes p [] = Unit {0}
 FrontAt bytes p (Single row ∷ gs) = LinePrefix bytes row.change.opens p row.first row.front
 FrontAt bytes p (Lines row rows ∷ gs) = LinePrefix bytes row.change.opens p row.first row.front
 
-onto-front : (bytes : List ℕ) (p : Point) (row : Row) (kind : RowKind) (gs : List Group) → LinePrefix bytes row.change.opens p row.first row.front → FrontAt bytes p (onto_groups row kind gs)
+onto-front : (bytes : List ℕ) (p : Point) (row : Row) (kind : RowKind) (gs : List Group) →
+    LinePrefix bytes row.change.opens p row.first row.front → FrontAt bytes p (onto_groups row kind gs)
 onto-front bytes p row BlankRow gs h = h
 onto-front bytes p row (LeafRow l) gs h = h
 onto-front bytes p row TextRow [] h = h
@@ -101,33 +118,69 @@ record IsBegun (options : ParseOptions) (bytes line : List ℕ) (p : Point) (row
   front : LinePrefix bytes row.change.opens p row.first row.front
   quiet : HasNoContent row
 
-alone-is : (options : ParseOptions) (bytes line : List ℕ) (p : Point) (row : Row) → IsBegun options bytes line p row → row.kind ≢ TextRow → IsSingle options bytes row
-alone-is options bytes line p row is other = record { line = line; is = is.is; other = other; quiet = is.quiet; front = (p, is.front) }
+alone-is : (options : ParseOptions) (bytes line : List ℕ) (p : Point) (row : Row) → IsBegun options bytes line p row →
+    row.kind ≢ TextRow → IsSingle options bytes row
+alone-is options bytes line p row is other = record {
+  line = line;
+  is = is.is;
+  other = other;
+  quiet = is.quiet;
+  front = (p, is.front);
+}
 
 -- a line goes before groups
-onto-are : (options : ParseOptions) (bytes line : List ℕ) (p : Point) (row : Row) (q : Point) (gs : List Group) → IsBegun options bytes line p row → row.after ≡ Some q → IsEnding bytes row.end q →
-    FrontAt bytes q gs → AreGroups options bytes gs → (kind : RowKind) → row.kind ≡ kind → AreGroups options bytes (onto_groups row kind gs)
-onto-are options bytes line p row q gs is after ending first are BlankRow e = (alone-is options bytes line p row is (λ k. cc), are)
-onto-are options bytes line p row q gs is after ending first are (LeafRow l) e = (alone-is options bytes line p row is (λ k. cc), are)
+onto-are : (options : ParseOptions) (bytes line : List ℕ) (p : Point) (row : Row) (q : Point) (gs : List Group) →
+    IsBegun options bytes line p row → row.after ≡ Some q → IsEnding bytes row.end q →
+    FrontAt bytes q gs → AreGroups options bytes gs → (kind : RowKind) → row.kind ≡ kind →
+    AreGroups options bytes (onto_groups row kind gs)
+onto-are options bytes line p row q gs is after ending first are BlankRow e =
+    (alone-is options bytes line p row is (λ k. cc), are)
+onto-are options bytes line p row q gs is after ending first are (LeafRow l) e =
+    (alone-is options bytes line p row is (λ k. cc), are)
 onto-are options bytes line p row q [] is after ending first are TextRow e = ((line, is.is, e), tt, (p, is.front), tt)
-onto-are options bytes line p row q (Single below ∷ gs) is after ending first are TextRow e = ((line, is.is, e), (q, after), (p, is.front), are)
-onto-are options bytes line p row q (Lines below rows ∷ gs) is after ending first are TextRow e = go (change.is_none row.leaves) below.change.opens refl
+onto-are options bytes line p row q (Single below ∷ gs) is after ending first are TextRow e =
+    ((line, is.is, e), (q, after), (p, is.front), are)
+onto-are options bytes line p row q (Lines below rows ∷ gs) is after ending first are TextRow e =
+    go (change.is_none row.leaves) below.change.opens refl
   where
-    go : (x : Bool) (opens : List Container) → below.change.opens ≡ opens → AreGroups options bytes (cond (x && change.is_none opens) (Lines row (below ∷ rows) ∷ gs) (Lines row [] ∷ Lines below rows ∷ gs))
-    go true [] none = ((line, is.is, e, q, after, ending, subst (λ (l : List Container). LinePrefix bytes l q below.first below.front) none first, are.0), are.1, (p, is.front), are.3)
+    go : (x : Bool) (opens : List Container) → below.change.opens ≡ opens →
+        AreGroups options bytes
+        (cond (x && change.is_none opens) (Lines row (below ∷ rows) ∷ gs) (Lines row [] ∷ Lines below rows ∷ gs))
+    go true [] none = (
+      (
+        line,
+        is.is,
+        e,
+        q,
+        after,
+        ending,
+        subst (λ (l : List Container). LinePrefix bytes l q below.first below.front) none first,
+        are.0,
+      ),
+      are.1,
+      (p, is.front),
+      are.3,
+    )
     go true (c ∷ opens) k = ((line, is.is, e), (q, after), (p, is.front), are)
     go false opens k = ((line, is.is, e), (q, after), (p, is.front), are)
 
-last-are : (options : ParseOptions) (bytes line : List ℕ) (p : Point) (row : Row) → IsBegun options bytes line p row → (kind : RowKind) → row.kind ≡ kind → AreGroups options bytes (onto_groups row kind [])
+last-are : (options : ParseOptions) (bytes line : List ℕ) (p : Point) (row : Row) → IsBegun options bytes line p row →
+    (kind : RowKind) → row.kind ≡ kind → AreGroups options bytes (onto_groups row kind [])
 last-are options bytes line p row is BlankRow e = (alone-is options bytes line p row is (λ k. cc), tt)
 last-are options bytes line p row is (LeafRow l) e = (alone-is options bytes line p row is (λ k. cc), tt)
 last-are options bytes line p row is TextRow e = ((line, is.is, e), tt, (p, is.front), tt)
 
-line-begun : (options : ParseOptions) (bytes : List ℕ) (open_before : List Container) (still : HeldLeaf) (p : Point) (line : List ℕ) (row : Row) → IsLine options bytes open_before still p line row → HasNoContent row → IsBegun options bytes (rest_line (contained options open_before still (rest_from p line)).rest) p row
+line-begun : (options : ParseOptions) (bytes : List ℕ) (open_before : List Container) (still : HeldLeaf) (p : Point)
+    (line : List ℕ) (row : Row) →
+    IsLine options bytes open_before still p line row → HasNoContent row →
+    IsBegun options bytes (rest_line (contained options open_before still (rest_from p line)).rest) p row
 line-begun options bytes open_before still p line row is quiet = record { is = is.is; front = is.front; quiet = quiet }
 
 -- what stands in front of the first line
-pub first-front : (options : ParseOptions) (bytes : List ℕ) (open_before : List Container) (still : HeldLeaf) (p : Point) (lines : List (List ℕ)) (row : Row) (rows : List Row) → AreRows options bytes open_before still p lines (row ∷ rows) → LinePrefix bytes row.change.opens p row.first row.front
+pub first-front : (options : ParseOptions) (bytes : List ℕ) (open_before : List Container) (still : HeldLeaf)
+    (p : Point) (lines : List (List ℕ)) (row : Row) (rows : List Row) →
+    AreRows options bytes open_before still p lines (row ∷ rows) →
+    LinePrefix bytes row.change.opens p row.first row.front
 first-front options bytes open_before still p [] row rows h = absurd h
 first-front options bytes open_before still p (line ∷ []) row [] h = h.0.front
 first-front options bytes open_before still p (line ∷ []) row (below ∷ rows) h = absurd h
@@ -135,118 +188,174 @@ first-front options bytes open_before still p (line ∷ next ∷ lines) row [] h
 first-front options bytes open_before still p (line ∷ next ∷ lines) row (below ∷ rows) h = h.0.front
 
 -- The groups of the lines of a text are lines of text that belong together, and lines that are no text.
-pub groups-are : (options : ParseOptions) (bytes : List ℕ) (open_before : List Container) (still : HeldLeaf) (p : Point) (lines : List (List ℕ)) (rows : List Row) → AreRows options bytes open_before still p lines rows → EachNoContent rows → AreGroups options bytes (groups rows)
+pub groups-are : (options : ParseOptions) (bytes : List ℕ) (open_before : List Container) (still : HeldLeaf) (p : Point)
+    (lines : List (List ℕ)) (rows : List Row) →
+    AreRows options bytes open_before still p lines rows → EachNoContent rows → AreGroups options bytes (groups rows)
 groups-are options bytes open_before still p [] rows h k = absurd h
 groups-are options bytes open_before still p (line ∷ []) [] h k = absurd h
 groups-are options bytes open_before still p (line ∷ next ∷ lines) [] h k = absurd h
-groups-are options bytes open_before still p (line ∷ []) (row ∷ []) h k = last-are options bytes (rest_line (contained options open_before still (rest_from p line)).rest) p row (line-begun options bytes open_before still p line row h.0 k.0) row.kind refl
+groups-are options bytes open_before still p (line ∷ []) (row ∷ []) h k =
+    last-are options bytes (rest_line (contained options open_before still (rest_from p line)).rest) p row
+    (line-begun options bytes open_before still p line row h.0 k.0) row.kind refl
 groups-are options bytes open_before still p (line ∷ []) (row ∷ below ∷ rows) h k = absurd h
 groups-are options bytes open_before still p (line ∷ next ∷ lines) (row ∷ []) h k = absurd h
 groups-are options bytes open_before still p (line ∷ next ∷ lines) (row ∷ below ∷ rows) h k =
     let open_next = behind_line options open_before still p line in
     let still_next = leaf_behind row.kind in
-    onto-are options bytes (rest_line (contained options open_before still (rest_from p line)).rest) p row h.2 (groups (below ∷ rows)) (line-begun options bytes open_before still p line row h.0 k.0) h.3 h.4
-    (onto-front bytes h.2 below below.kind (groups rows) (first-front options bytes open_next still_next h.2 (next ∷ lines) below rows h.5))
+    onto-are options bytes (rest_line (contained options open_before still (rest_from p line)).rest) p row h.2
+    (groups (below ∷ rows)) (line-begun options bytes open_before still p line row h.0 k.0) h.3 h.4
+    (onto-front bytes h.2 below below.kind (groups rows)
+    (first-front options bytes open_next still_next h.2 (next ∷ lines) below rows h.5))
     (groups-are options bytes open_next still_next h.2 (next ∷ lines) (below ∷ rows) h.5 k.1) row.kind refl
 
 -- each line of a text but the last has an ending
-pub rows-end : (options : ParseOptions) (bytes : List ℕ) (open_before : List Container) (still : HeldLeaf) (p : Point) (lines : List (List ℕ)) (rows : List Row) → AreRows options bytes open_before still p lines rows → EachEnds rows
+pub rows-end : (options : ParseOptions) (bytes : List ℕ) (open_before : List Container) (still : HeldLeaf) (p : Point)
+    (lines : List (List ℕ)) (rows : List Row) →
+    AreRows options bytes open_before still p lines rows → EachEnds rows
 rows-end options bytes open_before still p lines [] h = tt
 rows-end options bytes open_before still p lines (row ∷ []) h = tt
 rows-end options bytes open_before still p [] (row ∷ below ∷ rows) h = absurd h
 rows-end options bytes open_before still p (line ∷ []) (row ∷ below ∷ rows) h = absurd h
-rows-end options bytes open_before still p (line ∷ next ∷ lines) (row ∷ below ∷ rows) h =
-    (h.2, h.3, rows-end options bytes (behind_line options open_before still p line) (leaf_behind row.kind) h.2 (next ∷ lines) (below ∷ rows) h.5)
+rows-end options bytes open_before still p (line ∷ next ∷ lines) (row ∷ below ∷ rows) h = (
+  h.2,
+  h.3,
+  rows-end options bytes (behind_line options open_before still p line) (leaf_behind row.kind) h.2 (next ∷ lines)
+      (below ∷ rows) h.5,
+)
 
 -- in front of each line of a text stand prefixes and begins of containers
-pub rows-front : (options : ParseOptions) (bytes : List ℕ) (open_before : List Container) (still : HeldLeaf) (p : Point) (lines : List (List ℕ)) (rows : List Row) → AreRows options bytes open_before still p lines rows → EachFront bytes rows
+pub rows-front : (options : ParseOptions) (bytes : List ℕ) (open_before : List Container) (still : HeldLeaf) (p : Point)
+    (lines : List (List ℕ)) (rows : List Row) →
+    AreRows options bytes open_before still p lines rows → EachFront bytes rows
 rows-front options bytes open_before still p lines [] h = tt
 rows-front options bytes open_before still p [] (row ∷ rows) h = absurd h
 rows-front options bytes open_before still p (line ∷ []) (row ∷ []) h = ((p, h.0.front), tt)
 rows-front options bytes open_before still p (line ∷ next ∷ lines) (row ∷ []) h = absurd h
 rows-front options bytes open_before still p (line ∷ []) (row ∷ below ∷ rows) h = absurd h
-rows-front options bytes open_before still p (line ∷ next ∷ lines) (row ∷ below ∷ rows) h =
-    ((p, h.0.front), rows-front options bytes (behind_line options open_before still p line) (leaf_behind row.kind) h.2 (next ∷ lines) (below ∷ rows) h.5)
+rows-front options bytes open_before still p (line ∷ next ∷ lines) (row ∷ below ∷ rows) h = (
+  (p, h.0.front),
+  rows-front options bytes (behind_line options open_before still p line) (leaf_behind row.kind) h.2
+      (next ∷ lines) (below ∷ rows) h.5,
+)
 
 -- Where the lines stand.
 
-pub row-line : (options : ParseOptions) (bytes line : List ℕ) (row : Row) → IsRow options bytes line row → drop row.first.index bytes ≡ line ++ drop row.end.index bytes
-row-line options bytes line row is = piece bytes row.first.index row.end.index (omega (arith, is.size)) ∙ ap (λ (l : List ℕ). l ++ drop row.end.index bytes) is.text
+pub row-line : (options : ParseOptions) (bytes line : List ℕ) (row : Row) → IsRow options bytes line row →
+    drop row.first.index bytes ≡ line ++ drop row.end.index bytes
+row-line options bytes line row is =
+    piece bytes row.first.index row.end.index (omega (arith, is.size))
+    ∙ ap (λ (l : List ℕ). l ++ drop row.end.index bytes) is.text
 
 -- The chunks of a text are lines.
 
 -- a line of text is not empty
-rest-some : (options : ParseOptions) (r : LineRest) (bytes : List ℕ) → r.bytes ≡ bytes → line_kind options r ≡ TextRow → 0 < length bytes
-rest-some options r [] e h = let blank : BlankRow ≡ TextRow = sym (ap (λ (l : List ℕ). cond (is_blank l) BlankRow (kind_of (first_of (λ (l : LeafName). (line_leaf l).starts options r) trials))) e) ∙ h in cc
+rest-some : (options : ParseOptions) (r : LineRest) (bytes : List ℕ) → r.bytes ≡ bytes → line_kind options r ≡ TextRow →
+    0 < length bytes
+rest-some options r [] e h =
+    let blank : BlankRow ≡
+    TextRow = sym
+    (ap
+    (λ (l : List ℕ).
+    cond (is_blank l) BlankRow (kind_of (first_of (λ (l : LeafName). (line_leaf l).starts options r) trials))) e)
+    ∙ h in
+    cc
 rest-some options r (b ∷ bs) e h = omega arith
 
-pub text-some : (options : ParseOptions) (bytes line : List ℕ) (row : Row) → IsRow options bytes line row → row.kind ≡ TextRow → 0 < length line
+pub text-some : (options : ParseOptions) (bytes line : List ℕ) (row : Row) → IsRow options bytes line row →
+    row.kind ≡ TextRow → 0 < length line
 text-some options bytes line row is text =
     let r : LineRest = is.rest in
     let some = rest-some options r r.bytes refl (sym is.kind ∙ text) in
     let size = ap length is.line_is ∙ length-append (cut_tab r.spaces) r.bytes in
     omega arith
 
-pub chunks-lines : (options : ParseOptions) (bytes : List ℕ) (row : Row) (rows : List Row) → AreLines options bytes row rows → are_lines bytes (last_row row rows).end (chunks_of row rows) ≡ true
+pub chunks-lines : (options : ParseOptions) (bytes : List ℕ) (row : Row) (rows : List Row) →
+    AreLines options bytes row rows → are_lines bytes (last_row row rows).end (chunks_of row rows) ≡ true
 chunks-lines options bytes row [] h =
     and_from _ _
     (ap (λ (l : List ℕ). is_one_line (split_lines l) (same_place row.end row.end)) h.1.text
-    ∙ one-last h.0 (text-some options bytes h.0 row h.1 h.2) h.1.no_ending (same_place row.end row.end) (and_from _ _ (eq-eqb row.end.index row.end.index refl) (eq-eqb row.end.vs row.end.vs refl)))
+    ∙ one-last h.0 (text-some options bytes h.0 row h.1 h.2) h.1.no_ending (same_place row.end row.end)
+    (and_from _ _ (eq-eqb row.end.index row.end.index refl) (eq-eqb row.end.vs row.end.vs refl)))
     refl
 chunks-lines options bytes row (next ∷ rows) h =
     let ends : Bool = is_none (chunks_of next rows) && same_place (behind_row row) (last_row next rows).end in
     and_from _ _
-    (ap (λ (l : List ℕ). is_one_line (split_lines l) ends) (ap (λ (p : Point). slice_range bytes row.first.index p.index) (behind-is row h.3 h.4) ∙ line-text options bytes h.0 row h.3 h.1 h.5)
+    (ap (λ (l : List ℕ). is_one_line (split_lines l) ends)
+    (ap (λ (p : Point). slice_range bytes row.first.index p.index) (behind-is row h.3 h.4) ∙ line-text options bytes
+    h.0 row h.3 h.1 h.5)
     ∙ one-next h.0 h.5.ending h.1.no_ending ends)
     (chunks-lines options bytes next rows h.7)
 
 -- none of them ends within a tab
-pub chunks-whole : (options : ParseOptions) (bytes : List ℕ) (row : Row) (rows : List Row) → AreLines options bytes row rows → list_all (λ (chunk : Chunk). chunk.after.vs == 0) (chunks_of row rows) ≡ true
+pub chunks-whole : (options : ParseOptions) (bytes : List ℕ) (row : Row) (rows : List Row) →
+    AreLines options bytes row rows → list_all (λ (chunk : Chunk). chunk.after.vs == 0) (chunks_of row rows) ≡ true
 chunks-whole options bytes row [] h = and_from (row.end.vs == 0) true (eq-eqb row.end.vs 0 h.1.end_whole) refl
 chunks-whole options bytes row (next ∷ rows) h =
-    and_from ((behind_row row).vs == 0) (list_all (λ (chunk : Chunk). chunk.after.vs == 0) (chunks_of next rows)) (eq-eqb (behind_row row).vs 0 (ap (λ (p : Point). p.vs) (behind-is row h.3 h.4) ∙ h.5.whole)) (chunks-whole options bytes next rows h.7)
+    and_from ((behind_row row).vs == 0) (list_all (λ (chunk : Chunk). chunk.after.vs == 0) (chunks_of next rows))
+    (eq-eqb (behind_row row).vs 0 (ap (λ (p : Point). p.vs) (behind-is row h.3 h.4) ∙ h.5.whole))
+    (chunks-whole options bytes next rows h.7)
 
 -- Reading.
 
 -- behind the lines of a text no more of it stands
-behind-lines : (wants : Content → Bool) (row : Row) (gs : List Group) → EndsBeforeGroups row gs → chunks_behind wants (tail_events n.LineEnding row ++ joined_groups gs) ≡ []
+behind-lines : (wants : Content → Bool) (row : Row) (gs : List Group) → EndsBeforeGroups row gs →
+    chunks_behind wants (tail_events n.LineEnding row ++ joined_groups gs) ≡ []
 behind-lines wants row gs h = tail row.leaves
   where
-    ending : (gs : List Group) → EndsBeforeGroups row gs → chunks_behind wants (ending_events n.LineEnding row ++ joined_groups gs) ≡ []
+    ending : (gs : List Group) → EndsBeforeGroups row gs →
+        chunks_behind wants (ending_events n.LineEnding row ++ joined_groups gs) ≡ []
     ending [] h = go row.after
       where
-        go : (after : Option Point) → chunks_behind wants (elim after [ None ↦ [] | Some q ↦ pair n.LineEnding row.end q ] ++ []) ≡ []
+        go : (after : Option Point) →
+            chunks_behind wants (elim after [ None ↦ [] | Some q ↦ pair n.LineEnding row.end q ] ++ []) ≡ []
         go None = refl
         go (Some q) = refl
-    ending (group ∷ gs) h = ap (λ (l : List Event). chunks_behind wants (l ++ joined_groups (group ∷ gs))) (ending-is n.LineEnding row h.0 h.1)
+    ending (group ∷ gs) h =
+        ap (λ (l : List Event). chunks_behind wants (l ++ joined_groups (group ∷ gs)))
+        (ending-is n.LineEnding row h.0 h.1)
 
-    tail : (leaves : List Container) → chunks_behind wants ((ends_of leaves row.end ++ ending_events n.LineEnding row) ++ joined_groups gs) ≡ []
+    tail : (leaves : List Container) →
+        chunks_behind wants ((ends_of leaves row.end ++ ending_events n.LineEnding row) ++ joined_groups gs) ≡ []
     tail [] = ending gs h
     tail (c ∷ leaves) =
-        ap (chunks_behind wants) (append_assoc (ends_of (c ∷ leaves) row.end) (ending_events n.LineEnding row) (joined_groups gs))
-        ∙ ends-first (λ (l : List Event). chunks_behind wants l ≡ []) c leaves row.end (ending_events n.LineEnding row ++ joined_groups gs) (λ d es. behind-exit wants (container_name d) row.end es (container-facts d).no_prefix)
+        ap (chunks_behind wants)
+        (append_assoc (ends_of (c ∷ leaves) row.end) (ending_events n.LineEnding row) (joined_groups gs))
+        ∙ ends-first (λ (l : List Event). chunks_behind wants l ≡ []) c leaves row.end
+        (ending_events n.LineEnding row ++ joined_groups gs)
+        (λ d es. behind-exit wants (container_name d) row.end es (container-facts d).no_prefix)
 
 -- what stands around the parts of a line is not read later
-tail-unwanted : (wants : Content → Bool) (kind : RowKind) (row : Row) → Unwanted wants (tail_events (ending_of kind) row)
-tail-unwanted wants kind row = no_content-unwanted wants (tail_events (ending_of kind) row) (tail-no_content wants (ending_of kind) row (ending-other kind))
+tail-unwanted : (wants : Content → Bool) (kind : RowKind) (row : Row) →
+    Unwanted wants (tail_events (ending_of kind) row)
+tail-unwanted wants kind row =
+    no_content-unwanted wants (tail_events (ending_of kind) row)
+    (tail-no_content wants (ending_of kind) row (ending-other kind))
 
 front-unwanted : (wants : Content → Bool) (bytes : List ℕ) (row : Row) → HasFront bytes row → Unwanted wants row.front
 front-unwanted wants bytes row h = no_content-unwanted wants row.front (has_front-no_content wants bytes row h)
 
 -- a line that is no text, of which a reader reads no text
-single-unwanted : (options : ParseOptions) (bytes : List ℕ) (wants : Content → Bool) (row : Row) → IsSingle options bytes row → wants content.Text ≡ false → Unwanted wants (row_events row)
-single-unwanted options bytes wants row is w = no_content-unwanted wants (row_events row) (events-no_content wants row row.kind refl is.other (has_front-no_content wants bytes row is.front) (is.quiet wants w))
+single-unwanted : (options : ParseOptions) (bytes : List ℕ) (wants : Content → Bool) (row : Row) →
+    IsSingle options bytes row → wants content.Text ≡ false → Unwanted wants (row_events row)
+single-unwanted options bytes wants row is w =
+    no_content-unwanted wants (row_events row)
+    (events-no_content wants row row.kind refl is.other (has_front-no_content wants bytes row is.front)
+    (is.quiet wants w))
 
 -- in front of the further lines of a text stand prefixes alone
-pub lines-prefixed : (options : ParseOptions) (bytes : List ℕ) (row : Row) (rows : List Row) → AreLines options bytes row rows → EachPrefixed rows
+pub lines-prefixed : (options : ParseOptions) (bytes : List ℕ) (row : Row) (rows : List Row) →
+    AreLines options bytes row rows → EachPrefixed rows
 lines-prefixed options bytes row [] h = tt
-lines-prefixed options bytes row (next ∷ rows) h = (fronts-prefixes bytes [] h.3 next.first next.front refl h.6, lines-prefixed options bytes next rows h.7)
+lines-prefixed options bytes row (next ∷ rows) h =
+    (fronts-prefixes bytes [] h.3 next.first next.front refl h.6, lines-prefixed options bytes next rows h.7)
 
 -- Where the lines of a text stand.
 
 -- a line of text is not empty
-pub line-grows : (options : ParseOptions) (bytes line : List ℕ) (row : Row) → IsRow options bytes line row → row.kind ≡ TextRow → row.first.index < row.end.index
-line-grows options bytes line row is text = let some = text-some options bytes line row is text in omega (arith, is.size)
+pub line-grows : (options : ParseOptions) (bytes line : List ℕ) (row : Row) → IsRow options bytes line row →
+    row.kind ≡ TextRow → row.first.index < row.end.index
+line-grows options bytes line row is text =
+    let some = text-some options bytes line row is text in omega (arith, is.size)
 
 -- a line, its ending, and the next line
 pub record AreApart (row next : Row) : Type 0 where
@@ -254,16 +363,19 @@ pub record AreApart (row next : Row) : Type 0 where
   pub ending : row.end.index < (behind_row row).index
   pub front : (behind_row row).index ≤ next.first.index
 
-pub are-apart : (options : ParseOptions) (bytes : List ℕ) (row next : Row) (rows : List Row) → AreLines options bytes row (next ∷ rows) → AreApart row next
+pub are-apart : (options : ParseOptions) (bytes : List ℕ) (row next : Row) (rows : List Row) →
+    AreLines options bytes row (next ∷ rows) → AreApart row next
 are-apart options bytes row next rows h =
     let behind : (behind_row row).index ≡ h.3.index = ap (λ (p : Point). p.index) (behind-is row h.3 h.4) in
     let some = ending-some h.5.ending in
     let grows = fronts-grow bytes [] h.3 next.first next.front h.6 in
     record { line = line-grows options bytes h.0 row h.1 h.2; ending = omega (arith, h.5.size); front = omega arith }
 
-first-grows : (options : ParseOptions) (bytes : List ℕ) (row : Row) (rows : List Row) → AreLines options bytes row rows → row.first.index < (line_after row rows).index
+first-grows : (options : ParseOptions) (bytes : List ℕ) (row : Row) (rows : List Row) →
+    AreLines options bytes row rows → row.first.index < (line_after row rows).index
 first-grows options bytes row [] h = line-grows options bytes h.0 row h.1 h.2
-first-grows options bytes row (next ∷ rows) h = let apart = are-apart options bytes row next rows h in omega (arith, apart.line, apart.ending)
+first-grows options bytes row (next ∷ rows) h =
+    let apart = are-apart options bytes row next rows h in omega (arith, apart.line, apart.ending)
 
 -- which events belong to a chunk that ends at a byte
 begins-before : (name : Name) (p : Point) (end : ℕ) → p.index < end → belongs end (enter name p) ≡ true
@@ -280,7 +392,8 @@ all_belong-append end [] ys h k = k
 all_belong-append end (e ∷ xs) ys h k = (h.0, all_belong-append end xs ys h.1 k)
 
 -- what stands in front of the events of the first line is of it too
-cut-front : (row : Row) (rows : List Row) (xs left done : List Event) → AllBelong (line_after row rows).index xs → CutAt row rows left done → CutAt row rows (xs ++ left) (xs ++ done)
+cut-front : (row : Row) (rows : List Row) (xs left done : List Event) → AllBelong (line_after row rows).index xs →
+    CutAt row rows left done → CutAt row rows (xs ++ left) (xs ++ done)
 cut-front row [] xs left done h cut = ap (λ (l : List Event). xs ++ l) cut
 cut-front row (next ∷ rows) xs left done h cut = (
   xs ++ cut.0,
@@ -296,12 +409,15 @@ cut-front row (next ∷ rows) xs left done h cut = (
 -- Reading content.
 
 -- the next chunk begins where its line does
-linked-next : (name : Name) (link : Link) (row : Row) (rows : List Row) (zs : List Event) (end : ℕ) → end ≤ row.first.index → NextBelongs end (linked name link (chunks_of row rows) ++ zs)
+linked-next : (name : Name) (link : Link) (row : Row) (rows : List Row) (zs : List Event) (end : ℕ) →
+    end ≤ row.first.index → NextBelongs end (linked name link (chunks_of row rows) ++ zs)
 linked-next name link row [] zs end h = begins-behind name row.first end h
 linked-next name link row (next ∷ rows) zs end h = begins-behind name row.first end h
 
 -- the chunks of a text, cut at the ends of its lines
-linked-cut : (options : ParseOptions) (bytes : List ℕ) (name : Name) (link : Link) (row : Row) (rows : List Row) (zs : List Event) → AreLines options bytes row rows →
+linked-cut : (options : ParseOptions) (bytes : List ℕ) (name : Name) (link : Link) (row : Row) (rows : List Row)
+    (zs : List Event) →
+    AreLines options bytes row rows →
     CutAt row rows (linked name link (chunks_of row rows) ++ zs) (linked_lines name link row rows ++ zs)
 linked-cut options bytes name link row [] zs h = refl
 linked-cut options bytes name link row (next ∷ rows) zs h =
@@ -312,62 +428,93 @@ linked-cut options bytes name link row (next ∷ rows) zs h =
       linked name link (chunks_of next rows) ++ zs,
       linked_lines name link next rows ++ zs,
       refl,
-      (begins-before name row.first end (omega (arith, apart.line, apart.ending)), (ends-before name (behind_row row) end (omega arith), tt)),
+      (
+        begins-before name row.first end (omega (arith, apart.line, apart.ending)),
+        (ends-before name (behind_row row) end (omega arith), tt),
+      ),
       linked-next name link next rows zs end apart.front,
-      ap (λ (l : List Event). begin ∷ exit name (behind_row row) ∷ l) (append_assoc next.front (linked_lines name link next rows) zs),
+      ap (λ (l : List Event). begin ∷ exit name (behind_row row) ∷ l)
+          (append_assoc next.front (linked_lines name link next rows) zs),
       linked-cut options bytes name link next rows zs h.7,
     )
 
 -- a reader of content gives for lines of text the leaf of these lines, which are not read yet
 abbrev pub ReadsContent : ParseOptions → List ℕ → Readings → Type 0
 ReadsContent options bytes reads =
-    (row : Row) (rows : List Row) → AreLines options bytes row rows → (answer : List Event) → reads content.Content (chunks_of row rows) answer →
+    (row : Row) (rows : List Row) → AreLines options bytes row rows → (answer : List Event) →
+    reads content.Content (chunks_of row rows) answer →
     answer ≡ around text_leaf.name row.first (last_row row rows).end (linked n.Data text_link (chunks_of row rows))
 
 -- a text that is not read yet, cut so too
 unread-cut : (options : ParseOptions) (bytes : List ℕ) (row : Row) (rows : List Row) → AreLines options bytes row rows →
-    CutAt row rows (around text_leaf.name row.first (last_row row rows).end (linked n.Data text_link (chunks_of row rows))) (text_unread row rows)
+    CutAt row rows
+    (around text_leaf.name row.first (last_row row rows).end (linked n.Data text_link (chunks_of row rows)))
+    (text_unread row rows)
 unread-cut options bytes row rows h =
     let end = exit text_leaf.name (last_row row rows).end ∷ [] in
-    cut-front row rows (enter text_leaf.name row.first ∷ []) (linked n.Data text_link (chunks_of row rows) ++ end) (unread_lines row rows ++ end)
+    cut-front row rows (enter text_leaf.name row.first ∷ []) (linked n.Data text_link (chunks_of row rows) ++ end)
+    (unread_lines row rows ++ end)
     (begins-before text_leaf.name row.first (line_after row rows).index (first-grows options bytes row rows h), tt)
     (linked-cut options bytes n.Data text_link row rows end h)
 
-group-joins : (front given tail rest out one two three : List Event) → out ≡ front ++ one → one ≡ given ++ two → two ≡ tail ++ three → three ≡ rest → out ≡ ((front ++ given) ++ tail) ++ rest
+group-joins : (front given tail rest out one two three : List Event) → out ≡ front ++ one → one ≡ given ++ two →
+    two ≡ tail ++ three → three ≡ rest → out ≡ ((front ++ given) ++ tail) ++ rest
 group-joins front given tail rest out one two three h i j k =
     h
-    ∙ ap (λ (l : List Event). front ++ l) (i ∙ ap (λ (l : List Event). given ++ l) (j ∙ ap (λ (l : List Event). tail ++ l) k))
+    ∙ ap (λ (l : List Event). front ++ l)
+    (i ∙ ap (λ (l : List Event). given ++ l) (j ∙ ap (λ (l : List Event). tail ++ l) k))
     ∙ sym (append_assoc front given (tail ++ rest))
     ∙ sym (append_assoc (front ++ given) tail rest)
 
-groups-content : (options : ParseOptions) (bytes : List ℕ) (wants : Content → Bool) (reads : Readings) → wants content.Content ≡ true → wants content.Text ≡ false → ReadsContent options bytes reads →
-    (gs : List Group) → AreGroups options bytes gs → (left out : List Event) → Substituted wants reads left 0 (joined_groups gs) out → out ≡ unread_groups gs
+groups-content : (options : ParseOptions) (bytes : List ℕ) (wants : Content → Bool) (reads : Readings) →
+    wants content.Content ≡ true → wants content.Text ≡ false → ReadsContent options bytes reads →
+    (gs : List Group) → AreGroups options bytes gs → (left out : List Event) →
+    Substituted wants reads left 0 (joined_groups gs) out → out ≡ unread_groups gs
 groups-content options bytes wants reads w other unique [] are left out s = s
 groups-content options bytes wants reads w other unique (Single row ∷ gs) are left out s =
-    let one : (rest : List Event) × (is : out ≡ row_events row ++ rest) × Substituted wants reads left 0 (joined_groups gs) rest =
-    passes wants reads left 0 (row_events row) (joined_groups gs) out (single-unwanted options bytes wants row are.0 other) s in
-    one.1 ∙ ap (λ (l : List Event). row_events row ++ l) (groups-content options bytes wants reads w other unique gs are.1 left one.0 one.2)
+    let one : (rest : List Event) × (is : out ≡ row_events row ++ rest) ×
+    Substituted wants reads left 0 (joined_groups gs) rest =
+    passes wants reads left 0 (row_events row) (joined_groups gs) out
+    (single-unwanted options bytes wants row are.0 other) s in
+    one.1
+    ∙ ap (λ (l : List Event). row_events row ++ l)
+    (groups-content options bytes wants reads w other unique gs are.1 left one.0 one.2)
 groups-content options bytes wants reads w other unique (Lines row rows ∷ gs) are left out s =
     let tail : List Event = tail_events n.LineEnding (last_row row rows) in
     let inside : List Event = linked_lines n.Content content_link row rows in
     let ys : List Event = tail ++ joined_groups gs in
     let given : List Event = text_unread row rows in
-    let begun : (rest : List Event) × (is : out ≡ row.front ++ rest) × Substituted wants reads left 0 (inside ++ ys) rest =
+    let begun : (rest : List Event) × (is : out ≡ row.front ++ rest) ×
+    Substituted wants reads left 0 (inside ++ ys) rest =
     passes wants reads left 0 row.front (inside ++ ys) out (front-unwanted wants bytes row are.2)
-    (subst (λ (l : List Event). Substituted wants reads left 0 l out) (append_assoc (row.front ++ inside) tail (joined_groups gs) ∙ append_assoc row.front inside ys) s) in
+    (subst (λ (l : List Event). Substituted wants reads left 0 l out)
+    (append_assoc (row.front ++ inside) tail (joined_groups gs) ∙ append_assoc row.front inside ys) s) in
     let rest : Rest wants reads given ys begun.0 =
-    places wants reads left n.Content content_link row rows ys given begun.0 w (behind-lines wants (last_row row rows) gs are.1) (lines-prefixed options bytes row rows are.0)
-    (λ answer read. subst (λ (l : List Event). CutAt row rows l given) (sym (unique row rows are.0 answer read)) (unread-cut options bytes row rows are.0)) begun.2 in
-    let two : (more : List Event) × (is : rest.0 ≡ tail ++ more) × Substituted wants reads rest.1 0 (joined_groups gs) more = passes wants reads rest.1 0 tail (joined_groups gs) rest.0 (tail-unwanted wants TextRow (last_row row rows)) rest.3 in
-    group-joins row.front given tail (unread_groups gs) out begun.0 rest.0 two.0 begun.1 rest.2 two.1 (groups-content options bytes wants reads w other unique gs are.3 rest.1 two.0 two.2)
+    places wants reads left n.Content content_link row rows ys given begun.0 w
+    (behind-lines wants (last_row row rows) gs are.1) (lines-prefixed options bytes row rows are.0)
+    (λ answer read.
+    subst (λ (l : List Event). CutAt row rows l given) (sym (unique row rows are.0 answer read))
+    (unread-cut options bytes row rows are.0)) begun.2 in
+    let two : (more : List Event) × (is : rest.0 ≡ tail ++ more) ×
+    Substituted wants reads rest.1 0 (joined_groups gs) more = passes wants reads rest.1 0 tail
+    (joined_groups gs) rest.0 (tail-unwanted wants TextRow (last_row row rows)) rest.3 in
+    group-joins row.front given tail (unread_groups gs) out begun.0 rest.0 two.0 begun.1 rest.2 two.1
+    (groups-content options bytes wants reads w other unique gs are.3 rest.1 two.0 two.2)
 
 -- The events of the lines of a text, joined, and their content read: texts that are not read yet.
-pub content-read : (options : ParseOptions) (bytes : List ℕ) (open_before : List Container) (still : HeldLeaf) (p : Point) (lines : List (List ℕ)) (rows : List Row) → AreRows options bytes open_before still p lines rows → EachNoContent rows →
-    (wants : Content → Bool) (reads : Readings) → wants content.Content ≡ true → wants content.Text ≡ false → ReadsContent options bytes reads →
-    (unread : List Event) → Substituted wants reads [] 0 (joined (rows_events rows)) unread → unread ≡ unread_groups (groups rows)
+pub content-read : (options : ParseOptions) (bytes : List ℕ) (open_before : List Container) (still : HeldLeaf)
+    (p : Point) (lines : List (List ℕ)) (rows : List Row) →
+    AreRows options bytes open_before still p lines rows → EachNoContent rows →
+    (wants : Content → Bool) (reads : Readings) → wants content.Content ≡ true → wants content.Text ≡ false →
+    ReadsContent options bytes reads →
+    (unread : List Event) → Substituted wants reads [] 0 (joined (rows_events rows)) unread →
+    unread ≡ unread_groups (groups rows)
 content-read options bytes open_before still p lines rows are quiet wants reads w other unique unread s =
-    groups-content options bytes wants reads w other unique (groups rows) (groups-are options bytes open_before still p lines rows are quiet) [] unread
-    (subst (λ (l : List Event). Substituted wants reads [] 0 l unread) (joined-rows bytes rows (rows-front options bytes open_before still p lines rows are) (rows-end options bytes open_before still p lines rows are) quiet) s)
+    groups-content options bytes wants reads w other unique (groups rows)
+    (groups-are options bytes open_before still p lines rows are quiet) [] unread
+    (subst (λ (l : List Event). Substituted wants reads [] 0 l unread)
+    (joined-rows bytes rows (rows-front options bytes open_before still p lines rows are)
+    (rows-end options bytes open_before still p lines rows are) quiet) s)
 
 -- Resolvers.
 
@@ -377,53 +524,74 @@ blank-outside [] p = tt
 blank-outside (b ∷ line) p = (refl, (refl, tt))
 
 -- a line that is no text is set
-single-set : (options : ParseOptions) (bytes : List ℕ) (row : Row) (es : List Event) → IsSingle options bytes row → (kind : RowKind) → row.kind ≡ kind →
+single-set : (options : ParseOptions) (bytes : List ℕ) (row : Row) (es : List Event) → IsSingle options bytes row →
+    (kind : RowKind) → row.kind ≡ kind →
     resolved (row_events_by kind row ++ es) ≡ listed_row_by bytes kind row ++ resolved es
 single-set options bytes row es is kind e =
-    leaf-set row.front (leaf_events kind row) (leaf_unread bytes kind row) (tail_events (ending_of kind) row) es (has_front-outside bytes row is.front) (tail-outside (ending_of kind) row (ending-own kind)) (leaf kind e)
+    leaf-set row.front (leaf_events kind row) (leaf_unread bytes kind row) (tail_events (ending_of kind) row) es
+    (has_front-outside bytes row is.front) (tail-outside (ending_of kind) row (ending-own kind)) (leaf kind e)
   where
-    leaf : (kind : RowKind) → row.kind ≡ kind → (es : List Event) → resolved (leaf_events kind row ++ es) ≡ leaf_unread bytes kind row ++ resolved es
-    leaf BlankRow e es = outside-passes row.inside es (subst AreOutside (sym (is.is.blank e)) (blank-outside is.line row.first))
+    leaf : (kind : RowKind) → row.kind ≡ kind → (es : List Event) →
+        resolved (leaf_events kind row ++ es) ≡ leaf_unread bytes kind row ++ resolved es
+    leaf BlankRow e es =
+        outside-passes row.inside es (subst AreOutside (sym (is.is.blank e)) (blank-outside is.line row.first))
     leaf (LeafRow l) e es =
-        ap (λ (added : List Event). resolved (added ++ es)) (is.is.leaf_is l e ∙ ap (λ (line : List ℕ). (line_leaf l).added line row.first) is.is.line_is)
+        ap (λ (added : List Event). resolved (added ++ es))
+        (is.is.leaf_is l e ∙ ap (λ (line : List ℕ). (line_leaf l).added line row.first) is.is.line_is)
         ∙ (laws l).set options is.is.rest row.first es (kind-starts options is.is.rest l (sym is.is.kind ∙ e))
-        ∙ ap (λ (line : List ℕ). (line_leaf l).unread line row.first ++ resolved es) (sym is.is.line_is ∙ sym is.is.text)
+        ∙ ap (λ (line : List ℕ). (line_leaf l).unread line row.first ++ resolved es)
+        (sym is.is.line_is ∙ sym is.is.text)
     leaf TextRow e es = absurd (is.other e)
 
-groups-set : (options : ParseOptions) (bytes : List ℕ) (gs : List Group) → AreGroups options bytes gs → resolved (unread_groups gs) ≡ listed_groups bytes gs
+groups-set : (options : ParseOptions) (bytes : List ℕ) (gs : List Group) → AreGroups options bytes gs →
+    resolved (unread_groups gs) ≡ listed_groups bytes gs
 groups-set options bytes [] are = refl
 groups-set options bytes (Single row ∷ gs) are =
     single-set options bytes row (unread_groups gs) are.0 row.kind refl
     ∙ ap (λ (l : List Event). listed_row_by bytes row.kind row ++ l) (groups-set options bytes gs are.1)
 groups-set options bytes (Lines row rows ∷ gs) are =
     let last : Row = last_row row rows in
-    leaf-set row.front (text_unread row rows) (text_unread row rows) (tail_events n.LineEnding last) (unread_groups gs) (has_front-outside bytes row are.2) (tail-outside n.LineEnding last refl)
-    (λ es. outside-passes (text_unread row rows) es (around-outside text_leaf.name row.first last.end (unread_lines row rows) refl (linked-outside text_link row rows (lines-prefixed options bytes row rows are.0))))
+    leaf-set row.front (text_unread row rows) (text_unread row rows) (tail_events n.LineEnding last) (unread_groups gs)
+    (has_front-outside bytes row are.2) (tail-outside n.LineEnding last refl)
+    (λ es.
+    outside-passes (text_unread row rows) es
+    (around-outside text_leaf.name row.first last.end (unread_lines row rows) refl
+    (linked-outside text_link row rows (lines-prefixed options bytes row rows are.0))))
     ∙ ap (λ (l : List Event). unread_group (Lines row rows) ++ l) (groups-set options bytes gs are.3)
 
 -- Each leaf is set, and all else stays.
-pub leaves-set : (options : ParseOptions) (bytes : List ℕ) (open_before : List Container) (still : HeldLeaf) (p : Point) (lines : List (List ℕ)) (rows : List Row) → AreRows options bytes open_before still p lines rows → EachNoContent rows →
+pub leaves-set : (options : ParseOptions) (bytes : List ℕ) (open_before : List Container) (still : HeldLeaf) (p : Point)
+    (lines : List (List ℕ)) (rows : List Row) →
+    AreRows options bytes open_before still p lines rows → EachNoContent rows →
     resolved (unread_groups (groups rows)) ≡ listed_groups bytes (groups rows)
-leaves-set options bytes open_before still p lines rows are quiet = groups-set options bytes (groups rows) (groups-are options bytes open_before still p lines rows are quiet)
+leaves-set options bytes open_before still p lines rows are quiet =
+    groups-set options bytes (groups rows) (groups-are options bytes open_before still p lines rows are quiet)
 
 -- The text of leaves, and texts.
 
 -- what stands between the front of a line and its tail
-leaf-becomes : (wants : Content → Bool) (reads : Readings) (front leaf read tail : List Event) → Unwanted wants front → Unwanted wants tail → Becomes wants reads leaf read → Becomes wants reads ((front ++ leaf) ++ tail) ((front ++ read) ++ tail)
+leaf-becomes : (wants : Content → Bool) (reads : Readings) (front leaf read tail : List Event) → Unwanted wants front →
+    Unwanted wants tail → Becomes wants reads leaf read →
+    Becomes wants reads ((front ++ leaf) ++ tail) ((front ++ read) ++ tail)
 leaf-becomes wants reads front leaf read tail h k becomes =
     becomes-append wants reads (front ++ leaf) (front ++ read) tail tail
-    (becomes-append wants reads front front leaf read (becomes-same wants reads front h) becomes) (becomes-same wants reads tail k)
+    (becomes-append wants reads front front leaf read (becomes-same wants reads front h) becomes)
+    (becomes-same wants reads tail k)
 
-single-becomes : (options : ParseOptions) (bytes : List ℕ) (row : Row) (wants : Content → Bool) (reads : Readings) → wants content.Text ≡ true → ReadsText bytes reads → IsSingle options bytes row →
+single-becomes : (options : ParseOptions) (bytes : List ℕ) (row : Row) (wants : Content → Bool) (reads : Readings) →
+    wants content.Text ≡ true → ReadsText bytes reads → IsSingle options bytes row →
     Becomes wants reads (listed_row_by bytes row.kind row) (single_events_by bytes row.kind row)
 single-becomes options bytes row wants reads w rt is =
-    leaf-becomes wants reads row.front (leaf_unread bytes row.kind row) (leaf_done bytes row.kind row) (tail_events (ending_of row.kind) row) (front-unwanted wants bytes row is.front) (tail-unwanted wants row.kind row)
+    leaf-becomes wants reads row.front (leaf_unread bytes row.kind row) (leaf_done bytes row.kind row)
+    (tail_events (ending_of row.kind) row) (front-unwanted wants bytes row is.front)
+    (tail-unwanted wants row.kind row)
     (row-becomes options bytes is.line row is.is is.other wants reads w rt)
 
 -- The lines of a text, cut at the ends of its lines.
 
 -- what the plain layer gives for a line belongs to its chunk
-plain-belongs : (p e q : Point) → p.index < q.index → e.index < q.index → AllBelong q.index (pair_unless_empty n.Data p e ++ pair_unless_empty n.LineEnding e q)
+plain-belongs : (p e q : Point) → p.index < q.index → e.index < q.index →
+    AllBelong q.index (pair_unless_empty n.Data p e ++ pair_unless_empty n.LineEnding e q)
 plain-belongs p e q h k = go (same_place p e) (same_place e q)
   where
     ending : (y : Bool) → AllBelong q.index (cond y [] (pair n.LineEnding e q))
@@ -435,39 +603,56 @@ plain-belongs p e q h k = go (same_place p e) (same_place e q)
     go false y = (begins-before n.Data p q.index h, (ends-before n.Data e q.index (omega arith), ending y))
 
 -- and what it gives for the next one does not
-plain-next : (p e : Point) (ys zs : List Event) (end : ℕ) → p.index < e.index → end ≤ p.index → NextBelongs end ((pair_unless_empty n.Data p e ++ ys) ++ zs)
+plain-next : (p e : Point) (ys zs : List Event) (end : ℕ) → p.index < e.index → end ≤ p.index →
+    NextBelongs end ((pair_unless_empty n.Data p e ++ ys) ++ zs)
 plain-next p e ys zs end h k =
     let apart : same_place p e ≡ false = grind (arith, nat_tests) in
-    subst (λ (x : Bool). NextBelongs end ((cond x [] (pair n.Data p e) ++ ys) ++ zs)) (sym apart) (begins-behind n.Data p end k)
+    subst (λ (x : Bool). NextBelongs end ((cond x [] (pair n.Data p e) ++ ys) ++ zs)) (sym apart)
+    (begins-behind n.Data p end k)
 
 -- the plain layer finds the end of a line, without its ending and with it
-pub line_end-alone : (options : ParseOptions) (bytes line : List ℕ) (row : Row) → IsRow options bytes line row → line_end bytes (record { first = row.first; after = row.end }) ≡ row.end
-line_end-alone options bytes line row is = ap (λ (l : List ℕ). past_text (without_ending l) row.first) is.text ∙ ap (λ (l : List ℕ). past_text l row.first) (without-none line is.no_ending) ∙ sym is.end
+pub line_end-alone : (options : ParseOptions) (bytes line : List ℕ) (row : Row) → IsRow options bytes line row →
+    line_end bytes (record { first = row.first; after = row.end }) ≡ row.end
+line_end-alone options bytes line row is =
+    ap (λ (l : List ℕ). past_text (without_ending l) row.first) is.text
+    ∙ ap (λ (l : List ℕ). past_text l row.first) (without-none line is.no_ending) ∙ sym is.end
 
-pub line_end-ended : (options : ParseOptions) (bytes line : List ℕ) (row : Row) (q : Point) → IsRow options bytes line row → IsEnding bytes row.end q → line_end bytes (record { first = row.first; after = q }) ≡ row.end
+pub line_end-ended : (options : ParseOptions) (bytes line : List ℕ) (row : Row) (q : Point) →
+    IsRow options bytes line row → IsEnding bytes row.end q →
+    line_end bytes (record { first = row.first; after = q }) ≡ row.end
 line_end-ended options bytes line row q is ending =
     ap (λ (l : List ℕ). past_text (without_ending l) row.first) (line-text options bytes line row q is ending)
     ∙ ap (λ (l : List ℕ). past_text l row.first) (without-one line ending.ending is.no_ending)
     ∙ sym is.end
 
-line-ended : (options : ParseOptions) (bytes line : List ℕ) (row : Row) (q : Point) → IsRow options bytes line row → row.after ≡ Some q → IsEnding bytes row.end q → line_end bytes (record { first = row.first; after = behind_row row }) ≡ row.end
-line-ended options bytes line row q is after ending = ap (λ (q : Point). line_end bytes (record { first = row.first; after = q })) (behind-is row q after) ∙ line_end-ended options bytes line row q is ending
+line-ended : (options : ParseOptions) (bytes line : List ℕ) (row : Row) (q : Point) → IsRow options bytes line row →
+    row.after ≡ Some q → IsEnding bytes row.end q →
+    line_end bytes (record { first = row.first; after = behind_row row }) ≡ row.end
+line-ended options bytes line row q is after ending =
+    ap (λ (q : Point). line_end bytes (record { first = row.first; after = q })) (behind-is row q after)
+    ∙ line_end-ended options bytes line row q is ending
 
 -- the first line of a text is not empty, so its text begins where it does
-plain-first : (options : ParseOptions) (bytes : List ℕ) (row : Row) (rows : List Row) (end : ℕ) → AreLines options bytes row rows → end ≤ row.first.index → NextBelongs end (plain_events bytes (record { kind = Text; chunks = chunks_of row rows }))
+plain-first : (options : ParseOptions) (bytes : List ℕ) (row : Row) (rows : List Row) (end : ℕ) →
+    AreLines options bytes row rows → end ≤ row.first.index →
+    NextBelongs end (plain_events bytes (record { kind = Text; chunks = chunks_of row rows }))
 plain-first options bytes row [] end h k =
     let chunk : Chunk = record { first = row.first; after = row.end } in
     let ends = ap (λ (p : Point). p.index) (line_end-alone options bytes h.0 row h.1) in
     let grows = line-grows options bytes h.0 row h.1 h.2 in
-    plain-next row.first (line_end bytes chunk) (pair_unless_empty n.LineEnding (line_end bytes chunk) row.end) [] end (omega arith) k
+    plain-next row.first (line_end bytes chunk) (pair_unless_empty n.LineEnding (line_end bytes chunk) row.end) [] end
+    (omega arith) k
 plain-first options bytes row (next ∷ rows) end h k =
     let chunk : Chunk = record { first = row.first; after = behind_row row } in
     let ends = ap (λ (p : Point). p.index) (line-ended options bytes h.0 row h.3 h.1 h.4 h.5) in
     let grows = line-grows options bytes h.0 row h.1 h.2 in
-    plain-next row.first (line_end bytes chunk) (pair_unless_empty n.LineEnding (line_end bytes chunk) (behind_row row)) (plain_events bytes (record { kind = Text; chunks = chunks_of next rows })) end (omega arith) k
+    plain-next row.first (line_end bytes chunk) (pair_unless_empty n.LineEnding (line_end bytes chunk) (behind_row row))
+    (plain_events bytes (record { kind = Text; chunks = chunks_of next rows })) end (omega arith) k
 
 -- the lines of a text
-text-cut : (options : ParseOptions) (bytes : List ℕ) (row : Row) (rows : List Row) → AreLines options bytes row rows → CutAt row rows (plain_events bytes (record { kind = Text; chunks = chunks_of row rows })) (read_lines bytes row rows)
+text-cut : (options : ParseOptions) (bytes : List ℕ) (row : Row) (rows : List Row) → AreLines options bytes row rows →
+    CutAt row rows (plain_events bytes (record { kind = Text; chunks = chunks_of row rows }))
+    (read_lines bytes row rows)
 text-cut options bytes row [] h = sym (append-nil (plain_chunk bytes (record { first = row.first; after = row.end })))
 text-cut options bytes row (next ∷ rows) h =
     let chunk : Chunk = record { first = row.first; after = behind_row row } in
@@ -477,40 +662,58 @@ text-cut options bytes row (next ∷ rows) h =
       plain_events bytes (record { kind = Text; chunks = chunks_of next rows }),
       read_lines bytes next rows,
       refl,
-      plain-belongs row.first (line_end bytes chunk) (behind_row row) (omega (arith, apart.line, apart.ending)) (omega (arith, apart.ending)),
+      plain-belongs row.first (line_end bytes chunk) (behind_row row) (omega (arith, apart.line, apart.ending))
+          (omega (arith, apart.ending)),
       plain-first options bytes next rows (behind_row row).index h.7 apart.front,
       append_assoc (plain_chunk bytes chunk) next.front (read_lines bytes next rows),
       text-cut options bytes next rows h.7,
     )
 
-lines-become : (options : ParseOptions) (bytes : List ℕ) (row : Row) (rows : List Row) (wants : Content → Bool) (reads : Readings) → wants content.Text ≡ true → ReadsText bytes reads → AreLines options bytes row rows → HasFront bytes row →
+lines-become : (options : ParseOptions) (bytes : List ℕ) (row : Row) (rows : List Row) (wants : Content → Bool)
+    (reads : Readings) →
+    wants content.Text ≡ true → ReadsText bytes reads → AreLines options bytes row rows → HasFront bytes row →
     Becomes wants reads (unread_group (Lines row rows)) (group_events bytes (Lines row rows))
 lines-become options bytes row rows wants reads w rt is front =
     let last : Row = last_row row rows in
     let given : List Event = read_lines bytes row rows in
-    let unique : (answer : List Event) → reads content.Text (chunks_of row rows) answer → answer ≡ plain_events bytes (record { kind = Text; chunks = chunks_of row rows }) =
-    λ answer r. rt (chunks_of row rows) answer r last.end (chunks-lines options bytes row rows is) (chunks-whole options bytes row rows is) in
-    leaf-becomes wants reads row.front (text_unread row rows) (around text_leaf.name row.first last.end given) (tail_events n.LineEnding last) (front-unwanted wants bytes row front) (tail-unwanted wants TextRow last)
-    (lines-becomes wants reads text_leaf.name n.Data text_link row.first last.end row rows given w refl (lines-prefixed options bytes row rows is)
-    (λ answer r. subst (λ (l : List Event). CutAt row rows l given) (sym (unique answer r)) (text-cut options bytes row rows is)))
+    let unique : (answer : List Event) → reads content.Text (chunks_of row rows) answer →
+    answer ≡ plain_events bytes (record { kind = Text; chunks = chunks_of row rows }) =
+    λ answer r. rt (chunks_of row rows) answer r last.end (chunks-lines options bytes row rows is)
+    (chunks-whole options bytes row rows is) in
+    leaf-becomes wants reads row.front (text_unread row rows) (around text_leaf.name row.first last.end given)
+    (tail_events n.LineEnding last) (front-unwanted wants bytes row front) (tail-unwanted wants TextRow last)
+    (lines-becomes wants reads text_leaf.name n.Data text_link row.first last.end row rows given w refl
+    (lines-prefixed options bytes row rows is)
+    (λ answer r.
+    subst (λ (l : List Event). CutAt row rows l given) (sym (unique answer r)) (text-cut options bytes row rows is)))
 
-groups-become : (options : ParseOptions) (bytes : List ℕ) (wants : Content → Bool) (reads : Readings) → wants content.Text ≡ true → ReadsText bytes reads →
-    (gs : List Group) → AreGroups options bytes gs → Becomes wants reads (listed_groups bytes gs) (groups_events bytes gs)
+groups-become : (options : ParseOptions) (bytes : List ℕ) (wants : Content → Bool) (reads : Readings) →
+    wants content.Text ≡ true → ReadsText bytes reads →
+    (gs : List Group) → AreGroups options bytes gs →
+    Becomes wants reads (listed_groups bytes gs) (groups_events bytes gs)
 groups-become options bytes wants reads w rt [] are = becomes-same wants reads [] tt
 groups-become options bytes wants reads w rt (Single row ∷ gs) are =
-    becomes-append wants reads (listed_group bytes (Single row)) (group_events bytes (Single row)) (listed_groups bytes gs) (groups_events bytes gs)
+    becomes-append wants reads (listed_group bytes (Single row)) (group_events bytes (Single row))
+    (listed_groups bytes gs) (groups_events bytes gs)
     (single-becomes options bytes row wants reads w rt are.0) (groups-become options bytes wants reads w rt gs are.1)
 groups-become options bytes wants reads w rt (Lines row rows ∷ gs) are =
-    becomes-append wants reads (listed_group bytes (Lines row rows)) (group_events bytes (Lines row rows)) (listed_groups bytes gs) (groups_events bytes gs)
-    (lines-become options bytes row rows wants reads w rt are.0 are.2) (groups-become options bytes wants reads w rt gs are.3)
+    becomes-append wants reads (listed_group bytes (Lines row rows)) (group_events bytes (Lines row rows))
+    (listed_groups bytes gs) (groups_events bytes gs)
+    (lines-become options bytes row rows wants reads w rt are.0 are.2)
+    (groups-become options bytes wants reads w rt gs are.3)
 
 -- The text of leaves, and texts, read: the events of a text.
-pub text-read : (options : ParseOptions) (bytes : List ℕ) (open_before : List Container) (still : HeldLeaf) (p : Point) (lines : List (List ℕ)) (rows : List Row) → AreRows options bytes open_before still p lines rows → EachNoContent rows →
+pub text-read : (options : ParseOptions) (bytes : List ℕ) (open_before : List Container) (still : HeldLeaf) (p : Point)
+    (lines : List (List ℕ)) (rows : List Row) →
+    AreRows options bytes open_before still p lines rows → EachNoContent rows →
     (wants : Content → Bool) (reads : Readings) → wants content.Text ≡ true → ReadsText bytes reads →
-    (events : List Event) → Substituted wants reads [] 0 (listed_groups bytes (groups rows)) events → events ≡ groups_events bytes (groups rows)
+    (events : List Event) → Substituted wants reads [] 0 (listed_groups bytes (groups rows)) events →
+    events ≡ groups_events bytes (groups rows)
 text-read options bytes open_before still p lines rows are quiet wants reads w rt events s =
     let unread : List Event = listed_groups bytes (groups rows) in
     let rest : Rest wants reads (groups_events bytes (groups rows)) [] events =
-    groups-become options bytes wants reads w rt (groups rows) (groups-are options bytes open_before still p lines rows are quiet) [] [] events
+    groups-become options bytes wants reads w rt (groups rows)
+    (groups-are options bytes open_before still p lines rows are quiet) [] [] events
     (subst (λ (l : List Event). Substituted wants reads [] 0 l events) (sym (append-nil unread)) s) in
-    rest.2 ∙ ap (λ (l : List Event). groups_events bytes (groups rows) ++ l) rest.3 ∙ append-nil (groups_events bytes (groups rows))
+    rest.2 ∙ ap (λ (l : List Event). groups_events bytes (groups rows) ++ l) rest.3
+    ∙ append-nil (groups_events bytes (groups rows))

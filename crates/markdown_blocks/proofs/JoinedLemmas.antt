@@ -1,6 +1,7 @@
 -- Lines of text that follow one another, joined.
 use Rattle.md_engine.specs.declared.tokenizer.held_leaf.HeldLeaf.{HeldLeaf}
-use Rattle.std.proofs.Common.{◌≡◌, ◌≢◌, ℕ, zero, suc, Bool, true, false, cond, ◌&&◌, List, [], ◌∷◌, ◌++◌, refl, ap, sym, ◌∙◌, subst, append_assoc}
+use Rattle.std.proofs.Common.{◌≡◌, ◌≢◌, ℕ, zero, suc, Bool, true, false, cond, ◌&&◌, List, [], ◌∷◌, ◌++◌, refl, ap, sym}
+use Rattle.std.proofs.Common.{◌∙◌, subst, append_assoc}
 use Rattle.std.specs.Prelude.{Option, Some, None}
 use Rattle.std.proofs.lemmas.Bool.{and_right}
 use Rattle.md_engine.specs.declared.configuration.ParseOptions.{ParseOptions}
@@ -19,10 +20,14 @@ use Rattle.md_seam.specs.Events.Nested.{enter_link, exit, pair, is_enter, is_exi
 use Rattle.md_definition.specs.State.{Container}
 use Rattle.md_seam.specs.Events.Prefix.{is_prefix}
 use Rattle.markdown_blocks.specs.Change.{ends_of, is_none, open_behind}
-use Rattle.markdown_blocks.specs.Rows.{leaf_behind, BlankRow, Group, Held, Lines, Row, RowKind, Single, TextRow, behind_row, ending_events, ending_of, groups, held_at, inside_of, is_text, last_row, leaf_events, onto_groups, onto_lines, row_events, row_events_by, row_kind, rows_at, rows_by, rows_events, tail_events, LeafRow}
+use Rattle.markdown_blocks.specs.Rows.{leaf_behind, BlankRow, Group, Held, Lines, Row, RowKind, Single, TextRow}
+use Rattle.markdown_blocks.specs.Rows.{behind_row, ending_events, ending_of, groups, held_at, inside_of, is_text}
+use Rattle.markdown_blocks.specs.Rows.{last_row, leaf_events, onto_groups, onto_lines, row_events, row_events_by}
+use Rattle.markdown_blocks.specs.Rows.{row_kind, rows_at, rows_by, rows_events, tail_events, LeafRow}
 use Rattle.markdown_blocks.specs.Rows as lines
 use Rattle.markdown_blocks.specs.Unread.{joined_groups, linked_lines}
-use Rattle.markdown_blocks.proofs.FrontNames.{HasFront, ends-are, ends-first, front-content, fronts-are, fronts-prefixes, fronts-stop, prefixes-content}
+use Rattle.markdown_blocks.proofs.FrontNames.{HasFront, ends-are, ends-first, front-content, fronts-are}
+use Rattle.markdown_blocks.proofs.FrontNames.{fronts-prefixes, fronts-stop, prefixes-content}
 use Rattle.markdown_blocks.proofs.SubstitutedLemmas.{no_link-unwanted}
 use Rattle.markdown_blocks.proofs.Registry.{laws}
 use Rattle.markdown_blocks.proofs.ContentFacts.{NoContent, no_content-append, nothing}
@@ -40,30 +45,48 @@ EachNoContent (row ∷ rows) = HasNoContent row × EachNoContent rows
 
 -- Lines as flow reads them.
 
-white-no_content : (wants : Content → Bool) (x : Bool) (p q : Point) → NoContent wants (cond x (pair n.SpaceOrTab p q) [])
+white-no_content : (wants : Content → Bool) (x : Bool) (p q : Point) →
+    NoContent wants (cond x (pair n.SpaceOrTab p q) [])
 white-no_content wants true p q = (refl, refl, (refl, refl, tt))
 white-no_content wants false p q = tt
 
-inside-no_content : (wants : Content → Bool) → wants content.Text ≡ false → (options : ParseOptions) (cells : List Cell) (p : Point) (kind : RowKind) → NoContent wants (inside_of options cells p kind)
+inside-no_content : (wants : Content → Bool) → wants content.Text ≡ false →
+    (options : ParseOptions) (cells : List Cell) (p : Point) (kind : RowKind) →
+    NoContent wants (inside_of options cells p kind)
 inside-no_content wants w options cells p BlankRow = white-no_content wants (begins_white cells) p (line_end cells p)
 inside-no_content wants w options cells p (LeafRow l) = (laws l).no_content wants w options cells p
 inside-no_content wants w options cells p TextRow = tt
 
 -- no content stands inside the lines that flow reads
-pub rows_at-no_content : (options : ParseOptions) (size : ℕ) (open_before : List Container) (still : HeldLeaf) (cells : List Cell) (p : Point) → EachNoContent (rows_at options size open_before still cells p)
+pub rows_at-no_content : (options : ParseOptions) (size : ℕ) (open_before : List Container) (still : HeldLeaf)
+    (cells : List Cell) (p : Point) →
+    EachNoContent (rows_at options size open_before still cells p)
 rows_at-no_content options zero open_before still cells p = tt
-rows_at-no_content options (suc size) open_before still cells p = by (rows_at-no_content options size) (held_at options open_before still cells p)
+rows_at-no_content options (suc size) open_before still cells p =
+    by (rows_at-no_content options size) (held_at options open_before still cells p)
   where
-    by : ((open_before : List Container) (still : HeldLeaf) (cells : List Cell) (p : Point) → EachNoContent (rows_at options size open_before still cells p)) → (h : Held) → EachNoContent (rows_by options h (rows_at options size))
-    by further h = (λ wants w. inside-no_content wants w options h.cells h.point (row_kind options h.cells), go (from_ending h.cells))
+    by : ((open_before : List Container) (still : HeldLeaf) (cells : List Cell) (p : Point) →
+        EachNoContent (rows_at options size open_before still cells p)) →
+        (h : Held) → EachNoContent (rows_by options h (rows_at options size))
+    by further h = (
+      λ wants w.
+          inside-no_content wants w options h.cells h.point (row_kind options h.cells),
+      go (from_ending h.cells),
+    )
       where
-        go : (rest : List Cell) → EachNoContent (elim rest [ [] ↦ [] | c ∷ cs ↦ rows_at options size (open_behind h.change) (leaf_behind (row_kind options h.cells)) cs c.after ])
+        go : (rest : List Cell) →
+            EachNoContent
+            (elim rest [
+              | [] ↦ []
+              | c ∷ cs ↦ rows_at options size (open_behind h.change) (leaf_behind (row_kind options h.cells)) cs c.after
+            ])
         go [] = tt
         go (c ∷ cs) = further (open_behind h.change) (leaf_behind (row_kind options h.cells)) cs c.after
 
 -- Their events.
 
-pub ending-no_content : (wants : Content → Bool) (name : Name) (row : Row) → is_content name ≡ false → NoContent wants (ending_events name row)
+pub ending-no_content : (wants : Content → Bool) (name : Name) (row : Row) → is_content name ≡ false →
+    NoContent wants (ending_events name row)
 ending-no_content wants name row h = go row.after
   where
     go : (after : Option Point) → NoContent wants (elim after [ None ↦ [] | Some q ↦ pair name row.end q ])
@@ -73,17 +96,23 @@ ending-no_content wants name row h = go row.after
 -- what stands in front of a line
 pub front-no_content : (wants : Content → Bool) (es : List Event) → AreFront es → NoContent wants es
 front-no_content wants [] h = tt
-front-no_content wants (e ∷ es) h = (no_link-unwanted wants e h.0.1, front-content e.name h.0.0, front-no_content wants es h.1)
+front-no_content wants (e ∷ es) h =
+    (no_link-unwanted wants e h.0.1, front-content e.name h.0.0, front-no_content wants es h.1)
 
-pub has_front-no_content : (wants : Content → Bool) (bytes : List ℕ) (row : Row) → HasFront bytes row → NoContent wants row.front
-has_front-no_content wants bytes row h = front-no_content wants row.front (fronts-are bytes row.change.opens h.0 row.first row.front h.1)
+pub has_front-no_content : (wants : Content → Bool) (bytes : List ℕ) (row : Row) → HasFront bytes row →
+    NoContent wants row.front
+has_front-no_content wants bytes row h =
+    front-no_content wants row.front (fronts-are bytes row.change.opens h.0 row.first row.front h.1)
 
 pub ends-no_content : (wants : Content → Bool) (cs : List Container) (p : Point) → NoContent wants (ends_of cs p)
 ends-no_content wants cs p = front-no_content wants (ends_of cs p) (ends-are cs p)
 
 -- and behind it
-pub tail-no_content : (wants : Content → Bool) (name : Name) (row : Row) → is_content name ≡ false → NoContent wants (tail_events name row)
-tail-no_content wants name row h = no_content-append wants (ends_of row.leaves row.end) (ending_events name row) (ends-no_content wants row.leaves row.end) (ending-no_content wants name row h)
+pub tail-no_content : (wants : Content → Bool) (name : Name) (row : Row) → is_content name ≡ false →
+    NoContent wants (tail_events name row)
+tail-no_content wants name row h =
+    no_content-append wants (ends_of row.leaves row.end) (ending_events name row)
+    (ends-no_content wants row.leaves row.end) (ending-no_content wants name row h)
 
 -- the name of an ending is not that of content
 pub ending-other : (kind : RowKind) → is_content (ending_of kind) ≡ false
@@ -92,7 +121,8 @@ ending-other (LeafRow l) = refl
 ending-other TextRow = refl
 
 -- what a line adds that is not text
-pub events-no_content : (wants : Content → Bool) (row : Row) (kind : RowKind) → row.kind ≡ kind → kind ≢ TextRow → NoContent wants row.front → NoContent wants row.inside → NoContent wants (row_events row)
+pub events-no_content : (wants : Content → Bool) (row : Row) (kind : RowKind) → row.kind ≡ kind → kind ≢ TextRow →
+    NoContent wants row.front → NoContent wants row.inside → NoContent wants (row_events row)
 events-no_content wants row kind e other front h =
     subst (λ (k : RowKind). NoContent wants (row_events_by k row)) (sym e)
     (no_content-append wants (row.front ++ leaf_events kind row) (tail_events (ending_of kind) row)
@@ -106,22 +136,30 @@ events-no_content wants row kind e other front h =
 
 -- Joining.
 
-joined-one : (e : Event) (es : List Event) → (is_exit e.kind && is_content e.name) ≡ false → joined (e ∷ es) ≡ e ∷ joined es
+joined-one : (e : Event) (es : List Event) → (is_exit e.kind && is_content e.name) ≡ false →
+    joined (e ∷ es) ≡ e ∷ joined es
 joined-one e [] h = refl
 joined-one e (f ∷ []) h = refl
-joined-one e (f ∷ g ∷ es) h = ap (λ (x : Bool). cond (x && goes_on (f ∷ g ∷ es)) (record e { point = g.point } ∷ joined es) (e ∷ joined (f ∷ g ∷ es))) h
+joined-one e (f ∷ g ∷ es) h =
+    ap
+    (λ (x : Bool).
+    cond (x && goes_on (f ∷ g ∷ es)) (record e { point = g.point } ∷ joined es) (e ∷ joined (f ∷ g ∷ es))) h
 
 -- what is not content stays as it is
 pub joined-passes : (xs ys : List Event) → NoContent nothing xs → joined (xs ++ ys) ≡ xs ++ joined ys
 joined-passes [] ys h = refl
-joined-passes (e ∷ xs) ys h = joined-one e (xs ++ ys) (and_right (is_exit e.kind) (is_content e.name) h.1) ∙ ap (λ (l : List Event). e ∷ l) (joined-passes xs ys h.2)
+joined-passes (e ∷ xs) ys h =
+    joined-one e (xs ++ ys) (and_right (is_exit e.kind) (is_content e.name) h.1)
+    ∙ ap (λ (l : List Event). e ∷ l) (joined-passes xs ys h.2)
 
 -- and no line of content goes on over it
-behind-passes : (xs ys : List Event) → NoContent nothing xs → content_behind ys ≡ false → content_behind (xs ++ ys) ≡ false
+behind-passes : (xs ys : List Event) → NoContent nothing xs → content_behind ys ≡ false →
+    content_behind (xs ++ ys) ≡ false
 behind-passes [] ys h k = k
 behind-passes (e ∷ xs) ys h k = go (is_prefix e.name) (behind-passes xs ys h.2 k)
   where
-    go : (x : Bool) → content_behind (xs ++ ys) ≡ false → cond x (content_behind (xs ++ ys)) (is_enter e.kind && is_content e.name) ≡ false
+    go : (x : Bool) → content_behind (xs ++ ys) ≡ false →
+        cond x (content_behind (xs ++ ys)) (is_enter e.kind && is_content e.name) ≡ false
     go true k = k
     go false k = and_right (is_enter e.kind) (is_content e.name) h.1
 
@@ -131,7 +169,8 @@ EachEnds [] = Unit {0}
 EachEnds (row ∷ []) = Unit {0}
 EachEnds (row ∷ below ∷ rows) = (q : Point) × (after : row.after ≡ Some q) × EachEnds (below ∷ rows)
 
-pub ending-is : (name : Name) (row : Row) (q : Point) → row.after ≡ Some q → ending_events name row ≡ pair name row.end q
+pub ending-is : (name : Name) (row : Row) (q : Point) → row.after ≡ Some q →
+    ending_events name row ≡ pair name row.end q
 ending-is name row q after = ap (λ (x : Option Point). elim x [ None ↦ [] | Some q ↦ pair name row.end q ]) after
 
 -- behind a line stands the end of its ending
@@ -152,42 +191,60 @@ text_events row = enter_link n.Content row.first content_link ∷ exit n.Content
 
 -- a line of content that goes on takes its ending
 text-goes_on : (first end q : Point) (es : List Event) → content_behind es ≡ true →
-    joined (enter_link n.Content first content_link ∷ exit n.Content end ∷ pair n.LineEnding end q ++ es) ≡ enter_link n.Content first content_link ∷ exit n.Content q ∷ joined es
+    joined (enter_link n.Content first content_link ∷ exit n.Content end ∷ pair n.LineEnding end q ++ es) ≡
+    enter_link n.Content first content_link ∷ exit n.Content q ∷ joined es
 text-goes_on first end q es h =
-    ap (λ (x : Bool). enter_link n.Content first content_link ∷ cond x (exit n.Content q ∷ joined es) (exit n.Content end ∷ joined (pair n.LineEnding end q ++ es))) h
+    ap
+    (λ (x : Bool).
+    enter_link n.Content first content_link
+    ∷ cond x (exit n.Content q ∷ joined es) (exit n.Content end ∷ joined (pair n.LineEnding end q ++ es))) h
 
 -- an event that is not joined with what follows
 joined-keeps : (e : Event) (es : List Event) → goes_on es ≡ false → joined (e ∷ es) ≡ e ∷ joined es
 joined-keeps e [] h = refl
 joined-keeps e (f ∷ []) h = refl
-joined-keeps e (f ∷ g ∷ es) h = ap (λ (x : Bool). cond x (record e { point = g.point } ∷ joined es) (e ∷ joined (f ∷ g ∷ es))) (and_right (is_exit e.kind && is_content e.name) (goes_on (f ∷ g ∷ es)) h)
+joined-keeps e (f ∷ g ∷ es) h =
+    ap (λ (x : Bool). cond x (record e { point = g.point } ∷ joined es) (e ∷ joined (f ∷ g ∷ es)))
+    (and_right (is_exit e.kind && is_content e.name) (goes_on (f ∷ g ∷ es)) h)
 
 -- nothing goes on over what is no line ending
 no_ending-stops : (e : Event) (es : List Event) → is_line_ending e.name ≡ false → goes_on (e ∷ es) ≡ false
 no_ending-stops e [] h = refl
 no_ending-stops e (f ∷ es) h = ap (λ (x : Bool). x && content_behind es) h
 
-ends-stop : (c : Container) (cs : List Container) (p : Point) (es : List Event) → goes_on (ends_of (c ∷ cs) p ++ es) ≡ false
-ends-stop c cs p es = ends-first (λ (l : List Event). goes_on l ≡ false) c cs p es (λ d fs. no_ending-stops (exit (container_name d) p) fs (container-facts d).no_ending)
+ends-stop : (c : Container) (cs : List Container) (p : Point) (es : List Event) →
+    goes_on (ends_of (c ∷ cs) p ++ es) ≡ false
+ends-stop c cs p es =
+    ends-first (λ (l : List Event). goes_on l ≡ false) c cs p es
+    (λ d fs. no_ending-stops (exit (container_name d) p) fs (container-facts d).no_ending)
 
 -- a line of text that does not go on
-text-ends : (row : Row) (es : List Event) → goes_on (tail_events n.LineEnding row ++ es) ≡ false → joined ((text_events row ++ tail_events n.LineEnding row) ++ es) ≡ (text_events row ++ tail_events n.LineEnding row) ++ joined es
+text-ends : (row : Row) (es : List Event) → goes_on (tail_events n.LineEnding row ++ es) ≡ false →
+    joined ((text_events row ++ tail_events n.LineEnding row) ++ es) ≡
+    (text_events row ++ tail_events n.LineEnding row) ++ joined es
 text-ends row es h =
     let tail = tail_events n.LineEnding row in
     joined-one (enter_link n.Content row.first content_link) (exit n.Content row.end ∷ tail ++ es) refl
-    ∙ ap (λ (l : List Event). enter_link n.Content row.first content_link ∷ l) (joined-keeps (exit n.Content row.end) (tail ++ es) h ∙ ap (λ (l : List Event). exit n.Content row.end ∷ l) (joined-passes tail es (tail-no_content nothing n.LineEnding row refl)))
+    ∙ ap (λ (l : List Event). enter_link n.Content row.first content_link ∷ l)
+    (joined-keeps (exit n.Content row.end) (tail ++ es) h
+    ∙ ap (λ (l : List Event). exit n.Content row.end ∷ l)
+    (joined-passes tail es (tail-no_content nothing n.LineEnding row refl)))
 
 -- where a container ends behind a line, or no line of content follows, it does not go on
-tail-stops : (row : Row) (es : List Event) (q : Point) → row.after ≡ Some q → (is_none row.leaves && content_behind es) ≡ false → goes_on (tail_events n.LineEnding row ++ es) ≡ false
+tail-stops : (row : Row) (es : List Event) (q : Point) → row.after ≡ Some q →
+    (is_none row.leaves && content_behind es) ≡ false → goes_on (tail_events n.LineEnding row ++ es) ≡ false
 tail-stops row es q after h =
-    ap (λ (l : List Event). goes_on ((ends_of row.leaves row.end ++ l) ++ es)) (ending-is n.LineEnding row q after) ∙ go row.leaves h
+    ap (λ (l : List Event). goes_on ((ends_of row.leaves row.end ++ l) ++ es)) (ending-is n.LineEnding row q after)
+    ∙ go row.leaves h
   where
     ending : List Event
     ending = pair n.LineEnding row.end q
 
-    go : (leaves : List Container) → (is_none leaves && content_behind es) ≡ false → goes_on ((ends_of leaves row.end ++ ending) ++ es) ≡ false
+    go : (leaves : List Container) → (is_none leaves && content_behind es) ≡ false →
+        goes_on ((ends_of leaves row.end ++ ending) ++ es) ≡ false
     go [] h = h
-    go (c ∷ leaves) h = ap goes_on (append_assoc (ends_of (c ∷ leaves) row.end) ending es) ∙ ends-stop c leaves row.end (ending ++ es)
+    go (c ∷ leaves) h =
+        ap goes_on (append_assoc (ends_of (c ∷ leaves) row.end) ending es) ∙ ends-stop c leaves row.end (ending ++ es)
 
 -- what stands behind the front of a line
 abbrev behind_front : Row → List Event → List Event
@@ -195,59 +252,81 @@ behind_front row es = (leaf_events row.kind row ++ tail_events (ending_of row.ki
 
 events-front : (row : Row) (es : List Event) → row_events row ++ es ≡ row.front ++ behind_front row es
 events-front row es =
-    ap (λ (l : List Event). l ++ es) (append_assoc row.front (leaf_events row.kind row) (tail_events (ending_of row.kind) row))
+    ap (λ (l : List Event). l ++ es)
+    (append_assoc row.front (leaf_events row.kind row) (tail_events (ending_of row.kind) row))
     ∙ append_assoc row.front (leaf_events row.kind row ++ tail_events (ending_of row.kind) row) es
 
 -- and what stands in front of it
-text-apart : (bytes : List ℕ) (row : Row) (es : List Event) → HasFront bytes row → goes_on (tail_events n.LineEnding row ++ es) ≡ false → joined (row_events_by TextRow row ++ es) ≡ row_events_by TextRow row ++ joined es
+text-apart : (bytes : List ℕ) (row : Row) (es : List Event) → HasFront bytes row →
+    goes_on (tail_events n.LineEnding row ++ es) ≡ false →
+    joined (row_events_by TextRow row ++ es) ≡ row_events_by TextRow row ++ joined es
 text-apart bytes row es front h =
     let tail = tail_events n.LineEnding row in
     let text = text_events row in
-    ap joined (ap (λ (l : List Event). l ++ es) (append_assoc row.front text tail) ∙ append_assoc row.front (text ++ tail) es)
+    ap joined
+    (ap (λ (l : List Event). l ++ es) (append_assoc row.front text tail) ∙ append_assoc row.front (text ++ tail) es)
     ∙ joined-passes row.front ((text ++ tail) ++ es) (has_front-no_content nothing bytes row front)
     ∙ ap (λ (l : List Event). row.front ++ l) (text-ends row es h)
-    ∙ sym (ap (λ (l : List Event). l ++ joined es) (append_assoc row.front text tail) ∙ append_assoc row.front (text ++ tail) (joined es))
+    ∙ sym
+    (ap (λ (l : List Event). l ++ joined es) (append_assoc row.front text tail)
+    ∙ append_assoc row.front (text ++ tail) (joined es))
 
 -- no line of content goes on behind the ending of a line that is no text
-ending-stops : (kind : RowKind) (p q : Point) (es : List Event) → content_behind (pair (ending_of kind) p q ++ es) ≡ false
+ending-stops : (kind : RowKind) (p q : Point) (es : List Event) →
+    content_behind (pair (ending_of kind) p q ++ es) ≡ false
 ending-stops BlankRow p q es = refl
 ending-stops (LeafRow l) p q es = refl
 ending-stops TextRow p q es = refl
 
 -- behind a line that is no text the one before does not go on
-other-behind : (bytes : List ℕ) (row : Row) (rows : List Row) → EachEnds (row ∷ rows) → HasFront bytes row → NoContent nothing row.inside → (kind : RowKind) → row.kind ≡ kind → kind ≢ TextRow → content_behind (rows_events (row ∷ rows)) ≡ false
+other-behind : (bytes : List ℕ) (row : Row) (rows : List Row) → EachEnds (row ∷ rows) → HasFront bytes row →
+    NoContent nothing row.inside → (kind : RowKind) → row.kind ≡ kind → kind ≢ TextRow →
+    content_behind (rows_events (row ∷ rows)) ≡ false
 other-behind bytes row rows ends front h kind e other =
     ap content_behind (events-front row (rows_events rows))
-    ∙ ap (λ (k : RowKind). content_behind (row.front ++ ((leaf_events k row ++ tail_events (ending_of k) row) ++ rows_events rows))) e
-    ∙ behind-passes row.front ((leaf_events kind row ++ tail_events (ending_of kind) row) ++ rows_events rows) (has_front-no_content nothing bytes row front) (go kind other)
+    ∙ ap
+    (λ (k : RowKind).
+    content_behind (row.front ++ ((leaf_events k row ++ tail_events (ending_of k) row) ++ rows_events rows))) e
+    ∙ behind-passes row.front ((leaf_events kind row ++ tail_events (ending_of kind) row) ++ rows_events rows)
+    (has_front-no_content nothing bytes row front) (go kind other)
   where
-    ending : (kind : RowKind) (rows : List Row) → EachEnds (row ∷ rows) → content_behind (ending_events (ending_of kind) row ++ rows_events rows) ≡ false
+    ending : (kind : RowKind) (rows : List Row) → EachEnds (row ∷ rows) →
+        content_behind (ending_events (ending_of kind) row ++ rows_events rows) ≡ false
     ending kind [] ends = last row.after
       where
-        last : (after : Option Point) → content_behind (elim after [ None ↦ [] | Some q ↦ pair (ending_of kind) row.end q ] ++ []) ≡ false
+        last : (after : Option Point) →
+            content_behind (elim after [ None ↦ [] | Some q ↦ pair (ending_of kind) row.end q ] ++ []) ≡ false
         last None = refl
         last (Some q) = ending-stops kind row.end q []
     ending kind (below ∷ rows) ends =
-        ap (λ (l : List Event). content_behind (l ++ rows_events (below ∷ rows))) (ending-is (ending_of kind) row ends.0 ends.1) ∙ ending-stops kind row.end ends.0 (rows_events (below ∷ rows))
+        ap (λ (l : List Event). content_behind (l ++ rows_events (below ∷ rows)))
+        (ending-is (ending_of kind) row ends.0 ends.1)
+        ∙ ending-stops kind row.end ends.0 (rows_events (below ∷ rows))
 
-    tail : (kind : RowKind) (leaves : List Container) → content_behind ((ends_of leaves row.end ++ ending_events (ending_of kind) row) ++ rows_events rows) ≡ false
+    tail : (kind : RowKind) (leaves : List Container) →
+        content_behind ((ends_of leaves row.end ++ ending_events (ending_of kind) row) ++ rows_events rows) ≡ false
     tail kind [] = ending kind rows ends
     tail kind (c ∷ leaves) =
-        ap content_behind (append_assoc (ends_of (c ∷ leaves) row.end) (ending_events (ending_of kind) row) (rows_events rows))
-        ∙ ends-first (λ (l : List Event). content_behind l ≡ false) c leaves row.end (ending_events (ending_of kind) row ++ rows_events rows) (λ d fs. end-stops d row.end fs)
+        ap content_behind
+        (append_assoc (ends_of (c ∷ leaves) row.end) (ending_events (ending_of kind) row) (rows_events rows))
+        ∙ ends-first (λ (l : List Event). content_behind l ≡ false) c leaves row.end
+        (ending_events (ending_of kind) row ++ rows_events rows) (λ d fs. end-stops d row.end fs)
 
-    inside : (kind : RowKind) → content_behind ((row.inside ++ tail_events (ending_of kind) row) ++ rows_events rows) ≡ false
+    inside : (kind : RowKind) →
+        content_behind ((row.inside ++ tail_events (ending_of kind) row) ++ rows_events rows) ≡ false
     inside kind =
         ap content_behind (append_assoc row.inside (tail_events (ending_of kind) row) (rows_events rows))
         ∙ behind-passes row.inside (tail_events (ending_of kind) row ++ rows_events rows) h (tail kind row.leaves)
 
-    go : (kind : RowKind) → kind ≢ TextRow → content_behind ((leaf_events kind row ++ tail_events (ending_of kind) row) ++ rows_events rows) ≡ false
+    go : (kind : RowKind) → kind ≢ TextRow →
+        content_behind ((leaf_events kind row ++ tail_events (ending_of kind) row) ++ rows_events rows) ≡ false
     go BlankRow other = inside BlankRow
     go (LeafRow l) other = inside (LeafRow l)
     go TextRow other = absurd (other refl)
 
 -- a line of text begins a paragraph with those behind it
-lines-first : (Q : List Group → Type 0) (row : Row) (gs : List Group) → ((more : List Row) (rest : List Group) → Q (Lines row more ∷ rest)) → Q (onto_groups row TextRow gs)
+lines-first : (Q : List Group → Type 0) (row : Row) (gs : List Group) →
+    ((more : List Row) (rest : List Group) → Q (Lines row more ∷ rest)) → Q (onto_groups row TextRow gs)
 lines-first Q row [] h = h [] []
 lines-first Q row (Single first ∷ gs) h = h [] (Single first ∷ gs)
 lines-first Q row (Lines first rows ∷ gs) h = go (lines.goes_on row first)
@@ -257,12 +336,17 @@ lines-first Q row (Lines first rows ∷ gs) h = go (lines.goes_on row first)
     go false = h [] (Lines first rows ∷ gs)
 
 -- a line that goes on
-line-joins : (front below parts tail rest : List Event) (e f : Event) → front ++ (e ∷ f ∷ ((below ++ parts) ++ tail) ++ rest) ≡ ((front ++ (e ∷ f ∷ below ++ parts)) ++ tail) ++ rest
+line-joins : (front below parts tail rest : List Event) (e f : Event) →
+    front ++ (e ∷ f ∷ ((below ++ parts) ++ tail) ++ rest) ≡ ((front ++ (e ∷ f ∷ below ++ parts)) ++ tail) ++ rest
 line-joins front below parts tail rest e f =
-    sym (append_assoc (front ++ (e ∷ f ∷ below ++ parts)) tail rest ∙ append_assoc front (e ∷ f ∷ below ++ parts) (tail ++ rest) ∙ ap (λ (l : List Event). front ++ (e ∷ f ∷ l)) (sym (append_assoc (below ++ parts) tail rest)))
+    sym
+    (append_assoc (front ++ (e ∷ f ∷ below ++ parts)) tail rest
+    ∙ append_assoc front (e ∷ f ∷ below ++ parts) (tail ++ rest)
+    ∙ ap (λ (l : List Event). front ++ (e ∷ f ∷ l)) (sym (append_assoc (below ++ parts) tail rest)))
 
 -- a line of text in front of a paragraph
-text-lines : (bytes : List ℕ) (row below : Row) (more rows : List Row) (gs : List Group) (q : Point) → row.after ≡ Some q → HasFront bytes row → HasFront bytes below → below.kind ≡ TextRow →
+text-lines : (bytes : List ℕ) (row below : Row) (more rows : List Row) (gs : List Group) (q : Point) →
+    row.after ≡ Some q → HasFront bytes row → HasFront bytes below → below.kind ≡ TextRow →
     joined (rows_events (below ∷ rows)) ≡ joined_groups (Lines below more ∷ gs) →
     joined (row_events_by TextRow row ++ rows_events (below ∷ rows)) ≡ joined_groups (onto_lines row below more gs)
 text-lines bytes row below more rows gs q after front under text same = go row.leaves refl below.change.opens refl
@@ -273,91 +357,148 @@ text-lines bytes row below more rows gs q after front under text same = go row.l
     goes : Bool → List Group
     goes x = cond x (Lines row (below ∷ more) ∷ gs) (Lines row [] ∷ Lines below more ∷ gs)
 
-    apart : (is_none row.leaves && content_behind es) ≡ false → joined (row_events_by TextRow row ++ es) ≡ joined_groups (Lines row [] ∷ Lines below more ∷ gs)
-    apart h = text-apart bytes row es front (tail-stops row es q after h) ∙ ap (λ (l : List Event). row_events_by TextRow row ++ l) same
+    apart : (is_none row.leaves && content_behind es) ≡ false →
+        joined (row_events_by TextRow row ++ es) ≡ joined_groups (Lines row [] ∷ Lines below more ∷ gs)
+    apart h =
+        text-apart bytes row es front (tail-stops row es q after h)
+        ∙ ap (λ (l : List Event). row_events_by TextRow row ++ l) same
 
     behind : is_none below.change.opens ≡ false → content_behind es ≡ false
-    behind k = ap content_behind (events-front below (rows_events rows)) ∙ fronts-stop bytes below.change.opens under.0 below.first below.front (behind_front below (rows_events rows)) k under.1
+    behind k =
+        ap content_behind (events-front below (rows_events rows))
+        ∙ fronts-stop bytes below.change.opens under.0 below.first below.front
+        (behind_front below (rows_events rows)) k under.1
 
-    joins : row.leaves ≡ [] → below.change.opens ≡ [] → joined (row_events_by TextRow row ++ es) ≡ joined_groups (Lines row (below ∷ more) ∷ gs)
+    joins : row.leaves ≡ [] → below.change.opens ≡ [] →
+        joined (row_events_by TextRow row ++ es) ≡ joined_groups (Lines row (below ∷ more) ∷ gs)
     joins none opens_none =
         let begin = enter_link n.Content row.first content_link in
         let tail = tail_events n.LineEnding row in
         let goes_behind : content_behind es ≡ true =
         ap content_behind (events-front below (rows_events rows))
-        ∙ prefixes-content below.front (behind_front below (rows_events rows)) (fronts-prefixes bytes below.change.opens under.0 below.first below.front opens_none under.1)
-        ∙ ap (λ (kind : RowKind). content_behind ((leaf_events kind below ++ tail_events (ending_of kind) below) ++ rows_events rows)) text in
-        ap joined (ap (λ (l : List Event). l ++ es) (append_assoc row.front (text_events row) tail) ∙ append_assoc row.front (text_events row ++ tail) es)
+        ∙ prefixes-content below.front (behind_front below (rows_events rows))
+        (fronts-prefixes bytes below.change.opens under.0 below.first below.front opens_none under.1)
+        ∙ ap
+        (λ (kind : RowKind).
+        content_behind ((leaf_events kind below ++ tail_events (ending_of kind) below) ++ rows_events rows)) text in
+        ap joined
+        (ap (λ (l : List Event). l ++ es) (append_assoc row.front (text_events row) tail)
+        ∙ append_assoc row.front (text_events row ++ tail) es)
         ∙ joined-passes row.front ((text_events row ++ tail) ++ es) (has_front-no_content nothing bytes row front)
-        ∙ ap (λ (l : List Event). row.front ++ joined ((text_events row ++ l) ++ es)) (ap (λ (leaves : List Container). ends_of leaves row.end ++ ending_events n.LineEnding row) none ∙ ending-is n.LineEnding row q after)
+        ∙ ap (λ (l : List Event). row.front ++ joined ((text_events row ++ l) ++ es))
+        (ap (λ (leaves : List Container). ends_of leaves row.end ++ ending_events n.LineEnding row) none
+        ∙ ending-is n.LineEnding row q after)
         ∙ ap (λ (l : List Event). row.front ++ l) (text-goes_on row.first row.end q es goes_behind)
         ∙ ap (λ (l : List Event). row.front ++ (begin ∷ exit n.Content q ∷ l)) same
-        ∙ ap (λ (p : Point). row.front ++ (begin ∷ exit n.Content p ∷ joined_groups (Lines below more ∷ gs))) (sym (behind-is row q after))
-        ∙ line-joins row.front below.front (linked_lines n.Content content_link below more) (tail_events n.LineEnding (last_row below more)) (joined_groups gs) begin (exit n.Content (behind_row row))
+        ∙ ap (λ (p : Point). row.front ++ (begin ∷ exit n.Content p ∷ joined_groups (Lines below more ∷ gs)))
+        (sym (behind-is row q after))
+        ∙ line-joins row.front below.front (linked_lines n.Content content_link below more)
+        (tail_events n.LineEnding (last_row below more)) (joined_groups gs) begin (exit n.Content (behind_row row))
 
-    chosen : (leaves : List Container) → row.leaves ≡ leaves → (opens : List Container) → below.change.opens ≡ opens → joined_groups (onto_lines row below more gs) ≡ joined_groups (goes (is_none leaves && is_none opens))
+    chosen : (leaves : List Container) → row.leaves ≡ leaves → (opens : List Container) → below.change.opens ≡ opens →
+        joined_groups (onto_lines row below more gs) ≡ joined_groups (goes (is_none leaves && is_none opens))
     chosen leaves e opens k =
-        ap (λ (l : List Container). joined_groups (goes (is_none l && is_none below.change.opens))) e ∙ ap (λ (l : List Container). joined_groups (goes (is_none leaves && is_none l))) k
+        ap (λ (l : List Container). joined_groups (goes (is_none l && is_none below.change.opens))) e
+        ∙ ap (λ (l : List Container). joined_groups (goes (is_none leaves && is_none l))) k
 
-    go : (leaves : List Container) → row.leaves ≡ leaves → (opens : List Container) → below.change.opens ≡ opens → joined (row_events_by TextRow row ++ es) ≡ joined_groups (onto_lines row below more gs)
+    go : (leaves : List Container) → row.leaves ≡ leaves → (opens : List Container) → below.change.opens ≡ opens →
+        joined (row_events_by TextRow row ++ es) ≡ joined_groups (onto_lines row below more gs)
     go [] e [] k = joins e k ∙ sym (chosen [] e [] k)
-    go [] e (c ∷ opens) k = apart (ap (λ (l : List Container). is_none l && content_behind es) e ∙ behind (ap is_none k)) ∙ sym (chosen [] e (c ∷ opens) k)
-    go (c ∷ leaves) e opens k = apart (ap (λ (l : List Container). is_none l && content_behind es) e) ∙ sym (chosen (c ∷ leaves) e opens k)
+    go [] e (c ∷ opens) k =
+        apart (ap (λ (l : List Container). is_none l && content_behind es) e ∙ behind (ap is_none k))
+        ∙ sym (chosen [] e (c ∷ opens) k)
+    go (c ∷ leaves) e opens k =
+        apart (ap (λ (l : List Container). is_none l && content_behind es) e) ∙ sym (chosen (c ∷ leaves) e opens k)
 
 -- a line of text in front of others
-text-rows : (bytes : List ℕ) (row below : Row) (rows : List Row) (q : Point) → row.after ≡ Some q → EachFront bytes (row ∷ below ∷ rows) → EachEnds (below ∷ rows) → NoContent nothing below.inside → (kind : RowKind) → below.kind ≡ kind →
+text-rows : (bytes : List ℕ) (row below : Row) (rows : List Row) (q : Point) → row.after ≡ Some q →
+    EachFront bytes (row ∷ below ∷ rows) → EachEnds (below ∷ rows) → NoContent nothing below.inside → (kind : RowKind) →
+    below.kind ≡ kind →
     joined (rows_events (below ∷ rows)) ≡ joined_groups (onto_groups below kind (groups rows)) →
-    joined (row_events_by TextRow row ++ rows_events (below ∷ rows)) ≡ joined_groups (onto_groups row TextRow (onto_groups below kind (groups rows)))
+    joined (row_events_by TextRow row ++ rows_events (below ∷ rows)) ≡
+    joined_groups (onto_groups row TextRow (onto_groups below kind (groups rows)))
 text-rows bytes row below rows q after fronts ends h kind e same = go kind e same
   where
     es : List Event
     es = rows_events (below ∷ rows)
 
-    other : (kind : RowKind) → below.kind ≡ kind → kind ≢ TextRow → joined es ≡ joined_groups (Single below ∷ groups rows) → joined (row_events_by TextRow row ++ es) ≡ joined_groups (Lines row [] ∷ Single below ∷ groups rows)
+    other : (kind : RowKind) → below.kind ≡ kind → kind ≢ TextRow →
+        joined es ≡ joined_groups (Single below ∷ groups rows) →
+        joined (row_events_by TextRow row ++ es) ≡ joined_groups (Lines row [] ∷ Single below ∷ groups rows)
     other kind e apart same =
-        text-apart bytes row es fronts.0 (tail-stops row es q after (and_right (is_none row.leaves) (content_behind es) (other-behind bytes below rows ends fronts.1.0 h kind e apart)))
+        text-apart bytes row es fronts.0
+        (tail-stops row es q after
+        (and_right (is_none row.leaves) (content_behind es)
+        (other-behind bytes below rows ends fronts.1.0 h kind e apart)))
         ∙ ap (λ (l : List Event). row_events_by TextRow row ++ l) same
 
-    go : (kind : RowKind) → below.kind ≡ kind → joined es ≡ joined_groups (onto_groups below kind (groups rows)) → joined (row_events_by TextRow row ++ es) ≡ joined_groups (onto_groups row TextRow (onto_groups below kind (groups rows)))
+    go : (kind : RowKind) → below.kind ≡ kind → joined es ≡ joined_groups (onto_groups below kind (groups rows)) →
+        joined (row_events_by TextRow row ++ es) ≡
+        joined_groups (onto_groups row TextRow (onto_groups below kind (groups rows)))
     go BlankRow e same = other BlankRow e (λ k. cc) same
     go (LeafRow l) e same = other (LeafRow l) e (λ k. cc) same
     go TextRow e same =
-        lines-first (λ (gs : List Group). joined es ≡ joined_groups gs → joined (row_events_by TextRow row ++ es) ≡ joined_groups (onto_groups row TextRow gs)) below (groups rows)
+        lines-first
+        (λ (gs : List Group).
+        joined es ≡ joined_groups gs →
+        joined (row_events_by TextRow row ++ es) ≡ joined_groups (onto_groups row TextRow gs)) below
+        (groups rows)
         (λ more rest same. text-lines bytes row below more rows rest q after fronts.0 fronts.1.0 e same) same
 
 -- a line that is not text, and what follows it
-single-rows : (row : Row) (rows : List Row) → NoContent nothing (row_events row) → joined (rows_events rows) ≡ joined_groups (groups rows) → joined (row_events row ++ rows_events rows) ≡ joined_groups (Single row ∷ groups rows)
-single-rows row rows h same = joined-passes (row_events row) (rows_events rows) h ∙ ap (λ (l : List Event). row_events row ++ l) same
+single-rows : (row : Row) (rows : List Row) → NoContent nothing (row_events row) →
+    joined (rows_events rows) ≡ joined_groups (groups rows) →
+    joined (row_events row ++ rows_events rows) ≡ joined_groups (Single row ∷ groups rows)
+single-rows row rows h same =
+    joined-passes (row_events row) (rows_events rows) h ∙ ap (λ (l : List Event). row_events row ++ l) same
 
 -- the last line is text
-text-last : (bytes : List ℕ) (row : Row) → HasFront bytes row → joined (row_events_by TextRow row ++ []) ≡ joined_groups (Lines row [] ∷ [])
+text-last : (bytes : List ℕ) (row : Row) → HasFront bytes row →
+    joined (row_events_by TextRow row ++ []) ≡ joined_groups (Lines row [] ∷ [])
 text-last bytes row front = text-apart bytes row [] front (go row.leaves row.after)
   where
-    go : (leaves : List Container) (after : Option Point) → goes_on ((ends_of leaves row.end ++ elim after [ None ↦ [] | Some q ↦ pair n.LineEnding row.end q ]) ++ []) ≡ false
+    go : (leaves : List Container) (after : Option Point) →
+        goes_on ((ends_of leaves row.end ++ elim after [ None ↦ [] | Some q ↦ pair n.LineEnding row.end q ]) ++ []) ≡
+        false
     go [] None = refl
     go [] (Some q) = refl
     go (c ∷ leaves) after =
         let ending : List Event = elim after [ None ↦ [] | Some q ↦ pair n.LineEnding row.end q ] in
         ap goes_on (append_assoc (ends_of (c ∷ leaves) row.end) ending []) ∙ ends-stop c leaves row.end (ending ++ [])
 
--- Joined, the events of lines are those of their groups: lines of text that follow one another in the same containers are joined.
-pub joined-rows : (bytes : List ℕ) (rows : List Row) → EachFront bytes rows → EachEnds rows → EachNoContent rows → joined (rows_events rows) ≡ joined_groups (groups rows)
+-- Joined, the events of lines are those of their groups: lines of text that follow one another in the same containers
+-- are joined.
+pub joined-rows : (bytes : List ℕ) (rows : List Row) → EachFront bytes rows → EachEnds rows → EachNoContent rows →
+    joined (rows_events rows) ≡ joined_groups (groups rows)
 joined-rows bytes [] fronts ends h = refl
 joined-rows bytes (row ∷ []) fronts ends h = go row.kind refl
   where
-    other : (kind : RowKind) → row.kind ≡ kind → kind ≢ TextRow → joined (row_events row ++ []) ≡ joined_groups (Single row ∷ [])
-    other kind e apart = single-rows row [] (events-no_content nothing row kind e apart (has_front-no_content nothing bytes row fronts.0) (h.0 nothing refl)) refl
+    other : (kind : RowKind) → row.kind ≡ kind → kind ≢ TextRow →
+        joined (row_events row ++ []) ≡ joined_groups (Single row ∷ [])
+    other kind e apart =
+        single-rows row []
+        (events-no_content nothing row kind e apart (has_front-no_content nothing bytes row fronts.0) (h.0 nothing refl)) refl
 
     go : (kind : RowKind) → row.kind ≡ kind → joined (row_events row ++ []) ≡ joined_groups (onto_groups row kind [])
     go BlankRow e = other BlankRow e (λ k. cc)
     go (LeafRow l) e = other (LeafRow l) e (λ k. cc)
     go TextRow e = ap (λ (kind : RowKind). joined (row_events_by kind row ++ [])) e ∙ text-last bytes row fronts.0
-joined-rows bytes (row ∷ below ∷ rows) fronts ends h = go (joined-rows bytes (below ∷ rows) fronts.1 ends.2 h.1) row.kind refl
+joined-rows bytes (row ∷ below ∷ rows) fronts ends h =
+    go (joined-rows bytes (below ∷ rows) fronts.1 ends.2 h.1) row.kind refl
   where
-    other : joined (rows_events (below ∷ rows)) ≡ joined_groups (groups (below ∷ rows)) → (kind : RowKind) → row.kind ≡ kind → kind ≢ TextRow → joined (row_events row ++ rows_events (below ∷ rows)) ≡ joined_groups (Single row ∷ groups (below ∷ rows))
-    other same kind e apart = single-rows row (below ∷ rows) (events-no_content nothing row kind e apart (has_front-no_content nothing bytes row fronts.0) (h.0 nothing refl)) same
+    other : joined (rows_events (below ∷ rows)) ≡ joined_groups (groups (below ∷ rows)) → (kind : RowKind) →
+        row.kind ≡ kind → kind ≢ TextRow →
+        joined (row_events row ++ rows_events (below ∷ rows)) ≡ joined_groups (Single row ∷ groups (below ∷ rows))
+    other same kind e apart =
+        single-rows row (below ∷ rows)
+        (events-no_content nothing row kind e apart (has_front-no_content nothing bytes row fronts.0) (h.0 nothing refl)) same
 
-    go : joined (rows_events (below ∷ rows)) ≡ joined_groups (groups (below ∷ rows)) → (kind : RowKind) → row.kind ≡ kind → joined (row_events row ++ rows_events (below ∷ rows)) ≡ joined_groups (onto_groups row kind (groups (below ∷ rows)))
+    go : joined (rows_events (below ∷ rows)) ≡ joined_groups (groups (below ∷ rows)) → (kind : RowKind) →
+        row.kind ≡ kind →
+        joined (row_events row ++ rows_events (below ∷ rows)) ≡
+        joined_groups (onto_groups row kind (groups (below ∷ rows)))
     go same BlankRow e = other same BlankRow e (λ k. cc)
     go same (LeafRow l) e = other same (LeafRow l) e (λ k. cc)
-    go same TextRow e = ap (λ (kind : RowKind). joined (row_events_by kind row ++ rows_events (below ∷ rows))) e ∙ text-rows bytes row below rows ends.0 ends.1 fronts ends.2 (h.1.0 nothing refl) below.kind refl same
+    go same TextRow e =
+        ap (λ (kind : RowKind). joined (row_events_by kind row ++ rows_events (below ∷ rows))) e
+        ∙ text-rows bytes row below rows ends.0 ends.1 fronts ends.2 (h.1.0 nothing refl) below.kind refl same

@@ -11,7 +11,8 @@ use Rattle.markdown_blocks.specs.Rows.{BlankRow, LeafRow, kind_of, line_kind}
 pub first-agrees : (f g : LeafName → Bool) → ((l : LeafName) → f l ≡ g l) → (ls : List LeafName) →
     first_of f ls ≡ first_of g ls
 first-agrees f g same [] = refl
-first-agrees f g same (l ∷ ls) = ap₂ (λ (t : Bool) (found : Option LeafName). cond t (Some l) found) (same l) (first-agrees f g same ls)
+first-agrees f g same (l ∷ ls) =
+    ap₂ (λ (t : Bool) (found : Option LeafName). cond t (Some l) found) (same l) (first-agrees f g same ls)
 
 -- the leaf that a test finds passes it
 pub first-passes : (test : LeafName → Bool) (ls : List LeafName) (l : LeafName) → first_of test ls ≡ Some l →

@@ -1,7 +1,7 @@
 -- What is known of the events of a leaf, from the point where its line begins to the one where it ends.
 --
--- The frame joins what stands in front of a line, its leaf and what stands behind it, and needs no more of a leaf than stands here. A
--- blank line is such a leaf too, without a block.
+-- The frame joins what stands in front of a line, its leaf and what stands behind it, and needs no more of a leaf than
+-- stands here. A blank line is such a leaf too, without a block.
 use Rattle.std.proofs.Common.{◌≡◌, ℕ, true, List, [], ◌∷◌, ◌+◌, length, ◌≤◌}
 use Rattle.std.specs.Prelude.{◌==◌, IsTrue, Option, Some, None, slice_range}
 use Rattle.std.specs.List.{list_all}
@@ -38,10 +38,12 @@ use Rattle.markdown_blocks.proofs.SpanLemmas.{Nested_in}
 -- a reader of text gives for chunks that are lines, none of which ends within a tab, what the plain layer does
 abbrev pub ReadsText : List ℕ → Readings → Type 0
 ReadsText bytes reads =
-    (chunks : List Chunk) (answer : List Event) → reads content.Text chunks answer → (end : Point) → IsTrue (are_lines bytes end chunks) → IsTrue (list_all (λ (chunk : Chunk). chunk.after.vs == 0) chunks) →
+    (chunks : List Chunk) (answer : List Event) → reads content.Text chunks answer → (end : Point) →
+    IsTrue (are_lines bytes end chunks) → IsTrue (list_all (λ (chunk : Chunk). chunk.after.vs == 0) chunks) →
     answer ≡ plain_events bytes (record { kind = Text; chunks = chunks })
 
--- a rest of a line, as it stands in a text: its bytes, a tab that a prefix has cut among them, and where it begins and ends
+-- a rest of a line, as it stands in a text: its bytes, a tab that a prefix has cut among them, and where it begins and
+-- ends
 pub record LineAt (bytes : List ℕ) (r : Rest) (line : List ℕ) (p q : Point) : Type 0 where
   pub line_is : line ≡ rest_line r
   pub no_ending : NoEnding line
@@ -64,7 +66,8 @@ abbrev pub shown : Option Block → Reading → Reading
 shown None r = r
 shown (Some block) r = add_block block r
 
--- These events stand from a point to a point before text parts are read, and those once they are; they show this block, or none.
+-- These events stand from a point to a point before text parts are read, and those once they are; they show this block,
+-- or none.
 pub record LeafFacts (bytes : List ℕ) (block : Option Block) (p q : Point) (unread done : List Event) : Type 0 where
   -- they nest, and go forward
   pub unread_nested : Nested_in p q unread

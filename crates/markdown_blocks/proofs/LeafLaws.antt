@@ -27,9 +27,17 @@ use Rattle.markdown_blocks.proofs.ContentFacts.{NoContent}
 
 -- a line that ends with what was added, where no text is open
 abbrev pub shut_line : List Event → List Cell → Here → Outcome
-shut_line added cells h = Accepts (record h { events = h.events ++ added; point = line_end cells h.point; flags = record h.flags { leaf = held_leaf.None } }) (from_ending cells)
+shut_line added cells h =
+    Accepts
+    (record h {
+      events = h.events ++ added;
+      point = line_end cells h.point;
+      flags = record h.flags { leaf = held_leaf.None };
+    })
+    (from_ending cells)
 
--- a line is taken or refused; what is left of one that is taken is no longer than what there was, and begins with an ending
+-- a line is taken or refused; what is left of one that is taken is no longer than what there was, and begins with an
+-- ending
 abbrev pub Shrinks : ℕ → Outcome → Type 0
 Shrinks n (Accepts h rest) = (length rest ≤ n) × (from_ending rest ≡ rest)
 Shrinks n (Refuses s g) = Unit {0}
@@ -45,22 +53,34 @@ pub record LeafLaws (l : LineLeaf) : Type 1 where
   pub looked : (options : ParseOptions) (cells : List Cell) → l.may_begin (first_seen cells) ≡ false →
       l.takes options cells ≡ false
   -- Its trial takes a line to its end, or refuses it and leaves all as it was.
-  pub took : (options : ParseOptions) (cells : List Cell) (h : Here) → IsRest h.scratch → l.takes options cells ≡ true → l.trial options cells h ≡ shut_line (l.adds options cells h.point) cells h
-  pub refused : (options : ParseOptions) (cells : List Cell) (h : Here) → IsRest h.scratch → l.takes options cells ≡ false → l.trial options cells h ≡ Refuses h.scratch h.flags
-  pub shrinks : (options : ParseOptions) (cells : List Cell) (h : Here) → Shrinks (length cells) (l.trial options cells h)
+  pub took : (options : ParseOptions) (cells : List Cell) (h : Here) → IsRest h.scratch → l.takes options cells ≡ true →
+      l.trial options cells h ≡ shut_line (l.adds options cells h.point) cells h
+  pub refused : (options : ParseOptions) (cells : List Cell) (h : Here) → IsRest h.scratch →
+      l.takes options cells ≡ false → l.trial options cells h ≡ Refuses h.scratch h.flags
+  pub shrinks : (options : ParseOptions) (cells : List Cell) (h : Here) →
+      Shrinks (length cells) (l.trial options cells h)
   -- It takes the lines that the line definition says, and adds what it says of their bytes.
-  pub fits : (options : ParseOptions) (said : Line) (text behind : List ℕ) (r : Rest) (p : Point) (stop : List Cell) → RestAt text behind r p → NoEnding r.bytes → Stops stop → length (rest_cells said r p ++ stop) < 2 ^ 63 →
+  pub fits : (options : ParseOptions) (said : Line) (text behind : List ℕ) (r : Rest) (p : Point) (stop : List Cell) →
+      RestAt text behind r p → NoEnding r.bytes → Stops stop → length (rest_cells said r p ++ stop) < 2 ^ 63 →
       l.takes options (rest_cells said r p ++ stop) ≡ l.starts options r
-  pub adds_is : (options : ParseOptions) (said : Line) (text behind : List ℕ) (r : Rest) (p : Point) (stop : List Cell) → RestAt text behind r p → NoEnding r.bytes → Stops stop → length (rest_cells said r p ++ stop) < 2 ^ 63 →
+  pub adds_is : (options : ParseOptions) (said : Line) (text behind : List ℕ) (r : Rest) (p : Point)
+      (stop : List Cell) →
+      RestAt text behind r p → NoEnding r.bytes → Stops stop → length (rest_cells said r p ++ stop) < 2 ^ 63 →
       l.starts options r ≡ true → l.adds options (rest_cells said r p ++ stop) p ≡ l.added (rest_line r) p
   -- No content stands in what it adds, and its links are to text.
-  pub no_content : (wants : Content → Bool) → wants content.Text ≡ false → (options : ParseOptions) (cells : List Cell) (p : Point) → NoContent wants (l.adds options cells p)
+  pub no_content : (wants : Content → Bool) → wants content.Text ≡ false →
+      (options : ParseOptions) (cells : List Cell) (p : Point) → NoContent wants (l.adds options cells p)
   -- Where no part ends in what it adds that a resolver rewrites, so that none is registered, none begins there.
-  pub own : (options : ParseOptions) (cells : List Cell) (p : Point) → NoEnds is_own (l.adds options cells p) → AreOutside (l.adds options cells p)
+  pub own : (options : ParseOptions) (cells : List Cell) (p : Point) → NoEnds is_own (l.adds options cells p) →
+      AreOutside (l.adds options cells p)
   -- Resolvers set what is its own.
-  pub set : (options : ParseOptions) (r : Rest) (p : Point) (es : List Event) → l.starts options r ≡ true → resolved (l.added (rest_line r) p ++ es) ≡ l.unread (rest_line r) p ++ resolved es
+  pub set : (options : ParseOptions) (r : Rest) (p : Point) (es : List Event) → l.starts options r ≡ true →
+      resolved (l.added (rest_line r) p ++ es) ≡ l.unread (rest_line r) p ++ resolved es
   -- Its events are known, and show its block.
-  pub facts : (options : ParseOptions) (bytes : List ℕ) (r : Rest) (p q : Point) → l.starts options r ≡ true → LineAt bytes r (rest_line r) p q →
+  pub facts : (options : ParseOptions) (bytes : List ℕ) (r : Rest) (p q : Point) → l.starts options r ≡ true →
+      LineAt bytes r (rest_line r) p q →
       LeafFacts bytes (Some (l.block r)) p q (l.unread (rest_line r) p) (l.done bytes (rest_line r) p)
-  pub becomes : (options : ParseOptions) (bytes : List ℕ) (r : Rest) (p q : Point) → l.starts options r ≡ true → LineAt bytes r (rest_line r) p q →
-      (wants : Content → Bool) (reads : Readings) → wants content.Text ≡ true → ReadsText bytes reads → Becomes wants reads (l.unread (rest_line r) p) (l.done bytes (rest_line r) p)
+  pub becomes : (options : ParseOptions) (bytes : List ℕ) (r : Rest) (p q : Point) → l.starts options r ≡ true →
+      LineAt bytes r (rest_line r) p q →
+      (wants : Content → Bool) (reads : Readings) → wants content.Text ≡ true → ReadsText bytes reads →
+      Becomes wants reads (l.unread (rest_line r) p) (l.done bytes (rest_line r) p)

@@ -12,20 +12,47 @@ use Rattle.md_seam.specs.Events.Nested.{enter_link, exit}
 use Rattle.md_definition.specs.Rest.{is_blank}
 
 -- a blank line is taken to its end
-pub blank-took : (cells : List Cell) (h : Here) → is_blank (line_bytes cells) ≡ true → blank_at cells h ≡ Accepts (record h { events = h.events ++ blank_events cells h.point; point = line_end cells h.point }) (from_ending cells)
+pub blank-took : (cells : List Cell) (h : Here) → is_blank (line_bytes cells) ≡ true →
+    blank_at cells h ≡
+    Accepts (record h { events = h.events ++ blank_events cells h.point; point = line_end cells h.point })
+    (from_ending cells)
 unfolding blank_at
 blank-took cells h e =
-    ap (λ (x : Bool). cond x (Accepts (record h { events = h.events ++ blank_events cells h.point; point = line_end cells h.point }) (from_ending cells)) (Refuses h.scratch h.flags)) e
+    ap
+    (λ (x : Bool).
+    cond x
+    (Accepts (record h { events = h.events ++ blank_events cells h.point; point = line_end cells h.point })
+    (from_ending cells))
+    (Refuses h.scratch h.flags)) e
 
 -- and no other line
-pub blank-refused : (cells : List Cell) (h : Here) → is_blank (line_bytes cells) ≡ false → blank_at cells h ≡ Refuses h.scratch h.flags
+pub blank-refused : (cells : List Cell) (h : Here) → is_blank (line_bytes cells) ≡ false →
+    blank_at cells h ≡ Refuses h.scratch h.flags
 unfolding blank_at
 blank-refused cells h e =
-    ap (λ (x : Bool). cond x (Accepts (record h { events = h.events ++ blank_events cells h.point; point = line_end cells h.point }) (from_ending cells)) (Refuses h.scratch h.flags)) e
+    ap
+    (λ (x : Bool).
+    cond x
+    (Accepts (record h { events = h.events ++ blank_events cells h.point; point = line_end cells h.point })
+    (from_ending cells))
+    (Refuses h.scratch h.flags)) e
 
 -- content takes every line
 pub chunk-took : (cells : List Cell) (h : Here) →
-    chunk_at cells h ≡ Accepts (record h { events = h.events ++ (enter_link n.Content h.point content_link ∷ exit n.Content (line_end cells h.point) ∷ []); point = line_end cells h.point; flags = record h.flags { leaf = held_leaf.Text } }) (from_ending cells)
+    chunk_at cells h ≡
+    Accepts
+    (record h {
+      events = h.events ++ (enter_link n.Content h.point content_link ∷ exit n.Content (line_end cells h.point) ∷ []);
+      point = line_end cells h.point;
+      flags = record h.flags { leaf = held_leaf.Text };
+    })
+    (from_ending cells)
 unfolding chunk_at inside_chunk
 chunk-took cells h =
-    ap (λ (es : List Event). Accepts (record h { events = es; point = line_end cells h.point; flags = record h.flags { leaf = held_leaf.Text } }) (from_ending cells)) (append_assoc h.events (enter_link n.Content h.point content_link ∷ []) (exit n.Content (line_end cells h.point) ∷ []))
+    ap
+    (λ (es : List Event).
+    Accepts
+    (record h { events = es; point = line_end cells h.point; flags = record h.flags { leaf = held_leaf.Text } })
+    (from_ending cells))
+    (append_assoc h.events (enter_link n.Content h.point content_link ∷ [])
+    (exit n.Content (line_end cells h.point) ∷ []))

@@ -1,4 +1,5 @@
--- The start of a leaf behind a small indent, as flow knows it: it registers nothing, and what is left of a line is no longer than it was.
+-- The start of a leaf behind a small indent, as flow knows it: it registers nothing, and what is left of a line is no
+-- longer than it was.
 use Rattle.std.proofs.Common.{ℕ, ◌≤◌, Bool, true, false, List, length, refl, arith}
 use Rattle.md_engine.specs.declared.configuration.ParseOptions.{ParseOptions}
 use Rattle.md_engine.specs.declared.event.Name.{Name}
@@ -18,11 +19,13 @@ start-registers name behind w false white h = h
 start-registers name behind w true true h = adds w.events _ w.resolvers refl refl h
 start-registers name behind w true false h = adds w.events _ w.resolvers refl refl h
 
-pub start-shrinks : (name : Name) (on : Bool) (behind : List Cell → Here → Outcome) (options : ParseOptions) (cells : List Cell) (h : Here) →
+pub start-shrinks : (name : Name) (on : Bool) (behind : List Cell → Here → Outcome) (options : ParseOptions)
+    (cells : List Cell) (h : Here) →
     ((n : ℕ) (cells : List Cell) (h : Here) → length cells ≤ n → Shrinks n (behind cells h)) →
     Shrinks (length cells) (start_at name on behind options cells h)
 unfolding start_at
 start-shrinks name on behind options cells h shrinks =
     cond-shrinks _ on _ _
-    (cond-shrinks _ (begins_white cells) _ _ (shrinks _ _ _ (white-length (small_indent options) cells)) (shrinks _ cells _ (omega arith)))
+    (cond-shrinks _ (begins_white cells) _ _ (shrinks _ _ _ (white-length (small_indent options) cells))
+    (shrinks _ cells _ (omega arith)))
     tt

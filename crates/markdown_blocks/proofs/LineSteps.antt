@@ -2,7 +2,8 @@
 use Rattle.markdown_blocks.specs.HeldLeaf.{takes_lazy}
 use Rattle.md_engine.specs.declared.tokenizer.held_leaf.HeldLeaf.TheVariants as held_leaf
 use Rattle.md_engine.specs.declared.tokenizer.held_leaf.HeldLeaf.{HeldLeaf}
-use Rattle.std.proofs.Common.{◌≡◌, ℕ, zero, suc, ◌+◌, ◌≤◌, Bool, true, false, cond, ◌&&◌, ◌||◌, List, [], ◌∷◌, ◌++◌, length, refl, ap, sym, ◌∙◌, subst, append-nil, arith}
+use Rattle.std.proofs.Common.{◌≡◌, ℕ, zero, suc, ◌+◌, ◌≤◌, Bool, true, false, cond, ◌&&◌, ◌||◌, List, [], ◌∷◌, ◌++◌}
+use Rattle.std.proofs.Common.{length, refl, ap, sym, ◌∙◌, subst, append-nil, arith}
 use Rattle.std.specs.Prelude.{Option, Some, None}
 use Rattle.std.specs.Option.{is_some}
 use Rattle.std.proofs.lemmas.Bool.{and_parts}
@@ -10,17 +11,22 @@ use Rattle.md_engine.specs.declared.configuration.ParseOptions.{ParseOptions}
 use Rattle.md_definition.specs.Containers.{Taken, continues, opens}
 use Rattle.md_definition.specs.Leaves.{Came, LazyText, NoText, Text, with_line}
 use Rattle.md_definition.specs.Rest.{Rest, is_blank}
-use Rattle.md_definition.specs.State.{At, Container, Kept, Leaf, Path, Spot, Within, at_spot, closed, container_block, kept, shut, spot, texts, then_block}
-use Rattle.md_definition.specs.Step.{all_continued, all_continued_by, entered, fresh_by, fresh_line, is_concrete, is_open_text, lazy_by, leaf_line, opened, spot_of, step, stopped, stopped_by, text_by, text_line, with_lazy}
+use Rattle.md_definition.specs.State.{At, Container, Kept, Leaf, Path, Spot, Within, at_spot, closed, container_block}
+use Rattle.md_definition.specs.State.{kept, shut, spot, texts, then_block}
+use Rattle.md_definition.specs.Step.{all_continued, all_continued_by, entered, fresh_by, fresh_line, is_concrete}
+use Rattle.md_definition.specs.Step.{is_open_text, lazy_by, leaf_line, opened, spot_of, step, stopped, stopped_by}
+use Rattle.md_definition.specs.Step.{text_by, text_line, with_lazy}
 use Rattle.md_definition.specs.Tree.{Blocks, End}
 use Rattle.md_definition.proofs.ColumnLemmas.{opened_by, step_by}
 use Rattle.md_definition.proofs.ContainerLemmas.{opens-leaves}
 use Rattle.md_definition.proofs.TakenLemmas.{LeavesFewer}
 use Rattle.markdown_blocks.specs.Change.{Change, change_by, interrupts, is_none, open_behind, others_of}
-use Rattle.markdown_blocks.specs.Fronted.{Contained, Prefixed, contained, no_prefix, one_more, prefixes_new, prefixes_on}
+use Rattle.markdown_blocks.specs.Fronted.{Contained, Prefixed, contained, no_prefix, one_more, prefixes_new}
+use Rattle.markdown_blocks.specs.Fronted.{prefixes_on}
 use Rattle.markdown_blocks.specs.Parsed.{IsBuilt}
 use Rattle.markdown_blocks.specs.Registry.{LeafName, leaf, text_leaf}
-use Rattle.markdown_blocks.specs.Rows.{leaf_behind, BlankRow, LeafRow, RowKind, TextRow, is_lazy, is_text, kind_of, line_kind}
+use Rattle.markdown_blocks.specs.Rows.{leaf_behind, BlankRow, LeafRow, RowKind, TextRow, is_lazy, is_text, kind_of}
+use Rattle.markdown_blocks.specs.Rows.{line_kind}
 use Rattle.markdown_blocks.specs.HeldLeaf.{IsBuiltLeaf, kind_of_leaf}
 use Rattle.markdown_blocks.specs.Stands.{IsPlain, containers_of, still_of}
 use Rattle.markdown_blocks.specs.Leaf.Paragraph.{held_of}
@@ -53,39 +59,57 @@ text-found : (options : ParseOptions) (bs : Blocks) (lines : List Kept) (k : Kep
     text_line options bs (k ∷ lines) r ≡ spot_by bs (k ∷ lines) r (line_kind options r)
 unfolding text_line
 text-found options bs lines k r built =
-    rw (underline-off options r built, starts-found options Text r built, text-laws.shut options bs (k ∷ lines) built.definition) (go (is_blank r.bytes) (leaf_at options r))
+    rw (
+      underline-off options r built,
+      starts-found options Text r built,
+      text-laws.shut options bs (k ∷ lines) built.definition,
+    )
+    (go (is_blank r.bytes) (leaf_at options r))
   where
     go : (x : Bool) (o : Option LeafName) →
-        cond x (spot_of (text_leaf.behind bs (texts (k ∷ lines)))) (text_by options bs (k ∷ lines) r (came_of r o)) ≡ spot_by bs (k ∷ lines) r (cond x BlankRow (kind_of o))
+        cond x (spot_of (text_leaf.behind bs (texts (k ∷ lines)))) (text_by options bs (k ∷ lines) r (came_of r o)) ≡
+        spot_by bs (k ∷ lines) r (cond x BlankRow (kind_of o))
     go true o = refl
-    go false (Some l) = ap (λ (x : Blocks). spot_of (then_block x ((leaf l).block r))) (text-laws.shut options bs (k ∷ lines) built.definition)
+    go false (Some l) =
+        ap (λ (x : Blocks). spot_of (then_block x ((leaf l).block r)))
+        (text-laws.shut options bs (k ∷ lines) built.definition)
     go false None = rw (table-off options bs (k ∷ lines) r built) refl
 
 -- The containers that open.
 
 -- at most so many behind one that may open
 abbrev new_by : ParseOptions → ℕ → Rest → Option Taken → Prefixed
-new_by options n r o = elim o [ None ↦ no_prefix r | Some t ↦ one_more t.container (prefixes_new options false n t.rest) ]
+new_by options n r o = elim o [
+  | None ↦ no_prefix r
+  | Some t ↦ one_more t.container (prefixes_new options false n t.rest)
+]
 
 -- a bound on them that is not below the bytes does not matter
-new-enough : (options : ParseOptions) (interrupting : Bool) (n m : ℕ) (r : Rest) → length r.bytes ≤ n → length r.bytes ≤ m → prefixes_new options interrupting n r ≡ prefixes_new options interrupting m r
+new-enough : (options : ParseOptions) (interrupting : Bool) (n m : ℕ) (r : Rest) → length r.bytes ≤ n →
+    length r.bytes ≤ m → prefixes_new options interrupting n r ≡ prefixes_new options interrupting m r
 new-enough options interrupting zero zero r h k = refl
-new-enough options interrupting zero (suc m) r h k = go (opens options interrupting r) (opens-leaves options interrupting r)
+new-enough options interrupting zero (suc m) r h k =
+    go (opens options interrupting r) (opens-leaves options interrupting r)
   where
     go : (o : Option Taken) → LeavesFewer o (length r.bytes) → no_prefix r ≡ new_by options m r o
     go None less = refl
     go (Some t) less = absurd (omega (arith, less t refl))
-new-enough options interrupting (suc n) zero r h k = go (opens options interrupting r) (opens-leaves options interrupting r)
+new-enough options interrupting (suc n) zero r h k =
+    go (opens options interrupting r) (opens-leaves options interrupting r)
   where
     go : (o : Option Taken) → LeavesFewer o (length r.bytes) → new_by options n r o ≡ no_prefix r
     go None less = refl
     go (Some t) less = absurd (omega (arith, less t refl))
-new-enough options interrupting (suc n) (suc m) r h k = go (new-enough options false n m) (opens options interrupting r) (opens-leaves options interrupting r)
+new-enough options interrupting (suc n) (suc m) r h k =
+    go (new-enough options false n m) (opens options interrupting r) (opens-leaves options interrupting r)
   where
-    go : ((s : Rest) → length s.bytes ≤ n → length s.bytes ≤ m → prefixes_new options false n s ≡ prefixes_new options false m s) → (o : Option Taken) → LeavesFewer o (length r.bytes) →
+    go : ((s : Rest) → length s.bytes ≤ n → length s.bytes ≤ m →
+        prefixes_new options false n s ≡ prefixes_new options false m s) →
+        (o : Option Taken) → LeavesFewer o (length r.bytes) →
         new_by options n r o ≡ new_by options m r o
     go below None less = refl
-    go below (Some t) less = let fewer = less t refl in ap (one_more t.container) (below t.rest (omega arith) (omega arith))
+    go below (Some t) less =
+        let fewer = less t refl in ap (one_more t.container) (below t.rest (omega arith) (omega arith))
 
 -- all containers that open on a line; the first may interrupt text
 abbrev pub all_new : ParseOptions → Bool → Rest → Prefixed
@@ -95,7 +119,8 @@ all_new options interrupting r = prefixes_new options interrupting (length r.byt
 abbrev found_by : ParseOptions → Rest → Option Taken → Prefixed
 found_by options r o = elim o [ None ↦ no_prefix r | Some t ↦ one_more t.container (all_new options false t.rest) ]
 
-new-found : (options : ParseOptions) (interrupting : Bool) (n : ℕ) (r : Rest) → length r.bytes ≤ n → prefixes_new options interrupting n r ≡ found_by options r (opens options interrupting r)
+new-found : (options : ParseOptions) (interrupting : Bool) (n : ℕ) (r : Rest) → length r.bytes ≤ n →
+    prefixes_new options interrupting n r ≡ found_by options r (opens options interrupting r)
 new-found options interrupting zero r h = go (opens options interrupting r) (opens-leaves options interrupting r)
   where
     go : (o : Option Taken) → LeavesFewer o (length r.bytes) → no_prefix r ≡ found_by options r o
@@ -105,7 +130,9 @@ new-found options interrupting (suc n) r h = go (opens options interrupting r) (
   where
     go : (o : Option Taken) → LeavesFewer o (length r.bytes) → new_by options n r o ≡ found_by options r o
     go None less = refl
-    go (Some t) less = let fewer = less t refl in ap (one_more t.container) (new-enough options false n (length t.rest.bytes) t.rest (omega arith) (omega arith))
+    go (Some t) less =
+        let fewer = less t refl in
+        ap (one_more t.container) (new-enough options false n (length t.rest.bytes) t.rest (omega arith) (omega arith))
 
 -- Paths.
 
@@ -136,11 +163,12 @@ abbrev pub new_line : ParseOptions → List Container → Rest → Blocks → Pa
 new_line options [] r bs = At (fresh_line options bs r)
 new_line options (c ∷ cs) r bs = Within bs c (new_line options cs r End)
 
--- What a line does where these containers went on, and these open on it: it goes on the open text, and all containers stay, or
--- all else is closed, and it begins in the new ones.
+-- What a line does where these containers went on, and these open on it: it goes on the open text, and all containers
+-- stay, or all else is closed, and it begins in the new ones.
 abbrev pub stepped : ParseOptions → Path → List Container → Prefixed → Path
 stepped options p went new =
-    cond (is_lazy (still_of p) new.containers (line_kind options new.rest)) (longer (renewed (went ++ others_of (containers_of p) went) p) (kept new.rest ∷ []))
+    cond (is_lazy (still_of p) new.containers (line_kind options new.rest))
+    (longer (renewed (went ++ others_of (containers_of p) went) p) (kept new.rest ∷ []))
     (behind_path (kept_to options went p) (new_line options new.containers new.rest))
 
 renewed-same : (p : Path) → renewed (containers_of p) p ≡ p
@@ -152,48 +180,71 @@ renewed-spot [] p = refl
 renewed-spot (c ∷ cs) (At s) = refl
 renewed-spot (c ∷ cs) (Within before container p) = renewed-spot cs p
 
-stepped-more : (options : ParseOptions) (p : Path) (went : List Container) (c : Container) (new : Prefixed) → stepped options p went (one_more c new) ≡ behind_path (kept_to options went p) (new_line options (c ∷ new.containers) new.rest)
+stepped-more : (options : ParseOptions) (p : Path) (went : List Container) (c : Container) (new : Prefixed) →
+    stepped options p went (one_more c new) ≡
+    behind_path (kept_to options went p) (new_line options (c ∷ new.containers) new.rest)
 stepped-more options p went c new =
-    ap (λ (x : Bool). cond x (longer (renewed (went ++ others_of (containers_of p) went) p) (kept new.rest ∷ [])) (behind_path (kept_to options went p) (new_line options (c ∷ new.containers) new.rest)))
+    ap
+    (λ (x : Bool).
+    cond x (longer (renewed (went ++ others_of (containers_of p) went) p) (kept new.rest ∷ []))
+    (behind_path (kept_to options went p) (new_line options (c ∷ new.containers) new.rest)))
     (lazy-some (still_of p) c new.containers (line_kind options new.rest))
 
 -- the containers that open in a new one
-opened-new : (options : ParseOptions) (n : ℕ) (r : Rest) → opened options n r ≡ new_line options (prefixes_new options false n r).containers (prefixes_new options false n r).rest End
+opened-new : (options : ParseOptions) (n : ℕ) (r : Rest) →
+    opened options n r ≡
+    new_line options (prefixes_new options false n r).containers (prefixes_new options false n r).rest End
 opened-new options zero r = refl
 opened-new options (suc n) r = go (opened-new options n) (opens options false r)
   where
-    go : ((s : Rest) → opened options n s ≡ new_line options (prefixes_new options false n s).containers (prefixes_new options false n s).rest End) → (o : Option Taken) →
+    go : ((s : Rest) →
+        opened options n s ≡
+        new_line options (prefixes_new options false n s).containers (prefixes_new options false n s).rest End) →
+        (o : Option Taken) →
         opened_by options n r o ≡ new_line options (new_by options n r o).containers (new_by options n r o).rest End
     go below None = refl
     go below (Some t) = ap (Within End t.container) (below t.rest)
 
-entered-new : (options : ParseOptions) (bs : Blocks) (t : Taken) → entered options bs t ≡ new_line options (t.container ∷ (all_new options false t.rest).containers) (all_new options false t.rest).rest bs
+entered-new : (options : ParseOptions) (bs : Blocks) (t : Taken) →
+    entered options bs t ≡
+    new_line options (t.container ∷ (all_new options false t.rest).containers) (all_new options false t.rest).rest bs
 entered-new options bs t = ap (Within bs t.container) (opened-new options (length t.rest.bytes) t.rest)
 
 -- One line.
 
 -- where all containers go on, and none opens
-leaf-stepped : (options : ParseOptions) (bs : Blocks) (leaf : Leaf) (r : Rest) → IsBuilt options → IsBuiltLeaf leaf → At (leaf_line options (record { here = bs; leaf = leaf }) r) ≡ stepped options (At (record { here = bs; leaf = leaf })) [] (no_prefix r)
+leaf-stepped : (options : ParseOptions) (bs : Blocks) (leaf : Leaf) (r : Rest) → IsBuilt options → IsBuiltLeaf leaf →
+    At (leaf_line options (record { here = bs; leaf = leaf }) r) ≡
+    stepped options (At (record { here = bs; leaf = leaf })) [] (no_prefix r)
 leaf-stepped options bs leaf r built plain =
-    text-laws.cases (λ (leaf : Leaf). At (leaf_line options (record { here = bs; leaf = leaf }) r) ≡ stepped options (At (record { here = bs; leaf = leaf })) [] (no_prefix r)) refl text leaf plain
+    text-laws.cases
+    (λ (leaf : Leaf).
+    At (leaf_line options (record { here = bs; leaf = leaf }) r) ≡
+    stepped options (At (record { here = bs; leaf = leaf })) [] (no_prefix r)) refl text leaf plain
   where
     by : Kept → List Kept → RowKind → Spot → Path
     by k ks kind s = cond (is_lazy held_leaf.Text [] kind) (At (with_line bs (k ∷ ks) r)) (At s)
 
-    go : (k : Kept) (ks : List Kept) (kind : RowKind) → At (spot_by bs (k ∷ ks) r kind) ≡ by k ks kind (spot_by (text_leaf.behind bs (texts (k ∷ ks))) [] r kind)
+    go : (k : Kept) (ks : List Kept) (kind : RowKind) →
+        At (spot_by bs (k ∷ ks) r kind) ≡ by k ks kind (spot_by (text_leaf.behind bs (texts (k ∷ ks))) [] r kind)
     go k ks BlankRow = refl
     go k ks (LeafRow l) = refl
     go k ks TextRow = refl
 
     text : (k : Kept) (ks : List Kept) →
-        At (leaf_line options (record { here = bs; leaf = text_leaf.held (k ∷ ks) }) r) ≡ stepped options (At (record { here = bs; leaf = text_leaf.held (k ∷ ks) })) [] (no_prefix r)
+        At (leaf_line options (record { here = bs; leaf = text_leaf.held (k ∷ ks) }) r) ≡
+        stepped options (At (record { here = bs; leaf = text_leaf.held (k ∷ ks) })) [] (no_prefix r)
     text k ks =
         ap At (text-found options bs ks k r built)
         ∙ go k ks (line_kind options r)
-        ∙ sym (ap (by k ks (line_kind options r)) (ap (λ (x : Blocks). fresh_line options x r) (text-laws.shut options bs (k ∷ ks) built.definition) ∙ fresh-found options (text_leaf.behind bs (texts (k ∷ ks))) r built))
+        ∙ sym
+        (ap (by k ks (line_kind options r))
+        (ap (λ (x : Blocks). fresh_line options x r) (text-laws.shut options bs (k ∷ ks) built.definition)
+        ∙ fresh-found options (text_leaf.behind bs (texts (k ∷ ks))) r built))
 
 -- where all containers go on
-step-at : (options : ParseOptions) (s : Spot) (r : Rest) → IsBuilt options → IsBuiltLeaf s.leaf → all_continued options s r ≡ stepped options (At s) [] (all_new options (interrupts (kind_of_leaf s.leaf) []) r)
+step-at : (options : ParseOptions) (s : Spot) (r : Rest) → IsBuilt options → IsBuiltLeaf s.leaf →
+    all_continued options s r ≡ stepped options (At s) [] (all_new options (interrupts (kind_of_leaf s.leaf) []) r)
 unfolding all_continued
 step-at options s r built plain =
     ap (all_continued_by options s r) (free s.leaf plain)
@@ -203,59 +254,93 @@ step-at options s r built plain =
     interrupting : Bool
     interrupting = interrupts (kind_of_leaf s.leaf) []
 
-    free : (leaf : Leaf) → IsBuiltLeaf leaf → cond (is_concrete leaf) None (opens options (is_open_text leaf) r) ≡ opens options (interrupts (kind_of_leaf leaf) []) r
+    free : (leaf : Leaf) → IsBuiltLeaf leaf →
+        cond (is_concrete leaf) None (opens options (is_open_text leaf) r) ≡
+        opens options (interrupts (kind_of_leaf leaf) []) r
     free leaf plain =
-        text-laws.cases (λ (leaf : Leaf). cond (is_concrete leaf) None (opens options (is_open_text leaf) r) ≡ opens options (interrupts (kind_of_leaf leaf) []) r) refl (λ k ks. refl) leaf plain
+        text-laws.cases
+        (λ (leaf : Leaf).
+        cond (is_concrete leaf) None (opens options (is_open_text leaf) r) ≡
+        opens options (interrupts (kind_of_leaf leaf) []) r) refl
+        (λ k ks. refl) leaf plain
 
     go : (o : Option Taken) → all_continued_by options s r o ≡ stepped options (At s) [] (found_by options r o)
     go None = leaf-stepped options s.here s.leaf r built plain
-    go (Some t) = entered-new options (shut options s) t ∙ sym (stepped-more options (At s) [] t.container (all_new options false t.rest))
+    go (Some t) =
+        entered-new options (shut options s) t
+        ∙ sym (stepped-more options (At s) [] t.container (all_new options false t.rest))
 
-at_spot-longer : (p : Path) (lines more : List Kept) → (spot p).leaf ≡ text_leaf.held lines → at_spot p (record { here = (spot p).here; leaf = text_leaf.held (lines ++ more) }) ≡ longer p more
-at_spot-longer (At s) lines more e = ap (λ (x : Leaf). At (record { here = s.here; leaf = text_leaf.held (held_of x ++ more) })) (sym e)
+at_spot-longer : (p : Path) (lines more : List Kept) → (spot p).leaf ≡ text_leaf.held lines →
+    at_spot p (record { here = (spot p).here; leaf = text_leaf.held (lines ++ more) }) ≡ longer p more
+at_spot-longer (At s) lines more e =
+    ap (λ (x : Leaf). At (record { here = s.here; leaf = text_leaf.held (held_of x ++ more) })) (sym e)
 at_spot-longer (Within before container p) lines more e = ap (Within before container) (at_spot-longer p lines more e)
 
 -- where this container does not go on, and none opens
-lazy-stepped : (options : ParseOptions) (before : Blocks) (c : Container) (p : Path) (r : Rest) → IsBuilt options → (leaf : Leaf) → (spot p).leaf ≡ leaf → IsBuiltLeaf leaf →
+lazy-stepped : (options : ParseOptions) (before : Blocks) (c : Container) (p : Path) (r : Rest) → IsBuilt options →
+    (leaf : Leaf) → (spot p).leaf ≡ leaf → IsBuiltLeaf leaf →
     lazy_by options before c p r (with_lazy options leaf r) ≡
-    cond (is_lazy (kind_of_leaf leaf) [] (line_kind options r)) (Within before c (longer (renewed (containers_of p) p) (kept r ∷ []))) (At (fresh_line options (then_block before (container_block c (closed options p))) r))
+    cond (is_lazy (kind_of_leaf leaf) [] (line_kind options r))
+    (Within before c (longer (renewed (containers_of p) p) (kept r ∷ [])))
+    (At (fresh_line options (then_block before (container_block c (closed options p))) r))
 lazy-stepped options before c p r built leaf e plain = text-laws.cases By (λ e. refl) text leaf plain e
   where
     other : Path
     other = At (fresh_line options (then_block before (container_block c (closed options p))) r)
 
     longer_by : HeldLeaf → RowKind → Path
-    longer_by still kind = cond (is_lazy still [] kind) (Within before c (longer (renewed (containers_of p) p) (kept r ∷ []))) other
+    longer_by still kind =
+        cond (is_lazy still [] kind) (Within before c (longer (renewed (containers_of p) p) (kept r ∷ []))) other
 
     By : Leaf → Type 0
-    By leaf = (spot p).leaf ≡ leaf → lazy_by options before c p r (with_lazy options leaf r) ≡ longer_by (kind_of_leaf leaf) (line_kind options r)
+    By leaf =
+        (spot p).leaf ≡ leaf →
+        lazy_by options before c p r (with_lazy options leaf r) ≡ longer_by (kind_of_leaf leaf) (line_kind options r)
 
     go : (k : Kept) (ks : List Kept) → (spot p).leaf ≡ text_leaf.held (k ∷ ks) → (x : Bool) (o : Option LeafName) →
-        lazy_by options before c p r (cond (x || is_some (came_of r o)) None (Some (text_leaf.held (k ∷ ks ++ kept r ∷ [])))) ≡ longer_by held_leaf.Text (cond x BlankRow (kind_of o))
+        lazy_by options before c p r
+        (cond (x || is_some (came_of r o)) None (Some (text_leaf.held (k ∷ ks ++ kept r ∷ [])))) ≡
+        longer_by held_leaf.Text (cond x BlankRow (kind_of o))
     go k ks e true o = refl
     go k ks e false (Some l) = refl
-    go k ks e false None = ap (Within before c) (at_spot-longer p (k ∷ ks) (kept r ∷ []) e ∙ ap (λ (q : Path). longer q (kept r ∷ [])) (sym (renewed-same p)))
+    go k ks e false None =
+        ap (Within before c)
+        (at_spot-longer p (k ∷ ks) (kept r ∷ []) e ∙ ap (λ (q : Path). longer q (kept r ∷ [])) (sym (renewed-same p)))
 
     text : (k : Kept) (ks : List Kept) → By (text_leaf.held (k ∷ ks))
     text k ks e =
-        ap (λ (o : Option Came). lazy_by options before c p r (cond (is_blank r.bytes || is_some o) None (Some (text_leaf.held (k ∷ ks ++ kept r ∷ []))))) (starts-found options LazyText r built)
+        ap
+        (λ (o : Option Came).
+        lazy_by options before c p r
+        (cond (is_blank r.bytes || is_some o) None (Some (text_leaf.held (k ∷ ks ++ kept r ∷ [])))))
+        (starts-found options LazyText r built)
         ∙ go k ks e (is_blank r.bytes) (leaf_at options r)
 
-step-stopped : (options : ParseOptions) (before : Blocks) (c : Container) (p : Path) (r : Rest) → IsBuilt options → IsPlain p → stopped options before c p r ≡ stepped options (Within before c p) [] (all_new options (interrupts (still_of p) (c ∷ containers_of p)) r)
+step-stopped : (options : ParseOptions) (before : Blocks) (c : Container) (p : Path) (r : Rest) → IsBuilt options →
+    IsPlain p →
+    stopped options before c p r ≡
+    stepped options (Within before c p) [] (all_new options (interrupts (still_of p) (c ∷ containers_of p)) r)
 unfolding stopped
 step-stopped options before c p r built plain =
     go (opens options false r)
-    ∙ ap (stepped options (Within before c p) []) (sym (new-found options false (length r.bytes) r (omega arith)) ∙ ap (λ (x : Bool). all_new options x r) (never (still_of p)))
+    ∙ ap (stepped options (Within before c p) [])
+    (sym (new-found options false (length r.bytes) r (omega arith))
+    ∙ ap (λ (x : Bool). all_new options x r) (never (still_of p)))
   where
     never : (x : HeldLeaf) → false ≡ interrupts x (c ∷ containers_of p)
     never held_leaf.Text = refl
     never held_leaf.None = refl
 
-    go : (o : Option Taken) → stopped_by options before c p r o ≡ stepped options (Within before c p) [] (found_by options r o)
+    go : (o : Option Taken) →
+        stopped_by options before c p r o ≡ stepped options (Within before c p) [] (found_by options r o)
     go None = lazy-stepped options before c p r built (spot p).leaf refl plain
-    go (Some t) = entered-new options (then_block before (container_block c (closed options p))) t ∙ sym (stepped-more options (Within before c p) [] t.container (all_new options false t.rest))
+    go (Some t) =
+        entered-new options (then_block before (container_block c (closed options p))) t
+        ∙ sym (stepped-more options (Within before c p) [] t.container (all_new options false t.rest))
 
-stepped-within : (options : ParseOptions) (before : Blocks) (c d : Container) (p : Path) (went : List Container) (new : Prefixed) → Within before d (stepped options p went new) ≡ stepped options (Within before c p) (d ∷ went) new
+stepped-within : (options : ParseOptions) (before : Blocks) (c d : Container) (p : Path) (went : List Container)
+    (new : Prefixed) →
+    Within before d (stepped options p went new) ≡ stepped options (Within before c p) (d ∷ went) new
 stepped-within options before c d p went new = go (is_lazy (still_of p) new.containers (line_kind options new.rest))
   where
     lazy : Path
@@ -273,18 +358,24 @@ abbrev on_by : ParseOptions → List Container → Rest → Option Taken → Pre
 on_by options cs r o = elim o [ None ↦ no_prefix r | Some t ↦ one_more t.container (prefixes_on options cs t.rest) ]
 
 abbrev pub stepped_on : ParseOptions → Path → Prefixed → Path
-stepped_on options p on = stepped options p on.containers (all_new options (interrupts (still_of p) (others_of (containers_of p) on.containers)) on.rest)
+stepped_on options p on =
+    stepped options p on.containers
+    (all_new options (interrupts (still_of p) (others_of (containers_of p) on.containers)) on.rest)
 
-pub step-new : (options : ParseOptions) (p : Path) (r : Rest) → IsBuilt options → IsPlain p → step options p r ≡ stepped_on options p (prefixes_on options (containers_of p) r)
+pub step-new : (options : ParseOptions) (p : Path) (r : Rest) → IsBuilt options → IsPlain p →
+    step options p r ≡ stepped_on options p (prefixes_on options (containers_of p) r)
 step-new options (At s) r built plain = step-at options s r built plain
 step-new options (Within before c p) r built plain = go (λ s. step-new options p s built plain) (continues options c r)
   where
-    go : ((s : Rest) → step options p s ≡ stepped_on options p (prefixes_on options (containers_of p) s)) → (o : Option Taken) → step_by options before c p r o ≡ stepped_on options (Within before c p) (on_by options (containers_of p) r o)
+    go : ((s : Rest) → step options p s ≡ stepped_on options p (prefixes_on options (containers_of p) s)) →
+        (o : Option Taken) →
+        step_by options before c p r o ≡ stepped_on options (Within before c p) (on_by options (containers_of p) r o)
     go below None = step-stopped options before c p r built plain
     go below (Some t) =
         let on = prefixes_on options (containers_of p) t.rest in
         ap (Within before t.container) (below t.rest)
-        ∙ stepped-within options before c t.container p on.containers (all_new options (interrupts (still_of p) (others_of (containers_of p) on.containers)) on.rest)
+        ∙ stepped-within options before c t.container p on.containers
+        (all_new options (interrupts (still_of p) (others_of (containers_of p) on.containers)) on.rest)
 
 -- what a line does to the containers, where a path is open
 abbrev pub contained_at : ParseOptions → Path → Rest → Contained
@@ -300,9 +391,15 @@ new_path options p c = behind_path (kept_to options c.change.stays p) (new_line 
 
 -- What a line does to the containers and the text that are open, by its containers.
 pub step-contained : (options : ParseOptions) (p : Path) (r : Rest) → IsBuilt options → IsPlain p →
-    let c = contained_at options p r in step options p r ≡ cond (goes_lazy options p c) (longer (renewed c.change.stays p) (kept c.rest ∷ [])) (new_path options p c)
+    let c = contained_at options p r in
+    step options p r ≡
+    cond (goes_lazy options p c) (longer (renewed c.change.stays p) (kept c.rest ∷ [])) (new_path options p c)
 unfolding contained
-step-contained options p r built plain = step-new options p r built plain ∙ go lazy ∙ sym (ap (λ (opens : List Container). by (is_lazy (still_of p) opens (line_kind options new.rest)) lazy) (change-opens lazy on.containers others new.containers))
+step-contained options p r built plain =
+    step-new options p r built plain ∙ go lazy
+    ∙ sym
+    (ap (λ (opens : List Container). by (is_lazy (still_of p) opens (line_kind options new.rest)) lazy)
+    (change-opens lazy on.containers others new.containers))
   where
     on : Prefixed
     on = prefixes_on options (containers_of p) r
@@ -317,16 +414,28 @@ step-contained options p r built plain = step-new options p r built plain ∙ go
     lazy = is_lazy (still_of p) new.containers (line_kind options new.rest)
 
     by : Bool → Bool → Path
-    by x y = let change : Change = change_by y on.containers others new.containers in cond x (longer (renewed change.stays p) (kept new.rest ∷ [])) (behind_path (kept_to options change.stays p) (new_line options change.opens new.rest))
+    by x y =
+        let change : Change = change_by y on.containers others new.containers in
+        cond x (longer (renewed change.stays p) (kept new.rest ∷ []))
+        (behind_path (kept_to options change.stays p) (new_line options change.opens new.rest))
 
-    go : (x : Bool) → cond x (longer (renewed (on.containers ++ others) p) (kept new.rest ∷ [])) (behind_path (kept_to options on.containers p) (new_line options new.containers new.rest)) ≡ by x x
+    go : (x : Bool) →
+        cond x (longer (renewed (on.containers ++ others) p) (kept new.rest ∷ []))
+        (behind_path (kept_to options on.containers p) (new_line options new.containers new.rest)) ≡
+        by x x
     go true = refl
     go false = refl
 
 -- a line that goes on the open text closes nothing
-pub contained-lazy : (options : ParseOptions) (p : Path) (r : Rest) → goes_lazy options p (contained_at options p r) ≡ true → (contained_at options p r).change.closes ≡ []
+pub contained-lazy : (options : ParseOptions) (p : Path) (r : Rest) →
+    goes_lazy options p (contained_at options p r) ≡ true → (contained_at options p r).change.closes ≡ []
 unfolding contained
-contained-lazy options p r h = go lazy (sym (ap (λ (opens : List Container). is_lazy (still_of p) opens (line_kind options new.rest)) (change-opens lazy on.containers others new.containers)) ∙ h)
+contained-lazy options p r h =
+    go lazy
+    (sym
+    (ap (λ (opens : List Container). is_lazy (still_of p) opens (line_kind options new.rest))
+    (change-opens lazy on.containers others new.containers))
+    ∙ h)
   where
     on : Prefixed
     on = prefixes_on options (containers_of p) r
@@ -353,37 +462,46 @@ pub plain-longer : (p : Path) (k : Kept) (ks : List Kept) → IsPlain p → IsPl
 plain-longer (At s) k ks plain = go s.leaf plain
   where
     go : (leaf : Leaf) → IsBuiltLeaf leaf → IsBuiltLeaf (text_leaf.held (held_of leaf ++ k ∷ ks))
-    go leaf h = text-laws.cases (λ (leaf : Leaf). IsBuiltLeaf (text_leaf.held (held_of leaf ++ k ∷ ks))) tt (λ j js. tt) leaf h
+    go leaf h =
+        text-laws.cases (λ (leaf : Leaf). IsBuiltLeaf (text_leaf.held (held_of leaf ++ k ∷ ks))) tt (λ j js. tt) leaf h
 plain-longer (Within before container p) k ks plain = plain-longer p k ks plain
 
 plain-behind : (p : Path) (f : Blocks → Path) → ((bs : Blocks) → IsPlain (f bs)) → IsPlain (behind_path p f)
 plain-behind (At s) f each = each s.here
 plain-behind (Within before container p) f each = plain-behind p f each
 
-plain-fresh : (options : ParseOptions) (bs : Blocks) (r : Rest) → IsBuilt options → IsBuiltLeaf (fresh_line options bs r).leaf
-plain-fresh options bs r built = subst (λ (s : Spot). IsBuiltLeaf s.leaf) (sym (fresh-found options bs r built)) (go (line_kind options r))
+plain-fresh : (options : ParseOptions) (bs : Blocks) (r : Rest) → IsBuilt options →
+    IsBuiltLeaf (fresh_line options bs r).leaf
+plain-fresh options bs r built =
+    subst (λ (s : Spot). IsBuiltLeaf s.leaf) (sym (fresh-found options bs r built)) (go (line_kind options r))
   where
     go : (kind : RowKind) → IsBuiltLeaf (spot_by bs [] r kind).leaf
     go BlankRow = tt
     go (LeafRow l) = tt
     go TextRow = tt
 
-plain-new_line : (options : ParseOptions) (cs : List Container) (r : Rest) (bs : Blocks) → IsBuilt options → IsPlain (new_line options cs r bs)
+plain-new_line : (options : ParseOptions) (cs : List Container) (r : Rest) (bs : Blocks) → IsBuilt options →
+    IsPlain (new_line options cs r bs)
 plain-new_line options [] r bs built = plain-fresh options bs r built
 plain-new_line options (c ∷ cs) r bs built = plain-new_line options cs r End built
 
-pub plain-step : (options : ParseOptions) (p : Path) (r : Rest) → IsBuilt options → IsPlain p → IsPlain (step options p r)
-plain-step options p r built plain = subst IsPlain (sym (step-contained options p r built plain)) (go (goes_lazy options p c))
+pub plain-step : (options : ParseOptions) (p : Path) (r : Rest) → IsBuilt options → IsPlain p →
+    IsPlain (step options p r)
+plain-step options p r built plain =
+    subst IsPlain (sym (step-contained options p r built plain)) (go (goes_lazy options p c))
   where
     c : Contained
     c = contained_at options p r
 
     go : (x : Bool) → IsPlain (cond x (longer (renewed c.change.stays p) (kept c.rest ∷ [])) (new_path options p c))
     go true = plain-longer (renewed c.change.stays p) (kept c.rest) [] (plain-renewed c.change.stays p plain)
-    go false = plain-behind (kept_to options c.change.stays p) (new_line options c.change.opens c.rest) (λ bs. plain-new_line options c.change.opens c.rest bs built)
+    go false =
+        plain-behind (kept_to options c.change.stays p) (new_line options c.change.opens c.rest)
+        (λ bs. plain-new_line options c.change.opens c.rest bs built)
 
 -- a line that goes on the open text is text
-pub lazy-text : (still : HeldLeaf) (opens : List Container) (kind : RowKind) → is_lazy still opens kind ≡ true → is_text kind ≡ true
+pub lazy-text : (still : HeldLeaf) (opens : List Container) (kind : RowKind) → is_lazy still opens kind ≡ true →
+    is_text kind ≡ true
 lazy-text still opens kind e = (and_parts (takes_lazy still && is_none opens) (is_text kind) e).1
 
 -- Which containers are open behind a line.
@@ -392,28 +510,37 @@ containers-longer : (p : Path) (ks : List Kept) → containers_of (longer p ks) 
 containers-longer (At s) ks = refl
 containers-longer (Within before container p) ks = ap (λ (cs : List Container). container ∷ cs) (containers-longer p ks)
 
-containers-behind : (p : Path) (f : Blocks → Path) (cs : List Container) → ((bs : Blocks) → containers_of (f bs) ≡ cs) → containers_of (behind_path p f) ≡ containers_of p ++ cs
+containers-behind : (p : Path) (f : Blocks → Path) (cs : List Container) → ((bs : Blocks) → containers_of (f bs) ≡ cs) →
+    containers_of (behind_path p f) ≡ containers_of p ++ cs
 containers-behind (At s) f cs each = each s.here
-containers-behind (Within before container p) f cs each = ap (λ (l : List Container). container ∷ l) (containers-behind p f cs each)
+containers-behind (Within before container p) f cs each =
+    ap (λ (l : List Container). container ∷ l) (containers-behind p f cs each)
 
-containers-kept : (options : ParseOptions) (cs : List Container) (p : Path) → length cs ≤ length (containers_of p) → containers_of (kept_to options cs p) ≡ cs
+containers-kept : (options : ParseOptions) (cs : List Container) (p : Path) → length cs ≤ length (containers_of p) →
+    containers_of (kept_to options cs p) ≡ cs
 containers-kept options [] p le = refl
 containers-kept options (c ∷ cs) (At s) le = absurd (omega arith)
-containers-kept options (c ∷ cs) (Within before container p) le = ap (λ (l : List Container). c ∷ l) (containers-kept options cs p (omega arith))
+containers-kept options (c ∷ cs) (Within before container p) le =
+    ap (λ (l : List Container). c ∷ l) (containers-kept options cs p (omega arith))
 
 -- where all of them are told
-containers-renewed : (cs : List Container) (p : Path) → length cs ≡ length (containers_of p) → containers_of (renewed cs p) ≡ cs
+containers-renewed : (cs : List Container) (p : Path) → length cs ≡ length (containers_of p) →
+    containers_of (renewed cs p) ≡ cs
 containers-renewed [] (At s) e = refl
 containers-renewed [] (Within before container p) e = absurd (omega arith)
 containers-renewed (c ∷ cs) (At s) e = absurd (omega arith)
-containers-renewed (c ∷ cs) (Within before container p) e = ap (λ (l : List Container). c ∷ l) (containers-renewed cs p (omega arith))
+containers-renewed (c ∷ cs) (Within before container p) e =
+    ap (λ (l : List Container). c ∷ l) (containers-renewed cs p (omega arith))
 
-containers-new_line : (options : ParseOptions) (cs : List Container) (r : Rest) (bs : Blocks) → containers_of (new_line options cs r bs) ≡ cs
+containers-new_line : (options : ParseOptions) (cs : List Container) (r : Rest) (bs : Blocks) →
+    containers_of (new_line options cs r bs) ≡ cs
 containers-new_line options [] r bs = refl
 containers-new_line options (c ∷ cs) r bs = ap (λ (l : List Container). c ∷ l) (containers-new_line options cs r End)
 
-pub containers-step : (options : ParseOptions) (p : Path) (r : Rest) → IsBuilt options → IsPlain p → containers_of (step options p r) ≡ open_behind (contained_at options p r).change
-containers-step options p r built plain = ap containers_of (step-contained options p r built plain) ∙ go (goes_lazy options p c) refl
+pub containers-step : (options : ParseOptions) (p : Path) (r : Rest) → IsBuilt options → IsPlain p →
+    containers_of (step options p r) ≡ open_behind (contained_at options p r).change
+containers-step options p r built plain =
+    ap containers_of (step-contained options p r built plain) ∙ go (goes_lazy options p c) refl
   where
     c : Contained
     c = contained_at options p r
@@ -421,15 +548,21 @@ containers-step options p r built plain = ap containers_of (step-contained optio
     sizes : length c.change.stays + length c.change.closes ≡ length (containers_of p)
     sizes = contained-size options (containers_of p) (still_of p) r
 
-    go : (x : Bool) → goes_lazy options p c ≡ x → containers_of (cond x (longer (renewed c.change.stays p) (kept c.rest ∷ [])) (new_path options p c)) ≡ c.change.stays ++ c.change.opens
+    go : (x : Bool) → goes_lazy options p c ≡ x →
+        containers_of (cond x (longer (renewed c.change.stays p) (kept c.rest ∷ [])) (new_path options p c)) ≡
+        c.change.stays ++ c.change.opens
     go true e =
         containers-longer (renewed c.change.stays p) (kept c.rest ∷ [])
-        ∙ containers-renewed c.change.stays p (let none : length c.change.closes ≡ 0 = ap length (contained-lazy options p r e) in omega (arith, sizes))
+        ∙ containers-renewed c.change.stays p
+        (let none : length c.change.closes ≡ 0 = ap length (contained-lazy options p r e) in omega (arith, sizes))
         ∙ sym (append-nil c.change.stays)
-        ∙ ap (λ (l : List Container). c.change.stays ++ l) (sym (lazy-opens (still_of p) c.change.opens (line_kind options c.rest) e))
+        ∙ ap (λ (l : List Container). c.change.stays ++ l)
+        (sym (lazy-opens (still_of p) c.change.opens (line_kind options c.rest) e))
     go false e =
-        containers-behind (kept_to options c.change.stays p) (new_line options c.change.opens c.rest) c.change.opens (λ bs. containers-new_line options c.change.opens c.rest bs)
-        ∙ ap (λ (l : List Container). l ++ c.change.opens) (containers-kept options c.change.stays p (omega (arith, sizes)))
+        containers-behind (kept_to options c.change.stays p) (new_line options c.change.opens c.rest) c.change.opens
+        (λ bs. containers-new_line options c.change.opens c.rest bs)
+        ∙ ap (λ (l : List Container). l ++ c.change.opens)
+        (containers-kept options c.change.stays p (omega (arith, sizes)))
 
 -- The leaf that is open behind a line.
 
@@ -442,13 +575,15 @@ still-longer : (p : Path) (ks : List Kept) → still_of (longer p ks) ≡ held_l
 still-longer (At s) ks = refl
 still-longer (Within before container p) ks = still-longer p ks
 
-still-behind : (p : Path) (f : Blocks → Path) (x : HeldLeaf) → ((bs : Blocks) → still_of (f bs) ≡ x) → still_of (behind_path p f) ≡ x
+still-behind : (p : Path) (f : Blocks → Path) (x : HeldLeaf) → ((bs : Blocks) → still_of (f bs) ≡ x) →
+    still_of (behind_path p f) ≡ x
 still-behind (At s) f x each = each s.here
 still-behind (Within before container p) f x each = still-behind p f x each
 
 still-new_line : (options : ParseOptions) (cs : List Container) (r : Rest) (bs : Blocks) → IsBuilt options →
     still_of (new_line options cs r bs) ≡ leaf_behind (line_kind options r)
-still-new_line options [] r bs built = ap (λ (s : Spot). kind_of_leaf s.leaf) (fresh-found options bs r built) ∙ go (line_kind options r)
+still-new_line options [] r bs built =
+    ap (λ (s : Spot). kind_of_leaf s.leaf) (fresh-found options bs r built) ∙ go (line_kind options r)
   where
     go : (kind : RowKind) → kind_of_leaf (spot_by bs [] r kind).leaf ≡ leaf_behind kind
     go BlankRow = refl
@@ -458,7 +593,8 @@ still-new_line options (c ∷ cs) r bs built = still-new_line options cs r End b
 
 pub still-step : (options : ParseOptions) (p : Path) (r : Rest) → IsBuilt options → IsPlain p →
     still_of (step options p r) ≡ leaf_behind (line_kind options (contained_at options p r).rest)
-still-step options p r built plain = ap still_of (step-contained options p r built plain) ∙ go (goes_lazy options p c) refl
+still-step options p r built plain =
+    ap still_of (step-contained options p r built plain) ∙ go (goes_lazy options p c) refl
   where
     c : Contained
     c = contained_at options p r
@@ -466,8 +602,12 @@ still-step options p r built plain = ap still_of (step-contained options p r bui
     kind : RowKind
     kind = line_kind options c.rest
 
-    go : (x : Bool) → goes_lazy options p c ≡ x → still_of (cond x (longer (renewed c.change.stays p) (kept c.rest ∷ [])) (new_path options p c)) ≡ leaf_behind kind
-    go true e = still-longer (renewed c.change.stays p) (kept c.rest ∷ []) ∙ sym (text-behind kind (lazy-text (still_of p) c.change.opens kind e))
+    go : (x : Bool) → goes_lazy options p c ≡ x →
+        still_of (cond x (longer (renewed c.change.stays p) (kept c.rest ∷ [])) (new_path options p c)) ≡
+        leaf_behind kind
+    go true e =
+        still-longer (renewed c.change.stays p) (kept c.rest ∷ [])
+        ∙ sym (text-behind kind (lazy-text (still_of p) c.change.opens kind e))
     go false e =
         still-behind (kept_to options c.change.stays p) (new_line options c.change.opens c.rest) (leaf_behind kind)
         (λ bs. still-new_line options c.change.opens c.rest bs built)

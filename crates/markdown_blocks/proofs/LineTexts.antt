@@ -1,5 +1,6 @@
 -- The bytes of a line: its parts, its ending, and where it stands in a text.
-use Rattle.std.proofs.Common.{◌≡◌, ℕ, suc, ◌+◌, ◌-◌, ◌<◌, ◌≤◌, Bool, true, false, cond, List, [], ◌∷◌, ◌++◌, length, drop, slice_range, refl, ap, sym, ◌∙◌, append-nil, drop-drop, arith}
+use Rattle.std.proofs.Common.{◌≡◌, ℕ, suc, ◌+◌, ◌-◌, ◌<◌, ◌≤◌, Bool, true, false, cond, List, [], ◌∷◌, ◌++◌, length}
+use Rattle.std.proofs.Common.{drop, slice_range, refl, ap, sym, ◌∙◌, append-nil, drop-drop, arith}
 use Rattle.std.specs.Prelude.{not}
 use Rattle.std.specs.List.{prefix_len}
 use Rattle.std.proofs.lemmas.List.{take-append-drop}
@@ -11,7 +12,8 @@ use Rattle.md_definition.specs.Lines.{is_ending, without_ending}
 use Rattle.md_definition.specs.Rest.{Rest}
 use Rattle.md_definition.specs.Texts.{split_lines}
 use Rattle.md_seam.proofs.FeedLines.{past_text-whole}
-use Rattle.md_definition.proofs.TextsLemmas.{Both, Ending, EndsBefore, LineFeed, NoEnding, Return, ending_bytes, split-line, split-next}
+use Rattle.md_definition.proofs.TextsLemmas.{Both, Ending, EndsBefore, LineFeed, NoEnding, Return, ending_bytes}
+use Rattle.md_definition.proofs.TextsLemmas.{split-line, split-next}
 use Rattle.markdown_blocks.proofs.LeafFacts.{LineAt}
 
 -- how many bytes pass a test at the front: one more, and none
@@ -25,7 +27,8 @@ count-none test b bs e = ap (λ (t : Bool). cond t (1 + prefix_len test bs) 0) e
 -- the parts of a line without endings have none
 pub no_ending-parts : (xs ys : List ℕ) → NoEnding (xs ++ ys) → NoEnding xs × NoEnding ys
 no_ending-parts [] ys h = (tt, h)
-no_ending-parts (b ∷ xs) ys h = let parts : NoEnding xs × NoEnding ys = no_ending-parts xs ys h.1 in ((h.0, parts.0), parts.1)
+no_ending-parts (b ∷ xs) ys h =
+    let parts : NoEnding xs × NoEnding ys = no_ending-parts xs ys h.1 in ((h.0, parts.0), parts.1)
 
 -- a line without its ending is that line
 pub without-none : (line : List ℕ) → NoEnding line → without_ending line ≡ line
@@ -71,7 +74,8 @@ one-next line ending h ends =
 pub piece : (bytes : List ℕ) (i j : ℕ) → i ≤ j → drop i bytes ≡ slice_range bytes i j ++ drop j bytes
 piece bytes i j le =
     sym (take-append-drop (j - i) (drop i bytes))
-    ∙ ap (λ (l : List ℕ). slice_range bytes i j ++ l) (drop-drop (j - i) i bytes ∙ ap (λ (k : ℕ). drop k bytes) (omega arith))
+    ∙ ap (λ (l : List ℕ). slice_range bytes i j ++ l)
+    (drop-drop (j - i) i bytes ∙ ap (λ (k : ℕ). drop k bytes) (omega arith))
 
 -- a line stands there, and what follows behind it
 pub line-stands : (bytes : List ℕ) (r : Rest) (line : List ℕ) (p q : Point) → LineAt bytes r line p q →

@@ -1,10 +1,12 @@
 -- Whenever a run of flow has fed a line, the tokenizer holds what the rows of the text say.
 --
--- What is left of one line is a behaviour too, whose rule stops where the next line begins. So each call comes to what the line comes
--- to, up to the call that takes the ending of the line; there the next line begins.
+-- What is left of one line is a behaviour too, whose rule stops where the next line begins. So each call comes to what
+-- the line comes to, up to the call that takes the ending of the line; there the next line begins.
 use Rattle.md_engine.specs.declared.tokenizer.held_leaf.HeldLeaf.TheVariants as held_leaf
 use Rattle.md_engine.specs.declared.tokenizer.held_leaf.HeldLeaf.{HeldLeaf}
-use Rattle.std.proofs.Common.{◌≡◌, ◌^◌, ◌<◌, ◌⊎◌, inl, inr, ℕ, zero, suc, ◌+◌, Bool, true, false, cond, nat_eq, List, [], ◌∷◌, ◌++◌, length, take, drop, Option, Some, None, refl, sym, ◌∙◌, ap, subst, arith, append_assoc, append-nil, length-drop}
+use Rattle.std.proofs.Common.{◌≡◌, ◌^◌, ◌<◌, ◌⊎◌, inl, inr, ℕ, zero, suc, ◌+◌, Bool, true, false, cond, nat_eq, List}
+use Rattle.std.proofs.Common.{[], ◌∷◌, ◌++◌, length, take, drop, Option, Some, None, refl, sym, ◌∙◌, ap, subst, arith}
+use Rattle.std.proofs.Common.{append_assoc, append-nil, length-drop}
 use Rattle.std.proofs.lemmas.Bool.{eqb-true}
 use Rattle.md_engine.specs.declared.configuration.ParseOptions.{ParseOptions}
 use Rattle.md_engine.specs.declared.event.Event.{Event}
@@ -16,7 +18,8 @@ use Rattle.md_engine.specs.declared.state.document.State.TheVariants as document
 use Rattle.md_engine.specs.declared.state.State.{State}
 use Rattle.md_engine.specs.declared.state.State.TheVariants.{Next, Ok}
 use Rattle.md_engine.specs.declared.tokenizer.Frame.{Frame}
-use Rattle.md_engine.specs.Meaning.{Accepts, Behaviour, Cell, Feed, Follows, Here, Outcome, Refuses, Steps, comes_to, goes, here, resume_all}
+use Rattle.md_engine.specs.Meaning.{Accepts, Behaviour, Cell, Feed, Follows, Here, Outcome, Refuses, Steps, comes_to}
+use Rattle.md_engine.specs.Meaning.{goes, here, resume_all}
 use Rattle.md_engine.specs.Run.{Calls, Leaves, Runs, plain, reading}
 use Rattle.md_engine.specs.Run.Runs.{Stays, ThenCalls, ThenLeaves}
 use Rattle.md_engine.specs.Scheme.{stands}
@@ -34,12 +37,14 @@ use Rattle.markdown_blocks.specs.Change.{ends_of, open_behind}
 use Rattle.markdown_blocks.specs.Fed.{fed, feeds, flow_begins, line_begins, not_left, place_behind}
 use Rattle.markdown_blocks.specs.FlowRule.{Rule, ended, line_then}
 use Rattle.markdown_blocks.specs.LineFlags.{ending_name}
-use Rattle.markdown_blocks.specs.Rows.{leaf_behind, Held, Row, after_ending, behind_row, closes_before, held_at, is_text, onto_rows, row_events, row_kind, row_of, rows_at, rows_events}
+use Rattle.markdown_blocks.specs.Rows.{leaf_behind, Held, Row, after_ending, behind_row, closes_before, held_at}
+use Rattle.markdown_blocks.specs.Rows.{is_text, onto_rows, row_events, row_kind, row_of, rows_at, rows_events}
 use Rattle.markdown_blocks.specs.Stands.{AreOpen}
 use Rattle.markdown_blocks.specs.States.{FlowStep, flow_behaves_by, flow_table_scheme, flow_transition}
 use Rattle.markdown_blocks.specs.TextRows.{text_cells, text_rows, text_setting}
 use Rattle.markdown_blocks.proofs.FlowMeans.{Takes, ending-taken, flow-steps-by, flow_stands}
-use Rattle.markdown_blocks.proofs.FlowRows.{Begins, Done, held-shorter, leaving, line-done, next-begins, next_here, no-closes, row-adds, rows_below, text-begins}
+use Rattle.markdown_blocks.proofs.FlowRows.{Begins, Done, held-shorter, leaving, line-done, next-begins, next_here}
+use Rattle.markdown_blocks.proofs.FlowRows.{no-closes, row-adds, rows_below, text-begins}
 use Rattle.markdown_blocks.proofs.FromEnding.{from_ending-shrinks, from_ending-stops}
 
 -- Behind some lines.
@@ -55,11 +60,13 @@ leaf_after still [] = still
 leaf_after still (row ∷ rows) = leaf_after (leaf_behind row.kind) rows
 
 -- the last of them says these, and where the next begins
-open-last : (cs : List Container) (rows : List Row) (row : Row) → open_after cs (rows ++ row ∷ []) ≡ open_behind row.change
+open-last : (cs : List Container) (rows : List Row) (row : Row) →
+    open_after cs (rows ++ row ∷ []) ≡ open_behind row.change
 open-last cs [] row = refl
 open-last cs (first ∷ rows) row = open-last (open_behind first.change) rows row
 
-leaf-last : (still : HeldLeaf) (rows : List Row) (row : Row) → leaf_after still (rows ++ row ∷ []) ≡ leaf_behind row.kind
+leaf-last : (still : HeldLeaf) (rows : List Row) (row : Row) →
+    leaf_after still (rows ++ row ∷ []) ≡ leaf_behind row.kind
 leaf-last still [] row = refl
 leaf-last still (first ∷ rows) row = leaf-last (leaf_behind first.kind) rows row
 
@@ -76,16 +83,20 @@ not_left-last (first ∷ next ∷ rows) row = ap (λ (l : List Row). first ∷ l
 -- the events of lines are those of each
 events-append : (xs ys : List Row) → rows_events (xs ++ ys) ≡ rows_events xs ++ rows_events ys
 events-append [] ys = refl
-events-append (x ∷ xs) ys = ap (λ (es : List Event). row_events x ++ es) (events-append xs ys) ∙ sym (append_assoc (row_events x) (rows_events xs) (rows_events ys))
+events-append (x ∷ xs) ys =
+    ap (λ (es : List Event). row_events x ++ es) (events-append xs ys)
+    ∙ sym (append_assoc (row_events x) (rows_events xs) (rows_events ys))
 
 -- with one line more
-take-next : (n : ℕ) (all : List Row) (row : Row) (below : List Row) → drop n all ≡ row ∷ below → take (suc n) all ≡ take n all ++ row ∷ []
+take-next : (n : ℕ) (all : List Row) (row : Row) (below : List Row) → drop n all ≡ row ∷ below →
+    take (suc n) all ≡ take n all ++ row ∷ []
 take-next zero [] row below e = cc
 take-next zero (first ∷ all) row below e = let same : first ≡ row = cc in ap (λ (r : Row). r ∷ []) same
 take-next (suc n) [] row below e = cc
 take-next (suc n) (first ∷ all) row below e = ap (λ (l : List Row). first ∷ l) (take-next n all row below e)
 
-drop-next : (n : ℕ) (all : List Row) (row : Row) (below : List Row) → drop n all ≡ row ∷ below → drop (suc n) all ≡ below
+drop-next : (n : ℕ) (all : List Row) (row : Row) (below : List Row) → drop n all ≡ row ∷ below →
+    drop (suc n) all ≡ below
 drop-next zero [] row below e = cc
 drop-next zero (first ∷ all) row below e = cc
 drop-next (suc n) [] row below e = cc
@@ -93,9 +104,11 @@ drop-next (suc n) (first ∷ all) row below e = drop-next n all row below e
 
 -- One line.
 
--- the rule that stops in front of a line, and tells what is left there: it adds a cell, so it is told from the end of the text
+-- the rule that stops in front of a line, and tells what is left there: it adds a cell, so it is told from the end of
+-- the text
 abbrev line_stop : Rule
-line_stop cells h = Accepts h (record { byte = 0; after = h.point; line = record { start = 0; lazy = false; pierce = false } } ∷ cells)
+line_stop cells h =
+    Accepts h (record { byte = 0; after = h.point; line = record { start = 0; lazy = false; pierce = false } } ∷ cells)
 
 -- what is known where it has stopped
 abbrev AtStop : (List Cell → Here → Type 0) → Outcome → Type 0
@@ -103,7 +116,8 @@ AtStop P (Accepts h (c ∷ cells)) = P cells h
 AtStop P _ = ⊥
 
 -- A line begins at this place, where these cells are left and so many of all lines are before it.
-record LineAt (options : ParseOptions) (from : Point) (all : List Row) (n : ℕ) (left : List Cell) (h : Here) : Type 0 where
+record LineAt (options : ParseOptions) (from : Point) (all : List Row) (n : ℕ) (left : List Cell)
+    (h : Here) : Type 0 where
   -- what was added in front of the ending before it, and from there on, and what is open
   front : List Event
   tail : List Event
@@ -127,13 +141,16 @@ regroup : (front ends tail more : List Event) → front ++ (ends ++ (tail ++ mor
 regroup front ends tail more = simp append_assoc
 
 -- where the line has come to the begin of another, that is the next
-line-next : (options : ParseOptions) (from : Point) (all : List Row) (n : ℕ) (left : List Cell) (h : Here) → LineAt options from all n left h → (rest : List Cell) (new : Here) → line_then options line_stop left h ≡ line_stop rest new → LineAt options from all (suc n) rest new
+line-next : (options : ParseOptions) (from : Point) (all : List Row) (n : ℕ) (left : List Cell) (h : Here) →
+    LineAt options from all n left h → (rest : List Cell) (new : Here) →
+    line_then options line_stop left h ≡ line_stop rest new → LineAt options from all (suc n) rest new
 line-next options from all n left h l rest new is = by l.size l.fits l.rows
   where
     x : Held
     x = held_at options l.containers l.still left h.point
 
-    d : Done line_stop options l.front l.tail l.point (held_at options l.containers l.still left h.point) (line_then options line_stop left h)
+    d : Done line_stop options l.front l.tail l.point (held_at options l.containers l.still left h.point)
+        (line_then options line_stop left h)
     d = line-done options line_stop l.front l.tail l.point l.containers l.still left h l.begins
 
     behind : List Container
@@ -143,25 +160,36 @@ line-next options from all n left h l rest new is = by l.size l.fits l.rows
     text = leaf_behind (row_kind options (held_at options l.containers l.still left h.point).cells)
 
     -- behind the line, with the ends of these containers
-    added : (c : Cell) (xs : List Cell) (below : List Row) (ls : List Container) → from_ending x.cells ≡ c ∷ xs → drop n all ≡ row_of options x below ∷ below →
-        d.new.events ++ (ends_of ls d.new.point ++ pair (ending_name d.new.flags.blank) d.new.point c.after) ≡ rows_events (take n all ++ leaving ls (row_of options x below) ∷ [])
+    added : (c : Cell) (xs : List Cell) (below : List Row) (ls : List Container) → from_ending x.cells ≡ c ∷ xs →
+        drop n all ≡ row_of options x below ∷ below →
+        d.new.events ++ (ends_of ls d.new.point ++ pair (ending_name d.new.flags.blank) d.new.point c.after) ≡
+        rows_events (take n all ++ leaving ls (row_of options x below) ∷ [])
     added c xs below ls e rows =
         let tail : List Event = pair (ending_name d.new.flags.blank) d.new.point c.after in
         let row : List Event = row_events (leaving ls (row_of options x below)) in
         ap (λ (es : List Event). d.new.events ++ (ends_of ls d.new.point ++ es)) (sym (append-nil tail))
-        ∙ row-adds line_stop options l.front l.tail l.point x (line_then options line_stop left h) d ls (c ∷ xs) below [] e
+        ∙ row-adds line_stop options l.front l.tail l.point x (line_then options line_stop left h) d ls
+        (c ∷ xs) below [] e
         ∙ regroup l.front (ends_of x.change.closes l.point) l.tail (row ++ [])
-        ∙ ap (λ (rs : List Row). (l.front ++ (ends_of (closes_before l.containers rs) l.point ++ l.tail)) ++ (row ++ [])) (sym rows)
+        ∙ ap
+        (λ (rs : List Row). (l.front ++ (ends_of (closes_before l.containers rs) l.point ++ l.tail)) ++ (row ++ []))
+        (sym rows)
         ∙ ap (λ (es : List Event). es ++ (row ++ [])) l.read
         ∙ sym (events-append (take n all) (leaving ls (row_of options x below) ∷ []))
 
-    by : (size : ℕ) → length left < size → drop n all ≡ rows_at options size l.containers l.still left h.point → LineAt options from all (suc n) rest new
+    by : (size : ℕ) → length left < size → drop n all ≡ rows_at options size l.containers l.still left h.point →
+        LineAt options from all (suc n) rest new
     by zero fits rows = absurd (omega arith)
-    by (suc m) fits rows = go (from_ending x.cells) refl (from_ending-stops x.cells) (omega (arith, from_ending-shrinks x.cells, held-shorter options l.containers l.still left h.point)) rows
+    by (suc m) fits rows =
+        go (from_ending x.cells) refl (from_ending-stops x.cells)
+        (omega (arith, from_ending-shrinks x.cells, held-shorter options l.containers l.still left h.point)) rows
       where
-        go : (ls : List Cell) → from_ending x.cells ≡ ls → Stops ls → length ls < suc m → drop n all ≡ onto_rows options x (rows_below options m behind text ls) → LineAt options from all (suc n) rest new
+        go : (ls : List Cell) → from_ending x.cells ≡ ls → Stops ls → length ls < suc m →
+            drop n all ≡ onto_rows options x (rows_below options m behind text ls) →
+            LineAt options from all (suc n) rest new
         go [] e stops short rows =
-            let none : line_stop rest new ≡ ended line_stop [] d.new = sym is ∙ d.is ∙ ap (λ (cells : List Cell). ended line_stop cells d.new) e in
+            let none : line_stop rest new ≡ ended line_stop [] d.new = sym is ∙ d.is
+            ∙ ap (λ (cells : List Cell). ended line_stop cells d.new) e in
             absurd (subst (AtStop (λ cells k. Unit {0})) none tt)
         go (c ∷ xs) e stops short rows =
             let below : List Row = rows_at options m behind text xs c.after in
@@ -170,7 +198,10 @@ line-next options from all n left h l rest new is = by l.size l.fits l.rows
             let dropped : drop (suc n) all ≡ below = drop-next n all row below rows in
             let tail : List Event = pair (ending_name d.new.flags.blank) d.new.point c.after in
             let stopped : line_stop xs (next_here c d.new) ≡ line_stop rest new =
-            sym (d.is ∙ ap (λ (cells : List Cell). ended line_stop cells d.new) e ∙ ap (λ (y : Bool). cond y (line_stop xs (next_here c d.new)) (Refuses d.new.scratch d.new.flags)) stops) ∙ is in
+            sym
+            (d.is ∙ ap (λ (cells : List Cell). ended line_stop cells d.new) e
+            ∙ ap (λ (y : Bool). cond y (line_stop xs (next_here c d.new)) (Refuses d.new.scratch d.new.flags)) stops)
+            ∙ is in
             subst (AtStop (LineAt options from all (suc n))) stopped (record {
               front = d.new.events;
               tail = tail;
@@ -181,15 +212,25 @@ line-next options from all n left h l rest new is = by l.size l.fits l.rows
               size = m;
               fits = omega arith;
               rows = dropped;
-              read = ap (λ (rs : List Row). d.new.events ++ (ends_of (closes_before behind rs) d.new.point ++ tail)) dropped ∙ added c xs below (closes_before behind below) e rows ∙ ap rows_events (sym taken);
-              events = added c xs below [] e rows ∙ ap rows_events (sym (not_left-last (take n all) row)) ∙ ap (λ (rs : List Row). rows_events (not_left rs)) (sym taken);
-              place = ap (λ (ls : List Cell). elim (after_ending ls) [ None ↦ line_end x.cells x.point | Some q ↦ q ]) (sym e) ∙ sym (ap (place_behind from) taken ∙ place-last from (take n all) row);
+              read =
+                  ap
+                  (λ (rs : List Row). d.new.events ++ (ends_of (closes_before behind rs) d.new.point ++ tail)) dropped
+                  ∙ added c xs below (closes_before behind below) e rows ∙ ap rows_events (sym taken);
+              events =
+                  added c xs below [] e rows ∙ ap rows_events (sym (not_left-last (take n all) row))
+                  ∙ ap (λ (rs : List Row). rows_events (not_left rs)) (sym taken);
+              place =
+                  ap (λ (ls : List Cell). elim (after_ending ls) [ None ↦ line_end x.cells x.point | Some q ↦ q ])
+                  (sym e)
+                  ∙ sym (ap (place_behind from) taken ∙ place-last from (take n all) row);
               containers_are = sym (ap (open_after []) taken ∙ open-last [] (take n all) row);
               still_is = sym (ap (leaf_after held_leaf.None) taken ∙ leaf-last held_leaf.None (take n all) row);
             })
 
 -- where a line begins there are more lines than before it
-is-further : (options : ParseOptions) (all : List Row) (n size : ℕ) (cs : List Container) (still : HeldLeaf) (left : List Cell) (p : Point) → length left < size → drop n all ≡ rows_at options size cs still left p → n < length all
+is-further : (options : ParseOptions) (all : List Row) (n size : ℕ) (cs : List Container) (still : HeldLeaf)
+    (left : List Cell) (p : Point) →
+    length left < size → drop n all ≡ rows_at options size cs still left p → n < length all
 is-further options all n zero cs still left p fits rows = absurd (omega arith)
 is-further options all n (suc m) cs still left p fits rows =
     let many = ap length rows in
@@ -203,13 +244,16 @@ none-or-ending : (name : StateName) (o : Option ℕ) →
 none-or-ending (s.Document document.FlowEnd) None = inl refl
 none-or-ending (s.Document document.FlowEnd) (Some b) = go (nat_eq b 10) refl
   where
-    go : (x : Bool) → nat_eq b 10 ≡ x → (let lines : ℕ = cond x 1 0 in lines ≡ 0) ⊎ ((s.Document document.FlowEnd ≡ s.Document document.FlowEnd) × (Some b ≡ Some 10))
+    go : (x : Bool) → nat_eq b 10 ≡ x →
+        (let lines : ℕ = cond x 1 0 in lines ≡ 0) ⊎
+        ((s.Document document.FlowEnd ≡ s.Document document.FlowEnd) × (Some b ≡ Some 10))
     go true e = inr (refl, ap (λ (c : ℕ). Some c) (eqb-true b 10 e))
     go false e = inl refl
 none-or-ending name o = inl refl
 
 -- So many of all lines were fed; the tokenizer comes to what is left of the line that it reads.
-record Within (options : ParseOptions) (feed : Feed) (from : Point) (all : List Row) (n : ℕ) (t : State) (v : World) : Type 0 where
+record Within (options : ParseOptions) (feed : Feed) (from : Point) (all : List Row) (n : ℕ) (t : State)
+    (v : World) : Type 0 where
   at : stands flow_table_scheme v (plain t)
   left : List Cell
   begin : Here
@@ -217,13 +261,16 @@ record Within (options : ParseOptions) (feed : Feed) (from : Point) (all : List 
   comes : comes_to (flow_behaves_by options line_stop) feed t v ≡ line_then options line_stop left begin
 
 -- a line was fed: no attempt is around, and the next begins
-record Behind (options : ParseOptions) (feed : Feed) (from : Point) (all : List Row) (n : ℕ) (t : State) (v : World) : Type 0 where
+record Behind (options : ParseOptions) (feed : Feed) (from : Point) (all : List Row) (n : ℕ) (t : State)
+    (v : World) : Type 0 where
   to : t ≡ Next (s.Document document.ContainerExistingBefore)
   frames : v.frames ≡ []
   line : LineAt options from all n (feed v.point) (here v)
 
 -- an attempt is left
-within-leaves : (options : ParseOptions) (feed : Feed) (from : Point) (all : List Row) (n : ℕ) (t : State) (v : World) (t' : State) (v' : World) → Within options feed from all n t v → Leaves t v t' v' → Within options feed from all n t' v'
+within-leaves : (options : ParseOptions) (feed : Feed) (from : Point) (all : List Row) (n : ℕ) (t : State) (v : World)
+    (t' : State) (v' : World) →
+    Within options feed from all n t v → Leaves t v t' v' → Within options feed from all n t' v'
 within-leaves options feed from all n t v t' v' w l = record {
   at = leaves_stands flow_table_scheme v v' t t' l w.at;
   left = w.left;
@@ -233,21 +280,28 @@ within-leaves options feed from all n t v t' v' w l = record {
 }
 
 -- where a state is called
-comes-called : (options : ParseOptions) (feed : Feed) (from : Point) (all : List Row) (n : ℕ) (t : State) (v : World) (name : StateName) → plain t ≡ Next name → (w : Within options feed from all n t v) →
+comes-called : (options : ParseOptions) (feed : Feed) (from : Point) (all : List Row) (n : ℕ) (t : State) (v : World)
+    (name : StateName) →
+    plain t ≡ Next name → (w : Within options feed from all n t v) →
     comes_to (flow_behaves_by options line_stop) feed (Next name) v ≡ line_then options line_stop w.left w.begin
 comes-called options feed from all n t v name names w =
     let B = flow_behaves_by options line_stop in
     ap (λ (x : State). comes_to B feed x v) (sym names) ∙ plain-same B feed v t ∙ w.comes
 
 -- a call that feeds no line
-within-calls : (is_name : ResolveName → ResolveName → Bool) (options : ParseOptions) (feed : Feed) (from : Point) (all : List Row) (n : ℕ) (t : State) (v : World) (t' : State) (v' : World) → Follows feed v.setting true → v.setting.options ≡ options → Within options feed from all n t v →
+within-calls : (is_name : ResolveName → ResolveName → Bool) (options : ParseOptions) (feed : Feed) (from : Point)
+    (all : List Row) (n : ℕ) (t : State) (v : World) (t' : State) (v' : World) →
+    Follows feed v.setting true → v.setting.options ≡ options → Within options feed from all n t v →
     (c : Calls (FlowStep is_name) true t v t' v') → feeds c.name (looks v) ≡ 0 → Within options feed from all n t' v'
 within-calls is_name options feed from all n t v t' v' f o w c none = record {
   at = flow_stands is_name c.name v t' v' stood c.step;
   left = w.left;
   begin = w.begin;
   line = w.line;
-  comes = sym (steps-keep (flow_behaves_by options line_stop) feed (Next c.name) t' (reading v) v' c.within (subst P o steps)) ∙ comes-called options feed from all n t v c.name c.names w;
+  comes =
+      sym
+      (steps-keep (flow_behaves_by options line_stop) feed (Next c.name) t' (reading v) v' c.within (subst P o steps))
+      ∙ comes-called options feed from all n t v c.name c.names w;
 }
   where
     Q : State → Type 0
@@ -261,11 +315,15 @@ within-calls is_name options feed from all n t v t' v' f o w c none = record {
 
     steps : Steps (flow_behaves_by v.setting.options line_stop) feed (Next c.name) (reading v) t' v'
     steps =
-        steps-as (flow_behaves_by v.setting.options line_stop) feed (Next c.name) (flow_transition is_name c.name (reading v)).to t' (reading v) (flow_transition is_name c.name (reading v)).world v' c.step.to_is c.step.new_is
+        steps-as (flow_behaves_by v.setting.options line_stop) feed (Next c.name)
+        (flow_transition is_name c.name (reading v)).to t' (reading v)
+        (flow_transition is_name c.name (reading v)).world v' c.step.to_is c.step.new_is
         (flow-steps-by is_name feed line_stop c.name (reading v) (sees feed v true f c.may) stood none)
 
 -- the call that takes an ending
-behind-calls : (is_name : ResolveName → ResolveName → Bool) (options : ParseOptions) (feed : Feed) (from : Point) (all : List Row) (n : ℕ) (t : State) (v : World) (t' : State) (v' : World) → Follows feed v.setting true → v.setting.options ≡ options → Within options feed from all n t v →
+behind-calls : (is_name : ResolveName → ResolveName → Bool) (options : ParseOptions) (feed : Feed) (from : Point)
+    (all : List Row) (n : ℕ) (t : State) (v : World) (t' : State) (v' : World) →
+    Follows feed v.setting true → v.setting.options ≡ options → Within options feed from all n t v →
     Calls (FlowStep is_name) true t v t' v' → plain t ≡ Next (s.Document document.FlowEnd) →
     FlowStep is_name (s.Document document.FlowEnd) (reading v) t' v' → looks v ≡ Some 10 →
     Behind options feed from all (suc n) t' v'
@@ -278,38 +336,55 @@ behind-calls is_name options feed from all n t v t' v' f o w c names step ten = 
     Q : State → Type 0
     Q x = stands flow_table_scheme v x
 
-    taken : Takes line_stop feed (reading v) (flow_transition is_name (s.Document document.FlowEnd) (reading v)).to (flow_transition is_name (s.Document document.FlowEnd) (reading v)).world
+    taken : Takes line_stop feed (reading v) (flow_transition is_name (s.Document document.FlowEnd) (reading v)).to
+        (flow_transition is_name (s.Document document.FlowEnd) (reading v)).world
     taken = ending-taken is_name feed line_stop (reading v) (sees feed v true f c.may) (subst Q names w.at) ten
 
     ended : line_then options line_stop w.left w.begin ≡ line_stop (feed v'.point) (here v')
     ended =
         sym (comes-called options feed from all n t v (s.Document document.FlowEnd) names w)
-        ∙ ap (λ (fs : List Frame). resume_all (flow_behaves_by options line_stop) feed v.events fs (goes (flow_behaves_by options line_stop) (Next (s.Document document.FlowEnd)) (feed v.point) (here v))) taken.frames
-        ∙ ap (λ (x : ParseOptions). goes (flow_behaves_by x line_stop) (Next (s.Document document.FlowEnd)) (feed v.point) (here v)) (sym o)
+        ∙ ap
+        (λ (fs : List Frame).
+        resume_all (flow_behaves_by options line_stop) feed v.events fs
+        (goes (flow_behaves_by options line_stop) (Next (s.Document document.FlowEnd)) (feed v.point) (here v)))
+        taken.frames
+        ∙ ap
+        (λ (x : ParseOptions).
+        goes (flow_behaves_by x line_stop) (Next (s.Document document.FlowEnd)) (feed v.point) (here v))
+        (sym o)
         ∙ taken.goes_on
         ∙ ap (λ (x : World). line_stop (feed x.point) (here x)) (sym step.new_is)
 
 -- by the state that is called
-behind-feed : (is_name : ResolveName → ResolveName → Bool) (options : ParseOptions) (feed : Feed) (from : Point) (all : List Row) (n : ℕ) (t : State) (v : World) (t' : State) (v' : World) → Follows feed v.setting true → v.setting.options ≡ options → Within options feed from all n t v →
+behind-feed : (is_name : ResolveName → ResolveName → Bool) (options : ParseOptions) (feed : Feed) (from : Point)
+    (all : List Row) (n : ℕ) (t : State) (v : World) (t' : State) (v' : World) →
+    Follows feed v.setting true → v.setting.options ≡ options → Within options feed from all n t v →
     (c : Calls (FlowStep is_name) true t v t' v') → c.name ≡ s.Document document.FlowEnd → looks v ≡ Some 10 →
     Behind options feed from all (suc n) t' v'
 behind-feed is_name options feed from all n t v t' v' f o w c e ten =
     let P : StateName → Type 0 = λ x. FlowStep is_name x (reading v) t' v' in
-    behind-calls is_name options feed from all n t v t' v' f o w c (c.names ∙ ap (λ (x : StateName). Next x) e) (subst P e c.step) ten
+    behind-calls is_name options feed from all n t v t' v' f o w c (c.names ∙ ap (λ (x : StateName). Next x) e)
+    (subst P e c.step) ten
 
 -- there the tokenizer reads the next line
-behind-within : (options : ParseOptions) (feed : Feed) (from : Point) (all : List Row) (n : ℕ) (t : State) (v : World) → stands flow_table_scheme v (plain t) → Behind options feed from all n t v → Within options feed from all n t v
+behind-within : (options : ParseOptions) (feed : Feed) (from : Point) (all : List Row) (n : ℕ) (t : State) (v : World) →
+    stands flow_table_scheme v (plain t) → Behind options feed from all n t v → Within options feed from all n t v
 behind-within options feed from all n t v at b = record {
   at = at;
   left = feed v.point;
   begin = here v;
   line = b.line;
   comes = ap (λ (x : State). comes_to (flow_behaves_by options line_stop) feed x v) b.to
-      ∙ ap (λ (fs : List Frame). resume_all (flow_behaves_by options line_stop) feed v.events fs (line_then options line_stop (feed v.point) (here v))) b.frames;
+      ∙ ap
+      (λ (fs : List Frame).
+      resume_all (flow_behaves_by options line_stop) feed v.events fs
+      (line_then options line_stop (feed v.point) (here v))) b.frames;
 }
 
 -- so any call leads on
-within-next : (is_name : ResolveName → ResolveName → Bool) (options : ParseOptions) (feed : Feed) (from : Point) (all : List Row) (n : ℕ) (t : State) (v : World) (t' : State) (v' : World) → Follows feed v.setting true → v.setting.options ≡ options → Within options feed from all n t v →
+within-next : (is_name : ResolveName → ResolveName → Bool) (options : ParseOptions) (feed : Feed) (from : Point)
+    (all : List Row) (n : ℕ) (t : State) (v : World) (t' : State) (v' : World) →
+    Follows feed v.setting true → v.setting.options ≡ options → Within options feed from all n t v →
     (c : Calls (FlowStep is_name) true t v t' v') → Within options feed from all (feeds c.name (looks v) + n) t' v'
 within-next is_name options feed from all n t v t' v' f o w c = go (none-or-ending c.name (looks v))
   where
@@ -322,25 +397,34 @@ within-next is_name options feed from all n t v t' v' f o w c = go (none-or-endi
     at : stands flow_table_scheme v' (plain t')
     at = flow_stands is_name c.name v t' v' (subst Q c.names w.at) c.step
 
-    go : (feeds c.name (looks v) ≡ 0) ⊎ ((c.name ≡ s.Document document.FlowEnd) × (looks v ≡ Some 10)) → Within options feed from all (feeds c.name (looks v) + n) t' v'
+    go : (feeds c.name (looks v) ≡ 0) ⊎ ((c.name ≡ s.Document document.FlowEnd) × (looks v ≡ Some 10)) →
+        Within options feed from all (feeds c.name (looks v) + n) t' v'
     go (inl none) =
         let same : n ≡ feeds c.name (looks v) + n = omega (arith, none) in
         subst P same (within-calls is_name options feed from all n t v t' v' f o w c none)
     go (inr one) =
-        let lines : feeds c.name (looks v) ≡ 1 = ap (λ (x : StateName). feeds x (looks v)) one.0 ∙ ap (λ (x : Option ℕ). feeds (s.Document document.FlowEnd) x) one.1 in
+        let lines : feeds c.name (looks v) ≡ 1 = ap (λ (x : StateName). feeds x (looks v)) one.0
+        ∙ ap (λ (x : Option ℕ). feeds (s.Document document.FlowEnd) x) one.1 in
         let same : suc n ≡ feeds c.name (looks v) + n = omega (arith, lines) in
-        subst P same (behind-within options feed from all (suc n) t' v' at (behind-feed is_name options feed from all n t v t' v' f o w c one.0 one.1))
+        subst P same
+        (behind-within options feed from all (suc n) t' v' at
+        (behind-feed is_name options feed from all n t v t' v' f o w c one.0 one.1))
 
 -- and all of a run does
-within-run : (is_name : ResolveName → ResolveName → Bool) (options : ParseOptions) (feed : Feed) (from : Point) (all : List Row) (begin : State) (w : World) → Follows feed w.setting true → w.setting.options ≡ options → Within options feed from all 0 begin w →
-    (t : State) (v : World) (run : Runs (FlowStep is_name) true begin w t v) → Within options feed from all (fed (FlowStep is_name) true begin w t v run) t v
+within-run : (is_name : ResolveName → ResolveName → Bool) (options : ParseOptions) (feed : Feed) (from : Point)
+    (all : List Row) (begin : State) (w : World) →
+    Follows feed w.setting true → w.setting.options ≡ options → Within options feed from all 0 begin w →
+    (t : State) (v : World) (run : Runs (FlowStep is_name) true begin w t v) →
+    Within options feed from all (fed (FlowStep is_name) true begin w t v run) t v
 within-run is_name options feed from all begin w f o begun t v Stays = begun
 within-run is_name options feed from all begin w f o begun to new (ThenLeaves t v t' v' run l) =
-    within-leaves options feed from all (fed (FlowStep is_name) true begin w t v run) t v t' v' (within-run is_name options feed from all begin w f o begun t v run) l
+    within-leaves options feed from all (fed (FlowStep is_name) true begin w t v run) t v t' v'
+    (within-run is_name options feed from all begin w f o begun t v run) l
 within-run is_name options feed from all begin w f o begun to new (ThenCalls t v t' v' run c) =
     let P : Setting → Type 0 = λ x. Follows feed x true in
     let kept : v.setting ≡ w.setting = runs-setting (FlowStep is_name) true begin w t v run in
-    within-next is_name options feed from all (fed (FlowStep is_name) true begin w t v run) t v t' v' (subst P (sym kept) f) (ap (λ (x : Setting). x.options) kept ∙ o)
+    within-next is_name options feed from all (fed (FlowStep is_name) true begin w t v run) t v t' v'
+    (subst P (sym kept) f) (ap (λ (x : Setting). x.options) kept ∙ o)
     (within-run is_name options feed from all begin w f o begun t v run) c
 
 -- A text.
@@ -359,7 +443,8 @@ ending-fed : (name : StateName) (o : Option ℕ) → feeds name o ≡ 1 →
     (name ≡ s.Document document.FlowEnd) × (o ≡ Some 10)
 ending-fed name o one = go (none-or-ending name o)
   where
-    go : (feeds name o ≡ 0) ⊎ ((name ≡ s.Document document.FlowEnd) × (o ≡ Some 10)) → (name ≡ s.Document document.FlowEnd) × (o ≡ Some 10)
+    go : (feeds name o ≡ 0) ⊎ ((name ≡ s.Document document.FlowEnd) × (o ≡ Some 10)) →
+        (name ≡ s.Document document.FlowEnd) × (o ≡ Some 10)
     go (inl none) = absurd (omega (arith, none, one))
     go (inr is) = is
 
@@ -367,18 +452,26 @@ ending-fed name o one = go (none-or-ending name o)
 abbrev feed_of : List ℕ → ParseOptions → Point → Feed
 feed_of bytes options p = text_feed (text_setting bytes options p)
 
-text-follows_it : (bytes : List ℕ) (options : ParseOptions) (p : Point) → length bytes < 2 ^ 61 → Follows (feed_of bytes options p) (text_setting bytes options p) true
-text-follows_it bytes options p small = text-follows (text_setting bytes options p) (length bytes) true small (omega arith) (λ e. refl)
+text-follows_it : (bytes : List ℕ) (options : ParseOptions) (p : Point) → length bytes < 2 ^ 61 →
+    Follows (feed_of bytes options p) (text_setting bytes options p) true
+text-follows_it bytes options p small =
+    text-follows (text_setting bytes options p) (length bytes) true small (omega arith) (λ e. refl)
 
 -- a run over it reads one line after another
-text-within : (is_name : ResolveName → ResolveName → Bool) (bytes : List ℕ) (options : ParseOptions) (p : Point) → length bytes < 2 ^ 61 → (t : State) (v : World) (run : Runs (FlowStep is_name) true line_begins (flow_begins bytes options p) t v) →
-    Within options (feed_of bytes options p) p (text_rows options bytes p) (fed (FlowStep is_name) true line_begins (flow_begins bytes options p) t v run) t v
-text-within is_name bytes options p small t v run = within-run is_name options (feed_of bytes options p) p (text_rows options bytes p) line_begins (flow_begins bytes options p) (text-follows_it bytes options p small) refl begun t v run
+text-within : (is_name : ResolveName → ResolveName → Bool) (bytes : List ℕ) (options : ParseOptions) (p : Point) →
+    length bytes < 2 ^ 61 →
+    (t : State) (v : World) (run : Runs (FlowStep is_name) true line_begins (flow_begins bytes options p) t v) →
+    Within options (feed_of bytes options p) p (text_rows options bytes p)
+    (fed (FlowStep is_name) true line_begins (flow_begins bytes options p) t v run) t v
+text-within is_name bytes options p small t v run =
+    within-run is_name options (feed_of bytes options p) p (text_rows options bytes p) line_begins
+    (flow_begins bytes options p) (text-follows_it bytes options p small) refl begun t v run
   where
     closed : (held_at options [] held_leaf.None (text_cells bytes options p) p).change.closes ≡ []
     closed = no-closes options (text_cells bytes options p) p
 
-    begun : Within options (feed_of bytes options p) p (text_rows options bytes p) 0 line_begins (flow_begins bytes options p)
+    begun : Within options (feed_of bytes options p) p (text_rows options bytes p) 0 line_begins
+        (flow_begins bytes options p)
     begun = record {
       at = ((refl, record { ok = λ s q t is up way. tt; nok = λ s q t is up. tt }), tt);
       left = text_cells bytes options p;
@@ -403,14 +496,22 @@ text-within is_name bytes options p small t v run = within-run is_name options (
     }
 
 -- whenever it has fed a line, it stands at the begin of the next
-pub line-fed : (is_name : ResolveName → ResolveName → Bool) (bytes : List ℕ) (options : ParseOptions) (p : Point) → length bytes < 2 ^ 61 →
-    (t : State) (v : World) (t' : State) (v' : World) (run : Runs (FlowStep is_name) true line_begins (flow_begins bytes options p) t v) (calls : Calls (FlowStep is_name) true t v t' v') →
-    feeds calls.name (looks v) ≡ 1 → LineFed bytes options p (suc (fed (FlowStep is_name) true line_begins (flow_begins bytes options p) t v run)) v'
+pub line-fed : (is_name : ResolveName → ResolveName → Bool) (bytes : List ℕ) (options : ParseOptions) (p : Point) →
+    length bytes < 2 ^ 61 →
+    (t : State) (v : World) (t' : State) (v' : World)
+    (run : Runs (FlowStep is_name) true line_begins (flow_begins bytes options p) t v)
+    (calls : Calls (FlowStep is_name) true t v t' v') →
+    feeds calls.name (looks v) ≡ 1 →
+    LineFed bytes options p (suc (fed (FlowStep is_name) true line_begins (flow_begins bytes options p) t v run)) v'
 line-fed is_name bytes options p small t v t' v' run c one = record {
   frames = b.frames;
-  further = is-further options (text_rows options bytes p) (suc n) b.line.size b.line.containers b.line.still (feed_of bytes options p v'.point) v'.point b.line.fits b.line.rows;
+  further =
+      is-further options (text_rows options bytes p) (suc n) b.line.size b.line.containers b.line.still
+      (feed_of bytes options p v'.point) v'.point b.line.fits b.line.rows;
   point = b.line.place;
-  containers = let P : List Container → Type 0 = λ cs. AreOpen v'.flags.containers cs in subst P b.line.containers_are b.line.begins.containers;
+  containers =
+      let P : List Container → Type 0 = λ cs. AreOpen v'.flags.containers cs in
+      subst P b.line.containers_are b.line.begins.containers;
   leaf = b.line.begins.leaf ∙ b.line.still_is;
   events = b.line.events;
 }
@@ -427,19 +528,23 @@ line-fed is_name bytes options p small t v t' v' run c one = record {
     b : Behind options (feed_of bytes options p) p (text_rows options bytes p) (suc n) t' v'
     b =
         let P : Setting → Type 0 = λ x. Follows (feed_of bytes options p) x true in
-        behind-feed is_name options (feed_of bytes options p) p (text_rows options bytes p) n t v t' v' (subst P (sym kept) (text-follows_it bytes options p small)) (ap (λ (x : Setting). x.options) kept)
+        behind-feed is_name options (feed_of bytes options p) p (text_rows options bytes p) n t v t' v'
+        (subst P (sym kept) (text-follows_it bytes options p small)) (ap (λ (x : Setting). x.options) kept)
         (text-within is_name bytes options p small t v run) c ending.0 ending.1
 
 -- The last line.
 
 -- where a line comes to the end of the text, it is the last
-line-last : (options : ParseOptions) (from : Point) (all : List Row) (n : ℕ) (left : List Cell) (h : Here) → LineAt options from all n left h → (new : Here) → line_then options line_stop left h ≡ Accepts new [] → suc n ≡ length all
+line-last : (options : ParseOptions) (from : Point) (all : List Row) (n : ℕ) (left : List Cell) (h : Here) →
+    LineAt options from all n left h → (new : Here) → line_then options line_stop left h ≡ Accepts new [] →
+    suc n ≡ length all
 line-last options from all n left h l new is = by l.size l.fits l.rows
   where
     x : Held
     x = held_at options l.containers l.still left h.point
 
-    d : Done line_stop options l.front l.tail l.point (held_at options l.containers l.still left h.point) (line_then options line_stop left h)
+    d : Done line_stop options l.front l.tail l.point (held_at options l.containers l.still left h.point)
+        (line_then options line_stop left h)
     d = line-done options line_stop l.front l.tail l.point l.containers l.still left h l.begins
 
     behind : List Container
@@ -448,23 +553,32 @@ line-last options from all n left h l new is = by l.size l.fits l.rows
     text : HeldLeaf
     text = leaf_behind (row_kind options (held_at options l.containers l.still left h.point).cells)
 
-    by : (size : ℕ) → length left < size → drop n all ≡ rows_at options size l.containers l.still left h.point → suc n ≡ length all
+    by : (size : ℕ) → length left < size → drop n all ≡ rows_at options size l.containers l.still left h.point →
+        suc n ≡ length all
     by zero fits rows = absurd (omega arith)
     by (suc m) fits rows = go (from_ending x.cells) refl (from_ending-stops x.cells) rows
       where
-        go : (ls : List Cell) → from_ending x.cells ≡ ls → Stops ls → drop n all ≡ onto_rows options x (rows_below options m behind text ls) → suc n ≡ length all
+        go : (ls : List Cell) → from_ending x.cells ≡ ls → Stops ls →
+            drop n all ≡ onto_rows options x (rows_below options m behind text ls) → suc n ≡ length all
         go [] e stops rows = let one = ap length rows in omega (arith, one, length-drop n all)
         go (c ∷ xs) e stops rows =
             let stopped : Accepts new [] ≡ line_stop xs (next_here c d.new) =
-            sym is ∙ d.is ∙ ap (λ (cells : List Cell). ended line_stop cells d.new) e ∙ ap (λ (y : Bool). cond y (line_stop xs (next_here c d.new)) (Refuses d.new.scratch d.new.flags)) stops in
+            sym is ∙ d.is ∙ ap (λ (cells : List Cell). ended line_stop cells d.new) e
+            ∙ ap
+            (λ (y : Bool). cond y (line_stop xs (next_here c d.new)) (Refuses d.new.scratch d.new.flags)) stops in
             absurd (subst (AtStop (λ cells k. Unit {0})) (sym stopped) tt)
 
 -- a run that ends with the text has fed all lines but the last
-pub lines-fed : (is_name : ResolveName → ResolveName → Bool) (bytes : List ℕ) (options : ParseOptions) (p : Point) → length bytes < 2 ^ 61 →
-    (end : State) (at : World) (run : Runs (FlowStep is_name) true line_begins (flow_begins bytes options p) end at) → end ≡ Ok → at.frames ≡ [] → text_feed (text_setting bytes options p) at.point ≡ [] →
-    suc (fed (FlowStep is_name) true line_begins (flow_begins bytes options p) end at run) ≡ length (text_rows options bytes p)
+pub lines-fed : (is_name : ResolveName → ResolveName → Bool) (bytes : List ℕ) (options : ParseOptions) (p : Point) →
+    length bytes < 2 ^ 61 →
+    (end : State) (at : World) (run : Runs (FlowStep is_name) true line_begins (flow_begins bytes options p) end at) →
+    end ≡ Ok → at.frames ≡ [] → text_feed (text_setting bytes options p) at.point ≡ [] →
+    suc (fed (FlowStep is_name) true line_begins (flow_begins bytes options p) end at run) ≡
+    length (text_rows options bytes p)
 lines-fed is_name bytes options p small end at run ok none done =
-    line-last options p (text_rows options bytes p) (fed (FlowStep is_name) true line_begins (flow_begins bytes options p) end at run) w.left w.begin w.line (here at)
+    line-last options p (text_rows options bytes p)
+    (fed (FlowStep is_name) true line_begins (flow_begins bytes options p) end at run) w.left w.begin w.line
+    (here at)
     (sym w.comes
     ∙ ap (λ (x : State). comes_to B feed x at) ok
     ∙ ap (λ (fs : List Frame). resume_all B feed at.events fs (Accepts (here at) (feed at.point))) none
@@ -476,5 +590,6 @@ lines-fed is_name bytes options p small end at run ok none done =
     feed : Feed
     feed = feed_of bytes options p
 
-    w : Within options (feed_of bytes options p) p (text_rows options bytes p) (fed (FlowStep is_name) true line_begins (flow_begins bytes options p) end at run) end at
+    w : Within options (feed_of bytes options p) p (text_rows options bytes p)
+        (fed (FlowStep is_name) true line_begins (flow_begins bytes options p) end at run) end at
     w = text-within is_name bytes options p small end at run

@@ -1,5 +1,6 @@
 -- The byte order mark in front of a text: where the lines begin behind it, and what its events add.
-use Rattle.std.proofs.Common.{◌≡◌, ℕ, ◌-◌, ◌/◌, ◌^◌, ◌≤◌, Bool, true, false, cond, nat_lt, ◌||◌, ◌&&◌, ◌==◌, List, [], ◌∷◌, ◌++◌, length, drop, slice_index, refl, ap, ◌∙◌, sym, subst, arith}
+use Rattle.std.proofs.Common.{◌≡◌, ℕ, ◌-◌, ◌/◌, ◌^◌, ◌≤◌, Bool, true, false, cond, nat_lt, ◌||◌, ◌&&◌, ◌==◌, List, []}
+use Rattle.std.proofs.Common.{◌∷◌, ◌++◌, length, drop, slice_index, refl, ap, ◌∙◌, sym, subst, arith}
 use Rattle.std.specs.Prelude.{None}
 use Rattle.std.specs.List.{list_all}
 use Rattle.std.proofs.lemmas.Bool.{and_from}
@@ -97,7 +98,9 @@ either false false false true e h = refl
 either false false false false e h = h
 
 between-mark : (bytes : List ℕ) → has_mark bytes ≡ true → is_between bytes 3 ≡ true
-between-mark bytes h = either false (3 == length bytes) (nat_lt (slice_index bytes 2) 128) (nat_lt (slice_index bytes 3) 128) (has_mark bytes) h
+between-mark bytes h =
+    either false (3 == length bytes) (nat_lt (slice_index bytes 2) 128) (nat_lt (slice_index bytes 3) 128)
+    (has_mark bytes) h
 
 pub body-between : (bytes : List ℕ) → is_between bytes (body_point bytes).index ≡ true
 body-between bytes = go (has_mark bytes) refl
@@ -112,31 +115,48 @@ mark-balanced : (bytes : List ℕ) (events : List Event) → Balanced events →
 mark-balanced bytes events balanced = go (has_mark bytes)
   where
     go : (x : Bool) → Balanced (cond x (pair ByteOrderMark first_point mark_end) [] ++ events)
-    go true = balanced-append (pair ByteOrderMark first_point mark_end) events (record { matches = (tt, (refl, tt)); closed = refl }) balanced
+    go true =
+        balanced-append (pair ByteOrderMark first_point mark_end) events
+        (record { matches = (tt, (refl, tt)); closed = refl }) balanced
     go false = balanced
 
-pub mark-nested : (bytes : List ℕ) (events : List Event) → Balanced events → Forward (body_point bytes) events → Nested (mark_events bytes ++ events)
-mark-nested bytes events balanced forward = record { balanced = mark-balanced bytes events balanced; forward = go (has_mark bytes) forward }
+pub mark-nested : (bytes : List ℕ) (events : List Event) → Balanced events → Forward (body_point bytes) events →
+    Nested (mark_events bytes ++ events)
+mark-nested bytes events balanced forward = record {
+  balanced = mark-balanced bytes events balanced;
+  forward = go (has_mark bytes) forward;
+}
   where
-    go : (x : Bool) → Forward (cond x mark_end first_point) events → Forward first_point (cond x (pair ByteOrderMark first_point mark_end) [] ++ events)
+    go : (x : Bool) → Forward (cond x mark_end first_point) events →
+        Forward first_point (cond x (pair ByteOrderMark first_point mark_end) [] ++ events)
     go true f = (refl, (refl, f))
     go false f = f
 
 -- the tree does not show them
-pub mark-spelled : (bytes : List ℕ) (events : List Event) → spelled (mark_events bytes ++ events) bytes ≡ spelled events bytes
+pub mark-spelled : (bytes : List ℕ) (events : List Event) →
+    spelled (mark_events bytes ++ events) bytes ≡ spelled events bytes
 unfolding spelled
 mark-spelled bytes events = go (has_mark bytes)
   where
-    go : (x : Bool) → (read bytes unread (cond x (pair ByteOrderMark first_point mark_end) [] ++ events)).here ≡ (read bytes unread events).here
-    go true = ap (λ (r : Reading). r.here) (read-from bytes unread unread (pair ByteOrderMark first_point mark_end) events (read-quiet bytes unread (pair ByteOrderMark first_point mark_end) (tt, (tt, tt))))
+    go : (x : Bool) →
+        (read bytes unread (cond x (pair ByteOrderMark first_point mark_end) [] ++ events)).here ≡
+        (read bytes unread events).here
+    go true =
+        ap (λ (r : Reading). r.here)
+        (read-from bytes unread unread (pair ByteOrderMark first_point mark_end) events
+        (read-quiet bytes unread (pair ByteOrderMark first_point mark_end) (tt, (tt, tt))))
     go false = refl
 
 -- they stand between characters
-pub mark-between : (bytes : List ℕ) → list_all (λ (e : Event). is_between bytes e.point.index) (mark_events bytes) ≡ true
+pub mark-between : (bytes : List ℕ) →
+    list_all (λ (e : Event). is_between bytes e.point.index) (mark_events bytes) ≡ true
 mark-between bytes = go (has_mark bytes) refl
   where
-    go : (x : Bool) → has_mark bytes ≡ x → list_all (λ (e : Event). is_between bytes e.point.index) (cond x (pair ByteOrderMark first_point mark_end) []) ≡ true
-    go true e = and_from true (is_between bytes 3 && true) refl (and_from (is_between bytes 3) true (between-mark bytes e) refl)
+    go : (x : Bool) → has_mark bytes ≡ x →
+        list_all (λ (e : Event). is_between bytes e.point.index) (cond x (pair ByteOrderMark first_point mark_end) []) ≡
+        true
+    go true e =
+        and_from true (is_between bytes 3 && true) refl (and_from (is_between bytes 3) true (between-mark bytes e) refl)
     go false e = refl
 
 -- an outline does not show them
@@ -155,19 +175,23 @@ mark-texts bytes = go (has_mark bytes)
     go false = refl
 
 -- they part no text
-mark-parted : (bytes : List ℕ) (events : List Event) → are_parted bytes None events ≡ true → are_parted bytes None (mark_events bytes ++ events) ≡ true
+mark-parted : (bytes : List ℕ) (events : List Event) → are_parted bytes None events ≡ true →
+    are_parted bytes None (mark_events bytes ++ events) ≡ true
 mark-parted bytes events h = go (has_mark bytes)
   where
     go : (x : Bool) → are_parted bytes None (cond x (pair ByteOrderMark first_point mark_end) [] ++ events) ≡ true
     go true = h
     go false = h
 
-pub mark-outlined : (bytes : List ℕ) (events : List Event) → IsOutlined events bytes → IsOutlined (mark_events bytes ++ events) bytes
+pub mark-outlined : (bytes : List ℕ) (events : List Event) → IsOutlined events bytes →
+    IsOutlined (mark_events bytes ++ events) bytes
 mark-outlined bytes events is = record {
   balanced = mark-balanced bytes events is.balanced;
   names = all-append has_plain_name (mark_events bytes) events (mark-names bytes) is.names;
   text = is.text;
-  between = all-append (λ (e : Event). is_between bytes e.point.index) (mark_events bytes) events (mark-between bytes) is.between;
+  between =
+      all-append (λ (e : Event). is_between bytes e.point.index) (mark_events bytes) events
+      (mark-between bytes) is.between;
   texts = all-append (tells_between bytes) (mark_events bytes) events (mark-texts bytes) is.texts;
   parted = mark-parted bytes events is.parted;
   depths = ap are_shallow (mark-spelled bytes events) ∙ is.depths;

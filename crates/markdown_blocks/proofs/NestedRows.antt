@@ -1,7 +1,8 @@
 -- The events of a text nest.
 use Rattle.md_engine.specs.declared.tokenizer.held_leaf.HeldLeaf.TheVariants as held_leaf
 use Rattle.md_engine.specs.declared.tokenizer.held_leaf.HeldLeaf.{HeldLeaf}
-use Rattle.std.proofs.Common.{◌≡◌, ◌≢◌, ℕ, Bool, true, false, cond, List, [], ◌∷◌, ◌++◌, refl, ap, sym, ◌∙◌, subst, append_assoc, append-nil}
+use Rattle.std.proofs.Common.{◌≡◌, ◌≢◌, ℕ, Bool, true, false, cond, List, [], ◌∷◌, ◌++◌, refl, ap, sym, ◌∙◌, subst}
+use Rattle.std.proofs.Common.{append_assoc, append-nil}
 use Rattle.std.specs.Prelude.{IsTrue, Option, Some, None}
 use Rattle.std.proofs.lemmas.Bool.{and_parts}
 use Rattle.md_engine.specs.declared.configuration.ParseOptions.{ParseOptions}
@@ -11,13 +12,18 @@ use Rattle.md_engine.specs.declared.event.Point.{Point}
 use Rattle.md_seam.specs.Events.Nested.{Balanced, Forward, Matches, last_point, open_after}
 use Rattle.md_seam.specs.Events.Places.{at_or_before}
 use Rattle.md_definition.specs.State.{Container}
-use Rattle.md_seam.proofs.NestedLemmas.{at_or_before-refl, balanced-none, forward-append, forward-from, matches-append, open_after-append}
+use Rattle.md_seam.proofs.NestedLemmas.{at_or_before-refl, balanced-none, forward-append, forward-from, matches-append}
+use Rattle.md_seam.proofs.NestedLemmas.{open_after-append}
 use Rattle.markdown_blocks.specs.Change.{Change, ends_of, is_none, open_behind}
 use Rattle.markdown_blocks.specs.Fronted.{contained, rest_from, rest_line}
-use Rattle.markdown_blocks.specs.Rows.{leaf_behind, final_row, first_row, group_done, group_kind, LeafRow, ending_of, BlankRow, Group, Lines, Row, RowKind, Single, TextRow, behind_row, closes_before, ending_events, goes_on, groups, groups_events, is_text, last_row, onto_groups, tail_events}
+use Rattle.markdown_blocks.specs.Rows.{leaf_behind, final_row, first_row, group_done, group_kind, LeafRow, ending_of}
+use Rattle.markdown_blocks.specs.Rows.{BlankRow, Group, Lines, Row, RowKind, Single, TextRow, behind_row, closes_before}
+use Rattle.markdown_blocks.specs.Rows.{ending_events, goes_on, groups, groups_events, is_text, last_row, onto_groups}
+use Rattle.markdown_blocks.specs.Rows.{tail_events}
 use Rattle.markdown_blocks.proofs.ContainedLemmas.{contained-shapes, none-nil}
 use Rattle.markdown_blocks.proofs.FrontFacts.{LinePrefix}
-use Rattle.markdown_blocks.proofs.FrontLemmas.{Turns, ends-spans, ends-turn, fronts-spans, fronts-turn, names-append, shapes-names, turns-balanced}
+use Rattle.markdown_blocks.proofs.FrontLemmas.{Turns, ends-spans, ends-turn, fronts-spans, fronts-turn, names-append}
+use Rattle.markdown_blocks.proofs.FrontLemmas.{shapes-names, turns-balanced}
 use Rattle.markdown_blocks.proofs.JoinedLemmas.{behind-is, behind-none}
 use Rattle.markdown_blocks.proofs.GroupFacts.{IsGroupLeaf, text-leaf}
 use Rattle.markdown_blocks.proofs.GroupLemmas.{AreLines}
@@ -35,12 +41,18 @@ pub record Ordered (bytes : List ℕ) (p : Point) (group : Group) : Type 0 where
   pub leaf : IsGroupLeaf bytes group
   pub ends : IsTrue (at_or_before (final_row group).end (behind_row (final_row group)))
 
-ending-nested : (name : Name) (row : Row) → IsTrue (at_or_before row.end (behind_row row)) → Nested_in row.end (behind_row row) (ending_events name row)
+ending-nested : (name : Name) (row : Row) → IsTrue (at_or_before row.end (behind_row row)) →
+    Nested_in row.end (behind_row row) (ending_events name row)
 ending-nested name row = go row.after
   where
-    go : (after : Option Point) → IsTrue (at_or_before row.end (behind_row (record row { after = after }))) → Nested_in row.end (behind_row (record row { after = after })) (ending_events name (record row { after = after }))
+    go : (after : Option Point) → IsTrue (at_or_before row.end (behind_row (record row { after = after }))) →
+        Nested_in row.end (behind_row (record row { after = after }))
+        (ending_events name (record row { after = after }))
     go None h = (balanced-none, (tt, h))
-    go (Some q) h = (record { matches = (tt, (refl, tt)); closed = refl }, ((at_or_before-refl row.end, (h, tt)), at_or_before-refl q))
+    go (Some q) h = (
+      record { matches = (tt, (refl, tt)); closed = refl },
+      ((at_or_before-refl row.end, (h, tt)), at_or_before-refl q),
+    )
 
 -- Groups.
 
@@ -59,47 +71,62 @@ pub under-none : (p : Point) (events : List Event) → Under [] p events → Onw
 under-none p events h = record { balanced = record { matches = h.matches; closed = h.closed }; forward = h.forward }
 
 -- events that begin or end containers, in front of such
-pub under-turn : (from to : List Name) (p q : Point) (xs events : List Event) → Turns from to xs → Spans p q xs → Under to q events → Under from p (xs ++ events)
+pub under-turn : (from to : List Name) (p q : Point) (xs events : List Event) → Turns from to xs → Spans p q xs →
+    Under to q events → Under from p (xs ++ events)
 under-turn from to p q xs events h spans on = record {
-  matches = matches-append from xs events h.matches (subst (λ (l : List Name). Matches l events) (sym h.opened) on.matches);
+  matches =
+      matches-append from xs events h.matches (subst (λ (l : List Name). Matches l events) (sym h.opened) on.matches);
   closed = open_after-append from xs events ∙ ap (λ (l : List Name). open_after l events) h.opened ∙ on.closed;
   forward = forward-append p xs events spans.0 (forward-from (last_point p xs) q events spans.1 on.forward);
 }
 
 -- nested events in front of such
-pub under-before : (names : List Name) (p q : Point) (xs events : List Event) → Nested_in p q xs → Under names q events → Under names p (xs ++ events)
+pub under-before : (names : List Name) (p q : Point) (xs events : List Event) → Nested_in p q xs →
+    Under names q events → Under names p (xs ++ events)
 under-before names p q xs events h on = under-turn names names p q xs events (turns-balanced names xs h.0) h.1 on
 
 -- what is open in a group, if these are open in front of it, is what ends behind it and what is kept
 abbrev pub Keeps : List Name → Group → List Name → Type 0
-Keeps names group kept = open_names (first_row group).change.opens ++ names ≡ open_names (final_row group).leaves ++ kept
+Keeps names group kept =
+    open_names (first_row group).change.opens ++ names ≡ open_names (final_row group).leaves ++ kept
 
 -- a group in front of such events, with what stands in its place
-pub under-group : (bytes : List ℕ) (names kept : List Name) (p : Point) (group : Group) (inside events : List Event) → Ordered bytes p group →
-    Keeps names group kept → Nested_in (first_row group).first (final_row group).end inside → Under kept (behind_row (final_row group)) events →
-    Under names p (((first_row group).front ++ inside ++ tail_events (ending_of (group_kind group)) (final_row group)) ++ events)
+pub under-group : (bytes : List ℕ) (names kept : List Name) (p : Point) (group : Group) (inside events : List Event) →
+    Ordered bytes p group →
+    Keeps names group kept → Nested_in (first_row group).first (final_row group).end inside →
+    Under kept (behind_row (final_row group)) events →
+    Under names p
+    (((first_row group).front ++ inside ++ tail_events (ending_of (group_kind group)) (final_row group)) ++ events)
 under-group bytes names kept p group inside events o keeps h on =
     let row : Row = first_row group in
     let last : Row = final_row group in
     let all : List Name = open_names row.change.opens ++ names in
     let ends : List Event = ends_of last.leaves last.end in
     let ending : List Event = ending_events (ending_of (group_kind group)) last in
-    let apart : (row.front ++ inside ++ (ends ++ ending)) ++ events ≡ row.front ++ (inside ++ (ends ++ (ending ++ events))) = simp append_assoc in
+    let apart : (row.front ++ inside ++ (ends ++ ending)) ++ events ≡
+    row.front ++ (inside ++ (ends ++ (ending ++ events))) = simp append_assoc in
     subst (Under names p) (sym apart)
-    (under-turn names all p row.first row.front (inside ++ (ends ++ (ending ++ events))) (fronts-turn bytes row.change.opens names p row.first row.front o.front) (fronts-spans bytes row.change.opens p row.first row.front o.front)
+    (under-turn names all p row.first row.front (inside ++ (ends ++ (ending ++ events)))
+    (fronts-turn bytes row.change.opens names p row.first row.front o.front)
+    (fronts-spans bytes row.change.opens p row.first row.front o.front)
     (under-before all row.first last.end inside (ends ++ (ending ++ events)) h
-    (under-turn all kept last.end last.end ends (ending ++ events) (subst (λ (l : List Name). Turns l kept ends) (sym keeps) (ends-turn last.leaves kept last.end)) (ends-spans last.leaves last.end)
-    (under-before kept last.end (behind_row last) ending events (ending-nested (ending_of (group_kind group)) last o.ends) on))))
+    (under-turn all kept last.end last.end ends (ending ++ events)
+    (subst (λ (l : List Name). Turns l kept ends) (sym keeps) (ends-turn last.leaves kept last.end))
+    (ends-spans last.leaves last.end)
+    (under-before kept last.end (behind_row last) ending events
+    (ending-nested (ending_of (group_kind group)) last o.ends) on))))
 
--- What holds of no groups where nothing is open, and group by group, of the names that are open where they begin (behind the ends of the
--- containers that end before the line), and of the point where they begin.
+-- What holds of no groups where nothing is open, and group by group, of the names that are open where they begin
+-- (behind the ends of the containers that end before the line), and of the point where they begin.
 pub record ByGroups (bytes : List ℕ) (P : List Name → Point → List Group → Type 0) : Type 0 where
   pub none : (p : Point) → P [] p []
-  pub group : (names kept : List Name) (p : Point) (group : Group) (gs : List Group) → Ordered bytes p group → Keeps names group kept →
+  pub group : (names kept : List Name) (p : Point) (group : Group) (gs : List Group) → Ordered bytes p group →
+      Keeps names group kept →
       P kept (behind_row (final_row group)) gs → P names p (group ∷ gs)
 
 -- lines of text in front of groups, as far as they are known
-record Lined (options : ParseOptions) (bytes : List ℕ) (P : List Name → Point → List Group → Type 0) (names : List Name) (p : Point) (row : Row) (rows : List Row) (gs : List Group) : Type 0 where
+record Lined (options : ParseOptions) (bytes : List ℕ) (P : List Name → Point → List Group → Type 0) (names : List Name)
+    (p : Point) (row : Row) (rows : List Row) (gs : List Group) : Type 0 where
   front : LinePrefix bytes row.change.opens p row.first row.front
   are : AreLines options bytes row rows
   ends : IsTrue (at_or_before (last_row row rows).end (behind_row (last_row row rows)))
@@ -108,7 +135,8 @@ record Lined (options : ParseOptions) (bytes : List ℕ) (P : List Name → Poin
   more : P kept (behind_row (last_row row rows)) gs
 
 -- text with which groups begin
-abbrev Begun : ParseOptions → List ℕ → (List Name → Point → List Group → Type 0) → List Name → Point → List Group → Type 0
+abbrev Begun : ParseOptions → List ℕ → (List Name → Point → List Group → Type 0) → List Name → Point → List Group →
+    Type 0
 Begun options bytes P names p [] = Unit {0}
 Begun options bytes P names p (Single row ∷ gs) = Unit {0}
 Begun options bytes P names p (Lines row rows ∷ gs) = Lined options bytes P names p row rows gs
@@ -119,15 +147,18 @@ Ended bytes row [] = Unit {0}
 Ended bytes row (group ∷ gs) = (q : Point) × (row.after ≡ Some q) × IsEnding bytes row.end q
 
 -- a line, with what stands in front of it and behind it
-record IsBegun (options : ParseOptions) (bytes line : List ℕ) (names kept : List Name) (p : Point) (row : Row) : Type 0 where
+record IsBegun (options : ParseOptions) (bytes line : List ℕ) (names kept : List Name) (p : Point)
+    (row : Row) : Type 0 where
   is : IsRow options bytes line row
   front : LinePrefix bytes row.change.opens p row.first row.front
   ends : IsTrue (at_or_before row.end (behind_row row))
   keeps : Keeps names (Single row) kept
 
 -- a line in front of others
-onto-holds : (options : ParseOptions) (bytes line : List ℕ) (P : List Name → Point → List Group → Type 0) → ByGroups bytes P → (names kept : List Name) (p : Point) (row : Row) (gs : List Group) →
-    IsBegun options bytes line names kept p row → Ended bytes row gs → Begun options bytes P kept (behind_row row) gs → P kept (behind_row row) gs → (kind : RowKind) → row.kind ≡ kind →
+onto-holds : (options : ParseOptions) (bytes line : List ℕ) (P : List Name → Point → List Group → Type 0) →
+    ByGroups bytes P → (names kept : List Name) (p : Point) (row : Row) (gs : List Group) →
+    IsBegun options bytes line names kept p row → Ended bytes row gs → Begun options bytes P kept (behind_row row) gs →
+    P kept (behind_row row) gs → (kind : RowKind) → row.kind ≡ kind →
     P names p (onto_groups row kind gs) × Begun options bytes P names p (onto_groups row kind gs)
 onto-holds options bytes line P by names kept p row gs begun ended below h kind e = go kind e gs ended below h
   where
@@ -135,25 +166,42 @@ onto-holds options bytes line P by names kept p row gs begun ended below h kind 
     Both_of groups = P names p groups × Begun options bytes P names p groups
 
     single : row.kind ≢ TextRow → (gs : List Group) → P kept (behind_row row) gs → Both_of (Single row ∷ gs)
-    single other gs h = (by.group names kept p (Single row) gs (record { front = begun.front; leaf = row-leaf options bytes line row begun.is other; ends = begun.ends }) begun.keeps h, tt)
+    single other gs h = (
+      by.group names kept p (Single row) gs
+          (record { front = begun.front; leaf = row-leaf options bytes line row begun.is other; ends = begun.ends }) begun.keeps h,
+      tt,
+    )
 
-    text : (rows : List Row) (gs : List Group) → Lined options bytes P names p row rows gs → Both_of (Lines row rows ∷ gs)
+    text : (rows : List Row) (gs : List Group) → Lined options bytes P names p row rows gs →
+        Both_of (Lines row rows ∷ gs)
     text rows gs lined = (
-      by.group names lined.kept p (Lines row rows) gs (record { front = lined.front; leaf = text-leaf options bytes row rows lined.are; ends = lined.ends }) lined.keeps lined.more,
+      by.group names lined.kept p (Lines row rows) gs
+          (record { front = lined.front; leaf = text-leaf options bytes row rows lined.are; ends = lined.ends }) lined.keeps lined.more,
       lined,
     )
 
     alone : row.kind ≡ TextRow → (gs : List Group) → P kept (behind_row row) gs → Both_of (Lines row [] ∷ gs)
-    alone e gs h = text [] gs (record { front = begun.front; are = (line, begun.is, e); ends = begun.ends; kept = kept; keeps = begun.keeps; more = h })
+    alone e gs h =
+        text [] gs
+        (record {
+          front = begun.front;
+          are = (line, begun.is, e);
+          ends = begun.ends;
+          kept = kept;
+          keeps = begun.keeps;
+          more = h;
+        })
 
-    go : (kind : RowKind) → row.kind ≡ kind → (gs : List Group) → Ended bytes row gs → Begun options bytes P kept (behind_row row) gs → P kept (behind_row row) gs → Both_of (onto_groups row kind gs)
+    go : (kind : RowKind) → row.kind ≡ kind → (gs : List Group) → Ended bytes row gs →
+        Begun options bytes P kept (behind_row row) gs → P kept (behind_row row) gs → Both_of (onto_groups row kind gs)
     go BlankRow e gs ended below h = single (λ k. cc) gs h
     go (LeafRow l) e gs ended below h = single (λ k. cc) gs h
     go TextRow e [] ended below h = alone e [] h
     go TextRow e (Single next ∷ gs) ended below h = alone e (Single next ∷ gs) h
     go TextRow e (Lines next rows ∷ gs) ended below h = joins (goes_on row next) refl
       where
-        joins : (x : Bool) → goes_on row next ≡ x → Both_of (cond x (Lines row (next ∷ rows) ∷ gs) (Lines row [] ∷ Lines next rows ∷ gs))
+        joins : (x : Bool) → goes_on row next ≡ x →
+            Both_of (cond x (Lines row (next ∷ rows) ∷ gs) (Lines row [] ∷ Lines next rows ∷ gs))
         joins false k = alone e (Lines next rows ∷ gs) h
         joins true k =
             let parts = and_parts (is_none row.leaves) (is_none next.change.opens) k in
@@ -161,7 +209,10 @@ onto-holds options bytes line P by names kept p row gs begun ended below h kind 
             let opens : next.change.opens ≡ [] = none-nil next.change.opens parts.1 in
             let behind : behind_row row ≡ ended.0 = behind-is row ended.0 ended.1 in
             let front : LinePrefix bytes [] ended.0 next.first next.front =
-            subst (λ (q : Point). LinePrefix bytes [] q next.first next.front) behind (subst (λ (cs : List Container). LinePrefix bytes cs (behind_row row) next.first next.front) opens below.front) in
+            subst (λ (q : Point). LinePrefix bytes [] q next.first next.front) behind
+            (subst
+            (λ (cs : List Container). LinePrefix bytes cs (behind_row row) next.first next.front) opens below.front)
+            in
             text (next ∷ rows) gs (record {
               front = begun.front;
               are = (line, begun.is, e, ended.0, ended.1, ended.2, front, below.are);
@@ -175,49 +226,86 @@ onto-holds options bytes line P by names kept p row gs begun ended below h kind 
               more = below.more;
             })
 
--- What is known of the lines of a text from a point on, where these containers are open: some of them end before the first line, and
--- where the others are left, it holds of the groups of the lines.
-record Hold (options : ParseOptions) (bytes : List ℕ) (P : List Name → Point → List Group → Type 0) (cs : List Container) (p : Point) (rows : List Row) : Type 0 where
+-- What is known of the lines of a text from a point on, where these containers are open: some of them end before the
+-- first line, and where the others are left, it holds of the groups of the lines.
+record Hold (options : ParseOptions) (bytes : List ℕ) (P : List Name → Point → List Group → Type 0)
+    (cs : List Container) (p : Point) (rows : List Row) : Type 0 where
   names : List Name
   left : open_names cs ≡ open_names (closes_before cs rows) ++ names
   begun : Begun options bytes P names p (groups rows)
   holds : P names p (groups rows)
 
 -- what was open before a line ends there or stays
-change-names : (options : ParseOptions) (bytes line : List ℕ) (cs : List Container) (still : HeldLeaf) (p : Point) (row : Row) → IsLine options bytes cs still p line row → open_names cs ≡ open_names row.change.closes ++ open_names row.change.stays
+change-names : (options : ParseOptions) (bytes line : List ℕ) (cs : List Container) (still : HeldLeaf) (p : Point)
+    (row : Row) →
+    IsLine options bytes cs still p line row →
+    open_names cs ≡ open_names row.change.closes ++ open_names row.change.stays
 change-names options bytes line cs still p row is =
     subst (λ (change : Change). open_names cs ≡ open_names change.closes ++ open_names change.stays) (sym is.change)
-    (sym (shapes-names (change.stays ++ change.closes) cs (contained-shapes options cs still (rest_from p line))) ∙ names-append change.stays change.closes)
+    (sym (shapes-names (change.stays ++ change.closes) cs (contained-shapes options cs still (rest_from p line)))
+    ∙ names-append change.stays change.closes)
   where
     change : Change
     change = (contained options cs still (rest_from p line)).change
 
 -- what is open behind a line, without what ends there, is what the line leaves
-change-keeps : (options : ParseOptions) (bytes line : List ℕ) (cs : List Container) (still : HeldLeaf) (p : Point) (row : Row) (kept : List Name) → IsLine options bytes cs still p line row → open_names (behind_line options cs still p line) ≡ open_names row.leaves ++ kept →
+change-keeps : (options : ParseOptions) (bytes line : List ℕ) (cs : List Container) (still : HeldLeaf) (p : Point)
+    (row : Row) (kept : List Name) →
+    IsLine options bytes cs still p line row →
+    open_names (behind_line options cs still p line) ≡ open_names row.leaves ++ kept →
     Keeps (open_names row.change.stays) (Single row) kept
-change-keeps options bytes line cs still p row kept is h = sym (names-append row.change.stays row.change.opens) ∙ ap (λ (change : Change). open_names (open_behind change)) is.change ∙ h
+change-keeps options bytes line cs still p row kept is h =
+    sym (names-append row.change.stays row.change.opens)
+    ∙ ap (λ (change : Change). open_names (open_behind change)) is.change ∙ h
 
-line-holds : (options : ParseOptions) (bytes : List ℕ) (P : List Name → Point → List Group → Type 0) → ByGroups bytes P → (cs : List Container) (still : HeldLeaf) (p : Point) (line : List ℕ) (row : Row) (rows : List Row) (kept : List Name) → IsLine options bytes cs still p line row →
-    IsTrue (at_or_before row.end (behind_row row)) → open_names (behind_line options cs still p line) ≡ open_names row.leaves ++ kept → Ended bytes row (groups rows) → Begun options bytes P kept (behind_row row) (groups rows) → P kept (behind_row row) (groups rows) → Hold options bytes P cs p (row ∷ rows)
+line-holds : (options : ParseOptions) (bytes : List ℕ) (P : List Name → Point → List Group → Type 0) →
+    ByGroups bytes P →
+    (cs : List Container) (still : HeldLeaf) (p : Point) (line : List ℕ) (row : Row) (rows : List Row)
+    (kept : List Name) →
+    IsLine options bytes cs still p line row →
+    IsTrue (at_or_before row.end (behind_row row)) →
+    open_names (behind_line options cs still p line) ≡ open_names row.leaves ++ kept →
+    Ended bytes row (groups rows) → Begun options bytes P kept (behind_row row) (groups rows) →
+    P kept (behind_row row) (groups rows) → Hold options bytes P cs p (row ∷ rows)
 line-holds options bytes P by cs still p line row rows kept is ends left ended begun h =
     let rest : List ℕ = rest_line (contained options cs still (rest_from p line)).rest in
-    let here : IsBegun options bytes rest (open_names row.change.stays) kept p row = record { is = is.is; front = is.front; ends = ends; keeps = change-keeps options bytes line cs still p row kept is left } in
-    let both = onto-holds options bytes rest P by (open_names row.change.stays) kept p row (groups rows) here ended begun h row.kind refl in
-    record { names = open_names row.change.stays; left = change-names options bytes line cs still p row is; begun = both.1; holds = both.0 }
+    let here : IsBegun options bytes rest
+    (open_names row.change.stays) kept p row = record {
+      is = is.is;
+      front = is.front;
+      ends = ends;
+      keeps = change-keeps options bytes line cs still p row kept is left;
+    } in
+    let both = onto-holds options bytes rest P by (open_names row.change.stays) kept p row
+    (groups rows) here ended begun h row.kind refl in
+    record {
+      names = open_names row.change.stays;
+      left = change-names options bytes line cs still p row is;
+      begun = both.1;
+      holds = both.0;
+    }
 
 -- It holds of the groups of a text.
-lines-hold : (options : ParseOptions) (bytes : List ℕ) (P : List Name → Point → List Group → Type 0) → ByGroups bytes P → (cs : List Container) (still : HeldLeaf) (p : Point) (lines : List (List ℕ)) (rows : List Row) → AreRows options bytes cs still p lines rows → Hold options bytes P cs p rows
+lines-hold : (options : ParseOptions) (bytes : List ℕ) (P : List Name → Point → List Group → Type 0) →
+    ByGroups bytes P → (cs : List Container) (still : HeldLeaf) (p : Point) (lines : List (List ℕ)) (rows : List Row) →
+    AreRows options bytes cs still p lines rows → Hold options bytes P cs p rows
 lines-hold options bytes P by cs still p (line ∷ []) (row ∷ []) are =
     let behind : List Container = behind_line options cs still p line in
-    let ends : IsTrue (at_or_before row.end (behind_row row)) = subst (λ (q : Point). IsTrue (at_or_before row.end q)) (sym (behind-none row are.2)) (at_or_before-refl row.end) in
-    let left : open_names behind ≡ open_names row.leaves ++ [] = sym (append-nil (open_names row.leaves) ∙ ap open_names are.1) in
+    let ends : IsTrue (at_or_before row.end (behind_row row)) = subst (λ (q : Point). IsTrue (at_or_before row.end q))
+    (sym (behind-none row are.2)) (at_or_before-refl row.end) in
+    let left : open_names behind ≡
+    open_names row.leaves ++ [] = sym (append-nil (open_names row.leaves) ∙ ap open_names are.1) in
     line-holds options bytes P by cs still p line row [] [] are.0 ends left tt tt (by.none (behind_row row))
 lines-hold options bytes P by cs still p (line ∷ next ∷ lines) (row ∷ below ∷ rows) are =
     let many : List Container = behind_line options cs still p line in
     let behind : behind_row row ≡ are.2 = behind-is row are.2 are.3 in
-    let ends : IsTrue (at_or_before row.end (behind_row row)) = subst (λ (q : Point). IsTrue (at_or_before row.end q)) (sym behind) (ending-order bytes row.end are.2 are.4) in
-    let more : Hold options bytes P many are.2 (below ∷ rows) = lines-hold options bytes P by many (leaf_behind row.kind) are.2 (next ∷ lines) (below ∷ rows) are.5 in
-    line-holds options bytes P by cs still p line row (below ∷ rows) more.names are.0 ends (more.left ∙ ap (λ (l : List Container). open_names l ++ more.names) (sym are.1)) (ended (groups (below ∷ rows)))
+    let ends : IsTrue (at_or_before row.end (behind_row row)) = subst (λ (q : Point). IsTrue (at_or_before row.end q))
+    (sym behind) (ending-order bytes row.end are.2 are.4) in
+    let more : Hold options bytes P many are.2 (below ∷ rows) = lines-hold options bytes P by many
+    (leaf_behind row.kind) are.2 (next ∷ lines) (below ∷ rows) are.5 in
+    line-holds options bytes P by cs still p line row (below ∷ rows) more.names are.0 ends
+    (more.left ∙ ap (λ (l : List Container). open_names l ++ more.names) (sym are.1))
+    (ended (groups (below ∷ rows)))
     (subst (λ (q : Point). Begun options bytes P more.names q (groups (below ∷ rows))) (sym behind) more.begun)
     (subst (λ (q : Point). P more.names q (groups (below ∷ rows))) (sym behind) more.holds)
   where
@@ -232,10 +320,13 @@ none-left [] names e = sym e
 none-left (name ∷ ended) names e = cc
 
 -- It holds of those of a whole text.
-pub rows-hold : (bytes : List ℕ) (P : List Name → Point → List Group → Type 0) → ByGroups bytes P → (options : ParseOptions) (p : Point) (lines : List (List ℕ)) (rows : List Row) → AreRows options bytes [] held_leaf.None p lines rows → P [] p (groups rows)
+pub rows-hold : (bytes : List ℕ) (P : List Name → Point → List Group → Type 0) → ByGroups bytes P →
+    (options : ParseOptions) (p : Point) (lines : List (List ℕ)) (rows : List Row) →
+    AreRows options bytes [] held_leaf.None p lines rows → P [] p (groups rows)
 rows-hold bytes P by options p lines rows are =
     let hold : Hold options bytes P [] p rows = lines-hold options bytes P by [] held_leaf.None p lines rows are in
-    subst (λ (l : List Name). P l p (groups rows)) (none-left (open_names (closes_before [] rows)) hold.names hold.left) hold.holds
+    subst (λ (l : List Name). P l p (groups rows))
+    (none-left (open_names (closes_before [] rows)) hold.names hold.left) hold.holds
 
 -- The events of a text.
 
@@ -249,9 +340,14 @@ NestsUnder bytes names p gs = Under names p (groups_events bytes gs)
 nests-by_groups : (bytes : List ℕ) → ByGroups bytes (NestsUnder bytes)
 nests-by_groups bytes = record {
   none = λ p. record { matches = tt; closed = refl; forward = tt };
-  group = λ names kept p group gs o keeps on. under-group bytes names kept p group (group_done bytes group) (groups_events bytes gs) o keeps o.leaf.1.nested on;
+  group =
+      λ names kept p group gs o keeps on. under-group bytes names kept p group (group_done bytes group)
+      (groups_events bytes gs) o keeps o.leaf.1.nested on;
 }
 
 -- The groups of the lines of a text nest.
-pub rows-nest : (options : ParseOptions) (bytes : List ℕ) (p : Point) (lines : List (List ℕ)) (rows : List Row) → AreRows options bytes [] held_leaf.None p lines rows → Nests bytes p (groups rows)
-rows-nest options bytes p lines rows are = under-none p (groups_events bytes (groups rows)) (rows-hold bytes (NestsUnder bytes) (nests-by_groups bytes) options p lines rows are)
+pub rows-nest : (options : ParseOptions) (bytes : List ℕ) (p : Point) (lines : List (List ℕ)) (rows : List Row) →
+    AreRows options bytes [] held_leaf.None p lines rows → Nests bytes p (groups rows)
+rows-nest options bytes p lines rows are =
+    under-none p (groups_events bytes (groups rows))
+    (rows-hold bytes (NestsUnder bytes) (nests-by_groups bytes) options p lines rows are)

@@ -26,7 +26,9 @@ outside-same es h = ap resolved (sym (append-nil es)) ∙ outside-passes es [] h
 
 -- what stands in front of a line
 pub front-outside : (es : List Event) → AreFront es → AreOutside es
-front-outside es h = each-as (IsNamed is_front) IsOutside (λ e is. and_right (is_enter e.kind) (is_own e.name) (front-own e.name is.0)) es h
+front-outside es h =
+    each-as (IsNamed is_front) IsOutside
+    (λ e is. and_right (is_enter e.kind) (is_own e.name) (front-own e.name is.0)) es h
 
 pub has_front-outside : (bytes : List ℕ) (row : Row) → HasFront bytes row → AreOutside row.front
 has_front-outside bytes row h = front-outside row.front (fronts-are bytes row.change.opens h.0 row.first row.front h.1)
@@ -41,7 +43,8 @@ ending-outside name row h = go row.after
 -- and behind it
 pub tail-outside : (name : Name) (row : Row) → is_own name ≡ false → AreOutside (tail_events name row)
 tail-outside name row h =
-    outside-append (ends_of row.leaves row.end) (ending_events name row) (front-outside (ends_of row.leaves row.end) (ends-are row.leaves row.end)) (ending-outside name row h)
+    outside-append (ends_of row.leaves row.end) (ending_events name row)
+    (front-outside (ends_of row.leaves row.end) (ends-are row.leaves row.end)) (ending-outside name row h)
 
 -- the name of an ending is of no resolver
 pub ending-own : (kind : RowKind) → is_own (ending_of kind) ≡ false
@@ -50,21 +53,31 @@ ending-own (LeafRow l) = refl
 ending-own TextRow = refl
 
 -- the lines of a part
-pub linked-outside : (link : Link) (row : Row) (rows : List Row) → EachPrefixed rows → AreOutside (linked_lines n.Data link row rows)
+pub linked-outside : (link : Link) (row : Row) (rows : List Row) → EachPrefixed rows →
+    AreOutside (linked_lines n.Data link row rows)
 linked-outside link row [] h = (refl, (refl, tt))
-linked-outside link row (next ∷ rows) h =
-    (refl, (refl, outside-append next.front (linked_lines n.Data link next rows) (front-outside next.front (prefixes-front next.front h.0)) (linked-outside link next rows h.1)))
+linked-outside link row (next ∷ rows) h = (
+  refl,
+  (
+    refl,
+    outside-append next.front (linked_lines n.Data link next rows)
+        (front-outside next.front (prefixes-front next.front h.0)) (linked-outside link next rows h.1),
+  ),
+)
 
 -- what stands in a part
-pub around-outside : (name : Name) (p q : Point) (inside : List Event) → is_own name ≡ false → AreOutside inside → AreOutside (around name p q inside)
+pub around-outside : (name : Name) (p q : Point) (inside : List Event) → is_own name ≡ false → AreOutside inside →
+    AreOutside (around name p q inside)
 around-outside name p q inside other h = (other, outside-append inside (exit name q ∷ []) h (refl, tt))
 
 -- what stands between the front of a line and its tail is set, and all else stays
-pub leaf-set : (front leaf set tail es : List Event) → AreOutside front → AreOutside tail → ((es : List Event) → resolved (leaf ++ es) ≡ set ++ resolved es) →
+pub leaf-set : (front leaf set tail es : List Event) → AreOutside front → AreOutside tail →
+    ((es : List Event) → resolved (leaf ++ es) ≡ set ++ resolved es) →
     resolved (((front ++ leaf) ++ tail) ++ es) ≡ ((front ++ set) ++ tail) ++ resolved es
 leaf-set front leaf set tail es h k sets =
     ap resolved (append_assoc (front ++ leaf) tail es ∙ append_assoc front leaf (tail ++ es))
     ∙ outside-passes front (leaf ++ (tail ++ es)) h
-    ∙ ap (λ (l : List Event). front ++ l) (sets (tail ++ es) ∙ ap (λ (l : List Event). set ++ l) (outside-passes tail es k))
+    ∙ ap (λ (l : List Event). front ++ l)
+    (sets (tail ++ es) ∙ ap (λ (l : List Event). set ++ l) (outside-passes tail es k))
     ∙ sym (append_assoc front set (tail ++ resolved es))
     ∙ sym (append_assoc (front ++ set) tail (resolved es))

@@ -1,6 +1,7 @@
 -- What a text is read as, where only constructs that are built may be on: its events nest, spell its tree and tile it.
 use Rattle.md_engine.specs.declared.tokenizer.held_leaf.HeldLeaf.TheVariants as held_leaf
-use Rattle.std.proofs.Common.{◌≡◌, ◌^◌, ◌<◌, arith, ℕ, Bool, true, false, suc, List, [], ◌++◌, length, drop, refl, ap, sym, ◌∙◌, subst}
+use Rattle.std.proofs.Common.{◌≡◌, ◌^◌, ◌<◌, arith, ℕ, Bool, true, false, suc, List, [], ◌++◌, length, drop, refl, ap}
+use Rattle.std.proofs.Common.{sym, ◌∙◌, subst}
 use Rattle.std.specs.Prelude.{IsTrue}
 use Rattle.std.specs.Str.{IsUtf8}
 use Rattle.md_engine.specs.declared.configuration.ParseOptions.{ParseOptions}
@@ -36,7 +37,8 @@ use Rattle.markdown_blocks.proofs.EndingRows.{blocks-endings, events-endings}
 use Rattle.markdown_blocks.proofs.GrammarRows.{blocks-grammar, events-grammar}
 use Rattle.markdown_blocks.proofs.GroupLemmas.{content-read, leaves-set, text-read}
 use Rattle.markdown_blocks.proofs.JoinedLemmas.{EachNoContent, rows_at-no_content}
-use Rattle.markdown_blocks.proofs.MarkLemmas.{body-between, body-column, body-index, body-vs, mark-nested, mark-outlined, mark-spelled}
+use Rattle.markdown_blocks.proofs.MarkLemmas.{body-between, body-column, body-index, body-vs, mark-nested}
+use Rattle.markdown_blocks.proofs.MarkLemmas.{mark-outlined, mark-spelled}
 use Rattle.markdown_blocks.proofs.NestedRows.{Nests, rows-nest}
 use Rattle.markdown_blocks.proofs.ParagraphReads.{content-reads}
 use Rattle.markdown_blocks.proofs.PieceRows.{blocks-pieces, events-pieces}
@@ -57,17 +59,24 @@ abbrev rows_of : ParseOptions → List ℕ → List Row
 rows_of options bytes = text_rows options bytes (body_point bytes)
 
 text-quiet : (options : ParseOptions) (bytes : List ℕ) (p : Point) → EachNoContent (text_rows options bytes p)
-text-quiet options bytes p = rows_at-no_content options (suc (length (text_cells bytes options p))) [] held_leaf.None (text_cells bytes options p) p
+text-quiet options bytes p =
+    rows_at-no_content options (suc (length (text_cells bytes options p))) [] held_leaf.None
+    (text_cells bytes options p) p
 
-text-are : (options : ParseOptions) (bytes : List ℕ) → IsBuilt options → length bytes < 2 ^ 61 → AreRows options bytes [] held_leaf.None (body_point bytes) (lines_of bytes) (rows_of options bytes)
-text-are options bytes built small = fresh-rows options bytes (body_point bytes) built small (body-index bytes) (body-vs bytes) (body-column bytes)
+text-are : (options : ParseOptions) (bytes : List ℕ) → IsBuilt options → length bytes < 2 ^ 61 →
+    AreRows options bytes [] held_leaf.None (body_point bytes) (lines_of bytes) (rows_of options bytes)
+text-are options bytes built small =
+    fresh-rows options bytes (body_point bytes) built small (body-index bytes) (body-vs bytes) (body-column bytes)
 
 -- The events of a text, once flow and content were read.
-content-are : (options : ParseOptions) (bytes : List ℕ) → IsBuilt options → length bytes < 2 ^ 61 → (found : Found) (new : World) → (flow : FlowReads bytes options (body_point bytes) found new) →
+content-are : (options : ParseOptions) (bytes : List ℕ) → IsBuilt options → length bytes < 2 ^ 61 →
+    (found : Found) (new : World) → (flow : FlowReads bytes options (body_point bytes) found new) →
     flow.content ≡ unread_groups (groups (rows_of options bytes))
 content-are options bytes built small found new flow =
-    content-read options bytes [] held_leaf.None (body_point bytes) (lines_of bytes) (rows_of options bytes) (text-are options bytes built small) (text-quiet options bytes (body_point bytes))
-    wants_content (content_readings bytes options) refl refl (content-reads options options bytes small) flow.content flow.content_read
+    content-read options bytes [] held_leaf.None (body_point bytes) (lines_of bytes) (rows_of options bytes)
+    (text-are options bytes built small) (text-quiet options bytes (body_point bytes))
+    wants_content (content_readings bytes options) refl refl
+    (content-reads options options bytes small) flow.content flow.content_read
 
 -- Then the other resolvers ran.
 resolved-are : (options : ParseOptions) (bytes : List ℕ) → IsBuilt options → length bytes < 2 ^ 61 →
@@ -76,20 +85,28 @@ resolved-are : (options : ParseOptions) (bytes : List ℕ) → IsBuilt options �
 resolved-are options bytes built small found new flow =
     flow.events_are
     ∙ ap resolved (content-are options bytes built small found new flow)
-    ∙ leaves-set options bytes [] held_leaf.None (body_point bytes) (lines_of bytes) (rows_of options bytes) (text-are options bytes built small) (text-quiet options bytes (body_point bytes))
+    ∙ leaves-set options bytes [] held_leaf.None (body_point bytes) (lines_of bytes) (rows_of options bytes)
+    (text-are options bytes built small) (text-quiet options bytes (body_point bytes))
 
 -- And then texts were read.
-pub events-are : (options : ParseOptions) (bytes : List ℕ) → IsBuilt options → length bytes < 2 ^ 61 → (found : Found) (new : World) → FlowReads bytes options (body_point bytes) found new →
-    (wants : Content → Bool) (reads : Readings) → wants content.Text ≡ true → ReadsText bytes reads → (events : List Event) → Substituted wants reads [] 0 new.events events →
+pub events-are : (options : ParseOptions) (bytes : List ℕ) → IsBuilt options → length bytes < 2 ^ 61 →
+    (found : Found) (new : World) → FlowReads bytes options (body_point bytes) found new →
+    (wants : Content → Bool) (reads : Readings) → wants content.Text ≡ true → ReadsText bytes reads →
+    (events : List Event) → Substituted wants reads [] 0 new.events events →
     events ≡ groups_events bytes (groups (text_rows options bytes (body_point bytes)))
 events-are options bytes built small found new flow wants reads wanted text events substituted =
-    let before : new.events ≡ listed_groups bytes (groups (rows_of options bytes)) = resolved-are options bytes built small found new flow in
-    text-read options bytes [] held_leaf.None (body_point bytes) (lines_of bytes) (rows_of options bytes) (text-are options bytes built small) (text-quiet options bytes (body_point bytes)) wants reads wanted text events
+    let before : new.events ≡
+    listed_groups bytes (groups (rows_of options bytes)) = resolved-are options bytes built small found new flow in
+    text-read options bytes [] held_leaf.None (body_point bytes) (lines_of bytes) (rows_of options bytes)
+    (text-are options bytes built small)
+    (text-quiet options bytes (body_point bytes)) wants reads wanted text events
     (subst (λ (l : List Event). Substituted wants reads [] 0 l events) before substituted)
 
 -- With what was read in the place of its chunks, the block list of a text tiles it.
-tiles-are : (options : ParseOptions) (bytes : List ℕ) → IsBuilt options → length bytes < 2 ^ 61 → IsTrue (are_placed bytes (mark_events bytes ++ listed_groups bytes (groups (rows_of options bytes)))) →
-    (tiles : Tiles (reads_plain bytes) bytes (mark_events bytes ++ groups_events bytes (groups (rows_of options bytes)))) × (tiles.blocks ≡ mark_events bytes ++ listed_groups bytes (groups (rows_of options bytes)))
+tiles-are : (options : ParseOptions) (bytes : List ℕ) → IsBuilt options → length bytes < 2 ^ 61 →
+    IsTrue (are_placed bytes (mark_events bytes ++ listed_groups bytes (groups (rows_of options bytes)))) →
+    (tiles : Tiles (reads_plain bytes) bytes (mark_events bytes ++ groups_events bytes (groups (rows_of options bytes)))) ×
+    (tiles.blocks ≡ mark_events bytes ++ listed_groups bytes (groups (rows_of options bytes)))
 tiles-are options bytes built small placed =
     let p : Point = body_point bytes in
     let lines : List (List ℕ) = lines_of bytes in
@@ -117,7 +134,8 @@ tiles-are options bytes built small placed =
     )
 
 -- The block list is made of the events of the mark and of the lines.
-block_list-is : (options : ParseOptions) (bytes : List ℕ) → mark_events bytes ++ listed_groups bytes (groups (rows_of options bytes)) ≡ block_list options bytes
+block_list-is : (options : ParseOptions) (bytes : List ℕ) →
+    mark_events bytes ++ listed_groups bytes (groups (rows_of options bytes)) ≡ block_list options bytes
 unfolding block_list
 block_list-is options bytes = refl
 
@@ -128,13 +146,16 @@ pub record Reads (options : ParseOptions) (bytes : List ℕ) (blocks events : Li
   pub tree : spelled events bytes ≡ tree options bytes
   pub blocks_are : blocks ≡ block_list options bytes
   pub events_are : events ≡ plain_read bytes (block_list options bytes)
-  pub tiles : IsTrue (are_placed bytes blocks) → (tiles : Tiles (reads_plain bytes) bytes events) × (tiles.blocks ≡ blocks)
+  pub tiles : IsTrue (are_placed bytes blocks) →
+      (tiles : Tiles (reads_plain bytes) bytes events) × (tiles.blocks ≡ blocks)
   pub grammar : keeps_grammar plain_text events ≡ true
   pub pieces_are : pieces_stand bytes (pieces events) ≡ true
   pub endings : endings_stand events ≡ true
 
-pub text-reads : (options : ParseOptions) (bytes : List ℕ) → IsBuilt options → IsUtf8 bytes → length bytes < 2 ^ 61 → (events : List Event) → events ≡ groups_events bytes (groups (text_rows options bytes (body_point bytes))) →
-    Reads options bytes (mark_events bytes ++ listed_groups bytes (groups (text_rows options bytes (body_point bytes)))) (mark_events bytes ++ events)
+pub text-reads : (options : ParseOptions) (bytes : List ℕ) → IsBuilt options → IsUtf8 bytes → length bytes < 2 ^ 61 →
+    (events : List Event) → events ≡ groups_events bytes (groups (text_rows options bytes (body_point bytes))) →
+    Reads options bytes (mark_events bytes ++ listed_groups bytes (groups (text_rows options bytes (body_point bytes))))
+    (mark_events bytes ++ events)
 text-reads options bytes built utf8 small events is =
     let p : Point = body_point bytes in
     let lines : List (List ℕ) = lines_of bytes in
@@ -143,9 +164,16 @@ text-reads options bytes built utf8 small events is =
     let are : AreRows options bytes [] held_leaf.None p lines rows = text-are options bytes built small in
     let nests : Nests bytes p (groups rows) = rows-nest options bytes p lines rows are in
     let spells : spelled body bytes ≡ tree options bytes = tree-rows options built bytes rows are in
-    subst (λ (l : List Event). Reads options bytes (mark_events bytes ++ listed_groups bytes (groups rows)) (mark_events bytes ++ l)) (sym is) (record {
+    subst
+    (λ (l : List Event).
+    Reads options bytes (mark_events bytes ++ listed_groups bytes (groups rows)) (mark_events bytes ++ l))
+    (sym is) (record {
       nested = mark-nested bytes body nests.balanced nests.forward;
-      outlined = mark-outlined bytes body (groups-outlined options bytes p lines rows are utf8 nests.balanced (rows-between options bytes p lines rows (body-between bytes) are) (ap are_shallow spells ∙ tree-shallow options bytes built));
+      outlined =
+          mark-outlined bytes body
+          (groups-outlined options bytes p lines rows are utf8 nests.balanced
+          (rows-between options bytes p lines rows (body-between bytes) are)
+          (ap are_shallow spells ∙ tree-shallow options bytes built));
       tree = mark-spelled bytes body ∙ spells;
       blocks_are = block_list-is options bytes;
       events_are = (text-filled options bytes p lines are).read ∙ ap (plain_read bytes) (block_list-is options bytes);
@@ -156,20 +184,31 @@ text-reads options bytes built utf8 small events is =
     })
 
 -- The same in the words of the calls that `parse` makes.
-pub parsed-reads : (options : ParseOptions) (bytes text : List ℕ) (start : Point) (found : Found) (new : World) (mark items body events : List Event) → bytes ≡ text → IsBuilt options → IsUtf8 text → IsSmall text →
+pub parsed-reads : (options : ParseOptions) (bytes text : List ℕ) (start : Point) (found : Found) (new : World)
+    (mark items body events : List Event) →
+    bytes ≡ text → IsBuilt options → IsUtf8 text → IsSmall text →
     start ≡ body_point bytes → mark ≡ mark_events bytes → FlowReads bytes options start found new →
-    (wants : Content → Bool) (reads : Readings) → wants content.Text ≡ true → ReadsText bytes reads → items ≡ new.events → Substituted wants reads [] 0 items body → events ≡ mark ++ body → Reads options text (mark ++ items) events
-parsed-reads options bytes text start found new mark items body events same built utf8 most starts marks flow wants reads wanted plain are substituted is =
+    (wants : Content → Bool) (reads : Readings) → wants content.Text ≡ true → ReadsText bytes reads →
+    items ≡ new.events → Substituted wants reads [] 0 items body → events ≡ mark ++ body →
+    Reads options text (mark ++ items) events
+parsed-reads options bytes text start found new mark items body events same built utf8 most starts marks flow wants
+    reads wanted plain are substituted is =
     let small : length text < 2 ^ 61 = omega (arith, most) in
     let here : length bytes < 2 ^ 61 = subst (λ (l : List ℕ). length l < 2 ^ 61) (sym same) small in
-    let from : FlowReads bytes options (body_point bytes) found new = subst (λ (p : Point). FlowReads bytes options p found new) starts flow in
+    let from : FlowReads bytes options (body_point bytes) found new = subst
+    (λ (p : Point). FlowReads bytes options p found new) starts flow in
     let body-is : body ≡ groups_events bytes (groups (rows_of options bytes)) =
     events-are options bytes built here found new from wants reads wanted plain body
     (subst (λ (l : List Event). Substituted wants reads [] 0 l body) are substituted) in
-    let before : items ≡ listed_groups bytes (groups (rows_of options bytes)) = are ∙ resolved-are options bytes built here found new from in
+    let before : items ≡ listed_groups bytes (groups (rows_of options bytes)) = are
+    ∙ resolved-are options bytes built here found new from in
     let front : mark ≡ mark_events text = marks ∙ ap mark_events same in
     let blocks : mark ++ items ≡ mark_events text ++ listed_groups text (groups (rows_of options text)) =
-    ap (λ (l : List Event). l ++ items) front ∙ ap (λ (l : List Event). mark_events text ++ l) (before ∙ ap (λ (l : List ℕ). listed_groups l (groups (rows_of options l))) same) in
+    ap (λ (l : List Event). l ++ items) front
+    ∙ ap (λ (l : List Event). mark_events text ++ l)
+    (before ∙ ap (λ (l : List ℕ). listed_groups l (groups (rows_of options l))) same) in
     subst (λ (l : List Event). Reads options text l events) (sym blocks)
-    (subst (Reads options text (mark_events text ++ listed_groups text (groups (rows_of options text)))) (sym (is ∙ ap (λ (l : List Event). l ++ body) front))
-    (text-reads options text built utf8 small body (subst (λ (l : List ℕ). body ≡ groups_events l (groups (rows_of options l))) same body-is)))
+    (subst (Reads options text (mark_events text ++ listed_groups text (groups (rows_of options text))))
+    (sym (is ∙ ap (λ (l : List Event). l ++ body) front))
+    (text-reads options text built utf8 small body
+    (subst (λ (l : List ℕ). body ≡ groups_events l (groups (rows_of options l))) same body-is)))

@@ -54,7 +54,8 @@ quiet-part _ = refl
 
 -- so what it does not show is no text part
 quiet-name : (name : Name) → Quiet (role name) → part_kind name ≡ None
-quiet-name name h = go (part_kind name) (ap (λ (x : Bool). x && is_part name) (sym (quiet-is (role name) h)) ∙ quiet-part name)
+quiet-name name h =
+    go (part_kind name) (ap (λ (x : Bool). x && is_part name) (sym (quiet-is (role name) h)) ∙ quiet-part name)
   where
     go : (x : Option PartKind) → elim x [ None ↦ false | Some kind ↦ true ] ≡ false → x ≡ None
     go None e = refl
@@ -73,28 +74,41 @@ linked-no_parts link (c ∷ cs) = (refl, (refl, linked-no_parts link cs))
 -- a part ends with its exit
 inside-goes : (es ys : List Event) → NoParts es → inside_part (es ++ ys) ≡ es ++ inside_part ys
 inside-goes [] ys h = refl
-inside-goes (e ∷ es) ys h = ap (λ (x : Bool). cond (x && is_exit e.kind) [] (e ∷ inside_part (es ++ ys))) (kind-no_part e.name h.0) ∙ ap (λ (l : List Event). e ∷ l) (inside-goes es ys h.1)
+inside-goes (e ∷ es) ys h =
+    ap (λ (x : Bool). cond (x && is_exit e.kind) [] (e ∷ inside_part (es ++ ys))) (kind-no_part e.name h.0)
+    ∙ ap (λ (l : List Event). e ∷ l) (inside-goes es ys h.1)
 
-pub part-inside : (name : Name) (kind : PartKind) (q : Point) (es ys : List Event) → part_kind name ≡ Some kind → NoParts es → inside_part (es ++ exit name q ∷ ys) ≡ es
+pub part-inside : (name : Name) (kind : PartKind) (q : Point) (es ys : List Event) → part_kind name ≡ Some kind →
+    NoParts es → inside_part (es ++ exit name q ∷ ys) ≡ es
 part-inside name kind q es ys named h =
     inside-goes es (exit name q ∷ ys) h
-    ∙ ap (λ (x : Option PartKind). es ++ cond ((elim x [ None ↦ false | Some kind ↦ true ]) && true) [] (exit name q ∷ inside_part ys)) named
+    ∙ ap
+    (λ (x : Option PartKind).
+    es ++ cond ((elim x [ None ↦ false | Some kind ↦ true ]) && true) [] (exit name q ∷ inside_part ys)) named
     ∙ append-nil es
 
 pub end-goes : (es ys : List Event) → NoParts es → part_end (es ++ ys) ≡ part_end ys
 end-goes [] ys h = refl
-end-goes (e ∷ es) ys h = ap (λ (x : Bool). cond (x && is_exit e.kind) e.point (part_end (es ++ ys))) (kind-no_part e.name h.0) ∙ end-goes es ys h.1
+end-goes (e ∷ es) ys h =
+    ap (λ (x : Bool). cond (x && is_exit e.kind) e.point (part_end (es ++ ys))) (kind-no_part e.name h.0)
+    ∙ end-goes es ys h.1
 
 -- events without links have no chunks
-unlinked-piece : (e f : Event) (ys : List Event) → e.link ≡ None → chunks (pieces_from e (f ∷ ys)) ≡ chunks (pieces_from f ys)
+unlinked-piece : (e f : Event) (ys : List Event) → e.link ≡ None →
+    chunks (pieces_from e (f ∷ ys)) ≡ chunks (pieces_from f ys)
 unlinked-piece e f ys h = go e.kind f.kind
   where
     go : (k l : Kind) → chunks (piece_of e f k l ++ pieces_from f ys) ≡ chunks (pieces_from f ys)
-    go Enter Exit = ap (λ (x : Option Link). cond (elim x [ None ↦ false | Some link ↦ true ]) ((record { first = e.point; after = f.point }) ∷ chunks (pieces_from f ys)) (chunks (pieces_from f ys))) h
+    go Enter Exit =
+        ap
+        (λ (x : Option Link).
+        cond (elim x [ None ↦ false | Some link ↦ true ])
+        ((record { first = e.point; after = f.point }) ∷ chunks (pieces_from f ys)) (chunks (pieces_from f ys))) h
     go Enter Enter = refl
     go Exit l = refl
 
-chunks-from : (e : Event) (es ys : List Event) → e.link ≡ None → NoLinks es → chunks (pieces_from e (es ++ ys)) ≡ chunks (pieces ys)
+chunks-from : (e : Event) (es ys : List Event) → e.link ≡ None → NoLinks es →
+    chunks (pieces_from e (es ++ ys)) ≡ chunks (pieces ys)
 chunks-from e [] [] h k = refl
 chunks-from e [] (f ∷ ys) h k = unlinked-piece e f ys h
 chunks-from e (f ∷ es) ys h k = unlinked-piece e f (es ++ ys) h ∙ chunks-from f es ys k.0 k.1
@@ -103,10 +117,13 @@ pub chunks-unlinked : (es ys : List Event) → NoLinks es → chunks (pieces (es
 chunks-unlinked [] ys h = refl
 chunks-unlinked (e ∷ es) ys h = chunks-from e es ys h.0 h.1
 
-pub pieces-behind : (p : Point) (link : Link) (cs : List Chunk) → pieces_from (exit n.Data p) (linked n.Data link cs) ≡ pieces (linked n.Data link cs)
+pub pieces-behind : (p : Point) (link : Link) (cs : List Chunk) →
+    pieces_from (exit n.Data p) (linked n.Data link cs) ≡ pieces (linked n.Data link cs)
 pieces-behind p link [] = refl
 pieces-behind p link (c ∷ cs) = refl
 
 pub linked-chunks : (link : Link) (cs : List Chunk) → chunks (pieces (linked n.Data link cs)) ≡ cs
 linked-chunks link [] = refl
-linked-chunks link (c ∷ cs) = ap (λ (l : List Piece). c ∷ chunks l) (pieces-behind c.after link cs) ∙ ap (λ (l : List Chunk). c ∷ l) (linked-chunks link cs)
+linked-chunks link (c ∷ cs) =
+    ap (λ (l : List Piece). c ∷ chunks l) (pieces-behind c.after link cs)
+    ∙ ap (λ (l : List Chunk). c ∷ l) (linked-chunks link cs)

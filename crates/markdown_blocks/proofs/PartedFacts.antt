@@ -1,5 +1,6 @@
 -- Events that part no text, and points that cut no tab of a character.
-use Rattle.std.proofs.Common.{◌≡◌, ℕ, ◌+◌, ◌-◌, ◌≤◌, Bool, true, false, cond, ◌&&◌, ◌||◌, List, [], ◌∷◌, ◌++◌, refl, ap, sym, ◌∙◌, subst, append_assoc, arith, slice_range}
+use Rattle.std.proofs.Common.{◌≡◌, ℕ, ◌+◌, ◌-◌, ◌≤◌, Bool, true, false, cond, ◌&&◌, ◌||◌, List, [], ◌∷◌, ◌++◌, refl, ap}
+use Rattle.std.proofs.Common.{sym, ◌∙◌, subst, append_assoc, arith, slice_range}
 use Rattle.std.specs.Prelude.{◌==◌, slice_index, Option, Some, None}
 use Rattle.md_engine.specs.declared.event.Event.{Event}
 use Rattle.md_engine.specs.declared.event.Kind.{Kind}
@@ -9,7 +10,8 @@ use Rattle.md_engine.specs.declared.event.Point.{Point}
 use Rattle.md_seam.specs.declared.inline.Chunk.{Chunk}
 use Rattle.md_seam.specs.Events.Inline.{plain_chunk}
 use Rattle.md_seam.specs.Events.Nested.{around, enter, exit}
-use Rattle.md_seam.specs.Events.Spelled.{IsEnding as EndingRole, IsPrefix as PrefixRole, IsQuiet, Role, Tells, byte_at, role}
+use Rattle.md_seam.specs.Events.Spelled.{IsEnding as EndingRole, IsPrefix as PrefixRole, IsQuiet, Role, Tells, byte_at}
+use Rattle.md_seam.specs.Events.Spelled.{role}
 use Rattle.md_definition.specs.Rest.{is_blank}
 use Rattle.md_seam.specs.Events.Places.{last_line}
 use Rattle.md_definition.specs.Texts.{split_lines}
@@ -23,15 +25,18 @@ use Rattle.markdown_blocks.proofs.BetweenFacts.{between-behind, is_low}
 abbrev pub clear : List ℕ → Point → Bool
 clear bytes p = (p.vs == 0) || is_between bytes (byte_at p)
 
-pub clear-between : (bytes : List ℕ) (p : Point) → clear bytes p ≡ true → is_between bytes p.index ≡ true → is_between bytes (byte_at p) ≡ true
+pub clear-between : (bytes : List ℕ) (p : Point) → clear bytes p ≡ true → is_between bytes p.index ≡ true →
+    is_between bytes (byte_at p) ≡ true
 clear-between bytes p h k = go (p.vs == 0) h
   where
-    go : (x : Bool) → (x || is_between bytes (cond x p.index (p.index + 1))) ≡ true → is_between bytes (cond x p.index (p.index + 1)) ≡ true
+    go : (x : Bool) → (x || is_between bytes (cond x p.index (p.index + 1))) ≡ true →
+        is_between bytes (cond x p.index (p.index + 1)) ≡ true
     go true h = k
     go false h = h
 
 -- behind a byte of ASCII
-pub low-clear : (bytes : List ℕ) (p : Point) → ((p.vs == 0) ≡ false → is_low (slice_index bytes p.index) ≡ true) → clear bytes p ≡ true
+pub low-clear : (bytes : List ℕ) (p : Point) → ((p.vs == 0) ≡ false → is_low (slice_index bytes p.index) ≡ true) →
+    clear bytes p ≡ true
 low-clear bytes p h = go (p.vs == 0) refl
   where
     same : p.index + 1 - 1 ≡ p.index
@@ -39,7 +44,8 @@ low-clear bytes p h = go (p.vs == 0) refl
 
     go : (x : Bool) → (p.vs == 0) ≡ x → (x || is_between bytes (cond x p.index (p.index + 1))) ≡ true
     go true e = refl
-    go false e = between-behind bytes (p.index + 1) (subst (λ (i : ℕ). is_low (slice_index bytes i) ≡ true) (sym same) (h e))
+    go false e =
+        between-behind bytes (p.index + 1) (subst (λ (i : ℕ). is_low (slice_index bytes i) ≡ true) (sym same) (h e))
 
 pub byte-from : (p : Point) → p.index ≤ byte_at p
 byte-from p = go (p.vs == 0)
@@ -70,7 +76,9 @@ still-span Exit _ p h = refl
 
 pub sits-still : (bytes : List ℕ) (xs : List Event) → Roles Still xs → Sits bytes xs
 sits-still bytes [] h ys k = k
-sits-still bytes (e ∷ xs) h ys k = ap (λ (s : Option Span). are_parted bytes s (xs ++ ys)) (still-span e.kind (role e.name) e.point h.0) ∙ sits-still bytes xs h.1 ys k
+sits-still bytes (e ∷ xs) h ys k =
+    ap (λ (s : Option Span). are_parted bytes s (xs ++ ys)) (still-span e.kind (role e.name) e.point h.0)
+    ∙ sits-still bytes xs h.1 ys k
 
 pub quiet-still : (x : Role) → Quiet x → Still x
 quiet-still IsQuiet h = tt
@@ -81,7 +89,8 @@ quiets-still [] h = tt
 quiets-still (e ∷ es) h = (quiet-still (role e.name) h.0, quiets-still es h.1)
 
 -- what stands in a text and parts it not
-pub parts-quiet : (bytes : List ℕ) (kind : Kind) (x : Role) (p : Point) (s : Option Span) → QuietOrEnding x → parts_by bytes kind x p s ≡ true
+pub parts-quiet : (bytes : List ℕ) (kind : Kind) (x : Role) (p : Point) (s : Option Span) → QuietOrEnding x →
+    parts_by bytes kind x p s ≡ true
 parts-quiet bytes kind x p None h = refl
 parts-quiet bytes Enter IsQuiet p (Some span) h = refl
 parts-quiet bytes Exit IsQuiet p (Some span) h = refl
@@ -96,29 +105,37 @@ span-quiet Enter EndingRole p s h = refl
 span-quiet Exit EndingRole p s h = refl
 span-quiet kind _ p s h = absurd h
 
-pub passes : (bytes : List ℕ) (s : Option Span) (xs ys : List Event) → Roles QuietOrEnding xs → are_parted bytes s (xs ++ ys) ≡ are_parted bytes s ys
+pub passes : (bytes : List ℕ) (s : Option Span) (xs ys : List Event) → Roles QuietOrEnding xs →
+    are_parted bytes s (xs ++ ys) ≡ are_parted bytes s ys
 passes bytes s [] ys h = refl
 passes bytes s (e ∷ xs) ys h =
-    ap (λ (x : Bool). x && are_parted bytes (span_by e.kind (role e.name) e.point s) (xs ++ ys)) (parts-quiet bytes e.kind (role e.name) e.point s h.0)
+    ap (λ (x : Bool). x && are_parted bytes (span_by e.kind (role e.name) e.point s) (xs ++ ys))
+    (parts-quiet bytes e.kind (role e.name) e.point s h.0)
     ∙ ap (λ (t : Option Span). are_parted bytes t (xs ++ ys)) (span-quiet e.kind (role e.name) e.point s h.0)
     ∙ passes bytes s xs ys h.1
 
-pub passes-chunk : (bytes : List ℕ) (s : Option Span) (chunk : Chunk) (ys : List Event) → are_parted bytes s (plain_chunk bytes chunk ++ ys) ≡ are_parted bytes s ys
-passes-chunk bytes s chunk ys = passes bytes s (plain_chunk bytes chunk) ys (chunk-roles QuietOrEnding bytes chunk tt tt)
+pub passes-chunk : (bytes : List ℕ) (s : Option Span) (chunk : Chunk) (ys : List Event) →
+    are_parted bytes s (plain_chunk bytes chunk ++ ys) ≡ are_parted bytes s ys
+passes-chunk bytes s chunk ys =
+    passes bytes s (plain_chunk bytes chunk) ys (chunk-roles QuietOrEnding bytes chunk tt tt)
 
-pub from-none : (bytes : List ℕ) (s : Option Span) (es : List Event) → s ≡ None → are_parted bytes None es ≡ true → are_parted bytes s es ≡ true
+pub from-none : (bytes : List ℕ) (s : Option Span) (es : List Event) → s ≡ None → are_parted bytes None es ≡ true →
+    are_parted bytes s es ≡ true
 from-none bytes s es e h = ap (λ (t : Option Span). are_parted bytes t es) e ∙ h
 
-pub around-sits : (bytes : List ℕ) (name : Name) (p q : Point) (inside : List Event) → Still (role name) → Sits bytes inside → Sits bytes (around name p q inside)
+pub around-sits : (bytes : List ℕ) (name : Name) (p q : Point) (inside : List Event) → Still (role name) →
+    Sits bytes inside → Sits bytes (around name p q inside)
 around-sits bytes name p q inside h k =
-    sits-append bytes (enter name p ∷ []) (inside ++ exit name q ∷ []) (sits-still bytes (enter name p ∷ []) (h, tt)) (sits-append bytes inside (exit name q ∷ []) k (sits-still bytes (exit name q ∷ []) (h, tt)))
+    sits-append bytes (enter name p ∷ []) (inside ++ exit name q ∷ []) (sits-still bytes (enter name p ∷ []) (h, tt))
+    (sits-append bytes inside (exit name q ∷ []) k (sits-still bytes (exit name q ∷ []) (h, tt)))
 
 -- Texts that go on behind a prefix.
 
 -- a prefix may stand behind whitespace from a point on
 abbrev pub Marks : List ℕ → Point → Span → Type 0
 Marks bytes p span = (j : ℕ) → byte_at p ≤ j → is_blank (slice_range bytes p.index j) ≡ true →
-    (begins_line span (slice_range bytes span.from j) ≡ true) × (is_blank (last_line (split_lines (slice_range bytes span.from j))) ≡ true)
+    (begins_line span (slice_range bytes span.from j) ≡ true) ×
+    (is_blank (last_line (split_lines (slice_range bytes span.from j))) ≡ true)
 
 -- behind a prefix
 abbrev pub behind_prefix : Point → Span
@@ -126,4 +143,6 @@ behind_prefix q = record { from = byte_at q; is_parted = true }
 
 -- what may part a text where it stands, and leaves its next piece behind it
 abbrev pub PartsText : List ℕ → Point → Point → List Event → Type 0
-PartsText bytes p q es = (span : Span) (rest : List Event) → Marks bytes p span → is_between bytes (byte_at q) ≡ true → are_parted bytes (Some (behind_prefix q)) rest ≡ true → are_parted bytes (Some span) (es ++ rest) ≡ true
+PartsText bytes p q es =
+    (span : Span) (rest : List Event) → Marks bytes p span → is_between bytes (byte_at q) ≡ true →
+    are_parted bytes (Some (behind_prefix q)) rest ≡ true → are_parted bytes (Some span) (es ++ rest) ≡ true

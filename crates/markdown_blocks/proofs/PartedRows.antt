@@ -11,7 +11,8 @@ use Rattle.md_seam.specs.Events.Spelled.{role}
 use Rattle.md_seam.proofs.SpelledLemmas.{Roles, roles-append}
 use Rattle.md_outline.specs.Outlined.{are_parted}
 use Rattle.markdown_blocks.specs.Change.{ends_of}
-use Rattle.markdown_blocks.specs.Rows.{final_row, first_row, group_done, group_kind, BlankRow, Group, Row, RowKind, TextRow, ending_events, groups, groups_events, tail_events, LeafRow, ending_of}
+use Rattle.markdown_blocks.specs.Rows.{final_row, first_row, group_done, group_kind, BlankRow, Group, Row, RowKind}
+use Rattle.markdown_blocks.specs.Rows.{TextRow, ending_events, groups, groups_events, tail_events, LeafRow, ending_of}
 use Rattle.markdown_blocks.proofs.FrontLemmas.{ends-roles, fronts-roles}
 use Rattle.markdown_blocks.proofs.RowFacts.{AreRows}
 use Rattle.markdown_blocks.proofs.PartedFacts.{Sits, Still, sits-append, sits-still}
@@ -22,7 +23,10 @@ use Rattle.markdown_blocks.proofs.ContainerNames.{container-facts}
 
 -- the ends of containers, and an ending
 sits-tail : (bytes : List ℕ) (name : Name) (row : Row) → Still (role name) → Sits bytes (tail_events name row)
-sits-tail bytes name row h = sits-still bytes (tail_events name row) (roles-append Still (ends_of row.leaves row.end) (ending_events name row) (ends-roles Still row.leaves row.end (λ c. (container-facts c).still)) (go row.after))
+sits-tail bytes name row h =
+    sits-still bytes (tail_events name row)
+    (roles-append Still (ends_of row.leaves row.end) (ending_events name row)
+    (ends-roles Still row.leaves row.end (λ c. (container-facts c).still)) (go row.after))
   where
     go : (o : Option Point) → Roles Still (elim o [ None ↦ [] | Some q ↦ pair name row.end q ])
     go None = tt
@@ -39,7 +43,9 @@ ending-still TextRow = tt
 -- what stands in front of it, its leaf, and what stands behind it
 line-sits : (bytes : List ℕ) (name : Name) (front inside : List Event) (row : Row) → Still (role name) →
     Roles Still front → Sits bytes inside → Sits bytes (front ++ inside ++ tail_events name row)
-line-sits bytes name front inside row u h k = sits-append bytes (front ++ inside) (tail_events name row) (sits-append bytes front inside (sits-still bytes front h) k) (sits-tail bytes name row u)
+line-sits bytes name front inside row u h k =
+    sits-append bytes (front ++ inside) (tail_events name row)
+    (sits-append bytes front inside (sits-still bytes front h) k) (sits-tail bytes name row u)
 
 -- Groups.
 
@@ -51,11 +57,15 @@ parted-by_groups bytes = record {
   none = λ p. refl;
   group = λ names kept p group gs o keeps on.
       let row : Row = first_row group in
-      let front : Roles Still row.front = fronts-roles Still bytes row.change.opens p row.first row.front tt tt (λ c. (container-facts c).still) o.front in
-      line-sits bytes (ending_of (group_kind group)) row.front (group_done bytes group) (final_row group) (ending-still (group_kind group)) front o.leaf.1.parted (groups_events bytes gs) on;
+      let front : Roles Still row.front = fronts-roles Still bytes row.change.opens p row.first row.front tt tt
+      (λ c. (container-facts c).still) o.front in
+      line-sits bytes (ending_of (group_kind group)) row.front (group_done bytes group) (final_row group)
+      (ending-still (group_kind group)) front o.leaf.1.parted (groups_events bytes gs) on;
 }
 
 -- no text of a whole text is parted but those of lines, where these begin
 pub rows-parted : (options : ParseOptions) (bytes : List ℕ) (p : Point) (lines : List (List ℕ)) (rows : List Row) →
-    AreRows options bytes [] held_leaf.None p lines rows → are_parted bytes None (groups_events bytes (groups rows)) ≡ true
-rows-parted options bytes p lines rows are = rows-hold bytes (Parted bytes) (parted-by_groups bytes) options p lines rows are
+    AreRows options bytes [] held_leaf.None p lines rows →
+    are_parted bytes None (groups_events bytes (groups rows)) ≡ true
+rows-parted options bytes p lines rows are =
+    rows-hold bytes (Parted bytes) (parted-by_groups bytes) options p lines rows are

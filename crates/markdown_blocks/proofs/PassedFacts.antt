@@ -1,4 +1,5 @@
--- A container of a line, by the cells of the line and by its bytes: that it is the same one, and what it leaves of the line.
+-- A container of a line, by the cells of the line and by its bytes: that it is the same one, and what it leaves of the
+-- line.
 use Rattle.std.proofs.Common.{◌≡◌, ℕ, ◌<◌, ◌≤◌, List, ◌∷◌, ◌++◌, length, Option, Some, None}
 use Rattle.md_engine.specs.declared.event.Event.{Event}
 use Rattle.md_engine.specs.declared.event.Point.{Point}
@@ -14,7 +15,8 @@ use Rattle.markdown_blocks.proofs.RegistryRead.{IsRead}
 use Rattle.markdown_blocks.proofs.PrefixFacts.{Continues, Opens}
 
 -- what a container leaves of a line, by the cells of the line and by its bytes
-pub record HasPassed (line : Line) (text past : List ℕ) (end : Point) (stop cells : List Cell) (passed : Passed) (taken : Taken) : Type 0 where
+pub record HasPassed (line : Line) (text past : List ℕ) (end : Point) (stop cells : List Cell) (passed : Passed)
+    (taken : Taken) : Type 0 where
   pub container : passed.container ≡ taken.container
   pub read : IsRead passed.container
   pub fed : passed.cells ≡ rest_cells line taken.rest passed.point ++ stop
@@ -24,12 +26,14 @@ pub record HasPassed (line : Line) (text past : List ℕ) (end : Point) (stop ce
   pub shorter : length passed.cells ≤ length cells
 
 -- of one that goes on: this stands in front of its content
-pub record HasFurther (line : Line) (text past : List ℕ) (p end : Point) (stop cells : List Cell) (passed : Passed) (taken : Taken) : Type 0 where
+pub record HasFurther (line : Line) (text past : List ℕ) (p end : Point) (stop cells : List Cell) (passed : Passed)
+    (taken : Taken) : Type 0 where
   pub passes : HasPassed line text past end stop cells passed taken
   pub further : Continues text p passed.point passed.events
 
 -- of one that opens: this stands behind its begin; it takes a cell
-pub record HasOpening (line : Line) (text past : List ℕ) (p end : Point) (stop cells : List Cell) (passed : Passed) (taken : Taken) : Type 0 where
+pub record HasOpening (line : Line) (text past : List ℕ) (p end : Point) (stop cells : List Cell) (passed : Passed)
+    (taken : Taken) : Type 0 where
   pub passes : HasPassed line text past end stop cells passed taken
   pub inside : List Event
   pub events : passed.events ≡ enter (container_name passed.container) p ∷ inside

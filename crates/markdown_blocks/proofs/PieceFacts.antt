@@ -1,5 +1,6 @@
 -- Pieces that stand over their bytes, and events all of whose pieces do.
-use Rattle.std.proofs.Common.{◌≡◌, ℕ, ◌+◌, ◌<◌, Bool, true, false, cond, ◌&&◌, ◌||◌, List, [], ◌∷◌, ◌++◌, length, drop, slice_range, refl, ap, ◌∙◌, arith}
+use Rattle.std.proofs.Common.{◌≡◌, ℕ, ◌+◌, ◌<◌, Bool, true, false, cond, ◌&&◌, ◌||◌, List, [], ◌∷◌, ◌++◌, length, drop}
+use Rattle.std.proofs.Common.{slice_range, refl, ap, ◌∙◌, arith}
 use Rattle.std.specs.Prelude.{◌==◌, not}
 use Rattle.std.proofs.lemmas.Bool.{and_from, or_right}
 use Rattle.std.proofs.lemmas.List.Folds.{list_all-append}
@@ -36,7 +37,8 @@ whole-first p [] e = tt
 whole-first p (b ∷ bs) e = ap (λ (x : ℕ). (x == 0) || (b == 9)) e
 
 -- bytes of a line, behind a point
-pub over-front : (bytes : List ℕ) (p q : Point) (text rest : List ℕ) → drop p.index bytes ≡ text ++ rest → 0 < length text → q ≡ past_text text p → Over bytes p q text
+pub over-front : (bytes : List ℕ) (p q : Point) (text rest : List ℕ) → drop p.index bytes ≡ text ++ rest →
+    0 < length text → q ≡ past_text text p → Over bytes p q text
 over-front bytes p q [] rest e some end = absurd (omega (arith, some))
 over-front bytes p q (b ∷ text) rest e some end =
     let index : q.index ≡ p.index + length (b ∷ text) = ap (λ (r : Point). r.index) end ∙ past-index (b ∷ text) p in
@@ -60,10 +62,12 @@ all-four : (a b c d : Bool) → a ≡ true → b ≡ true → c ≡ true → d �
 all-four a b c d h i j k = and_from (a && b && c) d (and_from (a && b) c (and_from a b h i) j) k
 
 -- a piece that is not empty, over what its name says
-pub piece-stands : (bytes : List ℕ) (name : Name) (p q : Point) → same_place p q ≡ false → ((p.vs == 0) || begins_in_tab name) ≡ true → ((q.vs == 0) || ends_in_tab name) ≡ true →
+pub piece-stands : (bytes : List ℕ) (name : Name) (p q : Point) → same_place p q ≡ false →
+    ((p.vs == 0) || begins_in_tab name) ≡ true → ((q.vs == 0) || ends_in_tab name) ≡ true →
     stands_over name (slice_range bytes p.index q.index) ≡ true → piece_stands bytes (span name p q) ≡ true
 piece-stands bytes name p q apart begins ends over =
-    all-four (not (same_place p q)) ((p.vs == 0) || begins_in_tab name) ((q.vs == 0) || ends_in_tab name) (stands_over name (slice_range bytes p.index q.index)) (ap not apart) begins ends over
+    all-four (not (same_place p q)) ((p.vs == 0) || begins_in_tab name) ((q.vs == 0) || ends_in_tab name)
+    (stands_over name (slice_range bytes p.index q.index)) (ap not apart) begins ends over
 
 -- what ends between two bytes
 ends-whole : (name : Name) (q : Point) → q.vs ≡ 0 → ((q.vs == 0) || ends_in_tab name) ≡ true
@@ -78,16 +82,22 @@ pub begins-cut : (name : Name) (p : Point) → begins_in_tab name ≡ true → (
 begins-cut name p e = or_right (p.vs == 0) (begins_in_tab name) e
 
 -- one between two bytes, or from within a tab
-pub over-stands : (bytes : List ℕ) (name : Name) (p q : Point) (text : List ℕ) → Over bytes p q text → ((p.vs == 0) || begins_in_tab name) ≡ true → stands_over name text ≡ true →
+pub over-stands : (bytes : List ℕ) (name : Name) (p q : Point) (text : List ℕ) → Over bytes p q text →
+    ((p.vs == 0) || begins_in_tab name) ≡ true → stands_over name text ≡ true →
     piece_stands bytes (span name p q) ≡ true
-over-stands bytes name p q text over begins is = piece-stands bytes name p q (apart-later p q over.some) begins (ends-whole name q over.whole) (ap (stands_over name) over.slice ∙ is)
+over-stands bytes name p q text over begins is =
+    piece-stands bytes name p q (apart-later p q over.some) begins (ends-whole name q over.whole)
+    (ap (stands_over name) over.slice ∙ is)
 
 -- a chunk that is one line, with its ending or not
-pub chunk-stands : (bytes : List ℕ) (name : Name) (p q : Point) (text : List ℕ) → Over bytes p q text → begins_in_tab name ≡ true → is_one_line (split_lines text) true ≡ true →
+pub chunk-stands : (bytes : List ℕ) (name : Name) (p q : Point) (text : List ℕ) → Over bytes p q text →
+    begins_in_tab name ≡ true → is_one_line (split_lines text) true ≡ true →
     piece_stands bytes (chunk_span name p q) ≡ true
 chunk-stands bytes name p q text over begins is =
-    all-four (not (same_place p q)) ((p.vs == 0) || begins_in_tab name) ((q.vs == 0) || ends_in_tab name) (is_one_line (split_lines (slice_range bytes p.index q.index)) true)
-    (ap not (apart-later p q over.some)) (begins-cut name p begins) (ends-whole name q over.whole) (ap (λ (l : List ℕ). is_one_line (split_lines l) true) over.slice ∙ is)
+    all-four (not (same_place p q)) ((p.vs == 0) || begins_in_tab name) ((q.vs == 0) || ends_in_tab name)
+    (is_one_line (split_lines (slice_range bytes p.index q.index)) true)
+    (ap not (apart-later p q over.some)) (begins-cut name p begins) (ends-whole name q over.whole)
+    (ap (λ (l : List ℕ). is_one_line (split_lines l) true) over.slice ∙ is)
 
 -- Events.
 
@@ -102,8 +112,10 @@ starts-append [] ys h = absurd h
 starts-append (e ∷ xs) ys h = h
 
 -- pieces one behind the other
-pub pieces-both : (bytes : List ℕ) (xs ys : List Piece) → pieces_stand bytes xs ≡ true → pieces_stand bytes ys ≡ true → pieces_stand bytes (xs ++ ys) ≡ true
-pieces-both bytes xs ys h k = list_all-append (piece_stands bytes) xs ys ∙ and_from (pieces_stand bytes xs) (pieces_stand bytes ys) h k
+pub pieces-both : (bytes : List ℕ) (xs ys : List Piece) → pieces_stand bytes xs ≡ true → pieces_stand bytes ys ≡ true →
+    pieces_stand bytes (xs ++ ys) ≡ true
+pieces-both bytes xs ys h k =
+    list_all-append (piece_stands bytes) xs ys ∙ and_from (pieces_stand bytes xs) (pieces_stand bytes ys) h k
 
 -- Events all of whose pieces stand, and which make no pair with an event behind them.
 pub record Stood (bytes : List ℕ) (es : List Event) : Type 0 where
@@ -118,15 +130,18 @@ stood-none bytes = record { ends = refl; stand = refl }
 pub stood-append : (bytes : List ℕ) (xs ys : List Event) → Stood bytes xs → Stood bytes ys → Stood bytes (xs ++ ys)
 stood-append bytes xs ys h k = record {
   ends = ends-append Exit xs ys h.ends k.ends;
-  stand = ap (pieces_stand bytes) (pieces-ended xs ys h.ends) ∙ pieces-both bytes (pieces xs) (pieces ys) h.stand k.stand;
+  stand =
+      ap (pieces_stand bytes) (pieces-ended xs ys h.ends) ∙ pieces-both bytes (pieces xs) (pieces ys) h.stand k.stand;
 }
 
 -- a pair
-pub stood-pair : (bytes : List ℕ) (name : Name) (p q : Point) → piece_stands bytes (span name p q) ≡ true → Stood bytes (pair name p q)
+pub stood-pair : (bytes : List ℕ) (name : Name) (p q : Point) → piece_stands bytes (span name p q) ≡ true →
+    Stood bytes (pair name p q)
 stood-pair bytes name p q h = record { ends = refl; stand = and_from (piece_stands bytes (span name p q)) true h refl }
 
 -- a pair that is left out if it is empty
-pub stood-unless_empty : (bytes : List ℕ) (name : Name) (p q : Point) → (same_place p q ≡ false → piece_stands bytes (span name p q) ≡ true) → Stood bytes (pair_unless_empty name p q)
+pub stood-unless_empty : (bytes : List ℕ) (name : Name) (p q : Point) →
+    (same_place p q ≡ false → piece_stands bytes (span name p q) ≡ true) → Stood bytes (pair_unless_empty name p q)
 stood-unless_empty bytes name p q h = go (same_place p q) refl
   where
     go : (none : Bool) → same_place p q ≡ none → Stood bytes (cond none [] (pair name p q))
@@ -138,7 +153,8 @@ pub stood-exit : (bytes : List ℕ) (name : Name) (p : Point) → Stood bytes (e
 stood-exit bytes name p = record { ends = refl; stand = refl }
 
 -- a part around events that begin with an enter
-pub stood-around : (bytes : List ℕ) (name : Name) (p q : Point) (es : List Event) → Starts es → Stood bytes es → Stood bytes (around name p q es)
+pub stood-around : (bytes : List ℕ) (name : Name) (p q : Point) (es : List Event) → Starts es → Stood bytes es →
+    Stood bytes (around name p q es)
 stood-around bytes name p q [] starts h = absurd starts
 stood-around bytes name p q (e ∷ es) starts h = record {
   ends = ends-exit Enter (e ∷ es) (exit name q) refl;

@@ -1,7 +1,8 @@
 -- The pieces of every text stand over their bytes, before its text is read and behind.
 use Rattle.md_engine.specs.declared.tokenizer.held_leaf.HeldLeaf.TheVariants as held_leaf
 use Rattle.md_engine.specs.declared.tokenizer.held_leaf.HeldLeaf.{HeldLeaf}
-use Rattle.std.proofs.Common.{◌≡◌, ℕ, Bool, true, false, cond, List, [], ◌∷◌, ◌++◌, slice_range, refl, ap, sym, subst, arith}
+use Rattle.std.proofs.Common.{◌≡◌, ℕ, Bool, true, false, cond, List, [], ◌∷◌, ◌++◌, slice_range, refl, ap, sym, subst}
+use Rattle.std.proofs.Common.{arith}
 use Rattle.std.specs.Prelude.{Option, Some, None}
 use Rattle.md_engine.specs.declared.configuration.ParseOptions.{ParseOptions}
 use Rattle.md_engine.specs.declared.event.Event.{Event}
@@ -20,7 +21,9 @@ use Rattle.markdown_blocks.specs.Registry.{container_name}
 use Rattle.markdown_blocks.specs.Change.{ends_of}
 use Rattle.markdown_blocks.specs.Document.{body_point, mark_end, mark_events}
 use Rattle.markdown_blocks.specs.Fronted.{contained, rest_from, rest_line}
-use Rattle.markdown_blocks.specs.Rows.{leaf_behind, final_row, first_row, group_done, group_kind, BlankRow, Group, Lines, Row, RowKind, Single, TextRow, ending_events, group_events, groups, groups_events, is_text, tail_events, LeafRow, ending_of}
+use Rattle.markdown_blocks.specs.Rows.{leaf_behind, final_row, first_row, group_done, group_kind, BlankRow, Group}
+use Rattle.markdown_blocks.specs.Rows.{Lines, Row, RowKind, Single, TextRow, ending_events, group_events, groups}
+use Rattle.markdown_blocks.specs.Rows.{groups_events, is_text, tail_events, LeafRow, ending_of}
 use Rattle.markdown_blocks.specs.Unread.{group_unread, listed_group, listed_groups}
 use Rattle.markdown_blocks.proofs.EachRow.{EachGroup, EachRow, OfGroup, groups-each, last-each}
 use Rattle.markdown_blocks.proofs.FrontStands.{fronts-stood}
@@ -34,7 +37,9 @@ use Rattle.markdown_blocks.proofs.NestedRows.{ByGroups, Ordered, rows-hold}
 -- the ends of containers have no pieces
 ends-stood : (bytes : List ℕ) (cs : List Container) (p : Point) → Stood bytes (ends_of cs p)
 ends-stood bytes [] p = stood-none bytes
-ends-stood bytes (c ∷ cs) p = stood-append bytes (ends_of cs p) (exit (container_name c) p ∷ []) (ends-stood bytes cs p) (stood-exit bytes (container_name c) p)
+ends-stood bytes (c ∷ cs) p =
+    stood-append bytes (ends_of cs p) (exit (container_name c) p ∷ []) (ends-stood bytes cs p)
+    (stood-exit bytes (container_name c) p)
 
 -- Lines.
 
@@ -66,7 +71,8 @@ tail-stood : (bytes : List ℕ) (row : Row) (after : Option Point) → row.after
     Stood bytes (tail_events name row)
 tail-stood bytes row after same whole ended name named =
     stood-append bytes (ends_of row.leaves row.end) (ending_events name row) (ends-stood bytes row.leaves row.end)
-    (subst (λ (x : Option Point). Stood bytes (elim x [ None ↦ [] | Some q ↦ pair name row.end q ])) (sym same) (go after ended))
+    (subst (λ (x : Option Point). Stood bytes (elim x [ None ↦ [] | Some q ↦ pair name row.end q ])) (sym same)
+    (go after ended))
   where
     go : (after : Option Point) → Ended bytes row.end after →
         Stood bytes (elim after [ None ↦ [] | Some q ↦ pair name row.end q ])
@@ -76,18 +82,27 @@ tail-stood bytes row after same whole ended name named =
 -- a line with its ending, if it has one
 line-stands : (options : ParseOptions) (bytes line : List ℕ) (row : Row) (after : Option Point) →
     IsRow options bytes line row → row.after ≡ after → Ended bytes row.end after → LineStands bytes row
-line-stands options bytes line row after is same ended = record { tail = tail-stood bytes row after same is.end_whole ended }
+line-stands options bytes line row after is same ended = record {
+  tail = tail-stood bytes row after same is.end_whole
+      ended;
+}
 
 -- each line of a text is such
-rows-stand : (options : ParseOptions) (bytes : List ℕ) (open_before : List Container) (still : HeldLeaf) (p : Point) (lines : List (List ℕ)) (rows : List Row) →
+rows-stand : (options : ParseOptions) (bytes : List ℕ) (open_before : List Container) (still : HeldLeaf) (p : Point)
+    (lines : List (List ℕ)) (rows : List Row) →
     AreRows options bytes open_before still p lines rows → EachRow (LineStands bytes) rows
 rows-stand options bytes open_before still p (line ∷ []) (row ∷ []) are =
-    let is : IsLine options bytes open_before still p line row = are.0 in
-    (line-stands options bytes (rest_line (contained options open_before still (rest_from p line)).rest) row None is.is are.2 tt, tt)
+    let is : IsLine options bytes open_before still p line row = are.0 in (
+      line-stands options bytes
+          (rest_line (contained options open_before still (rest_from p line)).rest) row None is.is are.2 tt,
+      tt,
+    )
 rows-stand options bytes open_before still p (line ∷ next ∷ lines) (row ∷ below ∷ rows) are =
     let is : IsLine options bytes open_before still p line row = are.0 in (
-      line-stands options bytes (rest_line (contained options open_before still (rest_from p line)).rest) row (Some are.2) is.is are.3 are.4,
-      rows-stand options bytes (behind_line options open_before still p line) (leaf_behind row.kind) are.2 (next ∷ lines) (below ∷ rows) are.5,
+      line-stands options bytes (rest_line (contained options open_before still (rest_from p line)).rest) row
+          (Some are.2) is.is are.3 are.4,
+      rows-stand options bytes (behind_line options open_before still p line) (leaf_behind row.kind) are.2
+          (next ∷ lines) (below ∷ rows) are.5,
     )
 rows-stand options bytes open_before still p lines rows are = absurd are
 
@@ -99,12 +114,14 @@ final-stands bytes (Single row) h = h
 final-stands bytes (Lines row rows) h = last-each (LineStands bytes) row rows h.0 h.1
 
 -- what stands in front of the first line of a group, in its place, and behind it
-group-stood : (bytes : List ℕ) (p : Point) (group : Group) (es : List Event) → Ordered bytes p group → OfGroup (LineStands bytes) group → Stood bytes es →
+group-stood : (bytes : List ℕ) (p : Point) (group : Group) (es : List Event) → Ordered bytes p group →
+    OfGroup (LineStands bytes) group → Stood bytes es →
     Stood bytes ((first_row group).front ++ es ++ tail_events (ending_of (group_kind group)) (final_row group))
 group-stood bytes p group es o h stood =
     let row : Row = first_row group in
     let kind : RowKind = group_kind group in
-    stood-append bytes (row.front ++ es) (tail_events (ending_of kind) (final_row group)) (stood-append bytes row.front es (fronts-stood bytes row.change.opens p row.first row.front o.front) stood)
+    stood-append bytes (row.front ++ es) (tail_events (ending_of kind) (final_row group))
+    (stood-append bytes row.front es (fronts-stood bytes row.change.opens p row.first row.front o.front) stood)
     ((final-stands bytes group h).tail (ending_of kind) (ending-named kind))
 
 -- groups of such lines, before texts are read
@@ -115,7 +132,8 @@ unread-by_groups : (bytes : List ℕ) → ByGroups bytes (UnreadStood bytes)
 unread-by_groups bytes = record {
   none = λ p h. stood-none bytes;
   group = λ names kept p group gs o keeps on h.
-      stood-append bytes (listed_group bytes group) (listed_groups bytes gs) (group-stood bytes p group (group_unread bytes group) o h.0 o.leaf.1.unread_stood) (on h.1);
+      stood-append bytes (listed_group bytes group) (listed_groups bytes gs)
+      (group-stood bytes p group (group_unread bytes group) o h.0 o.leaf.1.unread_stood) (on h.1);
 }
 
 -- and once they are
@@ -126,7 +144,8 @@ stood-by_groups : (bytes : List ℕ) → ByGroups bytes (GroupsStood bytes)
 stood-by_groups bytes = record {
   none = λ p h. stood-none bytes;
   group = λ names kept p group gs o keeps on h.
-      stood-append bytes (group_events bytes group) (groups_events bytes gs) (group-stood bytes p group (group_done bytes group) o h.0 o.leaf.1.stood) (on h.1);
+      stood-append bytes (group_events bytes group) (groups_events bytes gs)
+      (group-stood bytes p group (group_done bytes group) o h.0 o.leaf.1.stood) (on h.1);
 }
 
 -- With a mark in front.
@@ -141,7 +160,8 @@ mark-stood bytes = go (has_mark bytes) refl
     go : (x : Bool) → has_mark bytes ≡ x → Stood bytes (cond x (pair n.ByteOrderMark first_point mark_end) [])
     go true e =
         stood-pair bytes n.ByteOrderMark first_point mark_end
-        (over-stands bytes n.ByteOrderMark first_point mark_end (239 ∷ 187 ∷ 191 ∷ []) (record { some = omega arith; whole = refl; slice = slice e }) refl refl)
+        (over-stands bytes n.ByteOrderMark first_point mark_end (239 ∷ 187 ∷ 191 ∷ [])
+        (record { some = omega arith; whole = refl; slice = slice e }) refl refl)
     go false e = stood-none bytes
 
 -- The pieces of a text stand, before its texts are read,
@@ -150,7 +170,9 @@ pub blocks-pieces : (options : ParseOptions) (bytes : List ℕ) (lines : List (L
     pieces_stand bytes (pieces (mark_events bytes ++ listed_groups bytes (groups rows))) ≡ true
 blocks-pieces options bytes lines rows are =
     (stood-append bytes (mark_events bytes) (listed_groups bytes (groups rows)) (mark-stood bytes)
-    (rows-hold bytes (UnreadStood bytes) (unread-by_groups bytes) options (body_point bytes) lines rows are (groups-each (LineStands bytes) rows (rows-stand options bytes [] held_leaf.None (body_point bytes) lines rows are)))).stand
+    (rows-hold bytes (UnreadStood bytes) (unread-by_groups bytes) options (body_point bytes) lines rows are
+    (groups-each (LineStands bytes) rows
+    (rows-stand options bytes [] held_leaf.None (body_point bytes) lines rows are)))).stand
 
 -- and once they are.
 pub events-pieces : (options : ParseOptions) (bytes : List ℕ) (lines : List (List ℕ)) (rows : List Row) →
@@ -158,4 +180,6 @@ pub events-pieces : (options : ParseOptions) (bytes : List ℕ) (lines : List (L
     pieces_stand bytes (pieces (mark_events bytes ++ groups_events bytes (groups rows))) ≡ true
 events-pieces options bytes lines rows are =
     (stood-append bytes (mark_events bytes) (groups_events bytes (groups rows)) (mark-stood bytes)
-    (rows-hold bytes (GroupsStood bytes) (stood-by_groups bytes) options (body_point bytes) lines rows are (groups-each (LineStands bytes) rows (rows-stand options bytes [] held_leaf.None (body_point bytes) lines rows are)))).stand
+    (rows-hold bytes (GroupsStood bytes) (stood-by_groups bytes) options (body_point bytes) lines rows are
+    (groups-each (LineStands bytes) rows
+    (rows-stand options bytes [] held_leaf.None (body_point bytes) lines rows are)))).stand

@@ -1,5 +1,6 @@
 -- Runs of one marker and of whitespace: how they nest and lie side by side, and what they are over.
-use Rattle.std.proofs.Common.{◌≡◌, ◌≢◌, ℕ, ◌<◌, Bool, true, false, cond, ◌&&◌, ◌||◌, List, [], ◌∷◌, ◌++◌, length, drop, refl, ap, sym, ◌∙◌, append_assoc, arith}
+use Rattle.std.proofs.Common.{◌≡◌, ◌≢◌, ℕ, ◌<◌, Bool, true, false, cond, ◌&&◌, ◌||◌, List, [], ◌∷◌, ◌++◌, length, drop}
+use Rattle.std.proofs.Common.{refl, ap, sym, ◌∙◌, append_assoc, arith}
 use Rattle.std.specs.Prelude.{◌==◌, IsTrue, None}
 use Rattle.std.specs.List.{list_all}
 use Rattle.std.proofs.lemmas.Bool.{and_from, eqb-true}
@@ -45,11 +46,15 @@ runs-each P name none more Apart m [] p = none
 runs-each P name none more Marks m [] p = more Exit false p [] none
 runs-each P name none more White m [] p = more Exit true p [] none
 runs-each P name none more Apart m (b ∷ bs) p =
-    either P (b == m) _ _ (more Enter false p _ (runs-each P name none more Marks m bs (past_byte b p))) (more Enter true p _ (runs-each P name none more White m bs (past_byte b p)))
+    either P (b == m) _ _ (more Enter false p _ (runs-each P name none more Marks m bs (past_byte b p)))
+    (more Enter true p _ (runs-each P name none more White m bs (past_byte b p)))
 runs-each P name none more Marks m (b ∷ bs) p =
-    either P (b == m) _ _ (runs-each P name none more Marks m bs (past_byte b p)) (more Exit false p _ (more Enter true p _ (runs-each P name none more White m bs (past_byte b p))))
+    either P (b == m) _ _ (runs-each P name none more Marks m bs (past_byte b p))
+    (more Exit false p _ (more Enter true p _ (runs-each P name none more White m bs (past_byte b p))))
 runs-each P name none more White m (b ∷ bs) p =
-    either P (b == m) _ _ (more Exit true p _ (more Enter false p _ (runs-each P name none more Marks m bs (past_byte b p)))) (runs-each P name none more White m bs (past_byte b p))
+    either P (b == m) _ _
+    (more Exit true p _ (more Enter false p _ (runs-each P name none more Marks m bs (past_byte b p))))
+    (runs-each P name none more White m bs (past_byte b p))
 
 -- How they nest.
 
@@ -75,10 +80,12 @@ runs-end name Apart m (b ∷ bs) p =
     either (Ends_all []) (b == m) _ _ ((tt, marks.0), marks.1) ((tt, white.0), white.1)
 runs-end name Marks m (b ∷ bs) p =
     let white = runs-end name White m bs (past_byte b p) in
-    either (Ends_all (name ∷ [])) (b == m) _ _ (runs-end name Marks m bs (past_byte b p)) ((refl, (tt, white.0)), white.1)
+    either (Ends_all (name ∷ [])) (b == m) _ _ (runs-end name Marks m bs (past_byte b p))
+    ((refl, (tt, white.0)), white.1)
 runs-end name White m (b ∷ bs) p =
     let marks = runs-end name Marks m bs (past_byte b p) in
-    either (Ends_all (n.SpaceOrTab ∷ [])) (b == m) _ _ ((refl, (tt, marks.0)), marks.1) (runs-end name White m bs (past_byte b p))
+    either (Ends_all (n.SpaceOrTab ∷ [])) (b == m) _ _ ((refl, (tt, marks.0)), marks.1)
+    (runs-end name White m bs (past_byte b p))
 
 -- from a point at or before the one where they are, up to the end of the bytes
 runs-span : (name : Name) (run : Run) (m : ℕ) (bs : List ℕ) (p q : Point) → IsTrue (at_or_before p q) →
@@ -94,11 +101,14 @@ runs-span name Apart m (b ∷ bs) p q h =
 runs-span name Marks m (b ∷ bs) p q h =
     let on = before-byte q (past_byte b q) (omega arith) in
     let white = runs-span name White m bs q (past_byte b q) on in
-    either (Spans p (past_text bs (past_byte b q))) (b == m) _ _ (runs-span name Marks m bs p (past_byte b q) (at_or_before-trans p q (past_byte b q) h on)) ((h, (at_or_before-refl q, white.0)), white.1)
+    either (Spans p (past_text bs (past_byte b q))) (b == m) _ _
+    (runs-span name Marks m bs p (past_byte b q) (at_or_before-trans p q (past_byte b q) h on))
+    ((h, (at_or_before-refl q, white.0)), white.1)
 runs-span name White m (b ∷ bs) p q h =
     let on = before-byte q (past_byte b q) (omega arith) in
     let marks = runs-span name Marks m bs q (past_byte b q) on in
-    either (Spans p (past_text bs (past_byte b q))) (b == m) _ _ ((h, (at_or_before-refl q, marks.0)), marks.1) (runs-span name White m bs p (past_byte b q) (at_or_before-trans p q (past_byte b q) h on))
+    either (Spans p (past_text bs (past_byte b q))) (b == m) _ _ ((h, (at_or_before-refl q, marks.0)), marks.1)
+    (runs-span name White m bs p (past_byte b q) (at_or_before-trans p q (past_byte b q) h on))
 
 -- all runs of some bytes nest between their begin and their end
 pub runs-nested : (name : Name) (m : ℕ) (bs : List ℕ) (p : Point) →
@@ -120,13 +130,15 @@ runs-shut name Marks m (b ∷ bs) e p ok h =
     let end : Point = past_text bs (past_byte b p) in
     let more : List Event = mark_runs name White m bs (past_byte b p) in
     either (Shut e end) (b == m) _ _ (runs-shut name Marks m bs e (past_byte b p) ok h)
-    (shut-exit e (exit name p) end (white ∷ more) h refl (tiled-enter white end more refl (runs-shut name White m bs white (past_byte b p) (λ k. cc) refl)))
+    (shut-exit e (exit name p) end (white ∷ more) h refl
+    (tiled-enter white end more refl (runs-shut name White m bs white (past_byte b p) (λ k. cc) refl)))
 runs-shut name White m (b ∷ bs) e p ok h =
     let marks : Event = enter name p in
     let end : Point = past_text bs (past_byte b p) in
     let more : List Event = mark_runs name Marks m bs (past_byte b p) in
     either (Shut e end) (b == m) _ _
-    (shut-exit e (exit n.SpaceOrTab p) end (marks ∷ more) h refl (tiled-enter marks end more refl (runs-shut name Marks m bs marks (past_byte b p) (λ k. cc) refl)))
+    (shut-exit e (exit n.SpaceOrTab p) end (marks ∷ more) h refl
+    (tiled-enter marks end more refl (runs-shut name Marks m bs marks (past_byte b p) (λ k. cc) refl)))
     (runs-shut name White m bs e (past_byte b p) ok h)
 
 -- all runs of some bytes cover them
@@ -137,7 +149,8 @@ runs-tiled name m (b ∷ bs) p =
     let marks : Event = enter name p in
     let white : Event = enter n.SpaceOrTab p in
     let end : Point = past_text bs (past_byte b p) in
-    either (Tiled p end) (b == m) _ _ (tiled-enter marks end _ refl (runs-shut name Marks m bs marks (past_byte b p) (λ k. cc) refl))
+    either (Tiled p end) (b == m) _ _
+    (tiled-enter marks end _ refl (runs-shut name Marks m bs marks (past_byte b p) (λ k. cc) refl))
     (tiled-enter white end _ refl (runs-shut name White m bs white (past_byte b p) (λ k. cc) refl))
 
 -- What they are over.
@@ -173,7 +186,13 @@ record Begun (bytes : List ℕ) (run : Run) (m : ℕ) (p q : Point) (ys rest : L
 -- it begins with a byte
 begun-first : (bytes : List ℕ) (run : Run) (m : ℕ) (p : Point) (b : ℕ) (rest : List ℕ) → drop p.index bytes ≡ b ∷ rest →
     goes_on run m b ≡ true → ((p.vs == 0) || may_cut run) ≡ true → Begun bytes run m p (past_byte b p) (b ∷ []) rest
-begun-first bytes run m p b rest e h cut = record { text = e; some = omega arith; all = and_from (goes_on run m b) true h refl; end = refl; cut = cut }
+begun-first bytes run m p b rest e h cut = record {
+  text = e;
+  some = omega arith;
+  all = and_from (goes_on run m b) true h refl;
+  end = refl;
+  cut = cut;
+}
 
 -- and goes on with another
 begun-next : (bytes : List ℕ) (run : Run) (m : ℕ) (p q : Point) (ys : List ℕ) (b : ℕ) (rest : List ℕ) →
@@ -182,7 +201,9 @@ begun-next : (bytes : List ℕ) (run : Run) (m : ℕ) (p q : Point) (ys : List �
 begun-next bytes run m p q ys b rest h on = record {
   text = h.text ∙ sym (append_assoc ys (b ∷ []) rest);
   some = let size = length-append ys (b ∷ []) in let some = h.some in omega arith;
-  all = list_all-append (goes_on run m) ys (b ∷ []) ∙ and_from (list_all (goes_on run m) ys) (goes_on run m b && true) h.all (and_from (goes_on run m b) true on refl);
+  all =
+      list_all-append (goes_on run m) ys (b ∷ [])
+      ∙ and_from (list_all (goes_on run m) ys) (goes_on run m b && true) h.all (and_from (goes_on run m b) true on refl);
   end = ap (past_byte b) h.end ∙ sym (past_text-append ys (b ∷ []) p);
   cut = h.cut;
 }
@@ -190,7 +211,9 @@ begun-next bytes run m p q ys b rest h on = record {
 -- what stands behind it
 begun-left : (bytes : List ℕ) (run : Run) (m : ℕ) (p q : Point) (ys rest : List ℕ) → Begun bytes run m p q ys rest →
     drop q.index bytes ≡ rest
-begun-left bytes run m p q ys rest h = ap (λ (i : ℕ). drop i bytes) (ap (λ (r : Point). r.index) h.end ∙ past-index ys p) ∙ drop-past bytes p.index ys rest h.text
+begun-left bytes run m p q ys rest h =
+    ap (λ (i : ℕ). drop i bytes) (ap (λ (r : Point). r.index) h.end ∙ past-index ys p)
+    ∙ drop-past bytes p.index ys rest h.text
 
 -- what it is over
 begun-over : (bytes : List ℕ) (run : Run) (m : ℕ) (p q : Point) (ys rest : List ℕ) → Begun bytes run m p q ys rest →
@@ -200,7 +223,9 @@ begun-over bytes run m p q ys rest h = over-front bytes p q ys rest h.text h.som
 -- its piece
 begun-marks : (bytes : List ℕ) (name : Name) (m : ℕ) (p q : Point) (ys rest : List ℕ) → IsMarker name m →
     Begun bytes Marks m p q ys rest → piece_stands bytes (span name p q) ≡ true
-begun-marks bytes name m p q ys rest is h = over-stands bytes name p q ys (begun-over bytes Marks m p q ys rest h) (begins-whole name p (whole (p.vs == 0) refl h.cut)) (is ys h.some h.all)
+begun-marks bytes name m p q ys rest is h =
+    over-stands bytes name p q ys (begun-over bytes Marks m p q ys rest h)
+    (begins-whole name p (whole (p.vs == 0) refl h.cut)) (is ys h.some h.all)
   where
     whole : (x : Bool) → (p.vs == 0) ≡ x → (x || false) ≡ true → p.vs ≡ 0
     whole true e h = eqb-true p.vs 0 e
@@ -209,7 +234,8 @@ begun-marks bytes name m p q ys rest is h = over-stands bytes name p q ys (begun
 -- the piece of whitespace
 begun-white : (bytes : List ℕ) (m : ℕ) (p q : Point) (ys rest : List ℕ) → Begun bytes White m p q ys rest →
     piece_stands bytes (span n.SpaceOrTab p q) ≡ true
-begun-white bytes m p q ys rest h = over-stands bytes n.SpaceOrTab p q ys (begun-over bytes White m p q ys rest h) h.cut h.all
+begun-white bytes m p q ys rest h =
+    over-stands bytes n.SpaceOrTab p q ys (begun-over bytes White m p q ys rest h) h.cut h.all
 
 -- the other run
 pub other-run : (m b : ℕ) → ((b == m) || is_white b) ≡ true → (b == m) ≡ false → is_white b ≡ true
@@ -221,38 +247,49 @@ other-run m b h e = go (b == m) h e
 
 -- What is left of the runs stands, behind the begin of one.
 abbrev Left : List ℕ → Name → Run → ℕ → List ℕ → Point → Point → Type 0
-Left bytes name run m xs p q = pieces_stand bytes (pieces_from (enter (run_name name run) p) (mark_runs name run m xs q)) ≡ true
+Left bytes name run m xs p q =
+    pieces_stand bytes (pieces_from (enter (run_name name run) p) (mark_runs name run m xs q)) ≡ true
 
 -- so it is in each run
 runs-left : (bytes : List ℕ) (name : Name) (run : Run) (m : ℕ) (xs rest ys : List ℕ) (p q : Point) → IsMarker name m →
     run ≢ Apart → is_white m ≡ false → AreMarks m xs → Begun bytes run m p q ys (xs ++ rest) →
     Left bytes name run m xs p q
 runs-left bytes name Apart m xs rest ys p q is ok apart marks h = absurd (ok refl)
-runs-left bytes name Marks m [] rest ys p q is ok apart marks h = and_from _ true (begun-marks bytes name m p q ys rest is h) refl
-runs-left bytes name White m [] rest ys p q is ok apart marks h = and_from _ true (begun-white bytes m p q ys rest h) refl
+runs-left bytes name Marks m [] rest ys p q is ok apart marks h =
+    and_from _ true (begun-marks bytes name m p q ys rest is h) refl
+runs-left bytes name White m [] rest ys p q is ok apart marks h =
+    and_from _ true (begun-white bytes m p q ys rest h) refl
 runs-left bytes name Marks m (b ∷ xs) rest ys p q is ok apart marks h =
-    go (b == m) refl (λ k. runs-left bytes name Marks m xs rest (ys ++ b ∷ []) p (past_byte b q) is ok apart marks.1 k) (λ k. runs-left bytes name White m xs rest (b ∷ []) q (past_byte b q) is (λ e. cc) apart marks.1 k)
+    go (b == m) refl (λ k. runs-left bytes name Marks m xs rest (ys ++ b ∷ []) p (past_byte b q) is ok apart marks.1 k)
+    (λ k. runs-left bytes name White m xs rest (b ∷ []) q (past_byte b q) is (λ e. cc) apart marks.1 k)
   where
     go : (x : Bool) → (b == m) ≡ x →
-        (Begun bytes Marks m p (past_byte b q) (ys ++ b ∷ []) (xs ++ rest) → Left bytes name Marks m xs p (past_byte b q)) →
+        (Begun bytes Marks m p (past_byte b q) (ys ++ b ∷ []) (xs ++ rest) →
+        Left bytes name Marks m xs p (past_byte b q)) →
         (Begun bytes White m q (past_byte b q) (b ∷ []) (xs ++ rest) → Left bytes name White m xs q (past_byte b q)) →
         Left bytes name Marks m (b ∷ xs) p q
     go true e same next = rw e (same (begun-next bytes Marks m p q ys b (xs ++ rest) h e))
     go false e same next =
         let over : Over bytes p q ys = begun-over bytes Marks m p q ys (b ∷ xs ++ rest) h in
         rw e (and_from (piece_stands bytes (span name p q)) _ (begun-marks bytes name m p q ys (b ∷ xs ++ rest) is h)
-        (next (begun-first bytes White m q b (xs ++ rest) (begun-left bytes Marks m p q ys (b ∷ xs ++ rest) h) (other-run m b marks.0 e) (begins-whole n.SpaceOrTab q over.whole))))
+        (next
+        (begun-first bytes White m q b (xs ++ rest) (begun-left bytes Marks m p q ys (b ∷ xs ++ rest) h)
+        (other-run m b marks.0 e) (begins-whole n.SpaceOrTab q over.whole))))
 runs-left bytes name White m (b ∷ xs) rest ys p q is ok apart marks h =
-    go (b == m) refl (λ k. runs-left bytes name White m xs rest (ys ++ b ∷ []) p (past_byte b q) is ok apart marks.1 k) (λ k. runs-left bytes name Marks m xs rest (b ∷ []) q (past_byte b q) is (λ e. cc) apart marks.1 k)
+    go (b == m) refl (λ k. runs-left bytes name White m xs rest (ys ++ b ∷ []) p (past_byte b q) is ok apart marks.1 k)
+    (λ k. runs-left bytes name Marks m xs rest (b ∷ []) q (past_byte b q) is (λ e. cc) apart marks.1 k)
   where
     go : (x : Bool) → (b == m) ≡ x →
-        (Begun bytes White m p (past_byte b q) (ys ++ b ∷ []) (xs ++ rest) → Left bytes name White m xs p (past_byte b q)) →
+        (Begun bytes White m p (past_byte b q) (ys ++ b ∷ []) (xs ++ rest) →
+        Left bytes name White m xs p (past_byte b q)) →
         (Begun bytes Marks m q (past_byte b q) (b ∷ []) (xs ++ rest) → Left bytes name Marks m xs q (past_byte b q)) →
         Left bytes name White m (b ∷ xs) p q
     go true e same next =
         let over : Over bytes p q ys = begun-over bytes White m p q ys (b ∷ xs ++ rest) h in
         rw e (and_from (piece_stands bytes (span n.SpaceOrTab p q)) _ (begun-white bytes m p q ys (b ∷ xs ++ rest) h)
-        (next (begun-first bytes Marks m q b (xs ++ rest) (begun-left bytes White m p q ys (b ∷ xs ++ rest) h) e (ap (λ (x : ℕ). (x == 0) || false) over.whole))))
+        (next
+        (begun-first bytes Marks m q b (xs ++ rest) (begun-left bytes White m p q ys (b ∷ xs ++ rest) h) e
+        (ap (λ (x : ℕ). (x == 0) || false) over.whole))))
     go false e same next = rw e (same (begun-next bytes White m p q ys b (xs ++ rest) h (other-run m b marks.0 e)))
 
 -- where a byte is the marker no tab is cut
@@ -268,7 +305,10 @@ runs-stand bytes name m [] rest p is apart marks e cut = refl
 runs-stand bytes name m (b ∷ xs) rest p is apart marks e cut = go (b == m) refl
   where
     go : (x : Bool) → (b == m) ≡ x → pieces_stand bytes (pieces (mark_runs name Apart m (b ∷ xs) p)) ≡ true
-    go true k = rw k (runs-left bytes name Marks m xs rest (b ∷ []) p (past_byte b p) is (λ h. cc) apart marks.1 (begun-first bytes Marks m p b (xs ++ rest) e k (marker-whole p m b apart k cut)))
+    go true k =
+        rw k
+        (runs-left bytes name Marks m xs rest (b ∷ []) p (past_byte b p) is (λ h. cc) apart marks.1
+        (begun-first bytes Marks m p b (xs ++ rest) e k (marker-whole p m b apart k cut)))
     go false k =
         rw k (runs-left bytes name White m xs rest (b ∷ []) p (past_byte b p) is (λ h. cc) apart marks.1
         (begun-first bytes White m p b (xs ++ rest) e (other-run m b marks.0 k) (begins-cut n.SpaceOrTab p refl)))

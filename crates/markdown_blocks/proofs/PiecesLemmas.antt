@@ -1,5 +1,6 @@
 -- Events whose innermost pairs lie side by side, from one point to another.
-use Rattle.std.proofs.Common.{◌≡◌, Bool, true, false, cond, List, [], ◌∷◌, ◌++◌, refl, ap, sym, ◌∙◌, subst, append_assoc}
+use Rattle.std.proofs.Common.{◌≡◌, Bool, true, false, cond, List, [], ◌∷◌, ◌++◌, refl, ap, sym, ◌∙◌, subst}
+use Rattle.std.proofs.Common.{append_assoc}
 use Rattle.md_engine.specs.declared.event.Event.{Event}
 use Rattle.md_engine.specs.declared.event.Kind.{Kind}
 use Rattle.md_engine.specs.declared.event.Kind.TheVariants.{Enter, Exit}
@@ -57,7 +58,8 @@ pieces-before e (f ∷ es) h = go e.kind f.kind h
     go Exit Enter h = refl
     go Exit Exit h = refl
 
-pieces_from-append : (e : Event) (xs ys : List Event) → Begins ys → pieces_from e (xs ++ ys) ≡ pieces_from e xs ++ pieces ys
+pieces_from-append : (e : Event) (xs ys : List Event) → Begins ys →
+    pieces_from e (xs ++ ys) ≡ pieces_from e xs ++ pieces ys
 pieces_from-append e [] ys h = pieces-before e ys h
 pieces_from-append e (f ∷ xs) ys h =
     ap (λ (l : List Piece). piece_of e f e.kind f.kind ++ l) (pieces_from-append f xs ys h)
@@ -77,7 +79,8 @@ pieces-left e (f ∷ es) h = go e.kind f.kind h
     go Exit Enter h = refl
     go Exit Exit h = refl
 
-pieces_from-ended : (e : Event) (xs ys : List Event) → Ends e.kind xs → pieces_from e (xs ++ ys) ≡ pieces_from e xs ++ pieces ys
+pieces_from-ended : (e : Event) (xs ys : List Event) → Ends e.kind xs →
+    pieces_from e (xs ++ ys) ≡ pieces_from e xs ++ pieces ys
 pieces_from-ended e [] ys h = pieces-left e ys h
 pieces_from-ended e (f ∷ xs) ys h =
     ap (λ (l : List Piece). piece_of e f e.kind f.kind ++ l) (pieces_from-ended f xs ys h)
@@ -89,7 +92,8 @@ pieces-ended [] ys h = refl
 pieces-ended (e ∷ xs) ys h = pieces_from-ended e xs ys h
 
 -- an exit more behind an exit
-pieces-behind : (e : Event) (xs : List Event) (f : Event) → Ends e.kind xs → pieces_from e (xs ++ f ∷ []) ≡ pieces_from e xs
+pieces-behind : (e : Event) (xs : List Event) (f : Event) → Ends e.kind xs →
+    pieces_from e (xs ++ f ∷ []) ≡ pieces_from e xs
 pieces-behind e [] f h = go e.kind f.kind h
   where
     go : (k l : Kind) → k ≡ Exit → piece_of e f k l ++ [] ≡ []
@@ -119,13 +123,17 @@ pub tiled-append : (p q r : Point) (xs ys : List Event) → Tiled p q xs → Til
 tiled-append p q r xs ys h k = record {
   begins = begins-append xs ys h.begins k.begins;
   ends = ends-append Exit xs ys h.ends k.ends;
-  covers = subst (λ (l : List Piece). Covers p l r) (sym (pieces-append xs ys k.begins)) (covers-append p q r (pieces xs) (pieces ys) h.covers k.covers);
+  covers =
+      subst (λ (l : List Piece). Covers p l r) (sym (pieces-append xs ys k.begins))
+      (covers-append p q r (pieces xs) (pieces ys) h.covers k.covers);
 }
 
 pub follows-append : (p q r : Point) (xs ys : List Event) → Follows p q xs → Follows q r ys → Follows p r (xs ++ ys)
 follows-append p q r xs ys h k = record {
   ends = ends-append Exit xs ys h.ends k.ends;
-  covers = subst (λ (l : List Piece). Covers p l r) (sym (pieces-ended xs ys h.ends)) (covers-append p q r (pieces xs) (pieces ys) h.covers k.covers);
+  covers =
+      subst (λ (l : List Piece). Covers p l r) (sym (pieces-ended xs ys h.ends))
+      (covers-append p q r (pieces xs) (pieces ys) h.covers k.covers);
 }
 
 pub follows-tiled : (p q : Point) (es : List Event) → Tiled p q es → Follows p q es
@@ -136,8 +144,12 @@ pub tiled-enter : (e : Event) (q : Point) (es : List Event) → e.kind ≡ Enter
 tiled-enter e q es h k = record { begins = h; ends = k.ends; covers = k.covers }
 
 -- an exit shuts an enter, and others may follow
-pub shut-exit : (e f : Event) (q : Point) (es : List Event) → e.kind ≡ Enter → f.kind ≡ Exit → Tiled f.point q es → Shut e q (f ∷ es)
-shut-exit e f q es h k t = record { ends = subst (λ (l : Kind). Ends l es) (sym k) t.ends; covers = go e.kind f.kind h k }
+pub shut-exit : (e f : Event) (q : Point) (es : List Event) → e.kind ≡ Enter → f.kind ≡ Exit → Tiled f.point q es →
+    Shut e q (f ∷ es)
+shut-exit e f q es h k t = record {
+  ends = subst (λ (l : Kind). Ends l es) (sym k) t.ends;
+  covers = go e.kind f.kind h k;
+}
   where
     more : Covers f.point (pieces_from f es) q
     more = subst (λ (l : List Piece). Covers f.point l q) (sym (pieces-before f es t.begins)) t.covers
@@ -149,14 +161,17 @@ shut-exit e f q es h k t = record { ends = subst (λ (l : Kind). Ends l es) (sym
 
 -- an enter with its exit
 pub tiled-two : (e f : Event) → e.kind ≡ Enter → f.kind ≡ Exit → Tiled e.point f.point (e ∷ f ∷ [])
-tiled-two e f h k = tiled-enter e f.point (f ∷ []) h (shut-exit e f f.point [] h k (tiled-none f.point f.point (same-refl f.point)))
+tiled-two e f h k =
+    tiled-enter e f.point (f ∷ []) h (shut-exit e f f.point [] h k (tiled-none f.point f.point (same-refl f.point)))
 
 pub tiled-pair : (name : Name) (p q : Point) → Tiled p q (pair name p q)
 tiled-pair name p q = tiled-two (enter name p) (exit name q) refl refl
 
 -- the pieces of a part are those of what it stands around, if anything
-pub pieces-around : (name : Name) (p q : Point) (e : Event) (es : List Event) → e.kind ≡ Enter → Ends e.kind es → pieces (around name p q (e ∷ es)) ≡ pieces (e ∷ es)
-pieces-around name p q e es h k = pieces-before (enter name p) ((e ∷ es) ++ exit name q ∷ []) h ∙ pieces-behind e es (exit name q) k
+pub pieces-around : (name : Name) (p q : Point) (e : Event) (es : List Event) → e.kind ≡ Enter → Ends e.kind es →
+    pieces (around name p q (e ∷ es)) ≡ pieces (e ∷ es)
+pieces-around name p q e es h k =
+    pieces-before (enter name p) ((e ∷ es) ++ exit name q ∷ []) h ∙ pieces-behind e es (exit name q) k
 
 -- a part covers what it stands around, also if that is empty
 pub tiled-around : (name : Name) (p q : Point) (es : List Event) → Tiled p q es → Tiled p q (around name p q es)
@@ -176,5 +191,10 @@ tiled-unless_empty name p q = go (same_place p q) refl
     go false e = tiled-pair name p q
 
 -- an enter in front of events that begin with one
-pub tiled-within : (e f : Event) (q : Point) (es : List Event) → e.kind ≡ Enter → Tiled e.point q (f ∷ es) → Tiled e.point q (e ∷ f ∷ es)
-tiled-within e f q es h t = record { begins = h; ends = t.ends; covers = subst (λ (l : List Piece). Covers e.point l q) (sym (pieces-before e (f ∷ es) t.begins)) t.covers }
+pub tiled-within : (e f : Event) (q : Point) (es : List Event) → e.kind ≡ Enter → Tiled e.point q (f ∷ es) →
+    Tiled e.point q (e ∷ f ∷ es)
+tiled-within e f q es h t = record {
+  begins = h;
+  ends = t.ends;
+  covers = subst (λ (l : List Piece). Covers e.point l q) (sym (pieces-before e (f ∷ es) t.begins)) t.covers;
+}

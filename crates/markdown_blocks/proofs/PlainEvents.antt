@@ -20,7 +20,9 @@ use Rattle.md_outline.specs.Between.{is_between}
 use Rattle.md_outline.specs.Outlined.{IsOutlined, tells_between}
 use Rattle.markdown_blocks.specs.Change.{Change, ends_of}
 use Rattle.markdown_blocks.specs.Fronted.{contained, rest_from, rest_line}
-use Rattle.markdown_blocks.specs.Rows.{leaf_behind, final_row, first_row, group_done, group_kind, BlankRow, Group, Lines, Row, RowKind, Single, TextRow, ending_events, group_events, groups, groups_events, is_text, tail_events, LeafRow, ending_of}
+use Rattle.markdown_blocks.specs.Rows.{leaf_behind, final_row, first_row, group_done, group_kind, BlankRow, Group}
+use Rattle.markdown_blocks.specs.Rows.{Lines, Row, RowKind, Single, TextRow, ending_events, group_events, groups}
+use Rattle.markdown_blocks.specs.Rows.{groups_events, is_text, tail_events, LeafRow, ending_of}
 use Rattle.markdown_blocks.specs.Registry.{container_name, shape_of}
 use Rattle.markdown_blocks.proofs.ContainedLemmas.{contained-shapes}
 use Rattle.markdown_blocks.proofs.EachRow.{EachGroup, EachRow, OfGroup, groups-each, last-each}
@@ -54,12 +56,17 @@ shown-parts (c ∷ cs) ds h = let parts = shown-parts cs ds h.1 in ((h.0, parts.
 
 ends-untold : (cs : List Container) (p : Point) → AreShown cs → Roles Untold (ends_of cs p)
 ends-untold [] p h = tt
-ends-untold (c ∷ cs) p h = roles-append Untold (ends_of cs p) (exit (container_name c) p ∷ []) (ends-untold cs p h.1) ((container-facts c).untold h.0, tt)
+ends-untold (c ∷ cs) p h =
+    roles-append Untold (ends_of cs p) (exit (container_name c) p ∷ []) (ends-untold cs p h.1)
+    ((container-facts c).untold h.0, tt)
 
 -- the ends of containers, and an ending
 plain-tail : (bytes : List ℕ) (name : Name) (row : Row) → Untold (role name) → AreShown row.leaves →
     ArePlain bytes (tail_events name row)
-plain-tail bytes name row h shown = plain-untold bytes (tail_events name row) (roles-append Untold (ends_of row.leaves row.end) (ending_events name row) (ends-untold row.leaves row.end shown) (go row.after))
+plain-tail bytes name row h shown =
+    plain-untold bytes (tail_events name row)
+    (roles-append Untold (ends_of row.leaves row.end) (ending_events name row) (ends-untold row.leaves row.end shown)
+    (go row.after))
   where
     go : (o : Option Point) → Roles Untold (elim o [ None ↦ [] | Some q ↦ pair name row.end q ])
     go None = tt
@@ -83,7 +90,9 @@ record IsPlainRow (bytes : List ℕ) (row : Row) : Type 0 where
 plain-line : (bytes : List ℕ) (name : Name) (front inside : List Event) (row : Row) → Untold (role name) →
     AreShown row.leaves → ArePlain bytes front → ArePlain bytes inside →
     ArePlain bytes (front ++ inside ++ tail_events name row)
-plain-line bytes name front inside row u leaves h k = plain-append bytes (front ++ inside) (tail_events name row) (plain-append bytes front inside h k) (plain-tail bytes name row u leaves)
+plain-line bytes name front inside row u leaves h k =
+    plain-append bytes (front ++ inside) (tail_events name row) (plain-append bytes front inside h k)
+    (plain-tail bytes name row u leaves)
 
 -- whatever ends a line
 ending-untold : (kind : RowKind) → Untold (role (ending_of kind))
@@ -111,37 +120,47 @@ plain-by_groups bytes = record {
       let row : Row = first_row group in
       let kind : RowKind = group_kind group in
       plain-append bytes (group_events bytes group) (groups_events bytes gs)
-      (plain-line bytes (ending_of kind) row.front (group_done bytes group) (final_row group) (ending-untold kind) (final-plain bytes group h.0).leaves (plain-front bytes row.change.opens p row.first row.front o.front) (o.leaf.1.plain (first-plain bytes group h.0).first))
+      (plain-line bytes (ending_of kind) row.front (group_done bytes group) (final_row group) (ending-untold kind)
+      (final-plain bytes group h.0).leaves (plain-front bytes row.change.opens p row.first row.front o.front)
+      (o.leaf.1.plain (first-plain bytes group h.0).first))
       (on h.1);
 }
 
 -- The rows of a text are such rows.
 
--- of the containers that a line finds open, an outline shows those that end before it, and those that are open behind it
-line-shown : (options : ParseOptions) (bytes : List ℕ) (open_before : List Container) (still : HeldLeaf) (p : Point) (line : List ℕ) (row : Row) →
+-- of the containers that a line finds open, an outline shows those that end before it, and those that are open behind
+-- it
+line-shown : (options : ParseOptions) (bytes : List ℕ) (open_before : List Container) (still : HeldLeaf) (p : Point)
+    (line : List ℕ) (row : Row) →
     IsLine options bytes open_before still p line row → AreShown open_before →
     AreShown row.change.closes × AreShown (behind_line options open_before still p line)
 line-shown options bytes open_before still p line row at h =
     let c : Change = (contained options open_before still (rest_from p line)).change in
-    let parts : AreShown c.stays × AreShown c.closes = shown-parts c.stays c.closes (subst AllShown (sym (contained-shapes options open_before still (rest_from p line))) h) in
-    let opens : AreShown c.opens = subst (λ (x : Change). AreShown x.opens) at.change (fronts-shown bytes row.change.opens p row.first row.front at.front) in
+    let parts : AreShown c.stays ×
+    AreShown c.closes = shown-parts c.stays c.closes
+    (subst AllShown (sym (contained-shapes options open_before still (rest_from p line))) h) in
+    let opens : AreShown c.opens = subst (λ (x : Change). AreShown x.opens) at.change
+    (fronts-shown bytes row.change.opens p row.first row.front at.front) in
     (subst (λ (x : Change). AreShown x.closes) (sym at.change) parts.1, shown-append c.stays c.opens parts.0 opens)
 
 -- the first line
-first-line : (options : ParseOptions) (bytes : List ℕ) (open_before : List Container) (still : HeldLeaf) (p : Point) (line : List ℕ) (lines : List (List ℕ)) (row : Row) (rows : List Row) →
+first-line : (options : ParseOptions) (bytes : List ℕ) (open_before : List Container) (still : HeldLeaf) (p : Point)
+    (line : List ℕ) (lines : List (List ℕ)) (row : Row) (rows : List Row) →
     AreRows options bytes open_before still p (line ∷ lines) (row ∷ rows) →
     IsLine options bytes open_before still p line row
 first-line options bytes open_before still p line [] row [] h = h.0
 first-line options bytes open_before still p line (next ∷ lines) row (below ∷ rows) h = h.0
 first-line options bytes open_before still p line lines row rows h = absurd h
 
-line-plain : (options : ParseOptions) (bytes : List ℕ) (open_before : List Container) (still : HeldLeaf) (p : Point) (line : List ℕ) (row : Row) →
+line-plain : (options : ParseOptions) (bytes : List ℕ) (open_before : List Container) (still : HeldLeaf) (p : Point)
+    (line : List ℕ) (row : Row) →
     IsLine options bytes open_before still p line row → AreShown row.leaves → IsPlainRow bytes row
 line-plain options bytes open_before still p line row at leaves =
     let rest : List ℕ = rest_line (contained options open_before still (rest_from p line)).rest in
     record { leaves = leaves; first = rest-clear options bytes rest row at.is }
 
-plain-rows : (options : ParseOptions) (bytes : List ℕ) (open_before : List Container) (still : HeldLeaf) (p : Point) (lines : List (List ℕ)) (rows : List Row) →
+plain-rows : (options : ParseOptions) (bytes : List ℕ) (open_before : List Container) (still : HeldLeaf) (p : Point)
+    (lines : List (List ℕ)) (rows : List Row) →
     AreRows options bytes open_before still p lines rows → AreShown open_before → EachRow (IsPlainRow bytes) rows
 plain-rows options bytes open_before still p (line ∷ []) (row ∷ []) h shown =
     let here = line-shown options bytes open_before still p line row h.0 shown in
@@ -149,8 +168,11 @@ plain-rows options bytes open_before still p (line ∷ []) (row ∷ []) h shown 
 plain-rows options bytes open_before still p (line ∷ next ∷ lines) (row ∷ below ∷ rows) h shown =
     let behind : List Container = behind_line options open_before still p line in
     let here = line-shown options bytes open_before still p line row h.0 shown in
-    let there = line-shown options bytes behind (leaf_behind row.kind) h.2 next below (first-line options bytes behind (leaf_behind row.kind) h.2 next lines below rows h.5) here.1 in
-    (line-plain options bytes open_before still p line row h.0 (subst AreShown (sym h.1) there.0), plain-rows options bytes behind (leaf_behind row.kind) h.2 (next ∷ lines) (below ∷ rows) h.5 here.1)
+    let there = line-shown options bytes behind (leaf_behind row.kind) h.2 next below
+    (first-line options bytes behind (leaf_behind row.kind) h.2 next lines below rows h.5) here.1 in (
+      line-plain options bytes open_before still p line row h.0 (subst AreShown (sym h.1) there.0),
+      plain-rows options bytes behind (leaf_behind row.kind) h.2 (next ∷ lines) (below ∷ rows) h.5 here.1,
+    )
 plain-rows options bytes open_before still p lines rows h shown = absurd h
 
 -- a text that begins and ends clear, and between characters, does so also behind a tab that is cut
@@ -165,8 +187,11 @@ all-tell : (bytes : List ℕ) (events : List Event) → list_all (is_clear bytes
 all-tell bytes [] h k = refl
 all-tell bytes (e ∷ events) h k =
     let clears = and_parts (is_clear bytes e) (list_all (is_clear bytes) events) h in
-    let betweens = and_parts (is_between bytes e.point.index) (list_all (λ (e : Event). is_between bytes e.point.index) events) k in
-    and_from (tells_between bytes e) (list_all (tells_between bytes) events) (tells-clear bytes (is_told (role e.name)) e.point clears.0 betweens.0) (all-tell bytes events clears.1 betweens.1)
+    let betweens = and_parts (is_between bytes e.point.index)
+    (list_all (λ (e : Event). is_between bytes e.point.index) events) k in
+    and_from (tells_between bytes e) (list_all (tells_between bytes) events)
+    (tells-clear bytes (is_told (role e.name)) e.point clears.0 betweens.0)
+    (all-tell bytes events clears.1 betweens.1)
 
 -- the events of a text are outlined, if they nest and stand between its characters, and none is too deep
 pub groups-outlined : (options : ParseOptions) (bytes : List ℕ) (p : Point) (lines : List (List ℕ)) (rows : List Row) →
@@ -176,7 +201,9 @@ pub groups-outlined : (options : ParseOptions) (bytes : List ℕ) (p : Point) (l
     are_shallow (spelled (groups_events bytes (groups rows)) bytes) ≡ true →
     IsOutlined (groups_events bytes (groups rows)) bytes
 groups-outlined options bytes p lines rows are utf8 balanced between depths =
-    let plain : ArePlain bytes (groups_events bytes (groups rows)) = rows-hold bytes (PlainGroups bytes) (plain-by_groups bytes) options p lines rows are (groups-each (IsPlainRow bytes) rows (plain-rows options bytes [] held_leaf.None p lines rows are tt)) in
+    let plain : ArePlain bytes (groups_events bytes (groups rows)) = rows-hold bytes (PlainGroups bytes)
+    (plain-by_groups bytes) options p lines rows are
+    (groups-each (IsPlainRow bytes) rows (plain-rows options bytes [] held_leaf.None p lines rows are tt)) in
     record {
       balanced = balanced;
       names = plain.names;

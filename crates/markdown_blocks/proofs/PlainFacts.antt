@@ -29,13 +29,19 @@ pub record ArePlain (bytes : List ℕ) (events : List Event) : Type 0 where
 pub plain-nil : (bytes : List ℕ) → ArePlain bytes []
 plain-nil bytes = record { names = refl; texts = refl }
 
-pub plain-append : (bytes : List ℕ) (xs ys : List Event) → ArePlain bytes xs → ArePlain bytes ys → ArePlain bytes (xs ++ ys)
+pub plain-append : (bytes : List ℕ) (xs ys : List Event) → ArePlain bytes xs → ArePlain bytes ys →
+    ArePlain bytes (xs ++ ys)
 plain-append bytes xs ys h k = record {
-  names = list_all-append has_plain_name xs ys ∙ and_from (list_all has_plain_name xs) (list_all has_plain_name ys) h.names k.names;
-  texts = list_all-append (is_clear bytes) xs ys ∙ and_from (list_all (is_clear bytes) xs) (list_all (is_clear bytes) ys) h.texts k.texts;
+  names =
+      list_all-append has_plain_name xs ys
+      ∙ and_from (list_all has_plain_name xs) (list_all has_plain_name ys) h.names k.names;
+  texts =
+      list_all-append (is_clear bytes) xs ys
+      ∙ and_from (list_all (is_clear bytes) xs) (list_all (is_clear bytes) ys) h.texts k.texts;
 }
 
-pub plain-cons : (bytes : List ℕ) (e : Event) (es : List Event) → has_plain_name e ≡ true → is_clear bytes e ≡ true → ArePlain bytes es → ArePlain bytes (e ∷ es)
+pub plain-cons : (bytes : List ℕ) (e : Event) (es : List Event) → has_plain_name e ≡ true → is_clear bytes e ≡ true →
+    ArePlain bytes es → ArePlain bytes (e ∷ es)
 plain-cons bytes e es h w k = record {
   names = and_from (has_plain_name e) (list_all has_plain_name es) h k.names;
   texts = and_from (is_clear bytes e) (list_all (is_clear bytes) es) w k.texts;
@@ -47,7 +53,8 @@ Untold x = (is_plain x ≡ true) × (not (is_told x) ≡ true)
 
 pub plain-untold : (bytes : List ℕ) (es : List Event) → Roles Untold es → ArePlain bytes es
 plain-untold bytes [] h = plain-nil bytes
-plain-untold bytes (e ∷ es) h = plain-cons bytes e es h.0.0 (ap (λ (x : Bool). x || clear bytes e.point) h.0.1) (plain-untold bytes es h.1)
+plain-untold bytes (e ∷ es) h =
+    plain-cons bytes e es h.0.0 (ap (λ (x : Bool). x || clear bytes e.point) h.0.1) (plain-untold bytes es h.1)
 
 pub quiet-untold : (x : Role) → Quiet x → Untold x
 quiet-untold IsQuiet h = (refl, refl)
@@ -62,14 +69,19 @@ pub plain-quiet : (bytes : List ℕ) (es : List Event) → Roles Quiet es → Ar
 plain-quiet bytes es h = plain-untold bytes es (quiets-untold es h)
 
 -- a part of such a name around such events, which begins and ends clear if the tree shows its text
-pub plain-around : (bytes : List ℕ) (name : Name) (p q : Point) (inside : List Event) → is_plain (role name) ≡ true → (not (is_told (role name)) || clear bytes p) ≡ true → (not (is_told (role name)) || clear bytes q) ≡ true → ArePlain bytes inside →
+pub plain-around : (bytes : List ℕ) (name : Name) (p q : Point) (inside : List Event) → is_plain (role name) ≡ true →
+    (not (is_told (role name)) || clear bytes p) ≡ true → (not (is_told (role name)) || clear bytes q) ≡ true →
+    ArePlain bytes inside →
     ArePlain bytes (around name p q inside)
 plain-around bytes name p q inside plain begin end h =
-    plain-cons bytes (enter name p) (inside ++ exit name q ∷ []) plain begin (plain-append bytes inside (exit name q ∷ []) h (plain-cons bytes (exit name q) [] plain end (plain-nil bytes)))
+    plain-cons bytes (enter name p) (inside ++ exit name q ∷ []) plain begin
+    (plain-append bytes inside (exit name q ∷ []) h (plain-cons bytes (exit name q) [] plain end (plain-nil bytes)))
 
 -- what the plain layer gives
 pub chunk-plain : (bytes : List ℕ) (chunk : Chunk) → ArePlain bytes (plain_chunk bytes chunk)
-chunk-plain bytes chunk = plain-append bytes _ _ (line (same_place chunk.first (line_end bytes chunk))) (ending (same_place (line_end bytes chunk) chunk.after))
+chunk-plain bytes chunk =
+    plain-append bytes _ _ (line (same_place chunk.first (line_end bytes chunk)))
+    (ending (same_place (line_end bytes chunk) chunk.after))
   where
     line : (b : Bool) → ArePlain bytes (cond b [] (pair n.Data chunk.first (line_end bytes chunk)))
     line true = record { names = refl; texts = refl }

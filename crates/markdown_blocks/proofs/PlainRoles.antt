@@ -19,11 +19,16 @@ pair-roles P name p q h = go (same_place p q)
     go false = (h, (h, tt))
 
 -- what the plain layer gives is `Data` and line endings
-pub chunk-roles : (P : Role → Type 0) (bytes : List ℕ) (chunk : Chunk) → P IsQuiet → P IsEnding → Roles P (plain_chunk bytes chunk)
+pub chunk-roles : (P : Role → Type 0) (bytes : List ℕ) (chunk : Chunk) → P IsQuiet → P IsEnding →
+    Roles P (plain_chunk bytes chunk)
 chunk-roles P bytes chunk quiet ending =
     let end : Point = line_end bytes chunk in
-    roles-append P (pair_unless_empty n.Data chunk.first end) (pair_unless_empty n.LineEnding end chunk.after) (pair-roles P n.Data chunk.first end quiet) (pair-roles P n.LineEnding end chunk.after ending)
+    roles-append P (pair_unless_empty n.Data chunk.first end) (pair_unless_empty n.LineEnding end chunk.after)
+    (pair-roles P n.Data chunk.first end quiet) (pair-roles P n.LineEnding end chunk.after ending)
 
-pub plain-roles : (P : Role → Type 0) (bytes : List ℕ) (chunks : List Chunk) → P IsQuiet → P IsEnding → Roles P (together (plain_chunks bytes chunks))
+pub plain-roles : (P : Role → Type 0) (bytes : List ℕ) (chunks : List Chunk) → P IsQuiet → P IsEnding →
+    Roles P (together (plain_chunks bytes chunks))
 plain-roles P bytes [] quiet ending = tt
-plain-roles P bytes (chunk ∷ chunks) quiet ending = roles-append P (plain_chunk bytes chunk) (together (plain_chunks bytes chunks)) (chunk-roles P bytes chunk quiet ending) (plain-roles P bytes chunks quiet ending)
+plain-roles P bytes (chunk ∷ chunks) quiet ending =
+    roles-append P (plain_chunk bytes chunk) (together (plain_chunks bytes chunks))
+    (chunk-roles P bytes chunk quiet ending) (plain-roles P bytes chunks quiet ending)

@@ -1,5 +1,5 @@
--- What is known of the events that stand in front of the content of a container on a line, from the point where they begin to the one
--- where its content does: the frame needs no more of a container.
+-- What is known of the events that stand in front of the content of a container on a line, from the point where they
+-- begin to the one where its content does: the frame needs no more of a container.
 use Rattle.std.proofs.Common.{◌≡◌, ◌≢◌, ℕ, true, List, [], ◌∷◌, ◌++◌}
 use Rattle.md_engine.specs.declared.event.Event.{Event}
 use Rattle.md_engine.specs.declared.event.Point.{Point}
@@ -69,7 +69,8 @@ pub record Opens (bytes : List ℕ) (c : Container) (p q : Point) (es : List Eve
   -- the tree shows none of them
   pub roles : Roles QuietOrPrefix es
   -- with the begin of the container, they keep the grammar
-  pub leads : (text : Expression) → grammar.Leads text (blocks ∷ []) (blocks ∷ behind_block ∷ []) (enter (container_name c) p ∷ es)
+  pub leads : (text : Expression) →
+      grammar.Leads text (blocks ∷ []) (blocks ∷ behind_block ∷ []) (enter (container_name c) p ∷ es)
   -- the container is read, and they are not
   pub read : (r : Reading) → r.text ≡ None → read bytes r (enter (container_name c) p ∷ es) ≡ begins c r
   -- an outline shows the container

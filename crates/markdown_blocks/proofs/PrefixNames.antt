@@ -63,7 +63,8 @@ prefix-role P _ quiet prefix h = cc
 pub prefixes-roles : (P : Role → Type 0) (es : List Event) → P IsQuiet → P spelled.IsPrefix → ArePrefixes es →
     Roles P es
 prefixes-roles P [] quiet prefix h = tt
-prefixes-roles P (e ∷ es) quiet prefix h = (prefix-role P (role e.name) quiet prefix (prefix-is e.name h.0.0), prefixes-roles P es quiet prefix h.1)
+prefixes-roles P (e ∷ es) quiet prefix h =
+    (prefix-role P (role e.name) quiet prefix (prefix-is e.name h.0.0), prefixes-roles P es quiet prefix h.1)
 
 -- so it is of each role that both have
 quiet-role : (P : Role → Type 0) (x : Role) → P IsQuiet → P spelled.IsPrefix → QuietOrPrefix x → P x
@@ -74,4 +75,5 @@ quiet-role P _ quiet prefix h = absurd h
 pub quiets-roles : (P : Role → Type 0) (es : List Event) → P IsQuiet → P spelled.IsPrefix → Roles QuietOrPrefix es →
     Roles P es
 quiets-roles P [] quiet prefix h = tt
-quiets-roles P (e ∷ es) quiet prefix h = (quiet-role P (role e.name) quiet prefix h.0, quiets-roles P es quiet prefix h.1)
+quiets-roles P (e ∷ es) quiet prefix h =
+    (quiet-role P (role e.name) quiet prefix h.0, quiets-roles P es quiet prefix h.1)

@@ -40,7 +40,9 @@ use Rattle.markdown_blocks.specs.FlowRule.{Rule}
 use Rattle.markdown_blocks.specs.Leaf.HeadingAtx.{heading_leaf}
 use Rattle.markdown_blocks.specs.Leaf.ThematicBreak.{break_leaf}
 use Rattle.markdown_blocks.specs.Parsed.{IsBuilt}
-use Rattle.markdown_blocks.specs.Registry.{HeadingAtx, LeafName, ThematicBreak, behind, construct_owner, construct_transition, container_rules, first_of, is_own, leaf, new_kind, resolved, text_leaf, trials, tried_at}
+use Rattle.markdown_blocks.specs.Registry.{HeadingAtx, LeafName, ThematicBreak, behind, construct_owner}
+use Rattle.markdown_blocks.specs.Registry.{construct_transition, container_rules, first_of, is_own, leaf, new_kind}
+use Rattle.markdown_blocks.specs.Registry.{resolved, text_leaf, trials, tried_at}
 use Rattle.markdown_blocks.specs.States.{flow_behaves_by, flow_owner, flow_table_scheme}
 use Rattle.markdown_blocks.proofs.BlockQuote.Laws.{quote-laws}
 use Rattle.markdown_blocks.proofs.BlockQuote.Registers.{quote-registers}
@@ -88,7 +90,8 @@ leaves-found options r =
     one x l = cond x (Some (Finished ((leaf l).block r))) None
 
     go : (x y : Bool) →
-        option_or (one x HeadingAtx) (one y ThematicBreak) ≡ came_of r (cond x (Some HeadingAtx) (cond y (Some ThematicBreak) None))
+        option_or (one x HeadingAtx) (one y ThematicBreak) ≡
+        came_of r (cond x (Some HeadingAtx) (cond y (Some ThematicBreak) None))
     go true y = refl
     go false true = refl
     go false false = refl
@@ -124,7 +127,13 @@ pub record LeafStates (l : LeafName) : Type 1 where
 
 pub leaf-states : (l : LeafName) → LeafStates l
 leaf-states HeadingAtx =
-    record { tried = refl; next = refl; level = omega arith; ready = λ x K is. is; starts = λ options next cells h. refl }
+    record {
+      tried = refl;
+      next = refl;
+      level = omega arith;
+      ready = λ x K is. is;
+      starts = λ options next cells h. refl;
+    }
 leaf-states ThematicBreak =
     record { tried = refl; next = tt; level = omega arith; ready = λ x K is. is; starts = λ options next cells h. refl }
 
@@ -166,7 +175,8 @@ container-states kind.BlockQuote = record {
 }
   where
     quote_at : (state : QuoteState) →
-        ((x : Spot) (K : After) → IsRest x.scratch → EndsLater IsRest IsRest x K → quote_scheme.ready (n.BlockQuote state) x K) →
+        ((x : Spot) (K : After) → IsRest x.scratch → EndsLater IsRest IsRest x K →
+        quote_scheme.ready (n.BlockQuote state) x K) →
         ContainerFits flow_table_scheme (n.BlockQuote state)
     quote_at state ready =
         record { own = quote_scheme; starts = fits flow_owner (n.BlockQuote state); level = omega arith; ready = ready }
@@ -224,13 +234,16 @@ construct-does is_name (n.ThematicBreak state) w c at = break_does flow_table_sc
 construct-does is_name name w c at = absurd at
 
 -- takes one step of what it means,
-pub construct-steps : (is_name : ResolveName → ResolveName → Bool) (feed : Feed) (next : Rule) (name : StateName) (w : World) →
+pub construct-steps : (is_name : ResolveName → ResolveName → Bool) (feed : Feed) (next : Rule) (name : StateName)
+    (w : World) →
     Sees feed w → (construct_owner name).ready name (spot w) (after_all flow_table_scheme w.frames) →
-    Steps (flow_behaves_by w.setting.options next) feed (Next name) w (construct_transition is_name name w).to (construct_transition is_name name w).world
+    Steps (flow_behaves_by w.setting.options next) feed (Next name) w (construct_transition is_name name w).to
+    (construct_transition is_name name w).world
 construct-steps is_name feed next (n.BlockQuote state) w s at =
     quote_steps _ feed state w (record { white = white_has w.setting.options next; each = λ _ _ _. refl }) s
 construct-steps is_name feed next (n.HeadingAtx state) w s at =
-    heading_steps _ feed (is_name r.HeadingAtx) state w _ (record { white = white_has w.setting.options next; each = λ _ _ _. refl }) s at
+    heading_steps _ feed (is_name r.HeadingAtx) state w _
+    (record { white = white_has w.setting.options next; each = λ _ _ _. refl }) s at
 construct-steps is_name feed next (n.ThematicBreak state) w s at =
     break_steps _ feed state w _ (record { white = white_has w.setting.options next; each = λ _ _ _. refl }) s at
 construct-steps is_name feed next name w s at = absurd at

@@ -16,7 +16,8 @@ use Rattle.md_definition.specs.Tree.{Blocks}
 use Rattle.md_seam.proofs.RestCells.{past_rest, rest_cells}
 use Rattle.markdown_blocks.specs.Parsed.{IsBuilt}
 use Rattle.markdown_blocks.specs.Passed.{Passed, passed_by}
-use Rattle.markdown_blocks.specs.Registry.{MatchesContainer, container_name, container_rules, continues_at, goes_at, goes_by, kind_of, new_container_at, new_kind, opens_at, shape_of}
+use Rattle.markdown_blocks.specs.Registry.{MatchesContainer, container_name, container_rules, continues_at, goes_at}
+use Rattle.markdown_blocks.specs.Registry.{goes_by, kind_of, new_container_at, new_kind, opens_at, shape_of}
 use Rattle.markdown_blocks.proofs.ContainerLaws.{ByRest, IsPassed}
 use Rattle.markdown_blocks.proofs.ContainerNames.{container-facts}
 use Rattle.markdown_blocks.proofs.PassedFacts.{Agree, HasFurther, HasOpening}
@@ -109,14 +110,16 @@ goes-agrees options c read line text past r stop p is h k short = go (kind_of (s
     cells = rest_cells line r p ++ stop
 
     go : (o : Option ContainerKind) → kind_of (shape_of c) ≡ o → HasKind o →
-        Agree (HasFurther line text past p (past_rest r p) stop cells) (goes_by options c cells p o) (continues options c r)
+        Agree (HasFurther line text past p (past_rest r p) stop cells) (goes_by options c cells p o)
+        (continues options c r)
     go None e read = absurd read
     go (Some j) e read = (container-laws j).goes_agrees options c e line text past r stop p is h k short
 
 -- a container opens by the cells where it does by the bytes
 pub opens-agrees : (options : ParseOptions) (interrupting : Bool) → IsBuilt options → ByRest (λ line text past r stop p.
     let cells = rest_cells line r p ++ stop in
-    Agree (HasOpening line text past p (past_rest r p) stop cells) (opens_at options interrupting cells p) (opens options interrupting r))
+    Agree (HasOpening line text past p (past_rest r p) stop cells) (opens_at options interrupting cells p)
+    (opens options interrupting r))
 opens-agrees options interrupting built line text past r stop p is h k short =
     subst (Agree (HasOpening line text past p (past_rest r p) stop cells) (opens_at options interrupting cells p))
     (sym (opens-found options interrupting r built))

@@ -2,7 +2,8 @@
 use Rattle.std.proofs.Common.{◌≡◌, ℕ, Bool, true, false, cond, ◌==◌, ◌&&◌, ◌||◌, List, [], ◌∷◌, refl}
 use Rattle.std.specs.Prelude.{None}
 use Rattle.md_engine.specs.declared.configuration.ParseOptions.{ParseOptions}
-use Rattle.md_definition.specs.Leaves.{ParagraphContext, code_at, fence_at, fence_from, html_at, is_fence_marker, starts, table_at, underline_depth}
+use Rattle.md_definition.specs.Leaves.{ParagraphContext, code_at, fence_at, fence_from, html_at, is_fence_marker}
+use Rattle.md_definition.specs.Leaves.{starts, table_at, underline_depth}
 use Rattle.md_definition.specs.Rest.{Rest, has_small_indent, indent, trim_start}
 use Rattle.md_definition.specs.State.{Kept}
 use Rattle.md_definition.specs.Tree.{Blocks}
@@ -61,5 +62,9 @@ pub starts-found : (options : ParseOptions) (against : ParagraphContext) (r : Re
     starts options against r ≡ came_of r (leaf_at options r)
 unfolding starts
 starts-found options against r built =
-    rw (code-off options against r built.code_indented, fence-off options r built.code_fenced built.math_flow, html-off options against r built.html_flow)
+    rw (
+      code-off options against r built.code_indented,
+      fence-off options r built.code_fenced built.math_flow,
+      html-off options against r built.html_flow,
+    )
     (leaves-found options r)

@@ -1,5 +1,6 @@
 -- The rest of a line by its cells: where it ends, and what stands behind its indent.
-use Rattle.std.proofs.Common.{◌≡◌, ℕ, zero, suc, ◌+◌, ◌-◌, ◌^◌, ◌<◌, ◌≤◌, Bool, true, false, cond, ◌||◌, List, [], ◌∷◌, ◌++◌, length, drop, refl, sym, ap, ◌∙◌, append-nil, arith}
+use Rattle.std.proofs.Common.{◌≡◌, ℕ, zero, suc, ◌+◌, ◌-◌, ◌^◌, ◌<◌, ◌≤◌, Bool, true, false, cond, ◌||◌, List, [], ◌∷◌}
+use Rattle.std.proofs.Common.{◌++◌, length, drop, refl, sym, ap, ◌∙◌, append-nil, arith}
 use Rattle.std.specs.Prelude.{◌==◌}
 use Rattle.std.specs.List.{prefix_len}
 use Rattle.std.proofs.lemmas.List.{length-append}
@@ -11,9 +12,12 @@ use Rattle.md_containers.proofs.QuoteLines.{large-room, small-room}
 use Rattle.md_seam.specs.Ahead.{begins_white, line_bytes, line_cells, line_end, point_after, white_end, white_rest}
 use Rattle.md_seam.specs.Events.Places.{past_byte, past_text}
 use Rattle.md_seam.specs.Spaces.{small_indent}
-use Rattle.md_definition.specs.Rest.{Rest, behind_indent, cut_tab, has_small_indent, indent, is_white, lose, tab_columns, trim_start}
-use Rattle.md_seam.proofs.FeedLines.{Stops, behind_last, bytes_of, cell, columns_more, line_cells-append, next_column, no_feed-spread, spread, spread-end, tab_cells, tab_end, tab_end-stop}
-use Rattle.md_seam.proofs.RestCells.{Bare, Cut, HasIndent, RestAt, bare, bare-cells, cells_by, indent-length, indent-over, indent-taken, rest_cells, without_first}
+use Rattle.md_definition.specs.Rest.{Rest, behind_indent, cut_tab, has_small_indent, indent, is_white, lose}
+use Rattle.md_definition.specs.Rest.{tab_columns, trim_start}
+use Rattle.md_seam.proofs.FeedLines.{Stops, behind_last, bytes_of, cell, columns_more, line_cells-append, next_column}
+use Rattle.md_seam.proofs.FeedLines.{no_feed-spread, spread, spread-end, tab_cells, tab_end, tab_end-stop}
+use Rattle.md_seam.proofs.RestCells.{Bare, Cut, HasIndent, RestAt, bare, bare-cells, cells_by, indent-length}
+use Rattle.md_seam.proofs.RestCells.{indent-over, indent-taken, rest_cells, without_first}
 use Rattle.md_definition.proofs.TextsLemmas.{NoEnding, no_ending-drop}
 use Rattle.markdown_blocks.specs.Fronted.{rest_line}
 use Rattle.markdown_blocks.proofs.LineTexts.{count-none, count-one}
@@ -62,7 +66,8 @@ rest-same X F said same r p stop one = go r.spaces
     go zero cut = refl
     go (suc k) cut =
         ap (λ (m : ℕ). F (tab_cells said m 32 p ++ spread said r.bytes (tab_end m p) ++ stop)) cut.1
-        ∙ ap (λ (q : Point). F (tab_cells said (columns_more p) 32 p ++ spread said r.bytes q ++ stop)) (tab_end-stop p one)
+        ∙ ap (λ (q : Point). F (tab_cells said (columns_more p) 32 p ++ spread said r.bytes q ++ stop))
+        (tab_end-stop p one)
         ∙ first-same X F said same (columns_more p) p (spread said r.bytes (past_byte 9 p)) stop
 
 -- a cut tab is no ending
@@ -77,7 +82,8 @@ rest-no_ending r h = go r.spaces
 pub rest-line_end : (said : Line) (r : Rest) (p : Point) (stop : List Cell) → NoEnding r.bytes → Stops stop →
     1 ≤ p.column → Cut r.spaces p → line_end (rest_cells said r p ++ stop) p ≡ past_text (rest_line r) p
 rest-line_end said r p stop h k one cut =
-    rest-same Point (λ (l : List Cell). line_end l p) said (λ at cs. refl) r p stop one cut ∙ spread-line_end said (rest_line r) p stop (rest-no_ending r h) k one
+    rest-same Point (λ (l : List Cell). line_end l p) said (λ at cs. refl) r p stop one cut
+    ∙ spread-line_end said (rest_line r) p stop (rest-no_ending r h) k one
 
 -- Its indent.
 
@@ -113,7 +119,9 @@ trim-without r = go r.spaces r.bytes
         Same s = trim_start s.bytes ≡ trim_start (b ∷ bs)
 
         by : (t : Bool) → (b == 9) ≡ t → (s : Bool) → (b == 32) ≡ s →
-            Same (cond t (rest (r.column + 1) (tab_columns r.column - 1) bs) (cond s (rest (r.column + 1) 0 bs) (rest r.column 0 (b ∷ bs))))
+            Same
+            (cond t (rest (r.column + 1) (tab_columns r.column - 1) bs)
+            (cond s (rest (r.column + 1) 0 bs) (rest r.column 0 (b ∷ bs))))
         by true e s f = sym (trim-white b bs (rw e (last (b == 32))))
           where
             last : (x : Bool) → (x || true) ≡ true
@@ -149,17 +157,24 @@ bare-spread said r p none = go r.spaces r.bytes (bare r none)
 -- The cells behind a small indent: no whitespace is left, and they are fed as the bytes without whitespace in front.
 pub record Indented (options : ParseOptions) (said : Line) (r : Rest) (p : Point) (stop : List Cell) : Type 0 where
   pub none : begins_white (white_rest (small_indent options) (rest_cells said r p ++ stop)) ≡ false
-  pub bytes : line_bytes (white_rest (small_indent options) (rest_cells said r p ++ stop)) ≡ bytes_of (spread said (trim_start r.bytes) (white_end (small_indent options) (rest_cells said r p ++ stop) p))
+  pub bytes : line_bytes (white_rest (small_indent options) (rest_cells said r p ++ stop)) ≡
+      bytes_of (spread said (trim_start r.bytes) (white_end (small_indent options) (rest_cells said r p ++ stop) p))
 
-pub small-indented : (options : ParseOptions) (said : Line) (text behind : List ℕ) (r : Rest) (p : Point) (stop : List Cell) →
+pub small-indented : (options : ParseOptions) (said : Line) (text behind : List ℕ) (r : Rest) (p : Point)
+    (stop : List Cell) →
     RestAt text behind r p → NoEnding r.bytes → Stops stop → length (rest_cells said r p ++ stop) < 2 ^ 63 →
     has_small_indent options r ≡ true → Indented options said r p stop
 small-indented options said text behind r p stop is h k short small =
     record {
       none = ap begins_white taken.cells ∙ bare-cells said (behind_indent r) q stop taken.none k;
       bytes =
-          ap line_bytes (taken.cells ∙ ap (λ (l : List Cell). l ++ stop) (bare-spread said (behind_indent r) q taken.none ∙ ap (λ (bytes : List ℕ). spread said bytes q) (indent-trims r taken.none)))
-          ∙ ap bytes_of (spread-line said (trim_start r.bytes) q stop (no_ending-drop (prefix_len is_white r.bytes) r.bytes h) k);
+          ap line_bytes
+          (taken.cells
+          ∙ ap (λ (l : List Cell). l ++ stop)
+          (bare-spread said (behind_indent r) q taken.none
+          ∙ ap (λ (bytes : List ℕ). spread said bytes q) (indent-trims r taken.none)))
+          ∙ ap bytes_of
+          (spread-line said (trim_start r.bytes) q stop (no_ending-drop (prefix_len is_white r.bytes) r.bytes h) k);
     }
   where
     cells : List Cell
@@ -173,14 +188,17 @@ small-indented options said text behind r p stop is h k short small =
 
     fits : indent r ≤ small_indent options
     fits =
-        let size : length cells ≡ length (rest_cells said r p) + length stop = length-append (rest_cells said r p) stop in
-        small-room options r (length cells) small (let most = indent-length said text behind r p is in omega arith) short
+        let size : length cells ≡
+        length (rest_cells said r p) + length stop = length-append (rest_cells said r p) stop in
+        small-room options r (length cells) small
+        (let most = indent-length said text behind r p is in omega arith) short
 
     taken : HasIndent said text behind room r p stop (behind_indent r)
     taken = indent-taken said text behind room r p stop is k fits
 
 -- Behind a larger one whitespace is left.
-pub large-white : (options : ParseOptions) (said : Line) (text behind : List ℕ) (r : Rest) (p : Point) (stop : List Cell) →
+pub large-white : (options : ParseOptions) (said : Line) (text behind : List ℕ) (r : Rest) (p : Point)
+    (stop : List Cell) →
     RestAt text behind r p → has_small_indent options r ≡ false →
     begins_white (white_rest (small_indent options) (rest_cells said r p ++ stop)) ≡ true
 large-white options said text behind r p stop is large =

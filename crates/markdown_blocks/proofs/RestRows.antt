@@ -1,5 +1,6 @@
 -- The rest of a line as a row: its bytes as they stand in the text, and its cells.
-use Rattle.std.proofs.Common.{◌≡◌, ℕ, zero, suc, ◌≤◌, Bool, true, false, cond, ◌==◌, List, [], ◌∷◌, ◌++◌, refl, sym, ap, ◌∙◌}
+use Rattle.std.proofs.Common.{◌≡◌, ℕ, zero, suc, ◌≤◌, Bool, true, false, cond, ◌==◌, List, [], ◌∷◌, ◌++◌, refl, sym, ap}
+use Rattle.std.proofs.Common.{◌∙◌}
 use Rattle.std.proofs.lemmas.Bool.{and_parts, or_right}
 use Rattle.md_engine.specs.declared.event.Event.{Event}
 use Rattle.md_engine.specs.declared.event.Name.TheVariants as n
@@ -11,7 +12,9 @@ use Rattle.md_seam.specs.Ahead.{begins_white, from_ending, line_bytes, line_end}
 use Rattle.md_seam.specs.Events.Nested.{pair}
 use Rattle.md_seam.specs.Events.Places.{past_byte, past_text}
 use Rattle.md_definition.specs.Rest.{Rest, cut_tab, is_blank, is_white}
-use Rattle.md_seam.proofs.FeedLines.{Stops, all-spread, bytes_of, cell, columns_more, from_ending-append, no_feed-spread, past_text-whole, spread, stops-white, tab_cells, tab_end, tab_end-stop}
+use Rattle.md_seam.proofs.FeedLines.{Stops, all-spread, bytes_of, cell, columns_more, from_ending-append}
+use Rattle.md_seam.proofs.FeedLines.{no_feed-spread, past_text-whole, spread, stops-white, tab_cells, tab_end}
+use Rattle.md_seam.proofs.FeedLines.{tab_end-stop}
 use Rattle.md_seam.proofs.RestCells.{Cut, past_cut, past_rest, rest_cells}
 use Rattle.md_definition.proofs.TextsLemmas.{NoEnding}
 use Rattle.markdown_blocks.specs.Fronted.{rest_line}
@@ -35,7 +38,8 @@ rest-past r p one = go r.spaces
   where
     go : (spaces : ℕ) → Cut spaces p → past_text (cut_tab spaces ++ r.bytes) p ≡ past_text r.bytes (past_cut spaces p)
     go zero cut = refl
-    go (suc k) cut = sym (ap (λ (m : ℕ). past_text r.bytes (tab_end m p)) cut.1 ∙ ap (past_text r.bytes) (tab_end-stop p one))
+    go (suc k) cut =
+        sym (ap (λ (m : ℕ). past_text r.bytes (tab_end m p)) cut.1 ∙ ap (past_text r.bytes) (tab_end-stop p one))
 
 -- no tab is cut there
 pub rest-whole : (r : Rest) (p : Point) → Cut r.spaces p → (past_text (rest_line r) p).vs ≡ 0
@@ -61,7 +65,8 @@ stops-rest [] h = refl
 stops-rest (c ∷ cs) h = rw h refl
 
 -- what follows it
-pub rest-ending : (said : Line) (r : Rest) (p : Point) (stop : List Cell) → NoEnding r.bytes → Stops stop → 1 ≤ p.column → Cut r.spaces p →
+pub rest-ending : (said : Line) (r : Rest) (p : Point) (stop : List Cell) → NoEnding r.bytes → Stops stop →
+    1 ≤ p.column → Cut r.spaces p →
     from_ending (rest_cells said r p ++ stop) ≡ stop
 rest-ending said r p stop h k one cut =
     rest-same (List Cell) from_ending said (λ at cs. refl) r p stop one cut
@@ -69,7 +74,8 @@ rest-ending said r p stop h k one cut =
     ∙ stops-rest stop k
 
 -- it is blank if the bytes of the rest are
-pub rest-blank : (said : Line) (r : Rest) (p : Point) (stop : List Cell) → NoEnding r.bytes → Stops stop → 1 ≤ p.column → Cut r.spaces p →
+pub rest-blank : (said : Line) (r : Rest) (p : Point) (stop : List Cell) → NoEnding r.bytes → Stops stop →
+    1 ≤ p.column → Cut r.spaces p →
     is_blank (line_bytes (rest_cells said r p ++ stop)) ≡ is_blank r.bytes
 rest-blank said r p stop h k one cut =
     rest-same Bool (λ (l : List Cell). is_blank (line_bytes l)) said (λ at cs. refl) r p stop one cut
@@ -78,26 +84,36 @@ rest-blank said r p stop h k one cut =
     ∙ line-blank r
 
 -- bytes that begin with whitespace do so by their cells
-spread-white : (said : Line) (b : ℕ) (bs : List ℕ) (p : Point) (stop : List Cell) → is_white b ≡ true → begins_white (spread said (b ∷ bs) p ++ stop) ≡ true
+spread-white : (said : Line) (b : ℕ) (bs : List ℕ) (p : Point) (stop : List Cell) → is_white b ≡ true →
+    begins_white (spread said (b ∷ bs) p ++ stop) ≡ true
 spread-white said b bs p stop e = go (b == 9)
   where
     tab : (n : ℕ) → begins_white ((tab_cells said n 9 p ++ spread said bs (past_byte b p)) ++ stop) ≡ true
     tab zero = refl
     tab (suc n) = refl
 
-    go : (t : Bool) → begins_white ((cond t (tab_cells said (columns_more p) 9 p) (cell b (past_byte b p) said ∷ []) ++ spread said bs (past_byte b p)) ++ stop) ≡ true
+    go : (t : Bool) →
+        begins_white
+        ((cond t (tab_cells said (columns_more p) 9 p) (cell b (past_byte b p) said ∷ [])
+        ++ spread said bs (past_byte b p))
+        ++ stop) ≡
+        true
     go true = tab (columns_more p)
     go false = e
 
 -- the whitespace of a blank line, by its bytes
-spread-blank_events : (said : Line) (bytes : List ℕ) (p : Point) (stop : List Cell) → is_blank bytes ≡ true → NoEnding bytes → Stops stop → 1 ≤ p.column →
+spread-blank_events : (said : Line) (bytes : List ℕ) (p : Point) (stop : List Cell) → is_blank bytes ≡ true →
+    NoEnding bytes → Stops stop → 1 ≤ p.column →
     blank_events (spread said bytes p ++ stop) p ≡ blank_line bytes p
-spread-blank_events said [] p stop blank h k one = ap (λ (t : Bool). cond t (pair n.SpaceOrTab p (line_end stop p)) []) (stops-white stop k)
+spread-blank_events said [] p stop blank h k one =
+    ap (λ (t : Bool). cond t (pair n.SpaceOrTab p (line_end stop p)) []) (stops-white stop k)
 spread-blank_events said (b ∷ bs) p stop blank h k one =
-    ap (λ (t : Bool). cond t (pair n.SpaceOrTab p (line_end (spread said (b ∷ bs) p ++ stop) p)) []) (spread-white said b bs p stop (and_parts (is_white b) (is_blank bs) blank).0)
+    ap (λ (t : Bool). cond t (pair n.SpaceOrTab p (line_end (spread said (b ∷ bs) p ++ stop) p)) [])
+    (spread-white said b bs p stop (and_parts (is_white b) (is_blank bs) blank).0)
     ∙ ap (pair n.SpaceOrTab p) (spread-line_end said (b ∷ bs) p stop h k one)
 
-pub rest-blank_events : (said : Line) (r : Rest) (p : Point) (stop : List Cell) → is_blank r.bytes ≡ true → NoEnding r.bytes → Stops stop → 1 ≤ p.column →
+pub rest-blank_events : (said : Line) (r : Rest) (p : Point) (stop : List Cell) → is_blank r.bytes ≡ true →
+    NoEnding r.bytes → Stops stop → 1 ≤ p.column →
     Cut r.spaces p → blank_events (rest_cells said r p ++ stop) p ≡ blank_line (rest_line r) p
 rest-blank_events said r p stop blank h k one cut =
     rest-same (List Event) (λ (l : List Cell). blank_events l p) said (λ at cs. refl) r p stop one cut

@@ -38,7 +38,8 @@ pub record IsRow (options : ParseOptions) (bytes line : List ℕ) (row : Row) : 
   pub no_inside : row.kind ≡ TextRow → row.inside ≡ []
 
 -- where it stands
-pub line-at : (options : ParseOptions) (bytes line : List ℕ) (row : Row) → (is : IsRow options bytes line row) → LineAt bytes is.rest line row.first row.end
+pub line-at : (options : ParseOptions) (bytes line : List ℕ) (row : Row) → (is : IsRow options bytes line row) →
+    LineAt bytes is.rest line row.first row.end
 line-at options bytes line row is = record {
   line_is = is.line_is;
   no_ending = is.no_ending;
@@ -51,9 +52,10 @@ line-at options bytes line row is = record {
   cut = is.cut;
 }
 
--- a line from a point on, where these containers are open, and a text or none: what it does to the containers, and its rest as
--- a row
-pub record IsLine (options : ParseOptions) (bytes : List ℕ) (open_before : List Container) (still : HeldLeaf) (p : Point) (line : List ℕ) (row : Row) : Type 0 where
+-- a line from a point on, where these containers are open, and a text or none: what it does to the containers, and its
+-- rest as a row
+pub record IsLine (options : ParseOptions) (bytes : List ℕ) (open_before : List Container) (still : HeldLeaf)
+    (p : Point) (line : List ℕ) (row : Row) : Type 0 where
   pub is : IsRow options bytes (rest_line (contained options open_before still (rest_from p line)).rest) row
   pub rest_is : is.rest ≡ (contained options open_before still (rest_from p line)).rest
   pub front : LinePrefix bytes row.change.opens p row.first row.front
@@ -64,19 +66,25 @@ pub record IsLine (options : ParseOptions) (bytes : List ℕ) (open_before : Lis
 
 -- which containers are open behind a line
 abbrev pub behind_line : ParseOptions → List Container → HeldLeaf → Point → List ℕ → List Container
-behind_line options open_before still p line = open_behind (contained options open_before still (rest_from p line)).change
+behind_line options open_before still p line =
+    open_behind (contained options open_before still (rest_from p line)).change
 
 -- These lines, from this point to the end of the text, where these containers and this leaf are open.
 abbrev pub AreRows : ParseOptions → List ℕ → List Container → HeldLeaf → Point → List (List ℕ) → List Row → Type 0
 AreRows options bytes open_before still p (line ∷ []) (row ∷ []) =
-    (is : IsLine options bytes open_before still p line row) × (leaves : row.leaves ≡ behind_line options open_before still p line) × (last : row.after ≡ None) × (row.end.index ≡ length bytes)
+    (is : IsLine options bytes open_before still p line row) ×
+    (leaves : row.leaves ≡ behind_line options open_before still p line) × (last : row.after ≡ None) ×
+    (row.end.index ≡ length bytes)
 AreRows options bytes open_before still p (line ∷ next ∷ lines) (row ∷ below ∷ rows) =
-    (is : IsLine options bytes open_before still p line row) × (leaves : row.leaves ≡ below.change.closes) × (q : Point) × (after : row.after ≡ Some q) × (ending : IsEnding bytes row.end q)
-    × AreRows options bytes (behind_line options open_before still p line) (leaf_behind row.kind) q (next ∷ lines) (below ∷ rows)
+    (is : IsLine options bytes open_before still p line row) × (leaves : row.leaves ≡ below.change.closes) ×
+    (q : Point) × (after : row.after ≡ Some q) × (ending : IsEnding bytes row.end q)
+    × AreRows options bytes (behind_line options open_before still p line) (leaf_behind row.kind) q (next ∷ lines)
+    (below ∷ rows)
 AreRows options bytes open_before still p _ _ = ⊥
 
 -- the text of a line with its ending
-pub line-text : (options : ParseOptions) (bytes line : List ℕ) (row : Row) (q : Point) → IsRow options bytes line row → (ending : IsEnding bytes row.end q) → slice_range bytes row.first.index q.index ≡ line ++ ending_bytes ending.ending
+pub line-text : (options : ParseOptions) (bytes line : List ℕ) (row : Row) (q : Point) → IsRow options bytes line row →
+    (ending : IsEnding bytes row.end q) → slice_range bytes row.first.index q.index ≡ line ++ ending_bytes ending.ending
 line-text options bytes line row q is ending =
     slice-split bytes row.first.index row.end.index q.index (omega (arith, is.size)) (omega (arith, ending.size))
     ∙ ap (λ (l : List ℕ). l ++ slice_range bytes row.end.index q.index) is.text

@@ -10,7 +10,8 @@ use Rattle.md_definition.specs.Tree.{Block}
 use Rattle.md_seam.specs.Substituted.{Readings}
 use Rattle.markdown_blocks.specs.Fronted.{rest_line}
 use Rattle.markdown_blocks.specs.Registry.{leaf}
-use Rattle.markdown_blocks.specs.Rows.{BlankRow, LeafRow, Row, RowKind, TextRow, blank_line, leaf_done, leaf_unread, row_line}
+use Rattle.markdown_blocks.specs.Rows.{BlankRow, LeafRow, Row, RowKind, TextRow, blank_line, leaf_done, leaf_unread}
+use Rattle.markdown_blocks.specs.Rows.{row_line}
 use Rattle.markdown_blocks.proofs.BlankLine.{blank-facts, blank-unlinked}
 use Rattle.markdown_blocks.proofs.KindLemmas.{kind-blank, kind-starts}
 use Rattle.markdown_blocks.proofs.LeafFacts.{LeafFacts, LineAt, ReadsText}
@@ -31,12 +32,14 @@ row-text options bytes line row is = is.text ∙ is.line_is
 
 leaf-at : (options : ParseOptions) (bytes line : List ℕ) (row : Row) → (is : IsRow options bytes line row) →
     LineAt bytes is.rest (rest_line is.rest) row.first row.end
-leaf-at options bytes line row is = subst (λ (l : List ℕ). LineAt bytes is.rest l row.first row.end) is.line_is (line-at options bytes line row is)
+leaf-at options bytes line row is =
+    subst (λ (l : List ℕ). LineAt bytes is.rest l row.first row.end) is.line_is (line-at options bytes line row is)
 
 -- A line that is no text, by its kind.
 
 abbrev Facts : List ℕ → Row → Rest → RowKind → Type 0
-Facts bytes row r kind = LeafFacts bytes (block_of kind r) row.first row.end (leaf_unread bytes kind row) (leaf_done bytes kind row)
+Facts bytes row r kind =
+    LeafFacts bytes (block_of kind r) row.first row.end (leaf_unread bytes kind row) (leaf_done bytes kind row)
 
 pub row-facts : (options : ParseOptions) (bytes line : List ℕ) (row : Row) → (is : IsRow options bytes line row) →
     row.kind ≢ TextRow → LeafFacts bytes (block_of row.kind is.rest) row.first row.end (leaf_unread bytes row.kind row)
@@ -47,17 +50,22 @@ row-facts options bytes line row is other = go row.kind refl
     go BlankRow e =
         subst (Facts bytes row is.rest) (sym e)
         (subst (λ (es : List Event). LeafFacts bytes None row.first row.end es es) (sym (is.blank e))
-        (blank-facts bytes line is.rest row.first row.end (kind-blank options is.rest (sym is.kind ∙ e)) (line-at options bytes line row is)))
+        (blank-facts bytes line is.rest row.first row.end (kind-blank options is.rest (sym is.kind ∙ e))
+        (line-at options bytes line row is)))
     go (LeafRow l) e =
         let starts : (leaf l).starts options is.rest ≡ true = kind-starts options is.rest l (sym is.kind ∙ e) in
         subst (Facts bytes row is.rest) (sym e)
-        (subst (λ (own : List ℕ). LeafFacts bytes (Some ((leaf l).block is.rest)) row.first row.end ((leaf l).unread own row.first) ((leaf l).done bytes own row.first)) (sym (row-text options bytes line row is))
+        (subst (λ (own : List ℕ). LeafFacts bytes (Some ((leaf l).block is.rest)) row.first row.end
+        ((leaf l).unread own row.first) ((leaf l).done bytes own row.first))
+        (sym (row-text options bytes line row is))
         ((laws l).facts options bytes is.rest row.first row.end starts (leaf-at options bytes line row is)))
     go TextRow e = absurd (other e)
 
 -- so much alone, whichever block it shows
 abbrev pub IsLeaf : List ℕ → Row → Type 0
-IsLeaf bytes row = (block : Option Block) × LeafFacts bytes block row.first row.end (leaf_unread bytes row.kind row) (leaf_done bytes row.kind row)
+IsLeaf bytes row =
+    (block : Option Block) ×
+    LeafFacts bytes block row.first row.end (leaf_unread bytes row.kind row) (leaf_done bytes row.kind row)
 
 pub row-leaf : (options : ParseOptions) (bytes line : List ℕ) (row : Row) → IsRow options bytes line row →
     row.kind ≢ TextRow → IsLeaf bytes row
@@ -75,10 +83,14 @@ row-becomes options bytes line row is other wants reads text read = go row.kind 
     go : (kind : RowKind) → row.kind ≡ kind → By row.kind
     go BlankRow e =
         subst By (sym e)
-        (subst (λ (es : List Event). Becomes wants reads es es) (sym (is.blank e)) (becomes-same wants reads (blank_line line row.first) (no_links-unwanted wants (blank_line line row.first) (blank-unlinked line row.first))))
+        (subst (λ (es : List Event). Becomes wants reads es es) (sym (is.blank e))
+        (becomes-same wants reads (blank_line line row.first)
+        (no_links-unwanted wants (blank_line line row.first) (blank-unlinked line row.first))))
     go (LeafRow l) e =
         let starts : (leaf l).starts options is.rest ≡ true = kind-starts options is.rest l (sym is.kind ∙ e) in
         subst By (sym e)
-        (subst (λ (own : List ℕ). Becomes wants reads ((leaf l).unread own row.first) ((leaf l).done bytes own row.first)) (sym (row-text options bytes line row is))
-        ((laws l).becomes options bytes is.rest row.first row.end starts (leaf-at options bytes line row is) wants reads text read))
+        (subst (λ (own : List ℕ). Becomes wants reads ((leaf l).unread own row.first)
+        ((leaf l).done bytes own row.first)) (sym (row-text options bytes line row is))
+        ((laws l).becomes options bytes is.rest row.first row.end starts
+        (leaf-at options bytes line row is) wants reads text read))
     go TextRow e = absurd (other e)

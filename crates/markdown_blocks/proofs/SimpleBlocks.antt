@@ -26,7 +26,8 @@ shallow-blocks (More b bs) h = and_from (is_shallow b) (are_shallow bs) h.0.shal
 pub grouped-blocks : (bs : Blocks) → AreSimple bs → grouped bs ≡ bs
 grouped-blocks End h = refl
 grouped-blocks (More b bs) h =
-    ap (λ (x : Block). with_front x (grouped bs)) h.0.grouped_same ∙ h.0.in_front (grouped bs) ∙ ap (More b) (grouped-blocks bs h.1)
+    ap (λ (x : Block). with_front x (grouped bs)) h.0.grouped_same ∙ h.0.in_front (grouped bs)
+    ∙ ap (More b) (grouped-blocks bs h.1)
 
 -- with one more at their end
 pub simple-then : (bs : Blocks) (b : Block) → AreSimple bs → IsSimple b → AreSimple (then_block bs b)

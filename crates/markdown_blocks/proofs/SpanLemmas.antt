@@ -13,7 +13,8 @@ use Rattle.md_seam.specs.Events.Nested.{Balanced, Forward, around, enter, enter_
 use Rattle.md_seam.specs.Events.Places.{at_or_before, same_place}
 use Rattle.md_seam.specs.Events.Spelled.{byte_at}
 use Rattle.md_seam.proofs.InlineLemmas.{balanced-pair, end-before, end-behind}
-use Rattle.md_seam.proofs.NestedLemmas.{at_or_before-refl, at_or_before-trans, balanced-append, balanced-around, forward-append, last_point-append}
+use Rattle.md_seam.proofs.NestedLemmas.{at_or_before-refl, at_or_before-trans, balanced-append, balanced-around}
+use Rattle.md_seam.proofs.NestedLemmas.{forward-append, last_point-append}
 
 -- from a point on, and up to a point
 abbrev pub Spans : Point → Point → List Event → Type 0
@@ -25,8 +26,10 @@ spans-from p q r (e ∷ es) h k = ((at_or_before-trans p q e.point h k.0.0, k.0.
 
 pub spans-append : (p q r : Point) (xs ys : List Event) → Spans p q xs → Spans q r ys → Spans p r (xs ++ ys)
 spans-append p q r xs ys h k =
-    let more : Spans (last_point p xs) r ys = spans-from (last_point p xs) q r ys h.1 k in
-    (forward-append p xs ys h.0 more.0, subst (λ (s : Point). IsTrue (at_or_before s r)) (sym (last_point-append p xs ys)) more.1)
+    let more : Spans (last_point p xs) r ys = spans-from (last_point p xs) q r ys h.1 k in (
+      forward-append p xs ys h.0 more.0,
+      subst (λ (s : Point). IsTrue (at_or_before s r)) (sym (last_point-append p xs ys)) more.1,
+    )
 
 -- what holds of both holds of the one that is taken
 pub either : (P : List Event → Type 0) (t : Bool) (xs ys : List Event) → P xs → P ys → P (cond t xs ys)
@@ -36,16 +39,20 @@ either P false xs ys h k = k
 pub chunk-balanced : (bytes : List ℕ) (chunk : Chunk) → Balanced (plain_chunk bytes chunk)
 chunk-balanced bytes chunk =
     let end : Point = line_end bytes chunk in
-    balanced-append (pair_unless_empty n.Data chunk.first end) (pair_unless_empty n.LineEnding end chunk.after) (balanced-pair n.Data chunk.first end) (balanced-pair n.LineEnding end chunk.after)
+    balanced-append (pair_unless_empty n.Data chunk.first end) (pair_unless_empty n.LineEnding end chunk.after)
+    (balanced-pair n.Data chunk.first end) (balanced-pair n.LineEnding end chunk.after)
 
 -- the events of a chunk go from its first point forward, and no further than to its end
 pub chunk-forward : (bytes : List ℕ) (chunk : Chunk) → IsTrue (at_or_before chunk.first chunk.after) →
-    Forward chunk.first (plain_chunk bytes chunk) × IsTrue (at_or_before (last_point chunk.first (plain_chunk bytes chunk)) chunk.after)
+    Forward chunk.first (plain_chunk bytes chunk) ×
+    IsTrue (at_or_before (last_point chunk.first (plain_chunk bytes chunk)) chunk.after)
 chunk-forward bytes chunk h =
-    go chunk.first (line_end bytes chunk) chunk.after (end-behind bytes chunk) (end-before bytes chunk h) (same_place chunk.first (line_end bytes chunk)) (same_place (line_end bytes chunk) chunk.after)
+    go chunk.first (line_end bytes chunk) chunk.after (end-behind bytes chunk) (end-before bytes chunk h)
+    (same_place chunk.first (line_end bytes chunk)) (same_place (line_end bytes chunk) chunk.after)
   where
     go : (p q r : Point) → IsTrue (at_or_before p q) → IsTrue (at_or_before q r) → (x y : Bool) →
-        Forward p (cond x [] (pair n.Data p q) ++ cond y [] (pair n.LineEnding q r)) × IsTrue (at_or_before (last_point p (cond x [] (pair n.Data p q) ++ cond y [] (pair n.LineEnding q r))) r)
+        Forward p (cond x [] (pair n.Data p q) ++ cond y [] (pair n.LineEnding q r)) ×
+        IsTrue (at_or_before (last_point p (cond x [] (pair n.Data p q) ++ cond y [] (pair n.LineEnding q r))) r)
     go p q r h k true true = (tt, at_or_before-trans p q r h k)
     go p q r h k true false = ((h, (k, tt)), at_or_before-refl r)
     go p q r h k false true = ((at_or_before-refl p, (h, tt)), k)
@@ -67,7 +74,8 @@ chunk-nested bytes chunk h = (chunk-balanced bytes chunk, chunk-forward bytes ch
 pub around-nested : (name : Name) (p q : Point) (inside : List Event) → Nested_in p q inside →
     Nested_in p q (around name p q inside)
 around-nested name p q inside h =
-    let ended : Spans p q (inside ++ exit name q ∷ []) = spans-append p q q inside (exit name q ∷ []) h.1 ((at_or_before-refl q, tt), at_or_before-refl q) in
+    let ended : Spans p q (inside ++ exit name q ∷ []) = spans-append p q q inside (exit name q ∷ []) h.1
+    ((at_or_before-refl q, tt), at_or_before-refl q) in
     (balanced-around (enter name p) (exit name q) inside refl refl refl h.0, ((at_or_before-refl p, ended.0), ended.1))
 
 -- a chunk that is read later

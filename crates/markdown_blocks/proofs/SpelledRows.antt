@@ -1,8 +1,10 @@
--- What the events of a text are read as, where only leaves that are built may be on: what its lines do to the containers and the
--- text that are open.
+-- What the events of a text are read as, where only leaves that are built may be on: what its lines do to the
+-- containers and the text that are open.
 use Rattle.md_engine.specs.declared.tokenizer.held_leaf.HeldLeaf.TheVariants as held_leaf
 use Rattle.md_engine.specs.declared.tokenizer.held_leaf.HeldLeaf.{HeldLeaf}
-use Rattle.std.proofs.Common.{◌≡◌, ◌≢◌, ℕ, zero, suc, ◌+◌, ◌-◌, Bool, true, false, cond, ◌&&◌, List, [], ◌∷◌, ◌++◌, length, map, take, refl, ap, ap₂, sym, ◌∙◌, subst, append_assoc, take_all, inl, inr, ◌⊎◌, arith}
+use Rattle.std.proofs.Common.{◌≡◌, ◌≢◌, ℕ, zero, suc, ◌+◌, ◌-◌, Bool, true, false, cond, ◌&&◌, List, [], ◌∷◌, ◌++◌}
+use Rattle.std.proofs.Common.{length, map, take, refl, ap, ap₂, sym, ◌∙◌, subst, append_assoc, take_all, inl, inr, ◌⊎◌}
+use Rattle.std.proofs.Common.{arith}
 use Rattle.std.specs.Prelude.{Option, Some, None}
 use Rattle.md_engine.specs.declared.configuration.ParseOptions.{ParseOptions}
 use Rattle.md_engine.specs.declared.event.Event.{Event}
@@ -13,7 +15,8 @@ use Rattle.md_seam.specs.Events.Nested.{around, enter, exit}
 use Rattle.md_definition.specs.Preamble.{rest_at}
 use Rattle.md_definition.specs.Rest.{Rest}
 use Rattle.md_seam.specs.Events.Spelled.{Around, Reading, Shape, add_block, left, read, role, spelled, unread}
-use Rattle.md_definition.specs.State.{At, Container, Kept, Leaf, NoLeaf, Path, Spot, Within, closed, kept, shut, spot, texts, then_block, then_leaf}
+use Rattle.md_definition.specs.State.{At, Container, Kept, Leaf, NoLeaf, Path, Spot, Within, closed, kept, shut, spot}
+use Rattle.md_definition.specs.State.{texts, then_block, then_leaf}
 use Rattle.md_definition.specs.Step.{spot_of, step, steps}
 use Rattle.md_definition.specs.Tree.{Block, Blocks, End}
 use Rattle.md_seam.proofs.SpelledLemmas.{Between, QuietOrPrefix, Roles, read-between, read-from, read-prefixes}
@@ -22,11 +25,16 @@ use Rattle.markdown_blocks.specs.Change.{Change, ends_of, is_none}
 use Rattle.markdown_blocks.specs.Fed.{last_leaves, close_containers, rests_from}
 use Rattle.markdown_blocks.specs.Fronted.{Contained, contained, rest_from, rest_line}
 use Rattle.markdown_blocks.specs.Parsed.{IsBuilt}
-use Rattle.markdown_blocks.specs.Rows.{leaf_behind, BlankRow, Group, LeafRow, Lines, Row, RowKind, Single, TextRow, ending_events, ending_of, goes_on, groups, groups_events, is_lazy, is_text, last_row, leaf_done, line_kind, onto_groups, onto_lines, read_lines, tail_events}
-use Rattle.markdown_blocks.specs.Stands.{IsPlain, around_of, containers_of, final, final_on, still_of, outer_on, reading, reading_on}
+use Rattle.markdown_blocks.specs.Rows.{leaf_behind, BlankRow, Group, LeafRow, Lines, Row, RowKind, Single, TextRow}
+use Rattle.markdown_blocks.specs.Rows.{ending_events, ending_of, goes_on, groups, groups_events, is_lazy, is_text}
+use Rattle.markdown_blocks.specs.Rows.{last_row, leaf_done, line_kind, onto_groups, onto_lines, read_lines, tail_events}
+use Rattle.markdown_blocks.specs.Stands.{IsPlain, around_of, containers_of, final, final_on, still_of, outer_on}
+use Rattle.markdown_blocks.specs.Stands.{reading, reading_on}
 use Rattle.markdown_blocks.proofs.ContainedLemmas.{contained-shapes, lazy-opens}
 use Rattle.markdown_blocks.proofs.FrontFacts.{Behind, Begins, LinePrefix, Goes}
-use Rattle.markdown_blocks.proofs.LineSteps.{behind_path, contained-lazy, contained_at, containers-step, fresh-found, still-step, goes_lazy, kept_to, lazy-text, longer, new_line, new_path, plain-step, renewed, spot_by, step-contained}
+use Rattle.markdown_blocks.proofs.LineSteps.{behind_path, contained-lazy, contained_at, containers-step, fresh-found}
+use Rattle.markdown_blocks.proofs.LineSteps.{still-step, goes_lazy, kept_to, lazy-text, longer, new_line, new_path}
+use Rattle.markdown_blocks.proofs.LineSteps.{plain-step, renewed, spot_by, step-contained}
 use Rattle.markdown_blocks.specs.Leaf.Paragraph.{held_of}
 use Rattle.markdown_blocks.proofs.Registry.{text-laws}
 use Rattle.markdown_blocks.proofs.RowFacts as f
@@ -39,28 +47,33 @@ use Rattle.markdown_blocks.proofs.ContainerNames.{container-facts}
 
 -- The ends and begins of containers.
 
-close_containers-one : (size : ℕ) (r : Reading) → close_containers (suc size) r ≡ left (close_containers size r).outer (close_containers size r)
+close_containers-one : (size : ℕ) (r : Reading) →
+    close_containers (suc size) r ≡ left (close_containers size r).outer (close_containers size r)
 close_containers-one zero r = refl
 close_containers-one (suc size) r = close_containers-one size (left r.outer r)
 
-close_containers-between : (size : ℕ) (r : Reading) → r.text ≡ None → r.leaf ≡ None → ((close_containers size r).text ≡ None) × ((close_containers size r).leaf ≡ None)
+close_containers-between : (size : ℕ) (r : Reading) → r.text ≡ None → r.leaf ≡ None →
+    ((close_containers size r).text ≡ None) × ((close_containers size r).leaf ≡ None)
 close_containers-between zero r t l = (t, l)
-close_containers-between (suc size) r t l = let next = go r.outer in close_containers-between size (left r.outer r) next.0 next.1
+close_containers-between (suc size) r t l =
+    let next = go r.outer in close_containers-between size (left r.outer r) next.0 next.1
   where
     go : (outer : List Around) → ((left outer r).text ≡ None) × ((left outer r).leaf ≡ None)
     go [] = (t, l)
     go (x ∷ outer) = (t, l)
 
 -- where all containers of a path end, all of it is closed
-close_containers-all : (options : ParseOptions) (outer : List Around) (p : Path) → close_containers (length (containers_of p)) (reading_on options outer p) ≡ final_on options outer p
+close_containers-all : (options : ParseOptions) (outer : List Around) (p : Path) →
+    close_containers (length (containers_of p)) (reading_on options outer p) ≡ final_on options outer p
 close_containers-all options outer (At s) = refl
 close_containers-all options outer (Within before container p) =
     close_containers-one (length (containers_of p)) (reading_on options (around_of container before ∷ outer) p)
     ∙ ap (λ (r : Reading). left r.outer r) (close_containers-all options (around_of container before ∷ outer) p)
-    ∙ ap (λ (b : Block). record { outer = outer; here = then_block before b; leaf = None; text = None }) ((container-facts container).block (closed options p))
+    ∙ ap (λ (b : Block). record { outer = outer; here = then_block before b; leaf = None; text = None })
+    ((container-facts container).block (closed options p))
 
--- The containers of a path are read as these, of which some stay and the others close. One that stays may have changed, but for
--- what the events tell.
+-- The containers of a path are read as these, of which some stay and the others close. One that stays may have changed,
+-- but for what the events tell.
 abbrev AreShapes : List Container → List Container → Path → Type 0
 AreShapes stays closes p = map shape_of (stays ++ closes) ≡ map shape_of (containers_of p)
 
@@ -68,30 +81,41 @@ shapes-length : (cs ds : List Container) → map shape_of cs ≡ map shape_of ds
 shapes-length [] [] e = refl
 shapes-length [] (d ∷ ds) e = cc
 shapes-length (c ∷ cs) [] e = cc
-shapes-length (c ∷ cs) (d ∷ ds) e = let more : map shape_of cs ≡ map shape_of ds = cc in ap (λ (n : ℕ). suc n) (shapes-length cs ds more)
+shapes-length (c ∷ cs) (d ∷ ds) e =
+    let more : map shape_of cs ≡ map shape_of ds = cc in ap (λ (n : ℕ). suc n) (shapes-length cs ds more)
 
 -- of the same shape, a container is read alike
 around-same : (c d : Container) (before : Blocks) → shape_of c ≡ shape_of d → around_of c before ≡ around_of d before
 around-same c d before e = ap (λ (shape : Shape). record { shape = shape; before = before }) e
 
 -- where some end, the others are kept
-close_containers-kept : (options : ParseOptions) (stays closes : List Container) (outer : List Around) (p : Path) → AreShapes stays closes p → close_containers (length closes) (reading_on options outer p) ≡ reading_on options outer (kept_to options stays p)
-close_containers-kept options [] closes outer p e = ap (λ (n : ℕ). close_containers n (reading_on options outer p)) (shapes-length closes (containers_of p) e) ∙ close_containers-all options outer p
+close_containers-kept : (options : ParseOptions) (stays closes : List Container) (outer : List Around) (p : Path) →
+    AreShapes stays closes p →
+    close_containers (length closes) (reading_on options outer p) ≡ reading_on options outer (kept_to options stays p)
+close_containers-kept options [] closes outer p e =
+    ap (λ (n : ℕ). close_containers n (reading_on options outer p)) (shapes-length closes (containers_of p) e)
+    ∙ close_containers-all options outer p
 close_containers-kept options (c ∷ stays) closes outer (At s) e = cc
 close_containers-kept options (c ∷ stays) closes outer (Within before container p) e =
     let same : shape_of c ≡ shape_of container = cc in
     let more : AreShapes stays closes p = cc in
     close_containers-kept options stays closes (around_of container before ∷ outer) p more
-    ∙ ap (λ (around : Around). reading_on options (around ∷ outer) (kept_to options stays p)) (sym (around-same c container before same))
+    ∙ ap (λ (around : Around). reading_on options (around ∷ outer) (kept_to options stays p))
+    (sym (around-same c container before same))
 
 -- what a line changes of those that stay, the events do not tell
-reading-renewed : (options : ParseOptions) (stays closes : List Container) (outer : List Around) (p : Path) (lines : List Kept) → AreShapes stays closes p → reading_on options outer (longer (renewed stays p) lines) ≡ reading_on options outer (longer p lines)
+reading-renewed : (options : ParseOptions) (stays closes : List Container) (outer : List Around) (p : Path)
+    (lines : List Kept) →
+    AreShapes stays closes p →
+    reading_on options outer (longer (renewed stays p) lines) ≡ reading_on options outer (longer p lines)
 reading-renewed options [] closes outer p lines e = refl
 reading-renewed options (c ∷ stays) closes outer (At s) lines e = refl
 reading-renewed options (c ∷ stays) closes outer (Within before container p) lines e =
     let same : shape_of c ≡ shape_of container = cc in
     let more : AreShapes stays closes p = cc in
-    ap (λ (around : Around). reading_on options (around ∷ outer) (longer (renewed stays p) lines)) (around-same c container before same) ∙ reading-renewed options stays closes (around_of container before ∷ outer) p lines more
+    ap (λ (around : Around). reading_on options (around ∷ outer) (longer (renewed stays p) lines))
+    (around-same c container before same)
+    ∙ reading-renewed options stays closes (around_of container before ∷ outer) p lines more
 
 -- containers begin, each in the one before
 abbrev enters : List Container → Reading → Reading
@@ -107,11 +131,14 @@ new_none (c ∷ cs) bs = Within bs c (new_none cs End)
 abbrev open_path : ParseOptions → Path → Contained → Path
 open_path options p c = behind_path (kept_to options c.change.stays p) (new_none c.change.opens)
 
-reading-behind : (options : ParseOptions) (outer : List Around) (p : Path) (f : Blocks → Path) → reading_on options outer (behind_path p f) ≡ reading_on options (outer_on outer p) (f (spot p).here)
+reading-behind : (options : ParseOptions) (outer : List Around) (p : Path) (f : Blocks → Path) →
+    reading_on options outer (behind_path p f) ≡ reading_on options (outer_on outer p) (f (spot p).here)
 reading-behind options outer (At s) f = refl
-reading-behind options outer (Within before container p) f = reading-behind options (around_of container before ∷ outer) p f
+reading-behind options outer (Within before container p) f =
+    reading-behind options (around_of container before ∷ outer) p f
 
-kept-none : (options : ParseOptions) (stays : List Container) (p : Path) → (spot (kept_to options stays p)).leaf ≡ NoLeaf
+kept-none : (options : ParseOptions) (stays : List Container) (p : Path) →
+    (spot (kept_to options stays p)).leaf ≡ NoLeaf
 kept-none options [] p = refl
 kept-none options (c ∷ stays) (At s) = refl
 kept-none options (c ∷ stays) (Within before container p) = kept-none options stays p
@@ -119,18 +146,23 @@ kept-none options (c ∷ stays) (Within before container p) = kept-none options 
 none-shut : (options : ParseOptions) (s : Spot) → s.leaf ≡ NoLeaf → shut options s ≡ s.here
 none-shut options s e = ap (then_leaf options s.here) e
 
-reading-none : (options : ParseOptions) (outer : List Around) (opens : List Container) (bs : Blocks) → reading_on options outer (new_none opens bs) ≡ enters opens (record { outer = outer; here = bs; leaf = None; text = None })
+reading-none : (options : ParseOptions) (outer : List Around) (opens : List Container) (bs : Blocks) →
+    reading_on options outer (new_none opens bs) ≡
+    enters opens (record { outer = outer; here = bs; leaf = None; text = None })
 reading-none options outer [] bs = refl
 reading-none options outer (c ∷ opens) bs = reading-none options (around_of c bs ∷ outer) opens End
 
 -- behind the ends and the begins of containers
 reading-open : (options : ParseOptions) (p : Path) (c : Contained) → AreShapes c.change.stays c.change.closes p →
-    reading options (open_path options p c) ≡ enters c.change.opens (close_containers (length c.change.closes) (reading options p))
+    reading options (open_path options p c) ≡
+    enters c.change.opens (close_containers (length c.change.closes) (reading options p))
 reading-open options p c shapes =
     let k : Path = kept_to options c.change.stays p in
     reading-behind options [] k (new_none c.change.opens)
     ∙ reading-none options (outer_on [] k) c.change.opens (spot k).here
-    ∙ ap (λ (bs : Blocks). enters c.change.opens (record { outer = outer_on [] k; here = bs; leaf = None; text = None })) (sym (none-shut options (spot k) (kept-none options c.change.stays p)))
+    ∙ ap
+    (λ (bs : Blocks). enters c.change.opens (record { outer = outer_on [] k; here = bs; leaf = None; text = None }))
+    (sym (none-shut options (spot k) (kept-none options c.change.stays p)))
     ∙ ap (enters c.change.opens) (sym (close_containers-kept options c.change.stays c.change.closes [] p shapes))
 
 -- Leaves.
@@ -147,7 +179,8 @@ spot-with : (p : Path) (s : Blocks → Spot) → spot (with_spot p s) ≡ s (spo
 spot-with (At x) s = refl
 spot-with (Within before container p) s = spot-with p s
 
-behind-behind : (p : Path) (f : Blocks → Path) (s : Blocks → Spot) → with_spot (behind_path p f) s ≡ behind_path p (λ bs. with_spot (f bs) s)
+behind-behind : (p : Path) (f : Blocks → Path) (s : Blocks → Spot) →
+    with_spot (behind_path p f) s ≡ behind_path p (λ bs. with_spot (f bs) s)
 behind-behind (At x) f s = refl
 behind-behind (Within before container p) f s = ap (Within before container) (behind-behind p f s)
 
@@ -166,51 +199,70 @@ new-path : (options : ParseOptions) (p : Path) (c : Contained) (kind : RowKind) 
     new_path options p c ≡ with_spot (open_path options p c) (λ bs. spot_by bs [] c.rest kind)
 new-path options p c kind built e =
     let k : Path = kept_to options c.change.stays p in
-    behind-ap k (new_line options c.change.opens c.rest) (λ bs. with_spot (new_none c.change.opens bs) (λ cs. spot_by cs [] c.rest kind))
-    (λ bs. new-with options c.change.opens c.rest bs built ∙ ap (λ (x : RowKind). with_spot (new_none c.change.opens bs) (λ cs. spot_by cs [] c.rest x)) e)
+    behind-ap k (new_line options c.change.opens c.rest)
+    (λ bs. with_spot (new_none c.change.opens bs) (λ cs. spot_by cs [] c.rest kind))
+    (λ bs.
+    new-with options c.change.opens c.rest bs built
+    ∙ ap (λ (x : RowKind). with_spot (new_none c.change.opens bs) (λ cs. spot_by cs [] c.rest x)) e)
     ∙ sym (behind-behind k (new_none c.change.opens) (λ bs. spot_by bs [] c.rest kind))
 
 none-none : (opens : List Container) (bs : Blocks) → (spot (new_none opens bs)).leaf ≡ NoLeaf
 none-none [] bs = refl
 none-none (c ∷ opens) bs = none-none opens End
 
-behind-leaf : (p : Path) (f : Blocks → Path) → ((bs : Blocks) → (spot (f bs)).leaf ≡ NoLeaf) → (spot (behind_path p f)).leaf ≡ NoLeaf
+behind-leaf : (p : Path) (f : Blocks → Path) → ((bs : Blocks) → (spot (f bs)).leaf ≡ NoLeaf) →
+    (spot (behind_path p f)).leaf ≡ NoLeaf
 behind-leaf (At x) f each = each x.here
 behind-leaf (Within before container p) f each = behind-leaf p f each
 
 open-none : (options : ParseOptions) (p : Path) (c : Contained) → (spot (open_path options p c)).leaf ≡ NoLeaf
-open-none options p c = behind-leaf (kept_to options c.change.stays p) (new_none c.change.opens) (none-none c.change.opens)
+open-none options p c =
+    behind-leaf (kept_to options c.change.stays p) (new_none c.change.opens) (none-none c.change.opens)
 
 -- a leaf where nothing is open
-reading-with : (options : ParseOptions) (p : Path) (s : Blocks → Spot) → (spot p).leaf ≡ NoLeaf → reading options (with_spot p s) ≡ record (reading options p) { here = shut options (s (reading options p).here) }
+reading-with : (options : ParseOptions) (p : Path) (s : Blocks → Spot) → (spot p).leaf ≡ NoLeaf →
+    reading options (with_spot p s) ≡ record (reading options p) { here = shut options (s (reading options p).here) }
 reading-with options p s none =
-    ap (λ (outer : List Around). record { outer = outer; here = shut options (spot (with_spot p s)); leaf = None; text = None }) (outer-with [] p s)
-    ∙ ap (λ (x : Spot). record { outer = outer_on [] p; here = shut options x; leaf = None; text = None }) (spot-with p s)
-    ∙ ap (λ (bs : Blocks). record { outer = outer_on [] p; here = shut options (s bs); leaf = None; text = None }) (sym (none-shut options (spot p) none))
+    ap
+    (λ (outer : List Around).
+    record { outer = outer; here = shut options (spot (with_spot p s)); leaf = None; text = None })
+    (outer-with [] p s)
+    ∙ ap (λ (x : Spot). record { outer = outer_on [] p; here = shut options x; leaf = None; text = None })
+    (spot-with p s)
+    ∙ ap (λ (bs : Blocks). record { outer = outer_on [] p; here = shut options (s bs); leaf = None; text = None })
+    (sym (none-shut options (spot p) none))
 
 -- a text with more lines
-longer-with : (p : Path) (lines : List Kept) → (spot p).leaf ≡ NoLeaf → longer p lines ≡ with_spot p (λ bs. record { here = bs; leaf = text_leaf.held lines })
-longer-with (At s) lines none = ap (λ (x : Leaf). At (record { here = s.here; leaf = text_leaf.held (held_of x ++ lines) })) none
+longer-with : (p : Path) (lines : List Kept) → (spot p).leaf ≡ NoLeaf →
+    longer p lines ≡ with_spot p (λ bs. record { here = bs; leaf = text_leaf.held lines })
+longer-with (At s) lines none =
+    ap (λ (x : Leaf). At (record { here = s.here; leaf = text_leaf.held (held_of x ++ lines) })) none
 longer-with (Within before container p) lines none = ap (Within before container) (longer-with p lines none)
 
 longer-longer : (p : Path) (xs ys : List Kept) → longer (longer p xs) ys ≡ longer p (xs ++ ys)
-longer-longer (At s) xs ys = ap (λ (l : List Kept). At (record { here = s.here; leaf = text_leaf.held l })) (append_assoc (held_of s.leaf) xs ys)
+longer-longer (At s) xs ys =
+    ap (λ (l : List Kept). At (record { here = s.here; leaf = text_leaf.held l })) (append_assoc (held_of s.leaf) xs ys)
 longer-longer (Within before container p) xs ys = ap (Within before container) (longer-longer p xs ys)
 
-reading-longer : (options : ParseOptions) (p : Path) (k : Kept) (ks : List Kept) → IsBuilt options → (spot p).leaf ≡ NoLeaf → reading options (longer p (k ∷ ks)) ≡ add_block (text_leaf.block (texts (k ∷ ks))) (reading options p)
+reading-longer : (options : ParseOptions) (p : Path) (k : Kept) (ks : List Kept) → IsBuilt options →
+    (spot p).leaf ≡ NoLeaf →
+    reading options (longer p (k ∷ ks)) ≡ add_block (text_leaf.block (texts (k ∷ ks))) (reading options p)
 reading-longer options p k ks built none =
     ap (reading options) (longer-with p (k ∷ ks) none)
     ∙ reading-with options p (λ bs. record { here = bs; leaf = text_leaf.held (k ∷ ks) }) none
-    ∙ ap (λ (bs : Blocks). record (reading options p) { here = bs }) (text-laws.shut options (reading options p).here (k ∷ ks) built.definition)
+    ∙ ap (λ (bs : Blocks). record (reading options p) { here = bs })
+    (text-laws.shut options (reading options p).here (k ∷ ks) built.definition)
 
 -- Events.
 
 -- each container ends alike
-read-ends : (bytes : List ℕ) (cs : List Container) (p : Point) (r : Reading) → read bytes r (ends_of cs p) ≡ close_containers (length cs) r
+read-ends : (bytes : List ℕ) (cs : List Container) (p : Point) (r : Reading) →
+    read bytes r (ends_of cs p) ≡ close_containers (length cs) r
 read-ends bytes [] p r = refl
 read-ends bytes (c ∷ cs) p r =
     let inner : Reading = close_containers (length cs) r in
-    read-from bytes r inner (ends_of cs p) (exit (container_name c) p ∷ []) (read-ends bytes cs p r) ∙ (container-facts c).read_end bytes p inner ∙ sym (close_containers-one (length cs) r)
+    read-from bytes r inner (ends_of cs p) (exit (container_name c) p ∷ []) (read-ends bytes cs p r)
+    ∙ (container-facts c).read_end bytes p inner ∙ sym (close_containers-one (length cs) r)
 
 ending-between : (name : Name) (row : Row) → Between (role name) → Roles Between (ending_events name row)
 ending-between name row h = go row.after
@@ -219,38 +271,52 @@ ending-between name row h = go row.after
     go None = tt
     go (Some q) = (h, (h, tt))
 
-read-tail : (bytes : List ℕ) (name : Name) (row : Row) (r : Reading) → Between (role name) → r.text ≡ None → r.leaf ≡ None → read bytes r (tail_events name row) ≡ close_containers (length row.leaves) r
+read-tail : (bytes : List ℕ) (name : Name) (row : Row) (r : Reading) → Between (role name) → r.text ≡ None →
+    r.leaf ≡ None → read bytes r (tail_events name row) ≡ close_containers (length row.leaves) r
 read-tail bytes name row r h t l =
     let size : ℕ = length row.leaves in
     let next = close_containers-between size r t l in
-    read-from bytes r (close_containers size r) (ends_of row.leaves row.end) (ending_events name row) (read-ends bytes row.leaves row.end r)
+    read-from bytes r (close_containers size r) (ends_of row.leaves row.end) (ending_events name row)
+    (read-ends bytes row.leaves row.end r)
     ∙ read-between bytes (close_containers size r) (ending_events name row) next.0 next.1 (ending-between name row h)
 
 -- what stands in front of a line is not read, but for the containers that begin there
-read-fronts : (bytes : List ℕ) (opens : List Container) (p q : Point) (es : List Event) (r : Reading) → LinePrefix bytes opens p q es → r.text ≡ None → read bytes r es ≡ enters opens r
+read-fronts : (bytes : List ℕ) (opens : List Container) (p q : Point) (es : List Event) (r : Reading) →
+    LinePrefix bytes opens p q es → r.text ≡ None → read bytes r es ≡ enters opens r
 read-fronts bytes opens p q es r (Behind a) t = refl
-read-fronts bytes opens p q es r (Goes many a b d xs ys further more) t = read-from bytes r r xs ys (read-prefixes bytes r xs t (prefixes-roles QuietOrPrefix xs tt tt further.names)) ∙ read-fronts bytes many b d ys r more t
+read-fronts bytes opens p q es r (Goes many a b d xs ys further more) t =
+    read-from bytes r r xs ys (read-prefixes bytes r xs t (prefixes-roles QuietOrPrefix xs tt tt further.names))
+    ∙ read-fronts bytes many b d ys r more t
 read-fronts bytes opens p q es r (Begins c many a b d xs ys opening more) t =
-    read-from bytes r (begins c r) (enter (container_name c) a ∷ xs) ys (opening.read r t) ∙ read-fronts bytes many b d ys (begins c r) more t
+    read-from bytes r (begins c r) (enter (container_name c) a ∷ xs) ys (opening.read r t)
+    ∙ read-fronts bytes many b d ys (begins c r) more t
 
 -- the parts of the events of a line, and what follows
-read-parts : (bytes : List ℕ) (r a b c d : Reading) (xs ys zs more : List Event) → read bytes r xs ≡ a → read bytes a ys ≡ b → read bytes b zs ≡ c → read bytes c more ≡ d → read bytes r ((xs ++ ys ++ zs) ++ more) ≡ d
-read-parts bytes r a b c d xs ys zs more e f g h = read-from bytes r c (xs ++ ys ++ zs) more (read-from bytes r b (xs ++ ys) zs (read-from bytes r a xs ys e ∙ f) ∙ g) ∙ h
+read-parts : (bytes : List ℕ) (r a b c d : Reading) (xs ys zs more : List Event) → read bytes r xs ≡ a →
+    read bytes a ys ≡ b → read bytes b zs ≡ c → read bytes c more ≡ d → read bytes r ((xs ++ ys ++ zs) ++ more) ≡ d
+read-parts bytes r a b c d xs ys zs more e f g h =
+    read-from bytes r c (xs ++ ys ++ zs) more (read-from bytes r b (xs ++ ys) zs (read-from bytes r a xs ys e ∙ f) ∙ g)
+    ∙ h
 
 -- Groups.
 
 -- these groups, where a path is open of whose containers so many end first, are read as this
 abbrev Reads : ParseOptions → List ℕ → Path → List Container → List Group → Reading → Type 0
-Reads options bytes p closes gs last = read bytes (close_containers (length closes) (reading options p)) (groups_events bytes gs) ≡ last
+Reads options bytes p closes gs last =
+    read bytes (close_containers (length closes) (reading options p)) (groups_events bytes gs) ≡ last
 
 -- the lines of a text go on an open one or begin one, and with what follows are read as this
-record ReadsLines (options : ParseOptions) (bytes : List ℕ) (p : Path) (row : Row) (rows : List Row) (gs : List Group) (last : Reading) : Type 0 where
+record ReadsLines (options : ParseOptions) (bytes : List ℕ) (p : Path) (row : Row) (rows : List Row) (gs : List Group)
+    (last : Reading) : Type 0 where
   first : Kept
   lines : List Kept
   are : IsRead bytes row rows (first ∷ lines)
-  behind : read bytes (reading options (longer p (first ∷ lines))) (tail_events n.LineEnding (last_row row rows) ++ groups_events bytes gs) ≡ last
+  behind : read bytes (reading options (longer p (first ∷ lines)))
+      (tail_events n.LineEnding (last_row row rows) ++ groups_events bytes gs) ≡
+      last
 
-record StartsLines (options : ParseOptions) (bytes : List ℕ) (p : Path) (row : Row) (gs : List Group) (last : Reading) : Type 0 where
+record StartsLines (options : ParseOptions) (bytes : List ℕ) (p : Path) (row : Row) (gs : List Group)
+    (last : Reading) : Type 0 where
   rows : List Row
   below : List Group
   groups_are : gs ≡ Lines row rows ∷ below
@@ -262,12 +328,14 @@ Means options bytes p true row gs last = StartsLines options bytes p row gs last
 Means options bytes p false row gs last = Reads options bytes p row.change.closes gs last
 
 -- Behind a line: what follows does not go on a text,
-record Parts (options : ParseOptions) (bytes : List ℕ) (p : Path) (row : Row) (gs : List Group) (last : Reading) : Type 0 where
+record Parts (options : ParseOptions) (bytes : List ℕ) (p : Path) (row : Row) (gs : List Group)
+    (last : Reading) : Type 0 where
   apart : row.kind ≡ TextRow → onto_groups row TextRow gs ≡ Lines row [] ∷ gs
   reads : Reads options bytes p row.leaves gs last
 
 -- or it does
-record Joins (options : ParseOptions) (bytes : List ℕ) (p : Path) (row : Row) (gs : List Group) (last : Reading) : Type 0 where
+record Joins (options : ParseOptions) (bytes : List ℕ) (p : Path) (row : Row) (gs : List Group)
+    (last : Reading) : Type 0 where
   text : is_text row.kind ≡ true
   next : Row
   starts : StartsLines options bytes p next gs last
@@ -280,11 +348,16 @@ record Joins (options : ParseOptions) (bytes : List ℕ) (p : Path) (row : Row) 
 abbrev Follows : ParseOptions → List ℕ → Path → Row → List Group → Reading → Type 0
 Follows options bytes p row gs last = Parts options bytes p row gs last ⊎ Joins options bytes p row gs last
 
-onto-joined : (row next : Row) (rows : List Row) (gs : List Group) → row.leaves ≡ [] → next.change.opens ≡ [] → onto_lines row next rows gs ≡ Lines row (next ∷ rows) ∷ gs
-onto-joined row next rows gs e h = ap₂ (λ (xs ys : List Container). cond (is_none xs && is_none ys) (Lines row (next ∷ rows) ∷ gs) (Lines row [] ∷ Lines next rows ∷ gs)) e h
+onto-joined : (row next : Row) (rows : List Row) (gs : List Group) → row.leaves ≡ [] → next.change.opens ≡ [] →
+    onto_lines row next rows gs ≡ Lines row (next ∷ rows) ∷ gs
+onto-joined row next rows gs e h =
+    ap₂
+    (λ (xs ys : List Container).
+    cond (is_none xs && is_none ys) (Lines row (next ∷ rows) ∷ gs) (Lines row [] ∷ Lines next rows ∷ gs)) e h
 
 -- A line of text goes on a text as well where the path is another that is read alike.
-starts-alike : (options : ParseOptions) (bytes : List ℕ) (p q : Path) (row : Row) (gs : List Group) (last : Reading) → ((lines : List Kept) → reading options (longer p lines) ≡ reading options (longer q lines)) →
+starts-alike : (options : ParseOptions) (bytes : List ℕ) (p q : Path) (row : Row) (gs : List Group) (last : Reading) →
+    ((lines : List Kept) → reading options (longer p lines) ≡ reading options (longer q lines)) →
     StartsLines options bytes p row gs last → StartsLines options bytes q row gs last
 starts-alike options bytes p q row gs last alike starts =
     let reads = starts.reads in
@@ -296,12 +369,18 @@ starts-alike options bytes p q row gs last alike starts =
         first = reads.first;
         lines = reads.lines;
         are = reads.are;
-        behind = ap (λ (r : Reading). read bytes r (tail_events n.LineEnding (last_row row starts.rows) ++ groups_events bytes starts.below)) (sym (alike (reads.first ∷ reads.lines))) ∙ reads.behind;
+        behind =
+            ap
+            (λ (r : Reading).
+            read bytes r (tail_events n.LineEnding (last_row row starts.rows) ++ groups_events bytes starts.below))
+            (sym (alike (reads.first ∷ reads.lines)))
+            ∙ reads.behind;
       };
     }
 
 -- a line of text, and what follows
-starts-lines : (options : ParseOptions) (bytes line : List ℕ) (p : Path) (row : Row) (gs : List Group) (last : Reading) →
+starts-lines : (options : ParseOptions) (bytes line : List ℕ) (p : Path) (row : Row) (gs : List Group)
+    (last : Reading) →
     (is : f.IsRow options bytes line row) → row.kind ≡ TextRow →
     Follows options bytes (longer p (kept is.rest ∷ [])) row gs last →
     StartsLines options bytes p row (onto_groups row TextRow gs) last
@@ -315,7 +394,9 @@ starts-lines options bytes line p row gs last is text (inl parts) = record {
     are = read-one options bytes line row is text;
     behind =
         let s : Reading = reading options (longer p (kept is.rest ∷ [])) in
-        read-from bytes s (close_containers (length row.leaves) s) (tail_events n.LineEnding row) (groups_events bytes gs) (read-tail bytes n.LineEnding row s tt refl refl) ∙ parts.reads;
+        read-from bytes s (close_containers (length row.leaves) s) (tail_events n.LineEnding row)
+        (groups_events bytes gs) (read-tail bytes n.LineEnding row s tt refl refl)
+        ∙ parts.reads;
   };
 }
 starts-lines options bytes line p row gs last is text (inr joins) =
@@ -324,33 +405,56 @@ starts-lines options bytes line p row gs last is text (inr joins) =
     record {
       rows = joins.next ∷ below.rows;
       below = below.below;
-      groups_are = ap (onto_groups row TextRow) below.groups_are ∙ onto-joined row joins.next below.rows below.below joins.leaves joins.opens;
+      groups_are =
+          ap (onto_groups row TextRow) below.groups_are
+          ∙ onto-joined row joins.next below.rows below.below joins.leaves joins.opens;
       reads = record {
         first = kept is.rest;
         lines = reads.first ∷ reads.lines;
-        are = read-more options bytes line row joins.next below.rows joins.after (reads.first ∷ reads.lines) is text joins.ending joins.fronts reads.are;
-        behind = subst (λ (x : Path). read bytes (reading options x) (tail_events n.LineEnding (last_row joins.next below.rows) ++ groups_events bytes below.below) ≡ last) (longer-longer p (kept is.rest ∷ []) (reads.first ∷ reads.lines)) reads.behind;
+        are =
+            read-more options bytes line row joins.next below.rows joins.after
+            (reads.first ∷ reads.lines) is text joins.ending joins.fronts reads.are;
+        behind =
+            subst
+            (λ (x : Path).
+            read bytes (reading options x)
+            (tail_events n.LineEnding (last_row joins.next below.rows) ++ groups_events bytes below.below) ≡
+            last)
+            (longer-longer p (kept is.rest ∷ []) (reads.first ∷ reads.lines)) reads.behind;
       };
     }
 
 -- Lines.
 
 -- what is read in front of a line, and what it opens behind that
-read-open : (options : ParseOptions) (p : Path) (c : Contained) (row : Row) → AreShapes c.change.stays c.change.closes p → row.change ≡ c.change →
-    enters row.change.opens (close_containers (length row.change.closes) (reading options p)) ≡ reading options (open_path options p c)
-read-open options p c row shapes same = ap (λ (x : Change). enters x.opens (close_containers (length x.closes) (reading options p))) same ∙ sym (reading-open options p c shapes)
+read-open : (options : ParseOptions) (p : Path) (c : Contained) (row : Row) →
+    AreShapes c.change.stays c.change.closes p → row.change ≡ c.change →
+    enters row.change.opens (close_containers (length row.change.closes) (reading options p)) ≡
+    reading options (open_path options p c)
+read-open options p c row shapes same =
+    ap (λ (x : Change). enters x.opens (close_containers (length x.closes) (reading options p))) same
+    ∙ sym (reading-open options p c shapes)
 
 -- a line that is no text
-single-reads : (options : ParseOptions) (bytes : List ℕ) (p : Path) (c : Contained) (row : Row) (gs : List Group) (last : Reading) (new : Path) (name : Name) (leaf : List Event) → AreShapes c.change.stays c.change.closes p →
+single-reads : (options : ParseOptions) (bytes : List ℕ) (p : Path) (c : Contained) (row : Row) (gs : List Group)
+    (last : Reading) (new : Path) (name : Name) (leaf : List Event) →
+    AreShapes c.change.stays c.change.closes p →
     row.change ≡ c.change → (a : Point) → LinePrefix bytes row.change.opens a row.first row.front →
-    ((e : Reading) → e ≡ reading options (open_path options p c) → read bytes e leaf ≡ reading options new) → Between (role name) → Reads options bytes new row.leaves gs last →
-    read bytes (close_containers (length row.change.closes) (reading options p)) ((row.front ++ leaf ++ tail_events name row) ++ groups_events bytes gs) ≡ last
+    ((e : Reading) → e ≡ reading options (open_path options p c) → read bytes e leaf ≡ reading options new) →
+    Between (role name) → Reads options bytes new row.leaves gs last →
+    read bytes (close_containers (length row.change.closes) (reading options p))
+    ((row.front ++ leaf ++ tail_events name row) ++ groups_events bytes gs) ≡
+    last
 single-reads options bytes p c row gs last new name leaf shapes change a fronts found between reads =
     let start : Reading = close_containers (length row.change.closes) (reading options p) in
     let begin : Reading = enters row.change.opens start in
     let text = close_containers-between (length row.change.closes) (reading options p) refl refl in
-    read-parts bytes start begin (reading options new) (close_containers (length row.leaves) (reading options new)) last row.front leaf (tail_events name row) (groups_events bytes gs)
-    (read-fronts bytes row.change.opens a row.first row.front start fronts text.0) (found begin (read-open options p c row shapes change)) (read-tail bytes name row (reading options new) between refl refl) reads
+    read-parts bytes start begin (reading options new)
+    (close_containers (length row.leaves) (reading options new)) last row.front leaf (tail_events name row)
+    (groups_events bytes gs)
+    (read-fronts bytes row.change.opens a row.first row.front start fronts text.0)
+    (found begin (read-open options p c row shapes change))
+    (read-tail bytes name row (reading options new) between refl refl) reads
 
 text-kind : (kind : RowKind) → is_text kind ≡ true → kind ≡ TextRow
 text-kind TextRow e = refl
@@ -363,12 +467,15 @@ other-kind (LeafRow l) other = refl
 other-kind TextRow other = absurd (other refl)
 
 -- what a line is, by what is left of it behind its containers
-line-is : (options : ParseOptions) (bytes : List ℕ) (cs : List Container) (still : HeldLeaf) (p : Point) (line : List ℕ) (row : Row) →
-    f.IsLine options bytes cs still p line row → row.kind ≡ line_kind options (contained options cs still (rest_from p line)).rest
+line-is : (options : ParseOptions) (bytes : List ℕ) (cs : List Container) (still : HeldLeaf) (p : Point) (line : List ℕ)
+    (row : Row) →
+    f.IsLine options bytes cs still p line row →
+    row.kind ≡ line_kind options (contained options cs still (rest_from p line)).rest
 line-is options bytes cs still p line row is = is.is.kind ∙ ap (λ (r : Rest). line_kind options r) is.rest_is
 
 -- and the leaf that is open behind it
-pub still-line : (options : ParseOptions) (bytes : List ℕ) (a : Path) (p : Point) (line : List ℕ) (row : Row) → IsBuilt options →
+pub still-line : (options : ParseOptions) (bytes : List ℕ) (a : Path) (p : Point) (line : List ℕ) (row : Row) →
+    IsBuilt options →
     IsPlain a → f.IsLine options bytes (containers_of a) (still_of a) p line row →
     still_of (step options a (rest_from p line)) ≡ leaf_behind row.kind
 still-line options bytes a p line row built plain is =
@@ -383,18 +490,23 @@ ending-role TextRow = tt
 
 -- a line that is no text comes to the block that it shows
 shown-leaf : (options : ParseOptions) (p : Path) (r : Rest) (kind : RowKind) → kind ≢ TextRow →
-    shown (block_of kind r) (reading options p) ≡ record (reading options p) { here = shut options (spot_by (reading options p).here [] r kind) }
+    shown (block_of kind r) (reading options p) ≡
+    record (reading options p) { here = shut options (spot_by (reading options p).here [] r kind) }
 shown-leaf options p r BlankRow other = refl
 shown-leaf options p r (LeafRow l) other = refl
 shown-leaf options p r TextRow other = absurd (other refl)
 
-no-joins : (options : ParseOptions) (bytes : List ℕ) (p : Path) (row : Row) (gs : List Group) (last : Reading) → is_text row.kind ≡ false → Follows options bytes p row gs last → Reads options bytes p row.leaves gs last
+no-joins : (options : ParseOptions) (bytes : List ℕ) (p : Path) (row : Row) (gs : List Group) (last : Reading) →
+    is_text row.kind ≡ false → Follows options bytes p row gs last → Reads options bytes p row.leaves gs last
 no-joins options bytes p row gs last none (inl parts) = parts.reads
 no-joins options bytes p row gs last none (inr joins) = let text = joins.text in cc
 
 -- One line, and what follows.
-row-means : (options : ParseOptions) (bytes : List ℕ) (p : Path) (a : Point) (line : List ℕ) (row : Row) (gs : List Group) (last : Reading) → IsBuilt options → IsPlain p →
-    f.IsLine options bytes (containers_of p) (still_of p) a line row → Follows options bytes (step options p (rest_from a line)) row gs last →
+row-means : (options : ParseOptions) (bytes : List ℕ) (p : Path) (a : Point) (line : List ℕ) (row : Row)
+    (gs : List Group) (last : Reading) →
+    IsBuilt options → IsPlain p →
+    f.IsLine options bytes (containers_of p) (still_of p) a line row →
+    Follows options bytes (step options p (rest_from a line)) row gs last →
     Means options bytes p (is_lazy (still_of p) row.change.opens row.kind) row (onto_groups row row.kind gs) last
 row-means options bytes p a line row gs last built plain is follows = go (goes_lazy options p c) refl
   where
@@ -404,11 +516,17 @@ row-means options bytes p a line row gs last built plain is follows = go (goes_l
     kind-is : row.kind ≡ line_kind options c.rest
     kind-is = line-is options bytes (containers_of p) (still_of p) a line row is
 
-    stepped : (x : Bool) → goes_lazy options p c ≡ x → step options p (rest_from a line) ≡ cond x (longer (renewed c.change.stays p) (kept c.rest ∷ [])) (new_path options p c)
-    stepped x e = step-contained options p (rest_from a line) built plain ∙ ap (λ (t : Bool). cond t (longer (renewed c.change.stays p) (kept c.rest ∷ [])) (new_path options p c)) e
+    stepped : (x : Bool) → goes_lazy options p c ≡ x →
+        step options p (rest_from a line) ≡
+        cond x (longer (renewed c.change.stays p) (kept c.rest ∷ [])) (new_path options p c)
+    stepped x e =
+        step-contained options p (rest_from a line) built plain
+        ∙ ap (λ (t : Bool). cond t (longer (renewed c.change.stays p) (kept c.rest ∷ [])) (new_path options p c)) e
 
     same : is_lazy (still_of p) row.change.opens row.kind ≡ goes_lazy options p c
-    same = ap (λ (x : Change). is_lazy (still_of p) x.opens row.kind) is.change ∙ ap (is_lazy (still_of p) c.change.opens) kind-is
+    same =
+        ap (λ (x : Change). is_lazy (still_of p) x.opens row.kind) is.change
+        ∙ ap (is_lazy (still_of p) c.change.opens) kind-is
 
     shapes : AreShapes c.change.stays c.change.closes p
     shapes = contained-shapes options (containers_of p) (still_of p) (rest_from a line)
@@ -427,7 +545,8 @@ row-means options bytes p a line row gs last built plain is follows = go (goes_l
     single : row.kind ≢ TextRow → Follows options bytes (to row.kind) row gs last →
         Reads options bytes p row.change.closes (Single row ∷ gs) last
     single other further =
-        single-reads options bytes p c row gs last (to row.kind) (ending_of row.kind) (leaf_done bytes row.kind row) shapes is.change a is.front
+        single-reads options bytes p c row gs last (to row.kind) (ending_of row.kind)
+        (leaf_done bytes row.kind row) shapes is.change a is.front
         (λ s same.
         ap (λ (x : Reading). read bytes x (leaf_done bytes row.kind row)) same
         ∙ (row-facts options bytes (rest_line c.rest) row is.is other).reads (reading options o) refl refl
@@ -445,13 +564,15 @@ row-means options bytes p a line row gs last built plain is follows = go (goes_l
         let text = close_containers-between (length row.change.closes) (reading options p) refl refl in
         let same : begin ≡ reading options o = read-open options p c row shapes is.change in
         let reads = starts.reads in
-        let whole : List Event = around text_leaf.name row.first (last_row row starts.rows).end (read_lines bytes row starts.rows) in
+        let whole : List Event = around text_leaf.name row.first (last_row row starts.rows).end
+        (read_lines bytes row starts.rows) in
         let tail : List Event = tail_events n.LineEnding (last_row row starts.rows) in
         let new : Reading = reading options (longer o (reads.first ∷ reads.lines)) in
         ap (λ (l : List Group). read bytes start (groups_events bytes l)) starts.groups_are
         ∙ ap (read bytes start) (append_assoc (row.front ++ whole) tail (groups_events bytes starts.below))
         ∙ read-from bytes start new (row.front ++ whole) (tail ++ groups_events bytes starts.below)
-        (read-from bytes start begin row.front whole (read-fronts bytes row.change.opens a row.first row.front start is.front text.0)
+        (read-from bytes start begin row.front whole
+        (read-fronts bytes row.change.opens a row.first row.front start is.front text.0)
         ∙ ap (λ (x : Reading). read bytes x whole) same
         ∙ read-lines bytes row starts.rows (reads.first ∷ reads.lines) (reading options o) reads.are refl
         ∙ sym (reading-longer options o reads.first reads.lines built none))
@@ -463,52 +584,73 @@ row-means options bytes p a line row gs last built plain is follows = go (goes_l
     by (LeafRow l) e further = single (λ h. let bad : LeafRow l ≡ TextRow = sym e ∙ h in cc) further
     by TextRow e further =
         let on : to row.kind ≡ longer o (kept is.is.rest ∷ []) =
-        ap to e ∙ sym (longer-with o (kept c.rest ∷ []) none) ∙ ap (λ (r : Rest). longer o (kept r ∷ [])) (sym is.rest_is) in
-        text-reads (starts-lines options bytes (rest_line c.rest) o row gs last is.is e (subst (λ (x : Path). Follows options bytes x row gs last) on further))
+        ap to e ∙ sym (longer-with o (kept c.rest ∷ []) none)
+        ∙ ap (λ (r : Rest). longer o (kept r ∷ [])) (sym is.rest_is) in
+        text-reads
+        (starts-lines options bytes (rest_line c.rest) o row gs last is.is e
+        (subst (λ (x : Path). Follows options bytes x row gs last) on further))
 
-    go : (x : Bool) → goes_lazy options p c ≡ x → Means options bytes p (is_lazy (still_of p) row.change.opens row.kind) row (onto_groups row row.kind gs) last
+    go : (x : Bool) → goes_lazy options p c ≡ x →
+        Means options bytes p (is_lazy (still_of p) row.change.opens row.kind) row (onto_groups row row.kind gs) last
     go true e =
-        let text : is_text row.kind ≡ true = ap is_text kind-is ∙ lazy-text (still_of p) c.change.opens (line_kind options c.rest) e in
+        let text : is_text row.kind ≡ true = ap is_text kind-is
+        ∙ lazy-text (still_of p) c.change.opens (line_kind options c.rest) e in
         let is_row : row.kind ≡ TextRow = text-kind row.kind text in
         subst (λ (x : Bool). Means options bytes p x row (onto_groups row row.kind gs) last) (sym (same ∙ e))
         (subst (λ (k : RowKind). StartsLines options bytes p row (onto_groups row k gs) last) (sym is_row)
-        (starts-alike options bytes (renewed c.change.stays p) p row (onto_groups row TextRow gs) last (λ lines. reading-renewed options c.change.stays c.change.closes [] p lines shapes)
+        (starts-alike options bytes (renewed c.change.stays p) p row (onto_groups row TextRow gs) last
+        (λ lines. reading-renewed options c.change.stays c.change.closes [] p lines shapes)
         (starts-lines options bytes (rest_line c.rest) (renewed c.change.stays p) row gs last is.is is_row
-        (subst (λ (x : Path). Follows options bytes x row gs last) (stepped true e ∙ ap (λ (r : Rest). longer (renewed c.change.stays p) (kept r ∷ [])) (sym is.rest_is)) follows))))
+        (subst (λ (x : Path). Follows options bytes x row gs last)
+        (stepped true e ∙ ap (λ (r : Rest). longer (renewed c.change.stays p) (kept r ∷ [])) (sym is.rest_is)) follows))))
     go false e =
         subst (λ (x : Bool). Means options bytes p x row (onto_groups row row.kind gs) last) (sym (same ∙ e))
-        (by row.kind refl (subst (λ (x : Path). Follows options bytes x row gs last) (stepped false e ∙ new-path options p c row.kind built (sym kind-is)) follows))
+        (by row.kind refl
+        (subst (λ (x : Path). Follows options bytes x row gs last)
+        (stepped false e ∙ new-path options p c row.kind built (sym kind-is)) follows))
 
 -- where nothing follows
-row-ends : (options : ParseOptions) (bytes : List ℕ) (p : Path) (a : Point) (line : List ℕ) (row : Row) → IsBuilt options → IsPlain p → f.IsLine options bytes (containers_of p) (still_of p) a line row →
-    Means options bytes p (is_lazy (still_of p) row.change.opens row.kind) row (groups (row ∷ [])) (close_containers (length row.leaves) (reading options (step options p (rest_from a line))))
+row-ends : (options : ParseOptions) (bytes : List ℕ) (p : Path) (a : Point) (line : List ℕ) (row : Row) →
+    IsBuilt options → IsPlain p → f.IsLine options bytes (containers_of p) (still_of p) a line row →
+    Means options bytes p (is_lazy (still_of p) row.change.opens row.kind) row (groups (row ∷ []))
+    (close_containers (length row.leaves) (reading options (step options p (rest_from a line))))
 row-ends options bytes p a line row built plain is =
-    row-means options bytes p a line row [] (close_containers (length row.leaves) (reading options (step options p (rest_from a line)))) built plain is (inl (record { apart = λ text. refl; reads = refl }))
+    row-means options bytes p a line row []
+    (close_containers (length row.leaves) (reading options (step options p (rest_from a line)))) built plain is
+    (inl (record { apart = λ text. refl; reads = refl }))
 
 -- Lines, one after another.
 
 -- behind an ending each begins at the first column
 pub rests-behind : (p : Point) (lines : List (List ℕ)) → p.column ≡ 1 → rests_from p lines ≡ map (rest_at 0) lines
 rests-behind p [] e = refl
-rests-behind p (line ∷ lines) e = let first : p.column - 1 ≡ 0 = omega arith in ap (λ (k : ℕ). rest_at k line ∷ map (rest_at 0) lines) first
+rests-behind p (line ∷ lines) e =
+    let first : p.column - 1 ≡ 0 = omega arith in ap (λ (k : ℕ). rest_at k line ∷ map (rest_at 0) lines) first
 
 abbrev First : ParseOptions → List ℕ → List Container → HeldLeaf → Point → List (List ℕ) → List Row → Type 0
 First options bytes cs still p (line ∷ lines) (row ∷ rows) = f.IsLine options bytes cs still p line row
 First options bytes cs still p _ _ = ⊥
 
-first-line : (options : ParseOptions) (bytes : List ℕ) (cs : List Container) (still : HeldLeaf) (p : Point) (lines : List (List ℕ)) (rows : List Row) → f.AreRows options bytes cs still p lines rows → First options bytes cs still p lines rows
+first-line : (options : ParseOptions) (bytes : List ℕ) (cs : List Container) (still : HeldLeaf) (p : Point)
+    (lines : List (List ℕ)) (rows : List Row) →
+    f.AreRows options bytes cs still p lines rows → First options bytes cs still p lines rows
 first-line options bytes cs still p (line ∷ []) (row ∷ []) are = are.0
 first-line options bytes cs still p (line ∷ next ∷ lines) (row ∷ below ∷ rows) are = are.0
 first-line options bytes cs still p lines rows are = absurd are
 
 -- where a line of text follows that goes on no text, a new one begins
-not-joined : (row below : Row) (gs : List Group) → is_lazy held_leaf.Text below.change.opens below.kind ≡ false → onto_groups row TextRow (onto_groups below below.kind gs) ≡ Lines row [] ∷ onto_groups below below.kind gs
+not-joined : (row below : Row) (gs : List Group) → is_lazy held_leaf.Text below.change.opens below.kind ≡ false →
+    onto_groups row TextRow (onto_groups below below.kind gs) ≡ Lines row [] ∷ onto_groups below below.kind gs
 not-joined row below gs lazy = go below.kind lazy
   where
-    by : (rows : List Row) (more : List Group) → is_none below.change.opens ≡ false → onto_lines row below rows more ≡ Lines row [] ∷ Lines below rows ∷ more
+    by : (rows : List Row) (more : List Group) → is_none below.change.opens ≡ false →
+        onto_lines row below rows more ≡ Lines row [] ∷ Lines below rows ∷ more
     by rows more e = go (is_none row.leaves)
       where
-        go : (x : Bool) → cond (x && is_none below.change.opens) (Lines row (below ∷ rows) ∷ more) (Lines row [] ∷ Lines below rows ∷ more) ≡ Lines row [] ∷ Lines below rows ∷ more
+        go : (x : Bool) →
+            cond (x && is_none below.change.opens) (Lines row (below ∷ rows) ∷ more)
+            (Lines row [] ∷ Lines below rows ∷ more) ≡
+            Lines row [] ∷ Lines below rows ∷ more
         go true = ap (λ (t : Bool). cond t (Lines row (below ∷ rows) ∷ more) (Lines row [] ∷ Lines below rows ∷ more)) e
         go false = refl
 
@@ -516,32 +658,45 @@ not-joined row below gs lazy = go below.kind lazy
     opens true e = cc
     opens false e = refl
 
-    onto : (gs : List Group) → is_none below.change.opens ≡ false → onto_groups row TextRow (onto_groups below TextRow gs) ≡ Lines row [] ∷ onto_groups below TextRow gs
+    onto : (gs : List Group) → is_none below.change.opens ≡ false →
+        onto_groups row TextRow (onto_groups below TextRow gs) ≡ Lines row [] ∷ onto_groups below TextRow gs
     onto [] e = by [] [] e
     onto (Single next ∷ more) e = by [] (Single next ∷ more) e
     onto (Lines next rows ∷ more) e = join (goes_on below next)
       where
-        join : (x : Bool) → onto_groups row TextRow (cond x (Lines below (next ∷ rows) ∷ more) (Lines below [] ∷ Lines next rows ∷ more)) ≡ Lines row [] ∷ cond x (Lines below (next ∷ rows) ∷ more) (Lines below [] ∷ Lines next rows ∷ more)
+        join : (x : Bool) →
+            onto_groups row TextRow
+            (cond x (Lines below (next ∷ rows) ∷ more) (Lines below [] ∷ Lines next rows ∷ more)) ≡
+            Lines row [] ∷ cond x (Lines below (next ∷ rows) ∷ more) (Lines below [] ∷ Lines next rows ∷ more)
         join true = by (next ∷ rows) more e
         join false = by [] (Lines next rows ∷ more) e
 
-    go : (kind : RowKind) → is_lazy held_leaf.Text below.change.opens kind ≡ false → onto_groups row TextRow (onto_groups below kind gs) ≡ Lines row [] ∷ onto_groups below kind gs
+    go : (kind : RowKind) → is_lazy held_leaf.Text below.change.opens kind ≡ false →
+        onto_groups row TextRow (onto_groups below kind gs) ≡ Lines row [] ∷ onto_groups below kind gs
     go BlankRow e = refl
     go (LeafRow l) e = refl
     go TextRow e = onto gs (opens (is_none below.change.opens) e)
 
 -- what follows a line, by what is read of the lines below
-follows-below : (options : ParseOptions) (bytes : List ℕ) (p : Path) (row below : Row) (gs : List Group) (q : Point) (line : List ℕ) (last : Reading) → IsBuilt options → IsPlain p → still_of p ≡ leaf_behind row.kind →
-    row.leaves ≡ below.change.closes → f.IsEnding bytes row.end q → f.IsLine options bytes (containers_of p) (still_of p) q line below →
-    (x : Bool) → is_lazy (still_of p) below.change.opens below.kind ≡ x → Means options bytes p x below (onto_groups below below.kind gs) last → Follows options bytes p row (onto_groups below below.kind gs) last
+follows-below : (options : ParseOptions) (bytes : List ℕ) (p : Path) (row below : Row) (gs : List Group) (q : Point)
+    (line : List ℕ) (last : Reading) →
+    IsBuilt options → IsPlain p → still_of p ≡ leaf_behind row.kind →
+    row.leaves ≡ below.change.closes → f.IsEnding bytes row.end q →
+    f.IsLine options bytes (containers_of p) (still_of p) q line below →
+    (x : Bool) → is_lazy (still_of p) below.change.opens below.kind ≡ x →
+    Means options bytes p x below (onto_groups below below.kind gs) last →
+    Follows options bytes p row (onto_groups below below.kind gs) last
 follows-below options bytes p row below gs q line last built plain still leaves ending is true lazy means =
     let c : Contained = contained_at options p (rest_from q line) in
     let kind_is = line-is options bytes (containers_of p) (still_of p) q line below is in
     let goes : goes_lazy options p c ≡ true =
-    ap (is_lazy (still_of p) c.change.opens) (sym kind_is) ∙ ap (λ (x : Change). is_lazy (still_of p) x.opens below.kind) (sym is.change) ∙ lazy in
+    ap (is_lazy (still_of p) c.change.opens) (sym kind_is)
+    ∙ ap (λ (x : Change). is_lazy (still_of p) x.opens below.kind) (sym is.change) ∙ lazy in
     let none : below.change.opens ≡ [] = lazy-opens (still_of p) below.change.opens below.kind lazy in
     inr (record {
-      text = lazy-row row.kind below.change.opens below.kind (ap (λ (x : HeldLeaf). is_lazy x below.change.opens below.kind) (sym still) ∙ lazy);
+      text =
+          lazy-row row.kind below.change.opens below.kind
+          (ap (λ (x : HeldLeaf). is_lazy x below.change.opens below.kind) (sym still) ∙ lazy);
       next = below;
       starts = means;
       leaves = leaves ∙ ap (λ (x : Change). x.closes) is.change ∙ contained-lazy options p (rest_from q line) goes;
@@ -551,42 +706,71 @@ follows-below options bytes p row below gs q line last built plain still leaves 
       fronts = subst (λ (cs : List Container). LinePrefix bytes cs q below.first below.front) none is.front;
     })
   where
-    lazy-row : (k : RowKind) (opens : List Container) (kind : RowKind) → is_lazy (leaf_behind k) opens kind ≡ true → is_text k ≡ true
+    lazy-row : (k : RowKind) (opens : List Container) (kind : RowKind) → is_lazy (leaf_behind k) opens kind ≡ true →
+        is_text k ≡ true
     lazy-row BlankRow opens kind e = cc
     lazy-row (LeafRow l) opens kind e = cc
     lazy-row TextRow opens kind e = refl
-follows-below options bytes p row below gs q line last built plain still leaves ending is false lazy means = inl (record {
-  apart = λ text. not-joined row below gs (ap (λ (x : HeldLeaf). is_lazy x below.change.opens below.kind) (sym (still ∙ ap leaf_behind text)) ∙ lazy);
-  reads = ap (λ (cs : List Container). read bytes (close_containers (length cs) (reading options p)) (groups_events bytes (onto_groups below below.kind gs))) leaves ∙ means;
-})
+follows-below options bytes p row below gs q line last built plain still leaves ending is false lazy means =
+    inl (record {
+      apart =
+          λ text. not-joined row below gs
+          (ap (λ (x : HeldLeaf). is_lazy x below.change.opens below.kind) (sym (still ∙ ap leaf_behind text)) ∙ lazy);
+      reads =
+          ap
+          (λ (cs : List Container).
+          read bytes (close_containers (length cs) (reading options p))
+          (groups_events bytes (onto_groups below below.kind gs))) leaves
+          ∙ means;
+    })
 
 -- what the first line is read as
 abbrev RowsMean : ParseOptions → List ℕ → Path → Reading → List Row → Type 0
 RowsMean options bytes p last [] = ⊥
-RowsMean options bytes p last (row ∷ rows) = Means options bytes p (is_lazy (still_of p) row.change.opens row.kind) row (groups (row ∷ rows)) last
+RowsMean options bytes p last (row ∷ rows) =
+    Means options bytes p (is_lazy (still_of p) row.change.opens row.kind) row (groups (row ∷ rows)) last
 
 -- the lines behind the first stand behind what it does
-pub rows-below : (options : ParseOptions) (bytes : List ℕ) (a : Path) (p : Point) (line next : List ℕ) (lines : List (List ℕ)) (row below : Row) (rows : List Row) → IsBuilt options → IsPlain a →
+pub rows-below : (options : ParseOptions) (bytes : List ℕ) (a : Path) (p : Point) (line next : List ℕ)
+    (lines : List (List ℕ)) (row below : Row) (rows : List Row) →
+    IsBuilt options → IsPlain a →
     (are : f.AreRows options bytes (containers_of a) (still_of a) p (line ∷ next ∷ lines) (row ∷ below ∷ rows)) →
-    let b : Path = step options a (rest_from p line) in f.AreRows options bytes (containers_of b) (still_of b) are.2 (next ∷ lines) (below ∷ rows)
+    let b : Path = step options a (rest_from p line) in
+    f.AreRows options bytes (containers_of b) (still_of b) are.2 (next ∷ lines) (below ∷ rows)
 rows-below options bytes a p line next lines row below rows built plain are =
     let r : Rest = rest_from p line in
     let b : Path = step options a r in
-    let containers : containers_of b ≡ f.behind_line options (containers_of a) (still_of a) p line = containers-step options a r built plain in
+    let containers : containers_of b ≡
+    f.behind_line options (containers_of a) (still_of a) p line = containers-step options a r built plain in
     let still : still_of b ≡ leaf_behind row.kind = still-line options bytes a p line row built plain are.0 in
-    subst (λ (cs : List Container). f.AreRows options bytes cs (still_of b) are.2 (next ∷ lines) (below ∷ rows)) (sym containers)
-    (subst (λ (g : HeldLeaf). f.AreRows options bytes (f.behind_line options (containers_of a) (still_of a) p line) g are.2 (next ∷ lines) (below ∷ rows)) (sym still) are.5)
+    subst (λ (cs : List Container). f.AreRows options bytes cs (still_of b) are.2 (next ∷ lines) (below ∷ rows))
+    (sym containers)
+    (subst
+    (λ (g : HeldLeaf).
+    f.AreRows options bytes (f.behind_line options (containers_of a) (still_of a) p line) g are.2 (next ∷ lines)
+    (below ∷ rows))
+    (sym still) are.5)
 
 -- what so many lines, and one more, come to, but for the containers that end behind them
 abbrev Came : ParseOptions → List ℕ → Path → ℕ → List Rest → List Row → Type 0
-Came options bytes a n rests rows = RowsMean options bytes a (close_containers (length (last_leaves (take (suc n) rows))) (reading options (steps options a (take (suc n) rests)))) (take (suc n) rows)
+Came options bytes a n rests rows =
+    RowsMean options bytes a
+    (close_containers (length (last_leaves (take (suc n) rows)))
+    (reading options (steps options a (take (suc n) rests))))
+    (take (suc n) rows)
 
 -- The groups of the lines of a text, up to any of them, are read as what these lines do.
-rows-mean : (options : ParseOptions) (bytes : List ℕ) (a : Path) (p : Point) (n : ℕ) (lines : List (List ℕ)) (rows : List Row) → IsBuilt options → IsPlain a →
-    f.AreRows options bytes (containers_of a) (still_of a) p lines rows → Came options bytes a n (rests_from p lines) rows
-rows-mean options bytes a p zero (line ∷ []) (row ∷ []) built plain are = row-ends options bytes a p line row built plain are.0
-rows-mean options bytes a p (suc n) (line ∷ []) (row ∷ []) built plain are = row-ends options bytes a p line row built plain are.0
-rows-mean options bytes a p zero (line ∷ next ∷ lines) (row ∷ below ∷ rows) built plain are = row-ends options bytes a p line row built plain are.0
+rows-mean : (options : ParseOptions) (bytes : List ℕ) (a : Path) (p : Point) (n : ℕ) (lines : List (List ℕ))
+    (rows : List Row) →
+    IsBuilt options → IsPlain a →
+    f.AreRows options bytes (containers_of a) (still_of a) p lines rows →
+    Came options bytes a n (rests_from p lines) rows
+rows-mean options bytes a p zero (line ∷ []) (row ∷ []) built plain are =
+    row-ends options bytes a p line row built plain are.0
+rows-mean options bytes a p (suc n) (line ∷ []) (row ∷ []) built plain are =
+    row-ends options bytes a p line row built plain are.0
+rows-mean options bytes a p zero (line ∷ next ∷ lines) (row ∷ below ∷ rows) built plain are =
+    row-ends options bytes a p line row built plain are.0
 rows-mean options bytes a p (suc n) (line ∷ next ∷ lines) (row ∷ below ∷ rows) built plain are =
     let r : Rest = rest_from p line in
     let b : Path = step options a r in
@@ -594,30 +778,46 @@ rows-mean options bytes a p (suc n) (line ∷ next ∷ lines) (row ∷ below ∷
     let still : still_of b ≡ leaf_behind row.kind = still-line options bytes a p line row built plain are.0 in
     let plain_b : IsPlain b = plain-step options a r built plain in
     let are_b = rows-below options bytes a p line next lines row below rows built plain are in
-    let further : Came options bytes b n (rests_from q (next ∷ lines)) (below ∷ rows) = rows-mean options bytes b q n (next ∷ lines) (below ∷ rows) built plain_b are_b in
+    let further : Came options bytes b n (rests_from q (next ∷ lines)) (below ∷ rows) = rows-mean options bytes b q n
+    (next ∷ lines) (below ∷ rows) built plain_b are_b in
     let some : List Row = take n rows in
-    let last : Reading = close_containers (length (last_leaves (below ∷ some))) (reading options (steps options b (take (suc n) (map (rest_at 0) (next ∷ lines))))) in
+    let last : Reading = close_containers (length (last_leaves (below ∷ some)))
+    (reading options (steps options b (take (suc n) (map (rest_at 0) (next ∷ lines))))) in
     row-means options bytes a p line row (groups (below ∷ some)) last built plain are.0
-    (follows-below options bytes b row below (groups some) q next last built plain_b still are.1 are.4 (first-line options bytes (containers_of b) (still_of b) q (next ∷ lines) (below ∷ rows) are_b)
+    (follows-below options bytes b row below (groups some) q next last built plain_b still are.1 are.4
+    (first-line options bytes (containers_of b) (still_of b) q (next ∷ lines) (below ∷ rows) are_b)
     (is_lazy (still_of b) below.change.opens below.kind) refl
-    (subst (λ (rests : List Rest). Came options bytes b n rests (below ∷ rows)) (rests-behind q (next ∷ lines) are.4.column) further))
+    (subst (λ (rests : List Rest). Came options bytes b n rests (below ∷ rows))
+    (rests-behind q (next ∷ lines) are.4.column) further))
 rows-mean options bytes a p n lines rows built plain are = absurd are
 
 -- behind the last line of a text all containers end
-all-leave : (options : ParseOptions) (bytes : List ℕ) (a : Path) (p : Point) (lines : List (List ℕ)) (rows : List Row) → IsBuilt options → IsPlain a →
-    f.AreRows options bytes (containers_of a) (still_of a) p lines rows → last_leaves rows ≡ containers_of (steps options a (rests_from p lines))
-all-leave options bytes a p (line ∷ []) (row ∷ []) built plain are = are.1 ∙ sym (containers-step options a (rest_from p line) built plain)
+all-leave : (options : ParseOptions) (bytes : List ℕ) (a : Path) (p : Point) (lines : List (List ℕ)) (rows : List Row) →
+    IsBuilt options → IsPlain a →
+    f.AreRows options bytes (containers_of a) (still_of a) p lines rows →
+    last_leaves rows ≡ containers_of (steps options a (rests_from p lines))
+all-leave options bytes a p (line ∷ []) (row ∷ []) built plain are =
+    are.1 ∙ sym (containers-step options a (rest_from p line) built plain)
 all-leave options bytes a p (line ∷ next ∷ lines) (row ∷ below ∷ rows) built plain are =
     let b : Path = step options a (rest_from p line) in
-    all-leave options bytes b are.2 (next ∷ lines) (below ∷ rows) built (plain-step options a (rest_from p line) built plain) (rows-below options bytes a p line next lines row below rows built plain are)
+    all-leave options bytes b are.2 (next ∷ lines) (below ∷ rows) built
+    (plain-step options a (rest_from p line) built plain)
+    (rows-below options bytes a p line next lines row below rows built plain are)
     ∙ ap (λ (rests : List Rest). containers_of (steps options b rests)) (rests-behind are.2 (next ∷ lines) are.4.column)
 all-leave options bytes a p lines rows built plain are = absurd are
 
--- The events of a text, up to any of its lines, are read as what these lines come to, but for the containers that end behind them.
-pub lines-read : (options : ParseOptions) (bytes : List ℕ) (p : Point) (n : ℕ) (lines : List (List ℕ)) (rows : List Row) → IsBuilt options → f.AreRows options bytes [] held_leaf.None p lines rows →
-    read bytes unread (groups_events bytes (groups (take n rows))) ≡ close_containers (length (last_leaves (take n rows))) (reading options (steps options (At (spot_of End)) (take n (rests_from p lines))))
+-- The events of a text, up to any of its lines, are read as what these lines come to, but for the containers that end
+-- behind them.
+pub lines-read : (options : ParseOptions) (bytes : List ℕ) (p : Point) (n : ℕ) (lines : List (List ℕ))
+    (rows : List Row) →
+    IsBuilt options → f.AreRows options bytes [] held_leaf.None p lines rows →
+    read bytes unread (groups_events bytes (groups (take n rows))) ≡
+    close_containers (length (last_leaves (take n rows)))
+    (reading options (steps options (At (spot_of End)) (take n (rests_from p lines))))
 lines-read options bytes p zero lines rows built are = refl
-lines-read options bytes p (suc n) lines rows built are = go lines rows (first-line options bytes [] held_leaf.None p lines rows are) (rows-mean options bytes (At (spot_of End)) p n lines rows built tt are)
+lines-read options bytes p (suc n) lines rows built are =
+    go lines rows (first-line options bytes [] held_leaf.None p lines rows are)
+    (rows-mean options bytes (At (spot_of End)) p n lines rows built tt are)
   where
     -- no container ends in front of the first line
     none : (stays closes : List Container) → map shape_of (stays ++ closes) ≡ [] → closes ≡ []
@@ -625,30 +825,47 @@ lines-read options bytes p (suc n) lines rows built are = go lines rows (first-l
     none [] (c ∷ closes) e = cc
     none (c ∷ stays) closes e = cc
 
-    go : (ls : List (List ℕ)) (rs : List Row) → First options bytes [] held_leaf.None p ls rs → Came options bytes (At (spot_of End)) n (rests_from p lines) rs →
-        read bytes unread (groups_events bytes (groups (take (suc n) rs))) ≡ close_containers (length (last_leaves (take (suc n) rs))) (reading options (steps options (At (spot_of End)) (take (suc n) (rests_from p lines))))
+    go : (ls : List (List ℕ)) (rs : List Row) → First options bytes [] held_leaf.None p ls rs →
+        Came options bytes (At (spot_of End)) n (rests_from p lines) rs →
+        read bytes unread (groups_events bytes (groups (take (suc n) rs))) ≡
+        close_containers (length (last_leaves (take (suc n) rs)))
+        (reading options (steps options (At (spot_of End)) (take (suc n) (rests_from p lines))))
     go (line ∷ ls) (row ∷ rs) is means =
         let c : Contained = contained_at options (At (spot_of End)) (rest_from p line) in
-        let first : row.change.closes ≡ [] = ap (λ (x : Change). x.closes) is.change ∙ none c.change.stays c.change.closes (contained-shapes options [] held_leaf.None (rest_from p line)) in
-        ap (λ (cs : List Container). read bytes (close_containers (length cs) unread) (groups_events bytes (groups (row ∷ take n rs)))) (sym first) ∙ means
+        let first : row.change.closes ≡ [] = ap (λ (x : Change). x.closes) is.change
+        ∙ none c.change.stays c.change.closes (contained-shapes options [] held_leaf.None (rest_from p line)) in
+        ap
+        (λ (cs : List Container).
+        read bytes (close_containers (length cs) unread) (groups_events bytes (groups (row ∷ take n rs))))
+        (sym first)
+        ∙ means
     go [] rs is means = absurd is
     go (line ∷ ls) [] is means = absurd is
 
 -- The events of a text are read as what its lines come to, with all of it closed.
-rows-final : (options : ParseOptions) (bytes : List ℕ) (p : Point) (lines : List (List ℕ)) (rows : List Row) → IsBuilt options → f.AreRows options bytes [] held_leaf.None p lines rows →
-    read bytes unread (groups_events bytes (groups rows)) ≡ final options (steps options (At (spot_of End)) (rests_from p lines))
+rows-final : (options : ParseOptions) (bytes : List ℕ) (p : Point) (lines : List (List ℕ)) (rows : List Row) →
+    IsBuilt options → f.AreRows options bytes [] held_leaf.None p lines rows →
+    read bytes unread (groups_events bytes (groups rows)) ≡
+    final options (steps options (At (spot_of End)) (rests_from p lines))
 rows-final options bytes p lines rows built are =
     let rests : List Rest = rests_from p lines in
     let start : Path = At (spot_of End) in
     let n : ℕ = length rows + length rests in
     ap (λ (rs : List Row). read bytes unread (groups_events bytes (groups rs))) (sym (take_all n rows (omega arith)))
     ∙ lines-read options bytes p n lines rows built are
-    ∙ ap₂ (λ (rs : List Row) (xs : List Rest). close_containers (length (last_leaves rs)) (reading options (steps options start xs))) (take_all n rows (omega arith)) (take_all n rests (omega arith))
-    ∙ ap (λ (cs : List Container). close_containers (length cs) (reading options (steps options start rests))) (all-leave options bytes start p lines rows built tt are)
+    ∙ ap₂
+    (λ (rs : List Row) (xs : List Rest).
+    close_containers (length (last_leaves rs)) (reading options (steps options start xs)))
+    (take_all n rows (omega arith)) (take_all n rests (omega arith))
+    ∙ ap (λ (cs : List Container). close_containers (length cs) (reading options (steps options start rests)))
+    (all-leave options bytes start p lines rows built tt are)
     ∙ close_containers-all options [] (steps options start rests)
 
 -- So they spell it.
-pub spelled-rows : (options : ParseOptions) (bytes : List ℕ) (p : Point) (lines : List (List ℕ)) (rows : List Row) → IsBuilt options → f.AreRows options bytes [] held_leaf.None p lines rows →
-    spelled (groups_events bytes (groups rows)) bytes ≡ closed options (steps options (At (spot_of End)) (rests_from p lines))
+pub spelled-rows : (options : ParseOptions) (bytes : List ℕ) (p : Point) (lines : List (List ℕ)) (rows : List Row) →
+    IsBuilt options → f.AreRows options bytes [] held_leaf.None p lines rows →
+    spelled (groups_events bytes (groups rows)) bytes ≡
+    closed options (steps options (At (spot_of End)) (rests_from p lines))
 unfolding spelled
-spelled-rows options bytes p lines rows built are = ap (λ (r : Reading). r.here) (rows-final options bytes p lines rows built are)
+spelled-rows options bytes p lines rows built are =
+    ap (λ (r : Reading). r.here) (rows-final options bytes p lines rows built are)

@@ -1,7 +1,9 @@
--- Whenever flow has fed a line of a text, the flags that it holds and what was read stand for what the lines so far come to.
+-- Whenever flow has fed a line of a text, the flags that it holds and what was read stand for what the lines so far
+-- come to.
 use Rattle.md_engine.specs.declared.tokenizer.held_leaf.HeldLeaf.{HeldLeaf}
 use Rattle.md_engine.specs.declared.tokenizer.held_leaf.HeldLeaf.TheVariants as held_leaf
-use Rattle.std.proofs.Common.{◌≡◌, ℕ, zero, suc, ◌^◌, ◌<◌, ◌≤◌, Bool, true, false, List, [], ◌∷◌, length, take, drop, refl, ap, sym, ◌∙◌, subst}
+use Rattle.std.proofs.Common.{◌≡◌, ℕ, zero, suc, ◌^◌, ◌<◌, ◌≤◌, Bool, true, false, List, [], ◌∷◌, length, take, drop}
+use Rattle.std.proofs.Common.{refl, ap, sym, ◌∙◌, subst}
 use Rattle.md_engine.specs.declared.configuration.ParseOptions.{ParseOptions}
 use Rattle.md_engine.specs.declared.event.Point.{Point}
 use Rattle.md_engine.specs.declared.state.State.{State}
@@ -17,7 +19,8 @@ use Rattle.md_definition.specs.Step.{spot_of, step, steps}
 use Rattle.md_definition.specs.Texts.{split_lines}
 use Rattle.md_definition.specs.Tree.{End}
 use Rattle.markdown_blocks.specs.Change.{open_behind}
-use Rattle.markdown_blocks.specs.Fed.{FlowRan, StandsBehind, fed, flow_begins, last_leaves, close_containers, line_begins, rests_from}
+use Rattle.markdown_blocks.specs.Fed.{FlowRan, StandsBehind, fed, flow_begins, last_leaves, close_containers}
+use Rattle.markdown_blocks.specs.Fed.{line_begins, rests_from}
 use Rattle.markdown_blocks.specs.Fronted.{rest_from}
 use Rattle.markdown_blocks.specs.Parsed.{IsBuilt}
 use Rattle.markdown_blocks.specs.Rows.{Row, groups, groups_events}
@@ -36,56 +39,89 @@ use Rattle.markdown_blocks.proofs.SpelledRows.{still-line, lines-read, rests-beh
 abbrev IsLeft : List Container → HeldLeaf → Path → List Row → Type 0
 IsLeft cs still p rows = (containers_of p ≡ open_after cs rows) × (still_of p ≡ leaf_after still rows)
 
-step-left : (options : ParseOptions) (bytes : List ℕ) (a : Path) (p : Point) (line : List ℕ) (row : Row) → IsBuilt options → IsPlain a → f.IsLine options bytes (containers_of a) (still_of a) p line row →
+step-left : (options : ParseOptions) (bytes : List ℕ) (a : Path) (p : Point) (line : List ℕ) (row : Row) →
+    IsBuilt options → IsPlain a → f.IsLine options bytes (containers_of a) (still_of a) p line row →
     IsLeft (containers_of a) (still_of a) (step options a (rest_from p line)) (row ∷ [])
 step-left options bytes a p line row built plain is =
-    let r : Rest = rest_from p line in
-    (containers-step options a r built plain ∙ ap open_behind (sym is.change), still-line options bytes a p line row built plain is)
+    let r : Rest = rest_from p line in (
+      containers-step options a r built plain ∙ ap open_behind (sym is.change),
+      still-line options bytes a p line row built plain is,
+    )
 
-steps-left : (options : ParseOptions) (bytes : List ℕ) (a : Path) (p : Point) (n : ℕ) (lines : List (List ℕ)) (rows : List Row) → IsBuilt options → IsPlain a → f.AreRows options bytes (containers_of a) (still_of a) p lines rows →
+steps-left : (options : ParseOptions) (bytes : List ℕ) (a : Path) (p : Point) (n : ℕ) (lines : List (List ℕ))
+    (rows : List Row) →
+    IsBuilt options → IsPlain a → f.AreRows options bytes (containers_of a) (still_of a) p lines rows →
     IsLeft (containers_of a) (still_of a) (steps options a (take n (rests_from p lines))) (take n rows)
 steps-left options bytes a p zero lines rows built plain are = (refl, refl)
-steps-left options bytes a p (suc zero) (line ∷ []) (row ∷ []) built plain are = step-left options bytes a p line row built plain are.0
-steps-left options bytes a p (suc (suc n)) (line ∷ []) (row ∷ []) built plain are = step-left options bytes a p line row built plain are.0
+steps-left options bytes a p (suc zero) (line ∷ []) (row ∷ []) built plain are =
+    step-left options bytes a p line row built plain are.0
+steps-left options bytes a p (suc (suc n)) (line ∷ []) (row ∷ []) built plain are =
+    step-left options bytes a p line row built plain are.0
 steps-left options bytes a p (suc n) (line ∷ next ∷ lines) (row ∷ below ∷ rows) built plain are =
     let r : Rest = rest_from p line in
     let b : Path = step options a r in
     let q : Point = are.2 in
     let first = step-left options bytes a p line row built plain are.0 in
-    let more = steps-left options bytes b q n (next ∷ lines) (below ∷ rows) built (plain-step options a r built plain) (rows-below options bytes a p line next lines row below rows built plain are) in
+    let more = steps-left options bytes b q n (next ∷ lines) (below ∷ rows) built (plain-step options a r built plain)
+    (rows-below options bytes a p line next lines row below rows built plain are) in
     let to : List Rest → Path = λ rests. steps options b (take n rests) in (
-      sym (ap (λ (rests : List Rest). containers_of (to rests)) (rests-behind q (next ∷ lines) are.4.column)) ∙ more.0 ∙ ap (λ (cs : List Container). open_after cs (take n (below ∷ rows))) first.0,
-      sym (ap (λ (rests : List Rest). still_of (to rests)) (rests-behind q (next ∷ lines) are.4.column)) ∙ more.1 ∙ ap (λ (x : HeldLeaf). leaf_after x (take n (below ∷ rows))) first.1,
+      sym (ap (λ (rests : List Rest). containers_of (to rests)) (rests-behind q (next ∷ lines) are.4.column)) ∙ more.0
+          ∙ ap (λ (cs : List Container). open_after cs (take n (below ∷ rows))) first.0,
+      sym (ap (λ (rests : List Rest). still_of (to rests)) (rests-behind q (next ∷ lines) are.4.column)) ∙ more.1
+          ∙ ap (λ (x : HeldLeaf). leaf_after x (take n (below ∷ rows))) first.1,
     )
 steps-left options bytes a p (suc n) lines rows built plain are = absurd are
 
--- What was read of so many lines of a text, but for the containers that end behind them, stands for what they come to: where the
--- flags hold the containers of this path, and whether text is open.
-pub flags-stand : (options : ParseOptions) (bytes : List ℕ) (p : Point) (n : ℕ) (lines : List (List ℕ)) (rows : List Row) (g : Flags) → IsBuilt options → f.AreRows options bytes [] held_leaf.None p lines rows →
+-- What was read of so many lines of a text, but for the containers that end behind them, stands for what they come to:
+-- where the flags hold the containers of this path, and whether text is open.
+pub flags-stand : (options : ParseOptions) (bytes : List ℕ) (p : Point) (n : ℕ) (lines : List (List ℕ))
+    (rows : List Row) (g : Flags) →
+    IsBuilt options → f.AreRows options bytes [] held_leaf.None p lines rows →
     let path : Path = steps options (At (spot_of End)) (take n (rests_from p lines)) in
     AreOpen g.containers (containers_of path) → g.leaf ≡ still_of path →
-    (r : Reading) × StandsFor options g r path × (read bytes unread (groups_events bytes (groups (take n rows))) ≡ close_containers (length (last_leaves (take n rows))) r)
+    (r : Reading) × StandsFor options g r path ×
+    (read bytes unread (groups_events bytes (groups (take n rows))) ≡
+    close_containers (length (last_leaves (take n rows))) r)
 flags-stand options bytes p n lines rows g built are containers still =
-    let path : Path = steps options (At (spot_of End)) (take n (rests_from p lines)) in
-    (reading options path, record { containers = containers; leaf = still; reading = refl }, lines-read options bytes p n lines rows built are)
+    let path : Path = steps options (At (spot_of End)) (take n (rests_from p lines)) in (
+      reading options path,
+      record { containers = containers; leaf = still; reading = refl },
+      lines-read options bytes p n lines rows built are,
+    )
 
 -- Whenever a line of a text has been fed.
 
-pub stands-behind : (bytes : List ℕ) (options : ParseOptions) (p : Point) (n : ℕ) (w : World) → IsBuilt options → length bytes < 2 ^ 61 → p.index ≤ length bytes → p.vs ≡ 0 → 1 ≤ p.column → LineFed bytes options p n w → StandsBehind bytes options p n w
+pub stands-behind : (bytes : List ℕ) (options : ParseOptions) (p : Point) (n : ℕ) (w : World) → IsBuilt options →
+    length bytes < 2 ^ 61 → p.index ≤ length bytes → p.vs ≡ 0 → 1 ≤ p.column → LineFed bytes options p n w →
+    StandsBehind bytes options p n w
 stands-behind bytes options p n w built small index whole column is =
     let lines : List (List ℕ) = split_lines (drop p.index bytes) in
     let rows : List Row = text_rows options bytes p in
-    let are : f.AreRows options bytes [] held_leaf.None p lines rows = fresh-rows options bytes p built small index whole column in
+    let are : f.AreRows options bytes [] held_leaf.None p lines rows = fresh-rows options bytes p built small index
+    whole column in
     let left = steps-left options bytes (At (spot_of End)) p n lines rows built tt are in
-    let all = flags-stand options bytes p n lines rows w.flags built are (subst (AreOpen w.flags.containers) (sym left.0) is.containers) (is.leaf ∙ sym left.1) in
-    record { frames = is.frames; further = is.further; point = is.point; events = is.events; reading = all.0; reads = all.2; stands = all.1 }
+    let all = flags-stand options bytes p n lines rows w.flags built are
+    (subst (AreOpen w.flags.containers) (sym left.0) is.containers) (is.leaf ∙ sym left.1) in
+    record {
+      frames = is.frames;
+      further = is.further;
+      point = is.point;
+      events = is.events;
+      reading = all.0;
+      reads = all.2;
+      stands = all.1;
+    }
 
 -- where all of it was read
-pub flow-ran : (bytes : List ℕ) (options : ParseOptions) (p : Point) (end : State) (at : World) → length bytes < 2 ^ 61 →
-    Runs (FlowStep same_name) true line_begins (flow_begins bytes options p) end at → end ≡ Ok → at.frames ≡ [] → text_feed (text_setting bytes options p) at.point ≡ [] → FlowRan bytes options p end at
+pub flow-ran : (bytes : List ℕ) (options : ParseOptions) (p : Point) (end : State) (at : World) →
+    length bytes < 2 ^ 61 →
+    Runs (FlowStep same_name) true line_begins (flow_begins bytes options p) end at → end ≡ Ok → at.frames ≡ [] →
+    text_feed (text_setting bytes options p) at.point ≡ [] → FlowRan bytes options p end at
 flow-ran bytes options p end at small run ok none done = record {
   run = run;
   lines = lines-fed same_name bytes options p small end at run ok none done;
-  stands = λ built index whole column t v t' v' before call feeds. stands-behind bytes options p (suc (fed (FlowStep same_name) true line_begins (flow_begins bytes options p) t v before)) v' built small index whole column
+  stands =
+      λ built index whole column t v t' v' before call feeds. stands-behind bytes options p
+      (suc (fed (FlowStep same_name) true line_begins (flow_begins bytes options p) t v before)) v' built small index whole column
       (line-fed same_name bytes options p small t v t' v' before call feeds);
 }

@@ -63,7 +63,8 @@ containers_do document.FlowEnd w c at = goods.good_flow_end flow_table_scheme w 
 containers_do state w c at = absurd at
 
 -- the states in front of a leaf,
-leaf_does : (state : FlowState) (o : Option LeafName) → tried_at state ≡ o → (w : World) → (leaf_owner o).ready (n.Flow state) (spot w) (after_all flow_table_scheme w.frames) →
+leaf_does : (state : FlowState) (o : Option LeafName) → tried_at state ≡ o → (w : World) →
+    (leaf_owner o).ready (n.Flow state) (spot w) (after_all flow_table_scheme w.frames) →
     Does flow_table_scheme (n.Flow state) w (leaf_transition o w)
 leaf_does state None e w at = absurd at
 leaf_does state (Some l) e w at =
@@ -82,7 +83,8 @@ leaves_do flow.BlankLineAfter w at = goods.good_blank_line_after flow_table_sche
 leaves_do flow.After w at = goods.good_after flow_table_scheme w flow_fits at
 leaves_do state w at = leaf_does state (tried_at state) refl w at
 
-pub flow_does : (is_name : ResolveName → ResolveName → Bool) (name : StateName) (w : World) → w.current ≡ looks w → stands flow_table_scheme w (Next name) → Does flow_table_scheme name w (flow_transition is_name name w)
+pub flow_does : (is_name : ResolveName → ResolveName → Bool) (name : StateName) (w : World) → w.current ≡ looks w →
+    stands flow_table_scheme w (Next name) → Does flow_table_scheme name w (flow_transition is_name name w)
 flow_does is_name (n.BlankLine state) w c at = blank_does flow_table_scheme state w blank_fits at
 flow_does is_name (n.Content state) w c at = chunk_does flow_table_scheme (is_name r.Content) state w chunk_fits c at
 flow_does is_name (n.Document state) w c at = containers_do state w c at

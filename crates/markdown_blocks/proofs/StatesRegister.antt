@@ -83,7 +83,8 @@ white-after w false h = h
 
 white-registers : (state : WhiteState) (w : World) → Registers w → Registers (spaces.white_transition state w).world
 white-registers white.Start w h = white-start w (sees_white w.current && nat_lt 0 w.scratch.whitespace.max) h
-white-registers white.Inside w h = white-inside w (sees_white w.current && nat_lt w.scratch.whitespace.size w.scratch.whitespace.max) h
+white-registers white.Inside w h =
+    white-inside w (sees_white w.current && nat_lt w.scratch.whitespace.size w.scratch.whitespace.max) h
 white-registers white.After w h = white-after w (nat_le w.scratch.whitespace.min w.scratch.whitespace.size) h
 
 blank-registers : (state : BlankState) (w : World) → Registers w → Registers (blank.blank_transition state w).world
@@ -91,11 +92,14 @@ blank-registers blank_line.Start w h = blank-start w (sees_white w.current) h
 blank-registers blank_line.After w h = blank-after w (ends_line w.current) h
 
 -- between the containers of a line, and in front of a leaf and behind it
-containers-register : (state : DocumentState) (w : World) → Registers w → Registers (document_own_transition state w).world
+containers-register : (state : DocumentState) (w : World) → Registers w →
+    Registers (document_own_transition state w).world
 containers-register document.ContainerExistingBefore w h = existing-before w (next_container w.flags) h
 containers-register document.ContainerNewBefore w h = trial _ _ _ w (may_open w.current) h
 containers-register document.ContainerNewAfter w h = closed-registers w w.flags.continued w.flags.line_end h
-containers-register document.FlowEnd w h = flow-end (closed w (stays w.flags) w.flags.line_end) w.current (closed-registers w (stays w.flags) w.flags.line_end h)
+containers-register document.FlowEnd w h =
+    flow-end (closed w (stays w.flags) w.flags.line_end) w.current
+    (closed-registers w (stays w.flags) w.flags.line_end h)
 containers-register _ w h = h
 
 leaf-registers : (o : Option LeafName) (w : World) → Registers w → Registers (flow.leaf_transition o w).world
@@ -110,8 +114,10 @@ leaves-register its.BlankLineAfter w h = h
 leaves-register its.After w h = h
 leaves-register state w h = leaf-registers (tried_at state) w h
 
-chunk-registers : (state : ContentState) (w : World) → Registers w → Registers (chunk_transition (same_name r.Content) state w).world
-chunk-registers content.ChunkStart w h = adds w.events (enter_link n.Content w.point content_link) w.resolvers refl refl h
+chunk-registers : (state : ContentState) (w : World) → Registers w →
+    Registers (chunk_transition (same_name r.Content) state w).world
+chunk-registers content.ChunkStart w h =
+    adds w.events (enter_link n.Content w.point content_link) w.resolvers refl refl h
 chunk-registers content.ChunkInside w h = chunk-inside w (ends_line w.current) h
 chunk-registers _ w h = h
 

@@ -1,5 +1,6 @@
 -- What stands in the places of parts, part by part.
-use Rattle.std.proofs.Common.{◌≡◌, ℕ, ◌+◌, zero, suc, Bool, true, false, cond, List, [], ◌∷◌, ◌++◌, length, take, drop, refl, ap, sym, ◌∙◌, subst, append_assoc, arith}
+use Rattle.std.proofs.Common.{◌≡◌, ℕ, ◌+◌, zero, suc, Bool, true, false, cond, List, [], ◌∷◌, ◌++◌, length, take, drop}
+use Rattle.std.proofs.Common.{refl, ap, sym, ◌∙◌, subst, append_assoc, arith}
 use Rattle.std.specs.Prelude.{Option, Some, None}
 use Rattle.std.specs.List.{prefix_len}
 use Rattle.std.specs.Option.{is_some}
@@ -40,41 +41,57 @@ pub no_links-unwanted : (wants : Content → Bool) (es : List Event) → NoLinks
 no_links-unwanted wants [] h = tt
 no_links-unwanted wants (e ∷ es) h = (no_link-unwanted wants e h.0, no_links-unwanted wants es h.1)
 
-passes-one : (wants : Content → Bool) (reads : Readings) (left : List Event) (chunks : ℕ) (e : Event) (es out : List Event) → wanted wants e ≡ None → Substituted wants reads left chunks (e ∷ es) out →
+passes-one : (wants : Content → Bool) (reads : Readings) (left : List Event) (chunks : ℕ) (e : Event)
+    (es out : List Event) →
+    wanted wants e ≡ None → Substituted wants reads left chunks (e ∷ es) out →
     (rest : List Event) × (is : out ≡ e ∷ rest) × Substituted wants reads left chunks es rest
 passes-one wants reads left chunks e [] out h s = ([], s, refl)
 passes-one wants reads left chunks e (f ∷ es) out h s = subst (SubstitutedBy wants reads left chunks e f es out) h s
 
 -- Events that the reader does not want stay as they are.
-pub passes : (wants : Content → Bool) (reads : Readings) (left : List Event) (chunks : ℕ) (xs ys out : List Event) → Unwanted wants xs → Substituted wants reads left chunks (xs ++ ys) out →
+pub passes : (wants : Content → Bool) (reads : Readings) (left : List Event) (chunks : ℕ) (xs ys out : List Event) →
+    Unwanted wants xs → Substituted wants reads left chunks (xs ++ ys) out →
     (rest : List Event) × (is : out ≡ xs ++ rest) × Substituted wants reads left chunks ys rest
 passes wants reads left chunks [] ys out h s = (out, refl, s)
 passes wants reads left chunks (e ∷ xs) ys out h s =
-    let one : (rest : List Event) × (is : out ≡ e ∷ rest) × Substituted wants reads left chunks (xs ++ ys) rest = passes-one wants reads left chunks e (xs ++ ys) out h.0 s in
-    let more : (rest : List Event) × (is : one.0 ≡ xs ++ rest) × Substituted wants reads left chunks ys rest = passes wants reads left chunks xs ys one.0 h.1 one.2 in
+    let one : (rest : List Event) × (is : out ≡ e ∷ rest) ×
+    Substituted wants reads left chunks (xs ++ ys) rest = passes-one wants reads left chunks e
+    (xs ++ ys) out h.0 s in
+    let more : (rest : List Event) × (is : one.0 ≡ xs ++ rest) ×
+    Substituted wants reads left chunks ys rest = passes wants reads left chunks xs ys one.0 h.1 one.2 in
     (more.0, one.1 ∙ ap (λ (l : List Event). e ∷ l) more.1, more.2)
 
 -- So where nothing is wanted nothing changes.
-pub keeps : (wants : Content → Bool) (reads : Readings) (left : List Event) (chunks : ℕ) (es : List Event) → Unwanted wants es → Substituted wants reads left chunks es es
+pub keeps : (wants : Content → Bool) (reads : Readings) (left : List Event) (chunks : ℕ) (es : List Event) →
+    Unwanted wants es → Substituted wants reads left chunks es es
 keeps wants reads left chunks [] h = refl
 keeps wants reads left chunks (e ∷ []) h = refl
-keeps wants reads left chunks (e ∷ f ∷ es) h = subst (SubstitutedBy wants reads left chunks e f es (e ∷ f ∷ es)) (sym h.0) (f ∷ es, refl, keeps wants reads left chunks (f ∷ es) h.1)
+keeps wants reads left chunks (e ∷ f ∷ es) h =
+    subst (SubstitutedBy wants reads left chunks e f es (e ∷ f ∷ es)) (sym h.0)
+    (f ∷ es, refl, keeps wants reads left chunks (f ∷ es) h.1)
 
--- What holds of the events that are left and of each that may be read holds of those that come out, if it held of those that went in.
-pub keeps-each : (P : Event → Type 0) (wants : Content → Bool) (reads : Readings) → ((content : Content) (chunks : List Chunk) (answer : List Event) → reads content chunks answer → Each P answer) →
-    (left : List Event) (chunks : ℕ) (es out : List Event) → Each P left → Each P es → Substituted wants reads left chunks es out → Each P out
+-- What holds of the events that are left and of each that may be read holds of those that come out, if it held of those
+-- that went in.
+pub keeps-each : (P : Event → Type 0) (wants : Content → Bool) (reads : Readings) →
+    ((content : Content) (chunks : List Chunk) (answer : List Event) → reads content chunks answer → Each P answer) →
+    (left : List Event) (chunks : ℕ) (es out : List Event) → Each P left → Each P es →
+    Substituted wants reads left chunks es out → Each P out
 keeps-each P wants reads read left chunks [] out h k s = subst (Each P) (sym s) tt
 keeps-each P wants reads read left chunks (e ∷ []) out h k s = subst (Each P) (sym s) k
 keeps-each P wants reads read left chunks (e ∷ f ∷ es) out h k s =
-    go (wanted wants e) chunks (λ left chunks rest h s. keeps-each P wants reads read left chunks (f ∷ es) rest h k.1 s) (λ left chunks rest h s. keeps-each P wants reads read left chunks es rest h k.1.1 s) s
+    go (wanted wants e) chunks (λ left chunks rest h s. keeps-each P wants reads read left chunks (f ∷ es) rest h k.1 s)
+    (λ left chunks rest h s. keeps-each P wants reads read left chunks es rest h k.1.1 s) s
   where
     Below : List Event → Type 0
-    Below es = (left : List Event) (chunks : ℕ) (rest : List Event) → Each P left → Substituted wants reads left chunks es rest → Each P rest
+    Below es =
+        (left : List Event) (chunks : ℕ) (rest : List Event) → Each P left →
+        Substituted wants reads left chunks es rest → Each P rest
 
     joins : (n : ℕ) (now rest : List Event) → Each P now → out ≡ take n now ++ rest → Each P rest → Each P out
     joins n now rest h is more = subst (Each P) (sym is) (each-append P (take n now) rest (each-take P n now h) more)
 
-    go : (x : Option Content) (chunks : ℕ) → Below (f ∷ es) → Below es → SubstitutedBy wants reads left chunks e f es out x → Each P out
+    go : (x : Option Content) (chunks : ℕ) → Below (f ∷ es) → Below es →
+        SubstitutedBy wants reads left chunks e f es out x → Each P out
     go None chunks next behind s = subst (Each P) (sym s.1) (k.0, next left chunks s.0 h s.2)
     go (Some x) zero next behind s =
         let n : ℕ = share (length (chunks_behind wants es)) s.0 f.point.index in
@@ -86,37 +103,61 @@ keeps-each P wants reads read left chunks (e ∷ f ∷ es) out h k s =
 
 -- what is left of a part stands in the places of its further chunks, however it is shared
 abbrev pub Rest : (Content → Bool) → Readings → List Event → List Event → List Event → Type 0
-Rest wants reads left ys out = (rest over : List Event) × (is : out ≡ left ++ rest) × Substituted wants reads over 0 ys rest
+Rest wants reads left ys out =
+    (rest over : List Event) × (is : out ≡ left ++ rest) × Substituted wants reads over 0 ys rest
 
 -- What is read of a part of one chunk stands in its place.
-pub place : (wants : Content → Bool) (reads : Readings) (left : List Event) (name : Name) (link : Link) (chunk : Chunk) (ys out : List Event) → wants link.content ≡ true → chunks_behind wants ys ≡ [] →
+pub place : (wants : Content → Bool) (reads : Readings) (left : List Event) (name : Name) (link : Link) (chunk : Chunk)
+    (ys out : List Event) →
+    wants link.content ≡ true → chunks_behind wants ys ≡ [] →
     Substituted wants reads left 0 (enter_link name chunk.first link ∷ exit name chunk.after ∷ ys) out →
     (answer : List Event) × (read : reads link.content (chunk ∷ []) answer) × Rest wants reads answer ys out
 place wants reads left name link chunk ys out w none s = go (chunks_behind wants ys) none
-    (subst (SubstitutedBy wants reads left 0 (enter_link name chunk.first link) (exit name chunk.after) ys out) (ap (λ (x : Bool). cond x (Some link.content) None) w) s)
+    (subst (SubstitutedBy wants reads left 0 (enter_link name chunk.first link) (exit name chunk.after) ys out)
+    (ap (λ (x : Bool). cond x (Some link.content) None) w) s)
   where
     go : (behind : List Chunk) → behind ≡ [] →
         (answer rest : List Event) × (read : reads link.content (chunk ∷ behind) answer)
         × (is : out ≡ take (share (length behind) answer chunk.after.index) answer ++ rest)
-        × Substituted wants reads (drop (share (length behind) answer chunk.after.index) answer) (length behind) ys rest →
+        × Substituted wants reads (drop (share (length behind) answer chunk.after.index) answer)
+        (length behind) ys rest →
         (answer : List Event) × (read : reads link.content (chunk ∷ []) answer) × Rest wants reads answer ys out
-    go [] e one = (one.0, one.2, (one.1, drop (length one.0) one.0, one.3 ∙ ap (λ (l : List Event). l ++ one.1) (take_all (length one.0) one.0 (omega arith)), one.4))
+    go [] e one = (
+      one.0,
+      one.2,
+      (
+        one.1,
+        drop (length one.0) one.0,
+        one.3 ∙ ap (λ (l : List Event). l ++ one.1) (take_all (length one.0) one.0 (omega arith)),
+        one.4,
+      ),
+    )
     go (next ∷ behind) e one = cc
 
 -- Parts of lines with prefixes between them.
 
 -- over prefixes a part goes on
-prefixes-behind : (wants : Content → Bool) (xs ys : List Event) → ArePrefixes xs → chunks_behind wants (xs ++ ys) ≡ chunks_behind wants ys
+prefixes-behind : (wants : Content → Bool) (xs ys : List Event) → ArePrefixes xs →
+    chunks_behind wants (xs ++ ys) ≡ chunks_behind wants ys
 prefixes-behind wants [] ys h = refl
 prefixes-behind wants (e ∷ []) [] h = refl
 prefixes-behind wants (e ∷ []) (f ∷ ys) h = behind-one wants e f ys h.0.0 h.0.1
   where
-    behind-one : (wants : Content → Bool) (e f : Event) (es : List Event) → is_prefix e.name ≡ true → e.link ≡ None → chunks_behind wants (e ∷ f ∷ es) ≡ chunks_behind wants (f ∷ es)
+    behind-one : (wants : Content → Bool) (e f : Event) (es : List Event) → is_prefix e.name ≡ true → e.link ≡ None →
+        chunks_behind wants (e ∷ f ∷ es) ≡ chunks_behind wants (f ∷ es)
     behind-one wants e f es name link =
-        ap (λ (x : Option Content). cond (is_some x) (chunk_of e f ∷ chunks_behind wants es) (cond (is_prefix e.name) (chunks_behind wants (f ∷ es)) [])) (no_link-unwanted wants e link)
+        ap
+        (λ (x : Option Content).
+        cond (is_some x) (chunk_of e f ∷ chunks_behind wants es)
+        (cond (is_prefix e.name) (chunks_behind wants (f ∷ es)) []))
+        (no_link-unwanted wants e link)
         ∙ ap (λ (x : Bool). cond x (chunks_behind wants (f ∷ es)) []) name
 prefixes-behind wants (e ∷ f ∷ xs) ys h =
-    ap (λ (x : Option Content). cond (is_some x) (chunk_of e f ∷ chunks_behind wants (xs ++ ys)) (cond (is_prefix e.name) (chunks_behind wants (f ∷ xs ++ ys)) [])) (no_link-unwanted wants e h.0.1)
+    ap
+    (λ (x : Option Content).
+    cond (is_some x) (chunk_of e f ∷ chunks_behind wants (xs ++ ys))
+    (cond (is_prefix e.name) (chunks_behind wants (f ∷ xs ++ ys)) []))
+    (no_link-unwanted wants e h.0.1)
     ∙ ap (λ (x : Bool). cond x (chunks_behind wants (f ∷ xs ++ ys)) []) h.0.0
     ∙ prefixes-behind wants (f ∷ xs) ys h.1
 
@@ -139,7 +180,8 @@ abbrev further_chunks : List Row → List Chunk
 further_chunks [] = []
 further_chunks (next ∷ rows) = chunks_of next rows
 
-chunks-are : (row : Row) (rows : List Row) → chunks_of row rows ≡ (record { first = row.first; after = line_after row rows }) ∷ further_chunks rows
+chunks-are : (row : Row) (rows : List Row) →
+    chunks_of row rows ≡ (record { first = row.first; after = line_after row rows }) ∷ further_chunks rows
 chunks-are row [] = refl
 chunks-are row (next ∷ rows) = refl
 
@@ -153,12 +195,16 @@ further_lines name link [] ys = ys
 further_lines name link (next ∷ rows) ys = next.front ++ (linked_lines name link next rows ++ ys)
 
 lines-are : (name : Name) (link : Link) (row : Row) (rows : List Row) (ys : List Event) →
-    linked_lines name link row rows ++ ys ≡ enter_link name row.first link ∷ exit name (line_after row rows) ∷ further_lines name link rows ys
+    linked_lines name link row rows ++ ys ≡
+    enter_link name row.first link ∷ exit name (line_after row rows) ∷ further_lines name link rows ys
 lines-are name link row [] ys = refl
-lines-are name link row (next ∷ rows) ys = ap (λ (l : List Event). enter_link name row.first link ∷ exit name (behind_row row) ∷ l) (append_assoc next.front (linked_lines name link next rows) ys)
+lines-are name link row (next ∷ rows) ys =
+    ap (λ (l : List Event). enter_link name row.first link ∷ exit name (behind_row row) ∷ l)
+    (append_assoc next.front (linked_lines name link next rows) ys)
 
 -- the chunks that go on a part are those of its further lines
-chunks-further : (wants : Content → Bool) (name : Name) (link : Link) (rows : List Row) (ys : List Event) → wants link.content ≡ true → chunks_behind wants ys ≡ [] → EachPrefixed rows →
+chunks-further : (wants : Content → Bool) (name : Name) (link : Link) (rows : List Row) (ys : List Event) →
+    wants link.content ≡ true → chunks_behind wants ys ≡ [] → EachPrefixed rows →
     chunks_behind wants (further_lines name link rows ys) ≡ further_chunks rows
 chunks-further wants name link [] ys w none fits = none
 chunks-further wants name link (next ∷ rows) ys w none fits =
@@ -166,7 +212,10 @@ chunks-further wants name link (next ∷ rows) ys w none fits =
     let chunk : Chunk = record { first = next.first; after = line_after next rows } in
     prefixes-behind wants next.front (linked_lines name link next rows ++ ys) fits.0
     ∙ ap (chunks_behind wants) (lines-are name link next rows ys)
-    ∙ ap (λ (x : Bool). cond (is_some (cond x (Some link.content) None)) (chunk ∷ chunks_behind wants (further_lines name link rows ys)) (cond (is_prefix name) (chunks_behind wants rest) [])) w
+    ∙ ap
+    (λ (x : Bool).
+    cond (is_some (cond x (Some link.content) None)) (chunk ∷ chunks_behind wants (further_lines name link rows ys))
+    (cond (is_prefix name) (chunks_behind wants rest) [])) w
     ∙ ap (λ (l : List Chunk). chunk ∷ l) (chunks-further wants name link rows ys w none fits.1)
     ∙ sym (chunks-are next rows)
 
@@ -180,131 +229,194 @@ abbrev pub NextBelongs : ℕ → List Event → Type 0
 NextBelongs end [] = Unit {0}
 NextBelongs end (e ∷ es) = belongs end e ≡ false
 
--- Of the events for the lines of a part, those of each line stand in its place, and between them what stands in front of lines.
+-- Of the events for the lines of a part, those of each line stand in its place, and between them what stands in front
+-- of lines.
 abbrev pub CutAt : Row → List Row → List Event → List Event → Type 0
 CutAt row [] left done = done ≡ left
 CutAt row (next ∷ rows) left done =
-    (mine more rest : List Event) × (left_is : left ≡ mine ++ more) × (here : AllBelong (behind_row row).index mine) × (behind : NextBelongs (behind_row row).index more)
+    (mine more rest : List Event) × (left_is : left ≡ mine ++ more) × (here : AllBelong (behind_row row).index mine) ×
+    (behind : NextBelongs (behind_row row).index more)
     × (done_is : done ≡ mine ++ (next.front ++ rest)) × CutAt next rows more rest
 
 -- where the events of a chunk end, its share ends
-belongs-cut : (end : ℕ) (xs ys : List Event) → AllBelong end xs → NextBelongs end ys → prefix_len (belongs end) (xs ++ ys) ≡ length xs
+belongs-cut : (end : ℕ) (xs ys : List Event) → AllBelong end xs → NextBelongs end ys →
+    prefix_len (belongs end) (xs ++ ys) ≡ length xs
 belongs-cut end [] [] h k = refl
 belongs-cut end [] (y ∷ ys) h k = ap (λ (x : Bool). cond x (1 + prefix_len (belongs end) ys) 0) k
-belongs-cut end (x ∷ xs) ys h k = let more = belongs-cut end xs ys h.1 k in ap (λ (t : Bool). cond t (1 + prefix_len (belongs end) (xs ++ ys)) 0) h.0 ∙ omega arith
+belongs-cut end (x ∷ xs) ys h k =
+    let more = belongs-cut end xs ys h.1 k in
+    ap (λ (t : Bool). cond t (1 + prefix_len (belongs end) (xs ++ ys)) 0) h.0 ∙ omega arith
 
 -- the events of a line, and what stands behind it
-share-joins : (mine front more rest over left out done : List Event) → out ≡ mine ++ rest → rest ≡ front ++ over → over ≡ more ++ left → done ≡ mine ++ (front ++ more) → out ≡ done ++ left
+share-joins : (mine front more rest over left out done : List Event) → out ≡ mine ++ rest → rest ≡ front ++ over →
+    over ≡ more ++ left → done ≡ mine ++ (front ++ more) → out ≡ done ++ left
 share-joins mine front more rest over left out done here between below all =
     here
-    ∙ ap (λ (l : List Event). mine ++ l) (between ∙ ap (λ (l : List Event). front ++ l) below ∙ sym (append_assoc front more left))
+    ∙ ap (λ (l : List Event). mine ++ l)
+    (between ∙ ap (λ (l : List Event). front ++ l) below ∙ sym (append_assoc front more left))
     ∙ sym (append_assoc mine (front ++ more) left)
     ∙ ap (λ (l : List Event). l ++ left) (sym all)
 
 -- each line takes its share of what is left
-shares : (wants : Content → Bool) (reads : Readings) (name : Name) (link : Link) (row : Row) (rows : List Row) (ys left done out rest : List Event) → wants link.content ≡ true → EachPrefixed rows → CutAt row rows left done →
+shares : (wants : Content → Bool) (reads : Readings) (name : Name) (link : Link) (row : Row) (rows : List Row)
+    (ys left done out rest : List Event) →
+    wants link.content ≡ true → EachPrefixed rows → CutAt row rows left done →
     out ≡ take (share (length rows) left (line_after row rows).index) left ++ rest →
-    Substituted wants reads (drop (share (length rows) left (line_after row rows).index) left) (length rows) (further_lines name link rows ys) rest → Rest wants reads done ys out
-shares wants reads name link row [] ys left done out rest w fits cut is s = (rest, drop (length left) left, is ∙ ap (λ (l : List Event). l ++ rest) (take_all (length left) left (omega arith) ∙ sym cut), s)
+    Substituted wants reads (drop (share (length rows) left (line_after row rows).index) left) (length rows)
+    (further_lines name link rows ys) rest →
+    Rest wants reads done ys out
+shares wants reads name link row [] ys left done out rest w fits cut is s = (
+  rest,
+  drop (length left) left,
+  is ∙ ap (λ (l : List Event). l ++ rest) (take_all (length left) left (omega arith) ∙ sym cut),
+  s,
+)
 shares wants reads name link row (next ∷ rows) ys left done out rest w fits cut is s =
     let end : ℕ = (behind_row row).index in
     let mine : List Event = cut.0 in
     let more : List Event = cut.1 in
     let many : ℕ = suc (length rows) in
-    let size : share many left end ≡ length mine = ap (prefix_len (belongs end)) cut.3 ∙ belongs-cut end mine more cut.4 cut.5 in
-    let before : take (share many left end) left ≡ mine = ap (λ (k : ℕ). take k left) size ∙ ap (take (length mine)) cut.3 ∙ take-append_seam mine more in
-    let after : drop (share many left end) left ≡ more = ap (λ (k : ℕ). drop k left) size ∙ ap (drop (length mine)) cut.3 ∙ drop-append_seam mine more in
-    let one : (over : List Event) × (is : rest ≡ next.front ++ over) × Substituted wants reads more many (linked_lines name link next rows ++ ys) over =
-    passes wants reads more many next.front (linked_lines name link next rows ++ ys) rest (prefixes-unwanted wants next.front fits.0)
+    let size : share many left end ≡ length mine = ap (prefix_len (belongs end)) cut.3
+    ∙ belongs-cut end mine more cut.4 cut.5 in
+    let before : take (share many left end) left ≡ mine = ap (λ (k : ℕ). take k left) size
+    ∙ ap (take (length mine)) cut.3 ∙ take-append_seam mine more in
+    let after : drop (share many left end) left ≡ more = ap (λ (k : ℕ). drop k left) size
+    ∙ ap (drop (length mine)) cut.3 ∙ drop-append_seam mine more in
+    let one : (over : List Event) × (is : rest ≡ next.front ++ over) ×
+    Substituted wants reads more many (linked_lines name link next rows ++ ys) over =
+    passes wants reads more many next.front (linked_lines name link next rows ++ ys) rest
+    (prefixes-unwanted wants next.front fits.0)
     (subst (λ (l : List Event). Substituted wants reads l many (further_lines name link (next ∷ rows) ys) rest) after s) in
-    let here : SubstitutedBy wants reads more many (enter_link name next.first link) (exit name (line_after next rows)) (further_lines name link rows ys) one.0 (Some link.content) =
-    subst (SubstitutedBy wants reads more many (enter_link name next.first link) (exit name (line_after next rows)) (further_lines name link rows ys) one.0) (ap (λ (x : Bool). cond x (Some link.content) None) w)
+    let here : SubstitutedBy wants reads more many (enter_link name next.first link) (exit name (line_after next rows))
+    (further_lines name link rows ys) one.0 (Some link.content) =
+    subst
+    (SubstitutedBy wants reads more many (enter_link name next.first link) (exit name (line_after next rows))
+    (further_lines name link rows ys) one.0)
+    (ap (λ (x : Bool). cond x (Some link.content) None) w)
     (subst (λ (l : List Event). Substituted wants reads more many l one.0) (lines-are name link next rows ys) one.2) in
-    let below : Rest wants reads cut.2 ys one.0 = shares wants reads name link next rows ys more cut.2 one.0 here.0 w fits.1 cut.7 here.1 here.2 in (
+    let below : Rest wants reads cut.2 ys one.0 = shares wants reads name link next rows ys more cut.2 one.0 here.0 w
+    fits.1 cut.7 here.1 here.2 in (
       below.0,
       below.1,
-      share-joins mine next.front cut.2 rest one.0 below.0 out done (is ∙ ap (λ (l : List Event). l ++ rest) before) one.1 below.2 cut.6,
+      share-joins mine next.front cut.2 rest one.0 below.0 out done
+          (is ∙ ap (λ (l : List Event). l ++ rest) before) one.1 below.2 cut.6,
       below.3,
     )
 
 -- What is read of a part of lines stands in their places.
-pub places : (wants : Content → Bool) (reads : Readings) (left : List Event) (name : Name) (link : Link) (row : Row) (rows : List Row) (ys done out : List Event) → wants link.content ≡ true → chunks_behind wants ys ≡ [] → EachPrefixed rows →
+pub places : (wants : Content → Bool) (reads : Readings) (left : List Event) (name : Name) (link : Link) (row : Row)
+    (rows : List Row) (ys done out : List Event) →
+    wants link.content ≡ true → chunks_behind wants ys ≡ [] → EachPrefixed rows →
     ((answer : List Event) → reads link.content (chunks_of row rows) answer → CutAt row rows answer done) →
     Substituted wants reads left 0 (linked_lines name link row rows ++ ys) out → Rest wants reads done ys out
 places wants reads left name link row rows ys done out w none fits cuts s =
     let chunk : Chunk = record { first = row.first; after = line_after row rows } in
     let rest : List Event = further_lines name link rows ys in
     let behind : List Chunk = chunks_behind wants rest in
-    let here : SubstitutedBy wants reads left 0 (enter_link name row.first link) (exit name (line_after row rows)) rest out (Some link.content) =
-    subst (SubstitutedBy wants reads left 0 (enter_link name row.first link) (exit name (line_after row rows)) rest out) (ap (λ (x : Bool). cond x (Some link.content) None) w)
+    let here : SubstitutedBy wants reads left 0 (enter_link name row.first link)
+    (exit name (line_after row rows)) rest out (Some link.content) =
+    subst (SubstitutedBy wants reads left 0 (enter_link name row.first link) (exit name (line_after row rows)) rest out)
+    (ap (λ (x : Bool). cond x (Some link.content) None) w)
     (subst (λ (l : List Event). Substituted wants reads left 0 l out) (lines-are name link row rows ys) s) in
     let chunks : behind ≡ further_chunks rows = chunks-further wants name link rows ys w none fits in
     let size : length behind ≡ length rows = ap length chunks ∙ chunks-many rows in
     let answer : List Event = here.0 in
-    let read : reads link.content (chunks_of row rows) answer = subst (λ (l : List Chunk). reads link.content l answer) (ap (λ (l : List Chunk). chunk ∷ l) chunks ∙ sym (chunks-are row rows)) here.2 in
+    let read : reads link.content (chunks_of row rows) answer = subst (λ (l : List Chunk). reads link.content l answer)
+    (ap (λ (l : List Chunk). chunk ∷ l) chunks ∙ sym (chunks-are row rows)) here.2 in
     shares wants reads name link row rows ys answer done out here.1 w fits (cuts answer read)
     (subst (λ (k : ℕ). out ≡ take (share k answer (line_after row rows).index) answer ++ here.1) size here.3)
-    (subst (λ (k : ℕ). Substituted wants reads (drop (share k answer (line_after row rows).index) answer) k rest here.1) size here.4)
+    (subst
+    (λ (k : ℕ).
+    Substituted wants reads (drop (share k answer (line_after row rows).index) answer) k rest here.1) size here.4)
 
 -- Events that become others, whatever stands behind them.
 abbrev pub Becomes : (Content → Bool) → Readings → List Event → List Event → Type 0
-Becomes wants reads xs zs = (left ys out : List Event) → Substituted wants reads left 0 (xs ++ ys) out → Rest wants reads zs ys out
+Becomes wants reads xs zs =
+    (left ys out : List Event) → Substituted wants reads left 0 (xs ++ ys) out → Rest wants reads zs ys out
 
-pub becomes-same : (wants : Content → Bool) (reads : Readings) (xs : List Event) → Unwanted wants xs → Becomes wants reads xs xs
+pub becomes-same : (wants : Content → Bool) (reads : Readings) (xs : List Event) → Unwanted wants xs →
+    Becomes wants reads xs xs
 becomes-same wants reads xs h left ys out s =
-    let one : (rest : List Event) × (is : out ≡ xs ++ rest) × Substituted wants reads left 0 ys rest = passes wants reads left 0 xs ys out h s in
+    let one : (rest : List Event) × (is : out ≡ xs ++ rest) ×
+    Substituted wants reads left 0 ys rest = passes wants reads left 0 xs ys out h s in
     (one.0, left, one.1, one.2)
 
-pub becomes-append : (wants : Content → Bool) (reads : Readings) (xs zs more done : List Event) → Becomes wants reads xs zs → Becomes wants reads more done → Becomes wants reads (xs ++ more) (zs ++ done)
+pub becomes-append : (wants : Content → Bool) (reads : Readings) (xs zs more done : List Event) →
+    Becomes wants reads xs zs → Becomes wants reads more done → Becomes wants reads (xs ++ more) (zs ++ done)
 becomes-append wants reads xs zs more done h k left ys out s =
-    let one : Rest wants reads zs (more ++ ys) out = h left (more ++ ys) out (subst (λ (l : List Event). Substituted wants reads left 0 l out) (append_assoc xs more ys) s) in
+    let one : Rest wants reads zs (more ++ ys) out = h left (more ++ ys) out
+    (subst (λ (l : List Event). Substituted wants reads left 0 l out) (append_assoc xs more ys) s) in
     let two : Rest wants reads done ys one.0 = k one.1 ys one.0 one.3 in
     (two.0, two.1, one.2 ∙ ap (λ (l : List Event). zs ++ l) two.2 ∙ sym (append_assoc zs done two.0), two.3)
 
 -- what stands around them stays
-pub becomes-around : (wants : Content → Bool) (reads : Readings) (name : Name) (p q : Point) (xs zs : List Event) → Becomes wants reads xs zs → Becomes wants reads (around name p q xs) (around name p q zs)
+pub becomes-around : (wants : Content → Bool) (reads : Readings) (name : Name) (p q : Point) (xs zs : List Event) →
+    Becomes wants reads xs zs → Becomes wants reads (around name p q xs) (around name p q zs)
 becomes-around wants reads name p q xs zs h =
-    becomes-append wants reads (enter name p ∷ []) (enter name p ∷ []) (xs ++ exit name q ∷ []) (zs ++ exit name q ∷ []) (becomes-same wants reads (enter name p ∷ []) (refl, tt))
-    (becomes-append wants reads xs zs (exit name q ∷ []) (exit name q ∷ []) h (becomes-same wants reads (exit name q ∷ []) (refl, tt)))
+    becomes-append wants reads (enter name p ∷ []) (enter name p ∷ []) (xs ++ exit name q ∷ []) (zs ++ exit name q ∷ [])
+    (becomes-same wants reads (enter name p ∷ []) (refl, tt))
+    (becomes-append wants reads xs zs (exit name q ∷ []) (exit name q ∷ []) h
+    (becomes-same wants reads (exit name q ∷ []) (refl, tt)))
 
 -- behind the end of a block no more of its part stands
-pub behind-exit : (wants : Content → Bool) (name : Name) (p : Point) (es : List Event) → is_prefix name ≡ false → chunks_behind wants (exit name p ∷ es) ≡ []
+pub behind-exit : (wants : Content → Bool) (name : Name) (p : Point) (es : List Event) → is_prefix name ≡ false →
+    chunks_behind wants (exit name p ∷ es) ≡ []
 behind-exit wants name p [] h = refl
 behind-exit wants name p (e ∷ es) h = ap (λ (x : Bool). cond x (chunks_behind wants (e ∷ es)) []) h
 
-part-joins : (e f : Event) (given answer rest more begun out : List Event) → out ≡ e ∷ begun → begun ≡ answer ++ rest → answer ≡ given → rest ≡ f ∷ more → out ≡ (e ∷ given ++ f ∷ []) ++ more
+part-joins : (e f : Event) (given answer rest more begun out : List Event) → out ≡ e ∷ begun → begun ≡ answer ++ rest →
+    answer ≡ given → rest ≡ f ∷ more → out ≡ (e ∷ given ++ f ∷ []) ++ more
 part-joins e f given answer rest more begun out begins is unique ends =
     begins
-    ∙ ap (λ (l : List Event). e ∷ l) (is ∙ ap (λ (l : List Event). l ++ rest) unique ∙ ap (λ (l : List Event). given ++ l) ends ∙ sym (append_assoc given (f ∷ []) more))
+    ∙ ap (λ (l : List Event). e ∷ l)
+    (is ∙ ap (λ (l : List Event). l ++ rest) unique ∙ ap (λ (l : List Event). given ++ l) ends
+    ∙ sym (append_assoc given (f ∷ []) more))
 
 -- a part of one chunk that is all of a block becomes what the reader gives for it
-pub part-becomes : (wants : Content → Bool) (reads : Readings) (outer name : Name) (link : Link) (p q : Point) (chunk : Chunk) (given : List Event) → wants link.content ≡ true → is_prefix outer ≡ false →
+pub part-becomes : (wants : Content → Bool) (reads : Readings) (outer name : Name) (link : Link) (p q : Point)
+    (chunk : Chunk) (given : List Event) →
+    wants link.content ≡ true → is_prefix outer ≡ false →
     ((answer : List Event) → reads link.content (chunk ∷ []) answer → answer ≡ given) →
-    Becomes wants reads (around outer p q (enter_link name chunk.first link ∷ exit name chunk.after ∷ [])) (around outer p q given)
+    Becomes wants reads (around outer p q (enter_link name chunk.first link ∷ exit name chunk.after ∷ []))
+    (around outer p q given)
 part-becomes wants reads outer name link p q chunk given w apart unique left ys out s =
-    let begun : (rest : List Event) × (is : out ≡ enter outer p ∷ rest) × Substituted wants reads left 0 (enter_link name chunk.first link ∷ exit name chunk.after ∷ exit outer q ∷ ys) rest =
-    passes wants reads left 0 (enter outer p ∷ []) (enter_link name chunk.first link ∷ exit name chunk.after ∷ exit outer q ∷ ys) out (refl, tt) s in
-    let one : (answer : List Event) × (read : reads link.content (chunk ∷ []) answer) × Rest wants reads answer (exit outer q ∷ ys) begun.0 =
+    let begun : (rest : List Event) × (is : out ≡ enter outer p ∷ rest) ×
+    Substituted wants reads left 0
+    (enter_link name chunk.first link ∷ exit name chunk.after ∷ exit outer q ∷ ys) rest =
+    passes wants reads left 0 (enter outer p ∷ [])
+    (enter_link name chunk.first link ∷ exit name chunk.after ∷ exit outer q ∷ ys) out (refl, tt) s in
+    let one : (answer : List Event) × (read : reads link.content (chunk ∷ []) answer) ×
+    Rest wants reads answer (exit outer q ∷ ys) begun.0 =
     place wants reads left name link chunk (exit outer q ∷ ys) begun.0 w (behind-exit wants outer q ys apart) begun.2 in
     let rest : Rest wants reads one.0 (exit outer q ∷ ys) begun.0 = one.2 in
-    let two : (more : List Event) × (is : rest.0 ≡ exit outer q ∷ more) × Substituted wants reads rest.1 0 ys more = passes wants reads rest.1 0 (exit outer q ∷ []) ys rest.0 (refl, tt) rest.3 in (
+    let two : (more : List Event) × (is : rest.0 ≡ exit outer q ∷ more) ×
+    Substituted wants reads rest.1 0 ys more = passes wants reads rest.1 0 (exit outer q ∷ []) ys rest.0
+    (refl, tt) rest.3 in (
       two.0,
       rest.1,
-      part-joins (enter outer p) (exit outer q) given one.0 rest.0 two.0 begun.0 out begun.1 rest.2 (unique one.0 one.1) two.1,
+      part-joins (enter outer p) (exit outer q) given one.0 rest.0 two.0 begun.0 out begun.1 rest.2
+          (unique one.0 one.1) two.1,
       two.2,
     )
 
 -- and so does a part of lines
-pub lines-becomes : (wants : Content → Bool) (reads : Readings) (outer name : Name) (link : Link) (p q : Point) (row : Row) (rows : List Row) (given : List Event) → wants link.content ≡ true → is_prefix outer ≡ false → EachPrefixed rows →
+pub lines-becomes : (wants : Content → Bool) (reads : Readings) (outer name : Name) (link : Link) (p q : Point)
+    (row : Row) (rows : List Row) (given : List Event) →
+    wants link.content ≡ true → is_prefix outer ≡ false → EachPrefixed rows →
     ((answer : List Event) → reads link.content (chunks_of row rows) answer → CutAt row rows answer given) →
     Becomes wants reads (around outer p q (linked_lines name link row rows)) (around outer p q given)
 lines-becomes wants reads outer name link p q row rows given w apart fits cuts left ys out s =
     let inside : List Event = linked_lines name link row rows in
-    let begun : (rest : List Event) × (is : out ≡ enter outer p ∷ rest) × Substituted wants reads left 0 (inside ++ exit outer q ∷ ys) rest =
+    let begun : (rest : List Event) × (is : out ≡ enter outer p ∷ rest) ×
+    Substituted wants reads left 0 (inside ++ exit outer q ∷ ys) rest =
     passes wants reads left 0 (enter outer p ∷ []) (inside ++ exit outer q ∷ ys) out (refl, tt)
-    (subst (λ (l : List Event). Substituted wants reads left 0 (enter outer p ∷ l) out) (append_assoc inside (exit outer q ∷ []) ys) s) in
-    let rest : Rest wants reads given (exit outer q ∷ ys) begun.0 = places wants reads left name link row rows (exit outer q ∷ ys) given begun.0 w (behind-exit wants outer q ys apart) fits cuts begun.2 in
-    let two : (more : List Event) × (is : rest.0 ≡ exit outer q ∷ more) × Substituted wants reads rest.1 0 ys more = passes wants reads rest.1 0 (exit outer q ∷ []) ys rest.0 (refl, tt) rest.3 in (
+    (subst (λ (l : List Event). Substituted wants reads left 0 (enter outer p ∷ l) out)
+    (append_assoc inside (exit outer q ∷ []) ys) s) in
+    let rest : Rest wants reads given (exit outer q ∷ ys) begun.0 = places wants reads left name link row rows
+    (exit outer q ∷ ys) given begun.0 w (behind-exit wants outer q ys apart) fits cuts begun.2 in
+    let two : (more : List Event) × (is : rest.0 ≡ exit outer q ∷ more) ×
+    Substituted wants reads rest.1 0 ys more = passes wants reads rest.1 0 (exit outer q ∷ []) ys rest.0
+    (refl, tt) rest.3 in (
       two.0,
       rest.1,
       part-joins (enter outer p) (exit outer q) given given rest.0 two.0 begun.0 out begun.1 rest.2 refl two.1,

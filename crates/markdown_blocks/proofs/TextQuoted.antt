@@ -11,7 +11,8 @@ use Rattle.md_definition.proofs.QuoteLaw.{quote-law}
 use Rattle.markdown_blocks.specs.Parsed.{IsBuilt, IsQuotable}
 use Rattle.markdown_blocks.proofs.TreeRows.{front-off}
 
-pub text-quoted : (options : ParseOptions) (text : List ℕ) (events : List Event) → IsBuilt options → spelled events text ≡ tree options text → options.constructs.block_quote ≡ true → IsQuotable text →
+pub text-quoted : (options : ParseOptions) (text : List ℕ) (events : List Event) → IsBuilt options →
+    spelled events text ≡ tree options text → options.constructs.block_quote ≡ true → IsQuotable text →
     tree options (quoted text) ≡ More (Quote (spelled events text)) End
 text-quoted options text events built is on may =
     quote-law options text on may.some may.no_tab may.no_mark (front-off options (lines_of text) built.frontmatter)

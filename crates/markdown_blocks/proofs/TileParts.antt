@@ -15,7 +15,8 @@ use Rattle.md_definition.specs.State.{Container}
 use Rattle.md_seam.specs.Events.Tiles.{chunks_stand, part_kind, parts_stand}
 use Rattle.markdown_blocks.specs.Change.{ends_of}
 use Rattle.markdown_blocks.specs.Document.{body_point, mark_end, mark_events}
-use Rattle.markdown_blocks.specs.Rows.{final_row, first_row, group_kind, LeafRow, ending_of, BlankRow, Group, Row, RowKind, TextRow, ending_events, groups, tail_events}
+use Rattle.markdown_blocks.specs.Rows.{final_row, first_row, group_kind, LeafRow, ending_of, BlankRow, Group, Row}
+use Rattle.markdown_blocks.specs.Rows.{RowKind, TextRow, ending_events, groups, tail_events}
 use Rattle.markdown_blocks.specs.Unread.{group_unread, listed_group, listed_groups}
 use Rattle.markdown_blocks.proofs.GroupLemmas.{AreGroups, HasFront, groups-are}
 use Rattle.markdown_blocks.proofs.JoinedLemmas.{EachNoContent}
@@ -28,7 +29,8 @@ use Rattle.markdown_blocks.proofs.FrontNames.{ends-no_parts, ends-unlinked, fron
 
 -- Events in front of others.
 
-stands-ending : (bytes : List ℕ) (name : Name) (row : Row) → part_kind name ≡ None → Stands bytes (ending_events name row)
+stands-ending : (bytes : List ℕ) (name : Name) (row : Row) → part_kind name ≡ None →
+    Stands bytes (ending_events name row)
 stands-ending bytes name row other = go row.after
   where
     go : (after : Option Point) → Stands bytes (elim after [ None ↦ [] | Some q ↦ pair name row.end q ])
@@ -36,11 +38,16 @@ stands-ending bytes name row other = go row.after
     go (Some q) = stands-outside bytes (pair name row.end q) (other, (other, tt)) (refl, (refl, tt))
 
 -- what stands in a line, with what stands in front of it, and behind it or a further line
-stands-line : (bytes : List ℕ) (name : Name) (row last : Row) (es : List Event) → part_kind name ≡ None → HasFront bytes row → Stands bytes es → Stands bytes (row.front ++ es ++ tail_events name last)
+stands-line : (bytes : List ℕ) (name : Name) (row last : Row) (es : List Event) → part_kind name ≡ None →
+    HasFront bytes row → Stands bytes es → Stands bytes (row.front ++ es ++ tail_events name last)
 stands-line bytes name row last es other front h =
     stands-append bytes (row.front ++ es) (tail_events name last)
-    (stands-append bytes row.front es (stands-outside bytes row.front (fronts-no_parts bytes row.change.opens front.0 row.first row.front front.1) (fronts-unlinked bytes row.change.opens front.0 row.first row.front front.1)) h)
-    (stands-append bytes (ends_of last.leaves last.end) (ending_events name last) (stands-outside bytes (ends_of last.leaves last.end) (ends-no_parts last.leaves last.end) (ends-unlinked last.leaves last.end))
+    (stands-append bytes row.front es
+    (stands-outside bytes row.front (fronts-no_parts bytes row.change.opens front.0 row.first row.front front.1)
+    (fronts-unlinked bytes row.change.opens front.0 row.first row.front front.1)) h)
+    (stands-append bytes (ends_of last.leaves last.end) (ending_events name last)
+    (stands-outside bytes (ends_of last.leaves last.end) (ends-no_parts last.leaves last.end)
+    (ends-unlinked last.leaves last.end))
     (stands-ending bytes name last other))
 
 -- Groups.
@@ -51,15 +58,21 @@ ending-no_part BlankRow = refl
 ending-no_part (LeafRow l) = refl
 ending-no_part TextRow = refl
 
-stands-groups : (options : ParseOptions) (bytes : List ℕ) (gs : List Group) → AreGroups options bytes gs → Stands bytes (listed_groups bytes gs)
+stands-groups : (options : ParseOptions) (bytes : List ℕ) (gs : List Group) → AreGroups options bytes gs →
+    Stands bytes (listed_groups bytes gs)
 stands-groups options bytes [] are = stands-outside bytes [] tt tt
 stands-groups options bytes (group ∷ gs) are =
     stands-append bytes (listed_group bytes group) (listed_groups bytes gs)
-    (stands-line bytes (ending_of (group_kind group)) (first_row group) (final_row group) (group_unread bytes group) (ending-no_part (group_kind group)) (group-front options bytes group gs are) (group-leaf options bytes group gs are).1.parts)
+    (stands-line bytes (ending_of (group_kind group)) (first_row group) (final_row group) (group_unread bytes group)
+    (ending-no_part (group_kind group)) (group-front options bytes group gs are)
+    (group-leaf options bytes group gs are).1.parts)
     (stands-groups options bytes gs (more-groups options bytes group gs are))
 
-rows-stand : (options : ParseOptions) (bytes : List ℕ) (cs : List Container) (still : HeldLeaf) (p : Point) (lines : List (List ℕ)) (rows : List Row) → AreRows options bytes cs still p lines rows → EachNoContent rows → Stands bytes (listed_groups bytes (groups rows))
-rows-stand options bytes cs still p lines rows are quiet = stands-groups options bytes (groups rows) (groups-are options bytes cs still p lines rows are quiet)
+rows-stand : (options : ParseOptions) (bytes : List ℕ) (cs : List Container) (still : HeldLeaf) (p : Point)
+    (lines : List (List ℕ)) (rows : List Row) →
+    AreRows options bytes cs still p lines rows → EachNoContent rows → Stands bytes (listed_groups bytes (groups rows))
+rows-stand options bytes cs still p lines rows are quiet =
+    stands-groups options bytes (groups rows) (groups-are options bytes cs still p lines rows are quiet)
 
 -- The text parts of a text.
 all-stand : (bytes : List ℕ) (xs : List Event) → Stands bytes xs → parts_stand bytes xs ≡ true
@@ -76,16 +89,29 @@ stands-mark bytes = go (has_mark bytes)
     go true = stands-outside bytes (pair n.ByteOrderMark first_point mark_end) (refl, (refl, tt)) (refl, (refl, tt))
     go false = stands-outside bytes [] tt tt
 
-blocks-both : (options : ParseOptions) (bytes : List ℕ) (cs : List Container) (still : HeldLeaf) (p : Point) (lines : List (List ℕ)) (rows : List Row) → AreRows options bytes cs still p lines rows → EachNoContent rows → Stands bytes (mark_events bytes ++ listed_groups bytes (groups rows))
-blocks-both options bytes cs still p lines rows are quiet = stands-append bytes (mark_events bytes) (listed_groups bytes (groups rows)) (stands-mark bytes) (rows-stand options bytes cs still p lines rows are quiet)
+blocks-both : (options : ParseOptions) (bytes : List ℕ) (cs : List Container) (still : HeldLeaf) (p : Point)
+    (lines : List (List ℕ)) (rows : List Row) →
+    AreRows options bytes cs still p lines rows → EachNoContent rows →
+    Stands bytes (mark_events bytes ++ listed_groups bytes (groups rows))
+blocks-both options bytes cs still p lines rows are quiet =
+    stands-append bytes (mark_events bytes) (listed_groups bytes (groups rows)) (stands-mark bytes)
+    (rows-stand options bytes cs still p lines rows are quiet)
 
-pub blocks-stand : (options : ParseOptions) (bytes : List ℕ) (cs : List Container) (still : HeldLeaf) (p : Point) (lines : List (List ℕ)) (rows : List Row) → AreRows options bytes cs still p lines rows → EachNoContent rows →
+pub blocks-stand : (options : ParseOptions) (bytes : List ℕ) (cs : List Container) (still : HeldLeaf) (p : Point)
+    (lines : List (List ℕ)) (rows : List Row) →
+    AreRows options bytes cs still p lines rows → EachNoContent rows →
     parts_stand bytes (mark_events bytes ++ listed_groups bytes (groups rows)) ≡ true
-blocks-stand options bytes cs still p lines rows are quiet = all-stand bytes (mark_events bytes ++ listed_groups bytes (groups rows)) (blocks-both options bytes cs still p lines rows are quiet)
+blocks-stand options bytes cs still p lines rows are quiet =
+    all-stand bytes (mark_events bytes ++ listed_groups bytes (groups rows))
+    (blocks-both options bytes cs still p lines rows are quiet)
 
-pub blocks-chunks : (options : ParseOptions) (bytes : List ℕ) (cs : List Container) (still : HeldLeaf) (p : Point) (lines : List (List ℕ)) (rows : List Row) → AreRows options bytes cs still p lines rows → EachNoContent rows →
+pub blocks-chunks : (options : ParseOptions) (bytes : List ℕ) (cs : List Container) (still : HeldLeaf) (p : Point)
+    (lines : List (List ℕ)) (rows : List Row) →
+    AreRows options bytes cs still p lines rows → EachNoContent rows →
     chunks_stand 0 (mark_events bytes ++ listed_groups bytes (groups rows)) ≡ true
-blocks-chunks options bytes cs still p lines rows are quiet = all-chunks bytes (mark_events bytes ++ listed_groups bytes (groups rows)) (blocks-both options bytes cs still p lines rows are quiet)
+blocks-chunks options bytes cs still p lines rows are quiet =
+    all-chunks bytes (mark_events bytes ++ listed_groups bytes (groups rows))
+    (blocks-both options bytes cs still p lines rows are quiet)
 
 -- Their events nest.
 
@@ -96,13 +122,21 @@ Listed bytes names p gs = Under names p (listed_groups bytes gs)
 listed-by_groups : (bytes : List ℕ) → ByGroups bytes (Listed bytes)
 listed-by_groups bytes = record {
   none = λ p. record { matches = tt; closed = refl; forward = tt };
-  group = λ names kept p group gs o keeps on. under-group bytes names kept p group (group_unread bytes group) (listed_groups bytes gs) o keeps o.leaf.1.unread_nested on;
+  group =
+      λ names kept p group gs o keeps on. under-group bytes names kept p group (group_unread bytes group)
+      (listed_groups bytes gs) o keeps o.leaf.1.unread_nested on;
 }
 
-listed-nest : (options : ParseOptions) (bytes : List ℕ) (p : Point) (lines : List (List ℕ)) (rows : List Row) → AreRows options bytes [] held_leaf.None p lines rows → Onward p (listed_groups bytes (groups rows))
-listed-nest options bytes p lines rows are = under-none p (listed_groups bytes (groups rows)) (rows-hold bytes (Listed bytes) (listed-by_groups bytes) options p lines rows are)
+listed-nest : (options : ParseOptions) (bytes : List ℕ) (p : Point) (lines : List (List ℕ)) (rows : List Row) →
+    AreRows options bytes [] held_leaf.None p lines rows → Onward p (listed_groups bytes (groups rows))
+listed-nest options bytes p lines rows are =
+    under-none p (listed_groups bytes (groups rows))
+    (rows-hold bytes (Listed bytes) (listed-by_groups bytes) options p lines rows are)
 
-pub blocks-nested : (options : ParseOptions) (bytes : List ℕ) (lines : List (List ℕ)) (rows : List Row) → AreRows options bytes [] held_leaf.None (body_point bytes) lines rows → Nested (mark_events bytes ++ listed_groups bytes (groups rows))
+pub blocks-nested : (options : ParseOptions) (bytes : List ℕ) (lines : List (List ℕ)) (rows : List Row) →
+    AreRows options bytes [] held_leaf.None (body_point bytes) lines rows →
+    Nested (mark_events bytes ++ listed_groups bytes (groups rows))
 blocks-nested options bytes lines rows are =
-    let nests : Onward (body_point bytes) (listed_groups bytes (groups rows)) = listed-nest options bytes (body_point bytes) lines rows are in
+    let nests : Onward (body_point bytes) (listed_groups bytes (groups rows)) = listed-nest options bytes
+    (body_point bytes) lines rows are in
     mark-nested bytes (listed_groups bytes (groups rows)) nests.balanced nests.forward

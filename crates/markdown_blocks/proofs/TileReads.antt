@@ -1,7 +1,8 @@
 -- The events of a text are its block list, with what the plain layer reads in the place of each chunk.
 use Rattle.md_engine.specs.declared.tokenizer.held_leaf.HeldLeaf.TheVariants as held_leaf
 use Rattle.md_engine.specs.declared.tokenizer.held_leaf.HeldLeaf.{HeldLeaf}
-use Rattle.std.proofs.Common.{◌≡◌, ℕ, suc, Bool, true, false, cond, List, [], ◌∷◌, ◌++◌, length, refl, ap, sym, ◌∙◌, subst, append-nil}
+use Rattle.std.proofs.Common.{◌≡◌, ℕ, suc, Bool, true, false, cond, List, [], ◌∷◌, ◌++◌, length, refl, ap, sym, ◌∙◌}
+use Rattle.std.proofs.Common.{subst, append-nil}
 use Rattle.std.specs.Prelude.{Option, Some, None}
 use Rattle.md_engine.specs.declared.configuration.ParseOptions.{ParseOptions}
 use Rattle.md_engine.specs.declared.event.Event.{Event}
@@ -20,7 +21,8 @@ use Rattle.markdown_blocks.specs.Change.{ends_of}
 use Rattle.markdown_blocks.specs.Document.{body_point, mark_end, mark_events}
 use Rattle.markdown_blocks.specs.FlowReads.{text_cells, text_rows}
 use Rattle.markdown_blocks.specs.Parsed.{reads_plain}
-use Rattle.markdown_blocks.specs.Rows.{final_row, first_row, group_done, group_kind, ending_of, Group, Row, ending_events, group_events, groups, groups_events, held_at, tail_events}
+use Rattle.markdown_blocks.specs.Rows.{final_row, first_row, group_done, group_kind, ending_of, Group, Row}
+use Rattle.markdown_blocks.specs.Rows.{ending_events, group_events, groups, groups_events, held_at, tail_events}
 use Rattle.markdown_blocks.specs.Unread.{group_unread, listed_group, listed_groups}
 use Rattle.markdown_blocks.proofs.GroupLemmas.{AreGroups, HasFront, groups-are}
 use Rattle.markdown_blocks.proofs.JoinedLemmas.{EachNoContent, rows_at-no_content}
@@ -38,73 +40,100 @@ pub record IsFilled (bytes : List ℕ) (blocks events : List Event) : Type 0 whe
 -- nothing stands behind them
 fill-all : (bytes : List ℕ) (blocks events : List Event) → Fill bytes blocks events → IsFilled bytes blocks events
 fill-all bytes blocks events fill =
-    let own : fill.own ≡ parts blocks = sym (ap parts (sym (append-nil blocks)) ∙ fill.parts_are [] ∙ append-nil fill.own) in
+    let own : fill.own ≡
+    parts blocks = sym (ap parts (sym (append-nil blocks)) ∙ fill.parts_are [] ∙ append-nil fill.own) in
     record {
       each = subst (λ (l : List Part). EachRead (reads_plain bytes) l (plain_lists bytes l)) own fill.each;
       read =
           sym (append-nil events)
           ∙ sym (fill.read [] [])
-          ∙ ap (λ (l : List Event). filled_from false l (together (plain_lists bytes fill.own) ++ [])) (append-nil blocks)
-          ∙ ap (λ (l : List (List Event)). filled_from false blocks l) (append-nil (together (plain_lists bytes fill.own)))
+          ∙ ap (λ (l : List Event). filled_from false l (together (plain_lists bytes fill.own) ++ []))
+          (append-nil blocks)
+          ∙ ap (λ (l : List (List Event)). filled_from false blocks l)
+          (append-nil (together (plain_lists bytes fill.own)))
           ∙ ap (λ (l : List Part). filled blocks (together (plain_lists bytes l))) own;
     }
 
 -- Lines.
 
-fill-ending : (bytes : List ℕ) (name : Name) (row : Row) → part_kind name ≡ None → Fill bytes (ending_events name row) (ending_events name row)
+fill-ending : (bytes : List ℕ) (name : Name) (row : Row) → part_kind name ≡ None →
+    Fill bytes (ending_events name row) (ending_events name row)
 fill-ending bytes name row other = go row.after
   where
-    go : (after : Option Point) → Fill bytes (ending_events name (record row { after = after })) (ending_events name (record row { after = after }))
+    go : (after : Option Point) →
+        Fill bytes (ending_events name (record row { after = after }))
+        (ending_events name (record row { after = after }))
     go None = fill-same bytes [] tt tt
     go (Some q) = fill-same bytes (pair name row.end q) (refl, (refl, tt)) (other, (other, tt))
 
 -- what stands in a line, with what stands in front of it, and behind it or a further line
-fill-line : (bytes : List ℕ) (name : Name) (row last : Row) (xs zs : List Event) → part_kind name ≡ None → HasFront bytes row → Fill bytes xs zs → Fill bytes (row.front ++ xs ++ tail_events name last) (row.front ++ zs ++ tail_events name last)
+fill-line : (bytes : List ℕ) (name : Name) (row last : Row) (xs zs : List Event) → part_kind name ≡ None →
+    HasFront bytes row → Fill bytes xs zs →
+    Fill bytes (row.front ++ xs ++ tail_events name last) (row.front ++ zs ++ tail_events name last)
 fill-line bytes name row last xs zs other front h =
     let ends : List Event = ends_of last.leaves last.end in
     let ending : List Event = ending_events name last in
     fill-append bytes (row.front ++ xs) (row.front ++ zs) (ends ++ ending) (ends ++ ending)
     (fill-append bytes row.front row.front xs zs
-    (fill-same bytes row.front (fronts-unlinked bytes row.change.opens front.0 row.first row.front front.1) (fronts-no_parts bytes row.change.opens front.0 row.first row.front front.1)) h)
-    (fill-append bytes ends ends ending ending (fill-same bytes ends (ends-unlinked last.leaves last.end) (ends-no_parts last.leaves last.end)) (fill-ending bytes name last other))
+    (fill-same bytes row.front (fronts-unlinked bytes row.change.opens front.0 row.first row.front front.1)
+    (fronts-no_parts bytes row.change.opens front.0 row.first row.front front.1)) h)
+    (fill-append bytes ends ends ending ending
+    (fill-same bytes ends (ends-unlinked last.leaves last.end) (ends-no_parts last.leaves last.end))
+    (fill-ending bytes name last other))
 
 -- Texts.
 
-fill-groups : (options : ParseOptions) (bytes : List ℕ) (gs : List Group) → AreGroups options bytes gs → Fill bytes (listed_groups bytes gs) (groups_events bytes gs)
+fill-groups : (options : ParseOptions) (bytes : List ℕ) (gs : List Group) → AreGroups options bytes gs →
+    Fill bytes (listed_groups bytes gs) (groups_events bytes gs)
 fill-groups options bytes [] are = fill-same bytes [] tt tt
 fill-groups options bytes (group ∷ gs) are =
-    fill-append bytes (listed_group bytes group) (group_events bytes group) (listed_groups bytes gs) (groups_events bytes gs)
-    (fill-line bytes (ending_of (group_kind group)) (first_row group) (final_row group) (group_unread bytes group) (group_done bytes group) (ending-no_part (group_kind group)) (group-front options bytes group gs are) (group-leaf options bytes group gs are).1.filled)
+    fill-append bytes (listed_group bytes group) (group_events bytes group) (listed_groups bytes gs)
+    (groups_events bytes gs)
+    (fill-line bytes (ending_of (group_kind group)) (first_row group) (final_row group) (group_unread bytes group)
+    (group_done bytes group) (ending-no_part (group_kind group)) (group-front options bytes group gs are)
+    (group-leaf options bytes group gs are).1.filled)
     (fill-groups options bytes gs (more-groups options bytes group gs are))
 
 fill-mark : (bytes : List ℕ) → Fill bytes (mark_events bytes) (mark_events bytes)
 fill-mark bytes = go (has_mark bytes)
   where
-    go : (x : Bool) → let mark : List Event = cond x (pair n.ByteOrderMark first_point mark_end) [] in Fill bytes mark mark
+    go : (x : Bool) → let mark : List Event =
+        cond x (pair n.ByteOrderMark first_point mark_end) [] in Fill bytes mark mark
     go true = fill-same bytes (pair n.ByteOrderMark first_point mark_end) (refl, (refl, tt)) (refl, (refl, tt))
     go false = fill-same bytes [] tt tt
 
 -- The same with a mark in front.
-pub blocks-filled : (options : ParseOptions) (bytes : List ℕ) (open_before : List Container) (still : HeldLeaf) (p : Point) (lines : List (List ℕ)) (rows : List Row) → AreRows options bytes open_before still p lines rows → EachNoContent rows →
-    IsFilled bytes (mark_events bytes ++ listed_groups bytes (groups rows)) (mark_events bytes ++ groups_events bytes (groups rows))
+pub blocks-filled : (options : ParseOptions) (bytes : List ℕ) (open_before : List Container) (still : HeldLeaf)
+    (p : Point) (lines : List (List ℕ)) (rows : List Row) →
+    AreRows options bytes open_before still p lines rows → EachNoContent rows →
+    IsFilled bytes (mark_events bytes ++ listed_groups bytes (groups rows))
+    (mark_events bytes ++ groups_events bytes (groups rows))
 blocks-filled options bytes open_before still p lines rows are quiet =
     let mark : List Event = mark_events bytes in
     fill-all bytes (mark ++ listed_groups bytes (groups rows)) (mark ++ groups_events bytes (groups rows))
-    (fill-append bytes mark mark (listed_groups bytes (groups rows)) (groups_events bytes (groups rows)) (fill-mark bytes)
+    (fill-append bytes mark mark (listed_groups bytes (groups rows)) (groups_events bytes (groups rows))
+    (fill-mark bytes)
     (fill-groups options bytes (groups rows) (groups-are options bytes open_before still p lines rows are quiet)))
 
 -- So it is with the lines that flow reads.
-pub text-filled : (options : ParseOptions) (bytes : List ℕ) (p : Point) (lines : List (List ℕ)) → AreRows options bytes [] held_leaf.None p lines (text_rows options bytes p) →
-    IsFilled bytes (mark_events bytes ++ listed_groups bytes (groups (text_rows options bytes p))) (mark_events bytes ++ groups_events bytes (groups (text_rows options bytes p)))
+pub text-filled : (options : ParseOptions) (bytes : List ℕ) (p : Point) (lines : List (List ℕ)) →
+    AreRows options bytes [] held_leaf.None p lines (text_rows options bytes p) →
+    IsFilled bytes (mark_events bytes ++ listed_groups bytes (groups (text_rows options bytes p)))
+    (mark_events bytes ++ groups_events bytes (groups (text_rows options bytes p)))
 text-filled options bytes p lines are =
     let cells : List Cell = text_cells bytes options p in
-    blocks-filled options bytes [] held_leaf.None p lines (text_rows options bytes p) are (rows_at-no_content options (suc (length cells)) [] held_leaf.None cells p)
+    blocks-filled options bytes [] held_leaf.None p lines (text_rows options bytes p) are
+    (rows_at-no_content options (suc (length cells)) [] held_leaf.None cells p)
 
 -- The empty text has no events.
 
-empty-none : (options : ParseOptions) → mark_events [] ++ groups_events [] (groups (text_rows options [] (body_point []))) ≡ []
+empty-none : (options : ParseOptions) →
+    mark_events [] ++ groups_events [] (groups (text_rows options [] (body_point []))) ≡ []
 unfolding text_feed held_at
 empty-none options = refl
 
-pub groups-empty : (options : ParseOptions) (bytes : List ℕ) → bytes ≡ [] → mark_events bytes ++ groups_events bytes (groups (text_rows options bytes (body_point bytes))) ≡ []
-groups-empty options bytes e = subst (λ (l : List ℕ). mark_events l ++ groups_events l (groups (text_rows options l (body_point l))) ≡ []) (sym e) (empty-none options)
+pub groups-empty : (options : ParseOptions) (bytes : List ℕ) → bytes ≡ [] →
+    mark_events bytes ++ groups_events bytes (groups (text_rows options bytes (body_point bytes))) ≡ []
+groups-empty options bytes e =
+    subst (λ (l : List ℕ). mark_events l ++ groups_events l (groups (text_rows options l (body_point l))) ≡ []) (sym e)
+    (empty-none options)

@@ -1,7 +1,8 @@
 -- The tree of a text where only constructs that are built may be on is what the events of its lines are read as.
 use Rattle.md_engine.specs.declared.tokenizer.held_leaf.HeldLeaf.TheVariants as held_leaf
 use Rattle.md_engine.specs.declared.tokenizer.held_leaf.HeldLeaf.{HeldLeaf}
-use Rattle.std.proofs.Common.{◌≡◌, ℕ, zero, suc, ◌-◌, Bool, true, false, cond, not, ◌==◌, ◌&&◌, ◌||◌, List, [], ◌∷◌, ◌++◌, map, length, drop, refl, ap, sym, ◌∙◌, subst, inl, inr, ◌⊎◌}
+use Rattle.std.proofs.Common.{◌≡◌, ℕ, zero, suc, ◌-◌, Bool, true, false, cond, not, ◌==◌, ◌&&◌, ◌||◌, List, [], ◌∷◌}
+use Rattle.std.proofs.Common.{◌++◌, map, length, drop, refl, ap, sym, ◌∙◌, subst, inl, inr, ◌⊎◌}
 use Rattle.std.specs.Prelude.{Option, Some, None}
 use Rattle.std.specs.List.{onto_first}
 use Rattle.std.proofs.lemmas.List.{map-append}
@@ -13,10 +14,12 @@ use Rattle.md_definition.specs.Containers.{Taken, opens}
 use Rattle.md_definition.specs.Grouped.{grouped}
 use Rattle.md_definition.specs.Lines.{begins_with, ends_line, full_lines_of, is_ending, lines_of, without_ending}
 use Rattle.md_definition.specs.Meaning.{tree, with_frontmatter}
-use Rattle.md_definition.specs.Preamble.{Preamble, first_column, front_of, has_mark, preamble, preamble_by, rest_at, rests_at, without_mark}
+use Rattle.md_definition.specs.Preamble.{Preamble, first_column, front_of, has_mark, preamble, preamble_by, rest_at}
+use Rattle.md_definition.specs.Preamble.{rests_at, without_mark}
 use Rattle.md_definition.specs.Rest.{Rest}
 use Rattle.md_seam.specs.Events.Spelled.{spelled}
-use Rattle.md_definition.specs.State.{At, Container, Kept, Leaf, Path, Spot, Within, closed, container_block, kept, shut, texts, then_leaf}
+use Rattle.md_definition.specs.State.{At, Container, Kept, Leaf, Path, Spot, Within, closed, container_block, kept}
+use Rattle.md_definition.specs.State.{shut, texts, then_leaf}
 use Rattle.md_definition.specs.Step.{fresh_line, spot_of, step, steps}
 use Rattle.md_definition.specs.Texts.{split_lines}
 use Rattle.md_definition.specs.Tree.{Blocks, End}
@@ -24,15 +27,19 @@ use Rattle.md_definition.proofs.LinesLemmas.{without_ending-onto}
 use Rattle.markdown_blocks.specs.Change.{change_by, interrupts, others_of}
 use Rattle.markdown_blocks.specs.Document.{body_point, mark_end}
 use Rattle.markdown_blocks.specs.Fed.{rests_from}
-use Rattle.markdown_blocks.specs.Fronted.{Contained, Prefixed, contained, no_prefix, one_more, prefixes_new, prefixes_on}
+use Rattle.markdown_blocks.specs.Fronted.{Contained, Prefixed, contained, no_prefix, one_more, prefixes_new}
+use Rattle.markdown_blocks.specs.Fronted.{prefixes_on}
 use Rattle.markdown_blocks.specs.Parsed.{IsBuilt}
 use Rattle.markdown_blocks.specs.Registry.{leaf, text_leaf}
-use Rattle.markdown_blocks.specs.Rows.{BlankRow, LeafRow, Row, RowKind, TextRow, groups, groups_events, is_lazy, line_kind}
+use Rattle.markdown_blocks.specs.Rows.{BlankRow, LeafRow, Row, RowKind, TextRow, groups, groups_events, is_lazy}
+use Rattle.markdown_blocks.specs.Rows.{line_kind}
 use Rattle.markdown_blocks.specs.HeldLeaf.{IsBuiltLeaf, kind_of_leaf}
 use Rattle.markdown_blocks.specs.Stands.{IsPlain, containers_of, still_of}
 use Rattle.markdown_blocks.proofs.ContainedLemmas.{contained-shapes}
 use Rattle.markdown_blocks.proofs.KindLemmas.{kind-starts}
-use Rattle.markdown_blocks.proofs.LineSteps.{behind_path, contained_at, fresh-found, goes_lazy, kept_to, longer, new_line, new_path, plain-step, renewed, spot_by, step-contained, step-new, stepped_on}
+use Rattle.markdown_blocks.proofs.LineSteps.{behind_path, contained_at, fresh-found, goes_lazy, kept_to, longer}
+use Rattle.markdown_blocks.proofs.LineSteps.{new_line, new_path, plain-step, renewed, spot_by, step-contained, step-new}
+use Rattle.markdown_blocks.proofs.LineSteps.{stepped_on}
 use Rattle.markdown_blocks.proofs.MarkLemmas.{without-mark}
 use Rattle.markdown_blocks.proofs.RowFacts as f
 use Rattle.markdown_blocks.proofs.SpelledRows.{spelled-rows}
@@ -43,24 +50,31 @@ use Rattle.markdown_blocks.proofs.RegistryContainers.{empty-ends, opens-read, re
 use Rattle.md_outline.specs.HeadingDepths.{are_shallow}
 
 -- Containers that flow reads alone are open: those that stay on a line,
-read-stay : (options : ParseOptions) (p : Path) (r : Rest) → AreRead (containers_of p) → AreRead (contained_at options p r).change.stays
+read-stay : (options : ParseOptions) (p : Path) (r : Rest) → AreRead (containers_of p) →
+    AreRead (contained_at options p r).change.stays
 read-stay options p r h =
     let change = (contained_at options p r).change in
-    read-front change.stays change.closes (shapes-read (change.stays ++ change.closes) (containers_of p) (contained-shapes options (containers_of p) (still_of p) r) h)
+    read-front change.stays change.closes
+    (shapes-read (change.stays ++ change.closes) (containers_of p)
+    (contained-shapes options (containers_of p) (still_of p) r) h)
 
-read-new : (options : ParseOptions) (interrupting : Bool) (n : ℕ) (r : Rest) → IsBuilt options → AreRead (prefixes_new options interrupting n r).containers
+read-new : (options : ParseOptions) (interrupting : Bool) (n : ℕ) (r : Rest) → IsBuilt options →
+    AreRead (prefixes_new options interrupting n r).containers
 read-new options interrupting zero r built = tt
-read-new options interrupting (suc n) r built = go (λ s. read-new options false n s built) (opens options interrupting r) (opens-read options interrupting r built)
+read-new options interrupting (suc n) r built =
+    go (λ s. read-new options false n s built) (opens options interrupting r) (opens-read options interrupting r built)
   where
     by : Option Taken → Prefixed
     by o = elim o [ None ↦ no_prefix r | Some t ↦ one_more t.container (prefixes_new options false n t.rest) ]
 
-    go : ((s : Rest) → AreRead (prefixes_new options false n s).containers) → (o : Option Taken) → IsReadTaken o → AreRead (by o).containers
+    go : ((s : Rest) → AreRead (prefixes_new options false n s).containers) → (o : Option Taken) → IsReadTaken o →
+        AreRead (by o).containers
     go below None read = tt
     go below (Some t) read = (read, below t.rest)
 
 -- and those that open on it
-read-open : (options : ParseOptions) (cs : List Container) (still : HeldLeaf) (r : Rest) → IsBuilt options → AreRead (contained options cs still r).change.opens
+read-open : (options : ParseOptions) (cs : List Container) (still : HeldLeaf) (r : Rest) → IsBuilt options →
+    AreRead (contained options cs still r).change.opens
 unfolding contained
 read-open options cs still r built = go (is_lazy still new.containers (line_kind options new.rest))
   where
@@ -90,24 +104,28 @@ simple-read (Within before container p) h = (h.1, simple-read p h.2)
 
 simple-shut : (options : ParseOptions) (s : Spot) → IsBuilt options → IsBuiltLeaf s.leaf → AreSimple s.here →
     AreSimple (shut options s)
-simple-shut options s built plain h = text-laws.cases (λ (leaf : Leaf). AreSimple (then_leaf options s.here leaf)) h text s.leaf plain
+simple-shut options s built plain h =
+    text-laws.cases (λ (leaf : Leaf). AreSimple (then_leaf options s.here leaf)) h text s.leaf plain
   where
     text : (k : Kept) (ks : List Kept) → AreSimple (then_leaf options s.here (text_leaf.held (k ∷ ks)))
     text k ks =
-        subst AreSimple (sym (text-laws.shut options s.here (k ∷ ks) built.definition)) (text-laws.simple s.here (texts (k ∷ ks)) h)
+        subst AreSimple (sym (text-laws.shut options s.here (k ∷ ks) built.definition))
+        (text-laws.simple s.here (texts (k ∷ ks)) h)
 
 simple-closed : (options : ParseOptions) (p : Path) → IsBuilt options → IsPlain p → HoldsSimple p →
     AreSimple (closed options p)
 simple-closed options (At s) built plain h = simple-shut options s built plain h
 simple-closed options (Within before container p) built plain h =
     let below : AreSimple (closed options p) = simple-closed options p built plain h.2 in
-    simple-then before (container_block container (closed options p)) h.0 (read-simple container (closed options p) h.1 below)
+    simple-then before (container_block container (closed options p)) h.0
+    (read-simple container (closed options p) h.1 below)
 
 simple-kept : (options : ParseOptions) (cs : List Container) (p : Path) → IsBuilt options → IsPlain p → AreRead cs →
     HoldsSimple p → HoldsSimple (kept_to options cs p)
 simple-kept options [] p built plain read h = simple-closed options p built plain h
 simple-kept options (c ∷ cs) (At s) built plain read h = simple-shut options s built plain h
-simple-kept options (c ∷ cs) (Within before container p) built plain read h = (h.0, read.0, simple-kept options cs p built plain read.1 h.2)
+simple-kept options (c ∷ cs) (Within before container p) built plain read h =
+    (h.0, read.0, simple-kept options cs p built plain read.1 h.2)
 
 simple-renewed : (cs : List Container) (p : Path) → AreRead cs → HoldsSimple p → HoldsSimple (renewed cs p)
 simple-renewed [] p read h = h
@@ -125,7 +143,8 @@ simple-behind (Within before container p) f h each = (h.0, h.1, simple-behind p 
 
 simple-fresh : (options : ParseOptions) (bs : Blocks) (r : Rest) → IsBuilt options → AreSimple bs →
     AreSimple (fresh_line options bs r).here
-simple-fresh options bs r built h = subst (λ (s : Spot). AreSimple s.here) (sym (fresh-found options bs r built)) (go (line_kind options r) refl)
+simple-fresh options bs r built h =
+    subst (λ (s : Spot). AreSimple s.here) (sym (fresh-found options bs r built)) (go (line_kind options r) refl)
   where
     go : (kind : RowKind) → line_kind options r ≡ kind → AreSimple (spot_by bs [] r kind).here
     go BlankRow e = h
@@ -139,7 +158,8 @@ simple-new_line options (c ∷ cs) r bs built read h = (h, read.0, simple-new_li
 
 simple-step : (options : ParseOptions) (p : Path) (r : Rest) → IsBuilt options → IsPlain p → HoldsSimple p →
     HoldsSimple (step options p r)
-simple-step options p r built plain h = subst HoldsSimple (sym (step-contained options p r built plain)) (go (goes_lazy options p c))
+simple-step options p r built plain h =
+    subst HoldsSimple (sym (step-contained options p r built plain)) (go (goes_lazy options p c))
   where
     c : Contained
     c = contained_at options p r
@@ -153,35 +173,47 @@ simple-step options p r built plain h = subst HoldsSimple (sym (step-contained o
     go : (x : Bool) → HoldsSimple (cond x (longer (renewed c.change.stays p) (kept c.rest ∷ [])) (new_path options p c))
     go true = simple-longer (renewed c.change.stays p) (kept c.rest ∷ []) (simple-renewed c.change.stays p stay h)
     go false =
-        simple-behind (kept_to options c.change.stays p) (new_line options c.change.opens c.rest) (simple-kept options c.change.stays p built plain stay h)
+        simple-behind (kept_to options c.change.stays p) (new_line options c.change.opens c.rest)
+        (simple-kept options c.change.stays p built plain stay h)
         (λ bs k. simple-new_line options c.change.opens c.rest bs built open_new k)
 
-plain-steps : (options : ParseOptions) (p : Path) (rs : List Rest) → IsBuilt options → IsPlain p → IsPlain (steps options p rs)
+plain-steps : (options : ParseOptions) (p : Path) (rs : List Rest) → IsBuilt options → IsPlain p →
+    IsPlain (steps options p rs)
 plain-steps options p [] built plain = plain
-plain-steps options p (r ∷ rs) built plain = plain-steps options (step options p r) rs built (plain-step options p r built plain)
+plain-steps options p (r ∷ rs) built plain =
+    plain-steps options (step options p r) rs built (plain-step options p r built plain)
 
 simple-steps : (options : ParseOptions) (p : Path) (rs : List Rest) → IsBuilt options → IsPlain p → HoldsSimple p →
     HoldsSimple (steps options p rs)
 simple-steps options p [] built plain h = h
-simple-steps options p (r ∷ rs) built plain h = simple-steps options (step options p r) rs built (plain-step options p r built plain) (simple-step options p r built plain h)
+simple-steps options p (r ∷ rs) built plain h =
+    simple-steps options (step options p r) rs built (plain-step options p r built plain)
+    (simple-step options p r built plain h)
 
 -- what the lines of a text come to
 abbrev come : ParseOptions → List Rest → Blocks
 come options rs = closed options (steps options (At (spot_of End)) rs)
 
 simple-come : (options : ParseOptions) (rs : List Rest) → IsBuilt options → AreSimple (come options rs)
-simple-come options rs built = simple-closed options (steps options (At (spot_of End)) rs) built (plain-steps options (At (spot_of End)) rs built tt) (simple-steps options (At (spot_of End)) rs built tt tt)
+simple-come options rs built =
+    simple-closed options (steps options (At (spot_of End)) rs) built
+    (plain-steps options (At (spot_of End)) rs built tt) (simple-steps options (At (spot_of End)) rs built tt tt)
 
 -- An empty line at the end adds nothing.
 
-on-empty : (options : ParseOptions) (cs : List Container) (column : ℕ) → AreRead cs → prefixes_on options cs (rest_at column []) ≡ no_prefix (rest_at column [])
+on-empty : (options : ParseOptions) (cs : List Container) (column : ℕ) → AreRead cs →
+    prefixes_on options cs (rest_at column []) ≡ no_prefix (rest_at column [])
 on-empty options [] column read = refl
 on-empty options (c ∷ cs) column read = ap by (empty-ends options c column read.0)
   where
     by : Option Taken → Prefixed
-    by o = elim o [ None ↦ no_prefix (rest_at column []) | Some t ↦ one_more t.container (prefixes_on options cs t.rest) ]
+    by o = elim o [
+      | None ↦ no_prefix (rest_at column [])
+      | Some t ↦ one_more t.container (prefixes_on options cs t.rest)
+    ]
 
-step-empty : (options : ParseOptions) (p : Path) (column : ℕ) → IsBuilt options → IsPlain p → AreRead (containers_of p) → closed options (step options p (rest_at column [])) ≡ closed options p
+step-empty : (options : ParseOptions) (p : Path) (column : ℕ) → IsBuilt options → IsPlain p →
+    AreRead (containers_of p) → closed options (step options p (rest_at column [])) ≡ closed options p
 step-empty options p column built plain read =
     ap (closed options) (step-new options p r built plain)
     ∙ ap (λ (on : Prefixed). closed options (stepped_on options p on)) (on-empty options (containers_of p) column read)
@@ -191,15 +223,21 @@ step-empty options p column built plain read =
     r : Rest
     r = rest_at column []
 
-    go : (x : HeldLeaf) → closed options (cond (is_lazy x [] BlankRow) (longer (renewed (containers_of p) p) (kept r ∷ [])) (At (fresh_line options (closed options p) r))) ≡ closed options (At (fresh_line options (closed options p) r))
+    go : (x : HeldLeaf) →
+        closed options
+        (cond (is_lazy x [] BlankRow) (longer (renewed (containers_of p) p) (kept r ∷ []))
+        (At (fresh_line options (closed options p) r))) ≡
+        closed options (At (fresh_line options (closed options p) r))
     go held_leaf.Text = refl
     go held_leaf.None = refl
 
-steps-append : (options : ParseOptions) (p : Path) (rs ss : List Rest) → steps options p (rs ++ ss) ≡ steps options (steps options p rs) ss
+steps-append : (options : ParseOptions) (p : Path) (rs ss : List Rest) →
+    steps options p (rs ++ ss) ≡ steps options (steps options p rs) ss
 steps-append options p [] ss = refl
 steps-append options p (r ∷ rs) ss = steps-append options (step options p r) rs ss
 
-come-empty : (options : ParseOptions) (column : ℕ) (lines : List (List ℕ)) → IsBuilt options → come options (rests_at column (lines ++ [] ∷ [])) ≡ come options (rests_at column lines)
+come-empty : (options : ParseOptions) (column : ℕ) (lines : List (List ℕ)) → IsBuilt options →
+    come options (rests_at column (lines ++ [] ∷ [])) ≡ come options (rests_at column lines)
 come-empty options column [] built = step-empty options (At (spot_of End)) column built tt tt
 come-empty options column (line ∷ lines) built =
     let first : Path = step options (At (spot_of End)) (rest_at column line) in
@@ -208,28 +246,37 @@ come-empty options column (line ∷ lines) built =
     let simple : HoldsSimple first = simple-step options (At (spot_of End)) (rest_at column line) built tt tt in
     ap (λ (l : List Rest). closed options (steps options first l)) (map-append (rest_at 0) lines ([] ∷ []))
     ∙ ap (closed options) (steps-append options first rs (rest_at 0 [] ∷ []))
-    ∙ step-empty options (steps options first rs) 0 built (plain-steps options first rs built plain) (simple-read (steps options first rs) (simple-steps options first rs built plain simple))
+    ∙ step-empty options (steps options first rs) 0 built (plain-steps options first rs built plain)
+    (simple-read (steps options first rs) (simple-steps options first rs built plain simple))
 
 -- these lines, or these and an empty one
 abbrev IsOrEmpty : List (List ℕ) → List (List ℕ) → Type 0
 IsOrEmpty split lines = (split ≡ lines) ⊎ (split ≡ lines ++ [] ∷ [])
 
-or_empty-line : (line : List ℕ) (split lines : List (List ℕ)) → IsOrEmpty split lines → IsOrEmpty (line ∷ split) (line ∷ lines)
+or_empty-line : (line : List ℕ) (split lines : List (List ℕ)) → IsOrEmpty split lines →
+    IsOrEmpty (line ∷ split) (line ∷ lines)
 or_empty-line line split lines (inl e) = inl (ap (λ (x : List (List ℕ)). line ∷ x) e)
 or_empty-line line split lines (inr e) = inr (ap (λ (x : List (List ℕ)). line ∷ x) e)
 
-or_empty-byte : (b : ℕ) (split lines : List (List ℕ)) → IsOrEmpty split lines → IsOrEmpty (onto_first b split) (onto_first b lines)
+or_empty-byte : (b : ℕ) (split lines : List (List ℕ)) → IsOrEmpty split lines →
+    IsOrEmpty (onto_first b split) (onto_first b lines)
 or_empty-byte b split lines (inl e) = inl (ap (onto_first b) e)
 or_empty-byte b split [] (inr e) = inl (ap (onto_first b) e)
 or_empty-byte b split (line ∷ lines) (inr e) = inr (ap (onto_first b) e)
 
 without_ending-end : (b : ℕ) (line : List ℕ) → is_ending b ≡ true → without_ending (b ∷ line) ≡ []
-without_ending-end b line e = take_while-cons (λ (c : ℕ). not (is_ending c)) b line ∙ ap (λ (t : Bool). cond (not t) (b ∷ without_ending line) []) e
+without_ending-end b line e =
+    take_while-cons (λ (c : ℕ). not (is_ending c)) b line
+    ∙ ap (λ (t : Bool). cond (not t) (b ∷ without_ending line) []) e
 
 -- a CR goes with the LF behind it
-return-feed : (b : ℕ) (bytes : List ℕ) → is_ending b ≡ true → begins_with 10 bytes ≡ true → map without_ending (onto_first b (full_lines_of bytes)) ≡ lines_of bytes
+return-feed : (b : ℕ) (bytes : List ℕ) → is_ending b ≡ true → begins_with 10 bytes ≡ true →
+    map without_ending (onto_first b (full_lines_of bytes)) ≡ lines_of bytes
 return-feed b [] e h = absurd (cc)
-return-feed b (c ∷ bytes) e h = rw h (ap (λ (l : List ℕ). l ∷ lines_of bytes) (without_ending-end b (c ∷ []) e ∙ sym (without_ending-end c [] (ap (λ (t : Bool). t || (c == 13)) h))))
+return-feed b (c ∷ bytes) e h =
+    rw h
+    (ap (λ (l : List ℕ). l ∷ lines_of bytes)
+    (without_ending-end b (c ∷ []) e ∙ sym (without_ending-end c [] (ap (λ (t : Bool). t || (c == 13)) h))))
 
 -- an ending is the last of one, or a CR before its LF
 ending-cases : (x y z : Bool) → (x || y) ≡ true → (x || (y && not z)) ≡ false → z ≡ true
@@ -249,24 +296,37 @@ split-or_empty [] = inr refl
 split-or_empty (b ∷ bs) = go (ends_line b bs) (is_ending b) refl refl (split-or_empty bs)
   where
     go : (x y : Bool) → ends_line b bs ≡ x → is_ending b ≡ y → IsOrEmpty (split_lines bs) (lines_of bs) →
-        IsOrEmpty (cond x ([] ∷ split_lines bs) (cond y (split_lines bs) (onto_first b (split_lines bs)))) (map without_ending (cond x ((b ∷ []) ∷ full_lines_of bs) (onto_first b (full_lines_of bs))))
-    go true y e f s = subst (λ (l : List ℕ). IsOrEmpty ([] ∷ split_lines bs) (l ∷ lines_of bs)) (sym (without_ending-end b [] (ends-ending (b == 10) (b == 13) (not (begins_with 10 bs)) e))) (or_empty-line [] (split_lines bs) (lines_of bs) s)
-    go false true e f s = subst (IsOrEmpty (split_lines bs)) (sym (return-feed b bs f (ending-cases (b == 10) (b == 13) (begins_with 10 bs) f e))) s
-    go false false e f s = subst (IsOrEmpty (onto_first b (split_lines bs))) (sym (without_ending-onto b (full_lines_of bs) f)) (or_empty-byte b (split_lines bs) (lines_of bs) s)
+        IsOrEmpty (cond x ([] ∷ split_lines bs) (cond y (split_lines bs) (onto_first b (split_lines bs))))
+        (map without_ending (cond x ((b ∷ []) ∷ full_lines_of bs) (onto_first b (full_lines_of bs))))
+    go true y e f s =
+        subst (λ (l : List ℕ). IsOrEmpty ([] ∷ split_lines bs) (l ∷ lines_of bs))
+        (sym (without_ending-end b [] (ends-ending (b == 10) (b == 13) (not (begins_with 10 bs)) e)))
+        (or_empty-line [] (split_lines bs) (lines_of bs) s)
+    go false true e f s =
+        subst (IsOrEmpty (split_lines bs))
+        (sym (return-feed b bs f (ending-cases (b == 10) (b == 13) (begins_with 10 bs) f e))) s
+    go false false e f s =
+        subst (IsOrEmpty (onto_first b (split_lines bs))) (sym (without_ending-onto b (full_lines_of bs) f))
+        (or_empty-byte b (split_lines bs) (lines_of bs) s)
 
-come-split : (options : ParseOptions) (column : ℕ) (split lines : List (List ℕ)) → IsBuilt options → IsOrEmpty split lines → come options (rests_at column split) ≡ come options (rests_at column lines)
+come-split : (options : ParseOptions) (column : ℕ) (split lines : List (List ℕ)) → IsBuilt options →
+    IsOrEmpty split lines → come options (rests_at column split) ≡ come options (rests_at column lines)
 come-split options column split lines built (inl e) = ap (λ (l : List (List ℕ)). come options (rests_at column l)) e
-come-split options column split lines built (inr e) = ap (λ (l : List (List ℕ)). come options (rests_at column l)) e ∙ come-empty options column lines built
+come-split options column split lines built (inr e) =
+    ap (λ (l : List (List ℕ)). come options (rests_at column l)) e ∙ come-empty options column lines built
 
 -- The tree of a text.
 
-pub front-off : (options : ParseOptions) (lines : List (List ℕ)) → options.constructs.frontmatter ≡ false → front_of options lines ≡ None
+pub front-off : (options : ParseOptions) (lines : List (List ℕ)) → options.constructs.frontmatter ≡ false →
+    front_of options lines ≡ None
 unfolding front_of
 front-off options [] off = refl
 front-off options (line ∷ lines) off = rw off refl
 
-preamble-off : (options : ParseOptions) (text : List ℕ) → options.constructs.frontmatter ≡ false → preamble options text ≡ record { front = None; body = rests_at (first_column text) (lines_of (without_mark text)) }
-preamble-off options text off = let lines = lines_of (without_mark text) in ap (preamble_by (first_column text) lines) (front-off options lines off)
+preamble-off : (options : ParseOptions) (text : List ℕ) → options.constructs.frontmatter ≡ false →
+    preamble options text ≡ record { front = None; body = rests_at (first_column text) (lines_of (without_mark text)) }
+preamble-off options text off =
+    let lines = lines_of (without_mark text) in ap (preamble_by (first_column text) lines) (front-off options lines off)
 
 -- what the lines of a text come to, behind a byte order mark
 abbrev body_of : ParseOptions → List ℕ → Blocks
@@ -274,14 +334,17 @@ body_of options bytes = come options (rests_at (first_column bytes) (lines_of (w
 
 tree-body : (options : ParseOptions) (bytes : List ℕ) → IsBuilt options → tree options bytes ≡ body_of options bytes
 tree-body options bytes built =
-    ap (λ (p : Preamble). with_frontmatter p.front (grouped (closed options (steps options (At (spot_of End)) p.body)))) (preamble-off options bytes built.frontmatter)
-    ∙ grouped-blocks (body_of options bytes) (simple-come options (rests_at (first_column bytes) (lines_of (without_mark bytes))) built)
+    ap (λ (p : Preamble). with_frontmatter p.front (grouped (closed options (steps options (At (spot_of End)) p.body))))
+    (preamble-off options bytes built.frontmatter)
+    ∙ grouped-blocks (body_of options bytes)
+    (simple-come options (rests_at (first_column bytes) (lines_of (without_mark bytes))) built)
 
 -- Such a tree is not too deep for an outline.
 pub tree-shallow : (options : ParseOptions) (bytes : List ℕ) → IsBuilt options → are_shallow (tree options bytes) ≡ true
 tree-shallow options bytes built =
     ap are_shallow (tree-body options bytes built)
-    ∙ shallow-blocks (body_of options bytes) (simple-come options (rests_at (first_column bytes) (lines_of (without_mark bytes))) built)
+    ∙ shallow-blocks (body_of options bytes)
+    (simple-come options (rests_at (first_column bytes) (lines_of (without_mark bytes))) built)
 
 body-first : (bytes : List ℕ) → (body_point bytes).column - 1 ≡ first_column bytes
 body-first bytes = go (has_mark bytes)
@@ -295,7 +358,9 @@ rests-at p [] = refl
 rests-at p (line ∷ lines) = refl
 
 -- The events of the lines of a text are read as its tree.
-pub tree-rows : (options : ParseOptions) → IsBuilt options → (bytes : List ℕ) (rows : List Row) → f.AreRows options bytes [] held_leaf.None (body_point bytes) (split_lines (drop (body_point bytes).index bytes)) rows →
+pub tree-rows : (options : ParseOptions) → IsBuilt options → (bytes : List ℕ) (rows : List Row) →
+    f.AreRows options bytes [] held_leaf.None (body_point bytes)
+    (split_lines (drop (body_point bytes).index bytes)) rows →
     spelled (groups_events bytes (groups rows)) bytes ≡ tree options bytes
 tree-rows options built bytes rows are =
     let p : Point = body_point bytes in

@@ -1,5 +1,5 @@
--- The states of flow in front of leaves, whichever are built, by the order in which these are tried: each has its place in
--- the table, and what is left there is what the leaf and those behind it leave.
+-- The states of flow in front of leaves, whichever are built, by the order in which these are tried: each has its place
+-- in the table, and what is left there is what the leaf and those behind it leave.
 use Rattle.std.proofs.Common.{◌≡◌, ◌+◌, ◌*◌, suc, ◌<◌, List, [], ◌∷◌, length, Option, Some, refl, ap, ◌∙◌, subst, arith}
 use Rattle.md_engine.specs.declared.configuration.ParseOptions.{ParseOptions}
 use Rattle.md_engine.specs.declared.state.Name.TheVariants as n
@@ -86,14 +86,20 @@ falls-to l ls e is = go ls (ap length e) is
     rank k = ap (λ (x : Rank). x.number) (rank-is (leaf k).before k (leaf-states k).tried)
 
     go : (ls : List LeafName) → length (behind l) ≡ length ls → NextIs ls → Falls l (front_of ls)
-    go [] size is = let here = rank l in record { falls = omega (arith, here, size); next_low = omega arith; behind_low = omega arith }
+    go [] size is =
+        let here = rank l in
+        record { falls = omega (arith, here, size); next_low = omega arith; behind_low = omega arith }
     go (m ∷ ms) size is =
         let here = rank l in
         let low = rank m in
         let tries : (flow_tries (n.Flow (leaf m).before)).number ≡ suc (6 + 2 * length (behind m)) =
         ap (λ (x : Rank). x.number) (tries-are (leaf m).before m (leaf-states m).tried) in
         let less = ap length is in
-        record { falls = omega (arith, here, tries, less, size); next_low = omega (arith, low, tries); behind_low = omega (arith, tries) }
+        record {
+          falls = omega (arith, here, tries, less, size);
+          next_low = omega (arith, low, tries);
+          behind_low = omega (arith, tries);
+        }
 
 pub leaf-fits : (l : LeafName) → LeafFits flow_table_scheme l
 leaf-fits l =

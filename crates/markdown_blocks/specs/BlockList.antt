@@ -1,11 +1,12 @@
 -- The events of a text, one for one, before its text parts are read.
 --
--- They are those of its byte order mark, if it has one, and then those of its lines. A line adds, from left to right: what stands in
--- front of it (the begins and the prefixes of its containers, from the outermost in), its leaf, the ends of the containers that end
--- behind it, and its ending. Lines of text that belong together are one leaf: a chunk for each line, with its ending but the last, and in front
--- of each further chunk what stands in front of its line.
+-- They are those of its byte order mark, if it has one, and then those of its lines. A line adds, from left to right:
+-- what stands in front of it (the begins and the prefixes of its containers, from the outermost in), its leaf, the ends
+-- of the containers that end behind it, and its ending. Lines of text that belong together are one leaf: a chunk for
+-- each line, with its ending but the last, and in front of each further chunk what stands in front of its line.
 --
--- What the lines are (`Row`), and which of them are one text (`groups`), stands in `Rows`; the events of each leaf in its own file of `Leaf`.
+-- What the lines are (`Row`), and which of them are one text (`groups`), stands in `Rows`; the events of each leaf in
+-- its own file of `Leaf`.
 use Rattle.std.specs.Prelude.{ℕ, List, [], ◌∷◌, ◌++◌}
 use Rattle.md_engine.specs.declared.configuration.ParseOptions.{ParseOptions}
 use Rattle.md_engine.specs.declared.event.Event.{Event}
@@ -15,13 +16,16 @@ use Rattle.md_engine.specs.declared.event.Name.TheVariants as n
 use Rattle.md_seam.specs.Events.Nested.{around, enter_link, exit}
 use Rattle.markdown_blocks.specs.Document.{body_point, mark_events}
 use Rattle.markdown_blocks.specs.Registry.{text_leaf}
-use Rattle.markdown_blocks.specs.Rows.{Group, Lines, Row, final_row, first_row, group_kind, RowKind, Single, behind_row, ending_of, groups, last_row, leaf_unread, tail_events}
+use Rattle.markdown_blocks.specs.Rows.{Group, Lines, Row, final_row, first_row, group_kind, RowKind, Single, behind_row}
+use Rattle.markdown_blocks.specs.Rows.{ending_of, groups, last_row, leaf_unread, tail_events}
 use Rattle.markdown_blocks.specs.TextRows.{text_rows}
 
--- the lines of a part that is not read yet, each a chunk; in front of each further one stand the prefixes of its containers
+-- the lines of a part that is not read yet, each a chunk; in front of each further one stand the prefixes of its
+-- containers
 abbrev pub linked_lines : Name → Link → Row → List Row → List Event
 linked_lines name link row [] = enter_link name row.first link ∷ exit name row.end ∷ []
-linked_lines name link row (next ∷ rows) = enter_link name row.first link ∷ exit name (behind_row row) ∷ next.front ++ linked_lines name link next rows
+linked_lines name link row (next ∷ rows) =
+    enter_link name row.first link ∷ exit name (behind_row row) ∷ next.front ++ linked_lines name link next rows
 
 -- the lines of a text that is not read yet
 abbrev pub unread_lines : Row → List Row → List Event
@@ -42,7 +46,8 @@ group_unread bytes (Lines row rows) = text_unread row rows
 
 -- with what stands in front of it, and behind it
 abbrev pub listed_group : List ℕ → Group → List Event
-listed_group bytes group = (first_row group).front ++ group_unread bytes group ++ tail_events (ending_of (group_kind group)) (final_row group)
+listed_group bytes group =
+    (first_row group).front ++ group_unread bytes group ++ tail_events (ending_of (group_kind group)) (final_row group)
 
 abbrev pub listed_groups : List ℕ → List Group → List Event
 listed_groups bytes [] = []

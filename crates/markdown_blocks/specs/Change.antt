@@ -21,7 +21,8 @@ pub record Change : Type 0 where
 abbrev pub open_behind : Change → List Container
 open_behind c = c.stays ++ c.opens
 
--- some containers went on, and some open; the others stay too where the line goes on the open text, and end where it does not
+-- some containers went on, and some open; the others stay too where the line goes on the open text, and end where it
+-- does not
 abbrev pub change_by : Bool → List Container → List Container → List Container → Change
 change_by true went others opens = record { stays = went ++ others; closes = []; opens = opens }
 change_by false went others opens = record { stays = went; closes = others; opens = opens }

@@ -22,8 +22,8 @@ pub record ContainerRules : Type 1 where
   -- What may stand where it opens, and where its prefix on a further line begins: elsewhere it is refused at once.
   pub may_open : Option ℕ → Bool
   pub may_go_on : Option ℕ → Bool
-  -- By the cells of a line: the one that opens, if one does, where it would interrupt text or not; and an open one, if it
-  -- goes on.
+  -- By the cells of a line: the one that opens, if one does, where it would interrupt text or not; and an open one, if
+  -- it goes on.
   pub opens : ParseOptions → Bool → List Cell → Point → Option Passed
   pub goes : ParseOptions → Container → List Cell → Point → Option Passed
   -- By the rest of a line: the one that opens. Which open one goes on, the line definition says of all containers at

@@ -18,19 +18,24 @@ use Rattle.md_seam.specs.Events.Nested.{pair}
 use Rattle.md_definition.specs.Preamble.{has_mark}
 use Rattle.md_seam.specs.Spaces.{rest_ready}
 use Rattle.md_seam.specs.Transition.{Transition, tried}
-use Rattle.markdown_blocks.specs.Flow.{containers_after_transition, existing_after_transition, existing_before_transition, flow_end_transition, new_after_transition, new_before_transition}
+use Rattle.markdown_blocks.specs.Flow.{containers_after_transition, existing_after_transition}
+use Rattle.markdown_blocks.specs.Flow.{existing_before_transition, flow_end_transition, new_after_transition}
+use Rattle.markdown_blocks.specs.Flow.{new_before_transition}
 
 -- States.
 
 abbrev pub start_transition : World → Transition
 start_transition w =
-    record { to = Retry (s.Bom bom.Start); world = tried w (Next (s.Document document.BeforeFrontmatter)) (Next (s.Document document.BeforeFrontmatter)) }
+    record {
+      to = Retry (s.Bom bom.Start);
+      world = tried w (Next (s.Document document.BeforeFrontmatter)) (Next (s.Document document.BeforeFrontmatter));
+    }
 
 abbrev pub before_frontmatter_transition : World → Transition
 before_frontmatter_transition w = record { to = Ok; world = w }
 
--- each state with what it does, where there is memory: in front of the lines, and between the containers of a line; those of blocks
--- that are not built refuse
+-- each state with what it does, where there is memory: in front of the lines, and between the containers of a line;
+-- those of blocks that are not built refuse
 abbrev pub document_own_transition : DocumentState → World → Transition
 document_own_transition document.Start w = start_transition w
 document_own_transition document.BeforeFrontmatter w = before_frontmatter_transition w

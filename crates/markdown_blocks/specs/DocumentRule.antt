@@ -9,7 +9,8 @@ use Rattle.markdown_blocks.specs.FlowRule.{tried}
 
 -- behind the mark, or at the start if there is none
 abbrev pub document_at : List Cell → Here → Outcome
-document_at cells h = tried (bom_at cells h) (λ rest k. Accepts k rest) (λ s g. Accepts (record h { scratch = s; flags = g }) cells)
+document_at cells h =
+    tried (bom_at cells h) (λ rest k. Accepts k rest) (λ s g. Accepts (record h { scratch = s; flags = g }) cells)
 
 -- in front of the lines
 abbrev pub front_behaves : DocumentState → List Cell → Here → Outcome

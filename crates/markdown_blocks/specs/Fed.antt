@@ -1,6 +1,7 @@
--- What stands between two lines while flow reads a text: whenever a line has been fed, what the tokenizer holds stands for what is
--- open by the line definition.
-use Rattle.std.specs.Prelude.{◌≡◌, ℕ, zero, suc, ◌+◌, ◌<◌, ◌≤◌, Bool, true, ◌==◌, if◌then◌else◌, List, [], ◌∷◌, length, map, take, drop, Option, Some}
+-- What stands between two lines while flow reads a text: whenever a line has been fed, what the tokenizer holds stands
+-- for what is open by the line definition.
+use Rattle.std.specs.Prelude.{◌≡◌, ℕ, zero, suc, ◌+◌, ◌<◌, ◌≤◌, Bool, true, ◌==◌, if◌then◌else◌, List, [], ◌∷◌, length}
+use Rattle.std.specs.Prelude.{map, take, drop, Option, Some}
 use Rattle.md_engine.specs.declared.configuration.ParseOptions.{ParseOptions}
 use Rattle.md_engine.specs.declared.event.Point.{Point}
 use Rattle.md_engine.specs.declared.state.Name.{Name as StateName}
@@ -35,7 +36,8 @@ feeds name current = 0
 abbrev pub fed : (T : Step) (is_end : Bool) (s : State) (w : World) (t : State) (v : World) → Runs T is_end s w t v → ℕ
 fed T is_end s w t v Stays = 0
 fed T is_end s w t v (ThenLeaves from old to new run leaves) = fed T is_end s w from old run
-fed T is_end s w t v (ThenCalls from old to new run calls) = feeds calls.name (looks old) + fed T is_end s w from old run
+fed T is_end s w t v (ThenCalls from old to new run calls) =
+    feeds calls.name (looks old) + fed T is_end s w from old run
 
 -- what is left of each line, of which the first begins at this point
 abbrev pub rests_from : Point → List (List ℕ) → List Rest
@@ -44,7 +46,8 @@ rests_from p (line ∷ lines) = rest_from p line ∷ map (rest_at 0) lines
 
 -- what is open behind so many lines of a text, from a point on
 abbrev pub path_behind : ParseOptions → List ℕ → Point → ℕ → Path
-path_behind options bytes p n = steps options (At (spot_of End)) (take n (rests_from p (split_lines (drop p.index bytes))))
+path_behind options bytes p n =
+    steps options (At (spot_of End)) (take n (rests_from p (split_lines (drop p.index bytes))))
 
 -- what is read where so many containers end
 abbrev pub close_containers : ℕ → Reading → Reading
@@ -79,7 +82,8 @@ pub record StandsBehind (bytes : List ℕ) (options : ParseOptions) (p : Point) 
   pub events : w.events ≡ rows_events (not_left (take n (text_rows options bytes p)))
   -- these, with their parts read, are read as a tree that is not closed yet,
   pub reading : Reading
-  pub reads : read bytes unread (groups_events bytes (groups (take n (text_rows options bytes p)))) ≡ close_containers (length (last_leaves (take n (text_rows options bytes p)))) reading
+  pub reads : read bytes unread (groups_events bytes (groups (take n (text_rows options bytes p)))) ≡
+      close_containers (length (last_leaves (take n (text_rows options bytes p)))) reading
   -- and with the flags it stands for what these lines come to
   pub stands : StandsFor options w.flags reading (path_behind options bytes p n)
 
@@ -95,7 +99,13 @@ line_begins = Next (s.Document document.ContainerExistingBefore)
 pub record FlowRan (bytes : List ℕ) (options : ParseOptions) (p : Point) (end : State) (at : World) : Type 0 where
   pub run : Runs (FlowStep same_name) true line_begins (flow_begins bytes options p) end at
   -- all lines were fed but the last, which ends where the text does,
-  pub lines : suc (fed (FlowStep same_name) true line_begins (flow_begins bytes options p) end at run) ≡ length (text_rows options bytes p)
+  pub lines : suc (fed (FlowStep same_name) true line_begins (flow_begins bytes options p) end at run) ≡
+      length (text_rows options bytes p)
   -- and whenever one had been fed, what the tokenizer held stood for what is open behind the lines so far
-  pub stands : IsBuilt options → p.index ≤ length bytes → p.vs ≡ 0 → 1 ≤ p.column → (t : State) (v : World) (t' : State) (v' : World) (before : Runs (FlowStep same_name) true line_begins (flow_begins bytes options p) t v) (call : Calls (FlowStep same_name) true t v t' v') →
-      feeds call.name (looks v) ≡ 1 → StandsBehind bytes options p (suc (fed (FlowStep same_name) true line_begins (flow_begins bytes options p) t v before)) v'
+  pub stands : IsBuilt options → p.index ≤ length bytes → p.vs ≡ 0 → 1 ≤ p.column →
+      (t : State) (v : World) (t' : State) (v' : World)
+      (before : Runs (FlowStep same_name) true line_begins (flow_begins bytes options p) t v)
+      (call : Calls (FlowStep same_name) true t v t' v') →
+      feeds call.name (looks v) ≡ 1 →
+      StandsBehind bytes options p
+      (suc (fed (FlowStep same_name) true line_begins (flow_begins bytes options p) t v before)) v'

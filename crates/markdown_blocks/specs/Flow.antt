@@ -14,8 +14,10 @@ use Rattle.md_engine.specs.World.{World, closed}
 use Rattle.md_leaves.specs.Blank as blank
 use Rattle.md_seam.specs.Spaces.{ends_line, rest_ready}
 use Rattle.md_seam.specs.Transition.{Transition, entered, exited, taken, tried}
-use Rattle.markdown_blocks.specs.LineFlags.{begun_line, blanked, ending_name, next_container, next_line, stays, went_on, with_container}
-use Rattle.markdown_blocks.specs.Registry.{LeafName, first_container, front_of, goes_on_with, leaf, may_go_on, may_open, new_kind, next_of, rank_of, trials, tried_at, tries_of}
+use Rattle.markdown_blocks.specs.LineFlags.{begun_line, blanked, ending_name, next_container, next_line, stays, went_on}
+use Rattle.markdown_blocks.specs.LineFlags.{with_container}
+use Rattle.markdown_blocks.specs.Registry.{LeafName, first_container, front_of, goes_on_with, leaf, may_go_on, may_open}
+use Rattle.markdown_blocks.specs.Registry.{new_kind, next_of, rank_of, trials, tried_at, tries_of}
 
 -- What is tried.
 
@@ -80,7 +82,11 @@ new_before_transition w =
 
 abbrev pub new_after_transition : World → Transition
 new_after_transition w =
-    let v = closed w w.flags.continued w.flags.line_end in record { to = Retry (s.Document document.ContainerNewBefore); world = record v { flags = with_container new_kind v.flags } }
+    let v = closed w w.flags.continued w.flags.line_end in
+    record {
+      to = Retry (s.Document document.ContainerNewBefore);
+      world = record v { flags = with_container new_kind v.flags };
+    }
 
 abbrev pub containers_after_transition : World → Transition
 containers_after_transition w =
@@ -91,7 +97,13 @@ abbrev pub flow_end_code : World → Option ℕ → Transition
 flow_end_code w None = record { to = Ok; world = closed w 0 (length w.events) }
 flow_end_code w (Some b) =
     if b == 10
-    then record { to = Next (s.Document document.ContainerExistingBefore); world = record (exited (taken (entered w (ending_name w.flags.blank))) (ending_name w.flags.blank)) { flags = next_line (length w.events) w.flags } }
+    then record {
+      to = Next (s.Document document.ContainerExistingBefore);
+      world =
+          record (exited (taken (entered w (ending_name w.flags.blank))) (ending_name w.flags.blank)) {
+            flags = next_line (length w.events) w.flags;
+          };
+    }
     else record { to = Nok; world = w }
 
 abbrev pub flow_end_transition : World → Transition

@@ -1,5 +1,5 @@
--- What flow has read of a text: its lines, and behind them the steps of the resolvers, in their order. Each step is total: where nothing
--- is its own, it changes nothing.
+-- What flow has read of a text: its lines, and behind them the steps of the resolvers, in their order. Each step is
+-- total: where nothing is its own, it changes nothing.
 use Rattle.std.specs.Prelude.{◌≡◌, ◌⊎◌, ℕ, Bool, false, ◌||◌, List, [], ◌∷◌}
 use Rattle.md_engine.specs.declared.configuration.ParseOptions.{ParseOptions}
 use Rattle.md_engine.specs.declared.event.Event.{Event}
@@ -30,7 +30,8 @@ pub record FlowReads (bytes : List ℕ) (options : ParseOptions) (p : Point) (fo
   pub events : ended.events ≡ rows_events (text_rows options bytes p)
   -- content is read,
   pub content : List Event
-  pub content_read : Substituted wants_content (content_readings bytes options) [] 0 (joined (rows_events (text_rows options bytes p))) content
+  pub content_read : Substituted wants_content (content_readings bytes options) [] 0
+      (joined (rows_events (text_rows options bytes p))) content
   -- and then the other resolvers run
   pub events_are : new.events ≡ resolved content
   -- all else stays, but that no resolver is left to run
@@ -38,4 +39,5 @@ pub record FlowReads (bytes : List ℕ) (options : ParseOptions) (p : Point) (fo
   pub setting : new.setting ≡ text_setting bytes options p
   pub frames : new.frames ≡ []
   -- the resolver of content alone says what it has found, and it runs if a line is content
-  pub found_is : ((has_text (text_rows options bytes p) ≡ false) × (found ≡ nothing)) ⊎ (found ≡ found_in_content content)
+  pub found_is : ((has_text (text_rows options bytes p) ≡ false) × (found ≡ nothing)) ⊎
+      (found ≡ found_in_content content)

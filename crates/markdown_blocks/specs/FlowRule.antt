@@ -1,5 +1,5 @@
--- What is left at each state of the lines of a text: the lines that are still to come, each by its containers and the block that
--- takes the rest of it.
+-- What is left at each state of the lines of a text: the lines that are still to come, each by its containers and the
+-- block that takes the rest of it.
 use Rattle.std.specs.Prelude.{◌≡◌, ℕ, zero, suc, ◌==◌, Option, Some, None, if◌then◌else◌, List, [], ◌∷◌, ◌++◌, length}
 use Rattle.md_engine.specs.declared.configuration.ParseOptions.{ParseOptions}
 use Rattle.md_engine.specs.declared.state.Name.TheVariants as s
@@ -15,8 +15,10 @@ use Rattle.md_engine.specs.World.{Flags, closed_events, kept}
 use Rattle.md_content.specs.ChunkRule.{HasChunk, chunk_at}
 use Rattle.md_leaves.specs.BlankRule.{HasBlank, blank_at}
 use Rattle.md_seam.specs.Events.Nested.{pair}
-use Rattle.markdown_blocks.specs.Registry.{LeafName, behind, continues_at, first_container, goes_on_with, leaf, new_container_at, new_kind, trials, tried_at}
-use Rattle.markdown_blocks.specs.LineFlags.{begun_line, blanked, ending_name, next_container, next_line, stays, went_on, with_container}
+use Rattle.markdown_blocks.specs.Registry.{LeafName, behind, continues_at, first_container, goes_on_with, leaf}
+use Rattle.markdown_blocks.specs.Registry.{new_container_at, new_kind, trials, tried_at}
+use Rattle.markdown_blocks.specs.LineFlags.{begun_line, blanked, ending_name, next_container, next_line, stays, went_on}
+use Rattle.markdown_blocks.specs.LineFlags.{with_container}
 
 -- how the rest of a text ends from a place
 abbrev pub Rule : Type 0
@@ -24,14 +26,22 @@ Rule = List Cell → Here → Outcome
 
 -- the containers behind so many end, in front of the event at an index
 abbrev pub ended_to : ℕ → ℕ → Here → Here
-ended_to keep at h = record h { events = closed_events keep at h.flags.containers h.events h.point; flags = kept keep h.flags }
+ended_to keep at h = record h {
+  events = closed_events keep at h.flags.containers h.events h.point;
+  flags = kept keep h.flags;
+}
 
 -- the ending of a line, and what follows it: all containers end where the text does
 abbrev pub ended : Rule → Rule
 ended next [] h = Accepts (ended_to 0 (length h.events) h) []
 ended next (c ∷ cs) h =
     if c.byte == 10
-    then next cs (record h { events = h.events ++ pair (ending_name h.flags.blank) h.point c.after; point = c.after; flags = next_line (length h.events) h.flags })
+    then next cs
+    (record h {
+      events = h.events ++ pair (ending_name h.flags.blank) h.point c.after;
+      point = c.after;
+      flags = next_line (length h.events) h.flags;
+    })
     else Refuses h.scratch h.flags
 
 -- behind the leaf of a line: containers that did not go on end before it, unless it goes on the open paragraph
@@ -55,14 +65,18 @@ content_of next cells h = tried (chunk_at cells h) (line_ended next) Refuses
 -- leaves are tried one after another
 abbrev pub leaves_of : ParseOptions → Rule → List LeafName → Rule
 leaves_of options next [] cells h = content_of next cells h
-leaves_of options next (l ∷ ls) cells h = tried ((leaf l).trial options cells h) (line_ended next) (λ s g. leaves_of options next ls cells (record h { scratch = s; flags = g }))
+leaves_of options next (l ∷ ls) cells h =
+    tried ((leaf l).trial options cells h) (line_ended next)
+    (λ s g. leaves_of options next ls cells (record h { scratch = s; flags = g }))
 
 abbrev pub nonblank_of : ParseOptions → Rule → Rule
 nonblank_of options next cells h = leaves_of options next trials cells h
 
 -- the rest of a line behind its containers
 abbrev pub leaf_of : ParseOptions → Rule → Rule
-leaf_of options next cells h = tried (blank_at cells h) (blank_ended next) (λ s g. nonblank_of options next cells (record h { scratch = s; flags = g }))
+leaf_of options next cells h =
+    tried (blank_at cells h) (blank_ended next)
+    (λ s g. nonblank_of options next cells (record h { scratch = s; flags = g }))
 
 -- Containers. Each takes a cell at least, so there are no more of them than cells.
 
@@ -77,7 +91,9 @@ opened h = let k = ended_to h.flags.continued h.flags.line_end h in record k { f
 -- containers open as often as they do
 unfoldable pub new_from : ParseOptions → Rule → ℕ → Rule
 new_from options next zero cells h = behind_containers options next cells h
-new_from options next (suc n) cells h = tried (new_container_at options cells h) (λ rest k. new_from options next n rest (opened k)) (λ s g. behind_containers options next cells (record h { scratch = s; flags = g }))
+new_from options next (suc n) cells h =
+    tried (new_container_at options cells h) (λ rest k. new_from options next n rest (opened k))
+    (λ s g. behind_containers options next cells (record h { scratch = s; flags = g }))
 
 unfoldable pub new_of : ParseOptions → Rule → Rule
 new_of options next cells h = new_from options next (suc (length cells)) cells h
@@ -85,11 +101,14 @@ new_of options next cells h = new_from options next (suc (length cells)) cells h
 -- each container is asked whether it goes on, from the outermost in, until one does not
 abbrev pub existing_by : ParseOptions → Rule → Rule → Option Container → Rule
 existing_by options next further None cells h = new_of options next cells h
-existing_by options next further (Some c) cells h = tried (continues_at options c.kind cells h) (λ rest k. further rest (record k { flags = went_on k.flags })) (λ s g. new_of options next cells (record h { scratch = s; flags = g }))
+existing_by options next further (Some c) cells h =
+    tried (continues_at options c.kind cells h) (λ rest k. further rest (record k { flags = went_on k.flags }))
+    (λ s g. new_of options next cells (record h { scratch = s; flags = g }))
 
 unfoldable pub existing_from : ParseOptions → Rule → ℕ → Rule
 existing_from options next zero cells h = new_of options next cells h
-existing_from options next (suc n) cells h = existing_by options next (existing_from options next n) (next_container h.flags) cells h
+existing_from options next (suc n) cells h =
+    existing_by options next (existing_from options next n) (next_container h.flags) cells h
 
 unfoldable pub line_then : ParseOptions → Rule → Rule
 line_then options next cells h = existing_from options next (suc (length cells)) cells h
@@ -133,6 +152,9 @@ pub record HasFlow (B : Behaviour) (options : ParseOptions) (next : Rule) : Type
   pub chunk : HasChunk B
   pub starts : (l : LeafName) (cells : List Cell) (h : Here) → B (leaf l).start cells h ≡ (leaf l).trial options cells h
   pub opens : (cells : List Cell) (h : Here) → B first_container cells h ≡ new_container_at options cells h
-  pub goes_on : (k : ContainerKind) (cells : List Cell) (h : Here) → B (goes_on_with k) cells h ≡ continues_at options k cells h
-  pub containers : (state : DocumentState) (cells : List Cell) (h : Here) → B (s.Document state) cells h ≡ containers_behave options next state cells h
-  pub leaves : (state : FlowState) (cells : List Cell) (h : Here) → B (s.Flow state) cells h ≡ leaves_behave options next state cells h
+  pub goes_on : (k : ContainerKind) (cells : List Cell) (h : Here) →
+      B (goes_on_with k) cells h ≡ continues_at options k cells h
+  pub containers : (state : DocumentState) (cells : List Cell) (h : Here) →
+      B (s.Document state) cells h ≡ containers_behave options next state cells h
+  pub leaves : (state : FlowState) (cells : List Cell) (h : Here) →
+      B (s.Flow state) cells h ≡ leaves_behave options next state cells h

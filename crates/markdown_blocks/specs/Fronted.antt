@@ -24,12 +24,18 @@ one_more c f = record f { containers = c ∷ f.containers }
 -- each open container is asked whether it goes on, from the outermost in, until one does not
 abbrev pub prefixes_on : ParseOptions → List Container → Rest → Prefixed
 prefixes_on options [] r = no_prefix r
-prefixes_on options (c ∷ cs) r = elim (continues options c r) [ None ↦ no_prefix r | Some t ↦ one_more t.container (prefixes_on options cs t.rest) ]
+prefixes_on options (c ∷ cs) r = elim (continues options c r) [
+  | None ↦ no_prefix r
+  | Some t ↦ one_more t.container (prefixes_on options cs t.rest)
+]
 
 -- containers open as often as they do, at most so many; the first may interrupt a paragraph
 abbrev pub prefixes_new : ParseOptions → Bool → ℕ → Rest → Prefixed
 prefixes_new options interrupting zero r = no_prefix r
-prefixes_new options interrupting (suc n) r = elim (opens options interrupting r) [ None ↦ no_prefix r | Some t ↦ one_more t.container (prefixes_new options false n t.rest) ]
+prefixes_new options interrupting (suc n) r = elim (opens options interrupting r) [
+  | None ↦ no_prefix r
+  | Some t ↦ one_more t.container (prefixes_new options false n t.rest)
+]
 
 -- as the rest of a line stands in the text: a tab that is cut is counted among its bytes
 abbrev pub rest_line : Rest → List ℕ
@@ -45,14 +51,19 @@ pub record Contained : Type 0 where
   pub rest : Rest
 
 abbrev pub contained_by : List Container → Bool → Prefixed → Prefixed → Contained
-contained_by cs lazy went new = record { change = change_by lazy went.containers (others_of cs went.containers) new.containers; rest = new.rest }
+contained_by cs lazy went new = record {
+  change = change_by lazy went.containers (others_of cs went.containers) new.containers;
+  rest = new.rest;
+}
 
 abbrev pub contained_of : ParseOptions → List Container → HeldLeaf → Prefixed → Prefixed → Contained
-contained_of options cs still went new = contained_by cs (is_lazy still new.containers (line_kind options new.rest)) went new
+contained_of options cs still went new =
+    contained_by cs (is_lazy still new.containers (line_kind options new.rest)) went new
 
 abbrev pub contained_behind : ParseOptions → List Container → HeldLeaf → Prefixed → Contained
 contained_behind options cs still went =
-    contained_of options cs still went (prefixes_new options (interrupts still (others_of cs went.containers)) (length went.rest.bytes) went.rest)
+    contained_of options cs still went
+    (prefixes_new options (interrupts still (others_of cs went.containers)) (length went.rest.bytes) went.rest)
 
 -- where these containers and this leaf are open before it
 unfoldable pub contained : ParseOptions → List Container → HeldLeaf → Rest → Contained

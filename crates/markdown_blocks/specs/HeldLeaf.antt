@@ -1,7 +1,9 @@
 -- The leaf that is open between two lines: what the frame asks of each kind.
 --
--- A kind that keeps more than its name between lines (the fence of fenced code, the kind of HTML, where indented code ends) keeps it in
--- `HeldLeaf`; what it is by the line definition is said here, and so is whether containers may open in it, once one may not.
+-- A kind that keeps more than its name between lines (the fence of fenced code, the kind of HTML, where indented code
+-- ends) keeps it in
+-- `HeldLeaf`; what it is by the line definition is said here, and so is whether containers may open in it, once one may
+-- not.
 use Rattle.std.specs.Prelude.{◌≡◌, Bool, true, false, List, ◌∷◌}
 use Rattle.md_engine.specs.declared.tokenizer.held_leaf.HeldLeaf.{HeldLeaf}
 use Rattle.md_engine.specs.declared.tokenizer.held_leaf.HeldLeaf.TheVariants as held_leaf

@@ -1,6 +1,7 @@
 -- What the document knows of its containers, and how each step of a line changes it.
 use Rattle.markdown_blocks.specs.HeldLeaf.{takes_lazy}
-use Rattle.std.specs.Prelude.{ℕ, suc, Bool, true, false, ◌&&◌, nat_lt, if◌then◌else◌, [], ◌∷◌, ◌++◌, length, slice_get, Option}
+use Rattle.std.specs.Prelude.{ℕ, suc, Bool, true, false, ◌&&◌, nat_lt, if◌then◌else◌, [], ◌∷◌, ◌++◌, length, slice_get}
+use Rattle.std.specs.Prelude.{Option}
 use Rattle.md_engine.specs.declared.event.Name.{Name}
 use Rattle.md_engine.specs.declared.event.Name.TheVariants.{BlankLineEnding, LineEnding}
 use Rattle.md_engine.specs.declared.tokenizer.container.Container.{Container}
@@ -19,7 +20,11 @@ went_on g = record g { continued = if nat_lt g.continued (length g.containers) t
 
 -- a container of this kind opens, where those that did not go on have ended: no paragraph is open in it
 abbrev pub with_container : ContainerKind → Flags → Flags
-with_container k g = record g { containers = g.containers ++ record { kind = k } ∷ []; continued = length (g.containers ++ record { kind = k } ∷ []); leaf = held_leaf.None }
+with_container k g = record g {
+  containers = g.containers ++ record { kind = k } ∷ [];
+  continued = length (g.containers ++ record { kind = k } ∷ []);
+  leaf = held_leaf.None;
+}
 
 -- behind the containers of a line
 abbrev pub begun_line : Flags → Flags
@@ -29,8 +34,8 @@ begun_line g = record g { leaf_before = g.leaf }
 abbrev pub blanked : Flags → Flags
 blanked g = record g { leaf = held_leaf.None; blank = true }
 
--- how many containers are still open behind a line: all of them behind a line of the paragraph that is open (CommonMark 5.1,
--- "laziness"), and else those that went on
+-- how many containers are still open behind a line: all of them behind a line of the paragraph that is open (CommonMark
+-- 5.1, "laziness"), and else those that went on
 abbrev pub stays : Flags → ℕ
 stays g = if takes_lazy g.leaf_before && takes_lazy g.leaf then length g.containers else g.continued
 

@@ -1,7 +1,8 @@
 -- The interface of a leaf that takes the rest of one line and is no text, as a heading: what the frame knows of it.
 --
--- A value says what its trial takes by the cells of a line, as its states do; what the line definition has of it, by the rest of the line;
--- and which events it has, from its begin to its end, at three stages. Its laws (`LeafLaws`) say that these fit.
+-- A value says what its trial takes by the cells of a line, as its states do; what the line definition has of it, by
+-- the rest of the line; and which events it has, from its begin to its end, at three stages. Its laws (`LeafLaws`) say
+-- that these fit.
 use Rattle.std.specs.Prelude.{ℕ, Bool, List, Option}
 use Rattle.md_engine.specs.declared.configuration.ParseOptions.{ParseOptions}
 use Rattle.md_engine.specs.declared.event.Event.{Event}
@@ -18,15 +19,16 @@ pub record LineLeaf : Type 0 where
   pub before : FlowState
   -- What may stand where it begins: elsewhere it is refused at once.
   pub may_begin : Option ℕ → Bool
-  -- By the cells of the rest of a line: what is left of it at its first state, whether it takes the line, and then which events it adds.
+  -- By the cells of the rest of a line: what is left of it at its first state, whether it takes the line, and then
+  -- which events it adds.
   pub trial : ParseOptions → List Cell → Here → Outcome
   pub takes : ParseOptions → List Cell → Bool
   pub adds : ParseOptions → List Cell → Point → List Event
   -- By the rest of a line, as the line definition has it: whether it starts there, and its block.
   pub starts : ParseOptions → Rest → Bool
   pub block : Rest → Block
-  -- Its events, by the bytes of the line and the point where it begins: as its states leave them, once its resolver has run, and once the
-  -- plain layer has read its text parts in this text.
+  -- Its events, by the bytes of the line and the point where it begins: as its states leave them, once its resolver has
+  -- run, and once the plain layer has read its text parts in this text.
   pub added : List ℕ → Point → List Event
   pub unread : List ℕ → Point → List Event
   pub done : List ℕ → List ℕ → Point → List Event

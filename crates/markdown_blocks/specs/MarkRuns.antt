@@ -20,8 +20,11 @@ mark_runs name Apart m [] p = []
 mark_runs name Marks m [] p = exit name p ∷ []
 mark_runs name White m [] p = exit n.SpaceOrTab p ∷ []
 mark_runs name Apart m (b ∷ bs) p =
-    if b == m then enter name p ∷ mark_runs name Marks m bs (past_byte b p) else enter n.SpaceOrTab p ∷ mark_runs name White m bs (past_byte b p)
+    if b == m then enter name p ∷ mark_runs name Marks m bs (past_byte b p)
+    else enter n.SpaceOrTab p ∷ mark_runs name White m bs (past_byte b p)
 mark_runs name Marks m (b ∷ bs) p =
-    if b == m then mark_runs name Marks m bs (past_byte b p) else exit name p ∷ enter n.SpaceOrTab p ∷ mark_runs name White m bs (past_byte b p)
+    if b == m then mark_runs name Marks m bs (past_byte b p)
+    else exit name p ∷ enter n.SpaceOrTab p ∷ mark_runs name White m bs (past_byte b p)
 mark_runs name White m (b ∷ bs) p =
-    if b == m then exit n.SpaceOrTab p ∷ enter name p ∷ mark_runs name Marks m bs (past_byte b p) else mark_runs name White m bs (past_byte b p)
+    if b == m then exit n.SpaceOrTab p ∷ enter name p ∷ mark_runs name Marks m bs (past_byte b p)
+    else mark_runs name White m bs (past_byte b p)

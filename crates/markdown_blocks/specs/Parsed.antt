@@ -53,7 +53,8 @@ pub record IsQuotable (text : List ℕ) : Type 0 where
   pub no_tab : list_all (λ b. not (b == 9)) text ≡ true
   pub no_mark : has_mark text ≡ false
 
--- What is known of a text that was read: its events nest, stand at its points, spell its tree and tile it; and it defines no label.
+-- What is known of a text that was read: its events nest, stand at its points, spell its tree and tile it; and it
+-- defines no label.
 pub record IsParsed (text : List ℕ) (options : ParseOptions) (events : List Event) (state : ParseState) : Type 0 where
   pub bytes : state.bytes.now ≡ text
   pub options_are : state.options.now ≡ options
@@ -62,11 +63,13 @@ pub record IsParsed (text : List ℕ) (options : ParseOptions) (events : List Ev
   -- each point is one of the text, with the right line and column
   pub placed : IsTrue (are_placed text events)
   -- with `> ` before each line, the text means one block quote with this tree in it, unchanged
-  pub in_quote : options.constructs.block_quote ≡ true → IsQuotable text → tree options (quoted text) ≡ More (Quote (spelled events text)) End
+  pub in_quote : options.constructs.block_quote ≡ true → IsQuotable text →
+      tree options (quoted text) ≡ More (Quote (spelled events text)) End
   pub tree : spelled events text ≡ tree options text
   -- no construct occurs in it that is off
   pub on : are_on options (spelled events text) ≡ true
-  -- one for one, the events are those of the lines of the text, with what the plain layer reads in the place of each chunk
+  -- one for one, the events are those of the lines of the text, with what the plain layer reads in the place of each
+  -- chunk
   pub events_are : events ≡ plain_read text (block_list options text)
   -- every byte is accounted for: the innermost pairs lie side by side, `Data` over each line of a text part among them
   pub tiles : Tiles (reads_plain text) text events

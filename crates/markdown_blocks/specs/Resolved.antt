@@ -7,7 +7,8 @@ use Rattle.md_engine.specs.World.{World}
 use Rattle.md_content.specs.Resolves.{Resolves}
 use Rattle.markdown_blocks.specs.Registry.{resolved_by}
 
--- content is read, and the resolvers of constructs that are built set what is their own; the names of the inline layer change nothing
+-- content is read, and the resolvers of constructs that are built set what is their own; the names of the inline layer
+-- change nothing
 abbrev pub resolved_as : ResolveName → World → Option Found → World → Type 0
 resolved_as Content old found new = Resolves old found new
 resolved_as name old found new = (found ≡ None) × (new ≡ record old { events = resolved_by name old.events })

@@ -2,7 +2,8 @@
 use Rattle.markdown_blocks.specs.HeldLeaf.{takes_lazy}
 use Rattle.md_engine.specs.declared.tokenizer.held_leaf.HeldLeaf.TheVariants as held_leaf
 use Rattle.md_engine.specs.declared.tokenizer.held_leaf.HeldLeaf.{HeldLeaf}
-use Rattle.std.specs.Prelude.{ℕ, zero, suc, Bool, true, false, ◌&&◌, length, if◌then◌else◌, List, [], ◌∷◌, ◌++◌, slice_range, Option, Some, None}
+use Rattle.std.specs.Prelude.{ℕ, zero, suc, Bool, true, false, ◌&&◌, length, if◌then◌else◌, List, [], ◌∷◌, ◌++◌}
+use Rattle.std.specs.Prelude.{slice_range, Option, Some, None}
 use Rattle.md_engine.specs.declared.configuration.ParseOptions.{ParseOptions}
 use Rattle.md_engine.specs.declared.event.Event.{Event}
 use Rattle.md_engine.specs.declared.event.Name.{Name}
@@ -37,8 +38,8 @@ pub record Row : Type 0 where
   pub change : Change
   -- those that end behind it, the outermost first
   pub leaves : List Container
-  -- behind its containers: where it begins, what flow adds for it unless it is text (the whitespace of a blank line, or a leaf from its
-  -- begin to its end), where its ending begins, and where it has ended, if it has an ending
+  -- behind its containers: where it begins, what flow adds for it unless it is text (the whitespace of a blank line, or
+  -- a leaf from its begin to its end), where its ending begins, and where it has ended, if it has an ending
   pub first : Point
   pub inside : List Event
   pub end : Point
@@ -55,7 +56,8 @@ line_kind options r = if is_blank r.bytes then BlankRow else kind_of (first_of (
 
 -- By its cells.
 abbrev pub row_kind : ParseOptions → List Cell → RowKind
-row_kind options cells = if is_blank (line_bytes cells) then BlankRow else kind_of (first_of (λ l. (leaf l).takes options cells) trials)
+row_kind options cells =
+    if is_blank (line_bytes cells) then BlankRow else kind_of (first_of (λ l. (leaf l).takes options cells) trials)
 
 -- by the bytes of a blank line, its whitespace
 abbrev pub blank_line : List ℕ → Point → List Event
@@ -92,13 +94,19 @@ in_front t f = record f { containers = t.container ∷ f.containers; events = t.
 -- each open container is asked whether it goes on, from the outermost in, until one does not
 abbrev pub went_front : ParseOptions → List Container → List Cell → Point → Front
 went_front options [] cells p = no_front cells p
-went_front options (c ∷ cs) cells p = elim (goes_at options c cells p) [ None ↦ no_front cells p | Some t ↦ in_front t (went_front options cs t.cells t.point) ]
+went_front options (c ∷ cs) cells p = elim (goes_at options c cells p) [
+  | None ↦ no_front cells p
+  | Some t ↦ in_front t (went_front options cs t.cells t.point)
+]
 
 -- containers open as often as they do, at most so many; the first may interrupt text
 abbrev pub new_front : ParseOptions → Bool → ℕ → List Cell → Point → Front
 new_front options interrupting zero cells p = no_front cells p
 new_front options interrupting (suc size) cells p =
-    elim (opens_at options interrupting cells p) [ None ↦ no_front cells p | Some t ↦ in_front t (new_front options false size t.cells t.point) ]
+    elim (opens_at options interrupting cells p) [
+      | None ↦ no_front cells p
+      | Some t ↦ in_front t (new_front options false size t.cells t.point)
+    ]
 
 -- What a line does to the containers that are open before it, and what is left of it.
 pub record Held : Type 0 where
@@ -122,14 +130,20 @@ abbrev pub is_lazy : HeldLeaf → List Container → RowKind → Bool
 is_lazy still opens kind = takes_lazy still && is_none opens && is_text kind
 
 abbrev pub held_by : List Container → Bool → Front → Front → Held
-held_by cs lazy went new = record { change = change_by lazy went.containers (others_of cs went.containers) new.containers; front = went.events ++ new.events; cells = new.cells; point = new.point }
+held_by cs lazy went new = record {
+  change = change_by lazy went.containers (others_of cs went.containers) new.containers;
+  front = went.events ++ new.events;
+  cells = new.cells;
+  point = new.point;
+}
 
 abbrev pub held_of : ParseOptions → List Container → HeldLeaf → Front → Front → Held
 held_of options cs still went new = held_by cs (is_lazy still new.containers (row_kind options new.cells)) went new
 
 abbrev pub held_behind : ParseOptions → List Container → HeldLeaf → Front → Held
 held_behind options cs still went =
-    held_of options cs still went (new_front options (interrupts still (others_of cs went.containers)) (length went.cells) went.cells went.point)
+    held_of options cs still went
+    (new_front options (interrupts still (others_of cs went.containers)) (length went.cells) went.cells went.point)
 
 -- where these containers and this leaf are open before it
 unfoldable pub held_at : ParseOptions → List Container → HeldLeaf → List Cell → Point → Held
@@ -160,12 +174,17 @@ onto_rows options h below = row_of options h below ∷ below
 -- the lines behind one, by what reads them
 abbrev pub rows_by : ParseOptions → Held → (List Container → HeldLeaf → List Cell → Point → List Row) → List Row
 rows_by options h further =
-    onto_rows options h (elim (from_ending h.cells) [ [] ↦ [] | c ∷ cs ↦ further (open_behind h.change) (leaf_behind (row_kind options h.cells)) cs c.after ])
+    onto_rows options h
+    (elim (from_ending h.cells) [
+      | [] ↦ []
+      | c ∷ cs ↦ further (open_behind h.change) (leaf_behind (row_kind options h.cells)) cs c.after
+    ])
 
 -- At most so many lines, where these containers and this leaf are open; behind the last ending stands an empty line.
 abbrev pub rows_at : ParseOptions → ℕ → List Container → HeldLeaf → List Cell → Point → List Row
 rows_at options zero open_before still cells p = []
-rows_at options (suc size) open_before still cells p = rows_by options (held_at options open_before still cells p) (rows_at options size)
+rows_at options (suc size) open_before still cells p =
+    rows_by options (held_at options open_before still cells p) (rows_at options size)
 
 -- Events.
 
@@ -232,7 +251,8 @@ abbrev pub goes_on : Row → Row → Bool
 goes_on row next = is_none row.leaves && is_none next.change.opens
 
 abbrev pub onto_lines : Row → Row → List Row → List Group → List Group
-onto_lines row next rows groups = if goes_on row next then Lines row (next ∷ rows) ∷ groups else Lines row [] ∷ Lines next rows ∷ groups
+onto_lines row next rows groups =
+    if goes_on row next then Lines row (next ∷ rows) ∷ groups else Lines row [] ∷ Lines next rows ∷ groups
 
 abbrev pub onto_groups : Row → RowKind → List Group → List Group
 onto_groups row TextRow (Lines next rows ∷ groups) = onto_lines row next rows groups
@@ -260,7 +280,8 @@ chunks_of row (next ∷ rows) = (record { first = row.first; after = behind_row 
 -- the lines of a text, once they are read: in front of each further line stand the prefixes of its containers
 abbrev pub read_lines : List ℕ → Row → List Row → List Event
 read_lines bytes row [] = plain_chunk bytes (record { first = row.first; after = row.end })
-read_lines bytes row (next ∷ rows) = plain_chunk bytes (record { first = row.first; after = behind_row row }) ++ next.front ++ read_lines bytes next rows
+read_lines bytes row (next ∷ rows) =
+    plain_chunk bytes (record { first = row.first; after = behind_row row }) ++ next.front ++ read_lines bytes next rows
 
 -- the leaf of these lines, once they are read
 abbrev pub text_done : List ℕ → Row → List Row → List Event
@@ -286,7 +307,8 @@ group_done bytes (Lines row rows) = text_done bytes row rows
 
 -- what stands in front of its first line, its leaf, and what stands behind its last line
 abbrev pub group_events : List ℕ → Group → List Event
-group_events bytes group = (first_row group).front ++ group_done bytes group ++ tail_events (ending_of (group_kind group)) (final_row group)
+group_events bytes group =
+    (first_row group).front ++ group_done bytes group ++ tail_events (ending_of (group_kind group)) (final_row group)
 
 -- the events of a text, once all its parts are read
 abbrev pub groups_events : List ℕ → List Group → List Event

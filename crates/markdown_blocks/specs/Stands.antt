@@ -1,9 +1,10 @@
--- What stands between two lines: what was read of the text, what the tokenizer knows, and what is open by the line definition.
+-- What stands between two lines: what was read of the text, what the tokenizer knows, and what is open by the line
+-- definition.
 --
--- The events before a line, without the ends of the containers that the line closes, spell the finished blocks, and the open leaf
--- as if it ended there. What is still open, and may go on, is told by the flags. What the tokenizer holds of a container is said in `Registry`. Items are
--- meant as they stand before their resolver puts lists around them. A leaf of several lines (fenced code, HTML, a table) will add
--- what its scratch holds.
+-- The events before a line, without the ends of the containers that the line closes, spell the finished blocks, and the
+-- open leaf as if it ended there. What is still open, and may go on, is told by the flags. What the tokenizer holds of
+-- a container is said in `Registry`. Items are meant as they stand before their resolver puts lists around them. A leaf
+-- of several lines (fenced code, HTML, a table) will add what its scratch holds.
 use Rattle.markdown_blocks.specs.HeldLeaf.{IsBuiltLeaf, MatchesLeaf, kind_of_leaf}
 use Rattle.md_engine.specs.declared.tokenizer.held_leaf.HeldLeaf.{HeldLeaf}
 use Rattle.std.specs.Prelude.{◌≡◌, Bool, List, [], ◌∷◌, None}

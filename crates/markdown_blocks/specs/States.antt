@@ -69,7 +69,8 @@ flow_transition is_name (s.SpaceOrTab state) w = white_transition state w
 flow_transition is_name name w = construct_transition is_name name w
 
 -- what a call of a state does, where there is memory
-pub record FlowStep (is_name : ResolveName → ResolveName → Bool) (name : StateName) (w : World) (to : State) (new : World) : Type 0 where
+pub record FlowStep (is_name : ResolveName → ResolveName → Bool) (name : StateName) (w : World) (to : State)
+    (new : World) : Type 0 where
   pub to_is : to ≡ (flow_transition is_name name w).to
   pub new_is : new ≡ (flow_transition is_name name w).world
 

@@ -1,4 +1,5 @@
--- The interface of a leaf of lines of text, which are joined and read later, as a paragraph: what the frame knows of it.
+-- The interface of a leaf of lines of text, which are joined and read later, as a paragraph: what the frame knows of
+-- it.
 use Rattle.std.specs.Prelude.{ℕ, List}
 use Rattle.md_engine.specs.declared.event.Link.{Link}
 use Rattle.md_engine.specs.declared.event.Name.{Name}

@@ -18,4 +18,5 @@ text_cells bytes options p = text_feed (text_setting bytes options p) p
 
 -- its lines, as flow reads them
 abbrev pub text_rows : ParseOptions → List ℕ → Point → List Row
-text_rows options bytes p = rows_at options (suc (length (text_cells bytes options p))) [] held_leaf.None (text_cells bytes options p) p
+text_rows options bytes p =
+    rows_at options (suc (length (text_cells bytes options p))) [] held_leaf.None (text_cells bytes options p) p

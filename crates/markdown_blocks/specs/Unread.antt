@@ -7,7 +7,8 @@ use Rattle.md_engine.specs.declared.event.Name.TheVariants as n
 use Rattle.md_content.specs.Chunks.{content_link}
 use Rattle.md_seam.specs.declared.inline.Chunk.{Chunk}
 use Rattle.md_seam.specs.Events.Nested.{enter_link, exit}
-pub use Rattle.markdown_blocks.specs.BlockList.{group_unread, linked_lines, text_unread, listed_group, listed_groups, listed_row_by, unread_lines}
+pub use Rattle.markdown_blocks.specs.BlockList.{group_unread, linked_lines, text_unread, listed_group, listed_groups}
+pub use Rattle.markdown_blocks.specs.BlockList.{listed_row_by, unread_lines}
 use Rattle.markdown_blocks.specs.Rows.{Group, Lines, Single, last_row, row_events, tail_events}
 
 -- the chunks of a part that is not read yet
@@ -18,7 +19,8 @@ linked name link (chunk ∷ chunks) = enter_link name chunk.first link ∷ exit 
 -- Lines of text that follow one another, before their content is read.
 abbrev pub joined_group : Group → List Event
 joined_group (Single row) = row_events row
-joined_group (Lines row rows) = row.front ++ linked_lines n.Content content_link row rows ++ tail_events n.LineEnding (last_row row rows)
+joined_group (Lines row rows) =
+    row.front ++ linked_lines n.Content content_link row rows ++ tail_events n.LineEnding (last_row row rows)
 
 abbrev pub joined_groups : List Group → List Event
 joined_groups [] = []

@@ -55,7 +55,8 @@ impl<I: Inline> Reader for TextReader<'_, '_, I> {
 
     ghost wants = { λ reader. wants_text };
 
-    ghost reads_as = { λ reader content chunks events. I.reads reader.inline.now reader.state.now.bytes.now (record { kind = text_kind content; chunks = chunks }) events };
+    ghost reads_as = { λ reader content chunks events. I.reads reader.inline.now reader.state.now.bytes.now
+        (record { kind = text_kind content; chunks = chunks }) events };
 
     fn reads(&self, content: Content) -> bool {
         matches!(content, Content::Text | Content::String)
@@ -132,8 +133,9 @@ fn behind_mark(mut mark: Vec<Event>, mut body: Vec<Event>) -> Result<Vec<Event>,
 
 /// Reads a text: its events, and what else is known of it.
 ///
-/// The text has at most `usize::MAX / 8` bytes, and of the constructs block quotes, ATX headings and breaks alone may be on. A byte order mark
-/// in front of the text is taken as such. An `Err` says that memory ran out; then nothing is handed out.
+/// The text has at most `usize::MAX / 8` bytes, and of the constructs block quotes, ATX headings and breaks alone may
+/// be on. A byte order mark in front of the text is taken as such. An `Err` says that memory ran out; then nothing is
+/// handed out.
 pub fn parse<'a>(
     alloc: Global,
     value: &'a str,

@@ -19,7 +19,8 @@ use md_engine::tokenizer::Tokenizer;
 pub fn call(tokenizer: &mut Tokenizer, name: Name) -> Result<Option<Subresult>, Message>
     requires { (world tokenizer.old).frames ≡ [] }
     ensures frames { OnOk result ((world tokenizer.new).frames ≡ []) }
-    ensures resolves { IfOk result (λ found. resolved_as name (world tokenizer.old) (option_map found_in found) (world tokenizer.new)) }
+    ensures resolves { IfOk result
+        (λ found. resolved_as name (world tokenizer.old) (option_map found_in found) (world tokenizer.new)) }
 {
     match name {
         Name::Content => content::resolve(tokenizer),

@@ -9,7 +9,8 @@ use Rattle.md_engine.specs.World.{World, looks}
 use Rattle.md_engine.proofs.Falls.{passed, passing_at}
 use Rattle.md_engine.proofs.Local.{accepts, consumes, refuses_later, turns}
 use Rattle.md_engine.proofs.Points.{takes_past}
-use Rattle.md_containers.specs.Quote.{cont_after_code, cont_before_code, cont_start_code, quote_ready, quote_scheme, quote_transition, start_code}
+use Rattle.md_containers.specs.Quote.{cont_after_code, cont_before_code, cont_start_code, quote_ready, quote_scheme}
+use Rattle.md_containers.specs.Quote.{quote_transition, start_code}
 use Rattle.md_seam.specs.Spaces.{IsRest, is_current, later_ready, rest_ready, sees_white, small_indent}
 use Rattle.md_seam.specs.Transition.{entered, exited}
 use Rattle.md_seam.proofs.SpacesGoods.{Does, WhiteFits, accepts-behind, rest-calm, rest-none, seen-in, white_try_later}
@@ -20,32 +21,48 @@ pub record QuoteFits (T : Scheme) : Type 1 where
 
 good_quote_start : (T : Scheme) (w : World) (x : Bool) → QuoteFits T → later_ready (spot w) (after_all T w.frames) →
     Does T (n.BlockQuote its.Start) w (start_code w x)
-good_quote_start T w true has r =
-    (turns T quote_scheme _ _ w (entered w parts.BlockQuote).events w.scratch (has.each its.Start) (has.each its.ContStart) r (omega arith) (omega arith), refl)
+good_quote_start T w true has r = (
+  turns T quote_scheme _ _ w (entered w parts.BlockQuote).events w.scratch (has.each its.Start)
+      (has.each its.ContStart) r (omega arith) (omega arith),
+  refl,
+)
 good_quote_start T w false has r =
     (refuses_later T _ w _ _ w.events w.scratch r.1 r.0, refl)
 
 good_cont_start : (T : Scheme) (w : World) (x : Bool) → QuoteFits T → later_ready (spot w) (after_all T w.frames) →
     Does T (n.BlockQuote its.ContStart) w (cont_start_code w x)
 good_cont_start T w true has r =
-    white_try_later T quote_scheme _ (n.BlockQuote its.ContBefore) w w.events w.scratch 1 (small_indent w.setting.options) IsRest IsRest has.white (has.each its.ContStart) (has.each its.ContBefore) (rest-none w.scratch r.0) (λ some. rest-calm w.scratch r.0) r.1
-    (λ q t up way. (rest-calm w.scratch r.0, passing_at _ _ (spot w) _ q t _ up way r.1)) (omega arith) (omega arith) (λ t up. omega arith) (omega arith)
-good_cont_start T w false has r =
-    (turns T quote_scheme _ _ w w.events w.scratch (has.each its.ContStart) (has.each its.ContBefore) r (omega arith) (omega arith), refl)
+    white_try_later T quote_scheme _ (n.BlockQuote its.ContBefore) w w.events w.scratch 1
+    (small_indent w.setting.options) IsRest IsRest has.white (has.each its.ContStart) (has.each its.ContBefore)
+    (rest-none w.scratch r.0) (λ some. rest-calm w.scratch r.0) r.1
+    (λ q t up way. (rest-calm w.scratch r.0, passing_at _ _ (spot w) _ q t _ up way r.1)) (omega arith) (omega arith)
+    (λ t up. omega arith) (omega arith)
+good_cont_start T w false has r = (
+  turns T quote_scheme _ _ w w.events w.scratch (has.each its.ContStart) (has.each its.ContBefore) r (omega arith)
+      (omega arith),
+  refl,
+)
 
 good_cont_before : (T : Scheme) (w : World) (x : Bool) → QuoteFits T → later_ready (spot w) (after_all T w.frames) →
     is_current 62 (seen (spot w)) ≡ x → Does T (n.BlockQuote its.ContBefore) w (cont_before_code w x)
 good_cont_before T w true has r e =
-    let inside = seen-in (spot w) (is_current 62) refl e in
-    (consumes T quote_scheme _ _ w (cont_before_code w true).world.events w.scratch (has.each its.ContBefore) (has.each its.ContAfter) inside (r.0, passed _ _ (spot w) _ _ _ (takes_past w.setting w.point inside) r.1) (omega arith), refl)
+    let inside = seen-in (spot w) (is_current 62) refl e in (
+      consumes T quote_scheme _ _ w (cont_before_code w true).world.events w.scratch (has.each its.ContBefore)
+          (has.each its.ContAfter) inside (r.0, passed _ _ (spot w) _ _ _ (takes_past w.setting w.point inside) r.1)
+          (omega arith),
+      refl,
+    )
 good_cont_before T w false has r e =
     (refuses_later T _ w _ _ w.events w.scratch r.1 r.0, refl)
 
 good_cont_after : (T : Scheme) (w : World) (x : Bool) → QuoteFits T → rest_ready (spot w) (after_all T w.frames) →
     sees_white (seen (spot w)) ≡ x → Does T (n.BlockQuote its.ContAfter) w (cont_after_code w x)
 good_cont_after T w true has r e =
-    let inside = seen-in (spot w) sees_white refl e in
-    (accepts-behind T (n.BlockQuote its.ContAfter) w _ _ (cont_after_code w true).world.events w.scratch inside r.1 r.0, refl)
+    let inside = seen-in (spot w) sees_white refl e in (
+      accepts-behind T (n.BlockQuote its.ContAfter) w _ _
+          (cont_after_code w true).world.events w.scratch inside r.1 r.0,
+      refl,
+    )
 good_cont_after T w false has r e =
     (accepts T _ w _ _ (exited w parts.BlockQuotePrefix).events w.scratch r.1 r.0, refl)
 

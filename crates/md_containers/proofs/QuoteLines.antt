@@ -1,5 +1,7 @@
 -- What the prefix of a quote takes of a line is what the definition of lines takes.
-use Rattle.std.proofs.Common.{◌≡◌, ℕ, zero, suc, ◌+◌, ◌^◌, ◌<◌, ◌≤◌, Bool, true, false, cond, ◌&&◌, ◌||◌, List, [], ◌∷◌, ◌++◌, length, drop, slice_range, Option, Some, None, refl, sym, ap, ◌∙◌, subst, arith, append_assoc}
+use Rattle.std.proofs.Common.{◌≡◌, ℕ, zero, suc, ◌+◌, ◌^◌, ◌<◌, ◌≤◌, Bool, true, false, cond, ◌&&◌, ◌||◌, List, [], ◌∷◌}
+use Rattle.std.proofs.Common.{◌++◌, length, drop, slice_range, Option, Some, None, refl, sym, ap, ◌∙◌, subst, arith}
+use Rattle.std.proofs.Common.{append_assoc}
 use Rattle.std.specs.Prelude.{IsTrue, ◌==◌, not, nat_le, slice_get}
 use Rattle.std.proofs.lemmas.Bool.{eqb-true}
 use Rattle.std.proofs.lemmas.Bool.Decides.{nat_tests}
@@ -11,22 +13,27 @@ use Rattle.md_engine.specs.declared.event.Name.TheVariants as n
 use Rattle.md_engine.specs.declared.event.Point.{Point}
 use Rattle.md_engine.specs.declared.tokenizer.Line.{Line}
 use Rattle.md_engine.specs.Meaning.{Cell}
-use Rattle.md_containers.specs.QuoteRule.{behind_end, behind_events, behind_rest, has_marker, marker_end, marker_events, marker_rest, prefix_end, prefix_events, prefix_rest, takes_prefix}
+use Rattle.md_containers.specs.QuoteRule.{behind_end, behind_events, behind_rest, has_marker, marker_end, marker_events}
+use Rattle.md_containers.specs.QuoteRule.{marker_rest, prefix_end, prefix_events, prefix_rest, takes_prefix}
 use Rattle.md_seam.specs.Ahead.{begins_white, white_end, white_rest}
 use Rattle.md_definition.specs.Containers.{Taken, quote_taken}
 use Rattle.md_seam.specs.Events.Inline.{pair_unless_empty}
 use Rattle.md_definition.specs.Lines.{begins_with}
 use Rattle.md_seam.specs.Events.Nested.{enter, exit, pair}
 use Rattle.md_seam.specs.Events.Places.{at_or_before, past_byte, past_text, same_place}
-use Rattle.md_definition.specs.Rest.{Rest, behind, behind_indent, has_small_indent, indent, is_blank, is_white, lose, white_columns}
+use Rattle.md_definition.specs.Rest.{Rest, behind, behind_indent, has_small_indent, indent, is_blank, is_white, lose}
+use Rattle.md_definition.specs.Rest.{white_columns}
 use Rattle.md_seam.specs.Spaces.{any_size, small_indent}
 use Rattle.md_definition.specs.State.{InQuote}
 use Rattle.md_seam.proofs.AheadLemmas.{none-end}
-use Rattle.md_seam.proofs.FeedLines.{Stops, behind_last, byte-one, cell, columns_more, next_column, past-next, slice-front, slice-split, spread, tab_cells}
+use Rattle.md_seam.proofs.FeedLines.{Stops, behind_last, byte-one, cell, columns_more, next_column, past-next}
+use Rattle.md_seam.proofs.FeedLines.{slice-front, slice-split, spread, tab_cells}
 use Rattle.md_seam.proofs.InlineLemmas.{same-refl}
 use Rattle.md_seam.proofs.NestedLemmas.{at_or_before-refl, at_or_before-trans}
 use Rattle.md_seam.proofs.PlainSteps.{range-none}
-use Rattle.md_seam.proofs.RestCells.{Bare, HasColumn, RestAt, bare, bare-cells, bare-same, behind-no_ending, cells_by, column-end, column-first, indent-length, indent-over, indent-taken, lose-no_ending, past_cut, past_rest, rest_cells, white-length, without_first}
+use Rattle.md_seam.proofs.RestCells.{Bare, HasColumn, RestAt, bare, bare-cells, bare-same, behind-no_ending, cells_by}
+use Rattle.md_seam.proofs.RestCells.{column-end, column-first, indent-length, indent-over, indent-taken, lose-no_ending}
+use Rattle.md_seam.proofs.RestCells.{past_cut, past_rest, rest_cells, white-length, without_first}
 use Rattle.md_definition.proofs.TextsLemmas.{NoEnding}
 
 -- The prefix of a quote, from a point to a point: whitespace, `>`, and at most one column of whitespace.
@@ -34,7 +41,9 @@ pub record IsPrefix (bytes : List ℕ) (p q : Point) (es : List Event) : Type 0 
   -- where `>` stands, and the point behind it
   pub marker : Point
   pub behind : Point
-  pub events : es ≡ pair_unless_empty n.SpaceOrTab p marker ++ enter n.BlockQuotePrefix marker ∷ enter n.BlockQuoteMarker marker ∷ exit n.BlockQuoteMarker behind ∷ pair_unless_empty n.SpaceOrTab behind q ++ exit n.BlockQuotePrefix q ∷ []
+  pub events : es ≡
+      pair_unless_empty n.SpaceOrTab p marker ++ enter n.BlockQuotePrefix marker ∷ enter n.BlockQuoteMarker marker
+      ∷ exit n.BlockQuoteMarker behind ∷ pair_unless_empty n.SpaceOrTab behind q ++ exit n.BlockQuotePrefix q ∷ []
   -- the points go on
   pub indent : IsTrue (at_or_before p marker)
   pub past : behind.index ≡ suc marker.index
@@ -59,7 +68,12 @@ record White (text : List ℕ) (p q : Point) : Type 0 where
   blank : is_blank (slice_range text p.index q.index) ≡ true
 
 white-none : (text : List ℕ) (p : Point) → White text p p
-white-none text p = record { onward = at_or_before-refl p; index = omega arith; line = refl; blank = ap is_blank (range-none text p.index p.index (omega arith)) }
+white-none text p = record {
+  onward = at_or_before-refl p;
+  index = omega arith;
+  line = refl;
+  blank = ap is_blank (range-none text p.index p.index (omega arith));
+}
 
 white-append : (text : List ℕ) (p q r : Point) → White text p q → White text q r → White text p r
 white-append text p q r a b = record {
@@ -77,7 +91,8 @@ record Step (text : List ℕ) (p q : Point) : Type 0 where
   white : White text p q
   apart : same_place p q ≡ false
 
-step-byte : (text rest : List ℕ) (b : ℕ) (p q : Point) → drop p.index text ≡ b ∷ rest → is_white b ≡ true → q.index ≡ p.index + 1 → q.line ≡ p.line → Step text p q
+step-byte : (text rest : List ℕ) (b : ℕ) (p q : Point) → drop p.index text ≡ b ∷ rest → is_white b ≡ true →
+    q.index ≡ p.index + 1 → q.line ≡ p.line → Step text p q
 step-byte text rest b p q e w index line = record {
   white = record {
     onward = grind (arith, nat_tests);
@@ -90,15 +105,24 @@ step-byte text rest b p q e w index line = record {
 
 step-column : (text : List ℕ) (p : Point) → Step text p (next_column p)
 step-column text p = record {
-  white = record { onward = grind (arith, nat_tests); index = omega arith; line = refl; blank = ap is_blank (range-none text p.index p.index (omega arith)) };
+  white = record {
+    onward = grind (arith, nat_tests);
+    index = omega arith;
+    line = refl;
+    blank = ap is_blank (range-none text p.index p.index (omega arith));
+  };
   apart = grind (arith, nat_tests);
 }
 
-apart-more : (p q r : Point) → same_place p q ≡ false → IsTrue (at_or_before p q) → IsTrue (at_or_before q r) → same_place p r ≡ false
+apart-more : (p q r : Point) → same_place p q ≡ false → IsTrue (at_or_before p q) → IsTrue (at_or_before q r) →
+    same_place p r ≡ false
 apart-more p q r a b c = grind (arith, nat_tests)
 
 step-append : (text : List ℕ) (p q r : Point) → Step text p q → White text q r → Step text p r
-step-append text p q r a b = record { white = white-append text p q r a.white b; apart = apart-more p q r a.apart a.white.onward b.onward }
+step-append text p q r a b = record {
+  white = white-append text p q r a.white b;
+  apart = apart-more p q r a.apart a.white.onward b.onward;
+}
 
 -- where the first cell ends
 abbrev first_after : Point → List Cell → Point
@@ -109,78 +133,107 @@ abbrev rest : ℕ → ℕ → List ℕ → Rest
 rest column spaces bytes = record { column = column; spaces = spaces; bytes = bytes }
 
 -- one column of whitespace is a step
-column-step : (line : Line) (text behind : List ℕ) (r : Rest) (p : Point) → RestAt text behind r p → 0 < indent r → (first : HasColumn line text behind r p) → Step text p first.at
+column-step : (line : Line) (text behind : List ℕ) (r : Rest) (p : Point) → RestAt text behind r p → 0 < indent r →
+    (first : HasColumn line text behind r p) → Step text p first.at
 column-step line text behind r p is lt first = go r.column r.spaces r.bytes is lt (ap (first_after p) first.cells)
   where
     at : Point
     at = first.at
 
-    go : (column spaces : ℕ) (bytes : List ℕ) → RestAt text behind (rest column spaces bytes) p → 0 < indent (rest column spaces bytes) → first_after p (rest_cells line (rest column spaces bytes) p) ≡ at → Step text p at
-    go column (suc zero) bytes h lt e = subst (Step text p) e (step-byte text (bytes ++ behind) 9 p (behind_last p) h.text_is refl refl refl)
+    go : (column spaces : ℕ) (bytes : List ℕ) → RestAt text behind (rest column spaces bytes) p →
+        0 < indent (rest column spaces bytes) → first_after p (rest_cells line (rest column spaces bytes) p) ≡ at →
+        Step text p at
+    go column (suc zero) bytes h lt e =
+        subst (Step text p) e (step-byte text (bytes ++ behind) 9 p (behind_last p) h.text_is refl refl refl)
     go column (suc (suc n)) bytes h lt e = subst (Step text p) e (step-column text p)
     go column zero [] h lt e = absurd (omega (arith, lt))
     go column zero (b ∷ bs) h lt e = by (b == 9) refl (b == 32) refl h e
       where
         Has : ℕ → Type 0
-        Has c = RestAt text behind (rest column 0 (c ∷ bs)) p → first_after p (rest_cells line (rest column 0 (c ∷ bs)) p) ≡ at → Step text p at
+        Has c =
+            RestAt text behind (rest column 0 (c ∷ bs)) p →
+            first_after p (rest_cells line (rest column 0 (c ∷ bs)) p) ≡ at → Step text p at
 
-        tab : (k : ℕ) → drop p.index text ≡ 9 ∷ bs ++ behind → first_after p (tab_cells line k 9 p ++ spread line bs (past_byte 9 p)) ≡ at → Step text p at
+        tab : (k : ℕ) → drop p.index text ≡ 9 ∷ bs ++ behind →
+            first_after p (tab_cells line k 9 p ++ spread line bs (past_byte 9 p)) ≡ at → Step text p at
         tab zero is e = subst (Step text p) e (step-byte text (bs ++ behind) 9 p (behind_last p) is refl refl refl)
         tab (suc k) is e = subst (Step text p) e (step-column text p)
 
         by : (t : Bool) → (b == 9) ≡ t → (s : Bool) → (b == 32) ≡ s → Has b
         by true f s g = subst Has (sym (eqb-true b 9 f)) (λ is. tab (columns_more p) is.text_is)
-        by false f true g = subst Has (sym (eqb-true b 32 g)) (λ is e. subst (Step text p) e (step-byte text (bs ++ behind) 32 p (past_byte 32 p) is.text_is refl refl refl))
-        by false f false g = let none : white_columns (column + 0) (b ∷ bs) ≡ 0 = rw (f, g) refl in absurd (omega (arith, lt, none))
+        by false f true g =
+            subst Has (sym (eqb-true b 32 g))
+            (λ is e.
+            subst (Step text p) e (step-byte text (bs ++ behind) 32 p (past_byte 32 p) is.text_is refl refl refl))
+        by false f false g =
+            let none : white_columns (column + 0) (b ∷ bs) ≡ 0 = rw (f, g) refl in absurd (omega (arith, lt, none))
 
 -- an indent is whitespace, and a step if there is one
 record HasWhite (text : List ℕ) (cells : List Cell) (p q : Point) : Type 0 where
   white : White text p q
   events : cond (begins_white cells) (pair n.SpaceOrTab p q) [] ≡ pair_unless_empty n.SpaceOrTab p q
 
-white-step : (text : List ℕ) (cells : List Cell) (p q : Point) → begins_white cells ≡ true → Step text p q → HasWhite text cells p q
+white-step : (text : List ℕ) (cells : List Cell) (p q : Point) → begins_white cells ≡ true → Step text p q →
+    HasWhite text cells p q
 white-step text cells p q e step = record {
   white = step.white;
-  events = ap (λ (t : Bool). cond t (pair n.SpaceOrTab p q) []) e ∙ sym (ap (λ (t : Bool). cond t [] (pair n.SpaceOrTab p q)) step.apart);
+  events =
+      ap (λ (t : Bool). cond t (pair n.SpaceOrTab p q) []) e
+      ∙ sym (ap (λ (t : Bool). cond t [] (pair n.SpaceOrTab p q)) step.apart);
 }
 
 white-same : (text : List ℕ) (cells : List Cell) (p : Point) → begins_white cells ≡ false → HasWhite text cells p p
 white-same text cells p e = record {
   white = white-none text p;
-  events = ap (λ (t : Bool). cond t (pair n.SpaceOrTab p p) []) e ∙ sym (ap (λ (t : Bool). cond t [] (pair n.SpaceOrTab p p)) (same-refl p));
+  events =
+      ap (λ (t : Bool). cond t (pair n.SpaceOrTab p p) []) e
+      ∙ sym (ap (λ (t : Bool). cond t [] (pair n.SpaceOrTab p p)) (same-refl p));
 }
 
-white-walk : (line : Line) (text behind : List ℕ) (n room : ℕ) (r : Rest) (p : Point) (stop : List Cell) → RestAt text behind r p → Stops stop → indent r ≡ n → n ≤ room →
+white-walk : (line : Line) (text behind : List ℕ) (n room : ℕ) (r : Rest) (p : Point) (stop : List Cell) →
+    RestAt text behind r p → Stops stop → indent r ≡ n → n ≤ room →
     HasWhite text (rest_cells line r p ++ stop) p (white_end room (rest_cells line r p ++ stop) p)
 white-walk line text behind zero room r p stop is k e le =
     let white = bare-cells line r p stop e k in
-    subst (HasWhite text (rest_cells line r p ++ stop) p) (sym (none-end room (rest_cells line r p ++ stop) p white)) (white-same text (rest_cells line r p ++ stop) p white)
+    subst (HasWhite text (rest_cells line r p ++ stop) p) (sym (none-end room (rest_cells line r p ++ stop) p white))
+    (white-same text (rest_cells line r p ++ stop) p white)
 white-walk line text behind (suc n) zero r p stop is k e le = absurd (omega (arith, le))
 white-walk line text behind (suc n) (suc room) r p stop is k e le =
     let first = column-first line text behind r p is (omega (arith, e)) in
     let cs = rest_cells line (without_first r) first.at ++ stop in
-    let further = white-walk line text behind n room (without_first r) first.at stop first.stands k (omega (arith, e, first.columns)) (omega (arith, le)) in
-    let cells : rest_cells line r p ++ stop ≡ cell first.byte first.at line ∷ cs = ap (λ (l : List Cell). l ++ stop) first.cells in
-    let end : white_end (suc room) (rest_cells line r p ++ stop) p ≡ white_end room cs first.at = ap (λ (l : List Cell). white_end (suc room) l p) cells ∙ ap (λ (t : Bool). cond t (white_end room cs first.at) p) first.white in
-    white-step text (rest_cells line r p ++ stop) p (white_end (suc room) (rest_cells line r p ++ stop) p) (ap begins_white cells ∙ first.white)
-    (subst (Step text p) (sym end) (step-append text p first.at (white_end room cs first.at) (column-step line text behind r p is (omega (arith, e)) first) further.white))
+    let further = white-walk line text behind n room (without_first r) first.at stop first.stands k
+    (omega (arith, e, first.columns)) (omega (arith, le)) in
+    let cells : rest_cells line r p ++ stop ≡
+    cell first.byte first.at line ∷ cs = ap (λ (l : List Cell). l ++ stop) first.cells in
+    let end : white_end (suc room) (rest_cells line r p ++ stop) p ≡
+    white_end room cs first.at = ap (λ (l : List Cell). white_end (suc room) l p) cells
+    ∙ ap (λ (t : Bool). cond t (white_end room cs first.at) p) first.white in
+    white-step text (rest_cells line r p ++ stop) p (white_end (suc room) (rest_cells line r p ++ stop) p)
+    (ap begins_white cells ∙ first.white)
+    (subst (Step text p) (sym end)
+    (step-append text p first.at (white_end room cs first.at)
+    (column-step line text behind r p is (omega (arith, e)) first) further.white))
 
 -- Behind the marker.
 
 -- at most one column of whitespace is taken
-record HasBehind (line : Line) (text past : List ℕ) (end : Point) (stop cells : List Cell) (p : Point) (left : Rest) : Type 0 where
+record HasBehind (line : Line) (text past : List ℕ) (end : Point) (stop cells : List Cell) (p : Point)
+    (left : Rest) : Type 0 where
   fed : behind_rest cells ≡ rest_cells line left (behind_end cells p) ++ stop
   stands : RestAt text past left (behind_end cells p)
   ends : past_rest left (behind_end cells p) ≡ end
-  events : behind_events cells p ≡ pair_unless_empty n.SpaceOrTab p (behind_end cells p) ++ exit n.BlockQuotePrefix (behind_end cells p) ∷ []
+  events : behind_events cells p ≡
+      pair_unless_empty n.SpaceOrTab p (behind_end cells p) ++ exit n.BlockQuotePrefix (behind_end cells p) ∷ []
   white : White text p (behind_end cells p)
   shorter : length (behind_rest cells) ≤ length cells
 
-behind-none : (cells : List Cell) (p : Point) → begins_white cells ≡ false → (behind_rest cells ≡ cells) × (behind_end cells p ≡ p) × (behind_events cells p ≡ exit n.BlockQuotePrefix p ∷ [])
+behind-none : (cells : List Cell) (p : Point) → begins_white cells ≡ false →
+    (behind_rest cells ≡ cells) × (behind_end cells p ≡ p) × (behind_events cells p ≡ exit n.BlockQuotePrefix p ∷ [])
 behind-none [] p e = (refl, refl, refl)
 behind-none (c ∷ cs) p e = (rw e refl, rw e refl, rw e refl)
 
-behind-one : (line : Line) (text past : List ℕ) (r : Rest) (stop : List Cell) (p : Point) → RestAt text past r p → Stops stop → HasBehind line text past (past_rest r p) stop (rest_cells line r p ++ stop) p (lose 1 r)
+behind-one : (line : Line) (text past : List ℕ) (r : Rest) (stop : List Cell) (p : Point) → RestAt text past r p →
+    Stops stop → HasBehind line text past (past_rest r p) stop (rest_cells line r p ++ stop) p (lose 1 r)
 behind-one line text past r stop p is k = go (indent r) refl
   where
     cells : List Cell
@@ -195,7 +248,8 @@ behind-one line text past r stop p is k = go (indent r) refl
           stands = subst (RestAt text past r) end is;
           ends = ap (past_rest r) none.1;
           events = none.2
-              ∙ sym (ap (λ (t : Bool). cond t [] (pair n.SpaceOrTab p p) ++ exit n.BlockQuotePrefix p ∷ []) (same-refl p))
+              ∙ sym
+              (ap (λ (t : Bool). cond t [] (pair n.SpaceOrTab p p) ++ exit n.BlockQuotePrefix p ∷ []) (same-refl p))
               ∙ ap (λ (q : Point). pair_unless_empty n.SpaceOrTab p q ++ exit n.BlockQuotePrefix q ∷ []) end;
           white = subst (White text p) end (white-none text p);
           shorter = let same = ap length none.0 in omega arith;
@@ -204,16 +258,25 @@ behind-one line text past r stop p is k = go (indent r) refl
         let first = column-first line text past r p is (omega (arith, e)) in
         let left = rest_cells line (without_first r) first.at ++ stop in
         let same : cells ≡ cell first.byte first.at line ∷ left = ap (λ (l : List Cell). l ++ stop) first.cells in
-        let end : first.at ≡ behind_end cells p = sym (ap (λ (l : List Cell). behind_end l p) same ∙ ap (λ (t : Bool). cond t first.at p) first.white) in
-        let further : behind_rest cells ≡ left = ap behind_rest same ∙ ap (λ (t : Bool). cond t left (cell first.byte first.at line ∷ left)) first.white in
+        let end : first.at ≡
+        behind_end cells p = sym
+        (ap (λ (l : List Cell). behind_end l p) same ∙ ap (λ (t : Bool). cond t first.at p) first.white) in
+        let further : behind_rest cells ≡ left = ap behind_rest same
+        ∙ ap (λ (t : Bool). cond t left (cell first.byte first.at line ∷ left)) first.white in
         let step = column-step line text past r p is (omega (arith, e)) first in
         record {
           fed = further ∙ ap (λ (q : Point). rest_cells line (without_first r) q ++ stop) end;
           stands = subst (RestAt text past (without_first r)) end first.stands;
           ends = ap (past_rest (without_first r)) (sym end) ∙ column-end line text past r p is first;
           events = ap (λ (l : List Cell). behind_events l p) same
-              ∙ ap (λ (t : Bool). cond t (pair n.SpaceOrTab p first.at ++ exit n.BlockQuotePrefix first.at ∷ []) (exit n.BlockQuotePrefix p ∷ [])) first.white
-              ∙ sym (ap (λ (t : Bool). cond t [] (pair n.SpaceOrTab p first.at) ++ exit n.BlockQuotePrefix first.at ∷ []) step.apart)
+              ∙ ap
+              (λ (t : Bool).
+              cond t (pair n.SpaceOrTab p first.at ++ exit n.BlockQuotePrefix first.at ∷ [])
+              (exit n.BlockQuotePrefix p ∷ [])) first.white
+              ∙ sym
+              (ap
+              (λ (t : Bool).
+              cond t [] (pair n.SpaceOrTab p first.at) ++ exit n.BlockQuotePrefix first.at ∷ []) step.apart)
               ∙ ap (λ (q : Point). pair_unless_empty n.SpaceOrTab p q ++ exit n.BlockQuotePrefix q ∷ []) end;
           white = subst (White text p) end step.white;
           shorter = let a = ap length further in let b = ap length same in omega arith;
@@ -221,13 +284,16 @@ behind-one line text past r stop p is k = go (indent r) refl
 
 -- At the marker.
 
-record HasMarker (line : Line) (text past : List ℕ) (end : Point) (stop cells : List Cell) (p : Point) (left : Rest) : Type 0 where
+record HasMarker (line : Line) (text past : List ℕ) (end : Point) (stop cells : List Cell) (p : Point)
+    (left : Rest) : Type 0 where
   takes : has_marker cells ≡ true
   fed : marker_rest cells ≡ rest_cells line left (marker_end cells p) ++ stop
   stands : RestAt text past left (marker_end cells p)
   ends : past_rest left (marker_end cells p) ≡ end
   behind : Point
-  events : marker_events cells p ≡ enter n.BlockQuotePrefix p ∷ enter n.BlockQuoteMarker p ∷ exit n.BlockQuoteMarker behind ∷ pair_unless_empty n.SpaceOrTab behind (marker_end cells p) ++ exit n.BlockQuotePrefix (marker_end cells p) ∷ []
+  events : marker_events cells p ≡
+      enter n.BlockQuotePrefix p ∷ enter n.BlockQuoteMarker p ∷ exit n.BlockQuoteMarker behind
+      ∷ pair_unless_empty n.SpaceOrTab behind (marker_end cells p) ++ exit n.BlockQuotePrefix (marker_end cells p) ∷ []
   next : behind.index ≡ suc p.index
   same_line : behind.line ≡ p.line
   byte : slice_get text p.index ≡ Some 62
@@ -241,7 +307,8 @@ abbrev MarkerIs : Line → (text past : List ℕ) → Point → (stop cells : Li
 MarkerIs line text past end stop cells p (Some taken) = HasMarker line text past end stop cells p taken.rest
 MarkerIs line text past end stop cells p None = has_marker cells ≡ false
 
-get-next : (index : ℕ) (bytes : List ℕ) (b : ℕ) (rest : List ℕ) → drop index bytes ≡ b ∷ rest → slice_get bytes index ≡ Some b
+get-next : (index : ℕ) (bytes : List ℕ) (b : ℕ) (rest : List ℕ) → drop index bytes ≡ b ∷ rest →
+    slice_get bytes index ≡ Some b
 get-next zero [] b rest e = cc
 get-next zero (c ∷ bytes) b rest e = cc
 get-next (suc index) [] b rest e = cc
@@ -255,14 +322,18 @@ stop-marker (c ∷ cs) k = ap (λ (b : ℕ). b == 62) (eqb-true c.byte 10 k)
 abbrev taken_at : Rest → Option Taken
 taken_at r = cond (begins_with 62 r.bytes) (Some (record { container = InQuote; rest = lose 1 (behind 1 r) })) None
 
-marker-is : (line : Line) (text past : List ℕ) (r : Rest) (stop : List Cell) (p : Point) → RestAt text past r p → indent r ≡ 0 → Stops stop →
+marker-is : (line : Line) (text past : List ℕ) (r : Rest) (stop : List Cell) (p : Point) → RestAt text past r p →
+    indent r ≡ 0 → Stops stop →
     MarkerIs line text past (past_rest r p) stop (rest_cells line r p ++ stop) p (taken_at r)
 marker-is line text past r stop p is e k = go r.spaces r.bytes is (bare r e)
   where
     Done : ℕ → List ℕ → Type 0
-    Done spaces bytes = MarkerIs line text past (past_text bytes (past_cut spaces p)) stop (cells_by line spaces bytes p ++ stop) p (taken_at (rest r.column spaces bytes))
+    Done spaces bytes =
+        MarkerIs line text past (past_text bytes (past_cut spaces p)) stop (cells_by line spaces bytes p ++ stop) p
+        (taken_at (rest r.column spaces bytes))
 
-    go : (spaces : ℕ) (bytes : List ℕ) → RestAt text past (rest r.column spaces bytes) p → Bare spaces bytes → Done spaces bytes
+    go : (spaces : ℕ) (bytes : List ℕ) → RestAt text past (rest r.column spaces bytes) p → Bare spaces bytes →
+        Done spaces bytes
     go (suc n) bytes at b = absurd b
     go zero [] at b = stop-marker stop k
     go zero (b ∷ bs) at w = by (b == 62) refl
@@ -274,7 +345,11 @@ marker-is line text past r stop p is e k = go r.spaces r.bytes is (bare r e)
         marks here =
             let q = past_byte 62 p in
             let from : Rest = behind 1 (rest r.column 0 (62 ∷ bs)) in
-            let next : RestAt text past from q = record { column = omega (arith, here.column); cut = refl; text_is = past-next p.index text 62 (bs ++ past) here.text_is } in
+            let next : RestAt text past from q = record {
+              column = omega (arith, here.column);
+              cut = refl;
+              text_is = past-next p.index text 62 (bs ++ past) here.text_is;
+            } in
             let further = behind-one line text past from stop q next k in
             record {
               takes = refl;
@@ -282,7 +357,11 @@ marker-is line text past r stop p is e k = go r.spaces r.bytes is (bare r e)
               stands = further.stands;
               ends = further.ends;
               behind = q;
-              events = ap (λ (es : List Event). enter n.BlockQuotePrefix p ∷ enter n.BlockQuoteMarker p ∷ exit n.BlockQuoteMarker q ∷ es) further.events;
+              events =
+                  ap
+                  (λ (es : List Event).
+                  enter n.BlockQuotePrefix p ∷ enter n.BlockQuoteMarker p ∷ exit n.BlockQuoteMarker q ∷ es)
+                  further.events;
               next = omega arith;
               same_line = refl;
               byte = get-next p.index text 62 (bs ++ past) here.text_is;
@@ -294,7 +373,9 @@ marker-is line text past r stop p is e k = go r.spaces r.bytes is (bare r e)
 
         by : (t : Bool) → (b == 62) ≡ t → Done 0 (b ∷ bs)
         by true f = subst Marks (sym (eqb-true b 62 f)) marks at
-        by false f = rw f (ap (λ (l : List Cell). has_marker (l ++ spread line bs (past_byte b p) ++ stop)) (byte-one line b p w) ∙ f)
+        by false f =
+            rw f
+            (ap (λ (l : List Cell). has_marker (l ++ spread line bs (past_byte b p) ++ stop)) (byte-one line b p w) ∙ f)
 
 -- whitespace is no marker
 marker-white : (cells : List Cell) → begins_white cells ≡ true → has_marker cells ≡ false
@@ -307,7 +388,8 @@ marker-white (c ∷ cs) e = go c.byte e
 -- The whole prefix.
 
 -- so much is left of a line behind it, and this stands there
-pub record HasPrefix (options : ParseOptions) (line : Line) (text past : List ℕ) (end : Point) (stop cells : List Cell) (p : Point) (left : Rest) : Type 0 where
+pub record HasPrefix (options : ParseOptions) (line : Line) (text past : List ℕ) (end : Point) (stop cells : List Cell)
+    (p : Point) (left : Rest) : Type 0 where
   pub takes : takes_prefix options cells ≡ true
   pub fed : prefix_rest options cells ≡ rest_cells line left (prefix_end options cells p) ++ stop
   pub stands : RestAt text past left (prefix_end options cells p)
@@ -316,19 +398,23 @@ pub record HasPrefix (options : ParseOptions) (line : Line) (text past : List �
   pub shorter : length (prefix_rest options cells) < length cells
 
 -- a prefix stands here, and so much is left behind it, or there is none
-abbrev pub PrefixIs : ParseOptions → Line → (text past : List ℕ) → Point → (stop cells : List Cell) → Point → Option Taken → Type 0
-PrefixIs options line text past end stop cells p (Some taken) = HasPrefix options line text past end stop cells p taken.rest
+abbrev pub PrefixIs : ParseOptions → Line → (text past : List ℕ) → Point → (stop cells : List Cell) → Point →
+    Option Taken → Type 0
+PrefixIs options line text past end stop cells p (Some taken) =
+    HasPrefix options line text past end stop cells p taken.rest
 PrefixIs options line text past end stop cells p None = takes_prefix options cells ≡ false
 
 -- a small indent fits, where there are not too many cells
-pub small-room : (options : ParseOptions) (r : Rest) (size : ℕ) → has_small_indent options r ≡ true → indent r ≤ size → size < 2 ^ 63 → indent r ≤ small_indent options
+pub small-room : (options : ParseOptions) (r : Rest) (size : ℕ) → has_small_indent options r ≡ true → indent r ≤ size →
+    size < 2 ^ 63 → indent r ≤ small_indent options
 small-room options r size e le lt = go options.constructs.code_indented e
   where
     go : (t : Bool) → (not t || nat_le (indent r) 3) ≡ true → indent r ≤ cond t 3 any_size
     go true small = grind (arith, nat_tests, small)
     go false small = omega (arith, le, lt)
 
-pub large-room : (options : ParseOptions) (r : Rest) → has_small_indent options r ≡ false → small_indent options < indent r
+pub large-room : (options : ParseOptions) (r : Rest) → has_small_indent options r ≡ false →
+    small_indent options < indent r
 large-room options r e = go options.constructs.code_indented e
   where
     go : (t : Bool) → (not t || nat_le (indent r) 3) ≡ false → cond t 3 any_size < indent r
@@ -336,7 +422,8 @@ large-room options r e = go options.constructs.code_indented e
     go false large = cc
 
 -- the definition takes what stands behind the indent, if that is small
-taken-small : (options : ParseOptions) (r : Rest) → has_small_indent options r ≡ true → quote_taken options r ≡ taken_at (behind_indent r)
+taken-small : (options : ParseOptions) (r : Rest) → has_small_indent options r ≡ true →
+    quote_taken options r ≡ taken_at (behind_indent r)
 unfolding quote_taken
 taken-small options r e = rw e refl
 
@@ -345,7 +432,9 @@ unfolding quote_taken
 taken-large options r e = rw e refl
 
 -- a prefix stands on the cells of a line where it does on its bytes
-pub prefix-agrees : (options : ParseOptions) (line : Line) (text past : List ℕ) (r : Rest) (stop : List Cell) (p : Point) → RestAt text past r p → Stops stop → length (rest_cells line r p ++ stop) < 2 ^ 63 →
+pub prefix-agrees : (options : ParseOptions) (line : Line) (text past : List ℕ) (r : Rest) (stop : List Cell)
+    (p : Point) →
+    RestAt text past r p → Stops stop → length (rest_cells line r p ++ stop) < 2 ^ 63 →
     PrefixIs options line text past (past_rest r p) stop (rest_cells line r p ++ stop) p (quote_taken options r)
 prefix-agrees options line text past r stop p is k short = go (has_small_indent options r) refl
   where
@@ -361,7 +450,9 @@ prefix-agrees options line text past r stop p is k short = go (has_small_indent 
     q : Point
     q = white_end room cells p
 
-    whole : (taken : Option Taken) → HasWhite text cells p q → MarkerIs line text past (past_rest r p) stop left q taken → PrefixIs options line text past (past_rest r p) stop cells p taken
+    whole : (taken : Option Taken) → HasWhite text cells p q →
+        MarkerIs line text past (past_rest r p) stop left q taken →
+        PrefixIs options line text past (past_rest r p) stop cells p taken
     whole None white m = m
     whole (Some taken) white m = record {
       takes = m.takes;
@@ -371,8 +462,14 @@ prefix-agrees options line text past r stop p is k short = go (has_small_indent 
       prefix = record {
         marker = q;
         behind = m.behind;
-        events = ap (λ (es : List Event). es ++ marker_events left q) white.events ∙ ap (λ (es : List Event). pair_unless_empty n.SpaceOrTab p q ++ es) m.events
-            ∙ sym (append_assoc (pair_unless_empty n.SpaceOrTab p q) (enter n.BlockQuotePrefix q ∷ enter n.BlockQuoteMarker q ∷ exit n.BlockQuoteMarker m.behind ∷ pair_unless_empty n.SpaceOrTab m.behind (marker_end left q)) (exit n.BlockQuotePrefix (marker_end left q) ∷ []));
+        events =
+            ap (λ (es : List Event). es ++ marker_events left q) white.events
+            ∙ ap (λ (es : List Event). pair_unless_empty n.SpaceOrTab p q ++ es) m.events
+            ∙ sym
+            (append_assoc (pair_unless_empty n.SpaceOrTab p q)
+            (enter n.BlockQuotePrefix q ∷ enter n.BlockQuoteMarker q ∷ exit n.BlockQuoteMarker m.behind
+            ∷ pair_unless_empty n.SpaceOrTab m.behind (marker_end left q))
+            (exit n.BlockQuotePrefix (marker_end left q) ∷ []));
         indent = white.white.onward;
         past = m.next;
         column = m.white.onward;
@@ -391,26 +488,38 @@ prefix-agrees options line text past r stop p is k short = go (has_small_indent 
 
     go : (t : Bool) → has_small_indent options r ≡ t → Done (quote_taken options r)
     go true e =
-        let size : length cells ≡ length (rest_cells line r p) + length stop = length-append (rest_cells line r p) stop in
-        let fits = small-room options r (length cells) e (let most = indent-length line text past r p is in omega arith) short in
+        let size : length cells ≡
+        length (rest_cells line r p) + length stop = length-append (rest_cells line r p) stop in
+        let fits = small-room options r (length cells) e
+        (let most = indent-length line text past r p is in omega arith) short in
         let taken = indent-taken line text past room r p stop is k fits in
         let white = white-walk line text past (indent r) room r p stop is k refl fits in
         let marker : MarkerIs line text past (past_rest r p) stop left q (taken_at (behind_indent r)) =
-        subst (λ (l : List Cell). MarkerIs line text past (past_rest r p) stop l q (taken_at (behind_indent r))) (sym taken.cells)
-        (subst (λ (end : Point). MarkerIs line text past end stop (rest_cells line (behind_indent r) q ++ stop) q (taken_at (behind_indent r))) taken.ends (marker-is line text past (behind_indent r) stop q taken.stands taken.none k)) in
+        subst (λ (l : List Cell). MarkerIs line text past (past_rest r p) stop l q (taken_at (behind_indent r)))
+        (sym taken.cells)
+        (subst
+        (λ (end : Point).
+        MarkerIs line text past end stop (rest_cells line (behind_indent r) q ++ stop) q
+        (taken_at (behind_indent r))) taken.ends
+        (marker-is line text past (behind_indent r) stop q taken.stands taken.none k)) in
         subst Done (sym (taken-small options r e)) (whole (taken_at (behind_indent r)) white marker)
-    go false e = subst Done (sym (taken-large options r e)) (marker-white left (indent-over line text past room r p stop is (large-room options r e)))
+    go false e =
+        subst Done (sym (taken-large options r e))
+        (marker-white left (indent-over line text past room r p stop is (large-room options r e)))
 
 -- What is left.
 
-taken-left : (P : Taken → Type 0) (options : ParseOptions) (r : Rest) (taken : Taken) → P (record { container = InQuote; rest = lose 1 (behind 1 (behind_indent r)) }) → quote_taken options r ≡ Some taken → P taken
+taken-left : (P : Taken → Type 0) (options : ParseOptions) (r : Rest) (taken : Taken) →
+    P (record { container = InQuote; rest = lose 1 (behind 1 (behind_indent r)) }) →
+    quote_taken options r ≡ Some taken → P taken
 taken-left P options r taken h e = subst Of e (small (has_small_indent options r) refl)
   where
     Of : Option Taken → Type 0
     Of None = Unit {0}
     Of (Some t) = P t
 
-    marked : (t : Bool) → Of (cond t (Some (record { container = InQuote; rest = lose 1 (behind 1 (behind_indent r)) })) None)
+    marked : (t : Bool) →
+        Of (cond t (Some (record { container = InQuote; rest = lose 1 (behind 1 (behind_indent r)) })) None)
     marked true = h
     marked false = tt
 
@@ -418,11 +527,14 @@ taken-left P options r taken h e = subst Of e (small (has_small_indent options r
     small true f = subst Of (sym (taken-small options r f)) (marked (begins_with 62 (behind_indent r).bytes))
     small false f = subst Of (sym (taken-large options r f)) tt
 
-pub quote-container : (options : ParseOptions) (r : Rest) (taken : Taken) → quote_taken options r ≡ Some taken → taken.container ≡ InQuote
+pub quote-container : (options : ParseOptions) (r : Rest) (taken : Taken) → quote_taken options r ≡ Some taken →
+    taken.container ≡ InQuote
 quote-container options r taken e = taken-left (λ t. t.container ≡ InQuote) options r taken refl e
 
 -- a line without an ending is left without one
-pub quote-no_ending : (options : ParseOptions) (r : Rest) (taken : Taken) → NoEnding r.bytes → quote_taken options r ≡ Some taken → NoEnding taken.rest.bytes
+pub quote-no_ending : (options : ParseOptions) (r : Rest) (taken : Taken) → NoEnding r.bytes →
+    quote_taken options r ≡ Some taken → NoEnding taken.rest.bytes
 quote-no_ending options r taken h e =
     let marker = behind_indent r in
-    taken-left (λ t. NoEnding t.rest.bytes) options r taken (lose-no_ending 1 (behind 1 marker) (behind-no_ending 1 marker (lose-no_ending (indent r) r h))) e
+    taken-left (λ t. NoEnding t.rest.bytes) options r taken
+    (lose-no_ending 1 (behind 1 marker) (behind-no_ending 1 marker (lose-no_ending (indent r) r h))) e

@@ -17,12 +17,17 @@ behind_marker-shortens n (c ∷ cs) h lt = cond-shortens n (is_white c.byte) _ _
 at_marker-shortens : (n : ℕ) (cells : List Cell) (h : Here) → length cells ≤ n → Shortens n (at_marker cells h)
 unfolding at_marker
 at_marker-shortens n [] h le = tt
-at_marker-shortens n (c ∷ cs) h le = cond-shortens n (nat_eq c.byte 62) _ _ (behind_marker-shortens n cs _ (omega (arith, le))) tt
+at_marker-shortens n (c ∷ cs) h le =
+    cond-shortens n (nat_eq c.byte 62) _ _ (behind_marker-shortens n cs _ (omega (arith, le))) tt
 
-pub prefix-shortens : (options : ParseOptions) (cells : List Cell) (h : Here) → Shortens (length cells) (prefix_at options cells h)
+pub prefix-shortens : (options : ParseOptions) (cells : List Cell) (h : Here) →
+    Shortens (length cells) (prefix_at options cells h)
 unfolding prefix_at
-prefix-shortens options cells h = cond-shortens _ (begins_white cells) _ _ (at_marker-shortens _ _ _ (white-length (small_indent options) cells)) (at_marker-shortens _ cells _ (omega arith))
+prefix-shortens options cells h =
+    cond-shortens _ (begins_white cells) _ _ (at_marker-shortens _ _ _ (white-length (small_indent options) cells))
+    (at_marker-shortens _ cells _ (omega arith))
 
-pub quote-shortens : (options : ParseOptions) (cells : List Cell) (h : Here) → Shortens (length cells) (quote_at options cells h)
+pub quote-shortens : (options : ParseOptions) (cells : List Cell) (h : Here) →
+    Shortens (length cells) (quote_at options cells h)
 unfolding quote_at
 quote-shortens options cells h = cond-shortens _ options.constructs.block_quote _ _ (prefix-shortens options cells _) tt

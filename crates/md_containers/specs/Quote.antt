@@ -29,12 +29,18 @@ cont_start_code w false = record { to = Retry (n.BlockQuote its.ContBefore); wor
 -- by whether `>` stands here
 abbrev pub cont_before_code : World → Bool → Transition
 cont_before_code w true =
-    record { to = Next (n.BlockQuote its.ContAfter); world = exited (taken (entered (entered w BlockQuotePrefix) BlockQuoteMarker)) BlockQuoteMarker }
+    record {
+      to = Next (n.BlockQuote its.ContAfter);
+      world = exited (taken (entered (entered w BlockQuotePrefix) BlockQuoteMarker)) BlockQuoteMarker;
+    }
 cont_before_code w false = record { to = Nok; world = w }
 
 -- by whether whitespace stands here
 abbrev pub cont_after_code : World → Bool → Transition
-cont_after_code w true = record { to = Ok; world = exited (exited (taken (entered w SpaceOrTab)) SpaceOrTab) BlockQuotePrefix }
+cont_after_code w true = record {
+  to = Ok;
+  world = exited (exited (taken (entered w SpaceOrTab)) SpaceOrTab) BlockQuotePrefix;
+}
 cont_after_code w false = record { to = Ok; world = exited w BlockQuotePrefix }
 
 -- each state with what it does, where there is memory

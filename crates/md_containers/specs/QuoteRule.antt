@@ -30,7 +30,11 @@ unfoldable pub at_marker : List Cell → Here → Outcome
 at_marker [] h = Refuses h.scratch h.flags
 at_marker (c ∷ cs) h =
     if c.byte == 62
-    then behind_marker cs (record h { events = h.events ++ enter BlockQuotePrefix h.point ∷ pair BlockQuoteMarker h.point c.after; point = c.after })
+    then behind_marker cs
+    (record h {
+      events = h.events ++ enter BlockQuotePrefix h.point ∷ pair BlockQuoteMarker h.point c.after;
+      point = c.after;
+    })
     else Refuses h.scratch h.flags
 
 -- the prefix of a line: a small indent, `>`, and at most one column of whitespace
@@ -39,7 +43,8 @@ prefix_at options cells h =
     let room = small_indent options in
     let p = white_end room cells h.point in
     if begins_white cells
-    then at_marker (white_rest room cells) (record h { events = h.events ++ pair SpaceOrTab h.point p; point = p; scratch = calmed h.scratch })
+    then at_marker (white_rest room cells)
+    (record h { events = h.events ++ pair SpaceOrTab h.point p; point = p; scratch = calmed h.scratch })
     else at_marker cells h
 
 -- the whole rule, if quotes are on
@@ -52,12 +57,15 @@ quote_at options cells h =
 -- The events of a prefix.
 
 abbrev pub indent_events : ParseOptions → List Cell → Point → List Event
-indent_events options cells p = if begins_white cells then pair SpaceOrTab p (white_end (small_indent options) cells p) else []
+indent_events options cells p =
+    if begins_white cells then pair SpaceOrTab p (white_end (small_indent options) cells p) else []
 
 -- behind `>`
 abbrev pub behind_events : List Cell → Point → List Event
 behind_events [] p = exit BlockQuotePrefix p ∷ []
-behind_events (c ∷ cs) p = if is_white c.byte then pair SpaceOrTab p c.after ++ exit BlockQuotePrefix c.after ∷ [] else exit BlockQuotePrefix p ∷ []
+behind_events (c ∷ cs) p =
+    if is_white c.byte then pair SpaceOrTab p c.after ++ exit BlockQuotePrefix c.after ∷ []
+    else exit BlockQuotePrefix p ∷ []
 
 -- from `>` on
 abbrev pub marker_events : List Cell → Point → List Event
@@ -65,7 +73,9 @@ marker_events [] p = []
 marker_events (c ∷ cs) p = enter BlockQuotePrefix p ∷ pair BlockQuoteMarker p c.after ++ behind_events cs c.after
 
 abbrev pub prefix_events : ParseOptions → List Cell → Point → List Event
-prefix_events options cells p = indent_events options cells p ++ marker_events (white_rest (small_indent options) cells) (white_end (small_indent options) cells p)
+prefix_events options cells p =
+    indent_events options cells p
+    ++ marker_events (white_rest (small_indent options) cells) (white_end (small_indent options) cells p)
 
 -- What a prefix takes.
 
@@ -100,7 +110,8 @@ abbrev pub prefix_rest : ParseOptions → List Cell → List Cell
 prefix_rest options cells = marker_rest (white_rest (small_indent options) cells)
 
 abbrev pub prefix_end : ParseOptions → List Cell → Point → Point
-prefix_end options cells p = marker_end (white_rest (small_indent options) cells) (white_end (small_indent options) cells p)
+prefix_end options cells p =
+    marker_end (white_rest (small_indent options) cells) (white_end (small_indent options) cells p)
 
 -- what is left at each state
 abbrev pub quote_behaves : ParseOptions → QuoteState → List Cell → Here → Outcome
@@ -111,4 +122,5 @@ quote_behaves options its.ContAfter cells h = behind_marker cells h
 
 pub record HasQuote (B : Behaviour) (options : ParseOptions) : Type 0 where
   pub white : HasWhite B
-  pub each : (state : QuoteState) (cells : List Cell) (h : Here) → B (n.BlockQuote state) cells h ≡ quote_behaves options state cells h
+  pub each : (state : QuoteState) (cells : List Cell) (h : Here) →
+      B (n.BlockQuote state) cells h ≡ quote_behaves options state cells h

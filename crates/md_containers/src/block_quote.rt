@@ -3,15 +3,16 @@
 //     block_quote_prefix ::= small_indent '>' [ space_or_tab ]
 //
 // A quote begins on a line with its prefix and goes on with each further line that has it. `start` adds the begin of
-// `BlockQuote` in front of the prefix. The prefix is its indent, and `BlockQuotePrefix` around `BlockQuoteMarker` and at most
-// one column of whitespace.
+// `BlockQuote` in front of the prefix. The prefix is its indent, and `BlockQuotePrefix` around `BlockQuoteMarker` and
+// at most one column of whitespace.
 
 ghost use Rattle.std.specs.Prelude.{◌≡◌, ◌≢◌};
 ghost use Rattle.md_engine.specs.World.{world};
 ghost use Rattle.md_engine.specs.declared.state.Name.{Name as StateName};
 ghost use Rattle.md_engine.specs.declared.state.State.{State};
 ghost use Rattle.md_engine.specs.declared.state.block_quote.State.{State as QuoteState};
-ghost use Rattle.md_containers.specs.Quote.{cont_after_transition, cont_before_transition, cont_start_transition, may_begin, quote_transition, start_transition};
+ghost use Rattle.md_containers.specs.Quote.{cont_after_transition, cont_before_transition, cont_start_transition};
+ghost use Rattle.md_containers.specs.Quote.{may_begin, quote_transition, start_transition};
 ghost use Rattle.md_seam.specs.Transition.{IsAt, NeedsNothing};
 
 use md_engine::event::Name;

@@ -1,5 +1,6 @@
 -- What is read of a part is a paragraph over the text of its chunks.
-use Rattle.std.proofs.Common.{◌≡◌, ◌^◌, ◌+◌, ◌<◌, ◌≤◌, ℕ, zero, suc, false, true, List, [], ◌∷◌, length, get_or, drop, Option, refl, sym, ◌∙◌, ap, add-one, drop-cons, arith}
+use Rattle.std.proofs.Common.{◌≡◌, ◌^◌, ◌+◌, ◌<◌, ◌≤◌, ℕ, zero, suc, false, true, List, [], ◌∷◌, length, get_or, drop}
+use Rattle.std.proofs.Common.{Option, refl, sym, ◌∙◌, ap, add-one, drop-cons, arith}
 use Rattle.std.proofs.lemmas.List.{drop_all}
 use Rattle.md_engine.specs.declared.configuration.ParseOptions.{ParseOptions}
 use Rattle.md_engine.specs.declared.resolve.name.Name.{Name as ResolveName}
@@ -30,7 +31,8 @@ pub first-at : (chunks : List Chunk) (d : Chunk) → 0 < length chunks → (get_
 first-at [] d lt = absurd (omega arith)
 first-at (chunk ∷ chunks) d lt = refl
 
-pub end-at : (chunks : List Chunk) (i : ℕ) (d : Chunk) → length chunks ≡ suc i → (get_or chunks i d).after.index ≡ end_of chunks
+pub end-at : (chunks : List Chunk) (i : ℕ) (d : Chunk) → length chunks ≡ suc i →
+    (get_or chunks i d).after.index ≡ end_of chunks
 end-at [] i d is = absurd (omega arith)
 end-at (chunk ∷ []) zero d is = refl
 end-at (chunk ∷ []) (suc i) d is = absurd (omega arith)
@@ -38,23 +40,31 @@ end-at (chunk ∷ next ∷ chunks) zero d is = absurd (omega arith)
 end-at (chunk ∷ next ∷ chunks) (suc i) d is = end-at (next ∷ chunks) i d (omega arith)
 
 -- a text has so many bytes at most
-pub small-at : (bytes : List ℕ) (chunks : List Chunk) (i : ℕ) (d : Chunk) → AreChunks bytes chunks → i < length chunks → (get_or chunks i d).after.index < 2 ^ 61
+pub small-at : (bytes : List ℕ) (chunks : List Chunk) (i : ℕ) (d : Chunk) → AreChunks bytes chunks → i < length chunks →
+    (get_or chunks i d).after.index < 2 ^ 61
 small-at bytes chunks i d are lt = let h = (are.each i d lt).after in omega (arith, h.index, h.sized)
 
 -- skips move the point, and nothing else but themselves
-pub skipping-same : (w : World) (chunks : List Chunk) → skipping_all w chunks ≡ record w { setting = record w.setting { skips = (skipping_all w chunks).setting.skips }; point = (skipping_all w chunks).point }
+pub skipping-same : (w : World) (chunks : List Chunk) →
+    skipping_all w chunks ≡
+    record w {
+      setting = record w.setting { skips = (skipping_all w chunks).setting.skips };
+      point = (skipping_all w chunks).point;
+    }
 skipping-same w [] = refl
 skipping-same w (chunk ∷ chunks) = skipping-same (skipping w chunk.first) chunks
 
 -- one more line is begun
-pub skipping-more : (chunks : List Chunk) (i : ℕ) (d : Chunk) (w w' w0 : World) → i < length chunks → w' ≡ skipping w (get_or chunks i d).first → skipping_all w (drop i chunks) ≡ w0 →
+pub skipping-more : (chunks : List Chunk) (i : ℕ) (d : Chunk) (w w' w0 : World) → i < length chunks →
+    w' ≡ skipping w (get_or chunks i d).first → skipping_all w (drop i chunks) ≡ w0 →
     skipping_all w' (drop (i + 1) chunks) ≡ w0
 skipping-more chunks i d w w' w0 lt is so_far =
     let here : drop i chunks ≡ get_or chunks i d ∷ drop (suc i) chunks = drop-cons chunks i d lt in
     rw (is, add-one i) (ap (skipping_all w) (sym here) ∙ so_far)
 
 -- all lines are begun
-skipping-all : (chunks : List Chunk) (i : ℕ) (w w0 : World) → length chunks ≤ i → skipping_all w (drop i chunks) ≡ w0 → w ≡ w0
+skipping-all : (chunks : List Chunk) (i : ℕ) (w w0 : World) → length chunks ≤ i → skipping_all w (drop i chunks) ≡ w0 →
+    w ≡ w0
 skipping-all chunks i w w0 le is = ap (skipping_all w) (sym (drop_all i chunks le)) ∙ is
 
 -- What is read.
@@ -66,23 +76,33 @@ over cells w = record (here w) { events = paragraph_over cells w.point; point = 
 part-comes-to : (feed : Feed) (w : World) → w.frames ≡ [] → w.events ≡ [] →
     comes_to content_behaves feed (Next (n.Paragraph its.Start)) w ≡ Accepts (over (feed w.point) w) []
 unfolding paragraph_at paragraph_line inside_paragraph over
-part-comes-to feed w f e = ap (λ (x : List Frame). resume_all content_behaves feed w.events x (goes content_behaves (Next (n.Paragraph its.Start)) (feed w.point) (here w))) f
+part-comes-to feed w f e =
+    ap
+    (λ (x : List Frame).
+    resume_all content_behaves feed w.events x
+    (goes content_behaves (Next (n.Paragraph its.Start)) (feed w.point) (here w))) f
     ∙ rw e refl
 
-resolved-same : (R : Resolution) (w : World) (names : List ResolveName) (found : Found) (v : World) → ((n : ResolveName) (old : World) (m : Option Found) (new : World) → R n old m new → new ≡ old) → Resolved R w names found v → v ≡ w
+resolved-same : (R : Resolution) (w : World) (names : List ResolveName) (found : Found) (v : World) →
+    ((n : ResolveName) (old : World) (m : Option Found) (new : World) → R n old m new → new ≡ old) →
+    Resolved R w names found v → v ≡ w
 resolved-same R w names found v same NoneYet = refl
-resolved-same R w names found v same (More ns n f m v' v'' r step) = same n v' m v'' step ∙ resolved-same R w ns f v' same r
+resolved-same R w names found v same (More ns n f m v' v'' r step) =
+    same n v' m v'' step ∙ resolved-same R w ns f v' same r
 
 -- a part stands where it begins
 part-stands : (w : World) → IsRest w.scratch → w.frames ≡ [] → stands content_scheme w (Next (n.Paragraph its.Start))
 part-stands w rest none = (rest, rw none (record { ok = λ s q t is g r. tt; nok = λ s q t is g. tt }))
 
 -- what is read of a part
-pub part-read : (bytes : List ℕ) (options : ParseOptions) (chunks : List Chunk) (i : ℕ) (w w' : World) (end : ℕ) (s : State) (R : Resolution) (found : Found) (new : World) →
-    length chunks ≤ i → skipping_all w (drop i chunks) ≡ skipping_all (fresh bytes options (first_of chunks)) chunks → end ≡ end_of chunks → end < 2 ^ 61 →
+pub part-read : (bytes : List ℕ) (options : ParseOptions) (chunks : List Chunk) (i : ℕ) (w w' : World) (end : ℕ)
+    (s : State) (R : Resolution) (found : Found) (new : World) →
+    length chunks ≤ i → skipping_all w (drop i chunks) ≡ skipping_all (fresh bytes options (first_of chunks)) chunks →
+    end ≡ end_of chunks → end < 2 ^ 61 →
     Runs ContentStep false (Next (n.Paragraph its.Start)) (reads_to w end) s w' →
     w'.setting ≡ (reads_to w end).setting →
-    ((n : ResolveName) (old : World) (m : Option Found) (v : World) → R n old m v → v ≡ old) → Flushes ContentStep R s w' true found new →
+    ((n : ResolveName) (old : World) (m : Option Found) (v : World) → R n old m v → v ≡ old) →
+    Flushes ContentStep R s w' true found new →
     settled chunks new.events ≡ content_events bytes options chunks
 unfolding content_events over
 part-read bytes options chunks i w w' end s R found new le skips last small run kept same f =
@@ -92,13 +112,19 @@ part-read bytes options chunks i w w' end s R found new le skips last small run 
     let events : w.events ≡ [] = ap (λ (x : World). x.events) shape in
     let rest : IsRest w.scratch = ap (λ (x : World). x.scratch) shape in
     let feed = text_feed (reads_to w end).setting in
-    let pushed = content_push (Next (n.Paragraph its.Start)) s w w' end end small (omega arith) (part-stands (reads_to w end) rest frames) run in
+    let pushed = content_push (Next (n.Paragraph its.Start)) s w w' end end small (omega arith)
+    (part-stands (reads_to w end) rest frames) run in
     let at_end : comes_to content_behaves (text_feed w'.setting) s w' ≡ Accepts (over (feed w.point) w) [] =
-    ap (λ (x : Setting). comes_to content_behaves (text_feed x) s w') kept ∙ sym pushed.0 ∙ part-comes-to feed w frames events in
-    let h : over (feed w.point) w ≡ here f.at = content_outcome R s w' true found new (over (feed w.point) w) (rw kept small) pushed.1 at_end f in
+    ap (λ (x : Setting). comes_to content_behaves (text_feed x) s w') kept ∙ sym pushed.0
+    ∙ part-comes-to feed w frames events in
+    let h : over (feed w.point) w ≡
+    here f.at = content_outcome R s w' true found new (over (feed w.point) w) (rw kept small) pushed.1 at_end f in
     let resolved : new ≡ record f.at { resolvers = [] } = resolved-same R _ _ _ _ same f.resolved in
-    let is : settled chunks (paragraph_over (feed w.point) w.point) ≡ content_events bytes options chunks = ap (settled chunks) (place _ _ begun last) in
+    let is : settled chunks (paragraph_over (feed w.point) w.point) ≡
+    content_events bytes options chunks = ap (settled chunks) (place _ _ begun last) in
     ap (λ (x : World). settled chunks x.events) resolved ∙ sym (ap (λ (x : Here). settled chunks x.events) h) ∙ is
   where
-    place : (v : World) (m : ℕ) → w ≡ v → end ≡ m → paragraph_over (text_feed (reads_to w end).setting w.point) w.point ≡ paragraph_over (text_feed (reads_to v m).setting v.point) v.point
+    place : (v : World) (m : ℕ) → w ≡ v → end ≡ m →
+        paragraph_over (text_feed (reads_to w end).setting w.point) w.point ≡
+        paragraph_over (text_feed (reads_to v m).setting v.point) v.point
     place v m e f = rw (e, f) refl

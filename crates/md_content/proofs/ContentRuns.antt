@@ -15,27 +15,40 @@ use Rattle.md_content.specs.States.{ContentStep, content_scheme}
 use Rattle.md_content.proofs.ContentSteps.{content_means, content_stands}
 
 -- a push keeps what a tokenizer comes to, with the text up to where it will be read in all, and stands
-pub content_push : (s s' : State) (w w' : World) (limit total : ℕ) → total < 2 ^ 61 → limit ≤ total → stands content_scheme (reads_to w limit) (plain s) →
+pub content_push : (s s' : State) (w w' : World) (limit total : ℕ) → total < 2 ^ 61 → limit ≤ total →
+    stands content_scheme (reads_to w limit) (plain s) →
     Runs ContentStep false s (reads_to w limit) s' w' →
-    (comes_to content_behaves (text_feed (reads_to w total).setting) s w ≡ comes_to content_behaves (text_feed (reads_to w total).setting) s' w') × stands content_scheme w' (plain s')
+    (comes_to content_behaves (text_feed (reads_to w total).setting) s w ≡
+    comes_to content_behaves (text_feed (reads_to w total).setting) s' w') ×
+    stands content_scheme w' (plain s')
 content_push s s' w w' limit total small le at run =
-    runs-mean ContentStep content_scheme w.setting.options content_behaves false (text_feed (reads_to w total).setting) s (reads_to w limit) (content_means w.setting.options false) content_stands
+    runs-mean ContentStep content_scheme w.setting.options content_behaves false
+    (text_feed (reads_to w total).setting) s (reads_to w limit)
+    (content_means w.setting.options false) content_stands
     (text-follows (reads_to w total).setting limit false small le (λ e. cc)) refl at s' w' run
 
 -- a flush comes to where the tokenizer ends
-pub content_flush : (R : Resolution) (s : State) (w : World) (resolve : Bool) (found : Found) (new : World) → w.setting.limit < 2 ^ 61 → stands content_scheme w (plain s) →
+pub content_flush : (R : Resolution) (s : State) (w : World) (resolve : Bool) (found : Found) (new : World) →
+    w.setting.limit < 2 ^ 61 → stands content_scheme w (plain s) →
     (f : Flushes ContentStep R s w resolve found new) →
-    comes_to content_behaves (text_feed w.setting) s w ≡ goes content_behaves f.end (text_feed w.setting f.at.point) (here f.at)
+    comes_to content_behaves (text_feed w.setting) s w ≡
+    goes content_behaves f.end (text_feed w.setting f.at.point) (here f.at)
 content_flush R s w resolve found new small at f =
-    flush-means ContentStep R content_scheme w.setting.options content_behaves (text_feed w.setting) s w resolve found new (content_means w.setting.options true) content_stands
+    flush-means ContentStep R content_scheme w.setting.options content_behaves
+    (text_feed w.setting) s w resolve found new (content_means w.setting.options true) content_stands
     (text-follows w.setting w.setting.limit true small (omega arith) (λ e. refl)) refl at f
 
 -- one that accepts ends with these events
-pub content_outcome : (R : Resolution) (s : State) (w : World) (resolve : Bool) (found : Found) (new : World) (h : Here) → w.setting.limit < 2 ^ 61 → stands content_scheme w (plain s) →
-    comes_to content_behaves (text_feed w.setting) s w ≡ Accepts h [] → (f : Flushes ContentStep R s w resolve found new) → h ≡ here f.at
-content_outcome R s w resolve found new h small at is f = go f.end f.ends (sym is ∙ content_flush R s w resolve found new small at f)
+pub content_outcome : (R : Resolution) (s : State) (w : World) (resolve : Bool) (found : Found) (new : World)
+    (h : Here) →
+    w.setting.limit < 2 ^ 61 → stands content_scheme w (plain s) →
+    comes_to content_behaves (text_feed w.setting) s w ≡ Accepts h [] →
+    (f : Flushes ContentStep R s w resolve found new) → h ≡ here f.at
+content_outcome R s w resolve found new h small at is f =
+    go f.end f.ends (sym is ∙ content_flush R s w resolve found new small at f)
   where
-    go : (e : State) → IsEnd e → Accepts h [] ≡ goes content_behaves e (text_feed w.setting f.at.point) (here f.at) → h ≡ here f.at
+    go : (e : State) → IsEnd e → Accepts h [] ≡ goes content_behaves e (text_feed w.setting f.at.point) (here f.at) →
+        h ≡ here f.at
     go Ok t k = cc
     go Nok t k = cc
     go Error t k = absurd t

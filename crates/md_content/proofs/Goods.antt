@@ -12,8 +12,10 @@ use Rattle.md_engine.specs.World.{World, looks}
 use Rattle.md_engine.proofs.Falls.{later}
 use Rattle.md_engine.proofs.Local.{accepts, consumes, turns}
 use Rattle.md_engine.proofs.Points.{takes}
-use Rattle.md_content.specs.Chunks.{chunk_inside_code, chunk_ready, chunk_scheme, chunk_start_transition, chunk_transition, content_link}
-use Rattle.md_content.specs.Paragraph.{inside_code, line_start_transition, paragraph_scheme, paragraph_transition, start_transition, text_link}
+use Rattle.md_content.specs.Chunks.{chunk_inside_code, chunk_ready, chunk_scheme, chunk_start_transition}
+use Rattle.md_content.specs.Chunks.{chunk_transition, content_link}
+use Rattle.md_content.specs.Paragraph.{inside_code, line_start_transition, paragraph_scheme, paragraph_transition}
+use Rattle.md_content.specs.Paragraph.{start_transition, text_link}
 use Rattle.md_seam.specs.Spaces.{ends_line, rest_ready}
 use Rattle.md_seam.specs.Transition.{entered, entered_link, exited, taken}
 use Rattle.md_seam.proofs.SpacesGoods.{Does, goes-on, seen-some}
@@ -23,15 +25,21 @@ pub record ChunkFits (T : Scheme) : Type 1 where
 
 good_chunk_start : (T : Scheme) (w : World) → ChunkFits T → rest_ready (spot w) (after_all T w.frames) →
     Does T (n.Content content.ChunkStart) w (chunk_start_transition w)
-good_chunk_start T w has r =
-    (turns T chunk_scheme _ _ w (entered_link w parts.Content content_link).events w.scratch (has.each content.ChunkStart) (has.each content.ChunkInside) r (omega arith) (omega arith), refl)
+good_chunk_start T w has r = (
+  turns T chunk_scheme _ _ w (entered_link w parts.Content content_link).events w.scratch
+      (has.each content.ChunkStart) (has.each content.ChunkInside) r (omega arith) (omega arith),
+  refl,
+)
 
 good_chunk_inside : (T : Scheme) (w : World) (is_name : ResolveName → Bool) (x : Bool) → ChunkFits T →
     rest_ready (spot w) (after_all T w.frames) → (x ≡ false → w.point.index < w.setting.limit) →
     Does T (n.Content content.ChunkInside) w (chunk_inside_code is_name w x)
 good_chunk_inside T w is_name true has r m = (accepts T _ w _ _ (exited w parts.Content).events w.scratch r.1 r.0, refl)
-good_chunk_inside T w is_name false has r m =
-    (consumes T chunk_scheme _ _ w w.events w.scratch (has.each content.ChunkInside) (has.each content.ChunkInside) (m refl) (r.0, later _ _ (spot w) _ _ _ (takes w.setting w.point (m refl)) r.1) (omega arith), refl)
+good_chunk_inside T w is_name false has r m = (
+  consumes T chunk_scheme _ _ w w.events w.scratch (has.each content.ChunkInside) (has.each content.ChunkInside)
+      (m refl) (r.0, later _ _ (spot w) _ _ _ (takes w.setting w.point (m refl)) r.1) (omega arith),
+  refl,
+)
 
 -- each state of a line of content
 pub chunk_does : (T : Scheme) (is_name : ResolveName → Bool) (state : ContentState) (w : World) → ChunkFits T →
@@ -47,25 +55,44 @@ pub record ParagraphFits (T : Scheme) : Type 1 where
 
 good_start : (T : Scheme) (w : World) → ParagraphFits T → rest_ready (spot w) (after_all T w.frames) →
     Does T (n.Paragraph paragraph.Start) w (start_transition w)
-good_start T w has r =
-    (turns T paragraph_scheme _ _ w (entered w parts.Paragraph).events w.scratch (has.each paragraph.Start) (has.each paragraph.LineStart) r (omega arith) (omega arith), refl)
+good_start T w has r = (
+  turns T paragraph_scheme _ _ w (entered w parts.Paragraph).events w.scratch (has.each paragraph.Start)
+      (has.each paragraph.LineStart) r (omega arith) (omega arith),
+  refl,
+)
 
 good_line_start : (T : Scheme) (w : World) → ParagraphFits T → rest_ready (spot w) (after_all T w.frames) →
     Does T (n.Paragraph paragraph.LineStart) w (line_start_transition w)
-good_line_start T w has r =
-    (turns T paragraph_scheme _ _ w (entered_link w parts.Data text_link).events w.scratch (has.each paragraph.LineStart) (has.each paragraph.Inside) r (omega arith) (omega arith), refl)
+good_line_start T w has r = (
+  turns T paragraph_scheme _ _ w (entered_link w parts.Data text_link).events w.scratch
+      (has.each paragraph.LineStart) (has.each paragraph.Inside) r (omega arith) (omega arith),
+  refl,
+)
 
 good_inside : (T : Scheme) (w : World) (o : Option ℕ) → ParagraphFits T → rest_ready (spot w) (after_all T w.frames) →
     seen (spot w) ≡ o → Does T (n.Paragraph paragraph.Inside) w (inside_code w o)
-good_inside T w None has r e = (accepts T _ w _ _ (exited (exited w parts.Data) parts.Paragraph).events w.scratch r.1 r.0, refl)
+good_inside T w None has r e =
+    (accepts T _ w _ _ (exited (exited w parts.Data) parts.Paragraph).events w.scratch r.1 r.0, refl)
 good_inside T w (Some b) has r e = go (nat_eq b 10) refl
   where
     inside : w.point.index < w.setting.limit
     inside = seen-some (spot w) b e
 
     go : (x : Bool) → nat_eq b 10 ≡ x → Does T (n.Paragraph paragraph.Inside) w (inside_code w (Some b))
-    go true k = rw k (consumes T paragraph_scheme _ _ w (exited (taken w) parts.Data).events w.scratch (has.each paragraph.Inside) (has.each paragraph.LineStart) inside (r.0, later _ _ (spot w) _ _ _ (takes w.setting w.point inside) r.1) (omega arith), refl)
-    go false k = rw k (consumes T paragraph_scheme _ _ w w.events w.scratch (has.each paragraph.Inside) (has.each paragraph.Inside) inside (r.0, later _ _ (spot w) _ _ _ (takes w.setting w.point inside) r.1) (omega arith), refl)
+    go true k =
+        rw k (
+          consumes T paragraph_scheme _ _ w (exited (taken w) parts.Data).events w.scratch (has.each paragraph.Inside)
+              (has.each paragraph.LineStart) inside (r.0, later _ _ (spot w) _ _ _ (takes w.setting w.point inside) r.1)
+              (omega arith),
+          refl,
+        )
+    go false k =
+        rw k (
+          consumes T paragraph_scheme _ _ w w.events w.scratch (has.each paragraph.Inside)
+              (has.each paragraph.Inside) inside (r.0, later _ _ (spot w) _ _ _ (takes w.setting w.point inside) r.1)
+              (omega arith),
+          refl,
+        )
 
 -- each state of a paragraph
 pub paragraph_does : (T : Scheme) (state : ParagraphState) (w : World) → ParagraphFits T → w.current ≡ looks w →

@@ -13,6 +13,7 @@ use Rattle.md_seam.proofs.SpacesGoods.{Does}
 paragraph_fits : ParagraphFits content_scheme
 paragraph_fits = record { each = λ state. fits content_owner (n.Paragraph state) }
 
-pub content_does : (name : StateName) (w : World) → w.current ≡ looks w → stands content_scheme w (Next name) → Does content_scheme name w (content_transition name w)
+pub content_does : (name : StateName) (w : World) → w.current ≡ looks w → stands content_scheme w (Next name) →
+    Does content_scheme name w (content_transition name w)
 content_does (n.Paragraph state) w c r = paragraph_does content_scheme state w paragraph_fits c r
 content_does name w c r = absurd r

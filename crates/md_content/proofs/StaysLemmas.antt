@@ -18,16 +18,20 @@ use Rattle.md_seam.specs.Stays.{TakesEach}
 use Rattle.md_seam.specs.Transition.{taken}
 use Rattle.md_seam.proofs.StaysLemmas.{in-line, stays-on}
 
-pub chunk-takes : (is_name : ResolveName → Bool) → TakesEach Text (n.Content content.ChunkInside) (chunk_transition is_name content.ChunkInside)
+pub chunk-takes : (is_name : ResolveName → Bool) →
+    TakesEach Text (n.Content content.ChunkInside) (chunk_transition is_name content.ChunkInside)
 chunk-takes is_name w b e h = ap (chunk_inside_code is_name w) (ap ends_line e ∙ in-line Text b h)
 
 pub paragraph-takes : TakesEach Text (n.Paragraph paragraph.Inside) (paragraph_transition paragraph.Inside)
 paragraph-takes w b e h =
-    let is : inside_code w (Some b) ≡ record { to = Next (n.Paragraph paragraph.Inside); world = taken w } = rw (in-line Text b h) refl in
+    let is : inside_code w (Some b) ≡
+    record { to = Next (n.Paragraph paragraph.Inside); world = taken w } = rw (in-line Text b h) refl in
     ap (inside_code w) e ∙ is
 
 -- so the table of content stays there
-pub content-stays : (name : StateName) (o : Option Class) → IfSome o (λ c. TakesEach c name (content_transition name)) → IfSome o (λ c. StaysOn ContentStep content_scheme name c)
+pub content-stays : (name : StateName) (o : Option Class) → IfSome o (λ c. TakesEach c name (content_transition name)) →
+    IfSome o (λ c. StaysOn ContentStep content_scheme name c)
 content-stays name None h = tt
 content-stays name (Some c) h =
-    stays-on ContentStep content_scheme name c (content_transition name) (λ w to new e k. record { to_is = e; new_is = k }) (content_does name) h
+    stays-on ContentStep content_scheme name c (content_transition name)
+    (λ w to new e k. record { to_is = e; new_is = k }) (content_does name) h

@@ -14,11 +14,18 @@ use Rattle.md_seam.specs.Events.Nested.{enter_link, exit}
 unfoldable pub inside_chunk : List Cell → Here → Outcome
 inside_chunk cells h =
     let p = line_end cells h.point in
-    Accepts (record h { events = h.events ++ exit parts.Content p ∷ []; point = p; flags = record h.flags { leaf = held_leaf.Text } }) (from_ending cells)
+    Accepts
+    (record h {
+      events = h.events ++ exit parts.Content p ∷ [];
+      point = p;
+      flags = record h.flags { leaf = held_leaf.Text };
+    })
+    (from_ending cells)
 
 -- the whole line
 unfoldable pub chunk_at : List Cell → Here → Outcome
-chunk_at cells h = inside_chunk cells (record h { events = h.events ++ enter_link parts.Content h.point content_link ∷ [] })
+chunk_at cells h =
+    inside_chunk cells (record h { events = h.events ++ enter_link parts.Content h.point content_link ∷ [] })
 
 -- what is left at each state
 abbrev pub chunk_behaves : ContentState → List Cell → Here → Outcome
@@ -27,4 +34,5 @@ chunk_behaves its.ChunkInside cells h = inside_chunk cells h
 chunk_behaves _ cells h = Refuses h.scratch h.flags
 
 pub record HasChunk (B : Behaviour) : Type 0 where
-  pub each : (state : ContentState) (cells : List Cell) (h : Here) → B (n.Content state) cells h ≡ chunk_behaves state cells h
+  pub each : (state : ContentState) (cells : List Cell) (h : Here) →
+      B (n.Content state) cells h ≡ chunk_behaves state cells h

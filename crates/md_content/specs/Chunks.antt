@@ -26,7 +26,13 @@ chunk_start_transition w =
 -- by whether the line ends here; `is_name` finds the resolver of content
 abbrev pub chunk_inside_code : (ResolveName → Bool) → World → Bool → Transition
 chunk_inside_code is_name w true =
-    record { to = Ok; world = record (exited w parts.Content) { resolvers = registered_before is_name w.resolvers ContentResolver; flags = record w.flags { leaf = held_leaf.Text } } }
+    record {
+      to = Ok;
+      world = record (exited w parts.Content) {
+        resolvers = registered_before is_name w.resolvers ContentResolver;
+        flags = record w.flags { leaf = held_leaf.Text };
+      };
+    }
 chunk_inside_code is_name w false = record { to = Next (n.Content its.ChunkInside); world = taken w }
 
 -- each state with what it does, where there is memory; those of definitions are not built

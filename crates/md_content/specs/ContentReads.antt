@@ -40,17 +40,21 @@ part_world bytes options chunks = reads_to (skipping_all (fresh bytes options (f
 
 -- a paragraph from a point on, over these cells
 abbrev pub paragraph_over : List Cell → Point → List Event
-paragraph_over cells p = enter parts.Paragraph p ∷ enter_link parts.Data p text_link ∷ line_events cells p ++ exit parts.Paragraph (point_after cells p) ∷ []
+paragraph_over cells p =
+    enter parts.Paragraph p ∷ enter_link parts.Data p text_link ∷ line_events cells p
+    ++ exit parts.Paragraph (point_after cells p) ∷ []
 
 -- whether a line of what was read ends here
 abbrev pub is_data_end : Event → Bool
 is_data_end e = is_exit e.kind && is_data e.name
 
--- each line ends where its chunk does: the prefixes of containers in front of the next one belong to no line (CommonMark 5.1)
+-- each line ends where its chunk does: the prefixes of containers in front of the next one belong to no line
+-- (CommonMark 5.1)
 abbrev pub settled : List Chunk → List Event → List Event
 settled chunks [] = []
 settled [] (e ∷ es) = e ∷ es
-settled (chunk ∷ chunks) (e ∷ es) = if is_data_end e then record e { point = chunk.after } ∷ settled chunks es else e ∷ settled (chunk ∷ chunks) es
+settled (chunk ∷ chunks) (e ∷ es) =
+    if is_data_end e then record e { point = chunk.after } ∷ settled chunks es else e ∷ settled (chunk ∷ chunks) es
 
 -- the events of a part
 unfoldable pub content_events : List ℕ → ParseOptions → List Chunk → List Event

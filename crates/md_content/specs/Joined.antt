@@ -16,7 +16,8 @@ abbrev pub content_behind : List Event → Bool
 content_behind [] = false
 content_behind (e ∷ es) = if is_prefix e.name then content_behind es else is_enter e.kind && is_content e.name
 
--- whether a line of content that ends before these events goes on behind them: with its ending, and another line of content
+-- whether a line of content that ends before these events goes on behind them: with its ending, and another line of
+-- content
 abbrev pub goes_on : List Event → Bool
 goes_on (e ∷ f ∷ es) = is_line_ending e.name && content_behind es
 goes_on _ = false

@@ -26,7 +26,8 @@ line_start_transition w = record { to = Retry (n.Paragraph its.Inside); world = 
 abbrev pub inside_code : World → Option ℕ → Transition
 inside_code w None = record { to = Ok; world = exited (exited w parts.Data) parts.Paragraph }
 inside_code w (Some b) =
-    if b == 10 then record { to = Next (n.Paragraph its.LineStart); world = exited (taken w) parts.Data } else record { to = Next (n.Paragraph its.Inside); world = taken w }
+    if b == 10 then record { to = Next (n.Paragraph its.LineStart); world = exited (taken w) parts.Data }
+    else record { to = Next (n.Paragraph its.Inside); world = taken w }
 
 abbrev pub inside_transition : World → Transition
 inside_transition w = inside_code w w.current

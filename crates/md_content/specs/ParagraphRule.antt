@@ -14,7 +14,9 @@ use Rattle.md_seam.specs.Events.Nested.{enter, enter_link, exit}
 -- each line is one part with its ending, of which the first has begun
 abbrev pub line_events : List Cell → Point → List Event
 line_events [] p = exit parts.Data p ∷ []
-line_events (c ∷ cs) p = if c.byte == 10 then exit parts.Data c.after ∷ enter_link parts.Data c.after text_link ∷ line_events cs c.after else line_events cs c.after
+line_events (c ∷ cs) p =
+    if c.byte == 10 then exit parts.Data c.after ∷ enter_link parts.Data c.after text_link ∷ line_events cs c.after
+    else line_events cs c.after
 
 unfoldable pub inside_paragraph : List Cell → Here → Outcome
 inside_paragraph cells h =
@@ -23,7 +25,8 @@ inside_paragraph cells h =
 
 -- from the start of a line
 unfoldable pub paragraph_line : List Cell → Here → Outcome
-paragraph_line cells h = inside_paragraph cells (record h { events = h.events ++ enter_link parts.Data h.point text_link ∷ [] })
+paragraph_line cells h =
+    inside_paragraph cells (record h { events = h.events ++ enter_link parts.Data h.point text_link ∷ [] })
 
 -- the whole paragraph
 unfoldable pub paragraph_at : List Cell → Here → Outcome
@@ -36,7 +39,8 @@ paragraph_behaves its.LineStart cells h = paragraph_line cells h
 paragraph_behaves its.Inside cells h = inside_paragraph cells h
 
 pub record HasParagraph (B : Behaviour) : Type 0 where
-  pub each : (state : ParagraphState) (cells : List Cell) (h : Here) → B (n.Paragraph state) cells h ≡ paragraph_behaves state cells h
+  pub each : (state : ParagraphState) (cells : List Cell) (h : Here) →
+      B (n.Paragraph state) cells h ≡ paragraph_behaves state cells h
 
 -- what is left at each state of content
 abbrev pub content_behaves : Behaviour

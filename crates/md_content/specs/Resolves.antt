@@ -19,5 +19,6 @@ found_in_content events = record { done = is_all_read events; definitions = []; 
 -- it changes events alone: lines that follow one another are joined, and read
 pub record Resolves (old : World) (found : Option Found) (new : World) : Type 0 where
   pub rest : new ≡ record old { events = new.events }
-  pub events : Substituted wants_content (content_readings old.setting.bytes old.setting.options) [] 0 (joined old.events) new.events
+  pub events : Substituted wants_content (content_readings old.setting.bytes old.setting.options) [] 0
+      (joined old.events) new.events
   pub found_is : found ≡ Some (found_in_content new.events)

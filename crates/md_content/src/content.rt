@@ -2,8 +2,8 @@
 //
 //     content ::= 1*line
 //
-// Each line first stands as one linked `Content`. When all lines are known, those that follow one another are joined and
-// read as one.
+// Each line first stands as one linked `Content`. When all lines are known, those that follow one another are joined
+// and read as one.
 //
 // The prefixes of containers in front of a line belong to no line of the content (CommonMark 5.1). So each line begins
 // behind those in front of it, and ends behind its ending, before those of the next line: its end is that of its chunk.
@@ -71,8 +71,14 @@ pub fn chunk_start(tokenizer: &mut Tokenizer) -> State
 /// ```
 pub fn chunk_inside(tokenizer: &mut Tokenizer) -> State
     requires { IsAt NeedsNothing (StateName.Content ContentState.ChunkInside) (world tokenizer.old) }
-    ensures to { result ≢ State.Error → result ≡ (chunk_inside_code (λ name. ⟦<ResolveName as PartialEq>⟧.eq name ResolveName.Content) (world tokenizer.old) (ends_line tokenizer.old.current)).to }
-    ensures world { result ≢ State.Error → world tokenizer.new ≡ (chunk_inside_code (λ name. ⟦<ResolveName as PartialEq>⟧.eq name ResolveName.Content) (world tokenizer.old) (ends_line tokenizer.old.current)).world }
+    ensures to { result ≢ State.Error →
+        result ≡
+        (chunk_inside_code (λ name. ⟦<ResolveName as PartialEq>⟧.eq name ResolveName.Content) (world tokenizer.old)
+        (ends_line tokenizer.old.current)).to }
+    ensures world { result ≢ State.Error →
+        world tokenizer.new ≡
+        (chunk_inside_code (λ name. ⟦<ResolveName as PartialEq>⟧.eq name ResolveName.Content) (world tokenizer.old)
+        (ends_line tokenizer.old.current)).world }
 {
     match tokenizer.current {
         None | Some(b'\n') => {
@@ -91,8 +97,14 @@ pub fn chunk_inside(tokenizer: &mut Tokenizer) -> State
 /// Calls a state of a line of content.
 pub fn call(tokenizer: &mut Tokenizer, state: ContentState) -> State
     requires { IsAt NeedsNothing (StateName.Content state) (world tokenizer.old) }
-    ensures to { result ≢ State.Error → result ≡ (chunk_transition (λ name. ⟦<ResolveName as PartialEq>⟧.eq name ResolveName.Content) state (world tokenizer.old)).to }
-    ensures world { result ≢ State.Error → world tokenizer.new ≡ (chunk_transition (λ name. ⟦<ResolveName as PartialEq>⟧.eq name ResolveName.Content) state (world tokenizer.old)).world }
+    ensures to { result ≢ State.Error →
+        result ≡
+        (chunk_transition (λ name. ⟦<ResolveName as PartialEq>⟧.eq name ResolveName.Content) state
+        (world tokenizer.old)).to }
+    ensures world { result ≢ State.Error →
+        world tokenizer.new ≡
+        (chunk_transition (λ name. ⟦<ResolveName as PartialEq>⟧.eq name ResolveName.Content) state
+        (world tokenizer.old)).world }
 {
     match state {
         ContentState::ChunkStart => chunk_start(tokenizer),
@@ -197,7 +209,8 @@ impl ContentReader<'_> {
     ) -> Result<Vec<Event>, Message>
         requires { AreChunks self.now.bytes.now chunks.now }
         ensures placed { IfOk result (λ events. ArePlaced self.now.bytes.now events.items) }
-        ensures events { IfOk result (λ events. events.items ≡ content_events self.now.bytes.now self.now.options.now chunks.now) }
+        ensures events { IfOk result
+            (λ events. events.items ≡ content_events self.now.bytes.now self.now.options.now chunks.now) }
     {
         let mut tokenizer = Tokenizer::new(alloc, chunks[0].first, self.bytes, self.options);
         spare.clear();
@@ -227,8 +240,8 @@ fn ends_line_of_data(event: &Event) -> bool
 
 /// Has each line of what was read end where its chunk ends.
 ///
-/// The tokenizer goes from the ending of a line at once to the begin of the next chunk, which may lie behind prefixes of
-/// containers. These belong to no line, so a line that was read ends before them.
+/// The tokenizer goes from the ending of a line at once to the begin of the next chunk, which may lie behind prefixes
+/// of containers. These belong to no line, so a line that was read ends before them.
 ///
 /// ```markdown
 /// > | > a
@@ -238,7 +251,8 @@ fn ends_line_of_data(event: &Event) -> bool
 /// ```
 fn settle(events: &mut [Event], chunks: &[Chunk])
     ensures settled { events.new ≡ settled chunks.now events.old }
-    ensures placed { (bytes : List ℕ) → AreChunks bytes chunks.now → ArePlaced bytes events.old → ArePlaced bytes events.new }
+    ensures placed { (bytes : List ℕ) → AreChunks bytes chunks.now → ArePlaced bytes events.old →
+        ArePlaced bytes events.new }
 {
     let mut line = 0;
     for event in events.iter_mut() {
@@ -268,8 +282,8 @@ fn begins_behind(events: &[Event]) -> bool
     false
 }
 
-/// Whether a line of content that ends before these events goes on: its ending stands first, and behind it and the prefixes
-/// of the next line a line of content.
+/// Whether a line of content that ends before these events goes on: its ending stands first, and behind it and the
+/// prefixes of the next line a line of content.
 fn goes_on(events: &[Event]) -> bool
     ensures value { result ≡ goes_on events.now }
     ensures within { result ≡ true → 2 < length events.now }
@@ -277,7 +291,8 @@ fn goes_on(events: &[Event]) -> bool
     events.len() > 2 && matches!(events[0].name, Name::LineEnding) && begins_behind(&events[2..])
 }
 
-/// The last of the events that are joined with the one at `at`: the end of a line of content that goes on takes its ending.
+/// The last of the events that are joined with the one at `at`: the end of a line of content that goes on takes its
+/// ending.
 fn joined_to(events: &[Event], at: usize) -> usize
     requires { at < length events.now }
     ensures value { result ≡ at + joined_with (drop at events.now) }

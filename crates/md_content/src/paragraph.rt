@@ -2,14 +2,16 @@
 //
 //     paragraph ::= 1*line
 //
-// It adds `Paragraph` around one linked `Data` a line, which reaches over the line's ending where the paragraph goes on.
+// It adds `Paragraph` around one linked `Data` a line, which reaches over the line's ending where the paragraph goes
+// on.
 
 ghost use Rattle.std.specs.Prelude.{◌≡◌, ◌≢◌, IfSome};
 ghost use Rattle.md_engine.specs.World.{world};
 ghost use Rattle.md_engine.specs.declared.state.Name.{Name as StateName};
 ghost use Rattle.md_engine.specs.declared.state.State.{State};
 ghost use Rattle.md_engine.specs.declared.state.paragraph.State.{State as ParagraphState};
-ghost use Rattle.md_content.specs.Paragraph.{inside_transition, line_start_transition, paragraph_transition, start_transition};
+ghost use Rattle.md_content.specs.Paragraph.{inside_transition, line_start_transition, paragraph_transition};
+ghost use Rattle.md_content.specs.Paragraph.{start_transition};
 ghost use Rattle.md_seam.specs.Stays.{TakesEach};
 ghost use Rattle.md_seam.specs.Transition.{IsAt, NeedsNothing};
 
@@ -91,7 +93,8 @@ pub fn inside(tokenizer: &mut Tokenizer) -> State
 pub fn call(tokenizer: &mut Tokenizer, state: ParagraphState) -> State
     requires { IsAt NeedsNothing (StateName.Paragraph state) (world tokenizer.old) }
     ensures to { result ≢ State.Error → result ≡ (paragraph_transition state (world tokenizer.old)).to }
-    ensures world { result ≢ State.Error → world tokenizer.new ≡ (paragraph_transition state (world tokenizer.old)).world }
+    ensures world { result ≢ State.Error →
+        world tokenizer.new ≡ (paragraph_transition state (world tokenizer.old)).world }
 {
     match state {
         ParagraphState::Start => start(tokenizer),

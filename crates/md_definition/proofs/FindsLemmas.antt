@@ -13,7 +13,8 @@ pub none-found : {A : Type 0} (P : A → Type 0) → Finds None P
 none-found P = λ a e. cc
 
 -- nothing is found where a test fails
-pub when-found : {A : Type 0} (P : A → Type 0) (x : Bool) (o : Option A) → (x ≡ true → Finds o P) → Finds (cond x o None) P
+pub when-found : {A : Type 0} (P : A → Type 0) (x : Bool) (o : Option A) → (x ≡ true → Finds o P) →
+    Finds (cond x o None) P
 when-found P true o h = h refl
 when-found P false o h = none-found P
 

@@ -1,8 +1,13 @@
 -- Rows that the grammars compute.
-use Rattle.std.proofs.Common.{◌≡◌, ℕ, true, false, List, [], ◌∷◌, ◌++◌, map, replicate, Bool, Option, Some, None, refl, codes}
-use Rattle.md_definition.specs.Html.{HtmlKind, Raw, Comment, Instruction, Declaration, Cdata, Basic, Complete, html_kind, is_raw_end, html_ends, kind_after, is_raw_name, is_basic_name, begins_raw, begins_basic, begins_complete, ends_opening, after_attribute, after_assignment, after_value}
+use Rattle.std.proofs.Common.{◌≡◌, ℕ, true, false, List, [], ◌∷◌, ◌++◌, map, replicate, Bool, Option, Some, None, refl}
+use Rattle.std.proofs.Common.{codes}
+use Rattle.md_definition.specs.Html.{HtmlKind, Raw, Comment, Instruction, Declaration, Cdata, Basic, Complete}
+use Rattle.md_definition.specs.Html.{html_kind, is_raw_end, html_ends, kind_after, is_raw_name, is_basic_name}
+use Rattle.md_definition.specs.Html.{begins_raw, begins_basic, begins_complete, ends_opening, after_attribute}
+use Rattle.md_definition.specs.Html.{after_assignment, after_value}
 use Rattle.md_definition.specs.Enclosed.{enclosed, enclosed_lines}
-use Rattle.md_definition.specs.Definition.{Defined, label_at, destination_at, balanced, title_at, definition_at, cut_at_most, cut_definitions}
+use Rattle.md_definition.specs.Definition.{Defined, label_at, destination_at, balanced, title_at, definition_at}
+use Rattle.md_definition.specs.Definition.{cut_at_most, cut_definitions}
 use Rattle.md_definition.specs.Table.{pieces, row_cells, delimiter_columns, is_head}
 use Rattle.md_definition.specs.Label.{spaced}
 
@@ -55,7 +60,8 @@ kinds_rows =
 
 -- the kind that begins at each text
 kinds : map (λ row. html_kind row.0) kinds_rows ≡ map (λ row. row.1) kinds_rows
-unfolding html_kind kind_after is_raw_name is_basic_name begins_raw begins_basic begins_complete ends_opening after_attribute after_assignment after_value
+unfolding html_kind kind_after is_raw_name is_basic_name begins_raw begins_basic begins_complete ends_opening
+    after_attribute after_assignment after_value
 kinds = refl
 
 abbrev ends_raw_rows : List (List ℕ × Bool)
@@ -92,7 +98,8 @@ ends_instruction_rows =
     ∷ []
 
 -- whether each text holds the end of this kind
-ends_instruction : map (λ row. html_ends Instruction row.0) ends_instruction_rows ≡ map (λ row. row.1) ends_instruction_rows
+ends_instruction : map (λ row. html_ends Instruction row.0) ends_instruction_rows ≡
+    map (λ row. row.1) ends_instruction_rows
 unfolding html_ends is_raw_end
 ends_instruction = refl
 
@@ -103,7 +110,8 @@ ends_declaration_rows =
     ∷ []
 
 -- whether each text holds the end of this kind
-ends_declaration : map (λ row. html_ends Declaration row.0) ends_declaration_rows ≡ map (λ row. row.1) ends_declaration_rows
+ends_declaration : map (λ row. html_ends Declaration row.0) ends_declaration_rows ≡
+    map (λ row. row.1) ends_declaration_rows
 unfolding html_ends is_raw_end
 ends_declaration = refl
 
@@ -133,44 +141,147 @@ ends_basic = refl
 abbrev definitions_rows : List (List (List ℕ) × (List Defined × List (List ℕ)))
 definitions_rows =
     ((codes "[a]: b") ∷ [], (record { label = ((codes "a") ∷ []); destination = codes "b"; title = None } ∷ [], []))
-    ∷ ((codes "[a]: b") ∷ (codes "=") ∷ (codes "c") ∷ [], (record { label = ((codes "a") ∷ []); destination = codes "b"; title = None } ∷ [], (codes "=") ∷ (codes "c") ∷ []))
-    ∷ ((codes "[a") ∷ (codes "b]: c") ∷ [], (record { label = ((codes "a") ∷ (codes "b") ∷ []); destination = codes "c"; title = None } ∷ [], []))
-    ∷ ((codes "[A]: x") ∷ (codes "[" ++ 195 ∷ 159 ∷ codes "]: y 'z'") ∷ [], (record { label = ((codes "A") ∷ []); destination = codes "x"; title = None } ∷ record { label = ((195 ∷ 159 ∷ []) ∷ []); destination = codes "y"; title = Some ((codes "z") ∷ []) } ∷ [], []))
+    ∷ (
+      (codes "[a]: b") ∷ (codes "=") ∷ (codes "c") ∷ [],
+      (
+        record { label = ((codes "a") ∷ []); destination = codes "b"; title = None } ∷ [],
+        (codes "=") ∷ (codes "c") ∷ [],
+      ),
+    )
+    ∷ (
+      (codes "[a") ∷ (codes "b]: c") ∷ [],
+      (record { label = ((codes "a") ∷ (codes "b") ∷ []); destination = codes "c"; title = None } ∷ [], []),
+    )
+    ∷ (
+      (codes "[A]: x") ∷ (codes "[" ++ 195 ∷ 159 ∷ codes "]: y 'z'") ∷ [],
+      (
+        record { label = ((codes "A") ∷ []); destination = codes "x"; title = None }
+            ∷ record { label = ((195 ∷ 159 ∷ []) ∷ []); destination = codes "y"; title = Some ((codes "z") ∷ []) } ∷ [],
+        [],
+      ),
+    )
     ∷ ((codes "[a]:b") ∷ [], (record { label = ((codes "a") ∷ []); destination = codes "b"; title = None } ∷ [], []))
-    ∷ ((codes "[a]:") ∷ (codes "b") ∷ [], (record { label = ((codes "a") ∷ []); destination = codes "b"; title = None } ∷ [], []))
-    ∷ ((codes "[a]:") ∷ (codes "b") ∷ (codes "'c") ∷ (codes "d' ") ∷ [], (record { label = ((codes "a") ∷ []); destination = codes "b"; title = Some ((codes "c") ∷ (codes "d") ∷ []) } ∷ [], []))
-    ∷ ((codes "[a]: b") ∷ (codes "'c' d") ∷ [], (record { label = ((codes "a") ∷ []); destination = codes "b"; title = None } ∷ [], (codes "'c' d") ∷ []))
-    ∷ ((codes "[a]: b") ∷ (codes "x") ∷ [], (record { label = ((codes "a") ∷ []); destination = codes "b"; title = None } ∷ [], (codes "x") ∷ []))
-    ∷ ((codes "[a]: b " ++ 34 ∷ codes "c" ++ 34 ∷ codes " x") ∷ [], ([], (codes "[a]: b " ++ 34 ∷ codes "c" ++ 34 ∷ codes " x") ∷ []))
-    ∷ ((codes "[a]: b" ++ 34 ∷ codes "c" ++ 34 ∷ []) ∷ [], (record { label = ((codes "a") ∷ []); destination = codes "b" ++ 34 ∷ codes "c" ++ 34 ∷ []; title = None } ∷ [], []))
+    ∷ (
+      (codes "[a]:") ∷ (codes "b") ∷ [],
+      (record { label = ((codes "a") ∷ []); destination = codes "b"; title = None } ∷ [], []),
+    )
+    ∷ (
+      (codes "[a]:") ∷ (codes "b") ∷ (codes "'c") ∷ (codes "d' ") ∷ [],
+      (
+        record { label = ((codes "a") ∷ []); destination = codes "b"; title = Some ((codes "c") ∷ (codes "d") ∷ []) }
+            ∷ [],
+        [],
+      ),
+    )
+    ∷ (
+      (codes "[a]: b") ∷ (codes "'c' d") ∷ [],
+      (record { label = ((codes "a") ∷ []); destination = codes "b"; title = None } ∷ [], (codes "'c' d") ∷ []),
+    )
+    ∷ (
+      (codes "[a]: b") ∷ (codes "x") ∷ [],
+      (record { label = ((codes "a") ∷ []); destination = codes "b"; title = None } ∷ [], (codes "x") ∷ []),
+    )
+    ∷ (
+      (codes "[a]: b " ++ 34 ∷ codes "c" ++ 34 ∷ codes " x") ∷ [],
+      ([], (codes "[a]: b " ++ 34 ∷ codes "c" ++ 34 ∷ codes " x") ∷ []),
+    )
+    ∷ (
+      (codes "[a]: b" ++ 34 ∷ codes "c" ++ 34 ∷ []) ∷ [],
+      (
+        record { label = ((codes "a") ∷ []); destination = codes "b" ++ 34 ∷ codes "c" ++ 34 ∷ []; title = None } ∷ [],
+        [],
+      ),
+    )
     ∷ ((codes "[a]: <b>" ++ 34 ∷ codes "c" ++ 34 ∷ []) ∷ [], ([], (codes "[a]: <b>" ++ 34 ∷ codes "c" ++ 34 ∷ []) ∷ []))
-    ∷ ((codes "[a]: <> " ++ 34 ∷ codes "c" ++ 34 ∷ []) ∷ [], (record { label = ((codes "a") ∷ []); destination = []; title = Some ((codes "c") ∷ []) } ∷ [], []))
+    ∷ (
+      (codes "[a]: <> " ++ 34 ∷ codes "c" ++ 34 ∷ []) ∷ [],
+      (record { label = ((codes "a") ∷ []); destination = []; title = Some ((codes "c") ∷ []) } ∷ [], []),
+    )
     ∷ ((codes "[a]: <b" ++ 92 ∷ codes ">") ∷ [], ([], (codes "[a]: <b" ++ 92 ∷ codes ">") ∷ []))
-    ∷ ((codes "[a]: <b" ++ 92 ∷ codes ">c>") ∷ [], (record { label = ((codes "a") ∷ []); destination = codes "b" ++ 92 ∷ codes ">c"; title = None } ∷ [], []))
+    ∷ (
+      (codes "[a]: <b" ++ 92 ∷ codes ">c>") ∷ [],
+      (record { label = ((codes "a") ∷ []); destination = codes "b" ++ 92 ∷ codes ">c"; title = None } ∷ [], []),
+    )
     ∷ ((codes "[a]: (" ++ 92 ∷ codes ")") ∷ [], ([], (codes "[a]: (" ++ 92 ∷ codes ")") ∷ []))
     ∷ ((codes "[a]:)(") ∷ [], ([], (codes "[a]:)(") ∷ []))
-    ∷ ((codes "[a]: (b(c)" ++ 92 ∷ codes "))") ∷ [], (record { label = ((codes "a") ∷ []); destination = codes "(b(c)" ++ 92 ∷ codes "))"; title = None } ∷ [], []))
-    ∷ ((codes "[a]: b" ++ 92 ∷ []) ∷ [], (record { label = ((codes "a") ∷ []); destination = codes "b" ++ 92 ∷ []; title = None } ∷ [], []))
+    ∷ (
+      (codes "[a]: (b(c)" ++ 92 ∷ codes "))")
+          ∷ [],
+      (
+        record { label = ((codes "a") ∷ []); destination = codes "(b(c)" ++ 92 ∷ codes "))"; title = None }
+            ∷ [],
+        [],
+      ),
+    )
+    ∷ (
+      (codes "[a]: b" ++ 92 ∷ []) ∷ [],
+      (record { label = ((codes "a") ∷ []); destination = codes "b" ++ 92 ∷ []; title = None } ∷ [], []),
+    )
     ∷ ((codes "[a]:b '" ++ 92 ∷ codes "'") ∷ [], ([], (codes "[a]:b '" ++ 92 ∷ codes "'") ∷ []))
-    ∷ ((codes "[a]:b '" ++ 92 ∷ 92 ∷ codes "'") ∷ [], (record { label = ((codes "a") ∷ []); destination = codes "b"; title = Some ((92 ∷ 92 ∷ []) ∷ []) } ∷ [], []))
+    ∷ (
+      (codes "[a]:b '" ++ 92 ∷ 92 ∷ codes "'") ∷ [],
+      (record { label = ((codes "a") ∷ []); destination = codes "b"; title = Some ((92 ∷ 92 ∷ []) ∷ []) } ∷ [], []),
+    )
     ∷ ((codes "[a]: b (c" ++ 92 ∷ codes ")") ∷ [], ([], (codes "[a]: b (c" ++ 92 ∷ codes ")") ∷ []))
     ∷ ((codes "[a]: b (c(d))") ∷ [], ([], (codes "[a]: b (c(d))") ∷ []))
-    ∷ ((codes "[a]: b (c" ++ 92 ∷ codes "()") ∷ [], (record { label = ((codes "a") ∷ []); destination = codes "b"; title = Some ((codes "c" ++ 92 ∷ codes "(") ∷ []) } ∷ [], []))
-    ∷ ((codes "[") ∷ (codes "a]:b") ∷ [], (record { label = ([] ∷ (codes "a") ∷ []); destination = codes "b"; title = None } ∷ [], []))
-    ∷ ((codes "[a") ∷ (codes "]:b") ∷ [], (record { label = ((codes "a") ∷ [] ∷ []); destination = codes "b"; title = None } ∷ [], []))
-    ∷ ((codes "[a]:b '") ∷ (codes "a'") ∷ [], (record { label = ((codes "a") ∷ []); destination = codes "b"; title = Some ([] ∷ (codes "a") ∷ []) } ∷ [], []))
-    ∷ ((codes "[a]:b '") ∷ (codes "'") ∷ [], (record { label = ((codes "a") ∷ []); destination = codes "b"; title = Some ([] ∷ [] ∷ []) } ∷ [], []))
-    ∷ ((codes "[a]:b ''") ∷ [], (record { label = ((codes "a") ∷ []); destination = codes "b"; title = Some ([] ∷ []) } ∷ [], []))
+    ∷ (
+      (
+          codes "[a]: b (c" ++ 92 ∷ codes "()") ∷ [],
+      (
+        record {
+          label = ((codes "a") ∷ []);
+          destination = codes "b";
+          title = Some ((codes "c" ++ 92 ∷ codes "(") ∷ []);
+        } ∷ [],
+        [],
+      ),
+    )
+    ∷ (
+      (codes "[") ∷ (codes "a]:b") ∷ [],
+      (record { label = ([] ∷ (codes "a") ∷ []); destination = codes "b"; title = None } ∷ [], []),
+    )
+    ∷ (
+      (codes "[a") ∷ (codes "]:b") ∷ [],
+      (record { label = ((codes "a") ∷ [] ∷ []); destination = codes "b"; title = None } ∷ [], []),
+    )
+    ∷ (
+      (codes "[a]:b '") ∷ (codes "a'") ∷ [],
+      (record { label = ((codes "a") ∷ []); destination = codes "b"; title = Some ([] ∷ (codes "a") ∷ []) } ∷ [], []),
+    )
+    ∷ (
+      (codes "[a]:b '") ∷ (codes "'") ∷ [],
+      (record { label = ((codes "a") ∷ []); destination = codes "b"; title = Some ([] ∷ [] ∷ []) } ∷ [], []),
+    )
+    ∷ (
+      (codes "[a]:b ''") ∷ [],
+      (record { label = ((codes "a") ∷ []); destination = codes "b"; title = Some ([] ∷ []) } ∷ [], []),
+    )
     ∷ ((codes "[ " ++ 9 ∷ codes "]: b") ∷ [], ([], (codes "[ " ++ 9 ∷ codes "]: b") ∷ []))
     ∷ ((codes "[a[b]: c") ∷ [], ([], (codes "[a[b]: c") ∷ []))
-    ∷ ((codes "[a" ++ 92 ∷ codes "]b]: c") ∷ [], (record { label = ((codes "a" ++ 92 ∷ codes "]b") ∷ []); destination = codes "c"; title = None } ∷ [], []))
-    ∷ ((codes "[a" ++ 92 ∷ 92 ∷ codes "]: c") ∷ [], (record { label = ((codes "a" ++ 92 ∷ 92 ∷ []) ∷ []); destination = codes "c"; title = None } ∷ [], []))
+    ∷ (
+      (codes "[a" ++ 92 ∷ codes "]b]: c")
+          ∷ [],
+      (record { label = ((codes "a" ++ 92 ∷ codes "]b") ∷ []); destination = codes "c"; title = None } ∷ [], []),
+    )
+    ∷ (
+      (codes "[a" ++ 92 ∷ 92 ∷ codes "]: c") ∷ [],
+      (record { label = ((codes "a" ++ 92 ∷ 92 ∷ []) ∷ []); destination = codes "c"; title = None } ∷ [], []),
+    )
     ∷ ((codes "[a] : c") ∷ [], ([], (codes "[a] : c") ∷ []))
     ∷ ((codes "[a]:") ∷ [], ([], (codes "[a]:") ∷ []))
     ∷ ((codes "[a]: b" ++ 11 ∷ []) ∷ [], ([], (codes "[a]: b" ++ 11 ∷ []) ∷ []))
-    ∷ ((codes "[a]: " ++ 194 ∷ 160 ∷ []) ∷ [], (record { label = ((codes "a") ∷ []); destination = 194 ∷ 160 ∷ []; title = None } ∷ [], []))
-    ∷ ((codes "[" ++ 11 ∷ codes "]:a") ∷ [], (record { label = ((11 ∷ []) ∷ []); destination = codes "a"; title = None } ∷ [], []))
-    ∷ ((codes "[a]: b" ++ 9 ∷ 34 ∷ codes "c" ++ 34 ∷ 9 ∷ []) ∷ [], (record { label = ((codes "a") ∷ []); destination = codes "b"; title = Some ((codes "c") ∷ []) } ∷ [], []))
+    ∷ (
+      (codes "[a]: " ++ 194 ∷ 160 ∷ []) ∷ [],
+      (record { label = ((codes "a") ∷ []); destination = 194 ∷ 160 ∷ []; title = None } ∷ [], []),
+    )
+    ∷ (
+      (codes "[" ++ 11 ∷ codes "]:a") ∷ [],
+      (record { label = ((11 ∷ []) ∷ []); destination = codes "a"; title = None } ∷ [], []),
+    )
+    ∷ (
+      (codes "[a]: b" ++ 9 ∷ 34 ∷ codes "c" ++ 34 ∷ 9 ∷ []) ∷ [],
+      (record { label = ((codes "a") ∷ []); destination = codes "b"; title = Some ((codes "c") ∷ []) } ∷ [], []),
+    )
     ∷ ((codes "a") ∷ [], ([], (codes "a") ∷ []))
     ∷ []
 
@@ -180,11 +291,13 @@ unfolding label_at enclosed_lines enclosed destination_at balanced title_at defi
 definitions = refl
 
 -- a label of 999 bytes, and one of 1000 bytes, of which the whitespace before an ending counts and the ending does not
-long_label : cut_definitions ((91 ∷ (replicate 999 97 ++ codes "]: b")) ∷ []) ≡ (record { label = replicate 999 97 ∷ []; destination = codes "b"; title = None } ∷ [], [])
+long_label : cut_definitions ((91 ∷ (replicate 999 97 ++ codes "]: b")) ∷ []) ≡
+    (record { label = replicate 999 97 ∷ []; destination = codes "b"; title = None } ∷ [], [])
 unfolding label_at enclosed_lines enclosed destination_at balanced title_at definition_at cut_at_most cut_definitions
 long_label = refl
 
-longer_label : cut_definitions ((91 ∷ (replicate 998 97 ++ codes "  ")) ∷ codes "]:b" ∷ []) ≡ ([], (91 ∷ (replicate 998 97 ++ codes "  ")) ∷ codes "]:b" ∷ [])
+longer_label : cut_definitions ((91 ∷ (replicate 998 97 ++ codes "  ")) ∷ codes "]:b" ∷ []) ≡
+    ([], (91 ∷ (replicate 998 97 ++ codes "  ")) ∷ codes "]:b" ∷ [])
 unfolding label_at enclosed_lines enclosed destination_at balanced title_at definition_at cut_at_most cut_definitions
 longer_label = refl
 
@@ -197,7 +310,10 @@ cells_rows =
     ∷ (codes "|||", ([] ∷ [] ∷ []))
     ∷ (codes "a|", ((codes "a") ∷ []))
     ∷ (codes "| c |", ((codes "c") ∷ []))
-    ∷ (codes " " ++ 9 ∷ codes "a " ++ 92 ∷ codes "| b | c" ++ 92 ∷ 92 ∷ codes "|d" ++ 92 ∷ [], ((codes "a " ++ 92 ∷ codes "| b") ∷ (codes "c" ++ 92 ∷ 92 ∷ []) ∷ (codes "d" ++ 92 ∷ []) ∷ []))
+    ∷ (
+      codes " " ++ 9 ∷ codes "a " ++ 92 ∷ codes "| b | c" ++ 92 ∷ 92 ∷ codes "|d" ++ 92 ∷ [],
+      ((codes "a " ++ 92 ∷ codes "| b") ∷ (codes "c" ++ 92 ∷ 92 ∷ []) ∷ (codes "d" ++ 92 ∷ []) ∷ []),
+    )
     ∷ ([], ([] ∷ []))
     ∷ (codes "|  |", ([] ∷ []))
     ∷ (codes "d | e | f | ", ((codes "d") ∷ (codes "e") ∷ (codes "f") ∷ []))

@@ -8,13 +8,21 @@ use Rattle.md_definition.proofs.ColumnLemmas.{item_from}
 use Rattle.md_definition.proofs.TakenLemmas.{Leaves, LeavesFewer, length-lose}
 use Rattle.md_definition.proofs.FindsLemmas.{none-found, some-found, when-found}
 
-pub item-leaves : (options : ParseOptions) (interrupting : Bool) (k column spaces : ℕ) (bytes : List ℕ) → LeavesFewer (item_from options interrupting k (record { column = column; spaces = spaces; bytes = bytes })) (length bytes)
+pub item-leaves : (options : ParseOptions) (interrupting : Bool) (k column spaces : ℕ) (bytes : List ℕ) →
+    LeavesFewer (item_from options interrupting k (record { column = column; spaces = spaces; bytes = bytes }))
+    (length bytes)
 item-leaves options interrupting k column spaces [] = when-found (Leaves 0) _ _ (λ e. none-found (Leaves 0))
-item-leaves options interrupting k column spaces (b ∷ bytes) = when-found (Leaves _) _ _ (λ e. go (list_marker (b ∷ bytes)))
+item-leaves options interrupting k column spaces (b ∷ bytes) =
+    when-found (Leaves _) _ _ (λ e. go (list_marker (b ∷ bytes)))
   where
-    go : (marker : Option Marker) → LeavesFewer (item_by options interrupting k (record { column = column; spaces = spaces; bytes = b ∷ bytes }) marker) (length (b ∷ bytes))
+    go : (marker : Option Marker) →
+        LeavesFewer
+        (item_by options interrupting k (record { column = column; spaces = spaces; bytes = b ∷ bytes }) marker)
+        (length (b ∷ bytes))
     go None = none-found (Leaves _)
     go (Some marker) =
         let n : ℕ = length marker.digits + 1 in
         let after : Rest = behind n (record { column = column; spaces = spaces; bytes = b ∷ bytes }) in
-        when-found (Leaves _) _ _ (λ e. some-found (Leaves _) _ (omega (arith, length-lose (item_padding after) after, length-drop n (b ∷ bytes))))
+        when-found (Leaves _) _ _
+        (λ e.
+        some-found (Leaves _) _ (omega (arith, length-lose (item_padding after) after, length-drop n (b ∷ bytes))))

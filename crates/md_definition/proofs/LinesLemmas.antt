@@ -5,11 +5,15 @@ use Rattle.std.proofs.lemmas.List.Sums.{take_while-cons}
 use Rattle.md_definition.specs.Lines.{is_ending, without_ending}
 use Rattle.md_definition.specs.Preamble.{rest_at, rests_at}
 
-pub without_ending-cons : (b : ℕ) (line : List ℕ) → is_ending b ≡ false → without_ending (b ∷ line) ≡ b ∷ without_ending line
-without_ending-cons b line e = take_while-cons (λ (c : ℕ). not (is_ending c)) b line ∙ ap (λ (t : Bool). cond (not t) (b ∷ without_ending line) []) e
+pub without_ending-cons : (b : ℕ) (line : List ℕ) → is_ending b ≡ false →
+    without_ending (b ∷ line) ≡ b ∷ without_ending line
+without_ending-cons b line e =
+    take_while-cons (λ (c : ℕ). not (is_ending c)) b line
+    ∙ ap (λ (t : Bool). cond (not t) (b ∷ without_ending line) []) e
 
 -- a byte that ends no line stays in its line
-pub without_ending-onto : (b : ℕ) (ls : List (List ℕ)) → is_ending b ≡ false → map without_ending (onto_first b ls) ≡ onto_first b (map without_ending ls)
+pub without_ending-onto : (b : ℕ) (ls : List (List ℕ)) → is_ending b ≡ false →
+    map without_ending (onto_first b ls) ≡ onto_first b (map without_ending ls)
 without_ending-onto b [] e = ap (λ (l : List ℕ). l ∷ []) (without_ending-cons b [] e)
 without_ending-onto b (l ∷ ls) e = ap (λ (k : List ℕ). k ∷ map without_ending ls) (without_ending-cons b l e)
 

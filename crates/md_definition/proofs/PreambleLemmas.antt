@@ -9,4 +9,7 @@ pub mark-bytes : (bytes : List ℕ) → has_mark bytes ≡ true → bytes ≡ 23
 mark-bytes bytes h = (starts_is Decides-eqb bytes (239 ∷ 187 ∷ 191 ∷ []) (has_mark bytes) refl).0 h
 
 pub mark-length : (bytes : List ℕ) → has_mark bytes ≡ true → 3 ≤ length bytes
-mark-length bytes h = let size : length bytes ≡ length (239 ∷ 187 ∷ 191 ∷ drop 3 bytes) = ap (λ (l : List ℕ). length l) (mark-bytes bytes h) in omega (arith, size)
+mark-length bytes h =
+    let size : length bytes ≡
+    length (239 ∷ 187 ∷ 191 ∷ drop 3 bytes) = ap (λ (l : List ℕ). length l) (mark-bytes bytes h) in
+    omega (arith, size)

@@ -1,5 +1,6 @@
 -- Texts are split at their line endings.
-use Rattle.std.proofs.Common.{◌≡◌, ℕ, zero, suc, Bool, true, false, cond, ◌&&◌, ◌||◌, List, [], ◌∷◌, ◌++◌, drop, refl, ap, ◌∙◌}
+use Rattle.std.proofs.Common.{◌≡◌, ℕ, zero, suc, Bool, true, false, cond, ◌&&◌, ◌||◌, List, [], ◌∷◌, ◌++◌, drop, refl}
+use Rattle.std.proofs.Common.{ap, ◌∙◌}
 use Rattle.std.specs.Prelude.{◌==◌, not}
 use Rattle.std.specs.List.{onto_first}
 use Rattle.md_definition.specs.Lines.{is_ending, begins_with}
@@ -35,7 +36,10 @@ EndsBefore Both rest = Unit {0}
 pub split-byte : (b : ℕ) (bs : List ℕ) → is_ending b ≡ false → split_lines (b ∷ bs) ≡ onto_first b (split_lines bs)
 split-byte b bs h = go (b == 10) (b == 13) h
   where
-    go : (x y : Bool) → (x || y) ≡ false → cond (x || (y && not (begins_with 10 bs))) ([] ∷ split_lines bs) (cond (x || y) (split_lines bs) (onto_first b (split_lines bs))) ≡ onto_first b (split_lines bs)
+    go : (x y : Bool) → (x || y) ≡ false →
+        cond (x || (y && not (begins_with 10 bs))) ([] ∷ split_lines bs)
+        (cond (x || y) (split_lines bs) (onto_first b (split_lines bs))) ≡
+        onto_first b (split_lines bs)
     go false false h = refl
     go false true h = cc
     go true y h = cc
@@ -48,26 +52,32 @@ split-line (b ∷ bs) h = split-byte b bs h.0 ∙ ap (onto_first b) (split-line 
 split-return : (x : Bool) (lines : List (List ℕ)) → x ≡ false → cond (not x) ([] ∷ lines) lines ≡ [] ∷ lines
 split-return x lines e = ap (λ (x : Bool). cond (not x) ([] ∷ lines) lines) e
 
-split-ending : (ending : Ending) (rest : List ℕ) → EndsBefore ending rest → split_lines (ending_bytes ending ++ rest) ≡ [] ∷ split_lines rest
+split-ending : (ending : Ending) (rest : List ℕ) → EndsBefore ending rest →
+    split_lines (ending_bytes ending ++ rest) ≡ [] ∷ split_lines rest
 split-ending LineFeed rest h = refl
 split-ending Return rest h = split-return (begins_with 10 rest) (split_lines rest) h
 split-ending Both rest h = refl
 
 -- a line, its ending, and what follows
-pub split-next : (line : List ℕ) (ending : Ending) (rest : List ℕ) → NoEnding line → EndsBefore ending rest → split_lines (line ++ ending_bytes ending ++ rest) ≡ line ∷ split_lines rest
+pub split-next : (line : List ℕ) (ending : Ending) (rest : List ℕ) → NoEnding line → EndsBefore ending rest →
+    split_lines (line ++ ending_bytes ending ++ rest) ≡ line ∷ split_lines rest
 split-next [] ending rest h k = split-ending ending rest k
-split-next (b ∷ bs) ending rest h k = split-byte b ((bs ++ ending_bytes ending) ++ rest) h.0 ∙ ap (onto_first b) (split-next bs ending rest h.1 k)
+split-next (b ∷ bs) ending rest h k =
+    split-byte b ((bs ++ ending_bytes ending) ++ rest) h.0 ∙ ap (onto_first b) (split-next bs ending rest h.1 k)
 
 -- a text that is made of these lines, with an ending between each
 abbrev pub IsOfLines : List (List ℕ) → List ℕ → Type 0
 IsOfLines [] text = ⊥
 IsOfLines (line ∷ []) text = NoEnding line × (text ≡ line)
 IsOfLines (line ∷ next ∷ lines) text =
-    NoEnding line × ((ending : Ending) × (rest : List ℕ) × EndsBefore ending rest × (text ≡ line ++ ending_bytes ending ++ rest) × IsOfLines (next ∷ lines) rest)
+    NoEnding line ×
+    ((ending : Ending) × (rest : List ℕ) × EndsBefore ending rest × (text ≡ line ++ ending_bytes ending ++ rest) ×
+    IsOfLines (next ∷ lines) rest)
 
 -- a text is split into its lines
 pub split-lines : (lines : List (List ℕ)) (text : List ℕ) → IsOfLines lines text → split_lines text ≡ lines
 split-lines [] text h = absurd h
 split-lines (line ∷ []) text h = ap split_lines h.1 ∙ split-line line h.0
 split-lines (line ∷ next ∷ lines) text h =
-    ap split_lines h.1.3 ∙ split-next line h.1.0 h.1.1 h.0 h.1.2 ∙ ap (λ (x : List (List ℕ)). line ∷ x) (split-lines (next ∷ lines) h.1.1 h.1.4)
+    ap split_lines h.1.3 ∙ split-next line h.1.0 h.1.1 h.0 h.1.2
+    ∙ ap (λ (x : List (List ℕ)). line ∷ x) (split-lines (next ∷ lines) h.1.1 h.1.4)

@@ -1,13 +1,16 @@
 -- Containers: block quotes, list items and footnote definitions.
-use Rattle.std.specs.Prelude.{ℕ, ◌+◌, Bool, true, false, ◌&&◌, ◌||◌, ◌==◌, not, nat_le, nat_eq, if◌then◌else◌, List, [], ◌∷◌, length, drop, Option, Some, None}
+use Rattle.std.specs.Prelude.{ℕ, ◌+◌, Bool, true, false, ◌&&◌, ◌||◌, ◌==◌, not, nat_le, nat_eq, if◌then◌else◌, List, []}
+use Rattle.std.specs.Prelude.{◌∷◌, length, drop, Option, Some, None}
 use Rattle.std.specs.List.{starts_with, take_while}
 use Rattle.std.specs.Option.{option_or}
 use Rattle.md_engine.specs.declared.configuration.ParseOptions.{ParseOptions}
 use Rattle.md_definition.specs.Lines.{begins_with}
-use Rattle.md_definition.specs.Rest.{Rest, is_white, is_blank, is_parted, indent, has_small_indent, lose, behind_indent, behind}
+use Rattle.md_definition.specs.Rest.{Rest, is_white, is_blank, is_parted, indent, has_small_indent, lose, behind_indent}
+use Rattle.md_definition.specs.Rest.{behind}
 use Rattle.md_definition.specs.State.{Container, InQuote, InItem, InFootnote}
 use Rattle.md_definition.specs.Leaves.{is_rule}
-use Rattle.md_definition.specs.Ascii.{asterisk, backslash, caret, colon, dot, greater_than, hyphen, left_bracket, plus, right_bracket, right_parenthesis}
+use Rattle.md_definition.specs.Ascii.{asterisk, backslash, caret, colon, dot, greater_than, hyphen, left_bracket, plus}
+use Rattle.md_definition.specs.Ascii.{right_bracket, right_parenthesis}
 
 -- a container that continued or opened, and the rest of the line in it
 pub record Taken : Type 0 where
@@ -60,7 +63,8 @@ is_bullet b = (b == asterisk) || (b == plus) || (b == hyphen)
 -- the `.` or `)` behind digits
 abbrev pub marker_behind : List ℕ → List ℕ → Option Marker
 marker_behind digits [] = None
-marker_behind digits (b ∷ bytes) = if (b == dot) || (b == right_parenthesis) then Some (record { digits = digits; byte = b }) else None
+marker_behind digits (b ∷ bytes) =
+    if (b == dot) || (b == right_parenthesis) then Some (record { digits = digits; byte = b }) else None
 
 -- a bullet, or 1 to 9 digits and then `.` or `)`
 abbrev pub list_marker : List ℕ → Option Marker
@@ -68,7 +72,8 @@ list_marker [] = None
 list_marker (b ∷ bytes) =
     let digits = take_while is_digit (b ∷ bytes) in
     if is_bullet b then Some (record { digits = []; byte = b })
-    else if nat_le 1 (length digits) && nat_le (length digits) 9 then marker_behind digits (drop (length digits) (b ∷ bytes))
+    else if nat_le 1 (length digits) && nat_le (length digits) 9
+    then marker_behind digits (drop (length digits) (b ∷ bytes))
     else None
 
 -- the columns after the marker that belong to the item: none before a blank rest, 1 of 5 or more
@@ -97,7 +102,8 @@ item_with options interrupting before from after marker =
 
 abbrev pub item_by : ParseOptions → Bool → ℕ → Rest → Option Marker → Option Taken
 item_by options interrupting before from None = None
-item_by options interrupting before from (Some marker) = item_with options interrupting before from (behind (length marker.digits + 1) from) marker
+item_by options interrupting before from (Some marker) =
+    item_with options interrupting before from (behind (length marker.digits + 1) from) marker
 
 -- a small indent, a marker, and whitespace or the end of the line (CommonMark 5.2)
 unfoldable pub opens_item : ParseOptions → Bool → Rest → Option Taken
@@ -140,10 +146,12 @@ footnote_by from (Some l) =
 unfoldable pub opens_footnote : ParseOptions → Rest → Option Taken
 opens_footnote options r =
     let from = behind_indent r in
-    if options.constructs.gfm_footnote_definition && has_small_indent options r && starts_with nat_eq from.bytes (left_bracket ∷ caret ∷ [])
+    if options.constructs.gfm_footnote_definition && has_small_indent options r
+    && starts_with nat_eq from.bytes (left_bracket ∷ caret ∷ [])
     then footnote_by from (footnote_label false (drop 2 from.bytes))
     else None
 
 -- the first container that opens here, if one does
 abbrev pub opens : ParseOptions → Bool → Rest → Option Taken
-opens options interrupting r = option_or (opens_quote options r) (option_or (opens_item options interrupting r) (opens_footnote options r))
+opens options interrupting r =
+    option_or (opens_quote options r) (option_or (opens_item options interrupting r) (opens_footnote options r))

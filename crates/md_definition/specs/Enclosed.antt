@@ -17,8 +17,8 @@ with_byte b (Closed text rest) = Closed (b ∷ text) rest
 with_byte b Open = Open
 with_byte b Broken = Broken
 
--- The text up to the closing mark. `escaped` says that a backslash takes the byte that is next; a mark or a backslash then
--- stands for itself, and any other byte does so anyway (CommonMark 2.4). Pairs are taken from left to right.
+-- The text up to the closing mark. `escaped` says that a backslash takes the byte that is next; a mark or a backslash
+-- then stands for itself, and any other byte does so anyway (CommonMark 2.4). Pairs are taken from left to right.
 unfoldable pub enclosed : ℕ → ℕ → Bool → List ℕ → Enclosed
 enclosed opener closer escaped [] = Open
 enclosed opener closer true (b ∷ bs) = with_byte b (enclosed opener closer false bs)

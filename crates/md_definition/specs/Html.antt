@@ -1,12 +1,14 @@
 -- HTML blocks: how each of the seven kinds begins and ends (CommonMark 4.6).
-use Rattle.std.specs.Prelude.{ℕ, zero, suc, Bool, false, ◌&&◌, ◌||◌, not, ◌==◌, if◌then◌else◌, List, [], ◌∷◌, length, take, Option, Some, None, codes, nat_eq}
+use Rattle.std.specs.Prelude.{ℕ, zero, suc, Bool, false, ◌&&◌, ◌||◌, not, ◌==◌, if◌then◌else◌, List, [], ◌∷◌, length}
+use Rattle.std.specs.Prelude.{take, Option, Some, None, codes, nat_eq}
 use Rattle.std.specs.List.{list_any, starts_with, take_while}
 use Rattle.std.specs.Char.{is_ascii_alphabetic, is_ascii_alphanumeric}
 use Rattle.std.specs.Str.{str_eq_ignore_ascii_case}
 use Rattle.md_definition.specs.Lines.{begins_with}
 use Rattle.md_definition.specs.Rest.{is_white, is_blank, is_parted, trim_start}
 use Rattle.md_definition.specs.Bytes.{after, begins, after_optional}
-use Rattle.md_definition.specs.Ascii.{backtick, colon, dot, double_quote, equals_sign, exclamation_mark, greater_than, hyphen, less_than, single_quote, slash, underscore}
+use Rattle.md_definition.specs.Ascii.{backtick, colon, dot, double_quote, equals_sign, exclamation_mark, greater_than}
+use Rattle.md_definition.specs.Ascii.{hyphen, less_than, single_quote, slash, underscore}
 
 -- The kinds 1 to 7 of the standard, in its order.
 pub data HtmlKind : Type 0 where
@@ -28,14 +30,19 @@ raw_names = codes "pre" ∷ codes "script" ∷ codes "style" ∷ codes "textarea
 -- the names of kind 6
 abbrev pub basic_names : List (List ℕ)
 basic_names =
-    codes "address" ∷ codes "article" ∷ codes "aside" ∷ codes "base" ∷ codes "basefont" ∷ codes "blockquote" ∷ codes "body"
+    codes "address" ∷ codes "article" ∷ codes "aside" ∷ codes "base" ∷ codes "basefont" ∷ codes "blockquote"
+    ∷ codes "body"
     ∷ codes "caption" ∷ codes "center" ∷ codes "col" ∷ codes "colgroup" ∷ codes "dd" ∷ codes "details" ∷ codes "dialog"
     ∷ codes "dir" ∷ codes "div" ∷ codes "dl" ∷ codes "dt" ∷ codes "fieldset" ∷ codes "figcaption" ∷ codes "figure"
-    ∷ codes "footer" ∷ codes "form" ∷ codes "frame" ∷ codes "frameset" ∷ codes "h1" ∷ codes "h2" ∷ codes "h3" ∷ codes "h4"
-    ∷ codes "h5" ∷ codes "h6" ∷ codes "head" ∷ codes "header" ∷ codes "hr" ∷ codes "html" ∷ codes "iframe" ∷ codes "legend"
-    ∷ codes "li" ∷ codes "link" ∷ codes "main" ∷ codes "menu" ∷ codes "menuitem" ∷ codes "nav" ∷ codes "noframes" ∷ codes "ol"
+    ∷ codes "footer" ∷ codes "form" ∷ codes "frame" ∷ codes "frameset" ∷ codes "h1" ∷ codes "h2" ∷ codes "h3"
+    ∷ codes "h4"
+    ∷ codes "h5" ∷ codes "h6" ∷ codes "head" ∷ codes "header" ∷ codes "hr" ∷ codes "html" ∷ codes "iframe"
+    ∷ codes "legend"
+    ∷ codes "li" ∷ codes "link" ∷ codes "main" ∷ codes "menu" ∷ codes "menuitem" ∷ codes "nav" ∷ codes "noframes"
+    ∷ codes "ol"
     ∷ codes "optgroup" ∷ codes "option" ∷ codes "p" ∷ codes "param" ∷ codes "search" ∷ codes "section" ∷ codes "summary"
-    ∷ codes "table" ∷ codes "tbody" ∷ codes "td" ∷ codes "tfoot" ∷ codes "th" ∷ codes "thead" ∷ codes "title" ∷ codes "tr"
+    ∷ codes "table" ∷ codes "tbody" ∷ codes "td" ∷ codes "tfoot" ∷ codes "th" ∷ codes "thead" ∷ codes "title"
+    ∷ codes "tr"
     ∷ codes "track" ∷ codes "ul" ∷ []
 
 -- whether this is one of the names, in any ASCII case
@@ -63,7 +70,9 @@ begins_raw rest = is_raw_name (take_while is_tag_byte rest) && ends_name (after 
 
 -- whether kind 6 begins, after `<` or `</`: its name may also be followed by `/>`
 unfoldable pub begins_basic : List ℕ → Bool
-begins_basic rest = is_basic_name (take_while is_tag_byte rest) && (ends_name (after is_tag_byte rest) || starts_with nat_eq (after is_tag_byte rest) (codes "/>"))
+begins_basic rest =
+    is_basic_name (take_while is_tag_byte rest)
+    && (ends_name (after is_tag_byte rest) || starts_with nat_eq (after is_tag_byte rest) (codes "/>"))
 
 -- the first byte of an attribute's name, and the others (CommonMark 6.6)
 abbrev pub begins_attribute : ℕ → Bool
@@ -74,7 +83,10 @@ is_attribute_byte b = is_ascii_alphanumeric b || (b == underscore) || (b == dot)
 
 -- the bytes of a value without quotes: no space, tab, `"`, `'`, `=`, `<`, `>` or backtick (CommonMark 6.6)
 abbrev pub is_value_byte : ℕ → Bool
-is_value_byte b = not (is_white b || (b == double_quote) || (b == single_quote) || (b == equals_sign) || (b == less_than) || (b == greater_than) || (b == backtick))
+is_value_byte b =
+    not
+    (is_white b || (b == double_quote) || (b == single_quote) || (b == equals_sign) || (b == less_than)
+    || (b == greater_than) || (b == backtick))
 
 -- what follows the next such byte, if there is one
 abbrev pub after_next : ℕ → List ℕ → Option (List ℕ)
@@ -92,12 +104,14 @@ after_value (b ∷ bs) =
 -- what follows the value of an attribute that may have one, after its name
 unfoldable pub after_assignment : List ℕ → Option (List ℕ)
 after_assignment rest =
-    if begins_with equals_sign (trim_start rest) then after_value (trim_start (after_optional equals_sign (trim_start rest))) else Some rest
+    if begins_with equals_sign (trim_start rest)
+    then after_value (trim_start (after_optional equals_sign (trim_start rest))) else Some rest
 
 -- what follows an attribute: whitespace, a name, and perhaps `=` and a value
 unfoldable pub after_attribute : List ℕ → Option (List ℕ)
 after_attribute rest =
-    if begins is_white rest && begins begins_attribute (trim_start rest) then after_assignment (after is_attribute_byte (trim_start rest)) else None
+    if begins is_white rest && begins begins_attribute (trim_start rest)
+    then after_assignment (after is_attribute_byte (trim_start rest)) else None
 
 -- what follows at most so many attributes
 abbrev pub after_attributes : ℕ → List ℕ → List ℕ
@@ -125,7 +139,8 @@ kind_after rest =
     if begins_raw rest then Some Raw
     else if starts_with nat_eq rest (codes "!--") then Some Comment
     else if starts_with nat_eq rest (codes "?") then Some Instruction
-    else if starts_with nat_eq rest (codes "!") && begins is_ascii_alphabetic (after_optional exclamation_mark rest) then Some Declaration
+    else if starts_with nat_eq rest (codes "!") && begins is_ascii_alphabetic (after_optional exclamation_mark rest)
+    then Some Declaration
     else if starts_with nat_eq rest (codes "![CDATA[") then Some Cdata
     else if begins_basic (after_optional slash rest) then Some Basic
     else if begins_complete rest then Some Complete

@@ -36,7 +36,8 @@ abbrev mutual
   block_labels (t.Quote blocks) = labels blocks
   block_labels (t.ListOf marker items) = labels items
   block_labels (t.Item marker digits blocks) = labels blocks
-  block_labels (t.Footnote label blocks) = both (record { definitions = []; footnotes = normal_form (label ∷ []) ∷ [] }) (labels blocks)
+  block_labels (t.Footnote label blocks) =
+      both (record { definitions = []; footnotes = normal_form (label ∷ []) ∷ [] }) (labels blocks)
   block_labels (t.Definition label destination title) = record { definitions = normal_form label ∷ []; footnotes = [] }
   block_labels (t.Frontmatter marker lines) = no_labels
   block_labels (t.Heading depth lines) = no_labels

@@ -1,13 +1,17 @@
 -- Leaf blocks: where they start, and how they go on.
-use Rattle.std.specs.Prelude.{ℕ, ◌-◌, Bool, true, false, ◌&&◌, ◌||◌, ◌==◌, not, nat_le, if◌then◌else◌, List, [], ◌∷◌, ◌++◌, length, take, drop, reverse, count_by, Option, Some, None}
+use Rattle.std.specs.Prelude.{ℕ, ◌-◌, Bool, true, false, ◌&&◌, ◌||◌, ◌==◌, not, nat_le, if◌then◌else◌, List, [], ◌∷◌}
+use Rattle.std.specs.Prelude.{◌++◌, length, take, drop, reverse, count_by, Option, Some, None}
 use Rattle.std.specs.List.{list_all, list_any, suffix_len, take_while}
 use Rattle.std.specs.Option.{option_or, is_some}
 use Rattle.md_engine.specs.declared.configuration.ParseOptions.{ParseOptions}
 use Rattle.md_definition.specs.Tree.{Line, Block, Heading, Break, Html, Blocks}
-use Rattle.md_definition.specs.Rest.{Rest, is_white, is_blank, is_parted, run_len, trim_start, trim_end, trim, indent, has_small_indent, is_small, lose, line_of}
+use Rattle.md_definition.specs.Rest.{Rest, is_white, is_blank, is_parted, run_len, trim_start, trim_end, trim, indent}
+use Rattle.md_definition.specs.Rest.{has_small_indent, is_small, lose, line_of}
 use Rattle.md_definition.specs.Html.{HtmlKind, Basic, Complete, html_kind, html_ends}
 use Rattle.md_definition.specs.Table.{delimiter_columns, row_cells, is_head}
-use Rattle.md_definition.specs.State.{Kept, Opening, Leaf, NoLeaf, OpenParagraph, OpenCode, OpenFence, OpenHtml, OpenTable, Spot, then_block, then_definitions, shut_paragraph, kept, texts, cut, fence_block}
+use Rattle.md_definition.specs.State.{Kept, Opening, Leaf, NoLeaf, OpenParagraph, OpenCode, OpenFence, OpenHtml}
+use Rattle.md_definition.specs.State.{OpenTable, Spot, then_block, then_definitions, shut_paragraph, kept, texts, cut}
+use Rattle.md_definition.specs.State.{fence_block}
 use Rattle.md_definition.specs.Ascii.{asterisk, backtick, dollar, equals_sign, hash, hyphen, tilde, underscore}
 
 -- what a leaf has come to with a line: it is open, or finished
@@ -15,7 +19,8 @@ pub data Came : Type 0 where
   Opened : Leaf → Came
   Finished : Block → Came
 
--- what a line that may start a leaf stands against: no open paragraph, one of its own containers, or one that it is lazy for
+-- what a line that may start a leaf stands against: no open paragraph, one of its own containers, or one that it is
+-- lazy for
 pub data ParagraphContext : Type 0 where
   NoText : ParagraphContext
   Text : ParagraphContext
@@ -39,7 +44,8 @@ is_rule_marker b = (b == asterisk) || (b == hyphen) || (b == underscore)
 -- three or more of one of `*`, `-` and `_`, with spaces and tabs between and after
 abbrev pub is_rule : List ℕ → Bool
 is_rule [] = false
-is_rule (m ∷ bytes) = is_rule_marker m && list_all (λ b. (b == m) || is_white b) bytes && nat_le 2 (count_by (λ b. b == m) bytes)
+is_rule (m ∷ bytes) =
+    is_rule_marker m && list_all (λ b. (b == m) || is_white b) bytes && nat_le 2 (count_by (λ b. b == m) bytes)
 
 unfoldable pub break_at : ParseOptions → Rest → Option Came
 break_at options r =
@@ -70,7 +76,8 @@ unfoldable pub heading_at : ParseOptions → Rest → Option Came
 heading_at options r =
     let text = trim_start r.bytes in
     let depth = run_len hash text in
-    if options.constructs.heading_atx && has_small_indent options r && nat_le 1 depth && nat_le depth 6 && is_parted (drop depth text)
+    if options.constructs.heading_atx && has_small_indent options r && nat_le 1 depth && nat_le depth 6
+    && is_parted (drop depth text)
     then Some (Finished (Heading depth (heading_lines (heading_text (drop depth text)))))
     else None
 
@@ -88,7 +95,8 @@ code_at options against r =
 
 -- a line that is neither blank nor indented by 4 columns ends it
 unfoldable pub code_goes_on : List Line → Rest → Option Came
-code_goes_on lines r = if is_blank r.bytes || nat_le 4 (indent r) then Some (Opened (OpenCode (lines ++ code_line r ∷ []))) else None
+code_goes_on lines r =
+    if is_blank r.bytes || nat_le 4 (indent r) then Some (Opened (OpenCode (lines ++ code_line r ∷ []))) else None
 
 -- Fenced code (CommonMark 4.5) and math (own choice, as on GitHub).
 
@@ -177,7 +185,8 @@ html_by against r (Some kind) = if may_start against kind then Some (html_line k
 -- a small indent, and then one of the seven beginnings
 unfoldable pub html_at : ParseOptions → ParagraphContext → Rest → Option Came
 html_at options against r =
-    if options.constructs.html_flow && has_small_indent options r then html_by against r (html_kind (trim_start r.bytes)) else None
+    if options.constructs.html_flow && has_small_indent options r
+    then html_by against r (html_kind (trim_start r.bytes)) else None
 
 unfoldable pub html_goes_on : HtmlKind → List Line → Rest → Option Came
 html_goes_on kind lines r = if ends_at_blank kind && is_blank r.bytes then None else Some (html_line kind lines r)
@@ -187,7 +196,9 @@ html_goes_on kind lines r = if ends_at_blank kind && is_blank r.bytes then None 
 -- the first leaf, other than a paragraph, that starts at this rest
 unfoldable pub starts : ParseOptions → ParagraphContext → Rest → Option Came
 starts options against r =
-    option_or (code_at options against r) (option_or (fence_at options r) (option_or (html_at options against r) (option_or (heading_at options r) (break_at options r))))
+    option_or (code_at options against r)
+    (option_or (fence_at options r)
+    (option_or (html_at options against r) (option_or (heading_at options r) (break_at options r))))
 
 -- Table (GFM 4.10).
 
@@ -224,13 +235,18 @@ underline_depth options r =
 abbrev pub with_line : Blocks → List Kept → Rest → Spot
 with_line bs lines r = record { here = bs; leaf = OpenParagraph (lines ++ kept r ∷ []) }
 
--- what remains after the definitions at the front becomes a heading; an underline with nothing to underline is an ordinary line
+-- what remains after the definitions at the front becomes a heading; an underline with nothing to underline is an
+-- ordinary line
 abbrev pub underlined_by : Blocks → List Kept → Rest → ℕ → Blocks → List (List ℕ) → Spot
 underlined_by bs lines r depth defined [] = with_line bs lines r
-underlined_by bs lines r depth defined (line ∷ remaining) = record { here = then_block defined (Heading depth (line ∷ remaining)); leaf = NoLeaf }
+underlined_by bs lines r depth defined (line ∷ remaining) = record {
+  here = then_block defined (Heading depth (line ∷ remaining));
+  leaf = NoLeaf;
+}
 
 unfoldable pub underlined : ParseOptions → Blocks → List Kept → Rest → ℕ → Spot
-underlined options bs lines r depth = let c = cut options (texts lines) in underlined_by bs lines r depth (then_definitions bs c.0) c.1
+underlined options bs lines r depth =
+    let c = cut options (texts lines) in underlined_by bs lines r depth (then_definitions bs c.0) c.1
 
 -- a small indent, and as many cells as the delimiter row; a single pipe is no head
 abbrev pub is_head_of : ParseOptions → Kept → ℕ → Bool
@@ -242,7 +258,11 @@ table_by options bs [] delimiter columns = None
 table_by options bs (k ∷ before) delimiter None = None
 table_by options bs (k ∷ before) delimiter (Some columns) =
     if is_head_of options k columns
-    then Some (record { here = shut_paragraph options bs (texts (reverse before)); leaf = OpenTable delimiter (row_cells k.text ∷ []) })
+    then Some
+    (record {
+      here = shut_paragraph options bs (texts (reverse before));
+      leaf = OpenTable delimiter (row_cells k.text ∷ []);
+    })
     else None
 
 -- a delimiter row with a small indent

@@ -19,7 +19,8 @@ ends_line b bytes = (b == line_feed) || ((b == carriage_return) && not (begins_w
 -- the lines with their endings: an empty rest after the last ending is no line (own choice)
 abbrev pub full_lines_of : List ℕ → List (List ℕ)
 full_lines_of [] = []
-full_lines_of (b ∷ bytes) = if ends_line b bytes then (b ∷ []) ∷ full_lines_of bytes else onto_first b (full_lines_of bytes)
+full_lines_of (b ∷ bytes) =
+    if ends_line b bytes then (b ∷ []) ∷ full_lines_of bytes else onto_first b (full_lines_of bytes)
 
 -- a line without its ending
 abbrev pub without_ending : List ℕ → List ℕ

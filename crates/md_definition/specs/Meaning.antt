@@ -11,7 +11,8 @@ abbrev pub with_frontmatter : Option Block → Blocks → Blocks
 with_frontmatter None bs = bs
 with_frontmatter (Some b) bs = More b bs
 
--- the frontmatter, and then the lines of the body one after another, closed at the end of the text and grouped into lists
+-- the frontmatter, and then the lines of the body one after another, closed at the end of the text and grouped into
+-- lists
 abbrev pub tree : ParseOptions → List ℕ → Blocks
 tree options text =
     let p = preamble options text in

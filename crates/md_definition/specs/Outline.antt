@@ -3,7 +3,8 @@ use Rattle.std.specs.Prelude.{ℕ, ◌+◌, List, [], ◌∷◌, ◌++◌, map, 
 use Rattle.md_definition.specs.declared.outline.OutlineLine.{OutlineLine}
 use Rattle.md_definition.specs.declared.outline.Word.{Word}
 use Rattle.md_definition.specs.declared.outline.Word.TheVariants as word
-use Rattle.md_definition.specs.Tree.{Line, Block, Frontmatter, Quote, ListOf, Item, Footnote, Heading, Break, Code, Html, Fence, Math, Definition, Paragraph, Table, Blocks, End, More}
+use Rattle.md_definition.specs.Tree.{Line, Block, Frontmatter, Quote, ListOf, Item, Footnote, Heading, Break, Code}
+use Rattle.md_definition.specs.Tree.{Html, Fence, Math, Definition, Paragraph, Table, Blocks, End, More}
 
 -- a line of the outline; the virtual spaces and the text are those of `OutlineLine`
 pub record Entry : Type 0 where
@@ -54,25 +55,33 @@ rows_entries depth (cells ∷ rows) = row_entries depth cells ++ rows_entries de
 abbrev pub table_entries : ℕ → List ℕ → List (List (List ℕ)) → List Entry
 table_entries depth delimiter [] = entry depth (word.Table 0) ∷ entry_with (depth + 1) word.Delimiter delimiter ∷ []
 table_entries depth delimiter (head ∷ rows) =
-    entry depth (word.Table (length head)) ∷ (row_entries (depth + 1) head ++ entry_with (depth + 1) word.Delimiter delimiter ∷ rows_entries (depth + 1) rows)
+    entry depth (word.Table (length head))
+    ∷ (row_entries (depth + 1) head ++ entry_with (depth + 1) word.Delimiter delimiter
+    ∷ rows_entries (depth + 1) rows)
 
 abbrev mutual
   pub block_entries : ℕ → Block → List Entry
-  block_entries depth (Frontmatter marker lines) = entry depth (word.Frontmatter marker) ∷ entries (depth + 1) word.Line lines
+  block_entries depth (Frontmatter marker lines) =
+      entry depth (word.Frontmatter marker) ∷ entries (depth + 1) word.Line lines
   block_entries depth (Quote bs) = entry depth word.Quote ∷ outline (depth + 1) bs
   block_entries depth (ListOf marker items) = entry depth (word.List marker) ∷ outline (depth + 1) items
   block_entries depth (Item marker digits bs) = entry depth word.Item ∷ outline (depth + 1) bs
-  block_entries depth (Footnote label bs) = entry depth word.Footnote ∷ entry_with (depth + 1) word.Label label ∷ outline (depth + 1) bs
+  block_entries depth (Footnote label bs) =
+      entry depth word.Footnote ∷ entry_with (depth + 1) word.Label label ∷ outline (depth + 1) bs
   block_entries depth (Heading n lines) = entry depth (word.Heading n) ∷ entries (depth + 1) word.Line lines
   block_entries depth Break = entry depth word.Break ∷ []
   block_entries depth (Code lines) = entry depth word.Code ∷ line_entries (depth + 1) lines
   block_entries depth (Html lines) = entry depth word.Html ∷ line_entries (depth + 1) lines
   block_entries depth (Fence marker info meta lines closed) =
-      entry depth (word.Fence marker closed) ∷ (part_entry (depth + 1) word.Info info ++ part_entry (depth + 1) word.Meta meta ++ line_entries (depth + 1) lines)
+      entry depth (word.Fence marker closed)
+      ∷ (part_entry (depth + 1) word.Info info ++ part_entry (depth + 1) word.Meta meta
+      ++ line_entries (depth + 1) lines)
   block_entries depth (Math meta lines closed) =
       entry depth (word.Math closed) ∷ (part_entry (depth + 1) word.Meta meta ++ line_entries (depth + 1) lines)
   block_entries depth (Definition label destination title) =
-      entry depth word.Definition ∷ (entries (depth + 1) word.Label label ++ entry_with (depth + 1) word.Destination destination ∷ title_entries (depth + 1) title)
+      entry depth word.Definition
+      ∷ (entries (depth + 1) word.Label label ++ entry_with (depth + 1) word.Destination destination
+      ∷ title_entries (depth + 1) title)
   block_entries depth (Paragraph lines) = entry depth word.Paragraph ∷ entries (depth + 1) word.Line lines
   block_entries depth (Table delimiter rows) = table_entries depth delimiter rows
 

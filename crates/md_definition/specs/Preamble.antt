@@ -24,7 +24,8 @@ is_front_fence m line = (run_len m line == 3) && is_blank (drop 3 line)
 
 -- the byte of the fence that this line is
 abbrev pub front_marker : List ℕ → Option ℕ
-front_marker line = if is_front_fence hyphen line then Some hyphen else if is_front_fence plus line then Some plus else None
+front_marker line =
+    if is_front_fence hyphen line then Some hyphen else if is_front_fence plus line then Some plus else None
 
 -- the frontmatter of a text, and the lines after it
 pub record Front : Type 0 where
@@ -36,7 +37,11 @@ abbrev pub front_by : Option ℕ → List (List ℕ) → Option Front
 front_by None lines = None
 front_by (Some m) lines =
     if list_any (is_front_fence m) lines
-    then Some (record { block = Frontmatter m (before_first (is_front_fence m) lines); after = after_first (is_front_fence m) lines })
+    then Some
+    (record {
+      block = Frontmatter m (before_first (is_front_fence m) lines);
+      after = after_first (is_front_fence m) lines;
+    })
     else None
 
 unfoldable pub front_of : ParseOptions → List (List ℕ) → Option Front
@@ -61,4 +66,5 @@ preamble_by column lines None = record { front = None; body = rests_at column li
 preamble_by column lines (Some f) = record { front = Some f.block; body = rests_at 0 f.after }
 
 abbrev pub preamble : ParseOptions → List ℕ → Preamble
-preamble options text = let lines = lines_of (without_mark text) in preamble_by (first_column text) lines (front_of options lines)
+preamble options text =
+    let lines = lines_of (without_mark text) in preamble_by (first_column text) lines (front_of options lines)

@@ -2,7 +2,8 @@
 use Rattle.std.specs.Prelude.{ℕ, ◌-◌, Bool, false, ◌==◌, if◌then◌else◌, List, [], ◌∷◌, map, length, take, Option}
 use Rattle.std.specs.List.{suffix_len}
 use Rattle.md_engine.specs.declared.configuration.ParseOptions.{ParseOptions}
-use Rattle.md_definition.specs.Tree.{Line, Block, Quote, Item, Footnote, Code, Html, Fence, Math, Definition, Paragraph, Table, Blocks, End, More}
+use Rattle.md_definition.specs.Tree.{Line, Block, Quote, Item, Footnote, Code, Html, Fence, Math, Definition, Paragraph}
+use Rattle.md_definition.specs.Tree.{Table, Blocks, End, More}
 use Rattle.md_definition.specs.Rest.{Rest, is_blank, indent, trim_start}
 use Rattle.md_definition.specs.Html.{HtmlKind}
 use Rattle.md_definition.specs.Definition.{Defined, cut_definitions}
@@ -11,8 +12,8 @@ use Rattle.md_definition.specs.Ascii.{dollar}
 -- an open container
 pub data Container : Type 0 where
   InQuote : Container
-  -- the digits before the marker, the marker byte, the width in columns, and whether its first line was blank and no other
-  -- line came yet
+  -- the digits before the marker, the marker byte, the width in columns, and whether its first line was blank and no
+  -- other line came yet
   InItem : List ℕ → ℕ → ℕ → Bool → Container
   InFootnote : List ℕ → Container
 
@@ -94,7 +95,8 @@ without_trailing_blank lines = take (length lines - suffix_len (λ l. is_blank l
 
 -- fenced code or math, and whether it has a closing fence
 abbrev pub fence_block : Opening → List Line → Bool → Block
-fence_block o lines closed = if o.marker == dollar then Math o.meta lines closed else Fence o.marker o.info o.meta lines closed
+fence_block o lines closed =
+    if o.marker == dollar then Math o.meta lines closed else Fence o.marker o.info o.meta lines closed
 
 -- with what the leaf comes to when it is closed
 abbrev pub then_leaf : ParseOptions → Blocks → Leaf → Blocks

@@ -1,12 +1,15 @@
 -- The step of one line: what is open after it (CommonMark, appendix).
-use Rattle.std.specs.Prelude.{ℕ, zero, suc, Bool, true, false, ◌||◌, if◌then◌else◌, List, [], ◌∷◌, ◌++◌, length, Option, Some, None}
+use Rattle.std.specs.Prelude.{ℕ, zero, suc, Bool, true, false, ◌||◌, if◌then◌else◌, List, [], ◌∷◌, ◌++◌, length, Option}
+use Rattle.std.specs.Prelude.{Some, None}
 use Rattle.std.specs.Option.{is_some}
 use Rattle.md_engine.specs.declared.configuration.ParseOptions.{ParseOptions}
 use Rattle.md_definition.specs.Tree.{Blocks, End}
 use Rattle.md_definition.specs.Rest.{Rest, is_blank}
-use Rattle.md_definition.specs.State.{Container, Kept, Leaf, NoLeaf, OpenParagraph, OpenFence, OpenHtml, Spot, Path, At, Within, spot, at_spot, then_block, then_leaf, shut, container_block, closed, kept}
+use Rattle.md_definition.specs.State.{Container, Kept, Leaf, NoLeaf, OpenParagraph, OpenFence, OpenHtml, Spot, Path, At}
+use Rattle.md_definition.specs.State.{Within, spot, at_spot, then_block, then_leaf, shut, container_block, closed, kept}
 use Rattle.md_definition.specs.Containers.{Taken, continues, opens}
-use Rattle.md_definition.specs.Leaves.{Came, Opened, Finished, NoText, Text, LazyText, starts, goes_on, underline_depth, underlined, table_at, with_line}
+use Rattle.md_definition.specs.Leaves.{Came, Opened, Finished, NoText, Text, LazyText, starts, goes_on, underline_depth}
+use Rattle.md_definition.specs.Leaves.{underlined, table_at, with_line}
 
 abbrev pub spot_of : Blocks → Spot
 spot_of bs = record { here = bs; leaf = NoLeaf }
@@ -58,7 +61,8 @@ leaf_line_by options s r leaf = on_or_fresh options s r (goes_on options leaf r)
 abbrev pub leaf_line : ParseOptions → Spot → Rest → Spot
 leaf_line options s r = leaf_line_by options s r s.leaf
 
--- containers open as often as they do, each in the one before, and then a leaf; each takes a byte, so there are no more than bytes
+-- containers open as often as they do, each in the one before, and then a leaf; each takes a byte, so there are no more
+-- than bytes
 abbrev pub opened : ParseOptions → ℕ → Rest → Path
 opened options zero r = At (fresh_line options End r)
 opened options (suc n) r = elim (opens options false r) [
@@ -98,11 +102,14 @@ with_lazy options _ r = None
 
 -- a line that the paragraph does not take is read where the containers that did not continue are closed
 abbrev pub lazy_by : ParseOptions → Blocks → Container → Path → Rest → Option Leaf → Path
-lazy_by options before container p r (Some leaf) = Within before container (at_spot p (record { here = (spot p).here; leaf = leaf }))
-lazy_by options before container p r None = At (fresh_line options (then_block before (container_block container (closed options p))) r)
+lazy_by options before container p r (Some leaf) =
+    Within before container (at_spot p (record { here = (spot p).here; leaf = leaf }))
+lazy_by options before container p r None =
+    At (fresh_line options (then_block before (container_block container (closed options p))) r)
 
 abbrev pub stopped_by : ParseOptions → Blocks → Container → Path → Rest → Option Taken → Path
-stopped_by options before container p r (Some t) = entered options (then_block before (container_block container (closed options p))) t
+stopped_by options before container p r (Some t) =
+    entered options (then_block before (container_block container (closed options p))) t
 stopped_by options before container p r None = lazy_by options before container p r (with_lazy options (spot p).leaf r)
 
 -- this container does not continue

@@ -1,5 +1,6 @@
 -- Tables: the cells of a row, and delimiter rows (GFM 4.10).
-use Rattle.std.specs.Prelude.{ℕ, Bool, true, false, ◌&&◌, ◌||◌, not, ◌==◌, if◌then◌else◌, List, [], ◌∷◌, map, length, Option, Some, None}
+use Rattle.std.specs.Prelude.{ℕ, Bool, true, false, ◌&&◌, ◌||◌, not, ◌==◌, if◌then◌else◌, List, [], ◌∷◌, map, length}
+use Rattle.std.specs.Prelude.{Option, Some, None}
 use Rattle.std.specs.List.{list_any, list_all, onto_first}
 use Rattle.md_definition.specs.Lines.{begins_with}
 use Rattle.md_definition.specs.Rest.{trim}
@@ -23,12 +24,14 @@ row_cells row = map trim (pieces false (after_optional pipe (trim row)))
 -- a cell of a delimiter row: dashes, with a colon perhaps on either side
 abbrev pub is_delimiter : List ℕ → Bool
 is_delimiter cell =
-    begins_with hyphen (after_optional colon cell) && is_end (after_optional colon (after (λ b. b == hyphen) (after_optional colon cell)))
+    begins_with hyphen (after_optional colon cell)
+    && is_end (after_optional colon (after (λ b. b == hyphen) (after_optional colon cell)))
 
 -- how many columns a delimiter row has; a line of dashes alone is none (own choice)
 unfoldable pub delimiter_columns : List ℕ → Option ℕ
 delimiter_columns row =
-    if list_any (λ b. (b == colon) || (b == pipe)) row && list_all is_delimiter (row_cells row) then Some (length (row_cells row)) else None
+    if list_any (λ b. (b == colon) || (b == pipe)) row && list_all is_delimiter (row_cells row)
+    then Some (length (row_cells row)) else None
 
 -- whether a line may be a head: it is not just a pipe with spaces and tabs around it (own choice)
 unfoldable pub is_head : List ℕ → Bool

@@ -4,8 +4,8 @@ use Rattle.std.specs.List.{onto_first}
 use Rattle.md_definition.specs.Lines.{is_ending, ends_line}
 use Rattle.md_definition.specs.Rest.{trim_start}
 
--- A text split at its line endings (CommonMark 2.1): one line more than there are endings. The CR of a CR LF is dropped, and
--- its LF ends the line.
+-- A text split at its line endings (CommonMark 2.1): one line more than there are endings. The CR of a CR LF is
+-- dropped, and its LF ends the line.
 abbrev pub split_lines : List ℕ → List (List ℕ)
 split_lines [] = [] ∷ []
 split_lines (b ∷ bs) =

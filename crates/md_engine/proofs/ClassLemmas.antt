@@ -1,5 +1,6 @@
 -- What is taken of a class at once is what is taken byte by byte.
-use Rattle.std.proofs.Common.{◌≡◌, ℕ, zero, suc, ◌+◌, ◌<◌, ◌≤◌, Bool, true, false, nat_eq, nat_lt, List, length, drop, ◌-◌, length-drop, Option, Some, refl, sym, ◌∙◌, ap, ap₂, cond, arith, inr, subst}
+use Rattle.std.proofs.Common.{◌≡◌, ℕ, zero, suc, ◌+◌, ◌<◌, ◌≤◌, Bool, true, false, nat_eq, nat_lt, List, length, drop}
+use Rattle.std.proofs.Common.{◌-◌, length-drop, Option, Some, refl, sym, ◌∙◌, ap, ap₂, cond, arith, inr, subst}
 use Rattle.std.specs.Prelude.{slice_index, slice_range}
 use Rattle.std.specs.List.{All}
 use Rattle.std.proofs.lemmas.Bool.Decides.{nat_tests}
@@ -39,7 +40,8 @@ further zero p = p
 further (suc n) p = record p { column = p.column + suc n; index = p.index + suc n; vs = 0 }
 
 -- the point behind one more
-pub further-next : (bytes : List ℕ) (c : Class) (n : ℕ) (p : Point) → has c (slice_index bytes (further n p).index) ≡ true →
+pub further-next : (bytes : List ℕ) (c : Class) (n : ℕ) (p : Point) →
+    has c (slice_index bytes (further n p).index) ≡ true →
     next_point bytes (further n p) ≡ further (suc n) p
 further-next bytes c zero p h = let e = no-ending c (slice_index bytes p.index) h in rw (e.0, e.1) refl
 further-next bytes c (suc n) p h =
@@ -70,21 +72,25 @@ after-here x c n p h =
 abbrev pub AreHere : Class → ℕ → List ℕ → ℕ → Point → Type 0
 AreHere c n bytes end p = (k : ℕ) → k < n → IsOf c bytes end (further k p)
 
-pub fewer-here : (c : Class) (n : ℕ) (bytes : List ℕ) (end : ℕ) (p : Point) → AreHere c (suc n) bytes end p → AreHere c n bytes end p
+pub fewer-here : (c : Class) (n : ℕ) (bytes : List ℕ) (end : ℕ) (p : Point) → AreHere c (suc n) bytes end p →
+    AreHere c n bytes end p
 fewer-here c n bytes end p h = λ k lt. h k (omega (arith, lt))
 
-along-further : (x : Setting) (c : Class) (n : ℕ) (end : ℕ) (p : Point) → AreHere c n x.bytes end p → along x n p ≡ further n p
+along-further : (x : Setting) (c : Class) (n : ℕ) (end : ℕ) (p : Point) → AreHere c n x.bytes end p →
+    along x n p ≡ further n p
 unfolding along
 along-further x c zero end p h = refl
 along-further x c (suc n) end p h =
     ap (after x) (along-further x c n end p (fewer-here c n x.bytes end p h)) ∙ after-here x c n p (h n (omega arith)).1
 
 -- what is said of the points that one comes to step by step
-here-along : (x : Setting) (c : Class) (n : ℕ) (end : ℕ) (p : Point) → ((k : ℕ) → k < n → IsOf c x.bytes end (along x k p)) → AreHere c n x.bytes end p
+here-along : (x : Setting) (c : Class) (n : ℕ) (end : ℕ) (p : Point) →
+    ((k : ℕ) → k < n → IsOf c x.bytes end (along x k p)) → AreHere c n x.bytes end p
 here-along x c zero end p h = λ k lt. absurd (omega (arith, lt))
 here-along x c (suc n) end p h =
     let before = here-along x c n end p (λ k lt. h k (omega (arith, lt))) in
-    λ k lt. subst (IsOf c x.bytes end) (along-further x c k end p (λ i below. before i (omega (arith, lt, below)))) (h k lt)
+    λ k lt. subst (IsOf c x.bytes end) (along-further x c k end p (λ i below. before i (omega (arith, lt, below))))
+    (h k lt)
 
 -- the last byte that was taken, if one was
 abbrev last : ℕ → World → Option ℕ
@@ -95,13 +101,16 @@ last (suc n) w = Some (slice_index w.setting.bytes (further n w.point).index)
 abbrev pub leapt : ℕ → World → World
 leapt n w = record w { point = further n w.point; current = last n w }
 
-took-leapt : (c : Class) (n : ℕ) (w : World) → AreHere c n w.setting.bytes w.setting.limit w.point → took_all n w ≡ leapt n w
+took-leapt : (c : Class) (n : ℕ) (w : World) → AreHere c n w.setting.bytes w.setting.limit w.point →
+    took_all n w ≡ leapt n w
 unfolding took_all
 took-leapt c zero w h = refl
 took-leapt c (suc n) w h =
     let before = took-leapt c n w (fewer-here c n w.setting.bytes w.setting.limit w.point h) in
     let here = h n (omega arith) in
-    ap took before ∙ ap₂ (λ (o : Option ℕ) (p : Point). record w { point = p; current = o }) (seen-here w.setting c (further n w.point) here.0 here.1) (after-here w.setting c n w.point here.1)
+    ap took before
+    ∙ ap₂ (λ (o : Option ℕ) (p : Point). record w { point = p; current = o })
+    (seen-here w.setting c (further n w.point) here.0 here.1) (after-here w.setting c n w.point here.1)
 
 -- what a span of the text says of what stands here
 pub span-here : (c : Class) (n : ℕ) (bytes : List ℕ) (end : ℕ) (p : Point) → end ≤ length bytes → p.index ≤ end →
@@ -109,8 +118,10 @@ pub span-here : (c : Class) (n : ℕ) (bytes : List ℕ) (end : ℕ) (p : Point)
 span-here c n bytes end p low at h = (
   λ k lt. rw (index-further k p) (omega (arith, lt, within), rw (read k (omega (arith, lt, within))) at (h.each k lt)),
   λ is.
-      let here : (p.index + n < end) × (has c (slice_index bytes (p.index + n)) ≡ true) = rw (index-further n p) at is in
-      let no : has c (slice_index bytes (p.index + n)) ≡ false = rw (read n (omega (arith, here.0))) at (h.ends (rw size (omega (arith, here.0)))) in
+      let here : (p.index + n < end) ×
+      (has c (slice_index bytes (p.index + n)) ≡ true) = rw (index-further n p) at is in
+      let no : has c (slice_index bytes (p.index + n)) ≡
+      false = rw (read n (omega (arith, here.0))) at (h.ends (rw size (omega (arith, here.0)))) in
       let yes = here.1 in
       cc,
 )
@@ -132,15 +143,19 @@ behind-further : (n : ℕ) (p : Point) → 0 < n → further n p ≡ behind n p
 behind-further zero p lt = absurd (omega (arith, lt))
 behind-further (suc n) p lt = refl
 
-pub span-taken : (c : Class) (n : ℕ) (end : ℕ) (w : World) → end ≤ length w.setting.bytes → w.point.index ≤ end → 0 < n →
-    IsSpan c (slice_range w.setting.bytes w.point.index end) n → TakesAll c end w (record w { point = behind n w.point })
+pub span-taken : (c : Class) (n : ℕ) (end : ℕ) (w : World) → end ≤ length w.setting.bytes → w.point.index ≤ end →
+    0 < n →
+    IsSpan c (slice_range w.setting.bytes w.point.index end) n →
+    TakesAll c end w (record w { point = behind n w.point })
 span-taken c n end w low at some h =
     let here = span-here c n w.setting.bytes end w.point low at h in
     let is = behind-further n w.point some in
     record {
       count = n;
       new = ap (λ (p : Point). record w { point = p }) (sym (along-further w.setting c n end w.point here.0 ∙ is));
-      each = λ k lt. subst (IsOf c w.setting.bytes end) (sym (along-further w.setting c k end w.point (λ i below. here.0 i (omega (arith, lt, below))))) (here.0 k lt);
+      each =
+          λ k lt. subst (IsOf c w.setting.bytes end)
+          (sym (along-further w.setting c k end w.point (λ i below. here.0 i (omega (arith, lt, below))))) (here.0 k lt);
       ends = λ sees. here.1 (subst (IsOf c w.setting.bytes end) (sym is) sees);
     }
 
@@ -150,17 +165,20 @@ unfolding along
 none-taken c end w none = record { count = 0; new = refl; each = λ k lt. absurd (omega (arith, lt)); ends = none }
 
 -- the point behind a span lies in the text
-placed-further : (bytes : List ℕ) (c : Class) (n : ℕ) (end : ℕ) (p : Point) → end ≤ length bytes → IsPlaced bytes p → AreHere c n bytes end p → IsPlaced bytes (further n p)
+placed-further : (bytes : List ℕ) (c : Class) (n : ℕ) (end : ℕ) (p : Point) → end ≤ length bytes → IsPlaced bytes p →
+    AreHere c n bytes end p → IsPlaced bytes (further n p)
 placed-further bytes c zero end p low h each = h
 placed-further bytes c (suc n) end p low h each =
     let before = placed-further bytes c n end p low h (fewer-here c n bytes end p each) in
     let here = each n (omega arith) in
     rw (← further-next bytes c n p here.1) (placed-next bytes (further n p) before (omega (arith, here.0, low)))
 
-pub placed-behind : (c : Class) (n : ℕ) (bytes : List ℕ) (end : ℕ) (p : Point) → IsPlaced bytes p → end ≤ length bytes → p.index ≤ end → 0 < n →
+pub placed-behind : (c : Class) (n : ℕ) (bytes : List ℕ) (end : ℕ) (p : Point) → IsPlaced bytes p → end ≤ length bytes →
+    p.index ≤ end → 0 < n →
     IsSpan c (slice_range bytes p.index end) n → IsPlaced bytes (behind n p)
 placed-behind c n bytes end p placed low at some h =
-    subst (IsPlaced bytes) (behind-further n p some) (placed-further bytes c n end p low placed (span-here c n bytes end p low at h).0)
+    subst (IsPlaced bytes) (behind-further n p some)
+    (placed-further bytes c n end p low placed (span-here c n bytes end p low at h).0)
 
 -- what is taken as far as the text may be read is seen and taken, where the last byte is seen behind it
 sees-leapt : (c : Class) (n : ℕ) (w : World) → AreHere c n w.setting.bytes w.setting.limit w.point →
@@ -179,7 +197,11 @@ pub record Went (c : Class) (n : ℕ) (end : ℕ) (w v : World) : Type 0 where
   pub is : v ≡ record w { point = further n w.point }
 
 pub went : (c : Class) (end : ℕ) (w v : World) (t : TakesAll c end w v) → Went c t.count end w v
-went c end w v t = record { here = here; ends = λ yes. t.ends (subst (IsOf c w.setting.bytes end) (sym at) yes); is = is }
+went c end w v t = record {
+  here = here;
+  ends = λ yes. t.ends (subst (IsOf c w.setting.bytes end) (sym at) yes);
+  is = is;
+}
   where
     here : AreHere c t.count w.setting.bytes end w.point
     here = here-along w.setting c t.count end w.point t.each
@@ -195,20 +217,27 @@ pub sees-some : (c : Class) (w v v' : World) → TakesAll c w.setting.limit w v 
 sees-some c w v v' t lt e = go t.count (went c w.setting.limit w v t)
   where
     go : (n : ℕ) → Went c n w.setting.limit w v → SeesAll c w v'
-    go zero g = let none : v.point.index ≡ w.point.index = ap (λ (x : World). x.point.index) g.is in absurd (omega (arith, none, lt))
+    go zero g =
+        let none : v.point.index ≡ w.point.index = ap (λ (x : World). x.point.index) g.is in
+        absurd (omega (arith, none, lt))
     go (suc m) g =
         let i : w.point.index + suc m - 1 ≡ (further m w.point).index = rw (index-further m w.point) (omega arith) in
         let new : v' ≡ leapt (suc m) w =
         e ∙ ap (λ (x : World). record x { current = Some (slice_index x.setting.bytes (x.point.index - 1)) }) g.is
-        ∙ ap (λ (j : ℕ). record w { point = further (suc m) w.point; current = Some (slice_index w.setting.bytes j) }) i in
+        ∙ ap
+        (λ (j : ℕ).
+        record w { point = further (suc m) w.point; current = Some (slice_index w.setting.bytes j) }) i in
         subst (SeesAll c w) (sym new) (sees-leapt c (suc m) w g.here g.ends)
 
-pub sees-none : (c : Class) (w v : World) → TakesAll c w.setting.limit w v → v.point.index ≤ w.point.index → SeesAll c w v
+pub sees-none : (c : Class) (w v : World) → TakesAll c w.setting.limit w v → v.point.index ≤ w.point.index →
+    SeesAll c w v
 sees-none c w v t le = go t.count (went c w.setting.limit w v t)
   where
     go : (n : ℕ) → Went c n w.setting.limit w v → SeesAll c w v
     go zero g = subst (SeesAll c w) (sym g.is) (sees-leapt c 0 w g.here g.ends)
-    go (suc m) g = let more : v.point.index ≡ w.point.index + suc m = ap (λ (x : World). x.point.index) g.is in absurd (omega (arith, more, le))
+    go (suc m) g =
+        let more : v.point.index ≡ w.point.index + suc m = ap (λ (x : World). x.point.index) g.is in
+        absurd (omega (arith, more, le))
 
 -- a state that stays: what it comes to behind so many bytes
 pub record Stayed (T : Step) (S : Scheme) (s : State) (w w' : World) : Type 0 where
@@ -222,7 +251,8 @@ pub record Stayed (T : Step) (S : Scheme) (s : State) (w w' : World) : Type 0 wh
 fits-own : (S : Scheme) (n : StateName) → Fits S S n
 fits-own S n = record { ready = λ x K h. h; level = refl; rank = λ x. refl; tries = refl }
 
-stayed-more : (T : Step) (S : Scheme) (n : StateName) (c : Class) (w v : World) → StaysOn T S n c → Stayed T S (Next n) w v → Sees c v → Stayed T S (Next n) w (took v)
+stayed-more : (T : Step) (S : Scheme) (n : StateName) (c : Class) (w v : World) → StaysOn T S n c →
+    Stayed T S (Next n) w v → Sees c v → Stayed T S (Next n) w (took v)
 stayed-more T S n c w v s h here =
     let b : ℕ = slice_index v.setting.bytes v.point.index in
     let e : looks v ≡ Some b = seen-here v.setting c v.point here.0 here.1 in
@@ -231,7 +261,17 @@ stayed-more T S n c w v s h here =
     let good = consumes S S n n v v.events v.scratch (fits-own S n) (fits-own S n) here.0 ready level in
     let less : work S (took v) (Next n) < work S v (Next n) = good.1 in
     record {
-      runs = λ is_end. ThenCalls _ _ _ _ (h.runs is_end) (record { name = n; names = refl; may = inr here.0; step = s.step v b e here.1; fine = not_error (Next n) n refl; setting = refl; within = h.within });
+      runs =
+          λ is_end. ThenCalls _ _ _ _ (h.runs is_end)
+          (record {
+            name = n;
+            names = refl;
+            may = inr here.0;
+            step = s.step v b e here.1;
+            fine = not_error (Next n) n refl;
+            setting = refl;
+            within = h.within;
+          });
       ready = ready;
       falls = omega (arith, h.falls, less);
       setting = h.setting;
@@ -239,18 +279,32 @@ stayed-more T S n c w v s h here =
     }
 
 -- all that is taken of a class, one after another, is what a state takes that stays
-pub stayed : (T : Step) (S : Scheme) (n : StateName) (c : Class) (k : ℕ) (w : World) → StaysOn T S n c → stands S w (Next n) →
-    All (λ (f : Frame). f.events_len ≤ length w.events) w.frames → ((i : ℕ) → i < k → Sees c (took_all i w)) → Stayed T S (Next n) w (took_all k w)
+pub stayed : (T : Step) (S : Scheme) (n : StateName) (c : Class) (k : ℕ) (w : World) → StaysOn T S n c →
+    stands S w (Next n) →
+    All (λ (f : Frame). f.events_len ≤ length w.events) w.frames → ((i : ℕ) → i < k → Sees c (took_all i w)) →
+    Stayed T S (Next n) w (took_all k w)
 unfolding took_all
-stayed T S n c zero w s r within h = record { runs = λ is_end. Stays; ready = r; falls = omega arith; setting = refl; within = within }
-stayed T S n c (suc k) w s r within h = stayed-more T S n c w (took_all k w) s (stayed T S n c k w s r within (λ i lt. h i (omega (arith, lt)))) (h k (omega arith))
+stayed T S n c zero w s r within h = record {
+  runs = λ is_end. Stays;
+  ready = r;
+  falls = omega arith;
+  setting = refl;
+  within = within;
+}
+stayed T S n c (suc k) w s r within h =
+    stayed-more T S n c w (took_all k w) s (stayed T S n c k w s r within (λ i lt. h i (omega (arith, lt))))
+    (h k (omega arith))
 
 -- the attempts of a tokenizer go back to events that are there
 pub within-world : (t : Tokenizer) → All (λ (f : Frame). f.events_len ≤ length (world t).events) (world t).frames
 within-world t = All-reverse (λ (f : Frame). f.events_len ≤ length t.events.items) t.frames.items
-    (All-weaker (IsSaved t.bytes.now (length t.events.items)) (λ (f : Frame). f.events_len ≤ length t.events.items) (λ f h. h.within) t.frames.items t.sound.saved)
+    (All-weaker (IsSaved t.bytes.now (length t.events.items)) (λ (f : Frame). f.events_len ≤ length t.events.items)
+    (λ f h. h.within) t.frames.items t.sound.saved)
 
 -- a class is taken at once where a state stays on it
-pub stayed-by : (T : Step) (S : Scheme) (s : State) (n : StateName) (c : Class) (w w' : World) → s ≡ Next n → StaysOn T S n c → stands S w (plain s) →
+pub stayed-by : (T : Step) (S : Scheme) (s : State) (n : StateName) (c : Class) (w w' : World) → s ≡ Next n →
+    StaysOn T S n c → stands S w (plain s) →
     All (λ (f : Frame). f.events_len ≤ length w.events) w.frames → SeesAll c w w' → Stayed T S s w w'
-stayed-by T S s n c w w' e on r within t = subst (λ (x : State). stands S w (plain x) → Stayed T S x w w') (sym e) (λ ready. subst (Stayed T S (Next n) w) (sym t.new) (stayed T S n c t.count w on ready within t.each)) r
+stayed-by T S s n c w w' e on r within t =
+    subst (λ (x : State). stands S w (plain x) → Stayed T S x w w') (sym e)
+    (λ ready. subst (Stayed T S (Next n) w) (sym t.new) (stayed T S n c t.count w on ready within t.each)) r

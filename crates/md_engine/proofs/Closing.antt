@@ -1,5 +1,6 @@
 -- How containers end: their ends are put among the events, and the tokenizer stays sound.
-use Rattle.std.proofs.Common.{◌≡◌, ℕ, ◌+◌, ◌-◌, ◌≤◌, Bool, true, false, nat_lt, List, [], ◌∷◌, ◌++◌, length, take, drop, min, None, refl, sym, ◌∙◌, ap, arith, length-append, length-drop}
+use Rattle.std.proofs.Common.{◌≡◌, ℕ, ◌+◌, ◌-◌, ◌≤◌, Bool, true, false, nat_lt, List, [], ◌∷◌, ◌++◌, length, take, drop}
+use Rattle.std.proofs.Common.{min, None, refl, sym, ◌∙◌, ap, arith, length-append, length-drop}
 use Rattle.std.specs.List.{All}
 use Rattle.std.proofs.lemmas.Bool.Decides.{nat_tests}
 use Rattle.std.proofs.lemmas.List.{drop-append-le, drop_all, take-append-drop, take-append-le, take_all}
@@ -16,26 +17,37 @@ use Rattle.md_engine.specs.Place.{IsPlaced}
 use Rattle.md_engine.specs.Sound.{IsSaved, IsSound}
 
 -- all ends lie where the containers end
-pub ends-placed : (bytes : List ℕ) (cs : List Container) (p : Point) → IsPlaced bytes p → All (λ e. IsPlaced bytes e.point) (ends_at cs p)
+pub ends-placed : (bytes : List ℕ) (cs : List Container) (p : Point) → IsPlaced bytes p →
+    All (λ e. IsPlaced bytes e.point) (ends_at cs p)
 ends-placed bytes [] p h = All-nil (λ (e : Event). IsPlaced bytes e.point)
-ends-placed bytes (c ∷ cs) p h = All-push (λ (e : Event). IsPlaced bytes e.point) (ends_at cs p) (record { kind = Exit; name = name_of c.kind; point = p; link = None }) (ends-placed bytes cs p h) h
+ends-placed bytes (c ∷ cs) p h =
+    All-push (λ (e : Event). IsPlaced bytes e.point) (ends_at cs p)
+    (record { kind = Exit; name = name_of c.kind; point = p; link = None }) (ends-placed bytes cs p h) h
 
 -- events that are put are as many more
 length-put : (at : ℕ) (ends events : List Event) → length events ≤ length (put at ends events)
 length-put at ends events =
-    let all : length (take at events) + length (drop at events) ≡ length events = sym (length-append (take at events) (drop at events)) ∙ ap length (take-append-drop at events) in
+    let all : length (take at events) + length (drop at events) ≡
+    length events = sym (length-append (take at events) (drop at events))
+    ∙ ap length (take-append-drop at events) in
     simp length-append (omega (arith, all))
 
 -- events are put among those that are there
-pub sound-put : (bytes : List ℕ) (p : Point) (limit at : ℕ) (ends events : List Event) (frames : List Frame) (skips : List Point) →
-    IsSound bytes p limit events frames skips → All (λ e. IsPlaced bytes e.point) ends → IsSound bytes p limit (put at ends events) frames skips
+pub sound-put : (bytes : List ℕ) (p : Point) (limit at : ℕ) (ends events : List Event) (frames : List Frame)
+    (skips : List Point) →
+    IsSound bytes p limit events frames skips → All (λ e. IsPlaced bytes e.point) ends →
+    IsSound bytes p limit (put at ends events) frames skips
 sound-put bytes p limit at ends events frames skips h k = record {
   placed = h.placed;
   readable = h.readable;
   right =
       let P : Event → Type 0 = λ e. IsPlaced bytes e.point in
-      All-append P (take at events ++ ends) (drop at events) (All-append P (take at events) ends (All-take P at events h.right) k) (All-drop P at events h.right);
-  saved = let more = length-put at ends events in All-weaker (IsSaved bytes (length events)) (IsSaved bytes (length (put at ends events))) (λ f s. record { placed = s.placed; within = omega (arith, s.within, more) }) frames h.saved;
+      All-append P (take at events ++ ends) (drop at events)
+      (All-append P (take at events) ends (All-take P at events h.right) k) (All-drop P at events h.right);
+  saved =
+      let more = length-put at ends events in
+      All-weaker (IsSaved bytes (length events)) (IsSaved bytes (length (put at ends events)))
+      (λ f s. record { placed = s.placed; within = omega (arith, s.within, more) }) frames h.saved;
   nested = h.nested;
   begun = h.begun;
 }
@@ -49,17 +61,34 @@ put-least at ends events = go (nat_lt at (length events)) refl
     go false e =
         let past : length events ≤ at = grind (arith, nat_tests) in
         let is : min at (length events) ≡ length events = omega arith in
-        rw (is, take_all at events past, drop_all at events past, take_all (length events) events (omega arith), drop_all (length events) events (omega arith)) refl
+        rw (
+          is,
+          take_all at events past,
+          drop_all at events past,
+          take_all (length events) events (omega arith),
+          drop_all (length events) events (omega arith),
+        ) refl
 
 -- what is appended and then turned in front of an event is put there
 turned : (m : ℕ) (ends events all : List Event) → m ≤ length events → all ≡ events ++ ends →
-    take m all ++ drop (length all - m - length ends) (drop m all) ++ take (length all - m - length ends) (drop m all) ≡ put m ends events
+    take m all ++ drop (length all - m - length ends) (drop m all) ++ take (length all - m - length ends) (drop m all) ≡
+    put m ends events
 turned m ends events all le is =
-    let size : length (events ++ ends) - m - length ends ≡ length (drop m events) = simp (length-append, length-drop) (omega arith) in
-    rw (is, size, take-append-le m events ends le, drop-append-le m events ends le, drop-append_seam (drop m events) ends, take-append_seam (drop m events) ends) refl
+    let size : length (events ++ ends) - m - length ends ≡
+    length (drop m events) = simp (length-append, length-drop) (omega arith) in
+    rw (
+      is,
+      size,
+      take-append-le m events ends le,
+      drop-append-le m events ends le,
+      drop-append_seam (drop m events) ends,
+      take-append_seam (drop m events) ends,
+    ) refl
 
-pub turned-put : (at m n : ℕ) (ends events all new : List Event) → m ≡ min at (length events) → n ≡ length ends → all ≡ events ++ ends →
-    new ≡ take m all ++ drop (length all - m - n) (drop m all) ++ take (length all - m - n) (drop m all) → new ≡ put at ends events
+pub turned-put : (at m n : ℕ) (ends events all new : List Event) → m ≡ min at (length events) → n ≡ length ends →
+    all ≡ events ++ ends →
+    new ≡ take m all ++ drop (length all - m - n) (drop m all) ++ take (length all - m - n) (drop m all) →
+    new ≡ put at ends events
 turned-put at m n ends events all new least count is e =
     let t = turned m ends events all (omega arith) is in
     let f : new ≡ put m ends events = (rw count at e) ∙ t in

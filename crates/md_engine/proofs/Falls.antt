@@ -1,5 +1,6 @@
 -- How attempts end where they owe to, and why leaving one makes the number of a tokenizer fall.
-use Rattle.std.proofs.Common.{◌≡◌, ℕ, ◌+◌, ◌<◌, ◌≤◌, Bool, true, false, cond, List, ◌∷◌, Option, Some, None, refl, arith, ap, sym, inl, inr, ◌⊎◌, nat_lt, subst}
+use Rattle.std.proofs.Common.{◌≡◌, ℕ, ◌+◌, ◌<◌, ◌≤◌, Bool, true, false, cond, List, ◌∷◌, Option, Some, None, refl}
+use Rattle.std.proofs.Common.{arith, ap, sym, inl, inr, ◌⊎◌, nat_lt, subst}
 use Rattle.std.proofs.lemmas.Bool.Decides.{nat_tests}
 use Rattle.md_engine.specs.declared.event.Point.{Point}
 use Rattle.md_engine.specs.declared.state.State.{State}
@@ -9,39 +10,55 @@ use Rattle.md_engine.specs.declared.tokenizer.Scratch.{Scratch}
 use Rattle.md_engine.specs.World.{Setting, World}
 use Rattle.md_engine.specs.Place.{seen_at}
 use Rattle.md_engine.specs.Run.{IsEnd, Leaves, goes_back, left, next_of, plain}
-use Rattle.md_engine.specs.Scheme.{After, Ends, EndsLater, Grown, Passes, Reaches, Resumes, Scheme, Spot, Tries, TriesLater, after_all, after_frame, cells_before, frame_level, frame_number, frame_rank, frames_work, holds, moved_to, seen, spot, spot_at, stands, state_level, state_number, state_rank, state_work, work}
-use Rattle.md_engine.proofs.Points.{grown-same, grown-then, passes-reaches, passes_then, rank-low, stays, then_passes, then_reaches}
+use Rattle.md_engine.specs.Scheme.{After, Ends, EndsLater, Grown, Passes, Reaches, Resumes, Scheme, Spot, Tries}
+use Rattle.md_engine.specs.Scheme.{TriesLater, after_all, after_frame, cells_before, frame_level, frame_number}
+use Rattle.md_engine.specs.Scheme.{frame_rank, frames_work, holds, moved_to, seen, spot, spot_at, stands, state_level}
+use Rattle.md_engine.specs.Scheme.{state_number, state_rank, state_work, work}
+use Rattle.md_engine.proofs.Points.{grown-same, grown-then, passes-reaches, passes_then, rank-low, stays, then_passes}
+use Rattle.md_engine.proofs.Points.{then_reaches}
 use Rattle.md_engine.proofs.Powers.{weighs}
 
 -- what a construct owes where it ends, it owes from a later spot
-pub later_at : (P Q : Scratch → Type 0) (x : Spot) (K : After) (q : Point) (t : Setting) (s : Scratch) → Grown x.setting t → Reaches t.limit x.point q → Ends P Q x K → Ends P Q (spot_at t q s) K
+pub later_at : (P Q : Scratch → Type 0) (x : Spot) (K : After) (q : Point) (t : Setting) (s : Scratch) →
+    Grown x.setting t → Reaches t.limit x.point q → Ends P Q x K → Ends P Q (spot_at t q s) K
 later_at P Q x K q t s g r e = record {
-  ok = λ v p u is up way. e.ok v p u is (grown-then x.setting t u g up) (then_reaches t.limit u.limit x.point q p up.limit r way);
+  ok =
+      λ v p u is up way. e.ok v p u is (grown-then x.setting t u g up)
+      (then_reaches t.limit u.limit x.point q p up.limit r way);
   nok = λ v p u is up. e.nok v p u is (grown-then x.setting t u g up);
 }
 
-pub later : (P Q : Scratch → Type 0) (x : Spot) (K : After) (q : Point) (s : Scratch) → Reaches x.setting.limit x.point q → Ends P Q x K → Ends P Q (moved_to x q s) K
+pub later : (P Q : Scratch → Type 0) (x : Spot) (K : After) (q : Point) (s : Scratch) →
+    Reaches x.setting.limit x.point q → Ends P Q x K → Ends P Q (moved_to x q s) K
 later P Q x K q s r e = later_at P Q x K q x.setting s (grown-same x.setting) r e
 
 -- the same of a construct that accepts only behind the point where it begins
-pub passing_at : (P Q : Scratch → Type 0) (x : Spot) (K : After) (q : Point) (t : Setting) (s : Scratch) → Grown x.setting t → Reaches t.limit x.point q → EndsLater P Q x K → EndsLater P Q (spot_at t q s) K
+pub passing_at : (P Q : Scratch → Type 0) (x : Spot) (K : After) (q : Point) (t : Setting) (s : Scratch) →
+    Grown x.setting t → Reaches t.limit x.point q → EndsLater P Q x K → EndsLater P Q (spot_at t q s) K
 passing_at P Q x K q t s g r e = record {
-  ok = λ v p u is up way. e.ok v p u is (grown-then x.setting t u g up) (then_passes t.limit u.limit x.point q p up.limit r way);
+  ok =
+      λ v p u is up way. e.ok v p u is (grown-then x.setting t u g up)
+      (then_passes t.limit u.limit x.point q p up.limit r way);
   nok = λ v p u is up. e.nok v p u is (grown-then x.setting t u g up);
 }
 
 -- behind that point it may accept everywhere
-pub passed_at : (P Q : Scratch → Type 0) (x : Spot) (K : After) (q : Point) (t : Setting) (s : Scratch) → Grown x.setting t → Passes t.limit x.point q → EndsLater P Q x K → Ends P Q (spot_at t q s) K
+pub passed_at : (P Q : Scratch → Type 0) (x : Spot) (K : After) (q : Point) (t : Setting) (s : Scratch) →
+    Grown x.setting t → Passes t.limit x.point q → EndsLater P Q x K → Ends P Q (spot_at t q s) K
 passed_at P Q x K q t s g r e = record {
-  ok = λ v p u is up way. e.ok v p u is (grown-then x.setting t u g up) (passes_then t.limit u.limit x.point q p up.limit r way);
+  ok =
+      λ v p u is up way. e.ok v p u is (grown-then x.setting t u g up)
+      (passes_then t.limit u.limit x.point q p up.limit r way);
   nok = λ v p u is up. e.nok v p u is (grown-then x.setting t u g up);
 }
 
-pub passed : (P Q : Scratch → Type 0) (x : Spot) (K : After) (q : Point) (s : Scratch) → Passes x.setting.limit x.point q → EndsLater P Q x K → Ends P Q (moved_to x q s) K
+pub passed : (P Q : Scratch → Type 0) (x : Spot) (K : After) (q : Point) (s : Scratch) →
+    Passes x.setting.limit x.point q → EndsLater P Q x K → Ends P Q (moved_to x q s) K
 passed P Q x K q s r e = passed_at P Q x K q x.setting s (grown-same x.setting) r e
 
 -- what is seen stays, when more may be read
-pub seen_grows : (x : Spot) (t : Setting) (s : Scratch) (b : ℕ) → Grown x.setting t → seen x ≡ Some b → seen (spot_at t x.point s) ≡ Some b
+pub seen_grows : (x : Spot) (t : Setting) (s : Scratch) (b : ℕ) → Grown x.setting t → seen x ≡ Some b →
+    seen (spot_at t x.point s) ≡ Some b
 seen_grows x t s b g e = go (nat_lt x.point.index x.setting.limit) refl
   where
     go : (c : Bool) → nat_lt x.point.index x.setting.limit ≡ c → seen (spot_at t x.point s) ≡ Some b
@@ -53,11 +70,13 @@ seen_grows x t s b g e = go (nat_lt x.point.index x.setting.limit) refl
     go false k = let none : (let o : Option ℕ = None in o) ≡ Some b = rw k at e in cc
 
 -- what is tried ends as is owed, where what it goes on with is ready and below
-resumes : (T : Scheme) (f : Frame) (st : State) (x : Spot) (K : After) (p : Point) → f.point ≡ p → Reaches x.setting.limit p x.point → holds T st x K → state_level T st ≤ frame_level T f →
+resumes : (T : Scheme) (f : Frame) (st : State) (x : Spot) (K : After) (p : Point) → f.point ≡ p →
+    Reaches x.setting.limit p x.point → holds T st x K → state_level T st ≤ frame_level T f →
     (x.point ≡ p → state_rank T st x < frame_rank T f + 1) → Resumes T f st x K
 resumes T f st x K p same r h l k = record { stands = h; level = l; falls = go st r.cells k }
   where
-    go : (st : State) → (p ≡ x.point) ⊎ ((cells_before p < cells_before x.point) × (p.index < x.setting.limit)) → (x.point ≡ p → state_rank T st x < frame_rank T f + 1) → state_number T st x < frame_number T x.setting.limit f
+    go : (st : State) → (p ≡ x.point) ⊎ ((cells_before p < cells_before x.point) × (p.index < x.setting.limit)) →
+        (x.point ≡ p → state_rank T st x < frame_rank T f + 1) → state_number T st x < frame_number T x.setting.limit f
     go Ok c k = omega arith
     go Nok c k = omega arith
     go Error c k = omega arith
@@ -67,50 +86,67 @@ resumes T f st x K p same r h l k = record { stands = h; level = l; falls = go s
     go (Retry n) (inr lt) k = let few = rank-low (T.rank n x) in rw same (omega (arith, lt.0, lt.1, few))
 
 -- what is tried refuses as is owed
-refused : (T : Scheme) (f : Frame) (Q : Scratch → Type 0) (x : Spot) (K : After) → f.point ≡ x.point → ((s : Scratch) (t : Setting) → Q s → Grown x.setting t → holds T f.nok (spot_at t x.point s) K) →
-    state_level T f.nok ≤ frame_level T f → ((s : Scratch) (t : Setting) → Q s → Grown x.setting t → state_rank T f.nok (spot_at t x.point s) < frame_rank T f + 1) →
+refused : (T : Scheme) (f : Frame) (Q : Scratch → Type 0) (x : Spot) (K : After) → f.point ≡ x.point →
+    ((s : Scratch) (t : Setting) → Q s → Grown x.setting t → holds T f.nok (spot_at t x.point s) K) →
+    state_level T f.nok ≤ frame_level T f →
+    ((s : Scratch) (t : Setting) → Q s → Grown x.setting t →
+    state_rank T f.nok (spot_at t x.point s) < frame_rank T f + 1) →
     (s : Scratch) (t : Setting) → Q s → Grown x.setting t → Resumes T f f.nok (spot_at t f.point s) K
 refused T f Q x K same h level rank s t is up =
     let P' : Point → Type 0 = λ p. Resumes T f f.nok (spot_at t p s) K in
-    subst P' (sym same) (resumes T f f.nok (spot_at t x.point s) K x.point same (stays t.limit x.point) (h s t is up) level (λ e. rank s t is up))
+    subst P' (sym same)
+    (resumes T f f.nok (spot_at t x.point s) K x.point same (stays t.limit x.point) (h s t is up) level
+    (λ e. rank s t is up))
 
-pub tries : (T : Scheme) (f : Frame) (P Q : Scratch → Type 0) (x : Spot) (K : After) → f.point ≡ x.point → Tries T f P Q x K → Ends P Q x (after_frame T f K)
+pub tries : (T : Scheme) (f : Frame) (P Q : Scratch → Type 0) (x : Spot) (K : After) → f.point ≡ x.point →
+    Tries T f P Q x K → Ends P Q x (after_frame T f K)
 tries T f P Q x K same h = record {
   ok = λ s q t is up way. go f.is_check s q t is up way (h.ok s q t is up way);
   nok = λ s q t is up. refused T f Q x K same h.nok h.nok_level h.nok_rank s t is up;
 }
   where
-    go : (b : Bool) (s : Scratch) (q : Point) (t : Setting) → P s → Grown x.setting t → Reaches t.limit x.point q → holds T f.ok (cond b (spot_at t x.point s) (spot_at t q s)) K → Resumes T f f.ok (cond b (spot_at t f.point s) (spot_at t q s)) K
+    go : (b : Bool) (s : Scratch) (q : Point) (t : Setting) → P s → Grown x.setting t → Reaches t.limit x.point q →
+        holds T f.ok (cond b (spot_at t x.point s) (spot_at t q s)) K →
+        Resumes T f f.ok (cond b (spot_at t f.point s) (spot_at t q s)) K
     go true s q t is up way k =
         let P' : Point → Type 0 = λ p. Resumes T f f.ok (spot_at t p s) K in
-        subst P' (sym same) (resumes T f f.ok (spot_at t x.point s) K x.point same (stays t.limit x.point) k h.ok_level (λ e. h.ok_rank s t is up))
+        subst P' (sym same)
+        (resumes T f f.ok (spot_at t x.point s) K x.point same (stays t.limit x.point) k h.ok_level
+        (λ e. h.ok_rank s t is up))
     go false s q t is up way k = resumes T f f.ok (spot_at t q s) K x.point same way k h.ok_level (λ e.
-        let P' : Point → Type 0 = λ p. state_rank T f.ok (spot_at t p s) < frame_rank T f + 1 in subst P' (sym e) (h.ok_rank s t is up))
+        let P' : Point → Type 0 = λ p. state_rank T f.ok (spot_at t p s) < frame_rank T f + 1 in
+        subst P' (sym e) (h.ok_rank s t is up))
 
-pub tries_later : (T : Scheme) (f : Frame) (P Q : Scratch → Type 0) (x : Spot) (K : After) → f.point ≡ x.point → TriesLater T f P Q x K → EndsLater P Q x (after_frame T f K)
+pub tries_later : (T : Scheme) (f : Frame) (P Q : Scratch → Type 0) (x : Spot) (K : After) → f.point ≡ x.point →
+    TriesLater T f P Q x K → EndsLater P Q x (after_frame T f K)
 tries_later T f P Q x K same h = record {
   ok = λ s q t is up way. go f.is_check h.moves_on s q t way (h.ok s q t is up way);
   nok = λ s q t is up. refused T f Q x K same h.nok h.nok_level h.nok_rank s t is up;
 }
   where
-    go : (b : Bool) → b ≡ false → (s : Scratch) (q : Point) (t : Setting) → Passes t.limit x.point q → holds T f.ok (spot_at t q s) K → Resumes T f f.ok (cond b (spot_at t f.point s) (spot_at t q s)) K
+    go : (b : Bool) → b ≡ false → (s : Scratch) (q : Point) (t : Setting) → Passes t.limit x.point q →
+        holds T f.ok (spot_at t q s) K → Resumes T f f.ok (cond b (spot_at t f.point s) (spot_at t q s)) K
     go true e s q t way k = absurd (cc)
-    go false e s q t way k = resumes T f f.ok (spot_at t q s) K x.point same (passes-reaches t.limit x.point q way) k h.ok_level (λ e.
+    go false e s q t way k =
+        resumes T f f.ok (spot_at t q s) K x.point same (passes-reaches t.limit x.point q way) k h.ok_level (λ e.
         let none : cells_before q ≡ cells_before x.point = ap cells_before e in absurd (omega (arith, none, way.cells)))
 
 -- leaving an attempt
-pub resumed : (T : Scheme) (w : World) (fs : List Frame) (f : Frame) (s : State) → IsEnd s → w.frames ≡ f ∷ fs → stands T w (plain s) →
+pub resumed : (T : Scheme) (w : World) (fs : List Frame) (f : Frame) (s : State) → IsEnd s → w.frames ≡ f ∷ fs →
+    stands T w (plain s) →
     Resumes T f (next_of f s) (spot (left w fs f (goes_back f s))) (after_all T fs)
 resumed T w fs f s end e st = go s end (subst Q e st)
   where
     Q : List Frame → Type 0
     Q = λ x. holds T (plain s) (spot w) (after_all T x)
 
-    back : (b : Bool) → Resumes T f f.ok (cond b (record (spot w) { point = f.point }) (spot w)) (after_all T fs) → Resumes T f f.ok (spot (left w fs f b)) (after_all T fs)
+    back : (b : Bool) → Resumes T f f.ok (cond b (record (spot w) { point = f.point }) (spot w)) (after_all T fs) →
+        Resumes T f f.ok (spot (left w fs f b)) (after_all T fs)
     back true r = r
     back false r = r
 
-    go : (s : State) → IsEnd s → holds T (plain s) (spot w) (after_all T (f ∷ fs)) → Resumes T f (next_of f s) (spot (left w fs f (goes_back f s))) (after_all T fs)
+    go : (s : State) → IsEnd s → holds T (plain s) (spot w) (after_all T (f ∷ fs)) →
+        Resumes T f (next_of f s) (spot (left w fs f (goes_back f s))) (after_all T fs)
     go Ok end h = back f.is_check h
     go Nok end h = h
     go Error end h = absurd end
@@ -139,7 +175,8 @@ left-limit : (w : World) (fs : List Frame) (f : Frame) (b : Bool) → (left w fs
 left-limit w fs f true = refl
 left-limit w fs f false = refl
 
-pub left_stands : (T : Scheme) (w : World) (fs : List Frame) (f : Frame) (s : State) → IsEnd s → w.frames ≡ f ∷ fs → stands T w (plain s) →
+pub left_stands : (T : Scheme) (w : World) (fs : List Frame) (f : Frame) (s : State) → IsEnd s → w.frames ≡ f ∷ fs →
+    stands T w (plain s) →
     stands T (left w fs f (goes_back f s)) (plain (next_of f s))
 left_stands T w fs f s end e st =
     let r = (resumed T w fs f s end e st).stands in
@@ -153,25 +190,36 @@ ends-work T Error x end = absurd end
 ends-work T (Next n) x end = absurd end
 ends-work T (Retry n) x end = absurd end
 
-falls-with : (T : Scheme) (limit : ℕ) (fs : List Frame) (f : Frame) (st : State) (x : Spot) (w' : World) → w'.frames ≡ fs → x ≡ spot w' → w'.setting.limit ≡ limit →
-    state_level T st ≤ frame_level T f → state_number T st x < frame_number T x.setting.limit f → work T w' (plain st) < frames_work T limit (f ∷ fs)
+falls-with : (T : Scheme) (limit : ℕ) (fs : List Frame) (f : Frame) (st : State) (x : Spot) (w' : World) →
+    w'.frames ≡ fs → x ≡ spot w' → w'.setting.limit ≡ limit →
+    state_level T st ≤ frame_level T f → state_number T st x < frame_number T x.setting.limit f →
+    work T w' (plain st) < frames_work T limit (f ∷ fs)
 falls-with T limit fs f st x w' fr sp li le lt =
     let same = plain-work T st (spot w') in
     let P : Spot → Type 0 = λ y. state_number T st y < frame_number T y.setting.limit f in
     let there : state_number T st (spot w') < frame_number T w'.setting.limit f = subst P sp lt in
-    let less = weighs w'.setting.limit (state_number T st (spot w')) (frame_number T w'.setting.limit f) (state_level T st) (frame_level T f) there le in
-    let all : work T w' (plain st) < frames_work T w'.setting.limit (f ∷ fs) = let g : state_work T st (spot w') + frames_work T w'.setting.limit fs < frames_work T w'.setting.limit (f ∷ fs) = omega (arith, less) in rw (fr, same) g in
+    let less = weighs w'.setting.limit (state_number T st (spot w')) (frame_number T w'.setting.limit f)
+    (state_level T st) (frame_level T f) there le in
+    let all : work T w' (plain st) <
+    frames_work T w'.setting.limit (f ∷ fs) = let g : state_work T st (spot w')
+    + frames_work T w'.setting.limit fs <
+    frames_work T w'.setting.limit (f ∷ fs) = omega (arith, less) in
+    rw (fr, same) g in
     let Q : ℕ → Type 0 = λ l. work T w' (plain st) < frames_work T l (f ∷ fs) in
     subst Q li all
 
-pub left_falls : (T : Scheme) (w : World) (fs : List Frame) (f : Frame) (s : State) → IsEnd s → w.frames ≡ f ∷ fs → stands T w (plain s) →
+pub left_falls : (T : Scheme) (w : World) (fs : List Frame) (f : Frame) (s : State) → IsEnd s → w.frames ≡ f ∷ fs →
+    stands T w (plain s) →
     work T (left w fs f (goes_back f s)) (plain (next_of f s)) < work T w (plain s)
 left_falls T w fs f s end e st =
     let b = goes_back f s in
     let r = resumed T w fs f s end e st in
-    let less = falls-with T w.setting.limit fs f (next_of f s) (spot (left w fs f b)) (left w fs f b) (left-frames w fs f b) refl (left-limit w fs f b) r.level r.falls in
+    let less = falls-with T w.setting.limit fs f (next_of f s) (spot (left w fs f b)) (left w fs f b)
+    (left-frames w fs f b) refl (left-limit w fs f b) r.level r.falls in
     let zero_work = ends-work T s (spot w) end in
-    rw (e, zero_work) (let z : 0 + frames_work T w.setting.limit (f ∷ fs) ≡ frames_work T w.setting.limit (f ∷ fs) = omega arith in rw z less)
+    rw (e, zero_work)
+    (let z : 0 + frames_work T w.setting.limit (f ∷ fs) ≡ frames_work T w.setting.limit (f ∷ fs) = omega arith in
+    rw z less)
 
 -- the same, of a state and a world known by equations
 pub stands_same : (T : Scheme) (w w' : World) (s s' : State) → w ≡ w' → s ≡ s' → stands T w s → stands T w' s'
@@ -180,16 +228,21 @@ stands_same T w w' s s' e k h =
     let Q : State → Type 0 = λ x. stands T w' x in
     subst Q k (subst P e h)
 
-pub falls_same : (T : Scheme) (v w w' : World) (t s s' : State) → w ≡ w' → s ≡ s' → work T v t < work T w s → work T v t < work T w' s'
+pub falls_same : (T : Scheme) (v w w' : World) (t s s' : State) → w ≡ w' → s ≡ s' → work T v t < work T w s →
+    work T v t < work T w' s'
 falls_same T v w w' t s s' e k h =
     let P : World → Type 0 = λ x. work T v t < work T x s in
     let Q : State → Type 0 = λ x. work T v t < work T w' x in
     subst Q k (subst P e h)
 
-pub leaves_stands : (T : Scheme) (w w' : World) (s s' : State) → Leaves s w s' w' → stands T w (plain s) → stands T w' (plain s')
-leaves_stands T w w' s s' l st = stands_same T _ w' _ (plain s') (sym l.new) (ap plain (sym l.next)) (left_stands T w l.outer l.frame s l.end l.frames st)
+pub leaves_stands : (T : Scheme) (w w' : World) (s s' : State) → Leaves s w s' w' → stands T w (plain s) →
+    stands T w' (plain s')
+leaves_stands T w w' s s' l st =
+    stands_same T _ w' _ (plain s') (sym l.new) (ap plain (sym l.next))
+    (left_stands T w l.outer l.frame s l.end l.frames st)
 
-pub leaves_falls : (T : Scheme) (w w' : World) (s s' : State) → Leaves s w s' w' → stands T w (plain s) → work T w' (plain s') < work T w (plain s)
+pub leaves_falls : (T : Scheme) (w w' : World) (s s' : State) → Leaves s w s' w' → stands T w (plain s) →
+    work T w' (plain s') < work T w (plain s)
 leaves_falls T w w' s s' l st =
     let P : World → Type 0 = λ x. work T x (plain (next_of l.frame s)) < work T w (plain s) in
     let Q : State → Type 0 = λ x. work T w' (plain x) < work T w (plain s) in

@@ -1,5 +1,7 @@
 -- How a tokenizer stays sound.
-use Rattle.std.proofs.Common.{◌≡◌, ℕ, suc, ◌+◌, ◌-◌, ◌*◌, ◌%◌, ◌<◌, ◌≤◌, Bool, true, false, cond, not, nat_lt, ◌&&◌, nat_eq, List, [], ◌∷◌, ◌++◌, length, reverse, Option, Some, None, IfNone, IfSome, append-nil, get_or, take, refl, sym, ◌∙◌, ap, arith, length-append}
+use Rattle.std.proofs.Common.{◌≡◌, ℕ, suc, ◌+◌, ◌-◌, ◌*◌, ◌%◌, ◌<◌, ◌≤◌, Bool, true, false, cond, not, nat_lt, ◌&&◌}
+use Rattle.std.proofs.Common.{nat_eq, List, [], ◌∷◌, ◌++◌, length, reverse, Option, Some, None, IfNone, IfSome}
+use Rattle.std.proofs.Common.{append-nil, get_or, take, refl, sym, ◌∙◌, ap, arith, length-append}
 use Rattle.std.specs.Prelude.{nat_le, slice_get, slice_index}
 use Rattle.std.specs.List.{All, AllPairs}
 use Rattle.std.specs.Option.{option_to_list}
@@ -7,7 +9,8 @@ use Rattle.std.proofs.Math.Logic.{∥∥₁_map}
 use Rattle.std.proofs.Math.ListN.{get_or-eq_default}
 use Rattle.std.proofs.lemmas.Bool.{eqb-false}
 use Rattle.std.proofs.lemmas.Bool.Decides.{nat_tests}
-use Rattle.std.proofs.lemmas.List.{get_or_append_left, get_or_push, length-take, length-reverse, get_or-reverse, reverse-reverse}
+use Rattle.std.proofs.lemmas.List.{get_or_append_left, get_or_push, length-take, length-reverse, get_or-reverse}
+use Rattle.std.proofs.lemmas.List.{reverse-reverse}
 use Rattle.std.proofs.lemmas.Option.{slice_get_past, slice_get_read}
 use Rattle.std.proofs.lemmas.List.Elements.{All-push, All-take, All-weaker}
 use Rattle.md_engine.specs.declared.event.Event.{Event}
@@ -24,7 +27,9 @@ reached-next bytes p (n, e) = (suc n, ap (next_point bytes) e)
 
 -- the numbers of the next point
 index-next : (bytes : List ℕ) (p : Point) → p.index < length bytes → (next_point bytes p).index ≤ length bytes
-index-next bytes p lt = go (is_ending (slice_index bytes p.index)) (is_pair bytes p.index) ((nat_eq (slice_index bytes p.index) 9) && not (nat_eq (p.column % 4) 0)) refl refl refl
+index-next bytes p lt =
+    go (is_ending (slice_index bytes p.index)) (is_pair bytes p.index)
+    ((nat_eq (slice_index bytes p.index) 9) && not (nat_eq (p.column % 4) 0)) refl refl refl
   where
     within : (b : Bool) → is_pair bytes p.index ≡ b → (cond b (p.index + 2) (p.index + 1)) ≤ length bytes
     within false e = omega arith
@@ -36,13 +41,16 @@ index-next bytes p lt = go (is_ending (slice_index bytes p.index)) (is_pair byte
         first : (n : ℕ) → length bytes ≡ n → p.index + 2 ≤ length bytes
         first n k = grind (arith, nat_tests, second, get_or-eq_default)
 
-    go : (x y z : Bool) → is_ending (slice_index bytes p.index) ≡ x → is_pair bytes p.index ≡ y → ((nat_eq (slice_index bytes p.index) 9) && not (nat_eq (p.column % 4) 0)) ≡ z → (next_point bytes p).index ≤ length bytes
+    go : (x y z : Bool) → is_ending (slice_index bytes p.index) ≡ x → is_pair bytes p.index ≡ y →
+        ((nat_eq (slice_index bytes p.index) 9) && not (nat_eq (p.column % 4) 0)) ≡ z →
+        (next_point bytes p).index ≤ length bytes
     go true y z e k h = rw e (within (is_pair bytes p.index) refl)
     go false y true e k h = rw (e, h) (omega arith)
     go false y false e k h = rw (e, h) (omega arith)
 
 -- the next point is placed
-pub placed-next : (bytes : List ℕ) (p : Point) → IsPlaced bytes p → p.index < length bytes → IsPlaced bytes (next_point bytes p)
+pub placed-next : (bytes : List ℕ) (p : Point) → IsPlaced bytes p → p.index < length bytes →
+    IsPlaced bytes (next_point bytes p)
 placed-next bytes p h lt = record {
   sized = h.sized;
   index = index-next bytes p lt;
@@ -52,39 +60,60 @@ placed-next bytes p h lt = record {
   reached = ∥∥₁_map h.reached (reached-next bytes p);
 }
   where
-    numbers : ((next_point bytes p).line ≤ (next_point bytes p).index + 1) × ((next_point bytes p).column ≤ 4 * (next_point bytes p).index + (next_point bytes p).vs + 1) × ((next_point bytes p).vs ≤ ((next_point bytes p).column + 3) % 4)
-    numbers = go (is_ending (slice_index bytes p.index)) (is_pair bytes p.index) (nat_eq (slice_index bytes p.index) 9) (nat_eq (p.column % 4) 0) refl
+    numbers : ((next_point bytes p).line ≤ (next_point bytes p).index + 1) ×
+        ((next_point bytes p).column ≤ 4 * (next_point bytes p).index + (next_point bytes p).vs + 1) ×
+        ((next_point bytes p).vs ≤ ((next_point bytes p).column + 3) % 4)
+    numbers =
+        go (is_ending (slice_index bytes p.index)) (is_pair bytes p.index) (nat_eq (slice_index bytes p.index) 9)
+        (nat_eq (p.column % 4) 0) refl
       where
         go : (x y z t : Bool) → nat_eq (p.column % 4) 0 ≡ t →
-            let q : Point = cond x (record { line = p.line + 1; column = 1; index = cond y (p.index + 2) (p.index + 1); vs = 0 })
-            (cond (z && not t) (record p { column = p.column + 1; vs = p.vs + 1 }) (record p { column = p.column + 1; index = p.index + 1; vs = 0 })) in
+            let q : Point = cond x
+            (record { line = p.line + 1; column = 1; index = cond y (p.index + 2) (p.index + 1); vs = 0 })
+            (cond (z && not t) (record p { column = p.column + 1; vs = p.vs + 1 })
+            (record p { column = p.column + 1; index = p.index + 1; vs = 0 })) in
             (q.line ≤ q.index + 1) × (q.column ≤ 4 * q.index + q.vs + 1) × (q.vs ≤ (q.column + 3) % 4)
         go true true z t e = (omega (arith, h.line), omega arith, omega arith)
         go true false z t e = (omega (arith, h.line), omega arith, omega arith)
         go false y true true e = (omega (arith, h.line), omega (arith, h.column, h.vs), omega arith)
-        go false y true false e = let more : 0 < p.column % 4 = omega (arith, eqb-false (p.column % 4) 0 e) in (omega (arith, h.line), omega (arith, h.column), omega (arith, h.vs, more))
+        go false y true false e =
+            let more : 0 < p.column % 4 = omega (arith, eqb-false (p.column % 4) 0 e) in
+            (omega (arith, h.line), omega (arith, h.column), omega (arith, h.vs, more))
         go false y false t e = (omega (arith, h.line), omega (arith, h.column, h.vs), omega arith)
 
 -- an event is added at the point
-pub sound-add : (bytes : List ℕ) (p : Point) (limit : ℕ) (events : List Event) (e : Event) (frames : List Frame) (skips : List Point) →
+pub sound-add : (bytes : List ℕ) (p : Point) (limit : ℕ) (events : List Event) (e : Event) (frames : List Frame)
+    (skips : List Point) →
     IsSound bytes p limit events frames skips → e.point ≡ p → IsSound bytes p limit (events ++ e ∷ []) frames skips
 sound-add bytes p limit events e frames skips h same = record {
   placed = h.placed;
   readable = h.readable;
   right = All-push (λ (x : Event). IsPlaced bytes x.point) events e h.right (rw same h.placed);
-  saved = All-weaker (IsSaved bytes (length events)) (IsSaved bytes (length (events ++ e ∷ []))) (λ f s. record { placed = s.placed; within = simp length-append (omega (arith, s.within)) }) frames h.saved;
+  saved =
+      All-weaker (IsSaved bytes (length events)) (IsSaved bytes (length (events ++ e ∷ [])))
+      (λ f s. record { placed = s.placed; within = simp length-append (omega (arith, s.within)) }) frames h.saved;
   nested = h.nested;
   begun = h.begun;
 }
 
 -- the point moves
-pub sound-moved : (bytes : List ℕ) (p q : Point) (limit : ℕ) (events : List Event) (frames : List Frame) (skips : List Point) →
+pub sound-moved : (bytes : List ℕ) (p q : Point) (limit : ℕ) (events : List Event) (frames : List Frame)
+    (skips : List Point) →
     IsSound bytes p limit events frames skips → IsPlaced bytes q → IsSound bytes q limit events frames skips
-sound-moved bytes p q limit events frames skips h k = record { placed = k; readable = h.readable; right = h.right; saved = h.saved; nested = h.nested; begun = h.begun }
+sound-moved bytes p q limit events frames skips h k = record {
+  placed = k;
+  readable = h.readable;
+  right = h.right;
+  saved = h.saved;
+  nested = h.nested;
+  begun = h.begun;
+}
 
 -- what holds of all pairs, and of each with one more
-AllPairs-push : {X : Type 0} (R : X → X → Type 0) (xs : List X) (y : X) → AllPairs R xs → All (λ x. R x y) xs → AllPairs R (xs ++ y ∷ [])
-AllPairs-push R xs y h last = λ i j d lt inside. go i j d lt (let near : j < length xs + 1 = simp length-append at inside in near)
+AllPairs-push : {X : Type 0} (R : X → X → Type 0) (xs : List X) (y : X) → AllPairs R xs → All (λ x. R x y) xs →
+    AllPairs R (xs ++ y ∷ [])
+AllPairs-push R xs y h last =
+    λ i j d lt inside. go i j d lt (let near : j < length xs + 1 = simp length-append at inside in near)
   where
     go : (i j : ℕ) (d : _) → i < j → j < length xs + 1 → R (get_or (xs ++ y ∷ []) i d) (get_or (xs ++ y ∷ []) j d)
     go i j d lt near = choose (nat_lt j (length xs)) refl
@@ -92,83 +121,126 @@ AllPairs-push R xs y h last = λ i j d lt inside. go i j d lt (let near : j < le
         choose : (b : Bool) → nat_lt j (length xs) ≡ b → R (get_or (xs ++ y ∷ []) i d) (get_or (xs ++ y ∷ []) j d)
         choose true e =
             let inside : j < length xs = grind (arith, nat_tests) in
-            rw (get_or_append_left xs (y ∷ []) d i (omega arith), get_or_append_left xs (y ∷ []) d j inside) (h i j d lt inside)
+            rw (get_or_append_left xs (y ∷ []) d i (omega arith), get_or_append_left xs (y ∷ []) d j inside)
+            (h i j d lt inside)
         choose false e =
             let at : length xs ≡ j = grind (arith, nat_tests) in
             rw (get_or_append_left xs (y ∷ []) d i (omega arith), get_or_push xs y d j at) (last i d (omega arith))
 
 -- an attempt begins here
-pub sound-begun : (bytes : List ℕ) (p : Point) (limit : ℕ) (events : List Event) (f : Frame) (frames : List Frame) (skips : List Point) →
-    IsSound bytes p limit events frames skips → f.point ≡ p → f.events_len ≡ length events → IsSound bytes p limit events (frames ++ f ∷ []) skips
+pub sound-begun : (bytes : List ℕ) (p : Point) (limit : ℕ) (events : List Event) (f : Frame) (frames : List Frame)
+    (skips : List Point) →
+    IsSound bytes p limit events frames skips → f.point ≡ p → f.events_len ≡ length events →
+    IsSound bytes p limit events (frames ++ f ∷ []) skips
 sound-begun bytes p limit events f frames skips h at len = record {
   placed = h.placed;
   readable = h.readable;
   right = h.right;
-  saved = All-push (IsSaved bytes (length events)) frames f h.saved (record { placed = rw at h.placed; within = omega (arith, len) });
-  nested = AllPairs-push (λ (x y : Frame). x.events_len ≤ y.events_len) frames f h.nested (All-weaker (IsSaved bytes (length events)) (λ (x : Frame). x.events_len ≤ f.events_len) (λ x s. omega (arith, s.within, len)) frames h.saved);
+  saved =
+      All-push (IsSaved bytes (length events)) frames f h.saved
+      (record { placed = rw at h.placed; within = omega (arith, len) });
+  nested =
+      AllPairs-push (λ (x y : Frame). x.events_len ≤ y.events_len) frames f h.nested
+      (All-weaker (IsSaved bytes (length events)) (λ (x : Frame). x.events_len ≤ f.events_len)
+      (λ x s. omega (arith, s.within, len)) frames h.saved);
   begun = h.begun;
 }
 
 -- back at what an attempt saved
-pub sound-restored : (bytes : List ℕ) (p q : Point) (limit n : ℕ) (events : List Event) (frames : List Frame) (skips : List Point) →
-    IsSound bytes p limit events frames skips → IsPlaced bytes q → All (λ f. f.events_len ≤ n) frames → IsSound bytes q limit (take n events) frames skips
+pub sound-restored : (bytes : List ℕ) (p q : Point) (limit n : ℕ) (events : List Event) (frames : List Frame)
+    (skips : List Point) →
+    IsSound bytes p limit events frames skips → IsPlaced bytes q → All (λ f. f.events_len ≤ n) frames →
+    IsSound bytes q limit (take n events) frames skips
 sound-restored bytes p q limit n events frames skips h k low = record {
   placed = k;
   readable = h.readable;
   right = All-take (λ (x : Event). IsPlaced bytes x.point) n events h.right;
-  saved = λ i d lt. record { placed = (h.saved i d lt).placed; within = rw length-take (omega (arith, low i d lt, (h.saved i d lt).within)) };
+  saved =
+      λ i d lt. record {
+        placed = (h.saved i d lt).placed;
+        within = rw length-take (omega (arith, low i d lt, (h.saved i d lt).within));
+      };
   nested = h.nested;
   begun = h.begun;
 }
 
 -- what holds of all pairs holds of each with the last
-pub AllPairs-last : {X : Type 0} (R : X → X → Type 0) (xs : List X) (y : X) → AllPairs R (xs ++ y ∷ []) → All (λ x. R x y) xs
+pub AllPairs-last : {X : Type 0} (R : X → X → Type 0) (xs : List X) (y : X) → AllPairs R (xs ++ y ∷ []) →
+    All (λ x. R x y) xs
 AllPairs-last R xs y h = λ k d lt.
     let last : length xs < length (xs ++ y ∷ []) = simp length-append (omega arith) in
     let pair = h k (length xs) d lt last in
     rw (get_or_append_left xs (y ∷ []) d k lt, get_or_push xs y d (length xs) refl) at pair
 
 -- the innermost attempt is left
-pub sound-left : (bytes : List ℕ) (p : Point) (limit : ℕ) (events : List Event) (f : Frame) (frames : List Frame) (skips : List Point) →
+pub sound-left : (bytes : List ℕ) (p : Point) (limit : ℕ) (events : List Event) (f : Frame) (frames : List Frame)
+    (skips : List Point) →
     IsSound bytes p limit events (frames ++ f ∷ []) skips → IsSound bytes p limit events frames skips
 sound-left bytes p limit events f frames skips h = record {
   placed = h.placed;
   readable = h.readable;
   right = h.right;
   saved = λ k d lt. rw (get_or_append_left frames (f ∷ []) d k lt) at (h.saved k d (simp length-append (omega arith)));
-  nested = λ i j d lt inside. rw (get_or_append_left frames (f ∷ []) d i (omega arith), get_or_append_left frames (f ∷ []) d j inside) at (h.nested i j d lt (simp length-append (omega arith)));
+  nested =
+      λ i j d lt inside. rw (
+        get_or_append_left frames (f ∷ []) d i (omega arith),
+        get_or_append_left frames (f ∷ []) d j inside,
+      ) at
+      (h.nested i j d lt (simp length-append (omega arith)));
   begun = h.begun;
 }
 
 -- where one more line begins
-pub sound-skip : (bytes : List ℕ) (p q : Point) (limit : ℕ) (events : List Event) (frames : List Frame) (skips : List Point) →
+pub sound-skip : (bytes : List ℕ) (p q : Point) (limit : ℕ) (events : List Event) (frames : List Frame)
+    (skips : List Point) →
     IsSound bytes p limit events frames skips → IsPlaced bytes q → IsSound bytes p limit events frames (skips ++ q ∷ [])
-sound-skip bytes p q limit events frames skips h k = record { placed = h.placed; readable = h.readable; right = h.right; saved = h.saved; nested = h.nested; begun = All-push (IsPlaced bytes) skips q h.begun k }
+sound-skip bytes p q limit events frames skips h k = record {
+  placed = h.placed;
+  readable = h.readable;
+  right = h.right;
+  saved = h.saved;
+  nested = h.nested;
+  begun = All-push (IsPlaced bytes) skips q h.begun k;
+}
 
 -- the same, where memory may run out
-pub sound-add_if : (bytes : List ℕ) (p : Point) (limit : ℕ) (events new : List Event) (e : Event) (frames : List Frame) (skips : List Point) (b : Bool) →
-    new ≡ cond b (events ++ e ∷ []) events → e.point ≡ p → IsSound bytes p limit events frames skips → IsSound bytes p limit new frames skips
-sound-add_if bytes p limit events new e frames skips true is at h = rw is (sound-add bytes p limit events e frames skips h at)
+pub sound-add_if : (bytes : List ℕ) (p : Point) (limit : ℕ) (events new : List Event) (e : Event) (frames : List Frame)
+    (skips : List Point) (b : Bool) →
+    new ≡ cond b (events ++ e ∷ []) events → e.point ≡ p → IsSound bytes p limit events frames skips →
+    IsSound bytes p limit new frames skips
+sound-add_if bytes p limit events new e frames skips true is at h =
+    rw is (sound-add bytes p limit events e frames skips h at)
 sound-add_if bytes p limit events new e frames skips false is at h = rw is h
 
-pub sound-begun_if : (bytes : List ℕ) (p : Point) (limit : ℕ) (events : List Event) (f : Frame) (frames new : List Frame) (skips : List Point) (b : Bool) →
-    new ≡ cond b (frames ++ f ∷ []) frames → f.point ≡ p → f.events_len ≡ length events → IsSound bytes p limit events frames skips → IsSound bytes p limit events new skips
-sound-begun_if bytes p limit events f frames new skips true is at len h = rw is (sound-begun bytes p limit events f frames skips h at len)
+pub sound-begun_if : (bytes : List ℕ) (p : Point) (limit : ℕ) (events : List Event) (f : Frame)
+    (frames new : List Frame) (skips : List Point) (b : Bool) →
+    new ≡ cond b (frames ++ f ∷ []) frames → f.point ≡ p → f.events_len ≡ length events →
+    IsSound bytes p limit events frames skips → IsSound bytes p limit events new skips
+sound-begun_if bytes p limit events f frames new skips true is at len h =
+    rw is (sound-begun bytes p limit events f frames skips h at len)
 sound-begun_if bytes p limit events f frames new skips false is at len h = rw is h
 
-pub sound-skip_if : (bytes : List ℕ) (p q : Point) (limit : ℕ) (events : List Event) (frames : List Frame) (skips new : List Point) (b : Bool) →
-    IsSound bytes p limit events frames skips → IsPlaced bytes q → new ≡ cond b (skips ++ q ∷ []) skips → IsSound bytes p limit events frames new
-sound-skip_if bytes p q limit events frames skips new true h k is = rw is (sound-skip bytes p q limit events frames skips h k)
+pub sound-skip_if : (bytes : List ℕ) (p q : Point) (limit : ℕ) (events : List Event) (frames : List Frame)
+    (skips new : List Point) (b : Bool) →
+    IsSound bytes p limit events frames skips → IsPlaced bytes q → new ≡ cond b (skips ++ q ∷ []) skips →
+    IsSound bytes p limit events frames new
+sound-skip_if bytes p q limit events frames skips new true h k is =
+    rw is (sound-skip bytes p q limit events frames skips h k)
 sound-skip_if bytes p q limit events frames skips new false h k is = rw is h
 
 -- the innermost attempt is taken, if there is one
-pub sound-popped : (bytes : List ℕ) (p : Point) (limit : ℕ) (events : List Event) (o : Option Frame) (frames new : List Frame) (skips : List Point) →
-    IsSound bytes p limit events frames skips → frames ≡ new ++ option_to_list o → IsSound bytes p limit events new skips
+pub sound-popped : (bytes : List ℕ) (p : Point) (limit : ℕ) (events : List Event) (o : Option Frame)
+    (frames new : List Frame) (skips : List Point) →
+    IsSound bytes p limit events frames skips → frames ≡ new ++ option_to_list o →
+    IsSound bytes p limit events new skips
 sound-popped bytes p limit events None frames new skips h is = let e : frames ≡ new = is ∙ append-nil new in rw e at h
-sound-popped bytes p limit events (Some f) frames new skips h is = sound-left bytes p limit events f new skips (rw is at h)
+sound-popped bytes p limit events (Some f) frames new skips h is =
+    sound-left bytes p limit events f new skips (rw is at h)
 
-pub placed-popped : (bytes : List ℕ) (p : Point) (limit : ℕ) (events : List Event) (o : Option Frame) (frames new : List Frame) (skips : List Point) →
-    IsSound bytes p limit events frames skips → frames ≡ new ++ option_to_list o → IfSome o (λ f. IsPlaced bytes f.point)
+pub placed-popped : (bytes : List ℕ) (p : Point) (limit : ℕ) (events : List Event) (o : Option Frame)
+    (frames new : List Frame) (skips : List Point) →
+    IsSound bytes p limit events frames skips → frames ≡ new ++ option_to_list o →
+    IfSome o (λ f. IsPlaced bytes f.point)
 placed-popped bytes p limit events None frames new skips h is = tt
 placed-popped bytes p limit events (Some f) frames new skips h is =
     let k : IsSound bytes p limit events (new ++ f ∷ []) skips = rw is at h in
@@ -180,14 +252,18 @@ All-reverse P xs h = λ k d lt.
     let inside : k < length xs = rw length-reverse at lt in
     rw (get_or-reverse xs k d inside) (h (length xs - 1 - k) d (omega arith))
 
-pub outer-popped : (bytes : List ℕ) (p : Point) (limit : ℕ) (events : List Event) (o : Option Frame) (frames new : List Frame) (skips : List Point) →
-    IsSound bytes p limit events frames skips → frames ≡ new ++ option_to_list o → IfSome o (λ f. All (λ g. g.events_len ≤ f.events_len) (reverse new))
+pub outer-popped : (bytes : List ℕ) (p : Point) (limit : ℕ) (events : List Event) (o : Option Frame)
+    (frames new : List Frame) (skips : List Point) →
+    IsSound bytes p limit events frames skips → frames ≡ new ++ option_to_list o →
+    IfSome o (λ f. All (λ g. g.events_len ≤ f.events_len) (reverse new))
 outer-popped bytes p limit events None frames new skips h is = tt
 outer-popped bytes p limit events (Some f) frames new skips h is =
     let k : IsSound bytes p limit events (new ++ f ∷ []) skips = rw is at h in
-    All-reverse (λ (g : Frame). g.events_len ≤ f.events_len) new (AllPairs-last (λ (a b : Frame). a.events_len ≤ b.events_len) new f k.nested)
+    All-reverse (λ (g : Frame). g.events_len ≤ f.events_len) new
+    (AllPairs-last (λ (a b : Frame). a.events_len ≤ b.events_len) new f k.nested)
 
-pub same-popped : {X : Type 0} (see : List Frame → X) (o : Option Frame) (frames new : List Frame) → frames ≡ new ++ option_to_list o → IfNone o (see new ≡ see frames)
+pub same-popped : {X : Type 0} (see : List Frame → X) (o : Option Frame) (frames new : List Frame) →
+    frames ≡ new ++ option_to_list o → IfNone o (see new ≡ see frames)
 same-popped see None frames new is = ap see (sym (is ∙ append-nil new))
 same-popped see (Some f) frames new is = tt
 
@@ -196,14 +272,16 @@ pub All-unreverse : {X : Type 0} (P : X → Type 0) (xs : List X) → All P (rev
 All-unreverse P xs h = rw reverse-reverse at (All-reverse P (reverse xs) h)
 
 -- where a line begins is a place
-pub skip-placed : (bytes : List ℕ) (skips : List Point) (i : ℕ) (s : Point) → All (IsPlaced bytes) skips → i < length skips → s ≡ get_or skips i s → IsPlaced bytes s
+pub skip-placed : (bytes : List ℕ) (skips : List Point) (i : ℕ) (s : Point) → All (IsPlaced bytes) skips →
+    i < length skips → s ≡ get_or skips i s → IsPlaced bytes s
 skip-placed bytes skips i s h lt is = rw is (h i s lt)
 
 -- a line begins at its first byte, where no skip is known or it lies before
 pub begun-past : (x : Setting) (p : Point) (i : ℕ) → i ≡ p.line - x.first_line → length x.skips ≤ i → p ≡ line_begun x p
 begun-past x p i at past = rw (← at, slice_get_past x.skips i past) refl
 
-pub begun-before : (x : Setting) (p : Point) (i : ℕ) (s : Point) → i ≡ p.line - x.first_line → i < length x.skips → s ≡ get_or x.skips i s → s.index < p.index → p ≡ line_begun x p
+pub begun-before : (x : Setting) (p : Point) (i : ℕ) (s : Point) → i ≡ p.line - x.first_line → i < length x.skips →
+    s ≡ get_or x.skips i s → s.index < p.index → p ≡ line_begun x p
 begun-before x p i s at inside is lt =
     let got : slice_get x.skips i ≡ Some s = slice_get_read x.skips (length x.skips) i s refl inside is in
     let no : nat_le p.index s.index ≡ false = grind (arith, nat_tests) in

@@ -12,9 +12,12 @@ use Rattle.md_engine.specs.World.{Setting, World}
 use Rattle.md_engine.proofs.Falls.{leaves_stands}
 use Rattle.md_engine.proofs.Keeps.{leaves-keep, plain-same, runs-setting, steps-keep}
 
-pub runs-mean : (T : Step) (S : Scheme) (options : ParseOptions) (B : Behaviour) (is_end : Bool) (feed : Feed) (s : State) (w : World) →
-    MeansAt T S options B is_end → StandsOn T S → Follows feed w.setting is_end → w.setting.options ≡ options → stands S w (plain s) →
-    (s' : State) (w' : World) → Runs T is_end s w s' w' → (comes_to B feed s w ≡ comes_to B feed s' w') × stands S w' (plain s')
+pub runs-mean : (T : Step) (S : Scheme) (options : ParseOptions) (B : Behaviour) (is_end : Bool) (feed : Feed)
+    (s : State) (w : World) →
+    MeansAt T S options B is_end → StandsOn T S → Follows feed w.setting is_end → w.setting.options ≡ options →
+    stands S w (plain s) →
+    (s' : State) (w' : World) → Runs T is_end s w s' w' →
+    (comes_to B feed s w ≡ comes_to B feed s' w') × stands S w' (plain s')
 runs-mean T S options B is_end feed s w m on f o at s' w' Stays = (refl, at)
 runs-mean T S options B is_end feed s w m on f o at s' w' (ThenLeaves t v t' v' r l) =
     let before = runs-mean T S options B is_end feed s w m on f o at t v r in
@@ -25,8 +28,13 @@ runs-mean T S options B is_end feed s w m on f o at s' w' (ThenCalls t v t' v' r
     let Q : State → Type 0 = λ x. stands S v x in
     let here' : stands S v (Next c.name) = subst Q c.names before.1 in
     let kept : v.setting ≡ w.setting = runs-setting T is_end s w t v r in
-    let called : IsCalled S options is_end c.name v = record { may = c.may; options = ap (λ (x : Setting). x.options) kept ∙ o; stands = here' } in (
+    let called : IsCalled S options is_end c.name v = record {
+      may = c.may;
+      options = ap (λ (x : Setting). x.options) kept ∙ o;
+      stands = here';
+    } in (
       before.0 ∙ sym (plain-same B feed v t) ∙ ap (λ (x : State). comes_to B feed x v) c.names
-          ∙ steps-keep B feed (Next c.name) t' (reading v) v' c.within (m feed c.name v t' v' (subst P (sym kept) f) called c.step),
+          ∙ steps-keep B feed (Next c.name) t' (reading v) v' c.within
+          (m feed c.name v t' v' (subst P (sym kept) f) called c.step),
       on c.name v t' v' here' c.step,
     )

@@ -1,5 +1,6 @@
 -- Steps of a construct, and what the feed has where a state is called.
-use Rattle.std.proofs.Common.{◌≡◌, ◌⊎◌, ◌^◌, ◌<◌, ◌≤◌, ℕ, Bool, true, false, nat_lt, List, [], ◌∷◌, ◌++◌, length, Option, Some, None, refl, sym, ◌∙◌, arith, append-nil, inl, inr}
+use Rattle.std.proofs.Common.{◌≡◌, ◌⊎◌, ◌^◌, ◌<◌, ◌≤◌, ℕ, Bool, true, false, nat_lt, List, [], ◌∷◌, ◌++◌, length}
+use Rattle.std.proofs.Common.{Option, Some, None, refl, sym, ◌∙◌, arith, append-nil, inl, inr}
 use Rattle.std.proofs.lemmas.Bool.Decides.{nat_tests}
 use Rattle.md_engine.specs.declared.event.Event.{Event}
 use Rattle.md_engine.specs.declared.state.State.{State}
@@ -10,24 +11,47 @@ use Rattle.md_engine.specs.Scheme.{Scheme, after_all}
 use Rattle.md_engine.specs.World.{World, after, looks}
 
 -- a step that begins no attempt
-pub moves : (B : Behaviour) (feed : Feed) (from to : State) (old new : World) (added : List Event) → new.frames ≡ old.frames → new.events ≡ old.events ++ added →
+pub moves : (B : Behaviour) (feed : Feed) (from to : State) (old new : World) (added : List Event) →
+    new.frames ≡ old.frames → new.events ≡ old.events ++ added →
     goes B from (feed old.point) (here old) ≡ goes B to (feed new.point) (here new) → Steps B feed from old to new
-moves B feed from to old new added frames events same = record { begun = []; added = added; frames = frames; events = inr events; same = same }
+moves B feed from to old new added frames events same = record {
+  begun = [];
+  added = added;
+  frames = frames;
+  events = inr events;
+  same = same;
+}
 
 -- a step that adds no event either
-pub passes : (B : Behaviour) (feed : Feed) (from to : State) (old new : World) → new.frames ≡ old.frames → new.events ≡ old.events →
+pub passes : (B : Behaviour) (feed : Feed) (from to : State) (old new : World) → new.frames ≡ old.frames →
+    new.events ≡ old.events →
     goes B from (feed old.point) (here old) ≡ goes B to (feed new.point) (here new) → Steps B feed from old to new
-passes B feed from to old new frames events same = moves B feed from to old new [] frames (events ∙ sym (append-nil old.events)) same
+passes B feed from to old new frames events same =
+    moves B feed from to old new [] frames (events ∙ sym (append-nil old.events)) same
 
 -- a step that begins an attempt
-pub begins : (B : Behaviour) (feed : Feed) (from to : State) (old new : World) (added : List Event) (f : Frame) → new.frames ≡ f ∷ old.frames → new.events ≡ old.events ++ added →
-    goes B from (feed old.point) (here old) ≡ resume B feed new.events f (goes B to (feed new.point) (here new)) → Steps B feed from old to new
-begins B feed from to old new added f frames events same = record { begun = f ∷ []; added = added; frames = frames; events = inr events; same = same }
+pub begins : (B : Behaviour) (feed : Feed) (from to : State) (old new : World) (added : List Event) (f : Frame) →
+    new.frames ≡ f ∷ old.frames → new.events ≡ old.events ++ added →
+    goes B from (feed old.point) (here old) ≡ resume B feed new.events f (goes B to (feed new.point) (here new)) →
+    Steps B feed from old to new
+begins B feed from to old new added f frames events same = record {
+  begun = f ∷ [];
+  added = added;
+  frames = frames;
+  events = inr events;
+  same = same;
+}
 
 -- a step that changes events where no attempt can go back
 pub changes : (B : Behaviour) (feed : Feed) (from to : State) (old new : World) → old.frames ≡ [] → new.frames ≡ [] →
     goes B from (feed old.point) (here old) ≡ goes B to (feed new.point) (here new) → Steps B feed from old to new
-changes B feed from to old new none frames same = record { begun = []; added = []; frames = frames ∙ sym none; events = inl none; same = same }
+changes B feed from to old new none frames same = record {
+  begun = [];
+  added = [];
+  frames = frames ∙ sym none;
+  events = inl none;
+  same = same;
+}
 
 -- where that is known of what follows, no attempt can go back
 pub outermost-frames : (T : Scheme) (fs : List Frame) → (after_all T fs).outermost → fs ≡ []
@@ -35,12 +59,16 @@ outermost-frames T [] none = refl
 outermost-frames T (f ∷ fs) none = absurd none
 
 -- and adds no event
-pub begins_only : (B : Behaviour) (feed : Feed) (from to : State) (old new : World) (f : Frame) → new.frames ≡ f ∷ old.frames → new.events ≡ old.events →
-    goes B from (feed old.point) (here old) ≡ resume B feed new.events f (goes B to (feed new.point) (here new)) → Steps B feed from old to new
-begins_only B feed from to old new f frames events same = begins B feed from to old new [] f frames (events ∙ sym (append-nil old.events)) same
+pub begins_only : (B : Behaviour) (feed : Feed) (from to : State) (old new : World) (f : Frame) →
+    new.frames ≡ f ∷ old.frames → new.events ≡ old.events →
+    goes B from (feed old.point) (here old) ≡ resume B feed new.events f (goes B to (feed new.point) (here new)) →
+    Steps B feed from old to new
+begins_only B feed from to old new f frames events same =
+    begins B feed from to old new [] f frames (events ∙ sym (append-nil old.events)) same
 
 -- a step to what is equal
-pub steps-as : (B : Behaviour) (feed : Feed) (from to s : State) (w new v : World) → s ≡ to → v ≡ new → Steps B feed from w to new → Steps B feed from w s v
+pub steps-as : (B : Behaviour) (feed : Feed) (from to s : State) (w new v : World) → s ≡ to → v ≡ new →
+    Steps B feed from w to new → Steps B feed from w s v
 steps-as B feed from to s w new v e k steps = rw (e, k) steps
 
 -- the cell of a byte that stands here
@@ -57,10 +85,13 @@ pub record Sees (feed : Feed) (w : World) : Type 0 where
   pub next : feed w.point ≡ ahead feed w w.current
   pub short : length (feed w.point) < 2 ^ 63
 
-pub sees : (feed : Feed) (w : World) (is_end : Bool) → Follows feed w.setting is_end → (is_end ≡ true) ⊎ (w.point.index < w.setting.limit) → Sees feed (reading w)
+pub sees : (feed : Feed) (w : World) (is_end : Bool) → Follows feed w.setting is_end →
+    (is_end ≡ true) ⊎ (w.point.index < w.setting.limit) → Sees feed (reading w)
 sees feed w is_end f may = record { next = go (nat_lt w.point.index w.setting.limit) refl may; short = f.short w.point }
   where
-    go : (b : Bool) → nat_lt w.point.index w.setting.limit ≡ b → (is_end ≡ true) ⊎ (w.point.index < w.setting.limit) → feed w.point ≡ ahead feed w (looks w)
+    go : (b : Bool) → nat_lt w.point.index w.setting.limit ≡ b → (is_end ≡ true) ⊎ (w.point.index < w.setting.limit) →
+        feed w.point ≡ ahead feed w (looks w)
     go true e may = let lt : w.point.index < w.setting.limit = grind (arith, nat_tests) in rw e (f.cell w.point lt)
-    go false e (inl end) = let le : w.setting.limit ≤ w.point.index = grind (arith, nat_tests) in rw e (f.none end w.point le)
+    go false e (inl end) =
+        let le : w.setting.limit ≤ w.point.index = grind (arith, nat_tests) in rw e (f.none end w.point le)
     go false e (inr lt) = grind (arith, nat_tests)

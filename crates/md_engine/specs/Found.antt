@@ -14,9 +14,17 @@ abbrev pub nothing : Found
 nothing = record { done = false; definitions = []; footnotes = [] }
 
 abbrev pub found_in : Subresult → Found
-found_in s = record { done = s.done; definitions = map string_bytes s.definitions.items; footnotes = map string_bytes s.gfm_footnote_definitions.items }
+found_in s = record {
+  done = s.done;
+  definitions = map string_bytes s.definitions.items;
+  footnotes = map string_bytes s.gfm_footnote_definitions.items;
+}
 
 -- the labels of both, and whether the later one was the last; a resolver that answers nothing changes nothing
 abbrev pub with_found : Found → Option Found → Found
 with_found f None = f
-with_found f (Some g) = record { done = g.done; definitions = f.definitions ++ g.definitions; footnotes = f.footnotes ++ g.footnotes }
+with_found f (Some g) = record {
+  done = g.done;
+  definitions = f.definitions ++ g.definitions;
+  footnotes = f.footnotes ++ g.footnotes;
+}

@@ -11,8 +11,8 @@ use Rattle.md_engine.specs.declared.tokenizer.Scratch.{Scratch}
 use Rattle.md_engine.specs.Place.{seen_at}
 use Rattle.md_engine.specs.World.{Flags, Setting, World, after}
 
--- what a state is fed: a byte, `\n` for each line ending, or a column of a tab; the point behind it; and what the parent says
--- of its line
+-- what a state is fed: a byte, `\n` for each line ending, or a column of a tab; the point behind it; and what the
+-- parent says of its line
 pub record Cell : Type 0 where
   pub byte : ℕ
   pub after : Point
@@ -56,7 +56,8 @@ restored events f s g = record { events = take f.events_len events; point = f.po
 
 -- what an attempt comes to, once what it tried has ended
 abbrev pub resume : Behaviour → Feed → List Event → Frame → Outcome → Outcome
-resume B feed events f (Accepts h rest) = if f.is_check then goes B f.ok (feed f.point) (restored events f h.scratch h.flags) else goes B f.ok rest h
+resume B feed events f (Accepts h rest) =
+    if f.is_check then goes B f.ok (feed f.point) (restored events f h.scratch h.flags) else goes B f.ok rest h
 resume B feed events f (Refuses s g) = goes B f.nok (feed f.point) (restored events f s g)
 resume B feed events f Fails = Fails
 
@@ -74,19 +75,22 @@ abbrev pub line_of : Line → List Cell → Line
 line_of none [] = none
 line_of none (c ∷ cs) = c.line
 
--- the feed is the text up to the limit of the setting, and ends there if this is the end; what the parent says of the line holds of
--- the cells from the line's start on
+-- the feed is the text up to the limit of the setting, and ends there if this is the end; what the parent says of the
+-- line holds of the cells from the line's start on
 pub record Follows (feed : Feed) (x : Setting) (is_end : Bool) : Type 0 where
-  pub cell : (p : Point) → p.index < x.limit → feed p ≡ (record { byte = seen_at x.bytes p; after = after x p; line = line_of x.line (feed p) } ∷ feed (after x p))
+  pub cell : (p : Point) → p.index < x.limit →
+      feed p ≡
+      (record { byte = seen_at x.bytes p; after = after x p; line = line_of x.line (feed p) } ∷ feed (after x p))
   pub short : (p : Point) → length (feed p) < 2 ^ 63
   pub said : (p : Point) → x.line.start ≤ p.index → p.index < x.limit → line_of x.line (feed p) ≡ x.line
   pub none : is_end ≡ true → (p : Point) → x.limit ≤ p.index → feed p ≡ []
 
--- one step of a construct: what it begins and adds, and that what is left is what there was; where an attempt may go back,
--- events are only added
+-- one step of a construct: what it begins and adds, and that what is left is what there was; where an attempt may go
+-- back, events are only added
 pub record Steps (B : Behaviour) (feed : Feed) (from : State) (old : World) (to : State) (new : World) : Type 0 where
   pub begun : List Frame
   pub added : List Event
   pub frames : new.frames ≡ begun ++ old.frames
   pub events : (old.frames ≡ []) ⊎ (new.events ≡ old.events ++ added)
-  pub same : goes B from (feed old.point) (here old) ≡ resume_all B feed new.events begun (goes B to (feed new.point) (here new))
+  pub same : goes B from (feed old.point) (here old) ≡
+      resume_all B feed new.events begun (goes B to (feed new.point) (here new))

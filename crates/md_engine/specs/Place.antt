@@ -1,5 +1,6 @@
 -- Points of a text.
-use Rattle.std.specs.Prelude.{◌≡◌, ℕ, zero, suc, ◌+◌, ◌*◌, ◌^◌, ◌%◌, ◌<◌, ◌≤◌, Bool, ◌&&◌, ◌||◌, ◌==◌, not, if◌then◌else◌, List, length, slice_index, nat_lt, nat_le, Option, Some, None}
+use Rattle.std.specs.Prelude.{◌≡◌, ℕ, zero, suc, ◌+◌, ◌*◌, ◌^◌, ◌%◌, ◌<◌, ◌≤◌, Bool, ◌&&◌, ◌||◌, ◌==◌, not}
+use Rattle.std.specs.Prelude.{if◌then◌else◌, List, length, slice_index, nat_lt, nat_le, Option, Some, None}
 use Rattle.md_engine.specs.declared.event.Point.{Point}
 
 -- LF and CR; CR LF is one line ending
@@ -19,7 +20,8 @@ seen_at bytes p =
 -- the point behind a line ending, a column of a tab, or another byte
 abbrev pub stepped : ℕ → Bool → Point → Point
 stepped byte pair p =
-    if is_ending byte then record { line = p.line + 1; column = 1; index = if pair then p.index + 2 else p.index + 1; vs = 0 }
+    if is_ending byte
+    then record { line = p.line + 1; column = 1; index = if pair then p.index + 2 else p.index + 1; vs = 0 }
     else if (byte == 9) && not (p.column % 4 == 0) then record p { column = p.column + 1; vs = p.vs + 1 }
     else record p { column = p.column + 1; index = p.index + 1; vs = 0 }
 

@@ -1,5 +1,6 @@
 -- What the loop that goes from state to state comes to.
-use Rattle.std.specs.Prelude.{◌≡◌, ◌≢◌, ◌<◌, ◌≤◌, ◌⊎◌, Bool, true, false, List, [], ◌∷◌, ◌++◌, Option, length, take, if◌then◌else◌}
+use Rattle.std.specs.Prelude.{◌≡◌, ◌≢◌, ◌<◌, ◌≤◌, ◌⊎◌, Bool, true, false, List, [], ◌∷◌, ◌++◌, Option, length, take}
+use Rattle.std.specs.Prelude.{if◌then◌else◌}
 use Rattle.std.specs.List.{All}
 use Rattle.md_engine.specs.declared.resolve.name.Name.{Name as ResolveName}
 use Rattle.md_engine.specs.declared.state.Name.{Name as StateName}
@@ -36,7 +37,9 @@ reading w = record w { current = looks w }
 
 -- the world after an attempt is left, and whether it goes back to what it saved
 abbrev pub left : World → List Frame → Frame → Bool → World
-left w outer f back = if back then record w { frames = outer; events = take f.events_len w.events; point = f.point } else record w { frames = outer }
+left w outer f back =
+    if back then record w { frames = outer; events = take f.events_len w.events; point = f.point }
+    else record w { frames = outer }
 
 abbrev pub goes_back : Frame → State → Bool
 goes_back f Ok = f.is_check
@@ -71,8 +74,10 @@ pub record Calls (T : Step) (is_end : Bool) (s : State) (w : World) (s' : State)
 -- what one comes to, from a state and a world, by leaving attempts and calling states
 pub data Runs (T : Step) (is_end : Bool) (s : State) (w : World) : State → World → Type 0 where
   Stays : Runs T is_end s w s w
-  ThenLeaves : (t : State) (v : World) (t' : State) (v' : World) → Runs T is_end s w t v → Leaves t v t' v' → Runs T is_end s w t' v'
-  ThenCalls : (t : State) (v : World) (t' : State) (v' : World) → Runs T is_end s w t v → Calls T is_end t v t' v' → Runs T is_end s w t' v'
+  ThenLeaves : (t : State) (v : World) (t' : State) (v' : World) → Runs T is_end s w t v → Leaves t v t' v' →
+      Runs T is_end s w t' v'
+  ThenCalls : (t : State) (v : World) (t' : State) (v' : World) → Runs T is_end s w t v → Calls T is_end t v t' v' →
+      Runs T is_end s w t' v'
 
 -- the loop ends where a state waits for more of the text, or where the construct has ended and no attempt is left
 abbrev pub IsStopped : Bool → State → World → Type 0
@@ -85,7 +90,8 @@ IsStopped is_end (Retry name) w = (is_end ≡ false) × (w.setting.limit ≤ w.p
 -- resolvers that ran in order, with what they found
 pub data Resolved (R : Resolution) (w : World) : List ResolveName → Found → World → Type 0 where
   NoneYet : Resolved R w [] nothing w
-  More : (names : List ResolveName) (name : ResolveName) (found : Found) (more : Option Found) (v v' : World) → Resolved R w names found v → R name v more v' → Resolved R w (names ++ name ∷ []) (with_found found more) v'
+  More : (names : List ResolveName) (name : ResolveName) (found : Found) (more : Option Found) (v v' : World) →
+      Resolved R w names found v → R name v more v' → Resolved R w (names ++ name ∷ []) (with_found found more) v'
 
 -- all that were registered ran, or none did
 abbrev pub ResolvedIf : Resolution → Bool → World → Found → World → Type 0
@@ -93,7 +99,8 @@ ResolvedIf R true at found new = Resolved R (record at { resolvers = [] }) at.re
 ResolvedIf R false at found new = (new ≡ at) × (found ≡ nothing)
 
 -- the end was fed, and the resolvers ran if asked
-pub record Flushes (T : Step) (R : Resolution) (from : State) (old : World) (resolve : Bool) (found : Found) (new : World) : Type 0 where
+pub record Flushes (T : Step) (R : Resolution) (from : State) (old : World) (resolve : Bool) (found : Found)
+    (new : World) : Type 0 where
   pub end : State
   pub at : World
   pub runs : Runs T true from old end at

@@ -1,8 +1,9 @@
 -- When a tokenizer stands at a state, and why going from state to state ends.
 --
--- A construct says what each of its states needs, and how far it is from taking what stands here. What follows an attempt
--- is told to it as an `After`: what is asked where it ends. So no construct looks at the attempts around it.
-use Rattle.std.specs.Prelude.{◌≡◌, refl, ℕ, zero, suc, ◌+◌, ◌-◌, ◌*◌, ◌%◌, ◌<◌, ◌≤◌, nat_lt, ◌⊎◌, true, false, if◌then◌else◌, List, [], ◌∷◌, Option}
+-- A construct says what each of its states needs, and how far it is from taking what stands here. What follows an
+-- attempt is told to it as an `After`: what is asked where it ends. So no construct looks at the attempts around it.
+use Rattle.std.specs.Prelude.{◌≡◌, refl, ℕ, zero, suc, ◌+◌, ◌-◌, ◌*◌, ◌%◌, ◌<◌, ◌≤◌, nat_lt, ◌⊎◌, true, false}
+use Rattle.std.specs.Prelude.{if◌then◌else◌, List, [], ◌∷◌, Option}
 use Rattle.md_engine.specs.declared.event.Point.{Point}
 use Rattle.md_engine.specs.declared.state.Name.{Name as StateName}
 use Rattle.md_engine.specs.declared.state.State.{State}
@@ -53,8 +54,8 @@ pub record Rank : Type 0 where
 abbrev pub ranked : (number : ℕ) → nat_lt number 64 ≡ true → Rank
 ranked number low = record { number = number; low = low }
 
--- what the states of a table need, and how far each is from the next byte among the states of its level; a frame that goes
--- on with a state counts as many as it has tries
+-- what the states of a table need, and how far each is from the next byte among the states of its level; a frame that
+-- goes on with a state counts as many as it has tries
 pub record Scheme : Type 1 where
   pub ready : StateName → Spot → After → Type 0
   pub level : StateName → ℕ
@@ -164,32 +165,39 @@ pub record Passes (limit : ℕ) (p q : Point) : Type 0 where
 
 -- wherever a construct ends with such scratch, one may go on
 pub record Ends (P Q : Scratch → Type 0) (x : Spot) (K : After) : Type 0 where
-  pub ok : (s : Scratch) (q : Point) (t : Setting) → P s → Grown x.setting t → Reaches t.limit x.point q → K.ok (spot_at t q s)
+  pub ok : (s : Scratch) (q : Point) (t : Setting) → P s → Grown x.setting t → Reaches t.limit x.point q →
+      K.ok (spot_at t q s)
   pub nok : (s : Scratch) (q : Point) (t : Setting) → Q s → Grown x.setting t → K.nok (spot_at t q s)
 
 -- the same of a construct that accepts only behind the point where it begins
 pub record EndsLater (P Q : Scratch → Type 0) (x : Spot) (K : After) : Type 0 where
-  pub ok : (s : Scratch) (q : Point) (t : Setting) → P s → Grown x.setting t → Passes t.limit x.point q → K.ok (spot_at t q s)
+  pub ok : (s : Scratch) (q : Point) (t : Setting) → P s → Grown x.setting t → Passes t.limit x.point q →
+      K.ok (spot_at t q s)
   pub nok : (s : Scratch) (q : Point) (t : Setting) → Q s → Grown x.setting t → K.nok (spot_at t q s)
 
 -- what an attempt owes when it begins: what it goes on with is ready, and below what it sets aside
 pub record Tries (T : Scheme) (f : Frame) (P Q : Scratch → Type 0) (x : Spot) (K : After) : Type 0 where
-  pub ok : (s : Scratch) (q : Point) (t : Setting) → P s → Grown x.setting t → Reaches t.limit x.point q → holds T f.ok (if f.is_check then spot_at t x.point s else spot_at t q s) K
+  pub ok : (s : Scratch) (q : Point) (t : Setting) → P s → Grown x.setting t → Reaches t.limit x.point q →
+      holds T f.ok (if f.is_check then spot_at t x.point s else spot_at t q s) K
   pub ok_level : state_level T f.ok ≤ frame_level T f
-  pub ok_rank : (s : Scratch) (t : Setting) → P s → Grown x.setting t → state_rank T f.ok (spot_at t x.point s) < frame_rank T f + 1
+  pub ok_rank : (s : Scratch) (t : Setting) → P s → Grown x.setting t →
+      state_rank T f.ok (spot_at t x.point s) < frame_rank T f + 1
   pub nok : (s : Scratch) (t : Setting) → Q s → Grown x.setting t → holds T f.nok (spot_at t x.point s) K
   pub nok_level : state_level T f.nok ≤ frame_level T f
-  pub nok_rank : (s : Scratch) (t : Setting) → Q s → Grown x.setting t → state_rank T f.nok (spot_at t x.point s) < frame_rank T f + 1
+  pub nok_rank : (s : Scratch) (t : Setting) → Q s → Grown x.setting t →
+      state_rank T f.nok (spot_at t x.point s) < frame_rank T f + 1
 
--- what an attempt that is no check owes, where what it tries accepts only behind the point where it begins: there so much less is
--- left that what it goes on with may have any rank
+-- what an attempt that is no check owes, where what it tries accepts only behind the point where it begins: there so
+-- much less is left that what it goes on with may have any rank
 pub record TriesLater (T : Scheme) (f : Frame) (P Q : Scratch → Type 0) (x : Spot) (K : After) : Type 0 where
   pub moves_on : f.is_check ≡ false
-  pub ok : (s : Scratch) (q : Point) (t : Setting) → P s → Grown x.setting t → Passes t.limit x.point q → holds T f.ok (spot_at t q s) K
+  pub ok : (s : Scratch) (q : Point) (t : Setting) → P s → Grown x.setting t → Passes t.limit x.point q →
+      holds T f.ok (spot_at t q s) K
   pub ok_level : state_level T f.ok ≤ frame_level T f
   pub nok : (s : Scratch) (t : Setting) → Q s → Grown x.setting t → holds T f.nok (spot_at t x.point s) K
   pub nok_level : state_level T f.nok ≤ frame_level T f
-  pub nok_rank : (s : Scratch) (t : Setting) → Q s → Grown x.setting t → state_rank T f.nok (spot_at t x.point s) < frame_rank T f + 1
+  pub nok_rank : (s : Scratch) (t : Setting) → Q s → Grown x.setting t →
+      state_rank T f.nok (spot_at t x.point s) < frame_rank T f + 1
 
 -- a state's call keeps what the table needs, and falls
 abbrev pub Good : Scheme → StateName → World → State → World → Type 0
@@ -209,7 +217,12 @@ FitsState T own _ = Unit {1}
 
 -- the scheme of a table, by the construct that owns each state
 abbrev pub of_owners : (StateName → Scheme) → Scheme
-of_owners owner = record { ready = λ n x K. (owner n).ready n x K; level = λ n. (owner n).level n; rank = λ n x. (owner n).rank n x; tries = λ n. (owner n).tries n }
+of_owners owner = record {
+  ready = λ n x K. (owner n).ready n x K;
+  level = λ n. (owner n).level n;
+  rank = λ n x. (owner n).rank n x;
+  tries = λ n. (owner n).tries n;
+}
 
 -- states that a table does not have
 abbrev pub nowhere : Scheme

@@ -17,9 +17,13 @@ pub record IsCalled (S : Scheme) (under : ParseOptions) (is_end : Bool) (name : 
 
 -- the steps of such calls are steps of a behaviour, in each feed that follows the text
 abbrev pub MeansAt : Step → Scheme → ParseOptions → Behaviour → Bool → Type 0
-MeansAt T S options B is_end = (feed : Feed) (name : StateName) (w : World) (to : State) (new : World) → Follows feed w.setting is_end → IsCalled S options is_end name w →
+MeansAt T S options B is_end =
+    (feed : Feed) (name : StateName) (w : World) (to : State) (new : World) → Follows feed w.setting is_end →
+    IsCalled S options is_end name w →
     T name (reading w) to new → Steps B feed (Next name) (reading w) to new
 
 -- where the tokenizer stands at a state, a step comes to where it stands
 abbrev pub StandsOn : Step → Scheme → Type 0
-StandsOn T S = (name : StateName) (w : World) (to : State) (new : World) → stands S w (Next name) → T name (reading w) to new → stands S new (plain to)
+StandsOn T S =
+    (name : StateName) (w : World) (to : State) (new : World) → stands S w (Next name) → T name (reading w) to new →
+    stands S new (plain to)

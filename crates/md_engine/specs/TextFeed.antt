@@ -9,7 +9,9 @@ use Rattle.md_engine.specs.World.{Setting, after}
 -- at most so many cells from a point on
 abbrev pub cells_from : Setting → ℕ → Point → List Cell
 cells_from x zero p = []
-cells_from x (suc n) p = if nat_lt p.index x.limit then record { byte = seen_at x.bytes p; after = after x p; line = x.line } ∷ cells_from x n (after x p) else []
+cells_from x (suc n) p =
+    if nat_lt p.index x.limit
+    then record { byte = seen_at x.bytes p; after = after x p; line = x.line } ∷ cells_from x n (after x p) else []
 
 -- all of them
 unfoldable pub text_feed : Setting → Feed

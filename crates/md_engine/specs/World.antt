@@ -1,5 +1,6 @@
 -- What contracts see of a tokenizer.
-use Rattle.std.specs.Prelude.{ℕ, ◌-◌, Bool, false, ◌==◌, if◌then◌else◌, List, [], ◌∷◌, ◌++◌, take, drop, Option, None, Some, reverse, slice_index, slice_get, nat_lt}
+use Rattle.std.specs.Prelude.{ℕ, ◌-◌, Bool, false, ◌==◌, if◌then◌else◌, List, [], ◌∷◌, ◌++◌, take, drop, Option, None}
+use Rattle.std.specs.Prelude.{Some, reverse, slice_index, slice_get, nat_lt}
 use Rattle.std.specs.List.{list_any}
 use Rattle.md_engine.specs.declared.configuration.ParseOptions.{ParseOptions}
 use Rattle.md_engine.specs.declared.event.Point.{Point}
@@ -54,7 +55,14 @@ pub record World : Type 0 where
   pub resolvers : List ResolveName
 
 abbrev pub setting_of : Tokenizer → Setting
-setting_of t = record { bytes = t.bytes.now; options = t.options.now; limit = t.limit; first_line = t.first_line; skips = t.skips.items; line = t.line }
+setting_of t = record {
+  bytes = t.bytes.now;
+  options = t.options.now;
+  limit = t.limit;
+  first_line = t.first_line;
+  skips = t.skips.items;
+  line = t.line;
+}
 
 abbrev pub flags_of : Tokenizer → Flags
 flags_of t = record {
@@ -91,18 +99,33 @@ line_begun x p = begun_at (slice_get x.skips (p.line - x.first_line)) p
 
 -- the point behind what stands at a point
 abbrev pub after : Setting → Point → Point
-after x p = if is_ending (slice_index x.bytes p.index) then line_begun x (next_point x.bytes p) else next_point x.bytes p
+after x p =
+    if is_ending (slice_index x.bytes p.index) then line_begun x (next_point x.bytes p) else next_point x.bytes p
 
 -- a tokenizer that has read nothing
 abbrev pub fresh : List ℕ → ParseOptions → Point → World
 fresh bytes options p = record {
-  setting = record { bytes = bytes; options = options; limit = 0; first_line = p.line; skips = []; line = record { start = 0; lazy = false; pierce = false } };
+  setting = record {
+    bytes = bytes;
+    options = options;
+    limit = 0;
+    first_line = p.line;
+    skips = [];
+    line = record { start = 0; lazy = false; pierce = false };
+  };
   point = p;
   current = None;
   events = [];
   frames = [];
   scratch = REST;
-  flags = record { leaf = held_leaf.None; blank = false; leaf_before = held_leaf.None; containers = []; continued = 0; line_end = 0 };
+  flags = record {
+    leaf = held_leaf.None;
+    blank = false;
+    leaf_before = held_leaf.None;
+    containers = [];
+    continued = 0;
+    line_end = 0;
+  };
   resolvers = [];
 }
 
@@ -124,7 +147,8 @@ registered_before is_name names name = if list_any is_name names then names else
 abbrev pub reads_to : World → ℕ → World
 reads_to w to = record w { setting = record w.setting { limit = to } }
 
--- the containers behind so many end in front of the event at an index, and at its point; where there is none, at this point
+-- the containers behind so many end in front of the event at an index, and at its point; where there is none, at this
+-- point
 abbrev pub closed_events : ℕ → ℕ → List Container → List Event → Point → List Event
 closed_events keep at containers events p = put at (ends_at (drop keep containers) (point_of (drop at events) p)) events
 
@@ -132,4 +156,7 @@ abbrev pub kept : ℕ → Flags → Flags
 kept keep g = record g { containers = take keep g.containers }
 
 abbrev pub closed : World → ℕ → ℕ → World
-closed w keep at = record w { events = closed_events keep at w.flags.containers w.events w.point; flags = kept keep w.flags }
+closed w keep at = record w {
+  events = closed_events keep at w.flags.containers w.events w.point;
+  flags = kept keep w.flags;
+}

@@ -1,7 +1,7 @@
 // Events, and the points of the text that they stand at.
 //
-// The result of a parse is a list of events: an `Enter` and an `Exit` of each part, in the order of the text. Enters and
-// exits match by name like brackets.
+// The result of a parse is a list of events: an `Enter` and an `Exit` of each part, in the order of the text. Enters
+// and exits match by name like brackets.
 
 use std::mem::size_of;
 

@@ -1,7 +1,7 @@
 // Tables of states, and the loop that feeds them.
 //
-// A table says which function each state name stands for. `push` reads a part of the text and answers the state that waits
-// for more; `flush` reads the end, and runs the resolvers that were registered.
+// A table says which function each state name stands for. `push` reads a part of the text and answers the state that
+// waits for more; `flush` reads the end, and runs the resolvers that were registered.
 ghost use Rattle.std.specs.Prelude.{Bool, ◌≡◌, ◌≢◌, ◌<◌, ◌≤◌, ◌⊎◌, [], length, IfOk, IfNone, IfSome, OnOk, false, true};
 ghost use Rattle.std.specs.Option.{option_map};
 ghost use Rattle.md_engine.specs.Found.{found_in};
@@ -35,7 +35,8 @@ pub trait Table {
         requires stands { stands scheme (world tokenizer.old) (State.Next name) }
         ensures step { result ≢ State.Error → step name (world tokenizer.old) result (world tokenizer.new) }
         ensures stands { result ≢ State.Error → stands scheme (world tokenizer.new) (plain result) }
-        ensures falls { result ≢ State.Error → work scheme (world tokenizer.new) (plain result) < work scheme (world tokenizer.old) (State.Next name) }
+        ensures falls { result ≢ State.Error →
+            work scheme (world tokenizer.new) (plain result) < work scheme (world tokenizer.old) (State.Next name) }
         ensures setting { result ≢ State.Error → (world tokenizer.new).setting ≡ (world tokenizer.old).setting };
 
     /// A class of bytes that the state of this name only takes, to stay where it is: many are taken at once.
@@ -46,7 +47,8 @@ pub trait Table {
     fn resolve(tokenizer: &mut Tokenizer, name: ResolveName) -> Result<Option<Subresult>, Message>
         requires { (world tokenizer.old).frames ≡ [] }
         ensures frames { OnOk result ((world tokenizer.new).frames ≡ []) }
-        ensures resolves { IfOk result (λ found. resolves name (world tokenizer.old) (option_map found_in found) (world tokenizer.new)) };
+        ensures resolves { IfOk result
+            (λ found. resolves name (world tokenizer.old) (option_map found_in found) (world tokenizer.new)) };
 }
 
 /// Leaves the innermost attempt, if there is one.
@@ -76,8 +78,10 @@ fn leave(tokenizer: &mut Tokenizer, state: State) -> Option<State>
 
 /// Whether what stands at the point is yet to come.
 fn is_waiting(tokenizer: &Tokenizer, is_end: bool) -> bool
-    ensures waits { result ≡ true → (is_end ≡ false) × ((world tokenizer.now).setting.limit ≤ (world tokenizer.now).point.index) }
-    ensures goes_on { result ≡ false → (is_end ≡ true) ⊎ ((world tokenizer.now).point.index < (world tokenizer.now).setting.limit) }
+    ensures waits { result ≡ true →
+        (is_end ≡ false) × ((world tokenizer.now).setting.limit ≤ (world tokenizer.now).point.index) }
+    ensures goes_on { result ≡ false →
+        (is_end ≡ true) ⊎ ((world tokenizer.now).point.index < (world tokenizer.now).setting.limit) }
 {
     !is_end && tokenizer.point.index >= tokenizer.limit
 }
@@ -87,7 +91,8 @@ fn stay<T: Table>(tokenizer: &mut Tokenizer, state: State)
     requires { stands T.scheme (world tokenizer.old) (plain state) }
     ensures runs { (is_end : Bool) → Runs T.step is_end state (world tokenizer.old) state (world tokenizer.new) }
     ensures stands { stands T.scheme (world tokenizer.new) (plain state) }
-    ensures falls { work T.scheme (world tokenizer.new) (plain state) ≤ work T.scheme (world tokenizer.old) (plain state) }
+    ensures falls { work T.scheme (world tokenizer.new) (plain state) ≤
+        work T.scheme (world tokenizer.old) (plain state) }
     ensures setting { (world tokenizer.new).setting ≡ (world tokenizer.old).setting }
 {
     let State::Next(name) = state else {
@@ -137,10 +142,12 @@ fn run<T: Table>(tokenizer: &mut Tokenizer, start: State, is_end: bool) -> State
 pub fn push<T: Table>(tokenizer: &mut Tokenizer, to: usize, state: State) -> State
     requires within { to ≤ length (world tokenizer.old).setting.bytes }
     requires stands { stands T.scheme (reads_to (world tokenizer.old) to) (plain state) }
-    ensures runs { result ≢ State.Error → Runs T.step false state (reads_to (world tokenizer.old) to) result (world tokenizer.new) }
+    ensures runs { result ≢ State.Error →
+        Runs T.step false state (reads_to (world tokenizer.old) to) result (world tokenizer.new) }
     ensures stops { IsStopped false result (world tokenizer.new) }
     ensures stands { result ≢ State.Error → stands T.scheme (world tokenizer.new) (plain result) }
-    ensures setting { result ≢ State.Error → (world tokenizer.new).setting ≡ (reads_to (world tokenizer.old) to).setting }
+    ensures setting { result ≢ State.Error →
+        (world tokenizer.new).setting ≡ (reads_to (world tokenizer.old) to).setting }
 {
     tokenizer.read_to(to);
     run::<T>(tokenizer, state, false)
@@ -155,7 +162,9 @@ pub fn flush<T: Table>(
     resolve: bool,
 ) -> Result<Subresult, Message>
     requires { stands T.scheme (world tokenizer.old) (plain state) }
-    ensures { IfOk result (λ found. Flushes T.step T.resolves state (world tokenizer.old) resolve (found_in found) (world tokenizer.new)) }
+    ensures { IfOk result
+        (λ found. Flushes T.step T.resolves state (world tokenizer.old) resolve (found_in found)
+        (world tokenizer.new)) }
 {
     match run::<T>(tokenizer, state, true) {
         State::Error => Err(Message),
@@ -166,7 +175,8 @@ pub fn flush<T: Table>(
 /// Runs the resolvers that were registered, if asked.
 fn resolve_all<T: Table>(tokenizer: &mut Tokenizer, resolve: bool) -> Result<Subresult, Message>
     requires { (world tokenizer.old).frames ≡ [] }
-    ensures { IfOk result (λ found. ResolvedIf T.resolves resolve (world tokenizer.old) (found_in found) (world tokenizer.new)) }
+    ensures { IfOk result
+        (λ found. ResolvedIf T.resolves resolve (world tokenizer.old) (found_in found) (world tokenizer.new)) }
 {
     let alloc = tokenizer.alloc;
     let mut found = Subresult {

@@ -1,9 +1,11 @@
 // The tokenizer and its primitives.
 //
 // A tokenizer walks over the text from point to point. States add events at its point, move it on, and begin attempts:
-// trials that are taken back where they fail. Each primitive says what the whole tokenizer is afterwards, by one equation
-// over `world`, which is what contracts see of a tokenizer.
-ghost use Rattle.std.specs.Prelude.{◌≡◌, ◌-◌, IfOk, drop, ◌+◌, ◌^◌, ◌∷◌, ◌++◌, ◌<◌, ◌≤◌, [], length, All, AllPairs, if◌then◌else◌, is_ok, nat_le, nat_lt, ◌==◌, true, false, Some, None, take, IfSome, IfNone, reverse, slice_index};
+// trials that are taken back where they fail. Each primitive says what the whole tokenizer is afterwards, by one
+// equation over `world`, which is what contracts see of a tokenizer.
+ghost use Rattle.std.specs.Prelude.{◌≡◌, ◌-◌, IfOk, drop, ◌+◌, ◌^◌, ◌∷◌, ◌++◌, ◌<◌, ◌≤◌, [], length, All, AllPairs};
+ghost use Rattle.std.specs.Prelude.{if◌then◌else◌, is_ok, nat_le, nat_lt, ◌==◌, true, false, Some, None, take, IfSome};
+ghost use Rattle.std.specs.Prelude.{IfNone, reverse, slice_index};
 ghost use Rattle.md_engine.specs.Place.{IsPlaced, begun_at, is_pair, next_point, stepped};
 ghost use Rattle.md_engine.specs.Sound.{IsSound};
 ghost use Rattle.md_engine.specs.Ends.{ends_at, point_of, put};
@@ -88,7 +90,8 @@ impl Scratch {
 /// What a construct tells the containers around it, and what the document knows of these.
 #[derive(Clone, Copy, Debug, PartialEq, Eq)]
 pub struct Flags {
-    /// The leaf that is open behind what was read: whether a container would interrupt it, or cannot open in it, is read off it.
+    /// The leaf that is open behind what was read: whether a container would interrupt it, or cannot open in it, is
+    /// read off it.
     pub leaf: HeldLeaf,
     /// Whether nothing but whitespace stands on the line that was read.
     pub blank: bool,
@@ -240,14 +243,17 @@ fn ends_at(alloc: Global, containers: &[Container], point: Point) -> Result<Vec<
 /// Moves the last `count` events in front of the one at `at`.
 fn turn(events: &mut Vec<Event>, at: usize, count: usize)
     requires { at + count ≤ length events.old.items }
-    ensures { events.new.items ≡ take at events.old.items ++ drop (length events.old.items - at - count) (drop at events.old.items) ++ take (length events.old.items - at - count) (drop at events.old.items) }
+    ensures { events.new.items ≡
+        take at events.old.items ++ drop (length events.old.items - at - count) (drop at events.old.items)
+        ++ take (length events.old.items - at - count) (drop at events.old.items) }
 {
     events[at..].rotate_right(count);
 }
 
 impl<'a> Tokenizer<'a> {
     ghost use Rattle.md_engine.specs.Staying.{SeesAll, TakesAll};
-    ghost use Rattle.md_engine.specs.World.{closed, world, looks, after, fresh, line_begun, reads_to, registered, registered_before, skipping};
+    ghost use Rattle.md_engine.specs.World.{closed, world, looks, after, fresh, line_begun, reads_to, registered};
+    ghost use Rattle.md_engine.specs.World.{registered_before, skipping};
 
     /// A tokenizer at `point`, which has read nothing.
     pub fn new(
@@ -291,7 +297,13 @@ impl<'a> Tokenizer<'a> {
 
     /// Adds an event at the point, or changes nothing.
     fn add(&mut self, kind: Kind, name: Name, link: Option<Link>) -> Result<(), Message>
-        ensures { world self.new ≡ record (world self.old) { events = if is_ok result then (world self.old).events ++ record { kind = kind; name = name; point = (world self.old).point; link = link } ∷ [] else (world self.old).events } }
+        ensures { world self.new ≡
+            record (world self.old) {
+              events = if is_ok result
+                  then (world self.old).events
+                  ++ record { kind = kind; name = name; point = (world self.old).point; link = link } ∷ []
+                  else (world self.old).events;
+            } }
     {
         let point = self.point;
         let event = Event {
@@ -308,21 +320,39 @@ impl<'a> Tokenizer<'a> {
 
     /// Adds the begin of a part at the point, or changes nothing.
     pub fn enter(&mut self, name: Name) -> Result<(), Message>
-        ensures { world self.new ≡ record (world self.old) { events = if is_ok result then (world self.old).events ++ record { kind = Kind.Enter; name = name; point = (world self.old).point; link = None } ∷ [] else (world self.old).events } }
+        ensures { world self.new ≡
+            record (world self.old) {
+              events = if is_ok result
+                  then (world self.old).events
+                  ++ record { kind = Kind.Enter; name = name; point = (world self.old).point; link = None } ∷ []
+                  else (world self.old).events;
+            } }
     {
         self.add(Kind::Enter, name, None)
     }
 
     /// Adds the begin of a part that is read later, or changes nothing.
     pub fn enter_link(&mut self, name: Name, link: Link) -> Result<(), Message>
-        ensures { world self.new ≡ record (world self.old) { events = if is_ok result then (world self.old).events ++ record { kind = Kind.Enter; name = name; point = (world self.old).point; link = Some link } ∷ [] else (world self.old).events } }
+        ensures { world self.new ≡
+            record (world self.old) {
+              events = if is_ok result
+                  then (world self.old).events
+                  ++ record { kind = Kind.Enter; name = name; point = (world self.old).point; link = Some link } ∷ []
+                  else (world self.old).events;
+            } }
     {
         self.add(Kind::Enter, name, Some(link))
     }
 
     /// Adds the end of a part at the point, or changes nothing.
     pub fn exit(&mut self, name: Name) -> Result<(), Message>
-        ensures { world self.new ≡ record (world self.old) { events = if is_ok result then (world self.old).events ++ record { kind = Kind.Exit; name = name; point = (world self.old).point; link = None } ∷ [] else (world self.old).events } }
+        ensures { world self.new ≡
+            record (world self.old) {
+              events = if is_ok result
+                  then (world self.old).events
+                  ++ record { kind = Kind.Exit; name = name; point = (world self.old).point; link = None } ∷ []
+                  else (world self.old).events;
+            } }
     {
         self.add(Kind::Exit, name, None)
     }
@@ -371,7 +401,8 @@ impl<'a> Tokenizer<'a> {
     /// Moves the point by one byte, one line ending or one column of a tab.
     pub fn consume(&mut self)
         requires { (world self.old).point.index < length (world self.old).setting.bytes }
-        ensures { world self.new ≡ record (world self.old) { point = after (world self.old).setting (world self.old).point } }
+        ensures { world self.new ≡
+            record (world self.old) { point = after (world self.old).setting (world self.old).point } }
     {
         let next = self.next_point();
         let byte = self.bytes[self.point.index];
@@ -399,7 +430,19 @@ impl<'a> Tokenizer<'a> {
 
     /// Begins an attempt, or changes nothing.
     fn begin(&mut self, ok: State, nok: State, is_check: bool) -> Result<(), Message>
-        ensures { world self.new ≡ record (world self.old) { frames = if is_ok result then record { ok = ok; nok = nok; is_check = is_check; events_len = length (world self.old).events; point = (world self.old).point } ∷ (world self.old).frames else (world self.old).frames } }
+        ensures { world self.new ≡
+            record (world self.old) {
+              frames = if is_ok result
+                  then record {
+                    ok = ok;
+                    nok = nok;
+                    is_check = is_check;
+                    events_len = length (world self.old).events;
+                    point = (world self.old).point;
+                  }
+                  ∷ (world self.old).frames
+                  else (world self.old).frames;
+            } }
     {
         let frame = Frame {
             ok,
@@ -417,14 +460,38 @@ impl<'a> Tokenizer<'a> {
     /// Begins an attempt, or changes nothing: what follows goes on with `ok` where it holds, and else is taken back and
     /// goes on with `nok`. Neither takes back the scratch or the flags.
     pub fn attempt(&mut self, ok: State, nok: State) -> Result<(), Message>
-        ensures { world self.new ≡ record (world self.old) { frames = if is_ok result then record { ok = ok; nok = nok; is_check = false; events_len = length (world self.old).events; point = (world self.old).point } ∷ (world self.old).frames else (world self.old).frames } }
+        ensures { world self.new ≡
+            record (world self.old) {
+              frames = if is_ok result
+                  then record {
+                    ok = ok;
+                    nok = nok;
+                    is_check = false;
+                    events_len = length (world self.old).events;
+                    point = (world self.old).point;
+                  }
+                  ∷ (world self.old).frames
+                  else (world self.old).frames;
+            } }
     {
         self.begin(ok, nok, false)
     }
 
     /// Begins a check, or changes nothing: an attempt that is taken back also where it holds.
     pub fn check(&mut self, ok: State, nok: State) -> Result<(), Message>
-        ensures { world self.new ≡ record (world self.old) { frames = if is_ok result then record { ok = ok; nok = nok; is_check = true; events_len = length (world self.old).events; point = (world self.old).point } ∷ (world self.old).frames else (world self.old).frames } }
+        ensures { world self.new ≡
+            record (world self.old) {
+              frames = if is_ok result
+                  then record {
+                    ok = ok;
+                    nok = nok;
+                    is_check = true;
+                    events_len = length (world self.old).events;
+                    point = (world self.old).point;
+                  }
+                  ∷ (world self.old).frames
+                  else (world self.old).frames;
+            } }
     {
         self.begin(ok, nok, true)
     }
@@ -445,7 +512,8 @@ impl<'a> Tokenizer<'a> {
     pub(crate) fn restore(&mut self, frame: Frame)
         requires placed { IsPlaced (world self.old).setting.bytes frame.point }
         requires outer { All (λ f. f.events_len ≤ frame.events_len) (world self.old).frames }
-        ensures { world self.new ≡ record (world self.old) { events = take frame.events_len (world self.old).events; point = frame.point } }
+        ensures { world self.new ≡
+            record (world self.old) { events = take frame.events_len (world self.old).events; point = frame.point } }
     {
         self.events.truncate(frame.events_len);
         self.point = frame.point;
@@ -477,8 +545,8 @@ impl<'a> Tokenizer<'a> {
         self.limit = limit;
     }
 
-    /// Has the next line begin at `point`, behind the prefixes of its containers, and goes there if the tokenizer stands
-    /// at the line's first byte; or changes nothing.
+    /// Has the next line begin at `point`, behind the prefixes of its containers, and goes there if the tokenizer
+    /// stands at the line's first byte; or changes nothing.
     pub fn define_skip(&mut self, point: Point) -> Result<(), Message>
         requires { IsPlaced (world self.old).setting.bytes point }
         ensures { world self.new ≡ (if is_ok result then skipping (world self.old) point else world self.old) }
@@ -494,7 +562,12 @@ impl<'a> Tokenizer<'a> {
 
     /// Has a resolver run at the end, behind those that are registered; or changes nothing.
     pub fn register_resolver(&mut self, name: ResolveName) -> Result<(), Message>
-        ensures { world self.new ≡ record (world self.old) { resolvers = if is_ok result then registered (λ other. ⟦<ResolveName as PartialEq>⟧.eq other name) (world self.old).resolvers name else (world self.old).resolvers } }
+        ensures { world self.new ≡
+            record (world self.old) {
+              resolvers = if is_ok result
+                  then registered (λ other. ⟦<ResolveName as PartialEq>⟧.eq other name) (world self.old).resolvers name
+                  else (world self.old).resolvers;
+            } }
     {
         if self.resolvers.contains(&name) {
             return Ok(());
@@ -507,7 +580,13 @@ impl<'a> Tokenizer<'a> {
 
     /// Has a resolver run at the end, before those that are registered; or changes nothing.
     pub fn register_resolver_before(&mut self, name: ResolveName) -> Result<(), Message>
-        ensures { world self.new ≡ record (world self.old) { resolvers = if is_ok result then registered_before (λ other. ⟦<ResolveName as PartialEq>⟧.eq other name) (world self.old).resolvers name else (world self.old).resolvers } }
+        ensures { world self.new ≡
+            record (world self.old) {
+              resolvers = if is_ok result
+                  then registered_before (λ other. ⟦<ResolveName as PartialEq>⟧.eq other name)
+                  (world self.old).resolvers name
+                  else (world self.old).resolvers;
+            } }
     {
         if self.resolvers.contains(&name) {
             return Ok(());
@@ -520,7 +599,13 @@ impl<'a> Tokenizer<'a> {
 
     /// Opens a container in those that are open, or changes nothing.
     pub fn open(&mut self, container: Container) -> Result<(), Message>
-        ensures { world self.new ≡ record (world self.old) { flags = record (world self.old).flags { containers = if is_ok result then (world self.old).flags.containers ++ container ∷ [] else (world self.old).flags.containers } } }
+        ensures { world self.new ≡
+            record (world self.old) {
+              flags = record (world self.old).flags {
+                containers = if is_ok result
+                    then (world self.old).flags.containers ++ container ∷ [] else (world self.old).flags.containers;
+              };
+            } }
     {
         match self.containers.push(container) {
             Ok(()) => Ok(()),
@@ -528,7 +613,8 @@ impl<'a> Tokenizer<'a> {
         }
     }
 
-    /// Where containers end that end in front of the event at `at`: at its point, or at the tokenizer's if there is none.
+    /// Where containers end that end in front of the event at `at`: at its point, or at the tokenizer's if there is
+    /// none.
     fn end_point(&self, at: usize) -> Point
         ensures value { result ≡ point_of (drop at (world self.now).events) (world self.now).point }
         ensures placed { IsPlaced self.now.bytes.now result }
@@ -543,7 +629,11 @@ impl<'a> Tokenizer<'a> {
     /// Puts events in front of the one at `at`, or behind the last; or changes nothing.
     fn put(&mut self, at: usize, ends: &mut Vec<Event>) -> Result<(), Message>
         requires { All (λ e. IsPlaced (world self.old).setting.bytes e.point) ends.old.items }
-        ensures { world self.new ≡ record (world self.old) { events = if is_ok result then put at ends.old.items (world self.old).events else (world self.old).events } }
+        ensures { world self.new ≡
+            record (world self.old) {
+              events = if is_ok result then put at ends.old.items (world self.old).events
+                  else (world self.old).events;
+            } }
     {
         let at = at.min(self.events.len());
         let count = ends.len();
@@ -554,8 +644,8 @@ impl<'a> Tokenizer<'a> {
         Ok(())
     }
 
-    /// Ends the containers behind the first `keep`, the innermost first, in front of the event at `at` and at its point, or at
-    /// the tokenizer's point behind the last event; or changes nothing.
+    /// Ends the containers behind the first `keep`, the innermost first, in front of the event at `at` and at its
+    /// point, or at the tokenizer's point behind the last event; or changes nothing.
     pub fn close(&mut self, keep: usize, at: usize) -> Result<(), Message>
         ensures { world self.new ≡ (if is_ok result then closed (world self.old) keep at else world self.old) }
     {

@@ -18,10 +18,15 @@ pub record BlankFits (T : Scheme) : Type 1 where
 good_blank_start : (T : Scheme) (w : World) (x : Bool) → BlankFits T → rest_ready (spot w) (after_all T w.frames) →
     Does T (n.BlankLine its.Start) w (start_code w x)
 good_blank_start T w true has r =
-    white_try T blank_scheme _ (n.BlankLine its.After) w w.events w.scratch 1 any_size IsRest IsRest has.white (has.each its.Start) (has.each its.After) (rest-none w.scratch r.0) (λ some. rest-calm w.scratch r.0) r.1
-    (λ q t up way. (rest-calm w.scratch r.0, later_at _ _ (spot w) _ q t _ up way r.1)) (omega arith) (omega arith) (λ t up. omega arith) (omega arith)
-good_blank_start T w false has r =
-    (turns T blank_scheme _ _ w w.events w.scratch (has.each its.Start) (has.each its.After) r (omega arith) (omega arith), refl)
+    white_try T blank_scheme _ (n.BlankLine its.After) w w.events w.scratch 1 any_size IsRest IsRest has.white
+    (has.each its.Start) (has.each its.After) (rest-none w.scratch r.0) (λ some. rest-calm w.scratch r.0) r.1
+    (λ q t up way. (rest-calm w.scratch r.0, later_at _ _ (spot w) _ q t _ up way r.1)) (omega arith) (omega arith)
+    (λ t up. omega arith) (omega arith)
+good_blank_start T w false has r = (
+  turns T blank_scheme _ _ w w.events w.scratch (has.each its.Start) (has.each its.After) r (omega arith)
+      (omega arith),
+  refl,
+)
 
 good_blank_after : (T : Scheme) (w : World) (x : Bool) → BlankFits T → rest_ready (spot w) (after_all T w.frames) →
     Does T (n.BlankLine its.After) w (after_code w x)

@@ -23,8 +23,10 @@ pub record BomFits (T : Scheme) : Type 1 where
 good_bom_start : (T : Scheme) (w : World) (x : Bool) → BomFits T → rest_ready (spot w) (after_all T w.frames) →
     Does T (n.Bom its.Start) w (start_code w x)
 good_bom_start T w true has r = (
-  turns T bom_scheme _ (n.Bom its.Inside) w (entered w parts.ByteOrderMark).events w.scratch (has.each its.Start) (has.each its.Inside)
-      (record { size = omega (arith, rest-size w.scratch r.0); rest = rest-without w.scratch r.0 }, r.1) (omega arith) (omega arith),
+  turns T bom_scheme _ (n.Bom its.Inside) w (entered w parts.ByteOrderMark).events w.scratch (has.each its.Start)
+      (has.each its.Inside)
+      (record { size = omega (arith, rest-size w.scratch r.0); rest = rest-without w.scratch r.0 }, r.1) (omega arith)
+      (omega arith),
   refl,
 )
 good_bom_start T w false has r =
@@ -37,13 +39,19 @@ good_bom_inside : (T : Scheme) (w : World) (x y : Bool) → BomFits T →
 good_bom_inside T w true true has r e f =
     let inside = seen-in (spot w) (is_current (mark_at w.scratch.size)) refl e in
     let less : w.scratch.size < 2 = grind (arith, nat_tests) in (
-      consumes T bom_scheme _ _ w w.events _ (has.each its.Inside) (has.each its.Inside) inside
-          (record { size = omega (arith, less); rest = r.0.rest }, later _ _ (spot w) _ _ _ (takes w.setting w.point inside) r.1) (omega arith),
+      consumes T bom_scheme _ _ w w.events _ (has.each its.Inside) (has.each its.Inside) inside (
+        record { size = omega (arith, less); rest = r.0.rest },
+        later _ _ (spot w) _ _ _ (takes w.setting w.point inside) r.1,
+      )
+          (omega arith),
       refl,
     )
 good_bom_inside T w true false has r e f =
-    let inside = seen-in (spot w) (is_current (mark_at w.scratch.size)) refl e in
-    (accepts-behind T (n.Bom its.Inside) w _ _ (inside_code w true false).world.events (without_size w.scratch) inside r.1 r.0.rest, refl)
+    let inside = seen-in (spot w) (is_current (mark_at w.scratch.size)) refl e in (
+      accepts-behind T (n.Bom its.Inside) w _ _ (inside_code w true false).world.events
+          (without_size w.scratch) inside r.1 r.0.rest,
+      refl,
+    )
 good_bom_inside T w false y has r e f =
     (refuses T _ w _ _ w.events (without_size w.scratch) r.1 r.0.rest, refl)
 

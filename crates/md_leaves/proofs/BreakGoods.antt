@@ -10,7 +10,8 @@ use Rattle.md_engine.specs.World.{Setting, World, looks}
 use Rattle.md_engine.proofs.Falls.{later, later_at, seen_grows}
 use Rattle.md_engine.proofs.Local.{accepts, consumes, refuses, turns}
 use Rattle.md_engine.proofs.Points.{cells-grow, stays, takes}
-use Rattle.md_leaves.specs.Break.{at_break_code, before_code, break_ready, break_scheme, break_transition, is_marker, sequence_code, without_marker}
+use Rattle.md_leaves.specs.Break.{at_break_code, before_code, break_ready, break_scheme, break_transition, is_marker}
+use Rattle.md_leaves.specs.Break.{sequence_code, without_marker}
 use Rattle.md_seam.specs.Spaces.{IsRest, calmed, is_current, rest_ready, sees_white, any_size}
 use Rattle.md_seam.specs.Transition.{entered, exited}
 use Rattle.md_leaves.proofs.LeafStart.{FitsStart, good-start}
@@ -20,7 +21,8 @@ pub record BreakFits (T : Scheme) : Type 1 where
   pub white : WhiteFits T
   pub each : (state : BreakState) → Fits T break_scheme (n.ThematicBreak state)
 
-break-starts : (T : Scheme) → BreakFits T → FitsStart T break_scheme (n.ThematicBreak its.Start) (n.ThematicBreak its.Before)
+break-starts : (T : Scheme) → BreakFits T →
+    FitsStart T break_scheme (n.ThematicBreak its.Start) (n.ThematicBreak its.Before)
 break-starts T has = record {
   white = has.white;
   start_fits = has.each its.Start;
@@ -49,8 +51,13 @@ good_before T w (Some b) has r = go (is_marker b) refl
   where
     go : (x : Bool) → is_marker b ≡ x → Does T (n.ThematicBreak its.Before) w (before_code w (Some b))
     go true e = rw e (
-      (turns T break_scheme _ (n.ThematicBreak its.AtBreak) w w.events (record w.scratch { marker = b }) (has.each its.Before) (has.each its.AtBreak)
-          (record { marker = e; size = omega (arith, rest-size w.scratch r.0); rest = marked-rest w.scratch b r.0 }, later IsRest IsRest (spot w) (after_all T w.frames) w.point (record w.scratch { marker = b }) (stays w.setting.limit w.point) r.1) (omega arith) (low-rank (is_current b (seen (spot w))))),
+      (turns T break_scheme _ (n.ThematicBreak its.AtBreak) w w.events (record w.scratch { marker = b })
+          (has.each its.Before) (has.each its.AtBreak) (
+            record { marker = e; size = omega (arith, rest-size w.scratch r.0); rest = marked-rest w.scratch b r.0 },
+            later IsRest IsRest (spot w) (after_all T w.frames) w.point (record w.scratch { marker = b })
+                (stays w.setting.limit w.point) r.1,
+          )
+          (omega arith) (low-rank (is_current b (seen (spot w))))),
       refl,
     )
     go false e = rw e ((refuses T (n.ThematicBreak its.Before) w IsRest IsRest w.events w.scratch r.1 r.0), refl)
@@ -58,19 +65,24 @@ good_before T w (Some b) has r = go (is_marker b) refl
 good_at_break : (T : Scheme) (w : World) (x y : Bool) → BreakFits T →
     break_ready (n.ThematicBreak its.AtBreak) (spot w) (after_all T w.frames) →
     is_current w.scratch.marker (seen (spot w)) ≡ x → Does T (n.ThematicBreak its.AtBreak) w (at_break_code w x y)
-good_at_break T w true y has r e =
-    (turns T break_scheme _ _ w (entered w parts.ThematicBreakSequence).events w.scratch (has.each its.AtBreak) (has.each its.Sequence) r (omega arith) (rw e (omega arith)), refl)
+good_at_break T w true y has r e = (
+  turns T break_scheme _ _ w (entered w parts.ThematicBreakSequence).events w.scratch (has.each its.AtBreak)
+      (has.each its.Sequence) r (omega arith) (rw e (omega arith)),
+  refl,
+)
 good_at_break T w false true has r e =
     (accepts T _ w _ _ (exited w parts.ThematicBreak).events (without_marker w.scratch) r.1 r.0.rest, refl)
 good_at_break T w false false has r e =
     (refuses T _ w _ _ w.events (without_marker w.scratch) r.1 r.0.rest, refl)
 
 -- a space that is no marker here is none when more may be read
-still-none : (w : World) (t : Setting) → Grown w.setting t → is_current w.scratch.marker (seen (spot w)) ≡ false → sees_white (seen (spot w)) ≡ true →
+still-none : (w : World) (t : Setting) → Grown w.setting t → is_current w.scratch.marker (seen (spot w)) ≡ false →
+    sees_white (seen (spot w)) ≡ true →
     is_current w.scratch.marker (seen (spot_at t w.point (calmed w.scratch))) ≡ false
 still-none w t up e k = go (seen (spot w)) refl e k
   where
-    go : (o : Option ℕ) → seen (spot w) ≡ o → is_current w.scratch.marker o ≡ false → sees_white o ≡ true → is_current w.scratch.marker (seen (spot_at t w.point (calmed w.scratch))) ≡ false
+    go : (o : Option ℕ) → seen (spot w) ≡ o → is_current w.scratch.marker o ≡ false → sees_white o ≡ true →
+        is_current w.scratch.marker (seen (spot_at t w.point (calmed w.scratch))) ≡ false
     go None is e k = cc
     go (Some b) is e k = ap (is_current w.scratch.marker) (seen_grows (spot w) t (calmed w.scratch) b up is) ∙ e
 
@@ -88,17 +100,33 @@ good_sequence : (T : Scheme) (w : World) (x y : Bool) → BreakFits T →
     Does T (n.ThematicBreak its.Sequence) w (sequence_code w x y)
 good_sequence T w true y has r e k =
     let inside = seen-in (spot w) (is_current w.scratch.marker) refl e in (
-      consumes T break_scheme _ _ w w.events _ (has.each its.Sequence) (has.each its.Sequence) inside
-          (record { marker = r.0.marker; size = omega (arith, r.0.size, cells-grow w.setting w.point); rest = r.0.rest }, later _ _ (spot w) _ _ _ (takes w.setting w.point inside) r.1) (omega arith),
+      consumes T break_scheme _ _ w w.events _ (has.each its.Sequence) (has.each its.Sequence) inside (
+        record {
+          marker = r.0.marker;
+          size = omega (arith, r.0.size, cells-grow w.setting w.point);
+          rest = r.0.rest;
+        },
+        later _ _ (spot w) _ _ _ (takes w.setting w.point inside) r.1,
+      )
+          (omega arith),
       refl,
     )
 good_sequence T w false true has r e k =
     let calm = marked-calm w.scratch r.0.rest in
-    white_try T break_scheme _ (n.ThematicBreak its.AtBreak) w (exited w parts.ThematicBreakSequence).events w.scratch 0 any_size IsRest IsRest has.white (has.each its.Sequence) (has.each its.AtBreak) (marked-none w.scratch r.0.rest) (λ some. absurd (omega arith)) r.1
-    (λ q t up way. (record { marker = r.0.marker; size = omega (arith, r.0.size, way.before); rest = ap calmed r.0.rest }, later_at _ _ (spot w) _ q t _ up way r.1))
+    white_try T break_scheme _ (n.ThematicBreak its.AtBreak) w
+    (exited w parts.ThematicBreakSequence).events w.scratch 0 any_size IsRest IsRest has.white
+    (has.each its.Sequence) (has.each its.AtBreak) (marked-none w.scratch r.0.rest)
+    (λ some. absurd (omega arith)) r.1
+    (λ q t up way. (
+      record { marker = r.0.marker; size = omega (arith, r.0.size, way.before); rest = ap calmed r.0.rest },
+      later_at _ _ (spot w) _ q t _ up way r.1,
+    ))
     (omega arith) (omega arith) (λ t up. rw (still-none w t up e k) (omega arith)) (rw e (omega arith))
-good_sequence T w false false has r e k =
-    (turns T break_scheme _ _ w (exited w parts.ThematicBreakSequence).events w.scratch (has.each its.Sequence) (has.each its.AtBreak) r (omega arith) (rw e (omega arith)), refl)
+good_sequence T w false false has r e k = (
+  turns T break_scheme _ _ w (exited w parts.ThematicBreakSequence).events w.scratch (has.each its.Sequence)
+      (has.each its.AtBreak) r (omega arith) (rw e (omega arith)),
+  refl,
+)
 
 -- each state of a break
 pub break_does : (T : Scheme) (state : BreakState) (w : World) → BreakFits T → w.current ≡ looks w →

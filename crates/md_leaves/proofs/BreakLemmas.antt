@@ -1,5 +1,6 @@
 -- What is left of a break, cell by cell.
-use Rattle.std.proofs.Common.{◌≡◌, ℕ, ◌+◌, Bool, true, false, cond, nat_eq, List, [], ◌∷◌, ◌++◌, refl, sym, ◌∙◌, arith, append_assoc, append-nil}
+use Rattle.std.proofs.Common.{◌≡◌, ℕ, ◌+◌, Bool, true, false, cond, nat_eq, List, [], ◌∷◌, ◌++◌, refl, sym, ◌∙◌, arith}
+use Rattle.std.proofs.Common.{append_assoc, append-nil}
 use Rattle.std.specs.Prelude.{count_by, nat_le}
 use Rattle.std.proofs.lemmas.Bool.{eqb-true}
 use Rattle.std.proofs.lemmas.Bool.Decides.{nat_tests}
@@ -27,8 +28,10 @@ unfolding marks
 marks-other m b bs e = sum_by-cons (λ (x : ℕ). cond (nat_eq x m) 1 0) b bs ∙ rw e (omega arith)
 
 -- one marker more
-pub in_break-mark : (c : Cell) (cs : List Cell) (h : Here) → nat_eq c.byte h.scratch.marker ≡ true → nat_eq c.byte 10 ≡ false →
-    in_break Marks (c ∷ cs) h ≡ in_break Marks cs (record h { point = c.after; scratch = record h.scratch { size = h.scratch.size + 1 } })
+pub in_break-mark : (c : Cell) (cs : List Cell) (h : Here) → nat_eq c.byte h.scratch.marker ≡ true →
+    nat_eq c.byte 10 ≡ false →
+    in_break Marks (c ∷ cs) h ≡
+    in_break Marks cs (record h { point = c.after; scratch = record h.scratch { size = h.scratch.size + 1 } })
 unfolding in_break
 in_break-mark c cs h is ending =
     let m = h.scratch.marker in
@@ -37,13 +40,16 @@ in_break-mark c cs h is ending =
     rw (ending, is, marks-one m c.byte (line_bytes cs) is, sum) refl
 
 -- one column of whitespace more
-in_break-white : (c : Cell) (cs : List Cell) (h : Here) → nat_eq c.byte h.scratch.marker ≡ false → is_white c.byte ≡ true → nat_eq c.byte 10 ≡ false →
+in_break-white : (c : Cell) (cs : List Cell) (h : Here) → nat_eq c.byte h.scratch.marker ≡ false →
+    is_white c.byte ≡ true → nat_eq c.byte 10 ≡ false →
     in_break White (c ∷ cs) h ≡ in_break White cs (record h { point = c.after })
 unfolding in_break
-in_break-white c cs h is white ending = rw (ending, is, marks-other h.scratch.marker c.byte (line_bytes cs) is, white) refl
+in_break-white c cs h is white ending =
+    rw (ending, is, marks-other h.scratch.marker c.byte (line_bytes cs) is, white) refl
 
 -- a line with something else is no break
-pub in_break-other : (run : Run) (c : Cell) (cs : List Cell) (h : Here) → nat_eq c.byte h.scratch.marker ≡ false → is_white c.byte ≡ false → nat_eq c.byte 10 ≡ false →
+pub in_break-other : (run : Run) (c : Cell) (cs : List Cell) (h : Here) → nat_eq c.byte h.scratch.marker ≡ false →
+    is_white c.byte ≡ false → nat_eq c.byte 10 ≡ false →
     in_break run (c ∷ cs) h ≡ Refuses (without_marker h.scratch) h.flags
 unfolding in_break
 in_break-other run c cs h is white ending = rw (ending, is, white) refl
@@ -69,39 +75,50 @@ unfolding in_break
 white-ends c cs h k = go (nat_eq c.byte 10) (nat_eq c.byte h.scratch.marker) refl refl
   where
     go : (x y : Bool) → nat_eq c.byte 10 ≡ x → nat_eq c.byte h.scratch.marker ≡ y →
-        in_break White (c ∷ cs) h ≡ in_break Apart (c ∷ cs) (record h { events = h.events ++ exit SpaceOrTab h.point ∷ [] })
+        in_break White (c ∷ cs) h ≡
+        in_break Apart (c ∷ cs) (record h { events = h.events ++ exit SpaceOrTab h.point ∷ [] })
     go true y e f = rw (e, append-nil) refl
     go false true e f = rw (e, f) (simp append_assoc)
     go false false e f = in_break-other White c cs h f k e ∙ sym (in_break-other Apart c cs _ f k e)
 
 -- where markers end and no whitespace stands
-pub marks-end : (c : Cell) (cs : List Cell) (h : Here) → is_white c.byte ≡ false → nat_eq c.byte h.scratch.marker ≡ false →
-    in_break Marks (c ∷ cs) h ≡ in_break Apart (c ∷ cs) (record h { events = h.events ++ exit ThematicBreakSequence h.point ∷ [] })
+pub marks-end : (c : Cell) (cs : List Cell) (h : Here) → is_white c.byte ≡ false →
+    nat_eq c.byte h.scratch.marker ≡ false →
+    in_break Marks (c ∷ cs) h ≡
+    in_break Apart (c ∷ cs) (record h { events = h.events ++ exit ThematicBreakSequence h.point ∷ [] })
 unfolding in_break
 marks-end c cs h k f = go (nat_eq c.byte 10) refl
   where
     go : (x : Bool) → nat_eq c.byte 10 ≡ x →
-        in_break Marks (c ∷ cs) h ≡ in_break Apart (c ∷ cs) (record h { events = h.events ++ exit ThematicBreakSequence h.point ∷ [] })
+        in_break Marks (c ∷ cs) h ≡
+        in_break Apart (c ∷ cs) (record h { events = h.events ++ exit ThematicBreakSequence h.point ∷ [] })
     go true e = rw (e, append-nil) refl
     go false e = in_break-other Marks c cs h f k e ∙ sym (in_break-other Apart c cs _ f k e)
 
-pub marks-at_none : (h : Here) → in_break Marks [] h ≡ in_break Apart [] (record h { events = h.events ++ exit ThematicBreakSequence h.point ∷ [] })
+pub marks-at_none : (h : Here) →
+    in_break Marks [] h ≡ in_break Apart [] (record h { events = h.events ++ exit ThematicBreakSequence h.point ∷ [] })
 unfolding in_break
 marks-at_none h = rw append-nil refl
 
-white-at_none : (h : Here) → in_break White [] h ≡ in_break Apart [] (record h { events = h.events ++ exit SpaceOrTab h.point ∷ [] })
+white-at_none : (h : Here) →
+    in_break White [] h ≡ in_break Apart [] (record h { events = h.events ++ exit SpaceOrTab h.point ∷ [] })
 unfolding in_break
 white-at_none h = rw append-nil refl
 
 -- from markers to whitespace
-pub marks-white : (c : Cell) (cs : List Cell) (h : Here) → is_white c.byte ≡ true → nat_eq c.byte h.scratch.marker ≡ false →
-    in_break Marks (c ∷ cs) h ≡ in_break White (c ∷ cs) (record h { events = h.events ++ exit ThematicBreakSequence h.point ∷ [] ++ enter SpaceOrTab h.point ∷ [] })
+pub marks-white : (c : Cell) (cs : List Cell) (h : Here) → is_white c.byte ≡ true →
+    nat_eq c.byte h.scratch.marker ≡ false →
+    in_break Marks (c ∷ cs) h ≡
+    in_break White (c ∷ cs)
+    (record h { events = h.events ++ exit ThematicBreakSequence h.point ∷ [] ++ enter SpaceOrTab h.point ∷ [] })
 unfolding in_break
 marks-white c cs h s f = rw (white-no_ending c.byte s, f, s) (simp append_assoc)
 
 -- from between runs to markers
-pub apart-mark : (c : Cell) (cs : List Cell) (h : Here) → nat_eq c.byte h.scratch.marker ≡ true → nat_eq c.byte 10 ≡ false →
-    in_break Apart (c ∷ cs) h ≡ in_break Marks (c ∷ cs) (record h { events = h.events ++ enter ThematicBreakSequence h.point ∷ [] })
+pub apart-mark : (c : Cell) (cs : List Cell) (h : Here) → nat_eq c.byte h.scratch.marker ≡ true →
+    nat_eq c.byte 10 ≡ false →
+    in_break Apart (c ∷ cs) h ≡
+    in_break Marks (c ∷ cs) (record h { events = h.events ++ enter ThematicBreakSequence h.point ∷ [] })
 unfolding in_break
 apart-mark c cs h is e = rw (e, is) (simp append_assoc)
 
@@ -109,7 +126,8 @@ apart-mark c cs h is e = rw (e, is) (simp append_assoc)
 pub takes-white : TakesWhite (λ s. is_white s.marker ≡ false) (in_break White) at_break
 unfolding at_break
 takes-white = record {
-  more = λ c cs h apart s. in_break-white c cs h (white-apart c.byte h.scratch.marker s apart) s (white-no_ending c.byte s);
+  more =
+      λ c cs h apart s. in_break-white c cs h (white-apart c.byte h.scratch.marker s apart) s (white-no_ending c.byte s);
   stop = λ c cs h apart k. white-ends c cs h k ∙ rw k refl;
   none = λ h apart. white-at_none h;
 }
@@ -131,9 +149,18 @@ pub before-mark : (c : Cell) (cs : List Cell) (h : Here) → is_marker c.byte �
 unfolding before_marker in_break
 before-mark c cs h mark none =
     let same : nat_eq c.byte c.byte ≡ true = grind (arith, nat_tests) in
-    rw (marker-no_ending c.byte mark, mark, none, marks-one c.byte c.byte (line_bytes cs) same, same, three-of (marks c.byte (line_bytes cs)), counted c.byte (line_bytes cs)) refl
+    rw (
+      marker-no_ending c.byte mark,
+      mark,
+      none,
+      marks-one c.byte c.byte (line_bytes cs) same,
+      same,
+      three-of (marks c.byte (line_bytes cs)),
+      counted c.byte (line_bytes cs),
+    ) refl
 
-pub before-other : (c : Cell) (cs : List Cell) (h : Here) → is_marker c.byte ≡ false → before_marker (c ∷ cs) h ≡ Refuses (without_marker h.scratch) h.flags
+pub before-other : (c : Cell) (cs : List Cell) (h : Here) → is_marker c.byte ≡ false →
+    before_marker (c ∷ cs) h ≡ Refuses (without_marker h.scratch) h.flags
 unfolding before_marker
 before-other c cs h mark = go (nat_eq c.byte 10) refl
   where

@@ -1,5 +1,6 @@
 -- Each state of a thematic break takes one step of its rule.
-use Rattle.std.proofs.Common.{◌≡◌, ℕ, Bool, true, false, ◌&&◌, nat_eq, List, [], ◌∷◌, ◌++◌, Option, Some, None, refl, sym, ◌∙◌, ap, arith, append-nil, add-zero}
+use Rattle.std.proofs.Common.{◌≡◌, ℕ, Bool, true, false, ◌&&◌, nat_eq, List, [], ◌∷◌, ◌++◌, Option, Some, None, refl}
+use Rattle.std.proofs.Common.{sym, ◌∙◌, ap, arith, append-nil, add-zero}
 use Rattle.std.specs.Prelude.{nat_le}
 use Rattle.std.proofs.lemmas.Bool.{eqb-true}
 use Rattle.md_engine.specs.declared.configuration.ParseOptions.{ParseOptions}
@@ -16,9 +17,12 @@ use Rattle.md_engine.specs.Meaning.{Accepts, Behaviour, Cell, Feed, Here, Refuse
 use Rattle.md_engine.specs.Scheme.{After, spot}
 use Rattle.md_engine.specs.World.{World, after}
 use Rattle.md_engine.proofs.StepOf.{Sees, ahead, begins, cell_here, moves, passes}
-use Rattle.md_leaves.specs.Break.{at_break_code, before_code, break_ready, break_transition, is_marker, sequence_code, without_marker}
+use Rattle.md_leaves.specs.Break.{at_break_code, before_code, break_ready, break_transition, is_marker, sequence_code}
+use Rattle.md_leaves.specs.Break.{without_marker}
 use Rattle.md_leaves.specs.BreakRule.{Apart, HasBreak, Marks, White, at_break, before_marker, in_break}
-use Rattle.md_leaves.proofs.BreakLemmas.{apart-mark, before-mark, before-other, in_break-mark, in_break-other, marker-no_ending, marker-no_white, marks-at_none, marks-end, marks-none, marks-white, takes-white}
+use Rattle.md_leaves.proofs.BreakLemmas.{apart-mark, before-mark, before-other, in_break-mark, in_break-other}
+use Rattle.md_leaves.proofs.BreakLemmas.{marker-no_ending, marker-no_white, marks-at_none, marks-end, marks-none}
+use Rattle.md_leaves.proofs.BreakLemmas.{marks-white, takes-white}
 use Rattle.md_leaves.proofs.BreakGoods.{marked-calm}
 use Rattle.md_leaves.proofs.LeafStart.{HasStart, start-steps}
 use Rattle.md_leaves.proofs.LeafSteps.{sees-one, white_frame, behind-joined, white-run}
@@ -28,11 +32,15 @@ use Rattle.md_definition.specs.Rest.{is_white}
 use Rattle.md_seam.specs.Spaces.{IsRest, any_size, ends_line, is_current, sees_white}
 use Rattle.md_seam.proofs.WhiteSteps.{begins-seen, white-tried}
 
-sees-other_white : (feed : Feed) (w : World) (m : ℕ) → Sees feed w → is_current m w.current ≡ false → sees_white w.current ≡ true →
-    (b : ℕ) × (feed w.point ≡ cell_here feed w b ∷ feed (after w.setting w.point)) × (nat_eq b m ≡ false) × (is_white b ≡ true)
+sees-other_white : (feed : Feed) (w : World) (m : ℕ) → Sees feed w → is_current m w.current ≡ false →
+    sees_white w.current ≡ true →
+    (b : ℕ) × (feed w.point ≡ cell_here feed w b ∷ feed (after w.setting w.point)) × (nat_eq b m ≡ false) ×
+    (is_white b ≡ true)
 sees-other_white feed w m s e f = go w.current e f s.next
   where
-    go : (o : Option ℕ) → is_current m o ≡ false → sees_white o ≡ true → feed w.point ≡ ahead feed w o → (b : ℕ) × (feed w.point ≡ cell_here feed w b ∷ feed (after w.setting w.point)) × (nat_eq b m ≡ false) × (is_white b ≡ true)
+    go : (o : Option ℕ) → is_current m o ≡ false → sees_white o ≡ true → feed w.point ≡ ahead feed w o →
+        (b : ℕ) × (feed w.point ≡ cell_here feed w b ∷ feed (after w.setting w.point)) × (nat_eq b m ≡ false) ×
+        (is_white b ≡ true)
     go None e f k = cc
     go (Some b) e f k = (b, k, e, f)
 
@@ -40,15 +48,23 @@ abbrev behind_marks : Here → Here
 behind_marks h = record h { events = h.events ++ exit parts.ThematicBreakSequence h.point ∷ [] }
 
 -- neither a marker nor whitespace stands here
-marks-stop : (feed : Feed) (w : World) (h : Here) (o : Option ℕ) → is_current h.scratch.marker o ≡ false → sees_white o ≡ false → in_break Marks (ahead feed w o) h ≡ at_break (ahead feed w o) (behind_marks h)
+marks-stop : (feed : Feed) (w : World) (h : Here) (o : Option ℕ) → is_current h.scratch.marker o ≡ false →
+    sees_white o ≡ false → in_break Marks (ahead feed w o) h ≡ at_break (ahead feed w o) (behind_marks h)
 unfolding at_break
 marks-stop feed w h None e f = marks-at_none h
 marks-stop feed w h (Some b) e f = marks-end (cell_here feed w b) (feed (after w.setting w.point)) h f e ∙ rw f refl
 
-to-white : (cells : List Cell) (c : Cell) (cs : List Cell) (h : Here) → cells ≡ c ∷ cs → is_white c.byte ≡ true → nat_eq c.byte h.scratch.marker ≡ false →
-    in_break Marks cells h ≡ in_break White cells (record h { events = h.events ++ exit parts.ThematicBreakSequence h.point ∷ [] ++ enter SpaceOrTab h.point ∷ [] })
+to-white : (cells : List Cell) (c : Cell) (cs : List Cell) (h : Here) → cells ≡ c ∷ cs → is_white c.byte ≡ true →
+    nat_eq c.byte h.scratch.marker ≡ false →
+    in_break Marks cells h ≡
+    in_break White cells
+    (record h { events = h.events ++ exit parts.ThematicBreakSequence h.point ∷ [] ++ enter SpaceOrTab h.point ∷ [] })
 to-white cells c cs h e s k = ap (λ (x : List Cell). in_break Marks x h) e ∙ marks-white c cs h s k
-    ∙ ap (λ (x : List Cell). in_break White x (record h { events = h.events ++ exit parts.ThematicBreakSequence h.point ∷ [] ++ enter SpaceOrTab h.point ∷ [] })) (sym e)
+    ∙ ap
+    (λ (x : List Cell).
+    in_break White x
+    (record h { events = h.events ++ exit parts.ThematicBreakSequence h.point ∷ [] ++ enter SpaceOrTab h.point ∷ [] }))
+    (sym e)
 
 sequence_steps : (B : Behaviour) (options : ParseOptions) (feed : Feed) (w : World) (x y : Bool) → HasBreak B options →
     Sees feed w → IsRest (without_marker w.scratch) → is_marker w.scratch.marker ≡ true →
@@ -56,53 +72,81 @@ sequence_steps : (B : Behaviour) (options : ParseOptions) (feed : Feed) (w : Wor
     Steps B feed (Next (n.ThematicBreak its.Sequence)) w (sequence_code w x y).to (sequence_code w x y).world
 sequence_steps B options feed w true y has s r mark e f =
     let saw = sees-one feed w (is_current w.scratch.marker) refl s e in
-    let ending : nat_eq saw.0 10 ≡ false = rw (eqb-true saw.0 w.scratch.marker saw.2) (marker-no_ending w.scratch.marker mark) in
+    let ending : nat_eq saw.0 10 ≡
+    false = rw (eqb-true saw.0 w.scratch.marker saw.2) (marker-no_ending w.scratch.marker mark) in
     passes B feed _ _ w (sequence_code w true y).world refl refl
     (has.each its.Sequence _ _ ∙ ap (λ (x : List Cell). in_break Marks x (here w)) saw.1
-    ∙ in_break-mark (cell_here feed w saw.0) (feed (after w.setting w.point)) (here w) saw.2 ending ∙ sym (has.each its.Sequence _ _))
+    ∙ in_break-mark (cell_here feed w saw.0) (feed (after w.setting w.point)) (here w) saw.2 ending
+    ∙ sym (has.each its.Sequence _ _))
 sequence_steps B options feed w false true has s r mark e f =
     let saw = sees-other_white feed w w.scratch.marker s e f in
     let h : Here = behind_marks (here w) in
     let frame : Frame = white_frame (Next (n.ThematicBreak its.AtBreak)) w h.events in
-    begins B feed _ _ w (sequence_code w false true).world (exit parts.ThematicBreakSequence w.point ∷ []) frame refl refl
+    begins B feed _ _ w (sequence_code w false true).world
+    (exit parts.ThematicBreakSequence w.point ∷ []) frame refl refl
     (has.each its.Sequence _ _
     ∙ to-white (feed w.point) (cell_here feed w saw.0) (feed (after w.setting w.point)) (here w) saw.1 saw.3 saw.2
-    ∙ white-run _ (in_break White) at_break any_size (feed w.point) (record h { events = h.events ++ enter SpaceOrTab h.point ∷ [] }) takes-white (marker-no_white w.scratch.marker mark) (omega (arith, s.short))
-    ∙ ap (at_break (white_rest any_size (feed w.point))) (behind-joined any_size (feed w.point) h (marked-calm w.scratch r))
+    ∙ white-run _ (in_break White) at_break any_size (feed w.point)
+    (record h { events = h.events ++ enter SpaceOrTab h.point ∷ [] }) takes-white
+    (marker-no_white w.scratch.marker mark) (omega (arith, s.short))
+    ∙ ap (at_break (white_rest any_size (feed w.point)))
+    (behind-joined any_size (feed w.point) h (marked-calm w.scratch r))
     ∙ sym (has.each its.AtBreak _ _)
-    ∙ white-tried B feed frame h.events (feed w.point) h 0 any_size has.white (begins-seen feed w s ∙ f) (omega arith) (omega arith) refl)
+    ∙ white-tried B feed frame h.events (feed w.point) h 0 any_size has.white (begins-seen feed w s ∙ f) (omega arith)
+    (omega arith) refl)
 sequence_steps B options feed w false false has s r mark e f =
     moves B feed _ _ w (sequence_code w false false).world (exit parts.ThematicBreakSequence w.point ∷ []) refl refl
     (has.each its.Sequence _ _ ∙ ap (λ (x : List Cell). in_break Marks x (here w)) s.next
-    ∙ marks-stop feed w (here w) w.current e f ∙ ap (λ (x : List Cell). at_break x (behind_marks (here w))) (sym s.next) ∙ sym (has.each its.AtBreak _ _))
+    ∙ marks-stop feed w (here w) w.current e f ∙ ap (λ (x : List Cell). at_break x (behind_marks (here w))) (sym s.next)
+    ∙ sym (has.each its.AtBreak _ _))
 
 -- no whitespace stands before a marker
-at_break-mark : (c : Cell) (cs : List Cell) (h : Here) → nat_eq c.byte h.scratch.marker ≡ true → is_marker h.scratch.marker ≡ true →
-    at_break (c ∷ cs) h ≡ in_break Marks (c ∷ cs) (record h { events = h.events ++ enter parts.ThematicBreakSequence h.point ∷ [] })
+at_break-mark : (c : Cell) (cs : List Cell) (h : Here) → nat_eq c.byte h.scratch.marker ≡ true →
+    is_marker h.scratch.marker ≡ true →
+    at_break (c ∷ cs) h ≡
+    in_break Marks (c ∷ cs) (record h { events = h.events ++ enter parts.ThematicBreakSequence h.point ∷ [] })
 unfolding at_break
 at_break-mark c cs h is mark =
-    let white : is_white c.byte ≡ false = rw (eqb-true c.byte h.scratch.marker is) (marker-no_white h.scratch.marker mark) in
-    let ending : nat_eq c.byte 10 ≡ false = rw (eqb-true c.byte h.scratch.marker is) (marker-no_ending h.scratch.marker mark) in
+    let white : is_white c.byte ≡
+    false = rw (eqb-true c.byte h.scratch.marker is) (marker-no_white h.scratch.marker mark) in
+    let ending : nat_eq c.byte 10 ≡
+    false = rw (eqb-true c.byte h.scratch.marker is) (marker-no_ending h.scratch.marker mark) in
     rw white (apart-mark c cs h is ending)
 
 at_break-end : (feed : Feed) (w : World) (h : Here) (o : Option ℕ) → ends_line o && nat_le 3 h.scratch.size ≡ true →
-    at_break (ahead feed w o) h ≡ Accepts (record h { events = h.events ++ exit ThematicBreak h.point ∷ []; scratch = without_marker h.scratch; flags = record h.flags { leaf = held_leaf.None } }) (ahead feed w o)
+    at_break (ahead feed w o) h ≡
+    Accepts
+    (record h {
+      events = h.events ++ exit ThematicBreak h.point ∷ [];
+      scratch = without_marker h.scratch;
+      flags = record h.flags { leaf = held_leaf.None };
+    })
+    (ahead feed w o)
 unfolding at_break in_break
 at_break-end feed w h None e = rw (marks-none, add-zero, e, append-nil) refl
 at_break-end feed w h (Some b) e = go (nat_eq b 10) refl e
   where
     go : (x : Bool) → nat_eq b 10 ≡ x → x && nat_le 3 h.scratch.size ≡ true →
-        at_break (ahead feed w (Some b)) h ≡ Accepts (record h { events = h.events ++ exit ThematicBreak h.point ∷ []; scratch = without_marker h.scratch; flags = record h.flags { leaf = held_leaf.None } }) (ahead feed w (Some b))
+        at_break (ahead feed w (Some b)) h ≡
+        Accepts
+        (record h {
+          events = h.events ++ exit ThematicBreak h.point ∷ [];
+          scratch = without_marker h.scratch;
+          flags = record h.flags { leaf = held_leaf.None };
+        })
+        (ahead feed w (Some b))
     go true is e = let ten : b ≡ 10 = eqb-true b 10 is in rw (ten, marks-none, add-zero, e, append-nil) refl
     go false is e = cc
 
-at_break-no : (feed : Feed) (w : World) (h : Here) (o : Option ℕ) → is_current h.scratch.marker o ≡ false → ends_line o && nat_le 3 h.scratch.size ≡ false →
+at_break-no : (feed : Feed) (w : World) (h : Here) (o : Option ℕ) → is_current h.scratch.marker o ≡ false →
+    ends_line o && nat_le 3 h.scratch.size ≡ false →
     at_break (ahead feed w o) h ≡ Refuses (without_marker h.scratch) h.flags
 unfolding at_break in_break
 at_break-no feed w h None k e = rw (marks-none, add-zero, e) refl
 at_break-no feed w h (Some b) k e = go (is_white b) (nat_eq b 10) refl refl e
   where
-    go : (x y : Bool) → is_white b ≡ x → nat_eq b 10 ≡ y → y && nat_le 3 h.scratch.size ≡ false → at_break (ahead feed w (Some b)) h ≡ Refuses (without_marker h.scratch) h.flags
+    go : (x y : Bool) → is_white b ≡ x → nat_eq b 10 ≡ y → y && nat_le 3 h.scratch.size ≡ false →
+        at_break (ahead feed w (Some b)) h ≡ Refuses (without_marker h.scratch) h.flags
     go true y s t e = rw s refl
     go false true s t e = let ten : b ≡ 10 = eqb-true b 10 t in rw (ten, marks-none, add-zero, e) refl
     go false false s t e = rw s (in_break-other Apart (cell_here feed w b) (feed (after w.setting w.point)) h k s t)
@@ -116,19 +160,25 @@ at_break_steps B options feed w true y has s mark e f =
     moves B feed _ _ w (at_break_code w true y).world (enter parts.ThematicBreakSequence w.point ∷ []) refl refl
     (has.each its.AtBreak _ _ ∙ ap (λ (x : List Cell). at_break x (here w)) saw.1
     ∙ at_break-mark (cell_here feed w saw.0) (feed (after w.setting w.point)) (here w) saw.2 mark
-    ∙ ap (λ (x : List Cell). in_break Marks x (record (here w) { events = w.events ++ enter parts.ThematicBreakSequence w.point ∷ [] })) (sym saw.1) ∙ sym (has.each its.Sequence _ _))
+    ∙ ap
+    (λ (x : List Cell).
+    in_break Marks x (record (here w) { events = w.events ++ enter parts.ThematicBreakSequence w.point ∷ [] }))
+    (sym saw.1)
+    ∙ sym (has.each its.Sequence _ _))
 at_break_steps B options feed w false true has s mark e f =
     moves B feed _ _ w (at_break_code w false true).world (exit ThematicBreak w.point ∷ []) refl refl
     (has.each its.AtBreak _ _ ∙ rw s.next (at_break-end feed w (here w) w.current f))
 at_break_steps B options feed w false false has s mark e f =
-    passes B feed _ _ w (at_break_code w false false).world refl refl (has.each its.AtBreak _ _ ∙ rw s.next (at_break-no feed w (here w) w.current e f))
+    passes B feed _ _ w (at_break_code w false false).world refl refl
+    (has.each its.AtBreak _ _ ∙ rw s.next (at_break-no feed w (here w) w.current e f))
 
 before-none : (h : Here) → before_marker [] h ≡ Refuses (without_marker h.scratch) h.flags
 unfolding before_marker
 before-none h = refl
 
 -- between two runs, where the marker stands
-at_break-apart : (c : Cell) (cs : List Cell) (h : Here) → is_marker c.byte ≡ true → in_break Apart (c ∷ cs) h ≡ at_break (c ∷ cs) h
+at_break-apart : (c : Cell) (cs : List Cell) (h : Here) → is_marker c.byte ≡ true →
+    in_break Apart (c ∷ cs) h ≡ at_break (c ∷ cs) h
 unfolding at_break
 at_break-apart c cs h mark = rw (marker-no_white c.byte mark) refl
 
@@ -140,25 +190,37 @@ before_steps B options feed w has s r = go w.current s.next
     rest : without_marker w.scratch ≡ w.scratch
     rest = ap without_marker r ∙ sym r
 
-    refused : before_marker (feed w.point) (here w) ≡ Refuses (without_marker w.scratch) w.flags → Steps B feed (Next (n.ThematicBreak its.Before)) w Nok w
-    refused e = passes B feed _ Nok w w refl refl (has.each its.Before _ _ ∙ e ∙ ap (λ (x : Scratch). Refuses x w.flags) rest)
+    refused : before_marker (feed w.point) (here w) ≡ Refuses (without_marker w.scratch) w.flags →
+        Steps B feed (Next (n.ThematicBreak its.Before)) w Nok w
+    refused e =
+        passes B feed _ Nok w w refl refl (has.each its.Before _ _ ∙ e ∙ ap (λ (x : Scratch). Refuses x w.flags) rest)
 
-    go : (o : Option ℕ) → feed w.point ≡ ahead feed w o → Steps B feed (Next (n.ThematicBreak its.Before)) w (before_code w o).to (before_code w o).world
+    go : (o : Option ℕ) → feed w.point ≡ ahead feed w o →
+        Steps B feed (Next (n.ThematicBreak its.Before)) w (before_code w o).to (before_code w o).world
     go None e = refused (ap (λ (x : List Cell). before_marker x (here w)) e ∙ before-none (here w))
     go (Some b) e = by (is_marker b) refl
       where
-        by : (x : Bool) → is_marker b ≡ x → Steps B feed (Next (n.ThematicBreak its.Before)) w (before_code w (Some b)).to (before_code w (Some b)).world
+        by : (x : Bool) → is_marker b ≡ x →
+            Steps B feed (Next (n.ThematicBreak its.Before)) w (before_code w (Some b)).to
+            (before_code w (Some b)).world
         by true k =
             let c = cell_here feed w b in
             let cs = feed (after w.setting w.point) in
             let h : Here = record (here w) { scratch = record w.scratch { marker = b } } in
-            rw k (passes B feed _ (Retry (n.ThematicBreak its.AtBreak)) w (record w { scratch = record w.scratch { marker = b } }) refl refl
-            (has.each its.Before _ _ ∙ ap (λ (x : List Cell). before_marker x (here w)) e ∙ before-mark c cs (here w) k (ap (λ (t : Scratch). t.size) r)
+            rw k (passes B feed _ (Retry (n.ThematicBreak its.AtBreak)) w
+            (record w { scratch = record w.scratch { marker = b } }) refl refl
+            (has.each its.Before _ _ ∙ ap (λ (x : List Cell). before_marker x (here w)) e ∙ before-mark c cs (here w) k
+            (ap (λ (t : Scratch). t.size) r)
             ∙ at_break-apart c cs h k ∙ ap (λ (x : List Cell). at_break x h) (sym e) ∙ sym (has.each its.AtBreak _ _)))
-        by false k = rw k (refused (ap (λ (x : List Cell). before_marker x (here w)) e ∙ before-other (cell_here feed w b) (feed (after w.setting w.point)) (here w) k))
+        by false k =
+            rw k
+            (refused
+            (ap (λ (x : List Cell). before_marker x (here w)) e
+            ∙ before-other (cell_here feed w b) (feed (after w.setting w.point)) (here w) k))
 
 has_start : (B : Behaviour) (options : ParseOptions) → HasBreak B options →
-    HasStart B options parts.ThematicBreak options.constructs.thematic_break before_marker (n.ThematicBreak its.Start) (n.ThematicBreak its.Before)
+    HasStart B options parts.ThematicBreak options.constructs.thematic_break before_marker (n.ThematicBreak its.Start)
+    (n.ThematicBreak its.Before)
 has_start B options has = record { white = has.white; start_is = has.each its.Start; next_is = has.each its.Before }
 
 -- each state of a break takes one step of what it means

@@ -1,5 +1,6 @@
 -- The start of a leaf behind a small indent takes one step of its rule, and stands in any table that has its states.
-use Rattle.std.proofs.Common.{◌≡◌, ℕ, ◌<◌, ◌≤◌, ◌&&◌, ◌==◌, Bool, true, false, cond, List, [], ◌∷◌, map, Option, Some, refl, ap, sym, ◌∙◌, arith}
+use Rattle.std.proofs.Common.{◌≡◌, ℕ, ◌<◌, ◌≤◌, ◌&&◌, ◌==◌, Bool, true, false, cond, List, [], ◌∷◌, map, Option, Some}
+use Rattle.std.proofs.Common.{refl, ap, sym, ◌∙◌, arith}
 use Rattle.md_engine.specs.declared.configuration.ParseOptions.{ParseOptions}
 use Rattle.md_engine.specs.declared.event.Name.{Name}
 use Rattle.md_engine.specs.declared.state.Name.{Name as StateName}
@@ -24,13 +25,15 @@ use Rattle.md_seam.proofs.SpacesGoods.{Does, WhiteFits, rest-calm, rest-none, wh
 use Rattle.md_seam.proofs.WhiteSteps.{begins-seen, behind_white, white-tried}
 
 -- What is left of it: where it is off,
-pub at-off : (name : Name) (on : Bool) (behind : List Cell → Here → Outcome) (options : ParseOptions) (cells : List Cell) (h : Here) →
+pub at-off : (name : Name) (on : Bool) (behind : List Cell → Here → Outcome) (options : ParseOptions)
+    (cells : List Cell) (h : Here) →
     on ≡ false → start_at name on behind options cells h ≡ Refuses h.scratch h.flags
 unfolding start_at
 at-off name on behind options cells h off = rw off refl
 
 -- behind whitespace,
-pub at-white : (name : Name) (on : Bool) (behind : List Cell → Here → Outcome) (options : ParseOptions) (cells : List Cell) (h : Here) →
+pub at-white : (name : Name) (on : Bool) (behind : List Cell → Here → Outcome) (options : ParseOptions)
+    (cells : List Cell) (h : Here) →
     on ≡ true → begins_white cells ≡ true →
     start_at name on behind options cells h ≡
     behind (white_rest (small_indent options) cells) (behind_white (small_indent options) cells (entered_here name h))
@@ -38,8 +41,10 @@ unfolding start_at
 at-white name on behind options cells h is s = rw (is, s) refl
 
 -- and where there is none.
-pub at-none : (name : Name) (on : Bool) (behind : List Cell → Here → Outcome) (options : ParseOptions) (cells : List Cell) (h : Here) →
-    on ≡ true → begins_white cells ≡ false → start_at name on behind options cells h ≡ behind cells (entered_here name h)
+pub at-none : (name : Name) (on : Bool) (behind : List Cell → Here → Outcome) (options : ParseOptions)
+    (cells : List Cell) (h : Here) →
+    on ≡ true → begins_white cells ≡ false →
+    start_at name on behind options cells h ≡ behind cells (entered_here name h)
 unfolding start_at
 at-none name on behind options cells h is s = rw (is, s) refl
 
@@ -65,12 +70,14 @@ rule-refused test on rule room cells none other e = by on
     by false = refl
 
 -- The rule has it at its first state, and what is left of it behind the indent at the next.
-pub record HasStart (B : Behaviour) (options : ParseOptions) (name : Name) (on : Bool) (behind : List Cell → Here → Outcome) (start next : StateName) : Type 0 where
+pub record HasStart (B : Behaviour) (options : ParseOptions) (name : Name) (on : Bool)
+    (behind : List Cell → Here → Outcome) (start next : StateName) : Type 0 where
   pub white : HasWhite B
   pub start_is : (cells : List Cell) (h : Here) → B start cells h ≡ start_at name on behind options cells h
   pub next_is : (cells : List Cell) (h : Here) → B next cells h ≡ behind cells h
 
-pub start-steps : (B : Behaviour) (feed : Feed) (name : Name) (on : Bool) (behind : List Cell → Here → Outcome) (start next : StateName) (w : World) (x y : Bool) →
+pub start-steps : (B : Behaviour) (feed : Feed) (name : Name) (on : Bool) (behind : List Cell → Here → Outcome)
+    (start next : StateName) (w : World) (x y : Bool) →
     HasStart B w.setting.options name on behind start next → Sees feed w → on ≡ x → sees_white w.current ≡ y →
     Steps B feed (Next start) w (start_code name next w x y).to (start_code name next w x y).world
 start-steps B feed name on behind start next w false y has s e f =
@@ -85,7 +92,8 @@ start-steps B feed name on behind start next w true true has s e f =
     (small-some w.setting.options) (omega arith) refl)
 start-steps B feed name on behind start next w true false has s e f =
     moves B feed _ _ w (start_code name next w true false).world (enter name w.point ∷ []) refl refl
-    (has.start_is _ _ ∙ at-none name on behind _ (feed w.point) (here w) e (begins-seen feed w s ∙ f) ∙ sym (has.next_is _ _))
+    (has.start_is _ _ ∙ at-none name on behind _ (feed w.point) (here w) e (begins-seen feed w s ∙ f)
+    ∙ sym (has.next_is _ _))
 
 -- A table has both states: the next one asks no more than the first, and ranks below it.
 pub record FitsStart (T own : Scheme) (start next : StateName) : Type 1 where
@@ -98,7 +106,8 @@ pub record FitsStart (T own : Scheme) (start next : StateName) : Type 1 where
   pub falls : (x : Spot) → (own.rank next x).number < (own.tries next).number
   pub tries : (x : Spot) → (own.tries next).number < (own.rank start x).number
 
-pub good-start : (T own : Scheme) (name : Name) (start next : StateName) (w : World) (x y : Bool) → FitsStart T own start next →
+pub good-start : (T own : Scheme) (name : Name) (start next : StateName) (w : World) (x y : Bool) →
+    FitsStart T own start next →
     rest_ready (spot w) (after_all T w.frames) → Does T start w (start_code name next w x y)
 good-start T own name start next w false y has r = (refuses T _ w _ _ w.events w.scratch r.1 r.0, refl)
 good-start T own name start next w true true has r =

@@ -1,5 +1,6 @@
 -- What the steps of leaves share: what is seen of a byte, and a run of whitespace that is taken byte by byte.
-use Rattle.std.proofs.Common.{◌≡◌, ℕ, Bool, true, false, List, [], ◌∷◌, ◌++◌, length, Option, Some, None, refl, sym, ◌∙◌, arith, zero, suc, ◌≤◌, append_assoc, ap₂}
+use Rattle.std.proofs.Common.{◌≡◌, ℕ, Bool, true, false, List, [], ◌∷◌, ◌++◌, length, Option, Some, None, refl, sym}
+use Rattle.std.proofs.Common.{◌∙◌, arith, zero, suc, ◌≤◌, append_assoc, ap₂}
 use Rattle.md_engine.specs.declared.event.Event.{Event}
 use Rattle.md_engine.specs.declared.event.Name.TheVariants.{SpaceOrTab}
 use Rattle.md_engine.specs.declared.state.State.{State}
@@ -30,32 +31,44 @@ white_frame ok w events = record { ok = ok; nok = Nok; is_check = false; events_
 
 -- behind whitespace that ends
 unfoldable pub here_after : ℕ → List Cell → Here → Here
-here_after room cells h = record h { events = h.events ++ exit SpaceOrTab (white_end room cells h.point) ∷ []; point = white_end room cells h.point }
+here_after room cells h = record h {
+  events = h.events ++ exit SpaceOrTab (white_end room cells h.point) ∷ [];
+  point = white_end room cells h.point;
+}
 
 -- behind whitespace that was begun here, its events written in another way
 pub behind-joined : (room : ℕ) (cells : List Cell) (h : Here) → calmed h.scratch ≡ h.scratch →
     here_after room cells (record h { events = h.events ++ enter SpaceOrTab h.point ∷ [] }) ≡ behind_white room cells h
 unfolding here_after
 behind-joined room cells h same =
-    ap₂ (λ (es : List Event) (t : Scratch). let r : Here = record h { events = es; point = white_end room cells h.point; scratch = t } in r) (append_assoc h.events (enter SpaceOrTab h.point ∷ []) _) (sym same)
+    ap₂
+    (λ (es : List Event) (t : Scratch).
+    let r : Here = record h { events = es; point = white_end room cells h.point; scratch = t } in r)
+    (append_assoc h.events (enter SpaceOrTab h.point ∷ []) _) (sym same)
 
 -- A rule that takes whitespace byte by byte while its scratch passes a test, and what is left behind it.
 pub record TakesWhite (P : Scratch → Type 0) (inside behind : List Cell → Here → Outcome) : Type 0 where
-  pub more : (c : Cell) (cs : List Cell) (h : Here) → P h.scratch → is_white c.byte ≡ true → inside (c ∷ cs) h ≡ inside cs (record h { point = c.after })
+  pub more : (c : Cell) (cs : List Cell) (h : Here) → P h.scratch → is_white c.byte ≡ true →
+      inside (c ∷ cs) h ≡ inside cs (record h { point = c.after })
   pub stop : (c : Cell) (cs : List Cell) (h : Here) → P h.scratch → is_white c.byte ≡ false →
       inside (c ∷ cs) h ≡ behind (c ∷ cs) (record h { events = h.events ++ exit SpaceOrTab h.point ∷ [] })
-  pub none : (h : Here) → P h.scratch → inside [] h ≡ behind [] (record h { events = h.events ++ exit SpaceOrTab h.point ∷ [] })
+  pub none : (h : Here) → P h.scratch →
+      inside [] h ≡ behind [] (record h { events = h.events ++ exit SpaceOrTab h.point ∷ [] })
 
 -- behind a run of whitespace, however long
-pub white-run : (P : Scratch → Type 0) (inside behind : List Cell → Here → Outcome) (room : ℕ) (cells : List Cell) (h : Here) →
-    TakesWhite P inside behind → P h.scratch → length cells ≤ room → inside cells h ≡ behind (white_rest room cells) (here_after room cells h)
+pub white-run : (P : Scratch → Type 0) (inside behind : List Cell → Here → Outcome) (room : ℕ) (cells : List Cell)
+    (h : Here) →
+    TakesWhite P inside behind → P h.scratch → length cells ≤ room →
+    inside cells h ≡ behind (white_rest room cells) (here_after room cells h)
 unfolding here_after
 white-run P inside behind room [] h takes is le = takes.none h is
 white-run P inside behind zero (c ∷ cs) h takes is le = absurd (omega arith)
-white-run P inside behind (suc room) (c ∷ cs) h takes is le = go (is_white c.byte) refl (white-run P inside behind room cs (record h { point = c.after }) takes is (omega arith))
+white-run P inside behind (suc room) (c ∷ cs) h takes is le =
+    go (is_white c.byte) refl (white-run P inside behind room cs (record h { point = c.after }) takes is (omega arith))
   where
     go : (x : Bool) → is_white c.byte ≡ x →
-        inside cs (record h { point = c.after }) ≡ behind (white_rest room cs) (here_after room cs (record h { point = c.after })) →
+        inside cs (record h { point = c.after }) ≡
+        behind (white_rest room cs) (here_after room cs (record h { point = c.after })) →
         inside (c ∷ cs) h ≡ behind (white_rest (suc room) (c ∷ cs)) (here_after (suc room) (c ∷ cs) h)
     go true s on = takes.more c cs h is s ∙ on ∙ rw s refl
     go false k on = takes.stop c cs h is k ∙ rw k refl

@@ -19,8 +19,12 @@ good_non_lazy_start : (T : Scheme) (w : World) (x : Bool) → NonLazyFits T →
     non_lazy_ready (spot w) (after_all T w.frames) → is_current 10 (seen (spot w)) ≡ x →
     Does T (n.NonLazyContinuation its.Start) w (start_code w x)
 good_non_lazy_start T w true has r e =
-    let inside = seen-in (spot w) (is_current 10) refl e in
-    (consumes T non_lazy_scheme _ (n.NonLazyContinuation its.After) w (start_code w true).world.events w.scratch (has.each its.Start) (has.each its.After) inside (later _ _ (spot w) _ _ _ (takes w.setting w.point inside) r) (omega arith), refl)
+    let inside = seen-in (spot w) (is_current 10) refl e in (
+      consumes T non_lazy_scheme _ (n.NonLazyContinuation its.After) w (start_code w true).world.events w.scratch
+          (has.each its.Start) (has.each its.After) inside (later _ _ (spot w) _ _ _ (takes w.setting w.point inside) r)
+          (omega arith),
+      refl,
+    )
 good_non_lazy_start T w false has r e =
     (refuses T _ w _ _ w.events w.scratch r refl, refl)
 

@@ -24,7 +24,8 @@ blank_events cells p = if begins_white cells then pair SpaceOrTab p (line_end ce
 unfoldable pub blank_at : List Cell → Here → Outcome
 blank_at cells h =
     if is_blank (line_bytes cells)
-    then Accepts (record h { events = h.events ++ blank_events cells h.point; point = line_end cells h.point }) (from_ending cells)
+    then Accepts (record h { events = h.events ++ blank_events cells h.point; point = line_end cells h.point })
+    (from_ending cells)
     else Refuses h.scratch h.flags
 
 -- what is left at each state
@@ -34,4 +35,5 @@ blank_behaves its.After cells h = after_blank cells h
 
 pub record HasBlank (B : Behaviour) : Type 0 where
   pub white : HasWhite B
-  pub each : (state : BlankState) (cells : List Cell) (h : Here) → B (n.BlankLine state) cells h ≡ blank_behaves state cells h
+  pub each : (state : BlankState) (cells : List Cell) (h : Here) →
+      B (n.BlankLine state) cells h ≡ blank_behaves state cells h

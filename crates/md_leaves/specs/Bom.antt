@@ -28,8 +28,14 @@ start_code w false = record { to = Nok; world = w }
 -- by whether the next byte of the mark stands here, and whether more of the mark follows
 abbrev pub inside_code : World → Bool → Bool → Transition
 inside_code w true true =
-    record { to = Next (n.Bom its.Inside); world = record (taken w) { scratch = record w.scratch { size = w.scratch.size + 1 } } }
-inside_code w true false = record { to = Ok; world = record (exited (taken w) ByteOrderMark) { scratch = without_size w.scratch } }
+    record {
+      to = Next (n.Bom its.Inside);
+      world = record (taken w) { scratch = record w.scratch { size = w.scratch.size + 1 } };
+    }
+inside_code w true false = record {
+  to = Ok;
+  world = record (exited (taken w) ByteOrderMark) { scratch = without_size w.scratch };
+}
 inside_code w false more = record { to = Nok; world = record w { scratch = without_size w.scratch } }
 
 -- each state with what it does, where there is memory

@@ -1,5 +1,6 @@
 -- The rule of the byte order mark, as what is left of it at each state.
-use Rattle.std.specs.Prelude.{◌≡◌, ℕ, Bool, true, false, ◌&&◌, ◌==◌, if◌then◌else◌, List, [], ◌∷◌, ◌++◌, length, take, drop}
+use Rattle.std.specs.Prelude.{◌≡◌, ℕ, Bool, true, false, ◌&&◌, ◌==◌, if◌then◌else◌, List, [], ◌∷◌, ◌++◌, length, take}
+use Rattle.std.specs.Prelude.{drop}
 use Rattle.md_engine.specs.declared.event.Name.TheVariants.{ByteOrderMark}
 use Rattle.md_engine.specs.declared.state.Name.TheVariants as n
 use Rattle.md_engine.specs.declared.state.bom.State.{State as BomState}
@@ -22,7 +23,9 @@ inside_mark cells h =
     let left = drop h.scratch.size mark in
     let p = point_after (take (length left) cells) h.point in
     if are_next left cells
-    then Accepts (record h { events = h.events ++ exit ByteOrderMark p ∷ []; point = p; scratch = without_size h.scratch }) (drop (length left) cells)
+    then Accepts
+    (record h { events = h.events ++ exit ByteOrderMark p ∷ []; point = p; scratch = without_size h.scratch })
+    (drop (length left) cells)
     else Refuses (without_size h.scratch) h.flags
 
 -- the whole rule: the first three cells are the mark

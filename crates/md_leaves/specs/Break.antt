@@ -1,5 +1,6 @@
 -- The thematic break.
-use Rattle.std.specs.Prelude.{◌≡◌, refl, ℕ, ◌+◌, ◌≤◌, Bool, true, false, ◌&&◌, ◌||◌, ◌==◌, if◌then◌else◌, nat_le, Option, Some, None}
+use Rattle.std.specs.Prelude.{◌≡◌, refl, ℕ, ◌+◌, ◌≤◌, Bool, true, false, ◌&&◌, ◌||◌, ◌==◌, if◌then◌else◌, nat_le}
+use Rattle.std.specs.Prelude.{Option, Some, None}
 use Rattle.md_engine.specs.declared.event.Name.TheVariants.{ThematicBreak, ThematicBreakSequence}
 use Rattle.md_engine.specs.declared.state.Name.{Name as StateName}
 use Rattle.md_engine.specs.declared.state.Name.TheVariants as n
@@ -34,19 +35,33 @@ without_marker s = record s { marker = 0; size = 0 }
 abbrev pub before_code : World → Option ℕ → Transition
 before_code w None = record { to = Nok; world = w }
 before_code w (Some b) =
-    if is_marker b then record { to = Retry (n.ThematicBreak its.AtBreak); world = record w { scratch = record w.scratch { marker = b } } } else record { to = Nok; world = w }
+    if is_marker b
+    then record {
+      to = Retry (n.ThematicBreak its.AtBreak);
+      world = record w { scratch = record w.scratch { marker = b } };
+    }
+    else record { to = Nok; world = w }
 
 -- by whether the marker stands here, and whether the line ends here with enough of it
 abbrev pub at_break_code : World → Bool → Bool → Transition
 at_break_code w true done =
     record { to = Retry (n.ThematicBreak its.Sequence); world = entered w ThematicBreakSequence }
-at_break_code w false true = record { to = Ok; world = record (exited w ThematicBreak) { scratch = without_marker w.scratch; flags = record w.flags { leaf = held_leaf.None } } }
+at_break_code w false true = record {
+  to = Ok;
+  world = record (exited w ThematicBreak) {
+    scratch = without_marker w.scratch;
+    flags = record w.flags { leaf = held_leaf.None };
+  };
+}
 at_break_code w false false = record { to = Nok; world = record w { scratch = without_marker w.scratch } }
 
 -- by whether the marker stands here, and whether whitespace does
 abbrev pub sequence_code : World → Bool → Bool → Transition
 sequence_code w true white =
-    record { to = Next (n.ThematicBreak its.Sequence); world = record (taken w) { scratch = record w.scratch { size = w.scratch.size + 1 } } }
+    record {
+      to = Next (n.ThematicBreak its.Sequence);
+      world = record (taken w) { scratch = record w.scratch { size = w.scratch.size + 1 } };
+    }
 sequence_code w false true =
     white_then (exited w ThematicBreakSequence) 0 any_size (Next (n.ThematicBreak its.AtBreak)) Nok
 sequence_code w false false =
@@ -54,13 +69,15 @@ sequence_code w false false =
 
 -- each state with what it does, where there is memory
 abbrev pub start_transition : World → Transition
-start_transition w = leaf.start_transition ThematicBreak (n.ThematicBreak its.Before) w.setting.options.constructs.thematic_break w
+start_transition w =
+    leaf.start_transition ThematicBreak (n.ThematicBreak its.Before) w.setting.options.constructs.thematic_break w
 
 abbrev pub before_transition : World → Transition
 before_transition w = before_code w w.current
 
 abbrev pub at_break_transition : World → Transition
-at_break_transition w = at_break_code w (is_current w.scratch.marker w.current) (ends_line w.current && nat_le 3 w.scratch.size)
+at_break_transition w =
+    at_break_code w (is_current w.scratch.marker w.current) (ends_line w.current && nat_le 3 w.scratch.size)
 
 abbrev pub sequence_transition : World → Transition
 sequence_transition w = sequence_code w (is_current w.scratch.marker w.current) (sees_white w.current)

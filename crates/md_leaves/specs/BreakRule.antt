@@ -1,5 +1,6 @@
 -- The rule of a thematic break, as what is left of it at each state (CommonMark 4.1).
-use Rattle.std.specs.Prelude.{◌≡◌, ℕ, ◌+◌, false, ◌&&◌, ◌||◌, ◌==◌, nat_le, if◌then◌else◌, List, [], ◌∷◌, ◌++◌, count_by}
+use Rattle.std.specs.Prelude.{◌≡◌, ℕ, ◌+◌, false, ◌&&◌, ◌||◌, ◌==◌, nat_le, if◌then◌else◌, List, [], ◌∷◌, ◌++◌}
+use Rattle.std.specs.Prelude.{count_by}
 use Rattle.std.specs.List.{list_all}
 use Rattle.md_engine.specs.declared.configuration.ParseOptions.{ParseOptions}
 use Rattle.md_engine.specs.declared.event.Event.{Event}
@@ -29,9 +30,15 @@ abbrev pub runs : Run → ℕ → List Cell → Point → List Event
 runs Apart m [] p = []
 runs Marks m [] p = exit ThematicBreakSequence p ∷ []
 runs White m [] p = exit SpaceOrTab p ∷ []
-runs Apart m (c ∷ cs) p = if c.byte == m then enter ThematicBreakSequence p ∷ runs Marks m cs c.after else enter SpaceOrTab p ∷ runs White m cs c.after
-runs Marks m (c ∷ cs) p = if c.byte == m then runs Marks m cs c.after else exit ThematicBreakSequence p ∷ enter SpaceOrTab p ∷ runs White m cs c.after
-runs White m (c ∷ cs) p = if c.byte == m then exit SpaceOrTab p ∷ enter ThematicBreakSequence p ∷ runs Marks m cs c.after else runs White m cs c.after
+runs Apart m (c ∷ cs) p =
+    if c.byte == m then enter ThematicBreakSequence p ∷ runs Marks m cs c.after
+    else enter SpaceOrTab p ∷ runs White m cs c.after
+runs Marks m (c ∷ cs) p =
+    if c.byte == m then runs Marks m cs c.after
+    else exit ThematicBreakSequence p ∷ enter SpaceOrTab p ∷ runs White m cs c.after
+runs White m (c ∷ cs) p =
+    if c.byte == m then exit SpaceOrTab p ∷ enter ThematicBreakSequence p ∷ runs Marks m cs c.after
+    else runs White m cs c.after
 
 -- a break to the end of the line
 abbrev pub broken : Run → ℕ → List Cell → Here → Outcome
@@ -64,7 +71,8 @@ at_break cells h = if begins_white cells then Refuses (without_marker h.scratch)
 -- behind the indent
 unfoldable pub before_marker : List Cell → Here → Outcome
 before_marker [] h = Refuses (without_marker h.scratch) h.flags
-before_marker (c ∷ cs) h = if is_rule (line_bytes (c ∷ cs)) then broken Apart c.byte (c ∷ cs) h else Refuses (without_marker h.scratch) h.flags
+before_marker (c ∷ cs) h =
+    if is_rule (line_bytes (c ∷ cs)) then broken Apart c.byte (c ∷ cs) h else Refuses (without_marker h.scratch) h.flags
 
 -- the whole rule, if breaks are on: a small indent, and a rule behind it
 abbrev pub break_at : ParseOptions → List Cell → Here → Outcome
@@ -79,4 +87,5 @@ break_behaves options its.Sequence cells h = in_break Marks cells h
 
 pub record HasBreak (B : Behaviour) (options : ParseOptions) : Type 0 where
   pub white : HasWhite B
-  pub each : (state : BreakState) (cells : List Cell) (h : Here) → B (n.ThematicBreak state) cells h ≡ break_behaves options state cells h
+  pub each : (state : BreakState) (cells : List Cell) (h : Here) →
+      B (n.ThematicBreak state) cells h ≡ break_behaves options state cells h

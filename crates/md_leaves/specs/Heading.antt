@@ -1,5 +1,6 @@
 -- The ATX heading.
-use Rattle.std.specs.Prelude.{refl, ℕ, ◌+◌, ◌≤◌, Bool, true, false, ◌&&◌, ◌||◌, ◌==◌, not, if◌then◌else◌, nat_lt, Option, Some, None}
+use Rattle.std.specs.Prelude.{refl, ℕ, ◌+◌, ◌≤◌, Bool, true, false, ◌&&◌, ◌||◌, ◌==◌, not, if◌then◌else◌, nat_lt}
+use Rattle.std.specs.Prelude.{Option, Some, None}
 use Rattle.md_engine.specs.declared.event.Content.TheVariants as content
 use Rattle.md_engine.specs.declared.event.Link.{Link}
 use Rattle.md_engine.specs.declared.event.Name.TheVariants.{Data, HeadingAtx, HeadingAtxSequence}
@@ -48,9 +49,13 @@ behind_part w false = record { to = Retry (n.HeadingAtx its.AtBreak); world = w 
 -- by whether one more `#` is taken, and whether text or whitespace stands here
 abbrev pub sequence_open_code : World → Bool → Bool → Bool → Transition
 sequence_open_code w true text white =
-    record { to = Next (n.HeadingAtx its.SequenceOpen); world = record (taken w) { scratch = record w.scratch { size = w.scratch.size + 1 } } }
+    record {
+      to = Next (n.HeadingAtx its.SequenceOpen);
+      world = record (taken w) { scratch = record w.scratch { size = w.scratch.size + 1 } };
+    }
 sequence_open_code w false true white = record { to = Nok; world = record w { scratch = without_size w.scratch } }
-sequence_open_code w false false white = behind_part (record (exited w HeadingAtxSequence) { scratch = without_size w.scratch }) white
+sequence_open_code w false false white =
+    behind_part (record (exited w HeadingAtxSequence) { scratch = without_size w.scratch }) white
 
 -- by whether text, `#` or the line's end stands here; `is_name` finds the resolver of headings
 abbrev pub at_break_code : (ResolveName → Bool) → World → Bool → Bool → Bool → Transition
@@ -58,7 +63,13 @@ at_break_code is_name w true true ending =
     record { to = Retry (n.HeadingAtx its.SequenceFurther); world = entered w HeadingAtxSequence }
 at_break_code is_name w true false ending =
     record { to = Retry (n.HeadingAtx its.Data); world = entered_link w Data heading_link }
-at_break_code is_name w false hash true = record { to = Ok; world = record (exited w HeadingAtx) { resolvers = registered is_name w.resolvers HeadingResolver; flags = record w.flags { leaf = held_leaf.None } } }
+at_break_code is_name w false hash true = record {
+  to = Ok;
+  world = record (exited w HeadingAtx) {
+    resolvers = registered is_name w.resolvers HeadingResolver;
+    flags = record w.flags { leaf = held_leaf.None };
+  };
+}
 at_break_code is_name w false hash false = record { to = Nok; world = w }
 
 -- by whether `#` or whitespace stands here
@@ -73,16 +84,20 @@ data_code w false white = behind_part (exited w Data) white
 
 -- each state with what it does, where there is memory
 abbrev pub start_transition : World → Transition
-start_transition w = leaf.start_transition HeadingAtx (n.HeadingAtx its.Before) w.setting.options.constructs.heading_atx w
+start_transition w =
+    leaf.start_transition HeadingAtx (n.HeadingAtx its.Before) w.setting.options.constructs.heading_atx w
 
 abbrev pub before_transition : World → Transition
 before_transition w = before_code w (is_current 35 w.current)
 
 abbrev pub sequence_open_transition : World → Transition
-sequence_open_transition w = sequence_open_code w (is_current 35 w.current && nat_lt w.scratch.size 6) (sees_text w.current) (sees_white w.current)
+sequence_open_transition w =
+    sequence_open_code w (is_current 35 w.current && nat_lt w.scratch.size 6) (sees_text w.current)
+    (sees_white w.current)
 
 abbrev pub at_break_transition : (ResolveName → Bool) → World → Transition
-at_break_transition is_name w = at_break_code is_name w (sees_text w.current) (is_current 35 w.current) (ends_line w.current)
+at_break_transition is_name w =
+    at_break_code is_name w (sees_text w.current) (is_current 35 w.current) (ends_line w.current)
 
 abbrev pub sequence_further_transition : World → Transition
 sequence_further_transition w = sequence_further_code w (is_current 35 w.current) (sees_white w.current)

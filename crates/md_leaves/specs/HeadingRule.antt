@@ -1,5 +1,6 @@
 -- The rule of an ATX heading, as what is left of it at each state (CommonMark 4.2).
-use Rattle.std.specs.Prelude.{◌≡◌, ℕ, ◌+◌, Bool, false, ◌&&◌, ◌==◌, not, nat_le, if◌then◌else◌, List, [], ◌∷◌, ◌++◌, drop, Some}
+use Rattle.std.specs.Prelude.{◌≡◌, ℕ, ◌+◌, Bool, false, ◌&&◌, ◌==◌, not, nat_le, if◌then◌else◌, List, [], ◌∷◌, ◌++◌}
+use Rattle.std.specs.Prelude.{drop, Some}
 use Rattle.md_engine.specs.declared.configuration.ParseOptions.{ParseOptions}
 use Rattle.md_engine.specs.declared.event.Event.{Event}
 use Rattle.md_engine.specs.declared.event.Kind.TheVariants.{Enter}
@@ -12,7 +13,8 @@ use Rattle.md_engine.specs.declared.tokenizer.held_leaf.HeldLeaf.TheVariants as 
 use Rattle.md_engine.specs.Meaning.{Accepts, Behaviour, Cell, Here, Outcome, Refuses}
 use Rattle.md_leaves.specs.LeafStart.{start_at}
 use Rattle.md_leaves.specs.Heading.{heading_link, without_size}
-use Rattle.md_seam.specs.Ahead.{HasWhite, begins_white, from_ending, line_bytes, line_cells, line_end, white_end, white_rest}
+use Rattle.md_seam.specs.Ahead.{HasWhite, begins_white, from_ending, line_bytes, line_cells, line_end, white_end}
+use Rattle.md_seam.specs.Ahead.{white_rest}
 use Rattle.md_seam.specs.Events.Nested.{enter, exit, pair}
 use Rattle.md_definition.specs.Rest.{is_parted, is_white, run_len}
 use Rattle.md_seam.specs.Spaces.{small_indent}
@@ -52,13 +54,21 @@ closes Text p = exit Data p ∷ []
 -- the runs that are left of a line: each is one part, as long as it can be
 abbrev pub runs : Run → List Cell → Point → List Event
 runs run [] p = closes run p
-runs run (c ∷ cs) p = if goes_on run c.byte then runs run cs c.after else closes run p ++ opens (begun c.byte) p ++ runs (begun c.byte) cs c.after
+runs run (c ∷ cs) p =
+    if goes_on run c.byte then runs run cs c.after
+    else closes run p ++ opens (begun c.byte) p ++ runs (begun c.byte) cs c.after
 
 -- a heading to the end of the line
 unfoldable pub in_heading : Run → List Cell → Here → Outcome
 in_heading run cells h =
     let p = line_end cells h.point in
-    Accepts (record h { events = h.events ++ runs run (line_cells cells) h.point ++ exit HeadingAtx p ∷ []; point = p; flags = record h.flags { leaf = held_leaf.None } }) (from_ending cells)
+    Accepts
+    (record h {
+      events = h.events ++ runs run (line_cells cells) h.point ++ exit HeadingAtx p ∷ [];
+      point = p;
+      flags = record h.flags { leaf = held_leaf.None };
+    })
+    (from_ending cells)
 
 -- behind a run and the whitespace that follows it
 unfoldable pub at_break : List Cell → Here → Outcome
@@ -98,13 +108,15 @@ heading_behaves options its.Data cells h = in_heading Text cells h
 
 pub record HasHeading (B : Behaviour) (options : ParseOptions) : Type 0 where
   pub white : HasWhite B
-  pub each : (state : HeadingState) (cells : List Cell) (h : Here) → B (n.HeadingAtx state) cells h ≡ heading_behaves options state cells h
+  pub each : (state : HeadingState) (cells : List Cell) (h : Here) →
+      B (n.HeadingAtx state) cells h ≡ heading_behaves options state cells h
 
 -- A line as a whole.
 
 -- whether a heading stands on a line of these cells, with as much whitespace before it as there may be
 abbrev pub is_heading_line : ParseOptions → List Cell → Bool
-is_heading_line options cells = options.constructs.heading_atx && is_heading (line_bytes (white_rest (small_indent options) cells))
+is_heading_line options cells =
+    options.constructs.heading_atx && is_heading (line_bytes (white_rest (small_indent options) cells))
 
 -- what stands in it: its indent, and its runs
 abbrev pub heading_inside : ParseOptions → List Cell → Point → List Event

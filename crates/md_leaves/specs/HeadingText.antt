@@ -1,5 +1,5 @@
--- The text of an ATX heading, among the events: one part from the run behind its opening sequence to the last run that is
--- no closing sequence (CommonMark 4.2).
+-- The text of an ATX heading, among the events: one part from the run behind its opening sequence to the last run that
+-- is no closing sequence (CommonMark 4.2).
 use Rattle.std.specs.Prelude.{Bool, true, false, ◌&&◌, ◌||◌, if◌then◌else◌, List, [], ◌∷◌, ◌++◌, Option, Some, None}
 use Rattle.md_engine.specs.declared.event.Event.{Event}
 use Rattle.md_engine.specs.declared.event.Name.{Name}
@@ -32,7 +32,9 @@ ends is_name e = is_exit e.kind && is_name e.name
 -- the text of a heading, as one part that is read later
 abbrev pub linked_text : Option Chunk → List Event
 linked_text None = []
-linked_text (Some chunk) = around n.HeadingAtxText chunk.first chunk.after (enter_link n.Data chunk.first heading_link ∷ exit n.Data chunk.after ∷ [])
+linked_text (Some chunk) =
+    around n.HeadingAtxText chunk.first chunk.after
+    (enter_link n.Data chunk.first heading_link ∷ exit n.Data chunk.after ∷ [])
 
 -- the text between two points, if it has an end
 abbrev pub text_between : Point → Option Point → List Event
@@ -46,8 +48,8 @@ pub data Place : Type 0 where
   Before : Place
   -- behind it, before a further run
   Opened : Place
-  -- behind the begin of a further run: where the first such run begins; where the text ends, if there is text; where the last
-  -- run has ended; the events behind the text up to that end; and the events behind that end
+  -- behind the begin of a further run: where the first such run begins; where the text ends, if there is text; where
+  -- the last run has ended; the events behind the text up to that end; and the events behind that end
   Within : Point → Option Point → Option Point → List Event → List Event → Place
 
 -- what is left of the events from a place on: a run of `#` closes the heading, until another run begins behind it
@@ -57,7 +59,8 @@ resolved Before [] = []
 resolved Opened [] = []
 resolved (Within first after last closing since) [] = text_between first after ++ closing ++ since
 resolved Outside (e ∷ es) = e ∷ resolved (if begins is_heading e then Before else Outside) es
-resolved Before (e ∷ es) = e ∷ resolved (if ends is_sequence e then Opened else if ends is_heading e then Outside else Before) es
+resolved Before (e ∷ es) =
+    e ∷ resolved (if ends is_sequence e then Opened else if ends is_heading e then Outside else Before) es
 resolved Opened (e ∷ es) =
     if begins is_run e then resolved (Within e.point None None [] (e ∷ [])) es
     else e ∷ resolved (if ends is_heading e then Outside else Opened) es

@@ -13,7 +13,9 @@ use Rattle.md_definition.specs.Rest.{is_white, run_len}
 -- the runs that are left of a line: each is one part, as long as it can be
 abbrev pub line_runs : Run → List ℕ → Point → List Event
 line_runs run [] p = closes run p
-line_runs run (b ∷ bs) p = if goes_on run b then line_runs run bs (past_byte b p) else closes run p ++ opens (begun b) p ++ line_runs (begun b) bs (past_byte b p)
+line_runs run (b ∷ bs) p =
+    if goes_on run b then line_runs run bs (past_byte b p)
+    else closes run p ++ opens (begun b) p ++ line_runs (begun b) bs (past_byte b p)
 
 -- The parts of a heading: its opening sequence with the whitespace around it, its text, and what stands behind that.
 pub record Title : Type 0 where

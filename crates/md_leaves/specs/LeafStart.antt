@@ -12,7 +12,8 @@ use Rattle.md_seam.specs.Events.Nested.{enter, exit}
 use Rattle.md_seam.specs.Spaces.{calmed, sees_white, small_indent, white_then}
 use Rattle.md_seam.specs.Transition.{Transition, entered}
 
--- What its first state does, by its name and its state behind the indent: by whether it is on, and whether whitespace stands here.
+-- What its first state does, by its name and its state behind the indent: by whether it is on, and whether whitespace
+-- stands here.
 abbrev pub start_code : Name → StateName → World → Bool → Bool → Transition
 start_code name behind w false white = record { to = Nok; world = w }
 start_code name behind w true true = white_then (entered w name) 0 (small_indent w.setting.options) (Next behind) Nok

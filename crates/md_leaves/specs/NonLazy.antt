@@ -39,4 +39,9 @@ non_lazy_ready x K = Ends (λ s. s ≡ x.scratch) (λ s. s ≡ x.scratch) x K
 
 abbrev pub non_lazy_scheme : Scheme
 non_lazy_scheme =
-    record { ready = λ n x K. non_lazy_ready x K; level = λ n. 0; rank = λ n x. ranked 0 refl; tries = λ n. ranked 0 refl }
+    record {
+      ready = λ n x K. non_lazy_ready x K;
+      level = λ n. 0;
+      rank = λ n x. ranked 0 refl;
+      tries = λ n. ranked 0 refl;
+    }

@@ -30,4 +30,5 @@ non_lazy_behaves none its.Start cells h = continuation_at none cells h
 non_lazy_behaves none its.After cells h = after_ending none cells h
 
 pub record HasNonLazy (B : Behaviour) (none : Line) : Type 0 where
-  pub each : (state : NonLazyState) (cells : List Cell) (h : Here) → B (n.NonLazyContinuation state) cells h ≡ non_lazy_behaves none state cells h
+  pub each : (state : NonLazyState) (cells : List Cell) (h : Here) →
+      B (n.NonLazyContinuation state) cells h ≡ non_lazy_behaves none state cells h

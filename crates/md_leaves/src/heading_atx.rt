@@ -2,9 +2,9 @@
 //
 //     heading_atx ::= small_indent 1*6'#' [ 1*space_or_tab line [ 1*space_or_tab 1*'#' ] ] *space_or_tab
 //
-// The states add `HeadingAtx` around runs of the line: `HeadingAtxSequence`, `SpaceOrTab` and linked `Data`. When all of it
-// is read, `resolve` puts `HeadingAtxText` around what lies behind the opening sequence, up to the last run that does not
-// close the heading, as one `Data`.
+// The states add `HeadingAtx` around runs of the line: `HeadingAtxSequence`, `SpaceOrTab` and linked `Data`. When all
+// of it is read, `resolve` puts `HeadingAtxText` around what lies behind the opening sequence, up to the last run that
+// does not close the heading, as one `Data`.
 
 ghost use Rattle.std.specs.Prelude.{◌≡◌, ◌≢◌, Bool, [], IfOk, IfSome, None};
 ghost use Rattle.std.specs.Option.{option_map};
@@ -13,7 +13,9 @@ ghost use Rattle.md_engine.specs.World.{world};
 ghost use Rattle.md_engine.specs.declared.state.Name.{Name as StateName};
 ghost use Rattle.md_engine.specs.declared.state.State.{State};
 ghost use Rattle.md_engine.specs.declared.state.heading_atx.State.{State as HeadingState};
-ghost use Rattle.md_leaves.specs.Heading.{at_break_transition, before_transition, behind_part, data_transition, heading_transition, may_begin, sequence_further_transition, sequence_open_transition, start_transition};
+ghost use Rattle.md_leaves.specs.Heading.{at_break_transition, before_transition, behind_part, data_transition};
+ghost use Rattle.md_leaves.specs.Heading.{heading_transition, may_begin, sequence_further_transition};
+ghost use Rattle.md_leaves.specs.Heading.{sequence_open_transition, start_transition};
 ghost use Rattle.md_leaves.specs.HeadingText.{headings_resolved};
 ghost use Rattle.md_seam.specs.Spaces.{sees_white};
 ghost use Rattle.md_seam.specs.Stays.{TakesEach};
@@ -90,8 +92,10 @@ pub fn before(tokenizer: &mut Tokenizer) -> State
 
 /// Goes on behind a run of the line: behind whitespace, if some stands here.
 fn go_on(tokenizer: &mut Tokenizer) -> State
-    ensures to { result ≢ State.Error → result ≡ (behind_part (world tokenizer.old) (sees_white tokenizer.old.current)).to }
-    ensures world { result ≢ State.Error → world tokenizer.new ≡ (behind_part (world tokenizer.old) (sees_white tokenizer.old.current)).world }
+    ensures to { result ≢ State.Error →
+        result ≡ (behind_part (world tokenizer.old) (sees_white tokenizer.old.current)).to }
+    ensures world { result ≢ State.Error →
+        world tokenizer.new ≡ (behind_part (world tokenizer.old) (sees_white tokenizer.old.current)).world }
 {
     if is_space_or_tab(tokenizer.current) {
         space_or_tab(
@@ -113,7 +117,8 @@ fn go_on(tokenizer: &mut Tokenizer) -> State
 pub fn sequence_open(tokenizer: &mut Tokenizer) -> State
     requires { IsAt NeedsNothing (StateName.HeadingAtx HeadingState.SequenceOpen) (world tokenizer.old) }
     ensures to { result ≢ State.Error → result ≡ (sequence_open_transition (world tokenizer.old)).to }
-    ensures world { result ≢ State.Error → world tokenizer.new ≡ (sequence_open_transition (world tokenizer.old)).world }
+    ensures world { result ≢ State.Error →
+        world tokenizer.new ≡ (sequence_open_transition (world tokenizer.old)).world }
 {
     if tokenizer.current == Some(b'#') && tokenizer.scratch.size < OPENING {
         tokenizer.consume();
@@ -138,8 +143,14 @@ pub fn sequence_open(tokenizer: &mut Tokenizer) -> State
 /// ```
 pub fn at_break(tokenizer: &mut Tokenizer) -> State
     requires { IsAt NeedsNothing (StateName.HeadingAtx HeadingState.AtBreak) (world tokenizer.old) }
-    ensures to { result ≢ State.Error → result ≡ (at_break_transition (λ name. ⟦<ResolveName as PartialEq>⟧.eq name ResolveName.HeadingAtx) (world tokenizer.old)).to }
-    ensures world { result ≢ State.Error → world tokenizer.new ≡ (at_break_transition (λ name. ⟦<ResolveName as PartialEq>⟧.eq name ResolveName.HeadingAtx) (world tokenizer.old)).world }
+    ensures to { result ≢ State.Error →
+        result ≡
+        (at_break_transition (λ name. ⟦<ResolveName as PartialEq>⟧.eq name ResolveName.HeadingAtx)
+        (world tokenizer.old)).to }
+    ensures world { result ≢ State.Error →
+        world tokenizer.new ≡
+        (at_break_transition (λ name. ⟦<ResolveName as PartialEq>⟧.eq name ResolveName.HeadingAtx)
+        (world tokenizer.old)).world }
 {
     match tokenizer.current {
         None | Some(b'\n') => {
@@ -170,7 +181,8 @@ pub fn at_break(tokenizer: &mut Tokenizer) -> State
 pub fn sequence_further(tokenizer: &mut Tokenizer) -> State
     requires { IsAt NeedsNothing (StateName.HeadingAtx HeadingState.SequenceFurther) (world tokenizer.old) }
     ensures to { result ≢ State.Error → result ≡ (sequence_further_transition (world tokenizer.old)).to }
-    ensures world { result ≢ State.Error → world tokenizer.new ≡ (sequence_further_transition (world tokenizer.old)).world }
+    ensures world { result ≢ State.Error →
+        world tokenizer.new ≡ (sequence_further_transition (world tokenizer.old)).world }
 {
     if tokenizer.current == Some(b'#') {
         tokenizer.consume();
@@ -207,8 +219,14 @@ pub fn data(tokenizer: &mut Tokenizer) -> State
 /// Calls a state of a heading.
 pub fn call(tokenizer: &mut Tokenizer, state: HeadingState) -> State
     requires { IsAt NeedsNothing (StateName.HeadingAtx state) (world tokenizer.old) }
-    ensures to { result ≢ State.Error → result ≡ (heading_transition (λ name. ⟦<ResolveName as PartialEq>⟧.eq name ResolveName.HeadingAtx) state (world tokenizer.old)).to }
-    ensures world { result ≢ State.Error → world tokenizer.new ≡ (heading_transition (λ name. ⟦<ResolveName as PartialEq>⟧.eq name ResolveName.HeadingAtx) state (world tokenizer.old)).world }
+    ensures to { result ≢ State.Error →
+        result ≡
+        (heading_transition (λ name. ⟦<ResolveName as PartialEq>⟧.eq name ResolveName.HeadingAtx) state
+        (world tokenizer.old)).to }
+    ensures world { result ≢ State.Error →
+        world tokenizer.new ≡
+        (heading_transition (λ name. ⟦<ResolveName as PartialEq>⟧.eq name ResolveName.HeadingAtx) state
+        (world tokenizer.old)).world }
 {
     match state {
         HeadingState::Start => start(tokenizer),
@@ -231,12 +249,16 @@ pub fn stays(state: HeadingState) -> Option<Class>
     }
 }
 
-/// Sets the text of each heading: what follows its opening sequence, without a closing one and the whitespace around it.
+/// Sets the text of each heading: what follows its opening sequence, without a closing one and the whitespace around
+/// it.
 ///
 /// After an `Err` the parse has failed, and the tokenizer is only dropped.
 pub fn resolve(tokenizer: &mut Tokenizer) -> Result<Option<Subresult>, Message>
     requires { (world tokenizer.old).frames ≡ [] }
-    ensures world { IfOk result (λ found. world tokenizer.new ≡ record (world tokenizer.old) { events = headings_resolved (world tokenizer.old).events }) }
+    ensures world { IfOk result
+        (λ found.
+        world tokenizer.new ≡
+        record (world tokenizer.old) { events = headings_resolved (world tokenizer.old).events }) }
     ensures found { IfOk result (λ found. option_map found_in found ≡ None) }
 {
     let events = tokenizer.take_events();

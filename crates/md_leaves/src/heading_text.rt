@@ -2,7 +2,8 @@
 
 ghost use Rattle.std.specs.Prelude.{◌≡◌, ℕ, List, [], ◌++◌, IfOk, OnOk};
 ghost use Rattle.md_leaves.specs.Rewritten.{left_of, written_of};
-ghost use Rattle.md_leaves.specs.HeadingText.{begins, ends, headings_resolved, is_heading, is_run, is_sequence, text_between};
+ghost use Rattle.md_leaves.specs.HeadingText.{begins, ends, headings_resolved, is_heading, is_run, is_sequence};
+ghost use Rattle.md_leaves.specs.HeadingText.{text_between};
 ghost use Rattle.md_seam.specs.Parts.{ArePlaced};
 ghost use Rattle.md_seam.specs.Events.Tiles.{is_data};
 
@@ -168,7 +169,10 @@ impl Walk {
     /// Gives the text that is open, and what stands behind it.
     fn give_text(&mut self, text: Text) -> Result<(), Message>
         ensures left { OnOk result (left_of self.new.all ≡ left_of self.old.all) }
-        ensures written { OnOk result (written_of self.new.all ≡ written_of self.old.all ++ text_between text.first text.after ++ self.old.closing.items ++ self.old.since.items) }
+        ensures written { OnOk result
+            (written_of self.new.all ≡
+            written_of self.old.all ++ text_between text.first text.after ++ self.old.closing.items
+            ++ self.old.since.items) }
         ensures stage { self.new.stage ≡ self.old.stage }
     {
         push_text(&mut self.all, text.first, text.after)?;
@@ -244,7 +248,8 @@ pub fn put_texts(
 ) -> Result<(Vec<Event>, Vec<Event>), Message>
     requires { spare.items ≡ [] }
     ensures events { IfOk result (λ lists. lists.0.items ≡ headings_resolved events.items) }
-    ensures placed { IfOk result (λ lists. (bytes : List ℕ) → ArePlaced bytes events.items → ArePlaced bytes lists.0.items) }
+    ensures placed { IfOk result
+        (λ lists. (bytes : List ℕ) → ArePlaced bytes events.items → ArePlaced bytes lists.0.items) }
 {
     let mut walk = Walk {
         all: Rewriting::new(events, spare),

@@ -19,7 +19,8 @@ pub(crate) fn start_leaf(
     behind: StateName,
 ) -> State
     ensures to { result ≢ State.Error → result ≡ (start_transition name behind is_on (world tokenizer.old)).to }
-    ensures world { result ≢ State.Error → world tokenizer.new ≡ (start_transition name behind is_on (world tokenizer.old)).world }
+    ensures world { result ≢ State.Error →
+        world tokenizer.new ≡ (start_transition name behind is_on (world tokenizer.old)).world }
 {
     if !is_on {
         return State::Nok;

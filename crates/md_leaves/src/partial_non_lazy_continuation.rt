@@ -63,7 +63,8 @@ pub fn after(tokenizer: &mut Tokenizer) -> State
 pub fn call(tokenizer: &mut Tokenizer, state: NonLazyState) -> State
     requires { IsAt NeedsNothing (StateName.NonLazyContinuation state) (world tokenizer.old) }
     ensures to { result ≢ State.Error → result ≡ (non_lazy_transition state (world tokenizer.old)).to }
-    ensures world { result ≢ State.Error → world tokenizer.new ≡ (non_lazy_transition state (world tokenizer.old)).world }
+    ensures world { result ≢ State.Error →
+        world tokenizer.new ≡ (non_lazy_transition state (world tokenizer.old)).world }
 {
     match state {
         NonLazyState::Start => start(tokenizer),

@@ -11,7 +11,8 @@ ghost use Rattle.md_engine.specs.World.{world};
 ghost use Rattle.md_engine.specs.declared.state.Name.{Name as StateName};
 ghost use Rattle.md_engine.specs.declared.state.State.{State};
 ghost use Rattle.md_engine.specs.declared.state.thematic_break.State.{State as BreakState};
-ghost use Rattle.md_leaves.specs.Break.{BreakNeeds, at_break_transition, before_transition, break_transition, is_marker, may_begin, sequence_transition, start_transition};
+ghost use Rattle.md_leaves.specs.Break.{BreakNeeds, at_break_transition, before_transition, break_transition};
+ghost use Rattle.md_leaves.specs.Break.{is_marker, may_begin, sequence_transition, start_transition};
 ghost use Rattle.md_seam.specs.Transition.{IsAt};
 
 use crate::leaf_start::start_leaf;

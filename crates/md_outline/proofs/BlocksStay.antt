@@ -6,7 +6,9 @@ use Rattle.md_engine.specs.declared.event.Event.{Event}
 use Rattle.md_engine.specs.declared.event.Kind.{Kind}
 use Rattle.md_engine.specs.declared.event.Kind.TheVariants.{Enter, Exit}
 use Rattle.md_engine.specs.declared.event.Point.{Point}
-use Rattle.md_seam.specs.Events.Spelled.{Around, Holds, IsEnding, OpenLeaf, Opens, Purpose, Reading, Role, Shape, Tells, Text, block_around, block_of, finished, left, on_shape, read, read_by, role, told_at}
+use Rattle.md_seam.specs.Events.Spelled.{Around, Holds, IsEnding, OpenLeaf, Opens, Purpose, Reading, Role, Shape, Tells}
+use Rattle.md_seam.specs.Events.Spelled.{Text, block_around, block_of, finished, left, on_shape, read, read_by, role}
+use Rattle.md_seam.specs.Events.Spelled.{told_at}
 use Rattle.md_seam.specs.Events.Throughout.{all_blocks}
 use Rattle.md_definition.specs.Tree.{Block}
 use Rattle.md_seam.proofs.ThroughoutLemmas.{all-inside, all-then}

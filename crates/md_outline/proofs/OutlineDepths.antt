@@ -7,7 +7,9 @@ use Rattle.md_engine.specs.declared.event.Kind.TheVariants.{Enter, Exit}
 use Rattle.md_engine.specs.declared.event.Name.{Name}
 use Rattle.md_engine.specs.declared.event.Point.{Point}
 use Rattle.md_seam.specs.Events.Nested.{Balanced, Fits, Matches, open_after, open_behind}
-use Rattle.md_seam.specs.Events.Spelled.{Around, Holds, IsEnding, OpenLeaf, Opens, Purpose, Reading, Role, Shape, Tells, Text, finished, left, on_shape, read, read_by, read_enter, read_exit, role, told_at, unread}
+use Rattle.md_seam.specs.Events.Spelled.{Around, Holds, IsEnding, OpenLeaf, Opens, Purpose, Reading, Role, Shape, Tells}
+use Rattle.md_seam.specs.Events.Spelled.{Text, finished, left, on_shape, read, read_by, read_enter, read_exit, role}
+use Rattle.md_seam.specs.Events.Spelled.{told_at, unread}
 use Rattle.md_outline.proofs.RoleLemmas.{by-ending, by-told_at}
 
 -- how many containers are open
@@ -79,7 +81,8 @@ depth-all : (bytes : List ℕ) (events : List Event) (r : Reading) (names : List
     depth_of (read bytes r events).outer ≡ held (open_after names events)
 depth-all bytes [] r names m e = e
 depth-all bytes (x ∷ events) r names m e =
-    depth-all bytes events (read_by bytes x.kind (role x.name) x.point r) (open_behind names x.kind x.name) m.1 (depth-step bytes x.kind x.name x.point r names m.0 e)
+    depth-all bytes events (read_by bytes x.kind (role x.name) x.point r) (open_behind names x.kind x.name) m.1
+    (depth-step bytes x.kind x.name x.point r names m.0 e)
 
 none-open : (outer : List Around) → depth_of outer ≡ 0 → outer ≡ []
 none-open [] h = refl
@@ -87,4 +90,5 @@ none-open (around ∷ outer) h = let no : ⊥ = omega (arith, h) in absurd no
 
 -- where events are balanced, no container is open behind them
 pub all-closed : (bytes : List ℕ) (events : List Event) → Balanced events → (read bytes unread events).outer ≡ []
-all-closed bytes events b = none-open (read bytes unread events).outer (depth-all bytes events unread [] b.matches refl ∙ ap held b.closed)
+all-closed bytes events b =
+    none-open (read bytes unread events).outer (depth-all bytes events unread [] b.matches refl ∙ ap held b.closed)

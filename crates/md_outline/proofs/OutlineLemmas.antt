@@ -1,5 +1,7 @@
 -- What an outline has read of some events is what the events spell out.
-use Rattle.std.proofs.Common.{◌≡◌, ℕ, ◌+◌, ◌-◌, ◌<◌, ◌≤◌, Bool, true, false, ◌||◌, not, List, [], ◌∷◌, ◌++◌, length, drop, get_or, slice_range, Result, Ok, Err, refl, sym, ◌∙◌, ap, subst, append_assoc, append-nil, arith}
+use Rattle.std.proofs.Common.{◌≡◌, ℕ, ◌+◌, ◌-◌, ◌<◌, ◌≤◌, Bool, true, false, ◌||◌, not, List, [], ◌∷◌, ◌++◌, length}
+use Rattle.std.proofs.Common.{drop, get_or, slice_range, Result, Ok, Err, refl, sym, ◌∙◌, ap, subst, append_assoc}
+use Rattle.std.proofs.Common.{append-nil, arith}
 use Rattle.std.specs.Prelude.{Option, Some, None, option_map, OnOk}
 use Rattle.std.specs.List.{list_all}
 use Rattle.std.specs.Str.{IsUtf8}
@@ -15,7 +17,10 @@ use Rattle.md_definition.specs.declared.outline.Word.{Word}
 use Rattle.md_definition.specs.Outline.{Entry, block_entries, entry, outline}
 use Rattle.md_seam.specs.Events.Places.{last_line}
 use Rattle.md_definition.specs.Rest.{is_blank}
-use Rattle.md_seam.specs.Events.Spelled.{Around, Holds, IsPrefix, OpenLeaf, Opens, Reading, Shape, Tells, Text, after_prefix, at_ending, before_prefix, begun, block_around, block_of, byte_at, finished, left, next_line, on_leaf, read, read_by, read_enter, read_exit, spelled, text_to, unread}
+use Rattle.md_seam.specs.Events.Spelled.{Around, Holds, IsPrefix, OpenLeaf, Opens, Reading, Shape, Tells, Text}
+use Rattle.md_seam.specs.Events.Spelled.{after_prefix, at_ending, before_prefix, begun, block_around, block_of, byte_at}
+use Rattle.md_seam.specs.Events.Spelled.{finished, left, next_line, on_leaf, read, read_by, read_enter, read_exit}
+use Rattle.md_seam.specs.Events.Spelled.{spelled, text_to, unread}
 use Rattle.md_seam.specs.Events.Spelled as spelled
 use Rattle.md_definition.specs.State.{then_block}
 use Rattle.md_definition.specs.Texts.{split_lines}
@@ -23,8 +28,10 @@ use Rattle.md_definition.specs.Tree.{Block, Blocks, End, Line, More}
 use Rattle.md_seam.proofs.ThroughoutLemmas.{all-then}
 use Rattle.md_outline.specs.Between.{is_between}
 use Rattle.md_outline.specs.HeadingDepths.{are_shallow, fits}
-use Rattle.md_outline.specs.Outlined.{IsOutlined, are_parted, begins_line, has_plain_name, is_unparted, parts_by, span_by, tells_between}
-use Rattle.md_outline.specs.OutlineSteps.{BeginsBetween, IsCutAt, OutlineState, before_all, leaf_ended, parted_at, state_after, state_by, state_enter, state_exit, told_at, told_leaf}
+use Rattle.md_outline.specs.Outlined.{IsOutlined, are_parted, begins_line, has_plain_name, is_unparted, parts_by}
+use Rattle.md_outline.specs.Outlined.{span_by, tells_between}
+use Rattle.md_outline.specs.OutlineSteps.{BeginsBetween, IsCutAt, OutlineState, before_all, leaf_ended, parted_at}
+use Rattle.md_outline.specs.OutlineSteps.{state_after, state_by, state_enter, state_exit, told_at, told_leaf}
 use Rattle.md_outline.specs.ParagraphState.{begin_entries, text_block}
 use Rattle.md_outline.specs.Roles.{is_plain, is_told, leaf_entries, noted, shown_as}
 use Rattle.md_outline.specs.TextLines.{full_entries, text_entries}
@@ -38,28 +45,35 @@ use Rattle.md_outline.proofs.BlocksStay.{AllHold, blocks-stay, outer_hold}
 use Rattle.md_outline.proofs.HeadingLemmas.{fitted-same}
 use Rattle.md_outline.proofs.OutlineDepths.{all-closed, depth_of}
 use Rattle.md_outline.proofs.ParagraphPieces.{Pieces, pieces-from, pieces-last, pieces-next, pieces-none}
-use Rattle.md_outline.proofs.RoleLemmas.{ByRole, IsBlock, IsNote, IsShownBy, Knows, by-ending, by-role, knows-line, knows-noted}
+use Rattle.md_outline.proofs.RoleLemmas.{ByRole, IsBlock, IsNote, IsShownBy, Knows, by-ending, by-role, knows-line}
+use Rattle.md_outline.proofs.RoleLemmas.{knows-noted}
 use Rattle.md_outline.proofs.TextCuts.{utf8-part}
 
 -- a block that is added last is shown last
 pub outline-then : (depth : ℕ) (bs : Blocks) (b : Block) →
     outline depth (then_block bs b) ≡ outline depth bs ++ block_entries depth b
 outline-then depth End b = append-nil (block_entries depth b)
-outline-then depth (More a bs) b = ap (λ es. block_entries depth a ++ es) (outline-then depth bs b) ∙ sym (append_assoc (block_entries depth a) (outline depth bs) (block_entries depth b))
+outline-then depth (More a bs) b =
+    ap (λ es. block_entries depth a ++ es) (outline-then depth bs b)
+    ∙ sym (append_assoc (block_entries depth a) (outline depth bs) (block_entries depth b))
 
 -- Containers.
 
 -- the lines of the blocks that are finished, and of the containers around them: such a container begins with a word
 abbrev shown : List Around → Blocks → List Entry
 shown [] here = outline 0 here
-shown (around ∷ outer) here = (shown outer around.before ++ block_entries (depth_of outer) (block_around around.shape End)) ++ outline (depth_of outer + 1) here
+shown (around ∷ outer) here =
+    (shown outer around.before ++ block_entries (depth_of outer) (block_around around.shape End))
+    ++ outline (depth_of outer + 1) here
 
 shown-then : (outer : List Around) (here : Blocks) (b : Block) →
     shown outer (then_block here b) ≡ shown outer here ++ block_entries (depth_of outer) b
 shown-then [] here b = outline-then 0 here b
 shown-then (around ∷ outer) here b =
-    let front : List Entry = shown outer around.before ++ block_entries (depth_of outer) (block_around around.shape End) in
-    ap (λ es. front ++ es) (outline-then (depth_of outer + 1) here b) ∙ sym (append_assoc front (outline (depth_of outer + 1) here) (block_entries (depth_of outer + 1) b))
+    let front : List Entry = shown outer around.before
+    ++ block_entries (depth_of outer) (block_around around.shape End) in
+    ap (λ es. front ++ es) (outline-then (depth_of outer + 1) here b)
+    ∙ sym (append_assoc front (outline (depth_of outer + 1) here) (block_entries (depth_of outer + 1) b))
 
 -- the line that such a container begins with
 begin-line : (shape : Shape) (w : Word) (depth : ℕ) → IsShownBy shape w →
@@ -70,7 +84,8 @@ begin-line shape w depth by = by.lines depth End
 shown-left : (around : Around) (outer : List Around) (here : Blocks) (w : Word) → IsShownBy around.shape w →
     shown (around ∷ outer) here ≡ shown outer (then_block around.before (block_around around.shape here))
 shown-left around outer here w by =
-    ap (λ es. (shown outer around.before ++ es) ++ outline (depth_of outer + 1) here) (begin-line around.shape w (depth_of outer) by)
+    ap (λ es. (shown outer around.before ++ es) ++ outline (depth_of outer + 1) here)
+    (begin-line around.shape w (depth_of outer) by)
     ∙ append_assoc (shown outer around.before) (entry (depth_of outer) w ∷ []) (outline (depth_of outer + 1) here)
     ∙ ap (λ es. shown outer around.before ++ es) (sym (by.lines (depth_of outer) here))
     ∙ sym (shown-then outer around.before (block_around around.shape here))
@@ -89,7 +104,8 @@ KnowsOpen (Some leaf) = Knows leaf
 -- the text that is read, by where it begins or goes on
 abbrev TextIs : List Entry → ℕ → List Entry → Option Span → Option Text → Type 0
 TextIs before depth lines None None = lines ≡ before
-TextIs before depth lines (Some span) (Some text) = (text.from ≡ span.from) × Pieces before depth lines span.is_parted text.front
+TextIs before depth lines (Some span) (Some text) =
+    (text.from ≡ span.from) × Pieces before depth lines span.is_parted text.front
 TextIs before depth lines None (Some text) = ⊥
 TextIs before depth lines (Some span) None = ⊥
 
@@ -105,12 +121,14 @@ record Agrees (s : OutlineState) (r : Reading) : Type 0 where
 text-lines : (before : List Entry) (depth : ℕ) (lines : List Entry) (span : Option Span) (text : Option Text) →
     is_unparted span ≡ true → TextIs before depth lines span text → lines ≡ before
 text-lines before depth lines None None h k = k
-text-lines before depth lines (Some span) (Some text) h k = (pieces-none before depth lines span.is_parted text.front h k.1).0
+text-lines before depth lines (Some span) (Some text) h k =
+    (pieces-none before depth lines span.is_parted text.front h k.1).0
 text-lines before depth lines None (Some text) h k = absurd k
 text-lines before depth lines (Some span) None h k = absurd k
 
 -- and the text stays when lines and blocks are added
-text-stays : (before before' : List Entry) (depth depth' : ℕ) (lines lines' : List Entry) (span : Option Span) (text : Option Text) →
+text-stays : (before before' : List Entry) (depth depth' : ℕ) (lines lines' : List Entry) (span : Option Span)
+    (text : Option Text) →
     is_unparted span ≡ true → (lines ≡ before → lines' ≡ before') → TextIs before depth lines span text →
     TextIs before' depth' lines' span text
 text-stays before before' depth depth' lines lines' None None h f k = f k
@@ -154,11 +172,14 @@ known-line None k = refl
 known-line (Some leaf) k = ap Some (knows-line leaf k)
 
 -- a text that has no prefix in it is one piece
-whole-piece : (bytes : List ℕ) (p : Point) (before : List Entry) (depth : ℕ) (lines : List Entry) (span : Span) (text : Text) →
+whole-piece : (bytes : List ℕ) (p : Point) (before : List Entry) (depth : ℕ) (lines : List Entry) (span : Span)
+    (text : Text) →
     not span.is_parted ≡ true → TextIs before depth lines (Some span) (Some text) →
     text_to bytes p.index text ≡ slice_range bytes span.from p.index
 whole-piece bytes p before depth lines span text h k =
-    ap (λ f. f ++ slice_range bytes text.from p.index) (pieces-none before depth lines span.is_parted text.front h k.1).1 ∙ ap (λ i. slice_range bytes i p.index) k.0
+    ap (λ f. f ++ slice_range bytes text.from p.index)
+    (pieces-none before depth lines span.is_parted text.front h k.1).1
+    ∙ ap (λ i. slice_range bytes i p.index) k.0
 
 -- a text that is a block of its own
 agrees-block : (bytes : List ℕ) (x : spelled.Purpose) (p : Point) (s : OutlineState) (r : Reading) (span : Option Span)
@@ -209,7 +230,8 @@ agrees-note bytes x y p s r (Some span) (Some text) by h k is =
     })
 
 -- a prefix begins
-agrees-prefix : (bytes : List ℕ) (p : Point) (s : OutlineState) (r : Reading) (span : Option Span) (text : Option Text) →
+agrees-prefix : (bytes : List ℕ) (p : Point) (s : OutlineState) (r : Reading) (span : Option Span)
+    (text : Option Text) →
     s.text ≡ span → TextIs (shown r.outer r.here) s.depth s.lines span text →
     parts_by bytes Enter IsPrefix p span ≡ true → Agrees s r →
     Agrees (parted_at bytes p.index span s) (record r { text = option_map (before_prefix bytes p) text })
@@ -233,15 +255,18 @@ agrees-prefix bytes p s r (Some span) (Some text) e h k is =
       known = is.known;
       text = (
         h.0,
-        subst (λ i. Pieces (shown r.outer r.here) s.depth lines true (text.front ++ slice_range bytes i p.index)) (sym h.0)
+        subst (λ i. Pieces (shown r.outer r.here) s.depth lines true (text.front ++ slice_range bytes i p.index))
+            (sym h.0)
             (pieces-next (shown r.outer r.here) s.depth s.lines span.is_parted text.front piece parts.0 parts.1 h.1),
       );
     }
 
 -- a prefix ends
-agrees-gone_on : (p : Point) (before : List Entry) (depth : ℕ) (lines : List Entry) (span : Option Span) (text : Option Text) →
+agrees-gone_on : (p : Point) (before : List Entry) (depth : ℕ) (lines : List Entry) (span : Option Span)
+    (text : Option Text) →
     TextIs before depth lines span text →
-    TextIs before depth lines (option_map (λ (t : Span). record t { from = byte_at p }) span) (option_map (after_prefix p) text)
+    TextIs before depth lines (option_map (λ (t : Span). record t { from = byte_at p }) span)
+    (option_map (after_prefix p) text)
 agrees-gone_on p before depth lines None None h = h
 agrees-gone_on p before depth lines (Some span) (Some text) h = (refl, h.1)
 agrees-gone_on p before depth lines None (Some text) h = absurd h
@@ -257,7 +282,9 @@ agrees-left s r [] e h is =
       containers = is.containers;
       leaf = is.leaf;
       known = is.known;
-      text = text-stays (shown r.outer r.here) (shown r.outer r.here) s.depth (s.depth - 1) s.lines s.lines s.text r.text h (λ same. same) is.text;
+      text =
+          text-stays (shown r.outer r.here) (shown r.outer r.here) s.depth (s.depth - 1) s.lines s.lines s.text r.text h
+          (λ same. same) is.text;
     }
 agrees-left s r (around ∷ outer) e h is =
     let containers : AreShown (around ∷ outer) = subst AreShown e is.containers in
@@ -268,7 +295,9 @@ agrees-left s r (around ∷ outer) e h is =
       leaf = is.leaf;
       known = is.known;
       text =
-          text-stays (shown r.outer r.here) (shown outer (then_block around.before (block_around around.shape r.here))) s.depth (s.depth - 1) s.lines s.lines s.text r.text h
+          text-stays (shown r.outer r.here)
+          (shown outer (then_block around.before (block_around around.shape r.here))) s.depth
+          (s.depth - 1) s.lines s.lines s.text r.text h
           (λ same. same ∙ ap (λ o. shown o r.here) e ∙ shown-left around outer r.here containers.0.0 containers.0.1)
           is.text;
     }
@@ -294,7 +323,8 @@ apart bytes kind x p (Some span) by h = sym (by span) ∙ h
 
 -- the step of one event, by what it means
 agrees-begun : (p : Point) (s : OutlineState) (r : Reading) → is_unparted s.text ≡ true → Agrees s r →
-    Agrees (record s { text = Some (record { from = byte_at p; is_parted = false }) }) (record r { text = Some (begun p) })
+    Agrees (record s { text = Some (record { from = byte_at p; is_parted = false }) })
+    (record r { text = Some (begun p) })
 agrees-begun p s r k is = record {
   depth = is.depth;
   containers = is.containers;
@@ -313,7 +343,9 @@ agrees-container bytes shape w p s r by k is = record {
   leaf = is.leaf;
   known = is.known;
   text =
-      text-stays (shown r.outer r.here) ((shown r.outer r.here ++ block_entries (depth_of r.outer) (block_around shape End)) ++ []) s.depth (s.depth + 1) s.lines (s.lines ++ entry s.depth w ∷ []) s.text r.text
+      text-stays (shown r.outer r.here)
+      ((shown r.outer r.here ++ block_entries (depth_of r.outer) (block_around shape End)) ++ []) s.depth
+      (s.depth + 1) s.lines (s.lines ++ entry s.depth w ∷ []) s.text r.text
       k
       (λ same.
       ap (λ es. es ++ entry s.depth w ∷ []) same
@@ -325,7 +357,9 @@ agrees-container bytes shape w p s r by k is = record {
 
 -- what an event that begins a part, and one that ends a part, leaves
 abbrev AgreesBehind : List ℕ → Point → spelled.Role → Role → Type 0
-AgreesBehind bytes p x y = (s : OutlineState) (r : Reading) → parts_by bytes Enter x p s.text ≡ true → Agrees s r → Agrees (state_enter bytes y p s) (read_enter bytes x p r)
+AgreesBehind bytes p x y =
+    (s : OutlineState) (r : Reading) → parts_by bytes Enter x p s.text ≡ true → Agrees s r →
+    Agrees (state_enter bytes y p s) (read_enter bytes x p r)
 
 agrees-enter : (bytes : List ℕ) (p : Point) → ByRole (AgreesBehind bytes p)
 agrees-enter bytes p = record {
@@ -341,7 +375,10 @@ agrees-enter bytes p = record {
 }
 
 abbrev AgreesEnded : List ℕ → Point → spelled.Role → Role → Type 0
-AgreesEnded bytes p x y = (s : OutlineState) (r : Reading) → parts_by bytes Exit x p s.text ≡ true → are_shallow (read_exit bytes x p r).here ≡ true → Agrees s r → Agrees (state_exit bytes y p s) (read_exit bytes x p r)
+AgreesEnded bytes p x y =
+    (s : OutlineState) (r : Reading) → parts_by bytes Exit x p s.text ≡ true →
+    are_shallow (read_exit bytes x p r).here ≡ true → Agrees s r →
+    Agrees (state_exit bytes y p s) (read_exit bytes x p r)
 
 agrees-exit : (bytes : List ℕ) (p : Point) → ByRole (AgreesEnded bytes p)
 agrees-exit bytes p = record {
@@ -422,9 +459,11 @@ span-step bytes Exit x p s h = by-role (SameSpan bytes Exit p s) x (span-exit by
 -- one event stands where it may, and so do those behind it
 parted-step : (bytes : List ℕ) (e : Event) (events : List Event) (s : OutlineState) → has_plain_name e ≡ true →
     are_parted bytes s.text (e ∷ events) ≡ true →
-    (parts_by bytes e.kind (spelled.role e.name) e.point s.text ≡ true) × (are_parted bytes (state_by bytes e.kind (shown_as (spelled.role e.name)) e.point s).text events ≡ true)
+    (parts_by bytes e.kind (spelled.role e.name) e.point s.text ≡ true) ×
+    (are_parted bytes (state_by bytes e.kind (shown_as (spelled.role e.name)) e.point s).text events ≡ true)
 parted-step bytes e events s h k =
-    let parts = and_parts (parts_by bytes e.kind (spelled.role e.name) e.point s.text) (are_parted bytes (span_by e.kind (spelled.role e.name) e.point s.text) events) k in
+    let parts = and_parts (parts_by bytes e.kind (spelled.role e.name) e.point s.text)
+    (are_parted bytes (span_by e.kind (spelled.role e.name) e.point s.text) events) k in
     (parts.0, ap (λ x. are_parted bytes x events) (span-step bytes e.kind (spelled.role e.name) e.point s h) ∙ parts.1)
 
 -- all events: then no text is parted
@@ -449,7 +488,9 @@ outline-spelled bytes events out =
     let closed : (read bytes unread events).outer ≡ [] = all-closed bytes events out.balanced in
     let all = agrees-all bytes events before_all unread out.names out.parted (out.depths, ap (outer_hold fits) closed)
     (record { depth = refl; containers = tt; leaf = refl; known = tt; text = refl }) in
-    text-lines (shown (read bytes unread events).outer (read bytes unread events).here) (state_after bytes before_all events).depth (state_after bytes before_all events).lines (state_after bytes before_all events).text (read bytes unread events).text all.1 all.0.text
+    text-lines (shown (read bytes unread events).outer (read bytes unread events).here)
+    (state_after bytes before_all events).depth (state_after bytes before_all events).lines
+    (state_after bytes before_all events).text (read bytes unread events).text all.1 all.0.text
     ∙ ap (λ outer. shown outer (read bytes unread events).here) closed
 
 -- what holds where a call has answered `Ok` gives what follows from it there
@@ -503,7 +544,8 @@ pub piece-end : (bytes part : List ℕ) (span : Span) (end : ℕ) (text : Option
     (IsUtf8 part → lines ≡ s.lines ++ begin_entries s.depth span.is_parted ++ full_entries (s.depth + 1) part) →
     record s { text = Some (record span { is_parted = true }); lines = lines } ≡ parted_at bytes end text s
 piece-end bytes part span end text s lines is cut epart elines =
-    let with_lines : List Entry → OutlineState = λ es. record s { text = Some (record span { is_parted = true }); lines = es } in
+    let with_lines : List Entry →
+    OutlineState = λ es. record s { text = Some (record span { is_parted = true }); lines = es } in
     ap with_lines (part-shown bytes part span end text s lines full_entries is cut epart elines)
     ∙ sym (ap (λ t. parted_at bytes end t s) is)
 
@@ -538,15 +580,18 @@ pub record Goes (bytes : List ℕ) (events : List Event) (s all : OutlineState) 
 pub state-next : (bytes : List ℕ) (events : List Event) (i : ℕ) (d : Event) (s next all : OutlineState) →
     IsOutlined events bytes → i < length events → Goes bytes (drop i events) s all →
     (IsCutAt bytes s.text (get_or events i d).point.index →
-    next ≡ state_by bytes (get_or events i d).kind (shown_as (spelled.role (get_or events i d).name)) (get_or events i d).point s) →
+    next ≡ state_by bytes (get_or events i d).kind (shown_as (spelled.role (get_or events i d).name))
+    (get_or events i d).point s) →
     Goes bytes (drop (i + 1) events) next all
 state-next bytes events i d s next all is lt goes reads =
     let e : Event = get_or events i d in
     let x : spelled.Role = spelled.role e.name in
-    let between : is_between bytes e.point.index ≡ true = all-at (λ (x : Event). is_between bytes x.point.index) events i d lt is.between in
+    let between : is_between bytes e.point.index ≡
+    true = all-at (λ (x : Event). is_between bytes x.point.index) events i d lt is.between in
     let tells : tells_between bytes e ≡ true = all-at (tells_between bytes) events i d lt is.texts in
     let name : has_plain_name e ≡ true = all-at has_plain_name events i d lt is.names in
-    let parts = parted-step bytes e (drop (i + 1) events) s name (sym (at_drop_more (are_parted bytes s.text) events i d lt) ∙ goes.parted) in
+    let parts = parted-step bytes e (drop (i + 1) events) s name
+    (sym (at_drop_more (are_parted bytes s.text) events i d lt) ∙ goes.parted) in
     let read : next ≡ state_by bytes e.kind (shown_as x) e.point s =
     reads (record { utf8 = is.text; begins = goes.begins; ends = between }) in
     record {
@@ -555,7 +600,9 @@ state-next bytes events i d s next all is lt goes reads =
           (sym (ap (λ (n : OutlineState). n.text) read ∙ span-step bytes e.kind x e.point s name))
           (begins-step bytes e.kind x e.point s.text tells parts.0 goes.begins);
       parted = ap (λ (n : OutlineState). are_parted bytes n.text (drop (i + 1) events)) read ∙ parts.1;
-      comes = ap (λ (n : OutlineState). state_after bytes n (drop (i + 1) events)) read ∙ sym (at_drop_more (state_after bytes s) events i d lt) ∙ goes.comes;
+      comes =
+          ap (λ (n : OutlineState). state_after bytes n (drop (i + 1) events)) read
+          ∙ sym (at_drop_more (state_after bytes s) events i d lt) ∙ goes.comes;
     }
 
 -- all events were read
@@ -563,4 +610,5 @@ pub state-end : (bytes : List ℕ) (events : List Event) (i : ℕ) (s : OutlineS
     length events ≤ i → state_after bytes s (drop i events) ≡ state_after bytes before_all events →
     s.lines ≡ outline 0 (spelled events bytes)
 state-end bytes events i s is le same =
-    ap (λ (x : OutlineState). x.lines) (sym (at_drop_all (state_after bytes s) events i le) ∙ same) ∙ outline-spelled bytes events is
+    ap (λ (x : OutlineState). x.lines) (sym (at_drop_all (state_after bytes s) events i le) ∙ same)
+    ∙ outline-spelled bytes events is

@@ -1,5 +1,6 @@
 -- The pieces of a text that is a block of its own, as an outline shows them.
-use Rattle.std.proofs.Common.{◌≡◌, ℕ, ◌+◌, Bool, true, false, ◌||◌, not, List, [], ◌∷◌, ◌++◌, refl, sym, ◌∙◌, ap, append_assoc, append-nil}
+use Rattle.std.proofs.Common.{◌≡◌, ℕ, ◌+◌, Bool, true, false, ◌||◌, not, List, [], ◌∷◌, ◌++◌, refl, sym, ◌∙◌, ap}
+use Rattle.std.proofs.Common.{append_assoc, append-nil}
 use Rattle.std.proofs.lemmas.Bool.{true≢false}
 use Rattle.md_definition.specs.declared.outline.Word.TheVariants as word
 use Rattle.md_definition.specs.Lines.{begins_with}
@@ -17,7 +18,8 @@ abbrev pub Pieces : List Entry → ℕ → List Entry → Bool → List ℕ → 
 Pieces before depth lines false front = (lines ≡ before) × (front ≡ [])
 Pieces before depth lines true front = (full : List Entry) ×
     ((lines ≡ (before ++ entry depth word.Paragraph ∷ []) ++ full) ×
-    ((rest : List ℕ) → begins_with 10 rest ≡ false → text_entries (depth + 1) (front ++ rest) ≡ full ++ text_entries (depth + 1) rest))
+    ((rest : List ℕ) → begins_with 10 rest ≡ false →
+    text_entries (depth + 1) (front ++ rest) ≡ full ++ text_entries (depth + 1) rest))
 
 -- where it is not parted, nothing
 pub pieces-none : (before : List Entry) (depth : ℕ) (lines : List Entry) (x : Bool) (front : List ℕ) → not x ≡ true →
@@ -43,19 +45,22 @@ begins-other false h = refl
 -- one piece more is shown
 pub pieces-next : (before : List Entry) (depth : ℕ) (lines : List Entry) (x : Bool) (front piece : List ℕ) →
     (not x || not (begins_with 10 piece)) ≡ true → is_blank (last_line (split_lines piece)) ≡ true →
-    Pieces before depth lines x front → Pieces before depth ((lines ++ begin_entries depth x) ++ full_entries (depth + 1) piece) true (front ++ piece)
+    Pieces before depth lines x front →
+    Pieces before depth ((lines ++ begin_entries depth x) ++ full_entries (depth + 1) piece) true (front ++ piece)
 pieces-next before depth lines false front piece h blank k = (
   full_entries (depth + 1) piece,
   (
     ap (λ es. (es ++ entry depth word.Paragraph ∷ []) ++ full_entries (depth + 1) piece) k.0,
-    λ rest no. ap (λ f. text_entries (depth + 1) ((f ++ piece) ++ rest)) k.1 ∙ piece-entries (depth + 1) piece rest no blank,
+    λ rest no. ap (λ f. text_entries (depth + 1) ((f ++ piece) ++ rest)) k.1
+        ∙ piece-entries (depth + 1) piece rest no blank,
   ),
 )
 pieces-next before depth lines true front piece h blank k =
     let shown_full : List Entry = full_entries (depth + 1) piece in (
       k.0 ++ shown_full,
       (
-        ap (λ es. es ++ shown_full) (append-nil lines ∙ k.1.0) ∙ append_assoc (before ++ entry depth word.Paragraph ∷ []) k.0 shown_full,
+        ap (λ es. es ++ shown_full) (append-nil lines ∙ k.1.0)
+            ∙ append_assoc (before ++ entry depth word.Paragraph ∷ []) k.0 shown_full,
         λ rest no.
             ap (text_entries (depth + 1)) (append_assoc front piece rest)
             ∙ k.1.1 (piece ++ rest) (begins-behind piece rest (begins-other (begins_with 10 piece) h) no)

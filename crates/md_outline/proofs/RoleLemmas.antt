@@ -8,7 +8,11 @@ use Rattle.md_engine.specs.declared.event.Point.{Point}
 use Rattle.md_definition.specs.declared.outline.Word.{Word}
 use Rattle.md_definition.specs.declared.outline.Word.TheVariants as word
 use Rattle.md_definition.specs.Outline.{block_entries, entry, outline}
-use Rattle.md_seam.specs.Events.Spelled.{AsDigits, AsFootnoteLabel, AsHeading, AsItemMarker, AsMarkers, AsParagraph, BreakLeaf, HeadingAtxLeaf, Holds, IsEnding, IsPrefix, IsQuiet, LeafKind, OfBreak, OfHeadingAtx, OpenLeaf, Opens, QuoteShape, Reading, Shape, Tells, Text, add_block, at_ending, block_around, fresh, named, next_line, on_leaf, on_shape, spelled, text_to}
+use Rattle.md_seam.specs.Events.Spelled.{AsDigits, AsFootnoteLabel, AsHeading, AsItemMarker, AsMarkers, AsParagraph}
+use Rattle.md_seam.specs.Events.Spelled.{BreakLeaf, HeadingAtxLeaf, Holds, IsEnding, IsPrefix, IsQuiet, LeafKind}
+use Rattle.md_seam.specs.Events.Spelled.{OfBreak, OfHeadingAtx, OpenLeaf, Opens, QuoteShape, Reading, Shape, Tells}
+use Rattle.md_seam.specs.Events.Spelled.{Text, add_block, at_ending, block_around, fresh, named, next_line, on_leaf}
+use Rattle.md_seam.specs.Events.Spelled.{on_shape, spelled, text_to}
 use Rattle.md_seam.specs.Events.Spelled as spelled
 use Rattle.md_definition.specs.Tree.{Block, Blocks, Line}
 use Rattle.md_outline.specs.Outlined.{begins_line, parts_exit, piece_to}

@@ -1,5 +1,7 @@
 -- Parts of UTF-8 texts: a text that is cut beside bytes of ASCII or behind its mark, and its lines.
-use Rattle.std.proofs.Common.{◌≡◌, ℕ, suc, ◌+◌, ◌-◌, ◌<◌, ◌≤◌, Bool, true, false, cond, ◌&&◌, ◌||◌, ◌==◌, not, List, [], ◌∷◌, ◌++◌, length, take, drop, get_or, slice_range, inl, inr, ◌⊎◌, Result, Ok, Err, refl, sym, ◌∙◌, ap, subst, append_assoc, append-nil, arith}
+use Rattle.std.proofs.Common.{◌≡◌, ℕ, suc, ◌+◌, ◌-◌, ◌<◌, ◌≤◌, Bool, true, false, cond, ◌&&◌, ◌||◌, ◌==◌, not, List, []}
+use Rattle.std.proofs.Common.{◌∷◌, ◌++◌, length, take, drop, get_or, slice_range, inl, inr, ◌⊎◌, Result, Ok, Err, refl}
+use Rattle.std.proofs.Common.{sym, ◌∙◌, ap, subst, append_assoc, append-nil, arith}
 use Rattle.std.specs.Prelude.{nat_lt, MatchResult}
 use Rattle.std.specs.Result.{result_unwrap_or}
 use Rattle.std.specs.Borrow.{Bor}
@@ -10,7 +12,9 @@ use Rattle.std.proofs.lemmas.Bool.{and_parts, cases_lt, eqb-true, ltb-true, true
 use Rattle.std.proofs.lemmas.Bool.Decides.{nat_tests}
 use Rattle.std.proofs.lemmas.List.{drop_all, length-drop, take_all}
 use Rattle.std.proofs.lemmas.List.Sums.{prefix_len_stops}
-use Rattle.std.proofs.lemmas.Str.{IsCharBoundary-after_ascii, IsCharBoundary-before_ascii, IsCharBoundary-end, IsCharBoundary-past_char, IsCharBoundary-start, IsUtf8-between, IsUtf8-drop, IsUtf8-nil, IsUtf8-take}
+use Rattle.std.proofs.lemmas.Str.{IsCharBoundary-after_ascii, IsCharBoundary-before_ascii, IsCharBoundary-end}
+use Rattle.std.proofs.lemmas.Str.{IsCharBoundary-past_char, IsCharBoundary-start, IsUtf8-between, IsUtf8-drop}
+use Rattle.std.proofs.lemmas.Str.{IsUtf8-nil, IsUtf8-take}
 use Rattle.md_definition.specs.declared.outline.Word.TheVariants as word
 use Rattle.md_definition.specs.Lines.{begins_with, ends_line, is_ending}
 use Rattle.md_definition.specs.Preamble.{has_mark}
@@ -27,7 +31,8 @@ use Rattle.md_outline.specs.Between.{is_between}
 use Rattle.md_outline.specs.TextLines.{after_ending, full_entries, line_len, text_entries}
 
 -- behind a byte of ASCII
-boundary-behind : (bytes : List ℕ) (i : ℕ) → IsUtf8 bytes → 0 < i → i ≤ length bytes → get_or bytes (i - 1) 0 < 128 → IsCharBoundary bytes i
+boundary-behind : (bytes : List ℕ) (i : ℕ) → IsUtf8 bytes → 0 < i → i ≤ length bytes → get_or bytes (i - 1) 0 < 128 →
+    IsCharBoundary bytes i
 boundary-behind bytes i u some within ascii =
     let here : i - 1 + 1 ≡ i = omega arith in
     subst (IsCharBoundary bytes) here (IsCharBoundary-after_ascii bytes (i - 1) u (omega arith) ascii)
@@ -38,13 +43,18 @@ unfolding encode
 boundary-mark bytes u h = IsCharBoundary-past_char bytes (drop 3 bytes) 0 65279 (omega arith) u (mark-bytes bytes h)
 
 -- a place in a text that stands beside ASCII, or behind the mark, is the boundary of a character
-pub boundary-between : (bytes : List ℕ) (i : ℕ) → IsUtf8 bytes → is_between bytes i ≡ true → i ≤ length bytes → IsCharBoundary bytes i
-boundary-between bytes i u between within = go (i == 0) (i == length bytes) (nat_lt (get_or bytes (i - 1) 0) 128) (nat_lt (get_or bytes i 0) 128) refl refl refl refl between
+pub boundary-between : (bytes : List ℕ) (i : ℕ) → IsUtf8 bytes → is_between bytes i ≡ true → i ≤ length bytes →
+    IsCharBoundary bytes i
+boundary-between bytes i u between within =
+    go (i == 0) (i == length bytes) (nat_lt (get_or bytes (i - 1) 0) 128)
+    (nat_lt (get_or bytes i 0) 128) refl refl refl refl between
   where
-    go : (x y z t : Bool) → (i == 0) ≡ x → (i == length bytes) ≡ y → nat_lt (get_or bytes (i - 1) 0) 128 ≡ z → nat_lt (get_or bytes i 0) 128 ≡ t →
+    go : (x y z t : Bool) → (i == 0) ≡ x → (i == length bytes) ≡ y → nat_lt (get_or bytes (i - 1) 0) 128 ≡ z →
+        nat_lt (get_or bytes i 0) 128 ≡ t →
         (x || y || z || t || ((i == 3) && has_mark bytes)) ≡ true → IsCharBoundary bytes i
     go true y z t a b c d h = subst (IsCharBoundary bytes) (sym (eqb-true i 0 a)) (IsCharBoundary-start bytes u)
-    go false true z t a b c d h = subst (IsCharBoundary bytes) (sym (eqb-true i (length bytes) b)) (IsCharBoundary-end bytes)
+    go false true z t a b c d h =
+        subst (IsCharBoundary bytes) (sym (eqb-true i (length bytes) b)) (IsCharBoundary-end bytes)
     go false false true t a b c d h =
         let some : 0 < i = grind (arith, nat_tests) in
         boundary-behind bytes i u some within (ltb-true _ _ c)
@@ -58,22 +68,28 @@ boundary-between bytes i u between within = go (i == 0) (i == length bytes) (nat
 range-past : (xs : List ℕ) (i j : ℕ) → length xs ≤ j → slice_range xs i j ≡ slice_range xs i (length xs)
 range-past xs i j le =
     let left : length (drop i xs) ≡ length xs - i = length-drop i xs in
-    take_all (j - i) (drop i xs) (omega (arith, left)) ∙ sym (take_all (length xs - i) (drop i xs) (omega (arith, left)))
+    take_all (j - i) (drop i xs) (omega (arith, left))
+    ∙ sym (take_all (length xs - i) (drop i xs) (omega (arith, left)))
 
 -- the part of a UTF-8 text between two such places
-pub utf8-part : (bytes : List ℕ) (i j : ℕ) → IsUtf8 bytes → is_between bytes i ≡ true → is_between bytes j ≡ true → IsUtf8 (slice_range bytes i j)
+pub utf8-part : (bytes : List ℕ) (i j : ℕ) → IsUtf8 bytes → is_between bytes i ≡ true → is_between bytes j ≡ true →
+    IsUtf8 (slice_range bytes i j)
 utf8-part bytes i j u a b = go (cases_lt i j) (cases_lt i (length bytes)) (cases_lt (length bytes) j)
   where
     none : slice_range bytes i j ≡ [] → IsUtf8 (slice_range bytes i j)
     none e = subst IsUtf8 (sym e) IsUtf8-nil
 
-    go : (i < j) ⊎ (j ≤ i) → (i < length bytes) ⊎ (length bytes ≤ i) → (length bytes < j) ⊎ (j ≤ length bytes) → IsUtf8 (slice_range bytes i j)
+    go : (i < j) ⊎ (j ≤ i) → (i < length bytes) ⊎ (length bytes ≤ i) → (length bytes < j) ⊎ (j ≤ length bytes) →
+        IsUtf8 (slice_range bytes i j)
     go (inr le) x y = none (range-none bytes i j le)
     go (inl lt) (inr past) y = none (range-past bytes i j (omega arith) ∙ range-none bytes i (length bytes) past)
     go (inl lt) (inl inside) (inl past) =
-        subst IsUtf8 (sym (range-past bytes i j (omega arith))) (IsUtf8-between bytes i (length bytes) u (omega arith) (boundary-between bytes i u a (omega arith)) (IsCharBoundary-end bytes))
+        subst IsUtf8 (sym (range-past bytes i j (omega arith)))
+        (IsUtf8-between bytes i (length bytes) u (omega arith) (boundary-between bytes i u a (omega arith))
+        (IsCharBoundary-end bytes))
     go (inl lt) (inl inside) (inr within) =
-        IsUtf8-between bytes i j u (omega arith) (boundary-between bytes i u a (omega arith)) (boundary-between bytes j u b within)
+        IsUtf8-between bytes i j u (omega arith) (boundary-between bytes i u a (omega arith))
+        (boundary-between bytes j u b within)
 
 ending-ascii : (b : ℕ) → not (is_ending b) ≡ false → b < 128
 ending-ascii b h = grind (arith, nat_tests)
@@ -81,7 +97,8 @@ ending-ascii b h = grind (arith, nat_tests)
 -- a text may be cut where its first line ends
 line-boundary : (text : List ℕ) → line_len text < length text → IsCharBoundary text (line_len text)
 line-boundary text lt =
-    let stops : not (is_ending (get_or text (line_len text) 0)) ≡ false = prefix_len_stops (λ b. not (is_ending b)) text 0 lt in
+    let stops : not (is_ending (get_or text (line_len text) 0)) ≡
+    false = prefix_len_stops (λ b. not (is_ending b)) text 0 lt in
     IsCharBoundary-before_ascii text (line_len text) lt (ending-ascii _ stops)
 
 -- a line that a text begins with
@@ -124,7 +141,8 @@ pub utf8-trim : (text : List ℕ) → IsUtf8 text → IsUtf8 (trim_start text)
 utf8-trim [] u = u
 utf8-trim (b ∷ bytes) u = go (is_white b) refl (utf8-trim bytes)
   where
-    go : (x : Bool) → is_white b ≡ x → (IsUtf8 bytes → IsUtf8 (trim_start bytes)) → IsUtf8 (drop (cond x (1 + prefix_len is_white bytes) 0) (b ∷ bytes))
+    go : (x : Bool) → is_white b ≡ x → (IsUtf8 bytes → IsUtf8 (trim_start bytes)) →
+        IsUtf8 (drop (cond x (1 + prefix_len is_white bytes) 0) (b ∷ bytes))
     go false e trimmed = u
     go true e trimmed =
         let ascii : b < 128 = grind (arith, nat_tests) in
@@ -132,7 +150,9 @@ utf8-trim (b ∷ bytes) u = go (is_white b) refl (utf8-trim bytes)
         rw one (trimmed (utf8-tail b bytes u ascii))
 
 -- what is lent of some bytes as a text
-pub text-lent : {E : Type 0} (r : Result (Bor (List ℕ)) E) (d : Bor (List ℕ)) (bytes : List ℕ) (Q : E → Type 0) → MatchResult r (λ s. (s.now ≡ bytes) × IsUtf8 bytes) (λ e. ¬ (IsUtf8 bytes) × Q e) → IsUtf8 bytes → (result_unwrap_or r d).now ≡ bytes
+pub text-lent : {E : Type 0} (r : Result (Bor (List ℕ)) E) (d : Bor (List ℕ)) (bytes : List ℕ) (Q : E → Type 0) →
+    MatchResult r (λ s. (s.now ≡ bytes) × IsUtf8 bytes) (λ e. ¬ (IsUtf8 bytes) × Q e) → IsUtf8 bytes →
+    (result_unwrap_or r d).now ≡ bytes
 text-lent (Ok s) d bytes Q h u = h.0
 text-lent (Err e) d bytes Q h u = absurd (h.0 u)
 
@@ -141,9 +161,11 @@ text-lent (Err e) d bytes Q h u = absurd (h.0 u)
 -- a text that is read as its first bytes and what stands behind them: nothing, or the ending of its first line
 abbrev Splits : List ℕ → ℕ → List ℕ → Type 0
 Splits text k [] = split_lines text ≡ take k text ∷ []
-Splits text k (b ∷ bytes) = (is_ending b ≡ true) × (split_lines text ≡ take k text ∷ split_lines (after_ending (b ∷ bytes)))
+Splits text k (b ∷ bytes) =
+    (is_ending b ≡ true) × (split_lines text ≡ take k text ∷ split_lines (after_ending (b ∷ bytes)))
 
-splits-inside : (c : ℕ) (bytes : List ℕ) (k : ℕ) (behind : List ℕ) → is_ending c ≡ false → Splits bytes k behind → Splits (c ∷ bytes) (suc k) behind
+splits-inside : (c : ℕ) (bytes : List ℕ) (k : ℕ) (behind : List ℕ) → is_ending c ≡ false → Splits bytes k behind →
+    Splits (c ∷ bytes) (suc k) behind
 splits-inside c bytes k [] e h = split-byte c bytes e ∙ ap (onto_first c) h
 splits-inside c bytes k (b ∷ behind) e h = (h.0, split-byte c bytes e ∙ ap (onto_first c) h.1)
 
@@ -152,15 +174,27 @@ split-return [] = refl
 split-return (d ∷ bytes) = by (d == 10) refl
   where
     by : (x : Bool) → (d == 10) ≡ x → split_lines (13 ∷ d ∷ bytes) ≡ [] ∷ split_lines (after_ending (13 ∷ d ∷ bytes))
-    by true e = subst (λ x. split_lines (13 ∷ x ∷ bytes) ≡ [] ∷ split_lines (after_ending (13 ∷ x ∷ bytes))) (sym (eqb-true d 10 e)) refl
-    by false e = subst (λ x. cond (not x) ([] ∷ split_lines (d ∷ bytes)) (split_lines (d ∷ bytes)) ≡ [] ∷ split_lines (cond x bytes (d ∷ bytes))) (sym e) refl
+    by true e =
+        subst (λ x. split_lines (13 ∷ x ∷ bytes) ≡ [] ∷ split_lines (after_ending (13 ∷ x ∷ bytes)))
+        (sym (eqb-true d 10 e)) refl
+    by false e =
+        subst
+        (λ x.
+        cond (not x) ([] ∷ split_lines (d ∷ bytes)) (split_lines (d ∷ bytes)) ≡
+        [] ∷ split_lines (cond x bytes (d ∷ bytes)))
+        (sym e) refl
 
-split-ending : (c : ℕ) (bytes : List ℕ) → is_ending c ≡ true → split_lines (c ∷ bytes) ≡ [] ∷ split_lines (after_ending (c ∷ bytes))
+split-ending : (c : ℕ) (bytes : List ℕ) → is_ending c ≡ true →
+    split_lines (c ∷ bytes) ≡ [] ∷ split_lines (after_ending (c ∷ bytes))
 split-ending c bytes h = go (c == 10) (c == 13) refl refl
   where
-    go : (x y : Bool) → (c == 10) ≡ x → (c == 13) ≡ y → split_lines (c ∷ bytes) ≡ [] ∷ split_lines (after_ending (c ∷ bytes))
-    go true y e f = subst (λ d. split_lines (d ∷ bytes) ≡ [] ∷ split_lines (after_ending (d ∷ bytes))) (sym (eqb-true c 10 e)) refl
-    go false true e f = subst (λ d. split_lines (d ∷ bytes) ≡ [] ∷ split_lines (after_ending (d ∷ bytes))) (sym (eqb-true c 13 f)) (split-return bytes)
+    go : (x y : Bool) → (c == 10) ≡ x → (c == 13) ≡ y →
+        split_lines (c ∷ bytes) ≡ [] ∷ split_lines (after_ending (c ∷ bytes))
+    go true y e f =
+        subst (λ d. split_lines (d ∷ bytes) ≡ [] ∷ split_lines (after_ending (d ∷ bytes))) (sym (eqb-true c 10 e)) refl
+    go false true e f =
+        subst (λ d. split_lines (d ∷ bytes) ≡ [] ∷ split_lines (after_ending (d ∷ bytes))) (sym (eqb-true c 13 f))
+        (split-return bytes)
     go false false e f = absurd (true≢false (sym h ∙ ap (λ x. x || (c == 13)) e ∙ f))
 
 abbrev SplitsAt : List ℕ → ℕ → Type 0
@@ -170,8 +204,10 @@ splits : (text : List ℕ) → SplitsAt text (line_len text)
 splits [] = refl
 splits (c ∷ bytes) = go (is_ending c) refl (splits bytes)
   where
-    go : (x : Bool) → is_ending c ≡ x → SplitsAt bytes (line_len bytes) → SplitsAt (c ∷ bytes) (cond (not (is_ending c)) (1 + line_len bytes) 0)
-    go true e h = subst (λ x. SplitsAt (c ∷ bytes) (cond (not x) (1 + line_len bytes) 0)) (sym e) (e, split-ending c bytes e)
+    go : (x : Bool) → is_ending c ≡ x → SplitsAt bytes (line_len bytes) →
+        SplitsAt (c ∷ bytes) (cond (not (is_ending c)) (1 + line_len bytes) 0)
+    go true e h =
+        subst (λ x. SplitsAt (c ∷ bytes) (cond (not x) (1 + line_len bytes) 0)) (sym e) (e, split-ending c bytes e)
     go false e h =
         let next : suc (line_len bytes) ≡ 1 + line_len bytes = omega arith in
         subst (λ x. SplitsAt (c ∷ bytes) (cond (not x) (1 + line_len bytes) 0)) (sym e)
@@ -180,32 +216,42 @@ splits (c ∷ bytes) = go (is_ending c) refl (splits bytes)
 -- One line of a paragraph's text, and those behind its ending.
 
 -- an ending behind it
-utf8-after : (text : List ℕ) (k : ℕ) (behind : List ℕ) → Splits text k behind → IsUtf8 behind → IsUtf8 (after_ending behind)
+utf8-after : (text : List ℕ) (k : ℕ) (behind : List ℕ) → Splits text k behind → IsUtf8 behind →
+    IsUtf8 (after_ending behind)
 utf8-after text k [] h u = u
 utf8-after text k (b ∷ bytes) h u = utf8-behind b bytes h.0 u
 
-split-next : (text : List ℕ) (k : ℕ) (behind : List ℕ) → Splits text k behind → (length behind == 0) ≡ false → split_lines text ≡ take k text ∷ split_lines (after_ending behind)
+split-next : (text : List ℕ) (k : ℕ) (behind : List ℕ) → Splits text k behind → (length behind == 0) ≡ false →
+    split_lines text ≡ take k text ∷ split_lines (after_ending behind)
 split-next text k [] h some = absurd (true≢false some)
 split-next text k (b ∷ bytes) h some = h.1
 
-split-last : (text : List ℕ) (k : ℕ) (behind : List ℕ) → Splits text k behind → (length behind == 0) ≡ true → split_lines text ≡ take k text ∷ []
+split-last : (text : List ℕ) (k : ℕ) (behind : List ℕ) → Splits text k behind → (length behind == 0) ≡ true →
+    split_lines text ≡ take k text ∷ []
 split-last text k [] h none = h
 split-last text k (b ∷ bytes) h none = let some : ⊥ = omega (arith, eqb-true (length (b ∷ bytes)) 0 none) in absurd some
 
 -- a line is shown without the spaces and tabs in front of it
-shown-line : (left line text : List ℕ) (k : ℕ) → k ≡ line_len left → line ≡ take k left → IsUtf8 left → (IsUtf8 line → text ≡ trim_start line) → text ≡ trim_start (take (line_len left) left)
+shown-line : (left line text : List ℕ) (k : ℕ) → k ≡ line_len left → line ≡ take k left → IsUtf8 left →
+    (IsUtf8 line → text ≡ trim_start line) → text ≡ trim_start (take (line_len left) left)
 shown-line left line text k ek eline u shows =
     let same : line ≡ take (line_len left) left = eline ∙ ap (λ n. take n left) ek in
     shows (subst IsUtf8 (sym same) (utf8-line left u)) ∙ ap trim_start same
 
-entries-append : (depth : ℕ) (xs ys : List (List ℕ)) → entries depth word.Line (trim_each (xs ++ ys)) ≡ entries depth word.Line (trim_each xs) ++ entries depth word.Line (trim_each ys)
+entries-append : (depth : ℕ) (xs ys : List (List ℕ)) →
+    entries depth word.Line (trim_each (xs ++ ys)) ≡
+    entries depth word.Line (trim_each xs) ++ entries depth word.Line (trim_each ys)
 entries-append depth [] ys = refl
-entries-append depth (x ∷ xs) ys = ap (λ es. entry_with depth word.Line (trim_start x) ∷ es) (entries-append depth xs ys)
+entries-append depth (x ∷ xs) ys =
+    ap (λ es. entry_with depth word.Line (trim_start x) ∷ es) (entries-append depth xs ys)
 
-shown-parted : (depth : ℕ) (lines : List (List ℕ)) (line : List ℕ) → entries depth word.Line (trim_each (lines ++ line ∷ [])) ≡ entries depth word.Line (trim_each lines) ++ entry_with depth word.Line (trim_start line) ∷ []
+shown-parted : (depth : ℕ) (lines : List (List ℕ)) (line : List ℕ) →
+    entries depth word.Line (trim_each (lines ++ line ∷ [])) ≡
+    entries depth word.Line (trim_each lines) ++ entry_with depth word.Line (trim_start line) ∷ []
 shown-parted depth lines line = entries-append depth lines (line ∷ [])
 
-full-line : (line : List ℕ) (lines : List (List ℕ)) → Some_line lines → without_last (line ∷ lines) ≡ line ∷ without_last lines
+full-line : (line : List ℕ) (lines : List (List ℕ)) → Some_line lines →
+    without_last (line ∷ lines) ≡ line ∷ without_last lines
 full-line line [] h = absurd h
 full-line line (next ∷ lines) h = refl
 
@@ -217,16 +263,24 @@ lines-parted (line ∷ next ∷ lines) h = ap (λ ls. line ∷ ls) (lines-parted
 
 -- a line that has an ending was shown: what is left of the text is what stands behind the ending
 pub lines-next : (depth : ℕ) (done next : List Entry) (left line ending left' text : List ℕ) (k : ℕ) →
-    k ≡ line_len left → line ≡ take k left → ending ≡ drop k left → (length ending == 0) ≡ false → left' ≡ after_ending ending →
+    k ≡ line_len left → line ≡ take k left → ending ≡ drop k left → (length ending == 0) ≡ false →
+    left' ≡ after_ending ending →
     IsUtf8 left → (IsUtf8 line → text ≡ trim_start line) → next ≡ done ++ entry_with depth word.Line text ∷ [] →
-    IsUtf8 left' × ((next ++ full_entries depth left' ≡ done ++ full_entries depth left) × (last_line (split_lines left') ≡ last_line (split_lines left)))
+    IsUtf8 left' ×
+    ((next ++ full_entries depth left' ≡ done ++ full_entries depth left) ×
+    (last_line (split_lines left') ≡ last_line (split_lines left)))
 lines-next depth done next left line ending left' text k ek eline eending some eleft u shows enext =
     let behind : ending ≡ drop (line_len left) left = eending ∙ ap (λ n. drop n left) ek in
     let split : Splits left (line_len left) ending = subst (Splits left (line_len left)) (sym behind) (splits left) in
     let first : text ≡ trim_start (take (line_len left) left) = shown-line left line text k ek eline u shows in
-    let all : split_lines left ≡ take (line_len left) left ∷ split_lines left' = split-next left (line_len left) ending split some ∙ ap (λ l. take (line_len left) left ∷ split_lines l) (sym eleft) in
-    let full : without_last (split_lines left) ≡ take (line_len left) left ∷ without_last (split_lines left') = ap without_last all ∙ full-line (take (line_len left) left) (split_lines left') (some-split left') in (
-      subst IsUtf8 (sym eleft) (utf8-after left (line_len left) ending split (subst IsUtf8 (sym behind) (utf8-ending left u))),
+    let all : split_lines left ≡
+    take (line_len left) left ∷ split_lines left' = split-next left (line_len left) ending split some
+    ∙ ap (λ l. take (line_len left) left ∷ split_lines l) (sym eleft) in
+    let full : without_last (split_lines left) ≡
+    take (line_len left) left ∷ without_last (split_lines left') = ap without_last all
+    ∙ full-line (take (line_len left) left) (split_lines left') (some-split left') in (
+      subst IsUtf8 (sym eleft)
+          (utf8-after left (line_len left) ending split (subst IsUtf8 (sym behind) (utf8-ending left u))),
       (
         ap (λ es. es ++ full_entries depth left') enext
             ∙ append_assoc done (entry_with depth word.Line text ∷ []) (full_entries depth left')
@@ -237,7 +291,9 @@ lines-next depth done next left line ending left' text k ek eline eending some e
     )
 
 -- no line that has an ending is left: the rest of the text is its last line
-pub lines-end : (depth : ℕ) (done : List Entry) (left ending : List ℕ) (k : ℕ) → k ≡ line_len left → ending ≡ drop k left → (length ending == 0) ≡ true → (done ≡ done ++ full_entries depth left) × (left ≡ last_line (split_lines left))
+pub lines-end : (depth : ℕ) (done : List Entry) (left ending : List ℕ) (k : ℕ) → k ≡ line_len left →
+    ending ≡ drop k left → (length ending == 0) ≡ true →
+    (done ≡ done ++ full_entries depth left) × (left ≡ last_line (split_lines left))
 lines-end depth done left ending k ek eending none =
     let behind : ending ≡ drop (line_len left) left = eending ∙ ap (λ n. drop n left) ek in
     let split : Splits left (line_len left) ending = subst (Splits left (line_len left)) (sym behind) (splits left) in
@@ -253,17 +309,22 @@ lines-end depth done left ending k ek eending none =
     length-none (x ∷ xs) h = let some : ⊥ = omega (arith, eqb-true (length (x ∷ xs)) 0 h) in absurd some
 
     take-whole : (n : ℕ) (xs : List ℕ) → drop n xs ≡ [] → take n xs ≡ xs
-    take-whole n xs h = take_all n xs (let l = length-drop n xs in let z : length (drop n xs) ≡ 0 = ap length h in omega (arith, l, z))
+    take-whole n xs h =
+        take_all n xs (let l = length-drop n xs in let z : length (drop n xs) ≡ 0 = ap length h in omega (arith, l, z))
 
 -- the last line is shown behind those that have an ending
-pub lines-all : (depth : ℕ) (before done next : List Entry) (text rest shown : List ℕ) → rest ≡ last_line (split_lines text) → done ≡ before ++ full_entries depth text → shown ≡ trim_start rest → next ≡ done ++ entry_with depth word.Line shown ∷ [] → next ≡ before ++ text_entries depth text
+pub lines-all : (depth : ℕ) (before done next : List Entry) (text rest shown : List ℕ) →
+    rest ≡ last_line (split_lines text) → done ≡ before ++ full_entries depth text → shown ≡ trim_start rest →
+    next ≡ done ++ entry_with depth word.Line shown ∷ [] → next ≡ before ++ text_entries depth text
 lines-all depth before done next text rest shown erest edone eshown enext =
     let lines : List (List ℕ) = split_lines text in
     enext
     ∙ ap (λ es. es ++ entry_with depth word.Line shown ∷ []) edone
     ∙ append_assoc before (full_entries depth text) (entry_with depth word.Line shown ∷ [])
     ∙ ap (λ t. before ++ (full_entries depth text ++ entry_with depth word.Line t ∷ [])) (eshown ∙ ap trim_start erest)
-    ∙ ap (λ es. before ++ es) (sym (shown-parted depth (without_last lines) (last_line lines)) ∙ sym (ap (λ ls. entries depth word.Line (trim_each ls)) (lines-parted lines (some-split text))))
+    ∙ ap (λ es. before ++ es)
+    (sym (shown-parted depth (without_last lines) (last_line lines))
+    ∙ sym (ap (λ ls. entries depth word.Line (trim_each ls)) (lines-parted lines (some-split text))))
 
 -- Pieces.
 
@@ -272,7 +333,9 @@ abbrev onto_line : List ℕ → List (List ℕ) → List (List ℕ)
 onto_line front [] = front ∷ []
 onto_line front (line ∷ lines) = (front ++ line) ∷ lines
 
-onto-byte : (b : ℕ) (lines further : List (List ℕ)) → Some_line lines → onto_first b (without_last lines ++ onto_line (last_line lines) further) ≡ without_last (onto_first b lines) ++ onto_line (last_line (onto_first b lines)) further
+onto-byte : (b : ℕ) (lines further : List (List ℕ)) → Some_line lines →
+    onto_first b (without_last lines ++ onto_line (last_line lines) further) ≡
+    without_last (onto_first b lines) ++ onto_line (last_line (onto_first b lines)) further
 onto-byte b [] further h = absurd h
 onto-byte b (line ∷ []) [] h = refl
 onto-byte b (line ∷ []) (l ∷ further) h = refl
@@ -287,15 +350,24 @@ onto-none [] h = absurd h
 onto-none (line ∷ lines) h = refl
 
 -- a text is split where a piece ends: its last line goes on in what follows
-pub split-piece : (piece rest : List ℕ) → begins_with 10 rest ≡ false → split_lines (piece ++ rest) ≡ without_last (split_lines piece) ++ onto_line (last_line (split_lines piece)) (split_lines rest)
+pub split-piece : (piece rest : List ℕ) → begins_with 10 rest ≡ false →
+    split_lines (piece ++ rest) ≡
+    without_last (split_lines piece) ++ onto_line (last_line (split_lines piece)) (split_lines rest)
 split-piece [] rest h = sym (onto-none (split_lines rest) (some-split rest))
 split-piece (b ∷ bs) rest h =
-    ap (λ x. cond x ([] ∷ split_lines (bs ++ rest)) (cond (is_ending b) (split_lines (bs ++ rest)) (onto_first b (split_lines (bs ++ rest))))) (ends-before b bs rest h)
-    ∙ go (ends_line b bs) (is_ending b) (split_lines bs) (split_lines (bs ++ rest)) (some-split bs) (split-piece bs rest h)
+    ap
+    (λ x.
+    cond x ([] ∷ split_lines (bs ++ rest))
+    (cond (is_ending b) (split_lines (bs ++ rest)) (onto_first b (split_lines (bs ++ rest)))))
+    (ends-before b bs rest h)
+    ∙ go (ends_line b bs) (is_ending b) (split_lines bs) (split_lines (bs ++ rest)) (some-split bs)
+    (split-piece bs rest h)
   where
-    go : (x y : Bool) (lines all : List (List ℕ)) → Some_line lines → all ≡ without_last lines ++ onto_line (last_line lines) (split_lines rest) →
+    go : (x y : Bool) (lines all : List (List ℕ)) → Some_line lines →
+        all ≡ without_last lines ++ onto_line (last_line lines) (split_lines rest) →
         cond x ([] ∷ all) (cond y all (onto_first b all))
-        ≡ without_last (cond x ([] ∷ lines) (cond y lines (onto_first b lines))) ++ onto_line (last_line (cond x ([] ∷ lines) (cond y lines (onto_first b lines)))) (split_lines rest)
+        ≡ without_last (cond x ([] ∷ lines) (cond y lines (onto_first b lines)))
+        ++ onto_line (last_line (cond x ([] ∷ lines) (cond y lines (onto_first b lines)))) (split_lines rest)
     go true y lines all some e =
         ap (λ ls. [] ∷ ls) e
         ∙ sym (ap (λ ls. ls ++ onto_line (last_line lines) (split_lines rest)) (full-line [] lines some))
@@ -313,15 +385,19 @@ trim-blank (b ∷ front) line h =
     ∙ ap (λ n. drop n (b ∷ front ++ line)) one
     ∙ trim-blank front line parts.1
 
-trim-onto : (front : List ℕ) (lines : List (List ℕ)) → Some_line lines → is_blank front ≡ true → trim_each (onto_line front lines) ≡ trim_each lines
+trim-onto : (front : List ℕ) (lines : List (List ℕ)) → Some_line lines → is_blank front ≡ true →
+    trim_each (onto_line front lines) ≡ trim_each lines
 trim-onto front [] some h = absurd some
 trim-onto front (line ∷ lines) some h = ap (λ l. l ∷ trim_each lines) (trim-blank front line h)
 
 -- a piece that ends where a line begins is shown by its lines that have an ending, and what follows it by its own lines
-pub piece-entries : (depth : ℕ) (piece rest : List ℕ) → begins_with 10 rest ≡ false → is_blank (last_line (split_lines piece)) ≡ true → text_entries depth (piece ++ rest) ≡ full_entries depth piece ++ text_entries depth rest
+pub piece-entries : (depth : ℕ) (piece rest : List ℕ) → begins_with 10 rest ≡ false →
+    is_blank (last_line (split_lines piece)) ≡ true →
+    text_entries depth (piece ++ rest) ≡ full_entries depth piece ++ text_entries depth rest
 piece-entries depth piece rest h blank =
     let full : List (List ℕ) = without_last (split_lines piece) in
     let further : List (List ℕ) = onto_line (last_line (split_lines piece)) (split_lines rest) in
     ap (λ ls. entries depth word.Line (trim_each ls)) (split-piece piece rest h)
     ∙ entries-append depth full further
-    ∙ ap (λ ls. full_entries depth piece ++ entries depth word.Line ls) (trim-onto (last_line (split_lines piece)) (split_lines rest) (some-split rest) blank)
+    ∙ ap (λ ls. full_entries depth piece ++ entries depth word.Line ls)
+    (trim-onto (last_line (split_lines piece)) (split_lines rest) (some-split rest) blank)

@@ -4,4 +4,6 @@ use Rattle.md_definition.specs.Preamble.{has_mark}
 
 -- whether a place is an end of the text, stands beside a byte of ASCII, or behind a byte order mark
 abbrev pub is_between : List ℕ → ℕ → Bool
-is_between bytes i = (i == 0) || (i == length bytes) || nat_lt (slice_index bytes (i - 1)) 128 || nat_lt (slice_index bytes i) 128 || ((i == 3) && has_mark bytes)
+is_between bytes i =
+    (i == 0) || (i == length bytes) || nat_lt (slice_index bytes (i - 1)) 128 || nat_lt (slice_index bytes i) 128
+    || ((i == 3) && has_mark bytes)

@@ -1,5 +1,6 @@
 -- What an outline has read between two events.
-use Rattle.std.specs.Prelude.{◌≡◌, ℕ, ◌+◌, ◌-◌, ◌++◌, Bool, true, false, List, [], ◌∷◌, slice_range, Option, Some, None, option_map}
+use Rattle.std.specs.Prelude.{◌≡◌, ℕ, ◌+◌, ◌-◌, ◌++◌, Bool, true, false, List, [], ◌∷◌, slice_range, Option, Some, None}
+use Rattle.std.specs.Prelude.{option_map}
 use Rattle.std.specs.Str.{IsUtf8}
 use Rattle.md_engine.specs.declared.event.Event.{Event}
 use Rattle.md_engine.specs.declared.event.Kind.{Kind}
@@ -20,7 +21,8 @@ use Rattle.md_outline.specs.declared.outline.role.Purpose.TheVariants as purpose
 use Rattle.md_outline.specs.declared.outline.role.Role.{Role}
 use Rattle.md_outline.specs.declared.outline.role.Role.TheVariants as role
 
--- What was read between two events: how many containers are open, the leaf that is, the text that is read, and the lines so far.
+-- What was read between two events: how many containers are open, the leaf that is, the text that is read, and the
+-- lines so far.
 pub record OutlineState : Type 0 where
   pub depth : ℕ
   pub leaf : Option OpenLeaf
@@ -55,26 +57,37 @@ told (purpose.Note x) is_shown text s = told_leaf x text s
 
 abbrev pub told_at : List ℕ → Purpose → ℕ → Option Span → OutlineState → OutlineState
 told_at bytes purpose end None s = s
-told_at bytes purpose end (Some text) s = told purpose text.is_parted (slice_range bytes text.from end) (record s { text = None })
+told_at bytes purpose end (Some text) s =
+    told purpose text.is_parted (slice_range bytes text.from end) (record s { text = None })
 
 -- a prefix begins
 abbrev pub parted_at : List ℕ → ℕ → Option Span → OutlineState → OutlineState
 parted_at bytes end None s = s
 parted_at bytes end (Some text) s = record s {
   text = Some (record text { is_parted = true });
-  lines = s.lines ++ begin_entries s.depth text.is_parted ++ full_entries (s.depth + 1) (slice_range bytes text.from end);
+  lines =
+      s.lines ++ begin_entries s.depth text.is_parted ++ full_entries (s.depth + 1) (slice_range bytes text.from end);
 }
 
 abbrev pub state_enter : List ℕ → Role → Point → OutlineState → OutlineState
-state_enter bytes (role.Container word) p s = record s { depth = s.depth + 1; lines = s.lines ++ entry s.depth word ∷ [] }
+state_enter bytes (role.Container word) p s = record s {
+  depth = s.depth + 1;
+  lines = s.lines ++ entry s.depth word ∷ [];
+}
 state_enter bytes role.Prefix p s = parted_at bytes p.index s.text s
 state_enter bytes (role.Leaf leaf) p s = record s { leaf = Some (leaf_of leaf) }
-state_enter bytes (role.Text purpose) p s = record s { text = Some (record { from = spelled.byte_at p; is_parted = false }) }
+state_enter bytes (role.Text purpose) p s = record s {
+  text = Some
+      (record { from = spelled.byte_at p; is_parted = false });
+}
 state_enter bytes role.Quiet p s = s
 
 abbrev pub state_exit : List ℕ → Role → Point → OutlineState → OutlineState
 state_exit bytes (role.Container word) p s = record s { depth = s.depth - 1 }
-state_exit bytes role.Prefix p s = record s { text = option_map (λ (t : Span). record t { from = spelled.byte_at p }) s.text }
+state_exit bytes role.Prefix p s = record s {
+  text = option_map
+      (λ (t : Span). record t { from = spelled.byte_at p }) s.text;
+}
 state_exit bytes (role.Leaf leaf) p s = leaf_ended s.leaf s
 state_exit bytes (role.Text purpose) p s = told_at bytes purpose p.index s.text s
 state_exit bytes role.Quiet p s = s

@@ -1,5 +1,6 @@
 -- What an outline shows: the blocks that events of the roles that it knows (`is_plain`) spell out.
-use Rattle.std.specs.Prelude.{◌≡◌, ℕ, Bool, true, false, ◌||◌, ◌&&◌, not, if◌then◌else◌, List, [], ◌∷◌, slice_range, Option, Some, None, option_map}
+use Rattle.std.specs.Prelude.{◌≡◌, ℕ, Bool, true, false, ◌||◌, ◌&&◌, not, if◌then◌else◌, List, [], ◌∷◌, slice_range}
+use Rattle.std.specs.Prelude.{Option, Some, None, option_map}
 use Rattle.std.specs.List.{list_all}
 use Rattle.std.specs.Str.{IsUtf8}
 use Rattle.md_engine.specs.declared.event.Event.{Event}
@@ -27,14 +28,15 @@ has_plain_name e = is_plain (role e.name)
 abbrev pub tells_between : List ℕ → Event → Bool
 tells_between bytes e = not (is_told (role e.name)) || is_between bytes (byte_at e.point)
 
--- Container prefixes in a text: they part it into pieces, which an outline shows one by one. So each line of the text has to
--- lie in one piece.
+-- Container prefixes in a text: they part it into pieces, which an outline shows one by one. So each line of the text
+-- has to lie in one piece.
 
 -- a text that is read, as other crates can name it
 abbrev pub TextSpan : Type 0
 TextSpan = Span
 
--- the text that is read behind an event: where it begins, or goes on behind the last prefix in it, and whether there is one
+-- the text that is read behind an event: where it begins, or goes on behind the last prefix in it, and whether there is
+-- one
 abbrev pub span_enter : Role → Point → Option Span → Option Span
 span_enter (Tells purpose) p text = Some (record { from = byte_at p; is_parted = false })
 span_enter IsPrefix p text = option_map (λ (t : Span). record t { is_parted = true }) text
@@ -62,11 +64,12 @@ abbrev pub is_unparted : Option Span → Bool
 is_unparted None = true
 is_unparted (Some text) = not text.is_parted
 
--- whether an event may stand in a text: a prefix begins where a line does, with nothing but spaces and tabs in front of it,
--- and ends between characters; no text is parted but one that is a block, and from its first prefix to its end nothing
--- else begins or ends that the tree shows
+-- whether an event may stand in a text: a prefix begins where a line does, with nothing but spaces and tabs in front of
+-- it, and ends between characters; no text is parted but one that is a block, and from its first prefix to its end
+-- nothing else begins or ends that the tree shows
 abbrev pub parts_enter : List ℕ → Role → Point → Span → Bool
-parts_enter bytes IsPrefix p text = begins_line text (piece_to bytes p text) && is_blank (last_line (split_lines (piece_to bytes p text)))
+parts_enter bytes IsPrefix p text =
+    begins_line text (piece_to bytes p text) && is_blank (last_line (split_lines (piece_to bytes p text)))
 parts_enter bytes IsEnding p text = true
 parts_enter bytes IsQuiet p text = true
 parts_enter bytes _ p text = not text.is_parted
@@ -86,7 +89,8 @@ parts_by bytes Exit x p (Some text) = parts_exit bytes x p text
 -- whether all these events do, with this text read before them, and each text that is parted ends
 abbrev pub are_parted : List ℕ → Option Span → List Event → Bool
 are_parted bytes text [] = is_unparted text
-are_parted bytes text (e ∷ es) = parts_by bytes e.kind (role e.name) e.point text && are_parted bytes (span_by e.kind (role e.name) e.point text) es
+are_parted bytes text (e ∷ es) =
+    parts_by bytes e.kind (role e.name) e.point text && are_parted bytes (span_by e.kind (role e.name) e.point text) es
 
 -- events of such roles, between characters of a text
 pub record IsOutlined (events : List Event) (bytes : List ℕ) : Type 0 where

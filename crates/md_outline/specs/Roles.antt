@@ -11,7 +11,9 @@
 use Rattle.std.specs.Prelude.{ℕ, Bool, true, false, List, None}
 use Rattle.md_definition.specs.declared.outline.Word.TheVariants as word
 use Rattle.md_definition.specs.Outline.{Entry, block_entries}
-use Rattle.md_seam.specs.Events.Spelled.{AsHeading, AsMarkers, AsParagraph, BreakLeaf, HeadingAtxLeaf, Holds, IsEnding, IsPrefix, IsQuiet, OfBreak, OfHeadingAtx, OpenLeaf, Opens, QuoteShape, Tells, block_of}
+use Rattle.md_seam.specs.Events.Spelled.{AsHeading, AsMarkers, AsParagraph, BreakLeaf, HeadingAtxLeaf, Holds, IsEnding}
+use Rattle.md_seam.specs.Events.Spelled.{IsPrefix, IsQuiet, OfBreak, OfHeadingAtx, OpenLeaf, Opens, QuoteShape, Tells}
+use Rattle.md_seam.specs.Events.Spelled.{block_of}
 use Rattle.md_seam.specs.Events.Spelled as spelled
 use Rattle.md_outline.specs.HeadingDepths.{fitted}
 use Rattle.md_outline.specs.HeadingState.{heading_of}

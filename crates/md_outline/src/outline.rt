@@ -3,7 +3,8 @@
 ghost use Rattle.std.specs.Prelude.{◌≡◌, true, Option, option_map, IfOk, OnOk};
 ghost use Rattle.md_seam.specs.Events.Spelled as spelled;
 ghost use Rattle.md_outline.specs.Outlined.{Outlines};
-ghost use Rattle.md_outline.specs.OutlineSteps.{IsCutAt, leaf_ended, parted_at, state_by, state_enter, state_exit, state_of, told_at, told_leaf};
+ghost use Rattle.md_outline.specs.OutlineSteps.{IsCutAt, leaf_ended, parted_at, state_by, state_enter, state_exit};
+ghost use Rattle.md_outline.specs.OutlineSteps.{state_of, told_at, told_leaf};
 ghost use Rattle.md_outline.specs.Roles.{shown_as};
 ghost use Rattle.md_outline.specs.declared.outline.Span.{Span};
 
@@ -115,7 +116,8 @@ impl<'a> Reading<'a> {
     /// Reads on behind a prefix.
     fn go_on(&mut self, place: usize)
         ensures bytes { self.new.bytes ≡ self.old.bytes }
-        ensures read { state_of self.new ≡ record (state_of self.old) { text = option_map (λ (t : Span). record t { from = place }) self.old.text } }
+        ensures read { state_of self.new ≡
+            record (state_of self.old) { text = option_map (λ (t : Span). record t { from = place }) self.old.text } }
     {
         if let Some(Span { is_parted, .. }) = self.text {
             self.text = Some(Span {
@@ -174,7 +176,8 @@ impl<'a> Reading<'a> {
     fn read(&mut self, event: &Event) -> Result<(), Message>
         ensures bytes { self.new.bytes ≡ self.old.bytes }
         ensures read { OnOk result (IsCutAt self.old.bytes.now self.old.text event.now.point.index →
-            state_of self.new ≡ state_by self.old.bytes.now event.now.kind (shown_as (spelled.role event.now.name)) event.now.point (state_of self.old)) }
+            state_of self.new ≡ state_by self.old.bytes.now event.now.kind (shown_as (spelled.role event.now.name))
+            event.now.point (state_of self.old)) }
     {
         let role = role_of(event.name);
         match event.kind {

@@ -30,20 +30,45 @@ pub record Reads (options : ParseOptions) (text : List ℕ) (rests : List Rest) 
   pub lines : rest_meanings rests ≡ p.rests_at (p.first_column text) (lines_of (p.without_mark text))
   pub front : option_map front_meaning found ≡ p.front_of options (lines_in rests)
 
-tree-found : (options : ParseOptions) (text : List ℕ) (rests : List Rest) (found : Option Front) → Reads options text rests found →
-    tree options text ≡ tree_by options (p.preamble_by (p.first_column text) (lines_of (p.without_mark text)) (option_map front_meaning found))
+tree-found : (options : ParseOptions) (text : List ℕ) (rests : List Rest) (found : Option Front) →
+    Reads options text rests found →
+    tree options text ≡
+    tree_by options
+    (p.preamble_by (p.first_column text) (lines_of (p.without_mark text)) (option_map front_meaning found))
 tree-found options text rests found h =
     ap (λ o. tree_by options (p.preamble_by (p.first_column text) (lines_of (p.without_mark text)) o))
-    (sym (h.front ∙ ap (p.front_of options) (lines_in-rests (p.first_column text) (lines_of (p.without_mark text)) rests h.lines)))
+    (sym
+    (h.front
+    ∙ ap (p.front_of options) (lines_in-rests (p.first_column text) (lines_of (p.without_mark text)) rests h.lines)))
 
-pub tree-some : (options : ParseOptions) (text : List ℕ) (rests : List Rest) (found : Option Front) (f : Front) (inner bs : t.Blocks) → Reads options text rests found → found ≡ Some f → IsEnd (drop 1 rests) f.after.now →
-    inner ≡ body options (rest_meanings f.after.now) → bs ≡ grouped inner → t.More (meaning f.block) bs ≡ tree options text
+pub tree-some : (options : ParseOptions) (text : List ℕ) (rests : List Rest) (found : Option Front) (f : Front)
+    (inner bs : t.Blocks) →
+    Reads options text rests found → found ≡ Some f → IsEnd (drop 1 rests) f.after.now →
+    inner ≡ body options (rest_meanings f.after.now) → bs ≡ grouped inner →
+    t.More (meaning f.block) bs ≡ tree options text
 tree-some options text rests found f inner bs h is end read joined =
-    ap (t.More (meaning f.block)) (joined ∙ ap grouped (read ∙ ap (body options) (rests_behind (p.first_column text) (lines_of (p.without_mark text)) rests f.after.now h.lines end)))
-    ∙ sym (tree-found options text rests found h ∙ ap (λ o. tree_by options (p.preamble_by (p.first_column text) (lines_of (p.without_mark text)) (option_map front_meaning o))) is)
+    ap (t.More (meaning f.block))
+    (joined
+    ∙ ap grouped
+    (read
+    ∙ ap (body options)
+    (rests_behind (p.first_column text) (lines_of (p.without_mark text)) rests f.after.now h.lines end)))
+    ∙ sym
+    (tree-found options text rests found h
+    ∙ ap
+    (λ o.
+    tree_by options
+    (p.preamble_by (p.first_column text) (lines_of (p.without_mark text)) (option_map front_meaning o))) is)
 
-pub tree-none : (options : ParseOptions) (text : List ℕ) (rests : List Rest) (found : Option Front) (inner bs : t.Blocks) → Reads options text rests found → found ≡ None →
+pub tree-none : (options : ParseOptions) (text : List ℕ) (rests : List Rest) (found : Option Front)
+    (inner bs : t.Blocks) →
+    Reads options text rests found → found ≡ None →
     inner ≡ body options (rest_meanings rests) → bs ≡ grouped inner → bs ≡ tree options text
 tree-none options text rests found inner bs h is read joined =
     joined ∙ ap grouped (read ∙ ap (body options) h.lines)
-    ∙ sym (tree-found options text rests found h ∙ ap (λ o. tree_by options (p.preamble_by (p.first_column text) (lines_of (p.without_mark text)) (option_map front_meaning o))) is)
+    ∙ sym
+    (tree-found options text rests found h
+    ∙ ap
+    (λ o.
+    tree_by options
+    (p.preamble_by (p.first_column text) (lines_of (p.without_mark text)) (option_map front_meaning o))) is)

@@ -5,5 +5,6 @@ use Rattle.md_definition.specs.declared.outline.OutlineLine.{OutlineLine}
 use Rattle.md_definition.specs.Outline.{entry_of, entries_of}
 
 -- a line that is added is the last
-pub entries_push : (lines : List OutlineLine) (line : OutlineLine) → entries_of (lines ++ line ∷ []) ≡ entries_of lines ++ entry_of line ∷ []
+pub entries_push : (lines : List OutlineLine) (line : OutlineLine) →
+    entries_of (lines ++ line ∷ []) ≡ entries_of lines ++ entry_of line ∷ []
 entries_push lines line = map_push entry_of lines line

@@ -1,5 +1,6 @@
 -- Definitions and lines that are added one by one.
-use Rattle.std.proofs.Common.{◌≡◌, ◌-◌, ◌+◌, cond, Bool, List, [], ◌∷◌, ◌++◌, map, take, length, reverse, refl, sym, ◌∙◌, ap}
+use Rattle.std.proofs.Common.{◌≡◌, ◌-◌, ◌+◌, cond, Bool, List, [], ◌∷◌, ◌++◌, map, take, length, reverse, refl, sym}
+use Rattle.std.proofs.Common.{◌∙◌, ap}
 use Rattle.std.specs.List.{prefix_len, suffix_len}
 use Rattle.std.proofs.lemmas.List.{take-map, length-map, map-append, reverse-append}
 use Rattle.md_definition.specs.Definition as d
@@ -10,34 +11,50 @@ use Rattle.plain_grammars.specs.Definitions.{defined_meaning}
 use Rattle.md_plain.specs.Paragraphs.{definitions_of}
 
 pub then_definitions_push : (bs : t.Blocks) (ds : List d.Defined) (x : d.Defined) →
-    then_definitions bs (ds ++ x ∷ []) ≡ then_block (then_definitions bs ds) (t.Definition x.label x.destination x.title)
+    then_definitions bs (ds ++ x ∷ []) ≡
+    then_block (then_definitions bs ds) (t.Definition x.label x.destination x.title)
 then_definitions_push bs [] x = refl
-then_definitions_push bs (y ∷ ds) x = then_definitions_push (then_block bs (t.Definition y.label y.destination y.title)) ds x
+then_definitions_push bs (y ∷ ds) x =
+    then_definitions_push (then_block bs (t.Definition y.label y.destination y.title)) ds x
 
-prefix_len-map : {A B : Type 0} (p : B → Bool) (f : A → B) (xs : List A) → prefix_len p (map f xs) ≡ prefix_len (λ x. p (f x)) xs
+prefix_len-map : {A B : Type 0} (p : B → Bool) (f : A → B) (xs : List A) →
+    prefix_len p (map f xs) ≡ prefix_len (λ x. p (f x)) xs
 prefix_len-map p f [] = refl
 prefix_len-map p f (x ∷ xs) = ap (λ n. cond (p (f x)) (1 + n) 0) (prefix_len-map p f xs)
 
 reverse-map : {A B : Type 0} (f : A → B) (xs : List A) → reverse (map f xs) ≡ map f (reverse xs)
 reverse-map f [] = refl
 reverse-map f (x ∷ xs) =
-    reverse-append (f x ∷ []) (map f xs) ∙ ap (λ ys. ys ++ f x ∷ []) (reverse-map f xs) ∙ sym (ap (map f) (reverse-append (x ∷ []) xs) ∙ map-append f (reverse xs) (x ∷ []))
+    reverse-append (f x ∷ []) (map f xs) ∙ ap (λ ys. ys ++ f x ∷ []) (reverse-map f xs)
+    ∙ sym (ap (map f) (reverse-append (x ∷ []) xs) ∙ map-append f (reverse xs) (x ∷ []))
 
 -- so many pass at the end, also once each has been changed
-pub suffix_len-map : {A B : Type 0} (p : B → Bool) (f : A → B) (xs : List A) → suffix_len p (map f xs) ≡ suffix_len (λ x. p (f x)) xs
+pub suffix_len-map : {A B : Type 0} (p : B → Bool) (f : A → B) (xs : List A) →
+    suffix_len p (map f xs) ≡ suffix_len (λ x. p (f x)) xs
 suffix_len-map p f xs = ap (prefix_len p) (reverse-map f xs) ∙ prefix_len-map p f (reverse xs)
 
 -- without those at the end that pass
 pub without_suffix-map : {A B : Type 0} (p : B → Bool) (f : A → B) (xs : List A) →
-    map f (take (length xs - suffix_len (λ x. p (f x)) xs) xs) ≡ take (length (map f xs) - suffix_len p (map f xs)) (map f xs)
+    map f (take (length xs - suffix_len (λ x. p (f x)) xs) xs) ≡
+    take (length (map f xs) - suffix_len p (map f xs)) (map f xs)
 without_suffix-map p f xs =
     sym (take-map f (length xs - suffix_len (λ x. p (f x)) xs) xs)
-    ∙ ap (λ n. take n (map f xs)) (sym (ap (λ n. n - suffix_len p (map f xs)) (length-map xs f) ∙ ap (λ n. length xs - n) (suffix_len-map p f xs)))
+    ∙ ap (λ n. take n (map f xs))
+    (sym (ap (λ n. n - suffix_len p (map f xs)) (length-map xs f) ∙ ap (λ n. length xs - n) (suffix_len-map p f xs)))
 
 -- one definition more
-pub definitions-next : (bs now next : t.Blocks) (ds : List Defined) (x : Defined) → now ≡ then_definitions bs (definitions_of ds) →
-    next ≡ then_block now (t.Definition (defined_meaning x).label (defined_meaning x).destination (defined_meaning x).title) → next ≡ then_definitions bs (definitions_of (ds ++ x ∷ []))
+pub definitions-next : (bs now next : t.Blocks) (ds : List Defined) (x : Defined) →
+    now ≡ then_definitions bs (definitions_of ds) →
+    next ≡
+    then_block now
+    (t.Definition (defined_meaning x).label (defined_meaning x).destination (defined_meaning x).title) →
+    next ≡ then_definitions bs (definitions_of (ds ++ x ∷ []))
 definitions-next bs now next ds x before added =
     added
-    ∙ ap (λ b. then_block b (t.Definition (defined_meaning x).label (defined_meaning x).destination (defined_meaning x).title)) before
-    ∙ sym (ap (then_definitions bs) (map-append defined_meaning ds (x ∷ [])) ∙ then_definitions_push bs (definitions_of ds) (defined_meaning x))
+    ∙ ap
+    (λ b.
+    then_block b (t.Definition (defined_meaning x).label (defined_meaning x).destination (defined_meaning x).title))
+    before
+    ∙ sym
+    (ap (then_definitions bs) (map-append defined_meaning ds (x ∷ []))
+    ∙ then_definitions_push bs (definitions_of ds) (defined_meaning x))

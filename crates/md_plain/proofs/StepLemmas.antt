@@ -1,7 +1,9 @@
 -- The containers of a line, one after another.
-use Rattle.std.proofs.Common.{◌≡◌, ℕ, ◌+◌, ◌-◌, ◌<◌, Bool, true, false, cond, ◌||◌, List, [], ◌∷◌, ◌++◌, length, take, drop, set, get_or, is_some, Option, Some, None, refl, sym, ◌∙◌, ap, arith}
+use Rattle.std.proofs.Common.{◌≡◌, ℕ, ◌+◌, ◌-◌, ◌<◌, Bool, true, false, cond, ◌||◌, List, [], ◌∷◌, ◌++◌, length, take}
+use Rattle.std.proofs.Common.{drop, set, get_or, is_some, Option, Some, None, refl, sym, ◌∙◌, ap, arith}
 use Rattle.std.proofs.lemmas.Bool.{true≢false, false≢true}
-use Rattle.std.proofs.lemmas.List.{take-append-drop, take_more, take_more_set, drop_more, drop-set-lt, get_or_read, length-drop, map-append}
+use Rattle.std.proofs.lemmas.List.{take-append-drop, take_more, take_more_set, drop_more, drop-set-lt, get_or_read}
+use Rattle.std.proofs.lemmas.List.{length-drop, map-append}
 use Rattle.md_engine.specs.declared.configuration.ParseOptions.{ParseOptions}
 use Rattle.md_definition.specs.Tree.{Blocks}
 use Rattle.md_definition.specs.Rest as r
@@ -36,10 +38,12 @@ at_spot-within [] x y = refl
 at_spot-within (f ∷ fs) x y = ap (inside f) (at_spot-within fs x y)
 
 -- a leaf that takes a lazy line has it behind its own lines
-with_lazy-more : (options : ParseOptions) (l : s.Leaf) (x : r.Rest) → true ≡ is_some (with_lazy options l x) → with_lazy options l x ≡ Some (with_more l x)
+with_lazy-more : (options : ParseOptions) (l : s.Leaf) (x : r.Rest) → true ≡ is_some (with_lazy options l x) →
+    with_lazy options l x ≡ Some (with_more l x)
 with_lazy-more options (s.OpenParagraph lines) x e = by (r.is_blank x.bytes || is_some (starts options LazyText x)) e
   where
-    by : (v : Bool) → true ≡ is_some (cond v None (Some (s.OpenParagraph (lines ++ s.kept x ∷ [])))) → cond v None (Some (s.OpenParagraph (lines ++ s.kept x ∷ []))) ≡ Some (s.OpenParagraph (lines ++ s.kept x ∷ []))
+    by : (v : Bool) → true ≡ is_some (cond v None (Some (s.OpenParagraph (lines ++ s.kept x ∷ [])))) →
+        cond v None (Some (s.OpenParagraph (lines ++ s.kept x ∷ []))) ≡ Some (s.OpenParagraph (lines ++ s.kept x ∷ []))
     by false e = refl
     by true e = absurd (true≢false e)
 with_lazy-more options s.NoLeaf x e = absurd (true≢false e)
@@ -53,39 +57,58 @@ none-of None e = refl
 none-of (Some x) e = absurd (false≢true e)
 
 -- a line opens a container where the others stopped
-pub stopped-opened : (options : ParseOptions) (fs : List Frame) (p : s.Path) (x : r.Rest) (t : Taken) → 0 < length fs → opens options false x ≡ Some t →
+pub stopped-opened : (options : ParseOptions) (fs : List Frame) (p : s.Path) (x : r.Rest) (t : Taken) → 0 < length fs →
+    opens options false x ≡ Some t →
     stopped_in options fs p x ≡ entered options (s.closed options (within fs p)) t
 unfolding stopped
 stopped-opened options [] p x t some e = absurd (omega (arith, some))
-stopped-opened options (f ∷ fs) p x t some e = ap (stopped_by options (meanings f.before.items) (container_meaning f.container) (within fs p) x) e
+stopped-opened options (f ∷ fs) p x t some e =
+    ap (stopped_by options (meanings f.before.items) (container_meaning f.container) (within fs p) x) e
 
 -- the open paragraph takes a lazy line
-pub stopped-lazy : (options : ParseOptions) (fs : List Frame) (y : s.Spot) (x : r.Rest) → 0 < length fs → opens options false x ≡ None → true ≡ is_some (with_lazy options y.leaf x) →
+pub stopped-lazy : (options : ParseOptions) (fs : List Frame) (y : s.Spot) (x : r.Rest) → 0 < length fs →
+    opens options false x ≡ None → true ≡ is_some (with_lazy options y.leaf x) →
     stopped_in options fs (s.At y) x ≡ within fs (s.At (more_text y x))
 unfolding stopped
 stopped-lazy options [] y x some e takes = absurd (omega (arith, some))
 stopped-lazy options (f ∷ fs) y x some e takes =
     ap (stopped_by options (meanings f.before.items) (container_meaning f.container) (within fs (s.At y)) x) e
-    ∙ ap (λ (z : s.Spot). lazy_by options (meanings f.before.items) (container_meaning f.container) (within fs (s.At y)) x (with_lazy options z.leaf x)) (spot-within fs (s.At y))
-    ∙ ap (lazy_by options (meanings f.before.items) (container_meaning f.container) (within fs (s.At y)) x) (with_lazy-more options y.leaf x takes)
-    ∙ ap (λ (z : s.Spot). inside f (s.at_spot (within fs (s.At y)) (record { here = z.here; leaf = with_more y.leaf x }))) (spot-within fs (s.At y))
+    ∙ ap
+    (λ (z : s.Spot).
+    lazy_by options (meanings f.before.items) (container_meaning f.container) (within fs (s.At y)) x
+    (with_lazy options z.leaf x))
+    (spot-within fs (s.At y))
+    ∙ ap (lazy_by options (meanings f.before.items) (container_meaning f.container) (within fs (s.At y)) x)
+    (with_lazy-more options y.leaf x takes)
+    ∙ ap
+    (λ (z : s.Spot).
+    inside f (s.at_spot (within fs (s.At y)) (record { here = z.here; leaf = with_more y.leaf x })))
+    (spot-within fs (s.At y))
     ∙ ap (inside f) (at_spot-within fs y (more_text y x))
 
 -- the line is read where the others stopped
-pub stopped-fresh : (options : ParseOptions) (fs : List Frame) (y : s.Spot) (x : r.Rest) → 0 < length fs → opens options false x ≡ None → false ≡ is_some (with_lazy options y.leaf x) →
+pub stopped-fresh : (options : ParseOptions) (fs : List Frame) (y : s.Spot) (x : r.Rest) → 0 < length fs →
+    opens options false x ≡ None → false ≡ is_some (with_lazy options y.leaf x) →
     stopped_in options fs (s.At y) x ≡ s.At (fresh_line options (s.closed options (within fs (s.At y))) x)
 unfolding stopped
 stopped-fresh options [] y x some e takes = absurd (omega (arith, some))
 stopped-fresh options (f ∷ fs) y x some e takes =
     ap (stopped_by options (meanings f.before.items) (container_meaning f.container) (within fs (s.At y)) x) e
-    ∙ ap (λ (z : s.Spot). lazy_by options (meanings f.before.items) (container_meaning f.container) (within fs (s.At y)) x (with_lazy options z.leaf x)) (spot-within fs (s.At y))
-    ∙ ap (lazy_by options (meanings f.before.items) (container_meaning f.container) (within fs (s.At y)) x) (none-of (with_lazy options y.leaf x) takes)
+    ∙ ap
+    (λ (z : s.Spot).
+    lazy_by options (meanings f.before.items) (container_meaning f.container) (within fs (s.At y)) x
+    (with_lazy options z.leaf x))
+    (spot-within fs (s.At y))
+    ∙ ap (lazy_by options (meanings f.before.items) (container_meaning f.container) (within fs (s.At y)) x)
+    (none-of (with_lazy options y.leaf x) takes)
 
 some-left : (n : ℕ) (fs : List Frame) → n < length fs → 0 < length (drop n fs)
 some-left n fs below = let left : length (drop n fs) ≡ length fs - n = length-drop n fs in omega (arith, left, below)
 
 -- the containers behind so many others are closed, and the line opens one there
-pub stops-opened : (options : ParseOptions) (n : ℕ) (fs outer : List Frame) (y : s.Spot) (here : Blocks) (x : r.Rest) (t : Taken) → n < length fs → opens options false x ≡ Some t →
+pub stops-opened : (options : ParseOptions) (n : ℕ) (fs outer : List Frame) (y : s.Spot) (here : Blocks) (x : r.Rest)
+    (t : Taken) →
+    n < length fs → opens options false x ≡ Some t →
     outer ≡ take n fs → here ≡ s.closed options (within (drop n fs) (s.At y)) →
     within outer (entered options here t) ≡ within (take n fs) (stopped_in options (drop n fs) (s.At y) x)
 stops-opened options n fs outer y here x t below e left shut =
@@ -94,7 +117,8 @@ stops-opened options n fs outer y here x t below e left shut =
     ∙ sym (ap (within (take n fs)) (stopped-opened options (drop n fs) (s.At y) x t (some-left n fs below) e))
 
 -- all containers stay open, and the paragraph takes the line
-pub stops-lazy : (options : ParseOptions) (n : ℕ) (fs : List Frame) (y z : s.Spot) (x : r.Rest) → n < length fs → opens options false x ≡ None → true ≡ is_some (with_lazy options y.leaf x) → z ≡ more_text y x →
+pub stops-lazy : (options : ParseOptions) (n : ℕ) (fs : List Frame) (y z : s.Spot) (x : r.Rest) → n < length fs →
+    opens options false x ≡ None → true ≡ is_some (with_lazy options y.leaf x) → z ≡ more_text y x →
     within fs (s.At z) ≡ within (take n fs) (stopped_in options (drop n fs) (s.At y) x)
 stops-lazy options n fs y z x below e takes more =
     ap (λ w. within fs (s.At w)) more
@@ -102,7 +126,8 @@ stops-lazy options n fs y z x below e takes more =
     ∙ sym (ap (within (take n fs)) (stopped-lazy options (drop n fs) y x (some-left n fs below) e takes))
 
 -- the containers behind so many others are closed, and the line is read there
-pub stops-fresh : (options : ParseOptions) (n : ℕ) (fs outer : List Frame) (y z : s.Spot) (here : Blocks) (x : r.Rest) → n < length fs → opens options false x ≡ None → false ≡ is_some (with_lazy options y.leaf x) →
+pub stops-fresh : (options : ParseOptions) (n : ℕ) (fs outer : List Frame) (y z : s.Spot) (here : Blocks) (x : r.Rest) →
+    n < length fs → opens options false x ≡ None → false ≡ is_some (with_lazy options y.leaf x) →
     outer ≡ take n fs → here ≡ s.closed options (within (drop n fs) (s.At y)) → z ≡ fresh_line options here x →
     within outer (s.At z) ≡ within (take n fs) (stopped_in options (drop n fs) (s.At y) x)
 stops-fresh options n fs outer y z here x below e takes left shut fresh =
@@ -111,35 +136,50 @@ stops-fresh options n fs outer y z here x below e takes left shut fresh =
     ∙ sym (ap (within (take n fs)) (stopped-fresh options (drop n fs) y x (some-left n fs below) e takes))
 
 abbrev by_continued : ParseOptions → Blocks → s.Container → s.Path → r.Rest → Option Taken → s.Path
-by_continued options before container p x o = elim o as (λ _. s.Path) [ Some t ↦ s.Within before t.container (step options p t.rest) | None ↦ stopped options before container p x ]
+by_continued options before container p x o = elim o as
+    (λ _. s.Path) [
+      | Some t ↦ s.Within before t.container (step options p t.rest)
+      | None ↦ stopped options before container p x
+    ]
 
 -- the container at an index, with those in it
 here-at : (fs : List Frame) (f : Frame) (i : ℕ) → i < length fs → f ≡ get_or fs i f → drop i fs ≡ f ∷ drop (i + 1) fs
 here-at fs f i below e = drop_more fs i f below ∙ ap (λ g. g ∷ drop (i + 1) fs) (sym e)
 
 -- one container more has continued
-pub continued-next : (options : ParseOptions) (fs : List Frame) (f g : Frame) (c : Container) (p : s.Path) (x y : r.Rest) (i : ℕ) →
-    i < length fs → f ≡ get_or fs i f → g ≡ get_or fs i g → continues options (container_meaning f.container) x ≡ Some (record { container = container_meaning c; rest = y }) →
+pub continued-next : (options : ParseOptions) (fs : List Frame) (f g : Frame) (c : Container) (p : s.Path)
+    (x y : r.Rest) (i : ℕ) →
+    i < length fs → f ≡ get_or fs i f → g ≡ get_or fs i g →
+    continues options (container_meaning f.container) x ≡
+    Some (record { container = container_meaning c; rest = y }) →
     within (take i fs) (step options (within (drop i fs) p) x)
-    ≡ within (take (i + 1) (set fs i (record { before = g.before; container = c }))) (step options (within (drop (i + 1) (set fs i (record { before = g.before; container = c }))) p) y)
+    ≡ within (take (i + 1) (set fs i (record { before = g.before; container = c })))
+    (step options (within (drop (i + 1) (set fs i (record { before = g.before; container = c }))) p) y)
 continued-next options fs f g c p x y i below reads_f reads_g took =
     let h : Frame = record { before = g.before; container = c } in
     let same : f ≡ g = get_or_read fs i f below reads_f g ∙ sym reads_g in
     let inner : s.Path = within (drop (i + 1) fs) p in
     ap (λ gs. within (take i fs) (step options (within gs p) x)) (here-at fs f i below reads_f)
-    ∙ ap (λ o. within (take i fs) (by_continued options (meanings f.before.items) (container_meaning f.container) inner x o)) took
-    ∙ ap (λ (k : Frame). within (take i fs) (s.Within (meanings k.before.items) (container_meaning c) (step options inner y))) same
+    ∙ ap
+    (λ o.
+    within (take i fs) (by_continued options (meanings f.before.items) (container_meaning f.container) inner x o)) took
+    ∙ ap
+    (λ (k : Frame).
+    within (take i fs) (s.Within (meanings k.before.items) (container_meaning c) (step options inner y))) same
     ∙ sym (ap (λ gs. within gs (step options (within (drop (i + 1) (set fs i h)) p) y)) (take_more_set fs i h below)
     ∙ within-append (take i fs) (h ∷ []) (step options (within (drop (i + 1) (set fs i h)) p) y)
     ∙ ap (λ gs. within (take i fs) (inside h (step options (within gs p) y))) (drop-set-lt (i + 1) fs i h (omega arith)))
 
-steps-push : (options : ParseOptions) (p : s.Path) (xs : List r.Rest) (x : r.Rest) → steps options p (xs ++ x ∷ []) ≡ step options (steps options p xs) x
+steps-push : (options : ParseOptions) (p : s.Path) (xs : List r.Rest) (x : r.Rest) →
+    steps options p (xs ++ x ∷ []) ≡ step options (steps options p xs) x
 steps-push options p [] x = refl
 steps-push options p (y ∷ xs) x = steps-push options (step options p y) xs x
 
 -- one line more
-pub steps-next : (options : ParseOptions) (first now next : s.Path) (xs : List Rest) (x : Rest) (i : ℕ) → i < length xs → x ≡ get_or xs i x →
-    now ≡ steps options first (rest_meanings (take i xs)) → next ≡ step options now (rest_meaning x) → next ≡ steps options first (rest_meanings (take (i + 1) xs))
+pub steps-next : (options : ParseOptions) (first now next : s.Path) (xs : List Rest) (x : Rest) (i : ℕ) →
+    i < length xs → x ≡ get_or xs i x →
+    now ≡ steps options first (rest_meanings (take i xs)) → next ≡ step options now (rest_meaning x) →
+    next ≡ steps options first (rest_meanings (take (i + 1) xs))
 steps-next options first now next xs x i below reads before made =
     made
     ∙ ap (λ p. step options p (rest_meaning x)) before

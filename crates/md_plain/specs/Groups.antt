@@ -17,11 +17,13 @@ with_items marker (More item items) bs = g.with_item marker item (with_items mar
 
 -- what is done, and then the items joined with these blocks
 abbrev pub then_groups : Groups → Blocks → Blocks
-then_groups groups bs = then_blocks (meanings groups.done.items) (with_items groups.marker (meanings groups.items.items) bs)
+then_groups groups bs =
+    then_blocks (meanings groups.done.items) (with_items groups.marker (meanings groups.items.items) bs)
 
 -- with this item in front of what follows
 abbrev pub AddsItem : Groups → ℕ → Block → Groups → Type 0
-AddsItem before marker item after = (bs : Blocks) → then_groups after bs ≡ then_groups before (g.with_item marker item bs)
+AddsItem before marker item after =
+    (bs : Blocks) → then_groups after bs ≡ then_groups before (g.with_item marker item bs)
 
 -- with this block in front of what follows
 abbrev pub Adds : Groups → Block → Groups → Type 0

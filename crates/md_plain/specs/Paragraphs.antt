@@ -23,8 +23,12 @@ head_by options k (Some columns) = if is_head_of options k columns then Some (ro
 -- the cells of a head that is this line, if the rest is its delimiter row
 abbrev pub head_of : ParseOptions → Kept → Rest → Option (List (List ℕ))
 head_of options k r =
-    if options.constructs.gfm_table && has_small_indent options r then head_by options k (delimiter_columns (trim r.bytes)) else None
+    if options.constructs.gfm_table && has_small_indent options r
+    then head_by options k (delimiter_columns (trim r.bytes)) else None
 
 -- the table behind what is left of a paragraph
 abbrev pub table_spot : ParseOptions → Blocks → List Kept → List (List ℕ) → Rest → Spot
-table_spot options bs earlier cells r = record { here = shut_paragraph options bs (texts earlier); leaf = OpenTable (trim r.bytes) (cells ∷ []) }
+table_spot options bs earlier cells r = record {
+  here = shut_paragraph options bs (texts earlier);
+  leaf = OpenTable (trim r.bytes) (cells ∷ []);
+}

@@ -36,7 +36,13 @@ abbrev pub kept_meanings : List Kept → List s.Kept
 kept_meanings ks = map kept_meaning ks
 
 abbrev pub opening_meaning : Opening → s.Opening
-opening_meaning o = record { marker = o.marker; size = o.size; indent = o.indent; info = option_copied o.info; meta = option_copied o.meta }
+opening_meaning o = record {
+  marker = o.marker;
+  size = o.size;
+  indent = o.indent;
+  info = option_copied o.info;
+  meta = option_copied o.meta;
+}
 
 abbrev pub leaf_meaning : Leaf → s.Leaf
 leaf_meaning leaf.None = s.NoLeaf
@@ -44,7 +50,8 @@ leaf_meaning (leaf.Paragraph lines) = s.OpenParagraph (kept_meanings lines.items
 leaf_meaning (leaf.Code lines) = s.OpenCode (line_meanings lines.items)
 leaf_meaning (leaf.Fence o lines) = s.OpenFence (opening_meaning o) (line_meanings lines.items)
 leaf_meaning (leaf.Html k lines) = s.OpenHtml (kind_meaning k) (line_meanings lines.items)
-leaf_meaning (leaf.Table delimiter rows) = s.OpenTable delimiter.now (map (λ row. map (λ cell. cell.now) row.items) rows.items)
+leaf_meaning (leaf.Table delimiter rows) =
+    s.OpenTable delimiter.now (map (λ row. map (λ cell. cell.now) row.items) rows.items)
 
 abbrev pub spot_meaning : Spot → s.Spot
 spot_meaning x = record { here = meanings x.here.items; leaf = leaf_meaning x.leaf }

@@ -20,4 +20,5 @@ more_text s r = record { here = s.here; leaf = with_more s.leaf r }
 -- these containers, and in them this path, where the outermost does not continue
 abbrev pub stopped_in : ParseOptions → List Frame → Path → Rest → Path
 stopped_in options [] p r = p
-stopped_in options (f ∷ fs) p r = stopped options (meanings f.before.items) (container_meaning f.container) (within fs p) r
+stopped_in options (f ∷ fs) p r =
+    stopped options (meanings f.before.items) (container_meaning f.container) (within fs p) r

@@ -82,7 +82,11 @@ pub fn close_to<'a>(
     count: usize,
 ) -> Result<(Vec<Frame<'a>>, Vec<Block<'a>>), Message>
     ensures outer { IfOk result (λ r. r.0.items ≡ take count path.entry.frames.items) }
-    ensures blocks { IfOk result (λ r. meanings r.1.items ≡ state.closed options.now (within (drop count path.entry.frames.items) (state.At (spot_meaning path.entry.spot)))) }
+    ensures blocks { IfOk result
+        (λ r.
+        meanings r.1.items ≡
+        state.closed options.now (within (drop count path.entry.frames.items) (state.At
+        (spot_meaning path.entry.spot)))) }
 {
     let Path { mut frames, spot } = path;
     let mut here = shut(alloc, options, spot)?;

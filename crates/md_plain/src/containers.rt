@@ -29,8 +29,8 @@ fn quote_taken<'a>(options: &ParseOptions, rest: &Rest<'a>) -> Option<Taken<'a>>
     })
 }
 
-/// A nonblank line continues an item if it is indented by its width; a blank line does, unless it comes directly after a
-/// first line that was blank (CommonMark 5.2).
+/// A nonblank line continues an item if it is indented by its width; a blank line does, unless it comes directly after
+/// a first line that was blank (CommonMark 5.2).
 #[tactic(auto, unfolding(md_definition::specs::Containers::item_continues))]
 fn item_continues<'a>(
     digits: &'a [u8],
@@ -39,7 +39,8 @@ fn item_continues<'a>(
     starts_blank: bool,
     rest: &Rest<'a>,
 ) -> Option<Taken<'a>>
-    ensures { taken_option result ≡ containers.item_continues digits.now marker width starts_blank (rest_meaning rest.now) }
+    ensures { taken_option result ≡
+        containers.item_continues digits.now marker width starts_blank (rest_meaning rest.now) }
 {
     let goes_on = if is_blank(rest.bytes) {
         !starts_blank
@@ -80,7 +81,8 @@ pub fn continues<'a>(
     container: &Container<'a>,
     rest: &Rest<'a>,
 ) -> Option<Taken<'a>>
-    ensures { taken_option result ≡ containers.continues options.now (container_meaning container.now) (rest_meaning rest.now) }
+    ensures { taken_option result ≡
+        containers.continues options.now (container_meaning container.now) (rest_meaning rest.now) }
 {
     match *container {
         Container::Quote => quote_taken(options, rest),
@@ -178,7 +180,8 @@ fn item_padding(rest: &Rest) -> usize
     }
 }
 
-/// Whether an item may interrupt a paragraph: it does not begin with a blank line, and its number, if any, is written 1.
+/// Whether an item may interrupt a paragraph: it does not begin with a blank line, and its number, if any, is written
+/// 1.
 fn may_interrupt(marker: &Marker, rest: &Rest) -> bool
     ensures { result ≡ containers.may_interrupt (marker_meaning marker.now) (rest_meaning rest.now) }
 {

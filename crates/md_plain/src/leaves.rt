@@ -9,7 +9,8 @@ ghost use Rattle.md_definition.specs.State.{fence_block, OpenCode};
 ghost use Rattle.plain_grammars.specs.Rests.{rest_meaning};
 ghost use Rattle.plain_grammars.specs.Trees.{meaning, line_meanings};
 ghost use Rattle.plain_grammars.specs.Kinds.{kind_meaning};
-ghost use Rattle.md_plain.specs.States.{opening_meaning, came_meaning, came_option, against_meaning, leaf_meaning, went_option, HandsBack};
+ghost use Rattle.md_plain.specs.States.{opening_meaning, came_meaning, came_option, against_meaning, leaf_meaning};
+ghost use Rattle.md_plain.specs.States.{went_option, HandsBack};
 
 use crate::state::{Came, Leaf, Opening, ParagraphContext};
 use md_engine::configuration::ParseOptions;
@@ -130,7 +131,8 @@ fn code_at<'a>(
     against: ParagraphContext,
     rest: &Rest<'a>,
 ) -> Result<Option<Came<'a>>, Message>
-    ensures { IfOk result (λ o. came_option o ≡ leaves.code_at options.now (against_meaning against) (rest_meaning rest.now)) }
+    ensures { IfOk result
+        (λ o. came_option o ≡ leaves.code_at options.now (against_meaning against) (rest_meaning rest.now)) }
 {
     if !options.constructs.code_indented
         || against != ParagraphContext::NoText
@@ -146,7 +148,10 @@ fn code_at<'a>(
 /// A line of indented code; a line that is neither blank nor indented by 4 columns ends it.
 #[tactic(auto, unfolding(md_definition::specs::Leaves::code_goes_on))]
 fn code_goes_on<'a>(lines: &mut Vec<Line<'a>>, rest: &Rest<'a>) -> Result<bool, Message>
-    ensures on { IfOk result (λ b. (if b then Some (leaves.Opened (OpenCode (line_meanings lines.new.items))) else None) ≡ leaves.code_goes_on (line_meanings lines.old.items) (rest_meaning rest.now)) }
+    ensures on { IfOk result
+        (λ b.
+        (if b then Some (leaves.Opened (OpenCode (line_meanings lines.new.items))) else None) ≡
+        leaves.code_goes_on (line_meanings lines.old.items) (rest_meaning rest.now)) }
     ensures off { IfOk result (λ b. IsFalse b → lines.new.items ≡ lines.old.items) }
 {
     if !is_blank(rest.bytes) && rest.indent() < 4 {
@@ -255,7 +260,11 @@ pub fn fence_goes_on<'a>(
     lines: Vec<Line<'a>>,
     rest: &Rest<'a>,
 ) -> Result<Came<'a>, Message>
-    ensures { IfOk result (λ x. came_meaning x ≡ leaves.fence_goes_on options.now (opening_meaning opening.now) (line_meanings lines.entry.items) (rest_meaning rest.now)) }
+    ensures { IfOk result
+        (λ x.
+        came_meaning x ≡
+        leaves.fence_goes_on options.now (opening_meaning opening.now) (line_meanings lines.entry.items)
+        (rest_meaning rest.now)) }
 {
     if closes(options, opening, rest) {
         return Ok(Came::Finished(fence_block(opening, lines, true)));
@@ -267,7 +276,10 @@ pub fn fence_goes_on<'a>(
 
 /// A line of HTML, which may hold its end.
 fn html_line<'a>(kind: HtmlKind, lines: Vec<Line<'a>>, rest: &Rest<'a>) -> Result<Came<'a>, Message>
-    ensures { IfOk result (λ x. came_meaning x ≡ leaves.html_line (kind_meaning kind) (line_meanings lines.entry.items) (rest_meaning rest.now)) }
+    ensures { IfOk result
+        (λ x.
+        came_meaning x ≡ leaves.html_line (kind_meaning kind) (line_meanings lines.entry.items)
+        (rest_meaning rest.now)) }
 {
     let mut lines = lines;
     memory::push(&mut lines, rest.line())?;
@@ -286,7 +298,8 @@ fn html_at<'a>(
     against: ParagraphContext,
     rest: &Rest<'a>,
 ) -> Result<Option<Came<'a>>, Message>
-    ensures { IfOk result (λ o. came_option o ≡ leaves.html_at options.now (against_meaning against) (rest_meaning rest.now)) }
+    ensures { IfOk result
+        (λ o. came_option o ≡ leaves.html_at options.now (against_meaning against) (rest_meaning rest.now)) }
 {
     if !options.constructs.html_flow || !rest.has_small_indent(options) {
         return Ok(None);
@@ -308,7 +321,8 @@ pub fn starts<'a>(
     against: ParagraphContext,
     rest: &Rest<'a>,
 ) -> Result<Option<Came<'a>>, Message>
-    ensures { IfOk result (λ o. came_option o ≡ leaves.starts options.now (against_meaning against) (rest_meaning rest.now)) }
+    ensures { IfOk result
+        (λ o. came_option o ≡ leaves.starts options.now (against_meaning against) (rest_meaning rest.now)) }
 {
     if let Some(came) = code_at(alloc, options, against, rest)? {
         return Ok(Some(came));
@@ -340,7 +354,8 @@ pub fn goes_on<'a>(
     leaf: Leaf<'a>,
     rest: &Rest<'a>,
 ) -> Result<Transition<'a>, Message>
-    ensures value { IfOk result (λ w. went_option w ≡ leaves.goes_on options.now (leaf_meaning leaf.entry) (rest_meaning rest.now)) }
+    ensures value { IfOk result
+        (λ w. went_option w ≡ leaves.goes_on options.now (leaf_meaning leaf.entry) (rest_meaning rest.now)) }
     ensures ends { IfOk result (λ w. HandsBack w (leaf_meaning leaf.entry)) }
 {
     match leaf {

@@ -26,7 +26,8 @@ use std::alloc::Global;
 /// The lines behind a byte order mark, whose bytes are columns of the first.
 fn rests_behind_mark<'a>(alloc: Global, text: &'a [u8]) -> Result<Vec<Rest<'a>>, Message>
     requires { length text.now < 2 ^ 61 }
-    ensures { IfOk result (λ v. rest_meanings v.items ≡ rests_at (first_column text.now) (lines_of (without_mark text.now))) }
+    ensures { IfOk result
+        (λ v. rest_meanings v.items ≡ rests_at (first_column text.now) (lines_of (without_mark text.now))) }
 {
     if has_mark(text) {
         rests_of(alloc, 3, text.split_at(3).1)
@@ -41,7 +42,11 @@ fn blocks_of<'a>(
     options: &ParseOptions,
     rests: &[Rest<'a>],
 ) -> Result<Vec<Block<'a>>, Message>
-    ensures { IfOk result (λ bs. meanings bs.items ≡ state.closed options.now (definition.steps options.now (state.At (definition.spot_of End)) (rest_meanings rests.now))) }
+    ensures { IfOk result
+        (λ bs.
+        meanings bs.items ≡
+        state.closed options.now
+        (definition.steps options.now (state.At (definition.spot_of End)) (rest_meanings rests.now))) }
 {
     let mut path = Path {
         frames: Vec::new(alloc),

@@ -24,7 +24,8 @@ fn push_line<'a>(
     spaces: usize,
     bytes: &'a [u8],
 ) -> Result<(), Message>
-    ensures { OnOk result (entries_of outline.new.items ≡ entries_of outline.old.items ++ entry_as depth word spaces bytes.now ∷ []) }
+    ensures { OnOk result
+        (entries_of outline.new.items ≡ entries_of outline.old.items ++ entry_as depth word spaces bytes.now ∷ []) }
 {
     match str::from_utf8(bytes) {
         Ok(text) => memory::push(
@@ -74,7 +75,8 @@ fn push_texts<'a>(
     word: Word,
     texts: &[&'a [u8]],
 ) -> Result<(), Message>
-    ensures { OnOk result (entries_of outline.new.items ≡ entries_of outline.old.items ++ spec.entries depth word (slices texts.now)) }
+    ensures { OnOk result
+        (entries_of outline.new.items ≡ entries_of outline.old.items ++ spec.entries depth word (slices texts.now)) }
 {
     for text in texts {
         push_line(outline, depth, word, 0, text)?;
@@ -88,7 +90,9 @@ fn push_lines<'a>(
     depth: usize,
     lines: &[Line<'a>],
 ) -> Result<(), Message>
-    ensures { OnOk result (entries_of outline.new.items ≡ entries_of outline.old.items ++ spec.line_entries depth (line_meanings lines.now)) }
+    ensures { OnOk result
+        (entries_of outline.new.items ≡
+        entries_of outline.old.items ++ spec.line_entries depth (line_meanings lines.now)) }
 {
     for line in lines {
         push_line(outline, depth, Word::Line, line.spaces, line.text)?;
@@ -103,7 +107,9 @@ fn push_part<'a>(
     word: Word,
     part: Option<&'a [u8]>,
 ) -> Result<(), Message>
-    ensures { OnOk result (entries_of outline.new.items ≡ entries_of outline.old.items ++ spec.part_entry depth word (option_copied part.entry)) }
+    ensures { OnOk result
+        (entries_of outline.new.items ≡
+        entries_of outline.old.items ++ spec.part_entry depth word (option_copied part.entry)) }
 {
     match part {
         Some(text) => push_line(outline, depth, word, 0, text),
@@ -117,7 +123,9 @@ fn push_title<'a>(
     depth: usize,
     title: &Option<Vec<&'a [u8]>>,
 ) -> Result<(), Message>
-    ensures { OnOk result (entries_of outline.new.items ≡ entries_of outline.old.items ++ spec.title_entries depth (option_map (λ v. slices v.items) title.now)) }
+    ensures { OnOk result
+        (entries_of outline.new.items ≡
+        entries_of outline.old.items ++ spec.title_entries depth (option_map (λ v. slices v.items) title.now)) }
 {
     match title {
         Some(lines) => push_texts(outline, depth, Word::Title, lines),
@@ -131,7 +139,8 @@ fn push_row<'a>(
     depth: usize,
     cells: &[&'a [u8]],
 ) -> Result<(), Message>
-    ensures { OnOk result (entries_of outline.new.items ≡ entries_of outline.old.items ++ spec.row_entries depth (slices cells.now)) }
+    ensures { OnOk result
+        (entries_of outline.new.items ≡ entries_of outline.old.items ++ spec.row_entries depth (slices cells.now)) }
 {
     let inner = deeper(depth)?;
     push_word(outline, depth, Word::Row)?;
@@ -144,7 +153,9 @@ fn push_rows<'a>(
     depth: usize,
     rows: &[Vec<&'a [u8]>],
 ) -> Result<(), Message>
-    ensures { OnOk result (entries_of outline.new.items ≡ entries_of outline.old.items ++ spec.rows_entries depth (map (λ row. slices row.items) rows.now)) }
+    ensures { OnOk result
+        (entries_of outline.new.items ≡
+        entries_of outline.old.items ++ spec.rows_entries depth (map (λ row. slices row.items) rows.now)) }
 {
     for row in rows {
         push_row(outline, depth, row)?;
@@ -159,7 +170,10 @@ fn push_table<'a>(
     delimiter: &'a [u8],
     rows: &[Vec<&'a [u8]>],
 ) -> Result<(), Message>
-    ensures { OnOk result (entries_of outline.new.items ≡ entries_of outline.old.items ++ spec.table_entries depth delimiter.now (map (λ row. slices row.items) rows.now)) }
+    ensures { OnOk result
+        (entries_of outline.new.items ≡
+        entries_of outline.old.items
+        ++ spec.table_entries depth delimiter.now (map (λ row. slices row.items) rows.now)) }
 {
     let inner = deeper(depth)?;
     let Some((head, others)) = rows.split_first() else {
@@ -179,7 +193,10 @@ fn push_lined<'a>(
     word: Word,
     lines: &[&'a [u8]],
 ) -> Result<(), Message>
-    ensures { OnOk result (entries_of outline.new.items ≡ entries_of outline.old.items ++ spec.entry depth word ∷ spec.entries (depth + 1) words.Line (slices lines.now)) }
+    ensures { OnOk result
+        (entries_of outline.new.items ≡
+        entries_of outline.old.items
+        ++ spec.entry depth word ∷ spec.entries (depth + 1) words.Line (slices lines.now)) }
 {
     let inner = deeper(depth)?;
     push_word(outline, depth, word)?;
@@ -193,7 +210,10 @@ fn push_spaced<'a>(
     word: Word,
     lines: &[Line<'a>],
 ) -> Result<(), Message>
-    ensures { OnOk result (entries_of outline.new.items ≡ entries_of outline.old.items ++ spec.entry depth word ∷ spec.line_entries (depth + 1) (line_meanings lines.now)) }
+    ensures { OnOk result
+        (entries_of outline.new.items ≡
+        entries_of outline.old.items
+        ++ spec.entry depth word ∷ spec.line_entries (depth + 1) (line_meanings lines.now)) }
 {
     let inner = deeper(depth)?;
     push_word(outline, depth, word)?;
@@ -209,7 +229,12 @@ fn push_fenced<'a>(
     meta: Option<&'a [u8]>,
     lines: &[Line<'a>],
 ) -> Result<(), Message>
-    ensures { OnOk result (entries_of outline.new.items ≡ entries_of outline.old.items ++ spec.entry depth word ∷ (spec.part_entry (depth + 1) words.Info (option_copied info.entry) ++ spec.part_entry (depth + 1) words.Meta (option_copied meta.entry) ++ spec.line_entries (depth + 1) (line_meanings lines.now))) }
+    ensures { OnOk result
+        (entries_of outline.new.items ≡
+        entries_of outline.old.items ++ spec.entry depth word
+        ∷ (spec.part_entry (depth + 1) words.Info (option_copied info.entry)
+        ++ spec.part_entry (depth + 1) words.Meta (option_copied meta.entry)
+        ++ spec.line_entries (depth + 1) (line_meanings lines.now))) }
 {
     let inner = deeper(depth)?;
     push_word(outline, depth, word)?;
@@ -226,7 +251,12 @@ fn push_definition<'a>(
     destination: &'a [u8],
     title: &Option<Vec<&'a [u8]>>,
 ) -> Result<(), Message>
-    ensures { OnOk result (entries_of outline.new.items ≡ entries_of outline.old.items ++ spec.entry depth words.Definition ∷ (spec.entries (depth + 1) words.Label (slices label.now) ++ spec.entry_with (depth + 1) words.Destination destination.now ∷ spec.title_entries (depth + 1) (option_map (λ v. slices v.items) title.now))) }
+    ensures { OnOk result
+        (entries_of outline.new.items ≡
+        entries_of outline.old.items ++ spec.entry depth words.Definition
+        ∷ (spec.entries (depth + 1) words.Label (slices label.now)
+        ++ spec.entry_with (depth + 1) words.Destination destination.now
+        ∷ spec.title_entries (depth + 1) (option_map (λ v. slices v.items) title.now))) }
 {
     let inner = deeper(depth)?;
     push_word(outline, depth, Word::Definition)?;
@@ -242,7 +272,8 @@ fn push_block<'a>(
     depth: usize,
     block: &Block<'a>,
 ) -> Result<(), Message>
-    ensures { OnOk result (entries_of outline.new.items ≡ entries_of outline.old.items ++ spec.block_entries depth (meaning block.now)) }
+    ensures { OnOk result
+        (entries_of outline.new.items ≡ entries_of outline.old.items ++ spec.block_entries depth (meaning block.now)) }
 {
     match block {
         Block::Frontmatter(marker, lines) => {
@@ -288,7 +319,9 @@ fn push_holder<'a>(
     word: Word,
     blocks: &[Block<'a>],
 ) -> Result<(), Message>
-    ensures { OnOk result (entries_of outline.new.items ≡ entries_of outline.old.items ++ spec.entry depth word ∷ spec.outline (depth + 1) (meanings blocks.now)) }
+    ensures { OnOk result
+        (entries_of outline.new.items ≡
+        entries_of outline.old.items ++ spec.entry depth word ∷ spec.outline (depth + 1) (meanings blocks.now)) }
 {
     let inner = deeper(depth)?;
     push_word(outline, depth, word)?;
@@ -302,7 +335,8 @@ fn push_blocks<'a>(
     depth: usize,
     blocks: &[Block<'a>],
 ) -> Result<(), Message>
-    ensures { OnOk result (entries_of outline.new.items ≡ entries_of outline.old.items ++ spec.outline depth (meanings blocks.now)) }
+    ensures { OnOk result
+        (entries_of outline.new.items ≡ entries_of outline.old.items ++ spec.outline depth (meanings blocks.now)) }
 {
     for block in blocks {
         push_block(outline, depth, block)?;

@@ -62,7 +62,9 @@ fn push_definitions<'a>(
     blocks: &mut Vec<Block<'a>>,
     definitions: Vec<Defined<'a>>,
 ) -> Result<(), Message>
-    ensures { OnOk result (meanings blocks.new.items ≡ state.then_definitions (meanings blocks.old.items) (definitions_of definitions.entry.items)) }
+    ensures { OnOk result
+        (meanings blocks.new.items ≡
+        state.then_definitions (meanings blocks.old.items) (definitions_of definitions.entry.items)) }
 {
     for defined in definitions {
         push_block(blocks, definition_block(defined))?;
@@ -78,7 +80,9 @@ pub fn shut_paragraph<'a>(
     blocks: &mut Vec<Block<'a>>,
     lines: &[Kept<'a>],
 ) -> Result<(), Message>
-    ensures { OnOk result (meanings blocks.new.items ≡ state.shut_paragraph options.now (meanings blocks.old.items) (state.texts (kept_meanings lines.now))) }
+    ensures { OnOk result
+        (meanings blocks.new.items ≡
+        state.shut_paragraph options.now (meanings blocks.old.items) (state.texts (kept_meanings lines.now))) }
 {
     let cut = cut(alloc, options, lines)?;
     push_definitions(blocks, cut.definitions)?;
@@ -101,7 +105,10 @@ pub fn with_line<'a>(
     lines: Vec<Kept<'a>>,
     rest: &Rest<'a>,
 ) -> Result<Spot<'a>, Message>
-    ensures { IfOk result (λ s. spot_meaning s ≡ leaves.with_line (meanings here.entry.items) (kept_meanings lines.entry.items) (rest_meaning rest.now)) }
+    ensures { IfOk result
+        (λ s.
+        spot_meaning s ≡
+        leaves.with_line (meanings here.entry.items) (kept_meanings lines.entry.items) (rest_meaning rest.now)) }
 {
     let mut lines = lines;
     memory::push(&mut lines, kept(rest))?;
@@ -145,8 +152,8 @@ pub fn underline_depth(options: &ParseOptions, rest: &Rest) -> Option<u8>
     }
 }
 
-/// A paragraph with an underline, and what its definitions leave of it: that becomes a heading; an underline with nothing
-/// to underline is an ordinary line.
+/// A paragraph with an underline, and what its definitions leave of it: that becomes a heading; an underline with
+/// nothing to underline is an ordinary line.
 fn underlined_by<'a>(
     here: Vec<Block<'a>>,
     lines: Vec<Kept<'a>>,
@@ -154,7 +161,12 @@ fn underlined_by<'a>(
     depth: u8,
     cut: Cut<'a>,
 ) -> Result<Spot<'a>, Message>
-    ensures { IfOk result (λ s. spot_meaning s ≡ leaves.underlined_by (meanings here.entry.items) (kept_meanings lines.entry.items) (rest_meaning rest.now) depth (state.then_definitions (meanings here.entry.items) (definitions_of cut.entry.definitions.items)) (slices cut.entry.remaining.items)) }
+    ensures { IfOk result
+        (λ s.
+        spot_meaning s ≡
+        leaves.underlined_by (meanings here.entry.items) (kept_meanings lines.entry.items) (rest_meaning rest.now) depth
+        (state.then_definitions (meanings here.entry.items) (definitions_of cut.entry.definitions.items))
+        (slices cut.entry.remaining.items)) }
 {
     let Cut {
         definitions,
@@ -184,7 +196,11 @@ pub fn underlined<'a>(
     rest: &Rest<'a>,
     depth: u8,
 ) -> Result<Spot<'a>, Message>
-    ensures { IfOk result (λ s. spot_meaning s ≡ leaves.underlined options.now (meanings here.entry.items) (kept_meanings lines.entry.items) (rest_meaning rest.now) depth) }
+    ensures { IfOk result
+        (λ s.
+        spot_meaning s ≡
+        leaves.underlined options.now (meanings here.entry.items) (kept_meanings lines.entry.items)
+        (rest_meaning rest.now) depth) }
 {
     let cut = cut(alloc, options, &lines)?;
     underlined_by(here, lines, rest, depth, cut)
@@ -205,7 +221,9 @@ pub fn head_cells<'a>(
     head: &Kept<'a>,
     rest: &Rest<'a>,
 ) -> Result<Option<Vec<&'a [u8]>>, Message>
-    ensures { IfOk result (λ cells. option_map (λ v. slices v.items) cells ≡ head_of options.now (kept_meaning head.now) (rest_meaning rest.now)) }
+    ensures { IfOk result
+        (λ cells.
+        option_map (λ v. slices v.items) cells ≡ head_of options.now (kept_meaning head.now) (rest_meaning rest.now)) }
 {
     if !options.constructs.gfm_table || !rest.has_small_indent(options) {
         return Ok(None);
@@ -230,7 +248,11 @@ pub fn with_table<'a>(
     cells: Vec<&'a [u8]>,
     rest: &Rest<'a>,
 ) -> Result<Spot<'a>, Message>
-    ensures { IfOk result (λ s. spot_meaning s ≡ table_spot options.now (meanings here.entry.items) (kept_meanings earlier.now) (slices cells.entry.items) (rest_meaning rest.now)) }
+    ensures { IfOk result
+        (λ s.
+        spot_meaning s ≡
+        table_spot options.now (meanings here.entry.items) (kept_meanings earlier.now) (slices cells.entry.items)
+        (rest_meaning rest.now)) }
 {
     let mut here = here;
     shut_paragraph(alloc, options, &mut here, earlier)?;

@@ -7,7 +7,8 @@ ghost use Rattle.md_definition.specs.Leaves.{table_at};
 ghost use Rattle.md_definition.specs.Step as definition;
 ghost use Rattle.plain_grammars.specs.Rests.{rest_meaning};
 ghost use Rattle.plain_grammars.specs.Trees.{meanings};
-ghost use Rattle.md_plain.specs.States.{kept_meanings, leaf_meaning, spot_meaning, came_meaning, taken_meaning, path_meaning, within};
+ghost use Rattle.md_plain.specs.States.{kept_meanings, leaf_meaning, spot_meaning, came_meaning, taken_meaning};
+ghost use Rattle.md_plain.specs.States.{path_meaning, within};
 ghost use Rattle.md_plain.specs.Stops.{more_text, stopped_in};
 
 use crate::close::{close_to, shut};
@@ -28,7 +29,8 @@ use std::alloc::Global;
 
 /// What a leaf came to, behind these blocks.
 fn came<'a>(here: Vec<Block<'a>>, came: Came<'a>) -> Result<Spot<'a>, Message>
-    ensures { IfOk result (λ s. spot_meaning s ≡ definition.came (meanings here.entry.items) (came_meaning came.entry)) }
+    ensures { IfOk result (λ s. spot_meaning s ≡
+        definition.came (meanings here.entry.items) (came_meaning came.entry)) }
 {
     match came {
         Came::Opened(leaf) => Ok(Spot { here, leaf }),
@@ -51,7 +53,8 @@ fn fresh_line<'a>(
     here: Vec<Block<'a>>,
     rest: &Rest<'a>,
 ) -> Result<Spot<'a>, Message>
-    ensures { IfOk result (λ s. spot_meaning s ≡ definition.fresh_line options.now (meanings here.entry.items) (rest_meaning rest.now)) }
+    ensures { IfOk result
+        (λ s. spot_meaning s ≡ definition.fresh_line options.now (meanings here.entry.items) (rest_meaning rest.now)) }
 {
     if is_blank(rest.bytes) {
         return Ok(Spot {
@@ -73,7 +76,11 @@ fn table_or_text<'a>(
     lines: Vec<Kept<'a>>,
     rest: &Rest<'a>,
 ) -> Result<Spot<'a>, Message>
-    ensures { IfOk result (λ s. spot_meaning s ≡ definition.row_or_text (meanings here.entry.items) (kept_meanings lines.entry.items) (rest_meaning rest.now) (table_at options.now (meanings here.entry.items) (kept_meanings lines.entry.items) (rest_meaning rest.now))) }
+    ensures { IfOk result
+        (λ s.
+        spot_meaning s ≡
+        definition.row_or_text (meanings here.entry.items) (kept_meanings lines.entry.items) (rest_meaning rest.now)
+        (table_at options.now (meanings here.entry.items) (kept_meanings lines.entry.items) (rest_meaning rest.now))) }
 {
     let Some((head, earlier)) = lines.split_last() else {
         return with_line(here, lines, rest);
@@ -94,7 +101,11 @@ fn text_line<'a>(
     lines: Vec<Kept<'a>>,
     rest: &Rest<'a>,
 ) -> Result<Spot<'a>, Message>
-    ensures { IfOk result (λ s. spot_meaning s ≡ definition.text_line options.now (meanings here.entry.items) (kept_meanings lines.entry.items) (rest_meaning rest.now)) }
+    ensures { IfOk result
+        (λ s.
+        spot_meaning s ≡
+        definition.text_line options.now (meanings here.entry.items) (kept_meanings lines.entry.items)
+        (rest_meaning rest.now)) }
 {
     let mut here = here;
     if is_blank(rest.bytes) {
@@ -121,7 +132,8 @@ fn leaf_line<'a>(
     spot: Spot<'a>,
     rest: &Rest<'a>,
 ) -> Result<Spot<'a>, Message>
-    ensures { IfOk result (λ s. spot_meaning s ≡ definition.leaf_line options.now (spot_meaning spot.entry) (rest_meaning rest.now)) }
+    ensures { IfOk result
+        (λ s. spot_meaning s ≡ definition.leaf_line options.now (spot_meaning spot.entry) (rest_meaning rest.now)) }
 {
     let Spot { here, leaf } = spot;
     match leaf {
@@ -144,7 +156,11 @@ fn open_all<'a>(
     frames: Vec<Frame<'a>>,
     rest: Rest<'a>,
 ) -> Result<(Vec<Frame<'a>>, Rest<'a>), Message>
-    ensures { IfOk result (λ r. within r.0.items (state.At (definition.fresh_line options.now End (rest_meaning r.1))) ≡ within frames.entry.items (definition.opened options.now (length rest.entry.bytes.now) (rest_meaning rest.entry))) }
+    ensures { IfOk result
+        (λ r.
+        within r.0.items (state.At (definition.fresh_line options.now End (rest_meaning r.1))) ≡
+        within frames.entry.items
+        (definition.opened options.now (length rest.entry.bytes.now) (rest_meaning rest.entry))) }
 {
     let mut frames = frames;
     let mut left = rest;
@@ -172,7 +188,11 @@ fn enter<'a>(
     here: Vec<Block<'a>>,
     taken: Taken<'a>,
 ) -> Result<Path<'a>, Message>
-    ensures { IfOk result (λ p. path_meaning p ≡ within frames.entry.items (definition.entered options.now (meanings here.entry.items) (taken_meaning taken.entry))) }
+    ensures { IfOk result
+        (λ p.
+        path_meaning p ≡
+        within frames.entry.items
+        (definition.entered options.now (meanings here.entry.items) (taken_meaning taken.entry))) }
 {
     let mut frames = frames;
     memory::push(
@@ -195,7 +215,11 @@ fn all_continued<'a>(
     path: Path<'a>,
     rest: &Rest<'a>,
 ) -> Result<Path<'a>, Message>
-    ensures { IfOk result (λ p. path_meaning p ≡ within path.entry.frames.items (definition.all_continued options.now (spot_meaning path.entry.spot) (rest_meaning rest.now))) }
+    ensures { IfOk result
+        (λ p.
+        path_meaning p ≡
+        within path.entry.frames.items
+        (definition.all_continued options.now (spot_meaning path.entry.spot) (rest_meaning rest.now))) }
 {
     let Path { frames, spot } = path;
     let opened = match spot.leaf {
@@ -222,7 +246,8 @@ fn takes_lazy<'a>(
     leaf: &Leaf<'a>,
     rest: &Rest<'a>,
 ) -> Result<bool, Message>
-    ensures { IfOk result (λ b. b ≡ is_some (definition.with_lazy options.now (leaf_meaning leaf.now) (rest_meaning rest.now))) }
+    ensures { IfOk result
+        (λ b. b ≡ is_some (definition.with_lazy options.now (leaf_meaning leaf.now) (rest_meaning rest.now))) }
 {
     match leaf {
         Leaf::Paragraph(_) => {
@@ -244,7 +269,12 @@ fn stopped<'a>(
     rest: &Rest<'a>,
 ) -> Result<Path<'a>, Message>
     requires { count < length path.frames.items }
-    ensures { IfOk result (λ p. path_meaning p ≡ within (take count path.entry.frames.items) (stopped_in options.now (drop count path.entry.frames.items) (state.At (spot_meaning path.entry.spot)) (rest_meaning rest.now))) }
+    ensures { IfOk result
+        (λ p.
+        path_meaning p ≡
+        within (take count path.entry.frames.items)
+        (stopped_in options.now (drop count path.entry.frames.items) (state.At (spot_meaning path.entry.spot))
+        (rest_meaning rest.now))) }
 {
     if let Some(taken) = opens(options, false, rest) {
         let (frames, here) = close_to(alloc, options, path, count)?;
@@ -278,7 +308,8 @@ pub fn step<'a>(
     path: Path<'a>,
     rest: &Rest<'a>,
 ) -> Result<Path<'a>, Message>
-    ensures { IfOk result (λ p. path_meaning p ≡ definition.step options.now (path_meaning path.entry) (rest_meaning rest.now)) }
+    ensures { IfOk result
+        (λ p. path_meaning p ≡ definition.step options.now (path_meaning path.entry) (rest_meaning rest.now)) }
 {
     let mut path = path;
     let mut rest = *rest;

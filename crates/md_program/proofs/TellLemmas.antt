@@ -1,5 +1,6 @@
 -- Lemmas on what a writer holds when a line was written in two parts.
-use Rattle.std.proofs.Common.{◌≡◌, ℕ, List, [], ◌++◌, Option, Result, Ok, Err, MatchResult, sym, subst, ◌∙◌, ap, append_assoc}
+use Rattle.std.proofs.Common.{◌≡◌, ℕ, List, [], ◌++◌, Option, Result, Ok, Err, MatchResult, sym, subst, ◌∙◌, ap}
+use Rattle.std.proofs.Common.{append_assoc}
 use Rattle.std.proofs.lemmas.List.{append-nil}
 use Rattle.std.proofs.KnownBytes.{Appends-trans}
 use Rattle.std.specs.Io.KnownBytes.{Appends}
@@ -15,12 +16,14 @@ begins-written old new bs (Ok v) written = (bs, [], sym (append-nil bs), written
 begins-written old new bs (Err failure) written = written.1
 
 -- a beginning of the first part is one of the whole
-pub begins-first : (old new : Option (List ℕ)) (bs front cs : List ℕ) → bs ≡ front → AppendsBeginning old new bs → AppendsBeginning old new (front ++ cs)
+pub begins-first : (old new : Option (List ℕ)) (bs front cs : List ℕ) → bs ≡ front → AppendsBeginning old new bs →
+    AppendsBeginning old new (front ++ cs)
 begins-first old new bs front cs same (begin, back, split, appended) =
     (begin, back ++ cs, ap (λ l. l ++ cs) (sym same ∙ split) ∙ append_assoc begin back cs, appended)
 
 -- behind the whole first part, a beginning of the second
-pub begins-second : (old mid new : Option (List ℕ)) (bs front cs rest : List ℕ) → bs ≡ front → cs ≡ rest → Appends old mid bs → AppendsBeginning mid new cs
+pub begins-second : (old mid new : Option (List ℕ)) (bs front cs rest : List ℕ) → bs ≡ front → cs ≡ rest →
+    Appends old mid bs → AppendsBeginning mid new cs
     → AppendsBeginning old new (front ++ rest)
 begins-second old mid new bs front cs rest same others first (begin, back, split, appended) = (
   front ++ begin,

@@ -9,6 +9,7 @@ repeat_last zero piece = sym (append-nil piece)
 repeat_last (suc n) piece = append_assoc piece (repeat n piece) piece ∙ ap (λ rest. piece ++ rest) (repeat_last n piece)
 
 -- the same behind another text
-pub repeat_more : (front : List ℕ) (n : ℕ) (piece : List ℕ) → (front ++ repeat n piece) ++ piece ≡ front ++ repeat (n + 1) piece
+pub repeat_more : (front : List ℕ) (n : ℕ) (piece : List ℕ) →
+    (front ++ repeat n piece) ++ piece ≡ front ++ repeat (n + 1) piece
 repeat_more front n piece =
     rw add-one (append_assoc front (repeat n piece) piece ∙ ap (λ rest. front ++ rest) (repeat_last n piece))

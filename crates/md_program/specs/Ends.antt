@@ -1,11 +1,13 @@
 -- How the program ends.
-use Rattle.std.specs.Prelude.{◌≡◌, ℕ, ◌≤◌, ◌<◌, List, ◌++◌, length, codes, ⊤, Option, Some, None, IsSome, IfSome, IsUtf8}
+use Rattle.std.specs.Prelude.{◌≡◌, ℕ, ◌≤◌, ◌<◌, List, ◌++◌, length, codes, ⊤, Option, Some, None, IsSome, IfSome}
+use Rattle.std.specs.Prelude.{IsUtf8}
 use Rattle.std.specs.Io.KnownBytes.{Keeps, Appends}
 use Rattle.md_engine.specs.declared.configuration.ParseOptions.{ParseOptions}
 use Rattle.md_program.specs.Sets.{options_of, set_asked_for}
 use Rattle.md_program.specs.declared.body.TheConstants.{MOST}
 use Rattle.md_program.specs.declared.failure.Failure.{Failure}
-use Rattle.md_program.specs.declared.failure.Failure.TheVariants.{UnknownArgument, NotUtf8, TooLong, OutOfMemory, ReadFailed, WriteFailed}
+use Rattle.md_program.specs.declared.failure.Failure.TheVariants.{UnknownArgument, NotUtf8, TooLong, OutOfMemory}
+use Rattle.md_program.specs.declared.failure.Failure.TheVariants.{ReadFailed, WriteFailed}
 use Rattle.md_program.specs.declared.set.Set.{Set}
 
 -- the status after a failure
@@ -49,7 +51,8 @@ FailsRead input NotUtf8 = ⊥
 FailsRead input WriteFailed = ⊥
 
 -- the input, whose bytes may be known, was a text, and these bytes are what is printed of it under a set
-pub record Shows (prints : List ℕ → ParseOptions → List ℕ → Type 0) (input : Option (List ℕ)) (set : Set) (bytes : List ℕ) : Type 0 where
+pub record Shows (prints : List ℕ → ParseOptions → List ℕ → Type 0) (input : Option (List ℕ)) (set : Set)
+    (bytes : List ℕ) : Type 0 where
   pub text : List ℕ
   pub read : Gives input text
   pub utf8 : IsUtf8 text
@@ -70,11 +73,13 @@ Stops asked input left OutOfMemory = IsSome asked
 Stops asked input left ReadFailed = IsSome asked
 Stops asked input left WriteFailed = ⊥
 
--- what the program has read and written, by how it ended: `input` and `left` are what it could read before and after, `held`
--- and `holds` what the output held before and after
-abbrev pub Ran : (Set → List ℕ → Type 0) → Option Set → Option (List ℕ) → Option (List ℕ) → Option (List ℕ) → Option (List ℕ) → Option Failure → Type 0
+-- what the program has read and written, by how it ended: `input` and `left` are what it could read before and after,
+-- `held` and `holds` what the output held before and after
+abbrev pub Ran : (Set → List ℕ → Type 0) → Option Set → Option (List ℕ) → Option (List ℕ) → Option (List ℕ) →
+    Option (List ℕ) → Option Failure → Type 0
 Ran shows asked input left held holds None = (bytes : List ℕ) × Prints shows asked bytes × Appends held holds bytes
-Ran shows asked input left held holds (Some WriteFailed) = (bytes : List ℕ) × Prints shows asked bytes × AppendsBeginning held holds bytes
+Ran shows asked input left held holds (Some WriteFailed) =
+    (bytes : List ℕ) × Prints shows asked bytes × AppendsBeginning held holds bytes
 Ran shows asked input left held holds (Some failure) = Stops asked input left failure × Keeps held holds
 
 -- the status that the program ends with
@@ -87,9 +92,10 @@ abbrev pub Tells : List ℕ → Option (List ℕ) → Option (List ℕ) → Opti
 Tells name said says None = Keeps said says
 Tells name said says (Some failure) = AppendsBeginning said says (message name failure)
 
--- a run of the program of this name with these arguments: what it may print of a text, the bytes that its input, output and
--- standard error are known to have before and after, and its status
-pub record Runs (name : List ℕ) (prints : List ℕ → ParseOptions → List ℕ → Type 0) (args : List (List ℕ)) (input left held holds said says : Option (List ℕ)) (ended : ℕ) : Type 0 where
+-- a run of the program of this name with these arguments: what it may print of a text, the bytes that its input, output
+-- and standard error are known to have before and after, and its status
+pub record Runs (name : List ℕ) (prints : List ℕ → ParseOptions → List ℕ → Type 0) (args : List (List ℕ))
+    (input left held holds said says : Option (List ℕ)) (ended : ℕ) : Type 0 where
   pub failure : Option Failure
   pub ending : ended ≡ status failure
   pub telling : Tells name said says failure

@@ -5,7 +5,10 @@ use Rattle.std.specs.Fmt.{decimal}
 use Rattle.md_engine.specs.declared.configuration.ParseOptions.{ParseOptions}
 use Rattle.md_definition.specs.Outline.{Entry}
 use Rattle.md_definition.specs.declared.outline.Word.{Word}
-use Rattle.md_definition.specs.declared.outline.Word.TheVariants.{Frontmatter, Heading, Break, Code, Fence, Math, Html, Definition, Paragraph, Table, Row, Quote, List as ListOf, Item, Footnote, Line, Info, Meta, Label, Destination, Title, Delimiter, Cell}
+use Rattle.md_definition.specs.declared.outline.Word.TheVariants.{Frontmatter, Heading, Break, Code, Fence, Math, Html}
+use Rattle.md_definition.specs.declared.outline.Word.TheVariants.{Definition, Paragraph, Table, Row, Quote}
+use Rattle.md_definition.specs.declared.outline.Word.TheVariants.{List as ListOf, Item, Footnote, Line, Info, Meta}
+use Rattle.md_definition.specs.declared.outline.Word.TheVariants.{Label, Destination, Title, Delimiter, Cell}
 use Rattle.md_program.specs.Listing.{Listing}
 
 -- a line feed
@@ -45,7 +48,8 @@ head Cell = codes "cell | "
 
 -- two spaces a depth, the word, virtual spaces as spaces, and the text
 unfoldable pub printed_line : Entry → List ℕ
-printed_line line = repeat line.depth (codes "  ") ++ head line.word ++ repeat line.spaces (codes " ") ++ line.text ++ line_end
+printed_line line =
+    repeat line.depth (codes "  ") ++ head line.word ++ repeat line.spaces (codes " ") ++ line.text ++ line_end
 
 -- a label, on a line of its own
 abbrev pub printed_label : List ℕ → List ℕ
@@ -62,8 +66,10 @@ printed listing =
     ++ printed_labels (codes "definitions ") listing.definitions
     ++ printed_labels (codes "footnotes ") listing.footnotes
 
--- what is printed of a text: the printed form of a listing that may be answered to it, under what stands for the options
-pub record PrintsOutline (outlines : List ℕ → ParseOptions → Listing → Type 0) (built : ParseOptions → ParseOptions) (text : List ℕ) (options : ParseOptions) (bytes : List ℕ) : Type 0 where
+-- what is printed of a text: the printed form of a listing that may be answered to it, under what stands for the
+-- options
+pub record PrintsOutline (outlines : List ℕ → ParseOptions → Listing → Type 0) (built : ParseOptions → ParseOptions)
+    (text : List ℕ) (options : ParseOptions) (bytes : List ℕ) : Type 0 where
   pub listing : Listing
   pub shown : outlines text (built options) listing
   pub printing : bytes ≡ printed listing

@@ -32,4 +32,11 @@ abbrev pub options_of : Set → ParseOptions
 options_of CommonMark = record { constructs = COMMONMARK }
 options_of Gfm = record { constructs = record COMMONMARK { gfm_footnote_definition = true; gfm_table = true } }
 options_of All =
-    record { constructs = record COMMONMARK { gfm_footnote_definition = true; gfm_table = true; frontmatter = true; math_flow = true } }
+    record {
+      constructs = record COMMONMARK {
+        gfm_footnote_definition = true;
+        gfm_table = true;
+        frontmatter = true;
+        math_flow = true;
+      };
+    }

@@ -51,7 +51,8 @@ impl Failure {
         }
     }
 
-    /// Writes the line of the program `name` to `errors` and answers the status. A write there may fail, which changes nothing.
+    /// Writes the line of the program `name` to `errors` and answers the status. A write there may fail, which changes
+    /// nothing.
     pub fn report<E: Write>(self, name: &str, errors: &mut E) -> u8
         ensures status { result ≡ failed_status self }
         ensures told { AppendsBeginning (E.contents errors.old) (E.contents errors.new) (message name.now self) }

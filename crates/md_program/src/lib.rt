@@ -1,5 +1,5 @@
-// What the programs share that print what a text means: their arguments, statuses and messages, how they read and write, and
-// the printed form of an outline.
+// What the programs share that print what a text means: their arguments, statuses and messages, how they read and
+// write, and the printed form of an outline.
 #![tactic(auto)]
 
 pub mod body;

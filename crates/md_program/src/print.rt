@@ -34,7 +34,8 @@ fn push_all(text: &mut String, outlined: &Outlined) -> Result<(), AllocError>
 }
 
 fn push_lines(text: &mut String, lines: &[OutlineLine]) -> Result<(), AllocError>
-    ensures { OnOk result (string_bytes text.new ≡ string_bytes text.old ++ flat_map printed_line (map entry_of lines.now)) }
+    ensures { OnOk result
+        (string_bytes text.new ≡ string_bytes text.old ++ flat_map printed_line (map entry_of lines.now)) }
 {
     for line in lines {
         push_line(text, line)?;
@@ -108,7 +109,8 @@ fn push_marked(text: &mut String, name: &str, marker: u8) -> Result<(), AllocErr
 
 /// Puts `name` behind the text, and behind it a number.
 pub fn push_counted(text: &mut String, name: &str, count: usize) -> Result<(), AllocError>
-    ensures { OnOk result (string_bytes text.new ≡ string_bytes text.old ++ (name.now ++ Rattle.std.specs.Fmt.decimal count)) }
+    ensures { OnOk result
+        (string_bytes text.new ≡ string_bytes text.old ++ (name.now ++ Rattle.std.specs.Fmt.decimal count)) }
 {
     text.push_str(name)?;
     write!(text, "{count}")
@@ -125,7 +127,8 @@ fn push_open(text: &mut String, closed: bool) -> Result<(), AllocError>
 
 #[tactic(auto, unfolding(crate::specs::Printed::printed_labels))]
 fn push_labels(text: &mut String, name: &str, labels: &[String]) -> Result<(), AllocError>
-    ensures { OnOk result (string_bytes text.new ≡ string_bytes text.old ++ printed_labels name.now (map string_bytes labels.now)) }
+    ensures { OnOk result
+        (string_bytes text.new ≡ string_bytes text.old ++ printed_labels name.now (map string_bytes labels.now)) }
 {
     push_counted(text, name, labels.len())?;
     text.push_str("\n")?;

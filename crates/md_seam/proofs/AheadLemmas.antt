@@ -18,16 +18,19 @@ white-ending room [] = refl
 white-ending zero (c ∷ cs) = refl
 white-ending (suc room) (c ∷ cs) = go (is_white c.byte) refl (white-ending room cs)
   where
-    go : (x : Bool) → is_white c.byte ≡ x → from_ending (white_rest room cs) ≡ from_ending cs → from_ending (white_rest (suc room) (c ∷ cs)) ≡ from_ending (c ∷ cs)
+    go : (x : Bool) → is_white c.byte ≡ x → from_ending (white_rest room cs) ≡ from_ending cs →
+        from_ending (white_rest (suc room) (c ∷ cs)) ≡ from_ending (c ∷ cs)
     go true e same = rw (white-no_ending c.byte e, e) same
     go false e same = rw e refl
 
-pub white-line_end : (room : ℕ) (cells : List Cell) (p : Point) → line_end (white_rest room cells) (white_end room cells p) ≡ line_end cells p
+pub white-line_end : (room : ℕ) (cells : List Cell) (p : Point) →
+    line_end (white_rest room cells) (white_end room cells p) ≡ line_end cells p
 white-line_end room [] p = refl
 white-line_end zero (c ∷ cs) p = refl
 white-line_end (suc room) (c ∷ cs) p = go (is_white c.byte) refl (white-line_end room cs c.after)
   where
-    go : (x : Bool) → is_white c.byte ≡ x → line_end (white_rest room cs) (white_end room cs c.after) ≡ line_end cs c.after →
+    go : (x : Bool) → is_white c.byte ≡ x →
+        line_end (white_rest room cs) (white_end room cs c.after) ≡ line_end cs c.after →
         line_end (white_rest (suc room) (c ∷ cs)) (white_end (suc room) (c ∷ cs) p) ≡ line_end (c ∷ cs) p
     go true e same = rw (white-no_ending c.byte e, e) same
     go false e same = rw e refl

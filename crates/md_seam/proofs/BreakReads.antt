@@ -11,6 +11,8 @@ use Rattle.md_seam.specs.Events.Spelled.{Reading, OfBreak, add_block, fresh, rea
 use Rattle.md_seam.proofs.SpelledLemmas.{Roles, Quiet, read-quiet}
 
 -- The events of a thematic break are read as a break.
-pub read-break : (bytes : List ℕ) (r : Reading) (p q : Point) (inside : List Event) → r.leaf ≡ None → Roles Quiet inside → read bytes r (around n.ThematicBreak p q inside) ≡ add_block t.Break r
+pub read-break : (bytes : List ℕ) (r : Reading) (p q : Point) (inside : List Event) → r.leaf ≡ None →
+    Roles Quiet inside → read bytes r (around n.ThematicBreak p q inside) ≡ add_block t.Break r
 read-break bytes r p q inside none quiet =
-    read-leaf bytes r n.ThematicBreak OfBreak p q inside (fresh OfBreak) refl none (read-quiet bytes (record r { leaf = Some (fresh OfBreak) }) inside quiet)
+    read-leaf bytes r n.ThematicBreak OfBreak p q inside (fresh OfBreak) refl none
+    (read-quiet bytes (record r { leaf = Some (fresh OfBreak) }) inside quiet)

@@ -28,7 +28,23 @@ lazy_tree = t.More (t.Quote (t.More (t.Paragraph (codes "a" ∷ codes "b" ∷ []
 
 row-lazy : Row lazy_text lazy_events lazy_tree
 unfolding spelled keeps_grammar
-row-lazy = record { placed = refl; before = refl; after = refl; nested = search rules; lines = refl; chunks = refl; grammar = refl; grammar_after = refl; pieces_are = refl; pieces_after = refl; endings = refl; endings_after = refl; covers = search rules; each = search rules; empty = search rules }
+row-lazy = record {
+  placed = refl;
+  before = refl;
+  after = refl;
+  nested = search rules;
+  lines = refl;
+  chunks = refl;
+  grammar = refl;
+  grammar_after = refl;
+  pieces_are = refl;
+  pieces_after = refl;
+  endings = refl;
+  endings_after = refl;
+  covers = search rules;
+  each = search rules;
+  empty = search rules;
+}
 
 -- a quote whose second line has the prefix, behind a space: "> a\n > b"
 abbrev pub prefix_text : List ℕ
@@ -53,7 +69,23 @@ prefix_tree = t.More (t.Quote (t.More (t.Paragraph (codes "a" ∷ codes "b" ∷ 
 
 row-prefix : Row prefix_text prefix_events prefix_tree
 unfolding spelled keeps_grammar
-row-prefix = record { placed = refl; before = refl; after = refl; nested = search rules; lines = refl; chunks = refl; grammar = refl; grammar_after = refl; pieces_are = refl; pieces_after = refl; endings = refl; endings_after = refl; covers = search rules; each = search rules; empty = search rules }
+row-prefix = record {
+  placed = refl;
+  before = refl;
+  after = refl;
+  nested = search rules;
+  lines = refl;
+  chunks = refl;
+  grammar = refl;
+  grammar_after = refl;
+  pieces_are = refl;
+  pieces_after = refl;
+  endings = refl;
+  endings_after = refl;
+  covers = search rules;
+  each = search rules;
+  empty = search rules;
+}
 
 -- an ordered list, with the digits as written: "01) a\n7) b"
 abbrev pub ordered_text : List ℕ
@@ -79,11 +111,31 @@ ordered_events =
     (chunk (at 2 4 9) (at 2 5 10))))
 
 abbrev pub ordered_tree : t.Blocks
-ordered_tree = t.More (t.ListOf 41 (t.More (t.Item 41 (codes "01") (t.More (t.Paragraph (codes "a" ∷ [])) t.End)) (t.More (t.Item 41 (codes "7") (t.More (t.Paragraph (codes "b" ∷ [])) t.End)) t.End))) t.End
+ordered_tree =
+    t.More
+    (t.ListOf 41
+    (t.More (t.Item 41 (codes "01") (t.More (t.Paragraph (codes "a" ∷ [])) t.End))
+    (t.More (t.Item 41 (codes "7") (t.More (t.Paragraph (codes "b" ∷ [])) t.End)) t.End))) t.End
 
 row-ordered : Row ordered_text ordered_events ordered_tree
 unfolding spelled keeps_grammar
-row-ordered = record { placed = refl; before = refl; after = refl; nested = search rules; lines = refl; chunks = refl; grammar = refl; grammar_after = refl; pieces_are = refl; pieces_after = refl; endings = refl; endings_after = refl; covers = search rules; each = search rules; empty = search rules }
+row-ordered = record {
+  placed = refl;
+  before = refl;
+  after = refl;
+  nested = search rules;
+  lines = refl;
+  chunks = refl;
+  grammar = refl;
+  grammar_after = refl;
+  pieces_are = refl;
+  pieces_after = refl;
+  endings = refl;
+  endings_after = refl;
+  covers = search rules;
+  each = search rules;
+  empty = search rules;
+}
 
 -- items before they are grouped into lists: "- a\n+ b"
 abbrev pub items_text : List ℕ
@@ -106,7 +158,9 @@ items_events =
     (chunk (at 2 3 6) (at 2 4 7)))
 
 abbrev pub items_tree : t.Blocks
-items_tree = t.More (t.Item 45 [] (t.More (t.Paragraph (codes "a" ∷ [])) t.End)) (t.More (t.Item 43 [] (t.More (t.Paragraph (codes "b" ∷ [])) t.End)) t.End)
+items_tree =
+    t.More (t.Item 45 [] (t.More (t.Paragraph (codes "a" ∷ [])) t.End))
+    (t.More (t.Item 43 [] (t.More (t.Paragraph (codes "b" ∷ [])) t.End)) t.End)
 
 row-items : spelled items_events items_text ≡ items_tree
 unfolding spelled
@@ -148,11 +202,33 @@ nested_events =
     (pair n.ListItemMarker (at 4 3 16) (at 4 4 17)))))
 
 abbrev pub nested_tree : t.Blocks
-nested_tree = t.More (t.Quote (t.More (t.ListOf 45 (t.More (t.Item 45 [] (t.More (t.Paragraph (codes "a" ∷ [])) (t.More (t.Paragraph (codes "b" ∷ [])) t.End))) (t.More (t.Item 45 [] t.End) t.End))) t.End)) t.End
+nested_tree =
+    t.More
+    (t.Quote
+    (t.More
+    (t.ListOf 45
+    (t.More (t.Item 45 [] (t.More (t.Paragraph (codes "a" ∷ [])) (t.More (t.Paragraph (codes "b" ∷ [])) t.End)))
+    (t.More (t.Item 45 [] t.End) t.End))) t.End)) t.End
 
 row-nested : Row nested_text nested_events nested_tree
 unfolding spelled keeps_grammar
-row-nested = record { placed = refl; before = refl; after = refl; nested = search rules; lines = refl; chunks = refl; grammar = refl; grammar_after = refl; pieces_are = refl; pieces_after = refl; endings = refl; endings_after = refl; covers = search rules; each = search rules; empty = search rules }
+row-nested = record {
+  placed = refl;
+  before = refl;
+  after = refl;
+  nested = search rules;
+  lines = refl;
+  chunks = refl;
+  grammar = refl;
+  grammar_after = refl;
+  pieces_are = refl;
+  pieces_after = refl;
+  endings = refl;
+  endings_after = refl;
+  covers = search rules;
+  each = search rules;
+  empty = search rules;
+}
 
 -- an open fence whose container ends behind a blank line: "- ```\n\nb"
 abbrev pub left_fence_text : List ℕ
@@ -174,11 +250,29 @@ left_fence_events =
     (chunk (at 3 1 7) (at 3 2 8))
 
 abbrev pub left_fence_tree : t.Blocks
-left_fence_tree = t.More (t.ListOf 45 (t.More (t.Item 45 [] (t.More (t.Fence 96 None None (line 0 ([]) ∷ []) false) t.End)) t.End)) (t.More (t.Paragraph (codes "b" ∷ [])) t.End)
+left_fence_tree =
+    t.More (t.ListOf 45 (t.More (t.Item 45 [] (t.More (t.Fence 96 None None (line 0 ([]) ∷ []) false) t.End)) t.End))
+    (t.More (t.Paragraph (codes "b" ∷ [])) t.End)
 
 row-left-fence : Row left_fence_text left_fence_events left_fence_tree
 unfolding spelled keeps_grammar
-row-left-fence = record { placed = refl; before = refl; after = refl; nested = search rules; lines = refl; chunks = refl; grammar = refl; grammar_after = refl; pieces_are = refl; pieces_after = refl; endings = refl; endings_after = refl; covers = search rules; each = search rules; empty = search rules }
+row-left-fence = record {
+  placed = refl;
+  before = refl;
+  after = refl;
+  nested = search rules;
+  lines = refl;
+  chunks = refl;
+  grammar = refl;
+  grammar_after = refl;
+  pieces_are = refl;
+  pieces_after = refl;
+  endings = refl;
+  endings_after = refl;
+  covers = search rules;
+  each = search rules;
+  empty = search rules;
+}
 
 -- a tab that a prefix, the indent of a fence and a line share: ">  ~~~\n>\ta"
 abbrev pub shared_tab_text : List ℕ
@@ -206,7 +300,23 @@ shared_tab_tree = t.More (t.Quote (t.More (t.Fence 126 None None (line 1 (codes 
 
 row-shared-tab : Row shared_tab_text shared_tab_events shared_tab_tree
 unfolding spelled keeps_grammar
-row-shared-tab = record { placed = refl; before = refl; after = refl; nested = search rules; lines = refl; chunks = refl; grammar = refl; grammar_after = refl; pieces_are = refl; pieces_after = refl; endings = refl; endings_after = refl; covers = search rules; each = search rules; empty = search rules }
+row-shared-tab = record {
+  placed = refl;
+  before = refl;
+  after = refl;
+  nested = search rules;
+  lines = refl;
+  chunks = refl;
+  grammar = refl;
+  grammar_after = refl;
+  pieces_are = refl;
+  pieces_after = refl;
+  endings = refl;
+  endings_after = refl;
+  covers = search rules;
+  each = search rules;
+  empty = search rules;
+}
 
 -- code behind tabs that are cut: ">\t\ta"
 abbrev pub tabs_text : List ℕ
@@ -227,7 +337,23 @@ tabs_tree = t.More (t.Quote (t.More (t.Code (line 2 (codes "a") ∷ [])) t.End))
 
 row-tabs : Row tabs_text tabs_events tabs_tree
 unfolding spelled keeps_grammar
-row-tabs = record { placed = refl; before = refl; after = refl; nested = search rules; lines = refl; chunks = refl; grammar = refl; grammar_after = refl; pieces_are = refl; pieces_after = refl; endings = refl; endings_after = refl; covers = search rules; each = search rules; empty = search rules }
+row-tabs = record {
+  placed = refl;
+  before = refl;
+  after = refl;
+  nested = search rules;
+  lines = refl;
+  chunks = refl;
+  grammar = refl;
+  grammar_after = refl;
+  pieces_are = refl;
+  pieces_after = refl;
+  endings = refl;
+  endings_after = refl;
+  covers = search rules;
+  each = search rules;
+  empty = search rules;
+}
 
 -- a definition over four lines of a quote: "> [a\n> b]: c\n> 'd\n>e'"
 abbrev pub definition_text : List ℕ
@@ -269,11 +395,29 @@ definition_events =
     ++ pair n.DefinitionTitleMarker (at 4 3 20) (at 4 4 21))))
 
 abbrev pub definition_tree : t.Blocks
-definition_tree = t.More (t.Quote (t.More (t.Definition (codes "a" ∷ codes "b" ∷ []) (codes "c") (Some (codes "d" ∷ codes "e" ∷ []))) t.End)) t.End
+definition_tree =
+    t.More
+    (t.Quote (t.More (t.Definition (codes "a" ∷ codes "b" ∷ []) (codes "c") (Some (codes "d" ∷ codes "e" ∷ []))) t.End)) t.End
 
 row-definition : Row definition_text definition_events definition_tree
 unfolding spelled keeps_grammar
-row-definition = record { placed = refl; before = refl; after = refl; nested = search rules; lines = refl; chunks = refl; grammar = refl; grammar_after = refl; pieces_are = refl; pieces_after = refl; endings = refl; endings_after = refl; covers = search rules; each = search rules; empty = search rules }
+row-definition = record {
+  placed = refl;
+  before = refl;
+  after = refl;
+  nested = search rules;
+  lines = refl;
+  chunks = refl;
+  grammar = refl;
+  grammar_after = refl;
+  pieces_are = refl;
+  pieces_after = refl;
+  endings = refl;
+  endings_after = refl;
+  covers = search rules;
+  each = search rules;
+  empty = search rules;
+}
 
 -- a footnote definition with two paragraphs: "[^a]: b\n\n    c"
 abbrev pub footnote_text : List ℕ
@@ -300,11 +444,29 @@ footnote_events =
     (chunk (at 3 5 13) (at 3 6 14)))
 
 abbrev pub footnote_tree : t.Blocks
-footnote_tree = t.More (t.Footnote (codes "a") (t.More (t.Paragraph (codes "b" ∷ [])) (t.More (t.Paragraph (codes "c" ∷ [])) t.End))) t.End
+footnote_tree =
+    t.More
+    (t.Footnote (codes "a") (t.More (t.Paragraph (codes "b" ∷ [])) (t.More (t.Paragraph (codes "c" ∷ [])) t.End))) t.End
 
 row-footnote : Row footnote_text footnote_events footnote_tree
 unfolding spelled keeps_grammar
-row-footnote = record { placed = refl; before = refl; after = refl; nested = search rules; lines = refl; chunks = refl; grammar = refl; grammar_after = refl; pieces_are = refl; pieces_after = refl; endings = refl; endings_after = refl; covers = search rules; each = search rules; empty = search rules }
+row-footnote = record {
+  placed = refl;
+  before = refl;
+  after = refl;
+  nested = search rules;
+  lines = refl;
+  chunks = refl;
+  grammar = refl;
+  grammar_after = refl;
+  pieces_are = refl;
+  pieces_after = refl;
+  endings = refl;
+  endings_after = refl;
+  covers = search rules;
+  each = search rules;
+  empty = search rules;
+}
 
 -- a line of a paragraph that begins within the tab of its item's indent: "- a\n\tb"
 abbrev pub cut_chunk_text : List ℕ
@@ -323,11 +485,28 @@ cut_chunk_events =
     ++ chunk (within_tab 2 3 4 2) (at 2 6 6))))
 
 abbrev pub cut_chunk_tree : t.Blocks
-cut_chunk_tree = t.More (t.ListOf 45 (t.More (t.Item 45 [] (t.More (t.Paragraph (codes "a" ∷ codes "b" ∷ [])) t.End)) t.End)) t.End
+cut_chunk_tree =
+    t.More (t.ListOf 45 (t.More (t.Item 45 [] (t.More (t.Paragraph (codes "a" ∷ codes "b" ∷ [])) t.End)) t.End)) t.End
 
 row-cut-chunk : Row cut_chunk_text cut_chunk_events cut_chunk_tree
 unfolding spelled keeps_grammar
-row-cut-chunk = record { placed = refl; before = refl; after = refl; nested = search rules; lines = refl; chunks = refl; grammar = refl; grammar_after = refl; pieces_are = refl; pieces_after = refl; endings = refl; endings_after = refl; covers = search rules; each = search rules; empty = search rules }
+row-cut-chunk = record {
+  placed = refl;
+  before = refl;
+  after = refl;
+  nested = search rules;
+  lines = refl;
+  chunks = refl;
+  grammar = refl;
+  grammar_after = refl;
+  pieces_are = refl;
+  pieces_after = refl;
+  endings = refl;
+  endings_after = refl;
+  covers = search rules;
+  each = search rules;
+  empty = search rules;
+}
 
 -- a setext heading behind a definition in a quote: "> [a]: b\n> c\n> ="
 abbrev pub behind_definition_text : List ℕ
@@ -366,11 +545,29 @@ behind_definition_events =
     (pair n.HeadingSetextUnderlineSequence (at 3 3 15) (at 3 4 16))))
 
 abbrev pub behind_definition_tree : t.Blocks
-behind_definition_tree = t.More (t.Quote (t.More (t.Definition (codes "a" ∷ []) (codes "b") None) (t.More (t.Heading 1 (codes "c" ∷ [])) t.End))) t.End
+behind_definition_tree =
+    t.More
+    (t.Quote (t.More (t.Definition (codes "a" ∷ []) (codes "b") None) (t.More (t.Heading 1 (codes "c" ∷ [])) t.End))) t.End
 
 row-behind-definition : Row behind_definition_text behind_definition_events behind_definition_tree
 unfolding spelled keeps_grammar
-row-behind-definition = record { placed = refl; before = refl; after = refl; nested = search rules; lines = refl; chunks = refl; grammar = refl; grammar_after = refl; pieces_are = refl; pieces_after = refl; endings = refl; endings_after = refl; covers = search rules; each = search rules; empty = search rules }
+row-behind-definition = record {
+  placed = refl;
+  before = refl;
+  after = refl;
+  nested = search rules;
+  lines = refl;
+  chunks = refl;
+  grammar = refl;
+  grammar_after = refl;
+  pieces_are = refl;
+  pieces_after = refl;
+  endings = refl;
+  endings_after = refl;
+  covers = search rules;
+  each = search rules;
+  empty = search rules;
+}
 
 -- a table behind a paragraph in a quote, its head a lazy line: "> a\nb|c\n> -|-"
 abbrev pub lazy_head_text : List ℕ
@@ -409,11 +606,31 @@ lazy_head_events =
     (pair n.GfmTableDelimiterFiller (at 3 5 12) (at 3 6 13)))))))
 
 abbrev pub lazy_head_tree : t.Blocks
-lazy_head_tree = t.More (t.Quote (t.More (t.Paragraph (codes "a" ∷ [])) (t.More (t.Table (codes "-|-") ((codes "b" ∷ codes "c" ∷ []) ∷ [])) t.End))) t.End
+lazy_head_tree =
+    t.More
+    (t.Quote
+    (t.More (t.Paragraph (codes "a" ∷ [])) (t.More (t.Table (codes "-|-") ((codes "b" ∷ codes "c" ∷ []) ∷ [])) t.End)))
+    t.End
 
 row-lazy-head : Row lazy_head_text lazy_head_events lazy_head_tree
 unfolding spelled keeps_grammar
-row-lazy-head = record { placed = refl; before = refl; after = refl; nested = search rules; lines = refl; chunks = refl; grammar = refl; grammar_after = refl; pieces_are = refl; pieces_after = refl; endings = refl; endings_after = refl; covers = search rules; each = search rules; empty = search rules }
+row-lazy-head = record {
+  placed = refl;
+  before = refl;
+  after = refl;
+  nested = search rules;
+  lines = refl;
+  chunks = refl;
+  grammar = refl;
+  grammar_after = refl;
+  pieces_are = refl;
+  pieces_after = refl;
+  endings = refl;
+  endings_after = refl;
+  covers = search rules;
+  each = search rules;
+  empty = search rules;
+}
 
 -- indented code in a quote, with a line that is blank but for what is left of two tabs: ">     a\n>\t\t\n>     b"
 abbrev pub blank_code_text : List ℕ
@@ -442,11 +659,28 @@ blank_code_events =
     ++ pair n.CodeFlowChunk (at 3 7 18) (at 3 8 19)))
 
 abbrev pub blank_code_tree : t.Blocks
-blank_code_tree = t.More (t.Quote (t.More (t.Code (line 0 (codes "a") ∷ line 2 [] ∷ line 0 (codes "b") ∷ [])) t.End)) t.End
+blank_code_tree =
+    t.More (t.Quote (t.More (t.Code (line 0 (codes "a") ∷ line 2 [] ∷ line 0 (codes "b") ∷ [])) t.End)) t.End
 
 row-blank-code : Row blank_code_text blank_code_events blank_code_tree
 unfolding spelled keeps_grammar
-row-blank-code = record { placed = refl; before = refl; after = refl; nested = search rules; lines = refl; chunks = refl; grammar = refl; grammar_after = refl; pieces_are = refl; pieces_after = refl; endings = refl; endings_after = refl; covers = search rules; each = search rules; empty = search rules }
+row-blank-code = record {
+  placed = refl;
+  before = refl;
+  after = refl;
+  nested = search rules;
+  lines = refl;
+  chunks = refl;
+  grammar = refl;
+  grammar_after = refl;
+  pieces_are = refl;
+  pieces_after = refl;
+  endings = refl;
+  endings_after = refl;
+  covers = search rules;
+  each = search rules;
+  empty = search rules;
+}
 
 -- HTML in a quote, its first line in two pieces, of which one begins within a tab: ">\t<a>"
 abbrev pub cut_html_text : List ℕ
@@ -467,4 +701,20 @@ cut_html_tree = t.More (t.Quote (t.More (t.Html (line 2 (codes "<a>") ∷ [])) t
 
 row-cut-html : Row cut_html_text cut_html_events cut_html_tree
 unfolding spelled keeps_grammar
-row-cut-html = record { placed = refl; before = refl; after = refl; nested = search rules; lines = refl; chunks = refl; grammar = refl; grammar_after = refl; pieces_are = refl; pieces_after = refl; endings = refl; endings_after = refl; covers = search rules; each = search rules; empty = search rules }
+row-cut-html = record {
+  placed = refl;
+  before = refl;
+  after = refl;
+  nested = search rules;
+  lines = refl;
+  chunks = refl;
+  grammar = refl;
+  grammar_after = refl;
+  pieces_are = refl;
+  pieces_after = refl;
+  endings = refl;
+  endings_after = refl;
+  covers = search rules;
+  each = search rules;
+  empty = search rules;
+}

@@ -7,7 +7,8 @@ use Rattle.md_engine.specs.declared.event.Kind.{Kind}
 use Rattle.md_engine.specs.declared.event.Kind.TheVariants.{Enter, Exit}
 use Rattle.md_engine.specs.declared.event.Name.{Name}
 use Rattle.md_engine.specs.declared.event.Point.{Point}
-use Rattle.md_seam.specs.Events.Endings.{Ends, IsLeaf, IsOther, OnLine, Spot, endings_stand_from, ends_rightly, is_filled, line_start, on_line, spot_behind}
+use Rattle.md_seam.specs.Events.Endings.{Ends, IsLeaf, IsOther, OnLine, Spot, endings_stand_from, ends_rightly}
+use Rattle.md_seam.specs.Events.Endings.{is_filled, line_start, on_line, spot_behind}
 use Rattle.md_seam.specs.Events.Nested.{around, exit}
 use Rattle.md_seam.proofs.PlacesLemmas.{all-append}
 
@@ -47,22 +48,31 @@ leads-append s t u xs ys h k = λ zs. ap (endings_stand_from s) (append_assoc xs
 pub others-lead : (s : Spot) (xs : List Event) → is_filled s ≡ s.after_leaf → AreOthers xs → Leads s s xs
 others-lead s [] same h = λ ys. refl
 others-lead s (e ∷ xs) same h = λ ys.
-    let both : (is_other (on_line e.name) ≡ true) × AreOthers xs = and_parts (is_other (on_line e.name)) (list_all (λ (e : Event). is_other (on_line e.name)) xs) h in
+    let both : (is_other (on_line e.name) ≡ true) ×
+    AreOthers xs = and_parts (is_other (on_line e.name))
+    (list_all (λ (e : Event). is_other (on_line e.name)) xs) h in
     one e.kind (on_line e.name) (xs ++ ys) both.0 ∙ others-lead s xs same both.1 ys
   where
-    one : (kind : Kind) (x : OnLine) (es : List Event) → is_other x ≡ true → (ends_rightly kind x s && endings_stand_from (spot_behind kind x s) es) ≡ endings_stand_from s es
+    one : (kind : Kind) (x : OnLine) (es : List Event) → is_other x ≡ true →
+        (ends_rightly kind x s && endings_stand_from (spot_behind kind x s) es) ≡ endings_stand_from s es
     one Enter IsOther es h = ap (λ (filled : Bool). endings_stand_from (record s { after_leaf = filled }) es) same
     one Exit IsOther es h = refl
     one kind IsLeaf es h = cc
     one kind (Ends blank) es h = cc
 
 -- a leaf
-pub leaf-leads : (name : Name) (p q : Point) (inside : List Event) → on_line name ≡ IsLeaf → Leads (in_leaf true) (in_leaf true) inside → Leads line_start behind_leaf (around name p q inside)
+pub leaf-leads : (name : Name) (p q : Point) (inside : List Event) → on_line name ≡ IsLeaf →
+    Leads (in_leaf true) (in_leaf true) inside → Leads line_start behind_leaf (around name p q inside)
 leaf-leads name p q inside leaf h = λ ys.
-    ap (λ (x : OnLine). ends_rightly Enter x line_start && endings_stand_from (spot_behind Enter x line_start) ((inside ++ exit name q ∷ []) ++ ys)) leaf
+    ap
+    (λ (x : OnLine).
+    ends_rightly Enter x line_start
+    && endings_stand_from (spot_behind Enter x line_start) ((inside ++ exit name q ∷ []) ++ ys)) leaf
     ∙ ap (endings_stand_from (in_leaf true)) (append_assoc inside (exit name q ∷ []) ys)
     ∙ h (exit name q ∷ ys)
-    ∙ ap (λ (x : OnLine). ends_rightly Exit x (in_leaf true) && endings_stand_from (spot_behind Exit x (in_leaf true)) ys) leaf
+    ∙ ap
+    (λ (x : OnLine).
+    ends_rightly Exit x (in_leaf true) && endings_stand_from (spot_behind Exit x (in_leaf true)) ys) leaf
 
 -- Inside of a leaf.
 
@@ -81,16 +91,23 @@ stays-append xs ys h k = λ from.
     ((k mid).0, leads-append (in_leaf from) (in_leaf mid) (in_leaf (k mid).0) xs ys (h from).1 (k mid).1)
 
 pub filling-append : (xs ys : List Event) → Stays xs → Filling ys → Filling (xs ++ ys)
-filling-append xs ys h k = λ from. leads-append (in_leaf from) (in_leaf (h from).0) (in_leaf true) xs ys (h from).1 (k (h from).0)
+filling-append xs ys h k =
+    λ from. leads-append (in_leaf from) (in_leaf (h from).0) (in_leaf true) xs ys (h from).1 (k (h from).0)
 
 -- so do other events
 pub stays-others : (xs : List Event) → AreOthers xs → Stays xs
 stays-others [] h = λ from. (from, λ ys. refl)
 stays-others (e ∷ xs) h =
-    let both : (is_other (on_line e.name) ≡ true) × AreOthers xs = and_parts (is_other (on_line e.name)) (list_all (λ (e : Event). is_other (on_line e.name)) xs) h in
+    let both : (is_other (on_line e.name) ≡ true) ×
+    AreOthers xs = and_parts (is_other (on_line e.name))
+    (list_all (λ (e : Event). is_other (on_line e.name)) xs) h in
     stays-append (e ∷ []) xs (λ from. one from e.kind (on_line e.name) both.0) (stays-others xs both.1)
   where
-    one : (from : Bool) (kind : Kind) (x : OnLine) → is_other x ≡ true → (to : Bool) × ((es : List Event) → (ends_rightly kind x (in_leaf from) && endings_stand_from (spot_behind kind x (in_leaf from)) es) ≡ endings_stand_from (in_leaf to) es)
+    one : (from : Bool) (kind : Kind) (x : OnLine) → is_other x ≡ true →
+        (to : Bool) ×
+        ((es : List Event) →
+        (ends_rightly kind x (in_leaf from) && endings_stand_from (spot_behind kind x (in_leaf from)) es) ≡
+        endings_stand_from (in_leaf to) es)
     one from Enter IsOther h = (true, λ es. refl)
     one from Exit IsOther h = (from, λ es. refl)
     one from kind IsLeaf h = cc

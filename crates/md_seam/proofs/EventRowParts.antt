@@ -63,9 +63,28 @@ pub record Row (bytes : List ℕ) (blocks : List Event) (tree : t.Blocks) : Type
   pub endings : IsTrue (endings_stand blocks)
   pub endings_after : IsTrue (endings_stand (plain bytes blocks))
   pub covers : Covers first_point (pieces blocks) (end_point bytes)
-  pub each : EachRead (λ part events. events ≡ plain_events bytes part) (parts blocks) (plain_lists bytes (parts blocks))
+  pub each : EachRead (λ part events. events ≡ plain_events bytes part) (parts blocks)
+      (plain_lists bytes (parts blocks))
   pub empty : bytes ≡ [] → plain bytes blocks ≡ []
 
 -- so they tile it
-row-tiles : {bytes : List ℕ} {blocks : List Event} {tree : t.Blocks} → Row bytes blocks tree → Tiles (λ part events. events ≡ plain_events bytes part) bytes (plain bytes blocks)
-row-tiles {bytes} {blocks} row = record { blocks = blocks; block_list = record { nested = row.nested; placed = row.placed; lines = row.lines; chunks = row.chunks; grammar = row.grammar; pieces_are = row.pieces_are; endings = row.endings }; covers = row.covers; lists = plain_lists bytes (parts blocks); each = row.each; read = refl; empty = row.empty }
+row-tiles : {bytes : List ℕ} {blocks : List Event} {tree : t.Blocks} → Row bytes blocks tree →
+    Tiles (λ part events. events ≡ plain_events bytes part) bytes (plain bytes blocks)
+row-tiles {bytes} {blocks} row = record {
+  blocks = blocks;
+  block_list =
+      record {
+        nested = row.nested;
+        placed = row.placed;
+        lines = row.lines;
+        chunks = row.chunks;
+        grammar = row.grammar;
+        pieces_are = row.pieces_are;
+        endings = row.endings;
+      };
+  covers = row.covers;
+  lists = plain_lists bytes (parts blocks);
+  each = row.each;
+  read = refl;
+  empty = row.empty;
+}

@@ -22,7 +22,23 @@ empty_tree = t.End
 
 row-empty : Row empty_text empty_events empty_tree
 unfolding spelled keeps_grammar
-row-empty = record { placed = refl; before = refl; after = refl; nested = search rules; lines = refl; chunks = refl; grammar = refl; grammar_after = refl; pieces_are = refl; pieces_after = refl; endings = refl; endings_after = refl; covers = search rules; each = search rules; empty = search rules }
+row-empty = record {
+  placed = refl;
+  before = refl;
+  after = refl;
+  nested = search rules;
+  lines = refl;
+  chunks = refl;
+  grammar = refl;
+  grammar_after = refl;
+  pieces_are = refl;
+  pieces_after = refl;
+  endings = refl;
+  endings_after = refl;
+  covers = search rules;
+  each = search rules;
+  empty = search rules;
+}
 
 -- a blank line: " \n"
 abbrev pub blank_text : List ℕ
@@ -38,7 +54,23 @@ blank_tree = t.End
 
 row-blank : Row blank_text blank_events blank_tree
 unfolding spelled keeps_grammar
-row-blank = record { placed = refl; before = refl; after = refl; nested = search rules; lines = refl; chunks = refl; grammar = refl; grammar_after = refl; pieces_are = refl; pieces_after = refl; endings = refl; endings_after = refl; covers = search rules; each = search rules; empty = search rules }
+row-blank = record {
+  placed = refl;
+  before = refl;
+  after = refl;
+  nested = search rules;
+  lines = refl;
+  chunks = refl;
+  grammar = refl;
+  grammar_after = refl;
+  pieces_are = refl;
+  pieces_after = refl;
+  endings = refl;
+  endings_after = refl;
+  covers = search rules;
+  each = search rules;
+  empty = search rules;
+}
 
 -- a byte order mark before a paragraph: "(mark)a"
 abbrev pub mark_text : List ℕ
@@ -55,7 +87,23 @@ mark_tree = t.More (t.Paragraph (codes "a" ∷ [])) t.End
 
 row-mark : Row mark_text mark_events mark_tree
 unfolding spelled keeps_grammar
-row-mark = record { placed = refl; before = refl; after = refl; nested = search rules; lines = refl; chunks = refl; grammar = refl; grammar_after = refl; pieces_are = refl; pieces_after = refl; endings = refl; endings_after = refl; covers = search rules; each = search rules; empty = search rules }
+row-mark = record {
+  placed = refl;
+  before = refl;
+  after = refl;
+  nested = search rules;
+  lines = refl;
+  chunks = refl;
+  grammar = refl;
+  grammar_after = refl;
+  pieces_are = refl;
+  pieces_after = refl;
+  endings = refl;
+  endings_after = refl;
+  covers = search rules;
+  each = search rules;
+  empty = search rules;
+}
 
 -- a paragraph of two lines, which lose their leading spaces: "  a\n b \n"
 abbrev pub paragraph_text : List ℕ
@@ -74,7 +122,23 @@ paragraph_tree = t.More (t.Paragraph (codes "a" ∷ codes "b " ∷ [])) t.End
 
 row-paragraph : Row paragraph_text paragraph_events paragraph_tree
 unfolding spelled keeps_grammar
-row-paragraph = record { placed = refl; before = refl; after = refl; nested = search rules; lines = refl; chunks = refl; grammar = refl; grammar_after = refl; pieces_are = refl; pieces_after = refl; endings = refl; endings_after = refl; covers = search rules; each = search rules; empty = search rules }
+row-paragraph = record {
+  placed = refl;
+  before = refl;
+  after = refl;
+  nested = search rules;
+  lines = refl;
+  chunks = refl;
+  grammar = refl;
+  grammar_after = refl;
+  pieces_are = refl;
+  pieces_after = refl;
+  endings = refl;
+  endings_after = refl;
+  covers = search rules;
+  each = search rules;
+  empty = search rules;
+}
 
 -- a thematic break: "* **"
 abbrev pub break_text : List ℕ
@@ -92,7 +156,23 @@ break_tree = t.More (t.Break) t.End
 
 row-break : Row break_text break_events break_tree
 unfolding spelled keeps_grammar
-row-break = record { placed = refl; before = refl; after = refl; nested = search rules; lines = refl; chunks = refl; grammar = refl; grammar_after = refl; pieces_are = refl; pieces_after = refl; endings = refl; endings_after = refl; covers = search rules; each = search rules; empty = search rules }
+row-break = record {
+  placed = refl;
+  before = refl;
+  after = refl;
+  nested = search rules;
+  lines = refl;
+  chunks = refl;
+  grammar = refl;
+  grammar_after = refl;
+  pieces_are = refl;
+  pieces_after = refl;
+  endings = refl;
+  endings_after = refl;
+  covers = search rules;
+  each = search rules;
+  empty = search rules;
+}
 
 -- an ATX heading with a closing sequence: "# a b ##"
 abbrev pub heading_text : List ℕ
@@ -113,7 +193,23 @@ heading_tree = t.More (t.Heading 1 (codes "a b" ∷ [])) t.End
 
 row-heading : Row heading_text heading_events heading_tree
 unfolding spelled keeps_grammar
-row-heading = record { placed = refl; before = refl; after = refl; nested = search rules; lines = refl; chunks = refl; grammar = refl; grammar_after = refl; pieces_are = refl; pieces_after = refl; endings = refl; endings_after = refl; covers = search rules; each = search rules; empty = search rules }
+row-heading = record {
+  placed = refl;
+  before = refl;
+  after = refl;
+  nested = search rules;
+  lines = refl;
+  chunks = refl;
+  grammar = refl;
+  grammar_after = refl;
+  pieces_are = refl;
+  pieces_after = refl;
+  endings = refl;
+  endings_after = refl;
+  covers = search rules;
+  each = search rules;
+  empty = search rules;
+}
 
 -- an ATX heading without text: "##"
 abbrev pub empty_heading_text : List ℕ
@@ -129,7 +225,23 @@ empty_heading_tree = t.More (t.Heading 2 []) t.End
 
 row-empty-heading : Row empty_heading_text empty_heading_events empty_heading_tree
 unfolding spelled keeps_grammar
-row-empty-heading = record { placed = refl; before = refl; after = refl; nested = search rules; lines = refl; chunks = refl; grammar = refl; grammar_after = refl; pieces_are = refl; pieces_after = refl; endings = refl; endings_after = refl; covers = search rules; each = search rules; empty = search rules }
+row-empty-heading = record {
+  placed = refl;
+  before = refl;
+  after = refl;
+  nested = search rules;
+  lines = refl;
+  chunks = refl;
+  grammar = refl;
+  grammar_after = refl;
+  pieces_are = refl;
+  pieces_after = refl;
+  endings = refl;
+  endings_after = refl;
+  covers = search rules;
+  each = search rules;
+  empty = search rules;
+}
 
 -- a setext heading of two lines: "a\r\nb\n---\n"
 abbrev pub underlined_text : List ℕ
@@ -151,7 +263,23 @@ underlined_tree = t.More (t.Heading 2 (codes "a" ∷ codes "b" ∷ [])) t.End
 
 row-underlined : Row underlined_text underlined_events underlined_tree
 unfolding spelled keeps_grammar
-row-underlined = record { placed = refl; before = refl; after = refl; nested = search rules; lines = refl; chunks = refl; grammar = refl; grammar_after = refl; pieces_are = refl; pieces_after = refl; endings = refl; endings_after = refl; covers = search rules; each = search rules; empty = search rules }
+row-underlined = record {
+  placed = refl;
+  before = refl;
+  after = refl;
+  nested = search rules;
+  lines = refl;
+  chunks = refl;
+  grammar = refl;
+  grammar_after = refl;
+  pieces_are = refl;
+  pieces_after = refl;
+  endings = refl;
+  endings_after = refl;
+  covers = search rules;
+  each = search rules;
+  empty = search rules;
+}
 
 -- a closed fence with info, meta and an empty line: "```r x y\na\n\n b\n```\n"
 abbrev pub fence_text : List ℕ
@@ -178,11 +306,30 @@ fence_events =
     ++ pair n.LineEnding (at 5 4 18) (at 6 1 19)
 
 abbrev pub fence_tree : t.Blocks
-fence_tree = t.More (t.Fence 96 (Some (codes "r")) (Some (codes "x y")) (line 0 (codes "a") ∷ line 0 ([]) ∷ line 0 (codes " b") ∷ []) true) t.End
+fence_tree =
+    t.More
+    (t.Fence 96 (Some (codes "r")) (Some (codes "x y"))
+    (line 0 (codes "a") ∷ line 0 ([]) ∷ line 0 (codes " b") ∷ []) true) t.End
 
 row-fence : Row fence_text fence_events fence_tree
 unfolding spelled keeps_grammar
-row-fence = record { placed = refl; before = refl; after = refl; nested = search rules; lines = refl; chunks = refl; grammar = refl; grammar_after = refl; pieces_are = refl; pieces_after = refl; endings = refl; endings_after = refl; covers = search rules; each = search rules; empty = search rules }
+row-fence = record {
+  placed = refl;
+  before = refl;
+  after = refl;
+  nested = search rules;
+  lines = refl;
+  chunks = refl;
+  grammar = refl;
+  grammar_after = refl;
+  pieces_are = refl;
+  pieces_after = refl;
+  endings = refl;
+  endings_after = refl;
+  covers = search rules;
+  each = search rules;
+  empty = search rules;
+}
 
 -- an open fence, whose last line ending opens no line: "~~~\na\n"
 abbrev pub open_fence_text : List ℕ
@@ -202,7 +349,23 @@ open_fence_tree = t.More (t.Fence 126 None None (line 0 (codes "a") ∷ []) fals
 
 row-open-fence : Row open_fence_text open_fence_events open_fence_tree
 unfolding spelled keeps_grammar
-row-open-fence = record { placed = refl; before = refl; after = refl; nested = search rules; lines = refl; chunks = refl; grammar = refl; grammar_after = refl; pieces_are = refl; pieces_after = refl; endings = refl; endings_after = refl; covers = search rules; each = search rules; empty = search rules }
+row-open-fence = record {
+  placed = refl;
+  before = refl;
+  after = refl;
+  nested = search rules;
+  lines = refl;
+  chunks = refl;
+  grammar = refl;
+  grammar_after = refl;
+  pieces_are = refl;
+  pieces_after = refl;
+  endings = refl;
+  endings_after = refl;
+  covers = search rules;
+  each = search rules;
+  empty = search rules;
+}
 
 -- indented code with a blank line inside: "    a\n  \n      b\n"
 abbrev pub code_text : List ℕ
@@ -225,7 +388,23 @@ code_tree = t.More (t.Code (line 0 (codes "a") ∷ line 0 ([]) ∷ line 0 (codes
 
 row-code : Row code_text code_events code_tree
 unfolding spelled keeps_grammar
-row-code = record { placed = refl; before = refl; after = refl; nested = search rules; lines = refl; chunks = refl; grammar = refl; grammar_after = refl; pieces_are = refl; pieces_after = refl; endings = refl; endings_after = refl; covers = search rules; each = search rules; empty = search rules }
+row-code = record {
+  placed = refl;
+  before = refl;
+  after = refl;
+  nested = search rules;
+  lines = refl;
+  chunks = refl;
+  grammar = refl;
+  grammar_after = refl;
+  pieces_are = refl;
+  pieces_after = refl;
+  endings = refl;
+  endings_after = refl;
+  covers = search rules;
+  each = search rules;
+  empty = search rules;
+}
 
 -- HTML, its first line in two pieces, and a blank line in it: " <?\n\n x\n"
 abbrev pub html_text : List ℕ
@@ -246,7 +425,23 @@ html_tree = t.More (t.Html (line 0 (codes " <?") ∷ line 0 ([]) ∷ line 0 (cod
 
 row-html : Row html_text html_events html_tree
 unfolding spelled keeps_grammar
-row-html = record { placed = refl; before = refl; after = refl; nested = search rules; lines = refl; chunks = refl; grammar = refl; grammar_after = refl; pieces_are = refl; pieces_after = refl; endings = refl; endings_after = refl; covers = search rules; each = search rules; empty = search rules }
+row-html = record {
+  placed = refl;
+  before = refl;
+  after = refl;
+  nested = search rules;
+  lines = refl;
+  chunks = refl;
+  grammar = refl;
+  grammar_after = refl;
+  pieces_are = refl;
+  pieces_after = refl;
+  endings = refl;
+  endings_after = refl;
+  covers = search rules;
+  each = search rules;
+  empty = search rules;
+}
 
 -- closed math with meta: "$$ m\na\n$$"
 abbrev pub math_text : List ℕ
@@ -271,7 +466,23 @@ math_tree = t.More (t.Math (Some (codes "m")) (line 0 (codes "a") ∷ []) true) 
 
 row-math : Row math_text math_events math_tree
 unfolding spelled keeps_grammar
-row-math = record { placed = refl; before = refl; after = refl; nested = search rules; lines = refl; chunks = refl; grammar = refl; grammar_after = refl; pieces_are = refl; pieces_after = refl; endings = refl; endings_after = refl; covers = search rules; each = search rules; empty = search rules }
+row-math = record {
+  placed = refl;
+  before = refl;
+  after = refl;
+  nested = search rules;
+  lines = refl;
+  chunks = refl;
+  grammar = refl;
+  grammar_after = refl;
+  pieces_are = refl;
+  pieces_after = refl;
+  endings = refl;
+  endings_after = refl;
+  covers = search rules;
+  each = search rules;
+  empty = search rules;
+}
 
 -- frontmatter with an empty line, and a paragraph: "+++\nx\n\n+++ \na"
 abbrev pub frontmatter_text : List ℕ
@@ -298,7 +509,23 @@ frontmatter_tree = t.More (t.Frontmatter 43 (codes "x" ∷ [] ∷ [])) (t.More (
 
 row-frontmatter : Row frontmatter_text frontmatter_events frontmatter_tree
 unfolding spelled keeps_grammar
-row-frontmatter = record { placed = refl; before = refl; after = refl; nested = search rules; lines = refl; chunks = refl; grammar = refl; grammar_after = refl; pieces_are = refl; pieces_after = refl; endings = refl; endings_after = refl; covers = search rules; each = search rules; empty = search rules }
+row-frontmatter = record {
+  placed = refl;
+  before = refl;
+  after = refl;
+  nested = search rules;
+  lines = refl;
+  chunks = refl;
+  grammar = refl;
+  grammar_after = refl;
+  pieces_are = refl;
+  pieces_after = refl;
+  endings = refl;
+  endings_after = refl;
+  covers = search rules;
+  each = search rules;
+  empty = search rules;
+}
 
 -- a definition with an empty last line of its label, an empty destination and an empty title: "[a\n]: <> ''"
 abbrev pub empty_parts_text : List ℕ
@@ -328,7 +555,23 @@ empty_parts_tree = t.More (t.Definition (codes "a" ∷ [] ∷ []) [] (Some ([] �
 
 row-empty-parts : Row empty_parts_text empty_parts_events empty_parts_tree
 unfolding spelled keeps_grammar
-row-empty-parts = record { placed = refl; before = refl; after = refl; nested = search rules; lines = refl; chunks = refl; grammar = refl; grammar_after = refl; pieces_are = refl; pieces_after = refl; endings = refl; endings_after = refl; covers = search rules; each = search rules; empty = search rules }
+row-empty-parts = record {
+  placed = refl;
+  before = refl;
+  after = refl;
+  nested = search rules;
+  lines = refl;
+  chunks = refl;
+  grammar = refl;
+  grammar_after = refl;
+  pieces_are = refl;
+  pieces_after = refl;
+  endings = refl;
+  endings_after = refl;
+  covers = search rules;
+  each = search rules;
+  empty = search rules;
+}
 
 -- a definition with empty first lines of its label and its title: "[\n a]: b '\n c'"
 abbrev pub empty_lines_text : List ℕ
@@ -363,7 +606,23 @@ empty_lines_tree = t.More (t.Definition ([] ∷ codes "a" ∷ []) (codes "b") (S
 
 row-empty-lines : Row empty_lines_text empty_lines_events empty_lines_tree
 unfolding spelled keeps_grammar
-row-empty-lines = record { placed = refl; before = refl; after = refl; nested = search rules; lines = refl; chunks = refl; grammar = refl; grammar_after = refl; pieces_are = refl; pieces_after = refl; endings = refl; endings_after = refl; covers = search rules; each = search rules; empty = search rules }
+row-empty-lines = record {
+  placed = refl;
+  before = refl;
+  after = refl;
+  nested = search rules;
+  lines = refl;
+  chunks = refl;
+  grammar = refl;
+  grammar_after = refl;
+  pieces_are = refl;
+  pieces_after = refl;
+  endings = refl;
+  endings_after = refl;
+  covers = search rules;
+  each = search rules;
+  empty = search rules;
+}
 
 -- a table with a row of one empty cell: "| a | b\n:-|-\n|\n"
 abbrev pub table_text : List ℕ
@@ -407,4 +666,20 @@ table_tree = t.More (t.Table (codes ":-|-") ((codes "a" ∷ codes "b" ∷ []) �
 
 row-table : Row table_text table_events table_tree
 unfolding spelled keeps_grammar
-row-table = record { placed = refl; before = refl; after = refl; nested = search rules; lines = refl; chunks = refl; grammar = refl; grammar_after = refl; pieces_are = refl; pieces_after = refl; endings = refl; endings_after = refl; covers = search rules; each = search rules; empty = search rules }
+row-table = record {
+  placed = refl;
+  before = refl;
+  after = refl;
+  nested = search rules;
+  lines = refl;
+  chunks = refl;
+  grammar = refl;
+  grammar_after = refl;
+  pieces_are = refl;
+  pieces_after = refl;
+  endings = refl;
+  endings_after = refl;
+  covers = search rules;
+  each = search rules;
+  empty = search rules;
+}

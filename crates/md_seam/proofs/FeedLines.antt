@@ -1,6 +1,9 @@
 -- The cells of a line: what is fed from a point of a line to the line's end, and the cell of its ending.
-use Rattle.std.proofs.Common.{◌≡◌, ℕ, zero, suc, ◌+◌, ◌-◌, ◌%◌, ◌^◌, ◌<◌, ◌≤◌, Bool, true, false, cond, ◌&&◌, List, [], ◌∷◌, ◌++◌, length, take, drop, refl, sym, ap, ◌∙◌, subst, add-one, arith, append_assoc, drop-drop, take-add}
-use Rattle.std.specs.Prelude.{IsTrue, ◌==◌, not, nat_lt, map, slice_get, slice_index, slice_range, if◌then◌else◌, count_by}
+use Rattle.std.proofs.Common.{◌≡◌, ℕ, zero, suc, ◌+◌, ◌-◌, ◌%◌, ◌^◌, ◌<◌, ◌≤◌, Bool, true, false, cond, ◌&&◌, List, []}
+use Rattle.std.proofs.Common.{◌∷◌, ◌++◌, length, take, drop, refl, sym, ap, ◌∙◌, subst, add-one, arith, append_assoc}
+use Rattle.std.proofs.Common.{drop-drop, take-add}
+use Rattle.std.specs.Prelude.{IsTrue, ◌==◌, not, nat_lt, map, slice_get, slice_index, slice_range, if◌then◌else◌}
+use Rattle.std.specs.Prelude.{count_by}
 use Rattle.std.specs.List.{list_all}
 use Rattle.std.proofs.lemmas.Bool.{eqb-true, or_parts}
 use Rattle.std.proofs.lemmas.Bool.Decides.{nat_tests}
@@ -24,7 +27,8 @@ use Rattle.md_definition.proofs.TextsLemmas.{Both, Ending, EndsBefore, LineFeed,
 
 -- What stands in a text.
 
-pub past-next : (index : ℕ) (bytes : List ℕ) (b : ℕ) (rest : List ℕ) → drop index bytes ≡ b ∷ rest → drop (index + 1) bytes ≡ rest
+pub past-next : (index : ℕ) (bytes : List ℕ) (b : ℕ) (rest : List ℕ) → drop index bytes ≡ b ∷ rest →
+    drop (index + 1) bytes ≡ rest
 past-next index bytes b rest e = ap (λ (i : ℕ). drop i bytes) (add-one index) ∙ drop-next index bytes b rest e
 
 -- One cell.
@@ -32,7 +36,8 @@ past-next index bytes b rest e = ap (λ (i : ℕ). drop i bytes) (add-one index)
 abbrev pub cell : ℕ → Point → Line → Cell
 cell byte after line = record { byte = byte; after = after; line = line }
 
-said-by : (x : Setting) (c : Cell) (cs : List Cell) (t : Bool) → c.line ≡ x.line → line_of x.line (cond t (c ∷ cs) []) ≡ x.line
+said-by : (x : Setting) (c : Cell) (cs : List Cell) (t : Bool) → c.line ≡ x.line →
+    line_of x.line (cond t (c ∷ cs) []) ≡ x.line
 said-by x c cs true e = e
 said-by x c cs false e = refl
 
@@ -42,10 +47,13 @@ said x p = go (cells_left x.limit p)
   where
     go : (n : ℕ) → line_of x.line (cells_from x n p) ≡ x.line
     go zero = refl
-    go (suc n) = said-by x (cell (seen_at x.bytes p) (after x p) x.line) (cells_from x n (after x p)) (nat_lt p.index x.limit) refl
+    go (suc n) =
+        said-by x (cell (seen_at x.bytes p) (after x p) x.line) (cells_from x n (after x p))
+        (nat_lt p.index x.limit) refl
 
 -- the next cell, where the text may be read
-pub feed-next : (x : Setting) (p : Point) → x.limit < 2 ^ 61 → p.index < x.limit → text_feed x p ≡ cell (seen_at x.bytes p) (after x p) x.line ∷ text_feed x (after x p)
+pub feed-next : (x : Setting) (p : Point) → x.limit < 2 ^ 61 → p.index < x.limit →
+    text_feed x p ≡ cell (seen_at x.bytes p) (after x p) x.line ∷ text_feed x (after x p)
 feed-next x p small lt =
     (text-follows x x.limit true small (omega arith) (λ e. refl)).cell p lt
     ∙ ap (λ (l : Line). cell (seen_at x.bytes p) (after x p) l ∷ text_feed x (after x p)) (said x p)
@@ -83,8 +91,11 @@ abbrev pub byte_cells : Line → ℕ → Point → List Cell
 byte_cells line b p = if b == 9 then tab_cells line (columns_more p) 9 p else cell b (past_byte b p) line ∷ []
 
 -- what is no whitespace is one cell
-pub byte-one : (line : Line) (b : ℕ) (p : Point) → is_white b ≡ false → byte_cells line b p ≡ cell b (past_byte b p) line ∷ []
-byte-one line b p e = ap (λ (t : Bool). cond t (tab_cells line (columns_more p) 9 p) (cell b (past_byte b p) line ∷ [])) (or_parts (b == 32) (b == 9) e).1
+pub byte-one : (line : Line) (b : ℕ) (p : Point) → is_white b ≡ false →
+    byte_cells line b p ≡ cell b (past_byte b p) line ∷ []
+byte-one line b p e =
+    ap (λ (t : Bool). cond t (tab_cells line (columns_more p) 9 p) (cell b (past_byte b p) line ∷ []))
+    (or_parts (b == 32) (b == 9) e).1
 
 -- the cells of a piece of a line
 abbrev pub spread : Line → List ℕ → Point → List Cell
@@ -96,25 +107,34 @@ abbrev pub tab_end : ℕ → Point → Point
 tab_end n p = record { line = p.line; column = p.column + n + 1; index = p.index + 1; vs = 0 }
 
 pub tab_end-last : (p : Point) → behind_last p ≡ tab_end 0 p
-tab_end-last p = ap (λ (c : ℕ). let q : Point = record { line = p.line; column = c; index = p.index + 1; vs = 0 } in q) (omega arith)
+tab_end-last p =
+    ap (λ (c : ℕ). let q : Point = record { line = p.line; column = c; index = p.index + 1; vs = 0 } in q) (omega arith)
 
 pub tab_end-next : (n : ℕ) (p : Point) → tab_end n (next_column p) ≡ tab_end (suc n) p
-tab_end-next n p = ap (λ (c : ℕ). let q : Point = record { line = p.line; column = c; index = p.index + 1; vs = 0 } in q) (omega arith)
+tab_end-next n p =
+    ap (λ (c : ℕ). let q : Point = record { line = p.line; column = c; index = p.index + 1; vs = 0 } in q) (omega arith)
 
 -- a point of a column begins a byte, or lies within a tab
-tab-after : (x : Setting) (p : Point) → slice_index x.bytes p.index ≡ 9 → after x p ≡ cond (not (p.column % 4 == 0)) (next_column p) (behind_last p)
+tab-after : (x : Setting) (p : Point) → slice_index x.bytes p.index ≡ 9 →
+    after x p ≡ cond (not (p.column % 4 == 0)) (next_column p) (behind_last p)
 tab-after x p is = rw is refl
 
-tab-within : (x : Setting) (n : ℕ) (p : Point) → slice_index x.bytes p.index ≡ 9 → suc n ≡ columns_more p → after x p ≡ next_column p
-tab-within x n p is e = let more : not (p.column % 4 == 0) ≡ true = grind (arith, nat_tests) in tab-after x p is ∙ ap (λ (t : Bool). cond t (next_column p) (behind_last p)) more
+tab-within : (x : Setting) (n : ℕ) (p : Point) → slice_index x.bytes p.index ≡ 9 → suc n ≡ columns_more p →
+    after x p ≡ next_column p
+tab-within x n p is e =
+    let more : not (p.column % 4 == 0) ≡ true = grind (arith, nat_tests) in
+    tab-after x p is ∙ ap (λ (t : Bool). cond t (next_column p) (behind_last p)) more
 
 tab-last : (x : Setting) (p : Point) → slice_index x.bytes p.index ≡ 9 → 0 ≡ columns_more p → after x p ≡ behind_last p
-tab-last x p is e = let none : not (p.column % 4 == 0) ≡ false = grind (arith, nat_tests) in tab-after x p is ∙ ap (λ (t : Bool). cond t (next_column p) (behind_last p)) none
+tab-last x p is e =
+    let none : not (p.column % 4 == 0) ≡ false = grind (arith, nat_tests) in
+    tab-after x p is ∙ ap (λ (t : Bool). cond t (next_column p) (behind_last p)) none
 
 seen-more : (bytes : List ℕ) (p : Point) → slice_index bytes p.index ≡ 9 → seen_at bytes (next_column p) ≡ 32
 seen-more bytes p is = let more : nat_lt 0 (p.vs + 1) ≡ true = grind (arith, nat_tests) in rw (is, more) refl
 
-seen-first : (bytes : List ℕ) (b : ℕ) (p : Point) → slice_index bytes p.index ≡ b → is_ending b ≡ false → p.vs ≡ 0 → seen_at bytes p ≡ b
+seen-first : (bytes : List ℕ) (b : ℕ) (p : Point) → slice_index bytes p.index ≡ b → is_ending b ≡ false → p.vs ≡ 0 →
+    seen_at bytes p ≡ b
 seen-first bytes b p is e vs = rw (is, e, vs) (go (b == 9))
   where
     go : (t : Bool) → cond (t && false) 32 b ≡ b
@@ -122,7 +142,8 @@ seen-first bytes b p is e vs = rw (is, e, vs) (go (b == 9))
     go false = refl
 
 -- a tab is fed column by column
-pub tab-feed : (x : Setting) (n : ℕ) (p : Point) → x.limit < 2 ^ 61 → p.index < x.limit → slice_index x.bytes p.index ≡ 9 → n ≡ columns_more p →
+pub tab-feed : (x : Setting) (n : ℕ) (p : Point) → x.limit < 2 ^ 61 → p.index < x.limit →
+    slice_index x.bytes p.index ≡ 9 → n ≡ columns_more p →
     text_feed x p ≡ tab_cells x.line n (seen_at x.bytes p) p ++ text_feed x (tab_end n p)
 tab-feed x zero p small lt is e =
     feed-next x p small lt
@@ -139,13 +160,19 @@ tab-feed x (suc n) p small lt is e =
 
 -- the end of a tab from its first column is its stop
 pub tab_end-stop : (p : Point) → 1 ≤ p.column → tab_end (columns_more p) p ≡ past_byte 9 p
-tab_end-stop p one = ap (λ (c : ℕ). let q : Point = record { line = p.line; column = c; index = p.index + 1; vs = 0 } in q) (omega arith)
+tab_end-stop p one =
+    ap (λ (c : ℕ). let q : Point = record { line = p.line; column = c; index = p.index + 1; vs = 0 } in q) (omega arith)
 
-byte-after : (x : Setting) (b : ℕ) (p : Point) → slice_index x.bytes p.index ≡ b → is_ending b ≡ false → (b == 9) ≡ false → 1 ≤ p.column → after x p ≡ past_byte b p
-byte-after x b p is e t one = let column : p.column + 1 ≡ p.column - 1 + 1 + 1 = omega arith in rw (is, e, t) (ap (λ (c : ℕ). let q : Point = record { line = p.line; column = c; index = p.index + 1; vs = 0 } in q) column)
+byte-after : (x : Setting) (b : ℕ) (p : Point) → slice_index x.bytes p.index ≡ b → is_ending b ≡ false →
+    (b == 9) ≡ false → 1 ≤ p.column → after x p ≡ past_byte b p
+byte-after x b p is e t one =
+    let column : p.column + 1 ≡ p.column - 1 + 1 + 1 = omega arith in
+    rw (is, e, t)
+    (ap (λ (c : ℕ). let q : Point = record { line = p.line; column = c; index = p.index + 1; vs = 0 } in q) column)
 
 -- a byte of a line is fed as its cells
-byte-feed : (x : Setting) (b : ℕ) (p : Point) → x.limit < 2 ^ 61 → p.index < x.limit → slice_index x.bytes p.index ≡ b → is_ending b ≡ false → p.vs ≡ 0 → 1 ≤ p.column →
+byte-feed : (x : Setting) (b : ℕ) (p : Point) → x.limit < 2 ^ 61 → p.index < x.limit → slice_index x.bytes p.index ≡ b →
+    is_ending b ≡ false → p.vs ≡ 0 → 1 ≤ p.column →
     text_feed x p ≡ byte_cells x.line b p ++ text_feed x (past_byte b p)
 byte-feed x b p small lt is e vs one = go (b == 9) refl
   where
@@ -154,13 +181,18 @@ byte-feed x b p small lt is e vs one = go (b == 9) refl
         let tab : b ≡ 9 = eqb-true b 9 k in
         subst (λ (c : ℕ). text_feed x p ≡ byte_cells x.line c p ++ text_feed x (past_byte c p)) (sym tab)
         (tab-feed x (columns_more p) p small lt (is ∙ tab) refl
-        ∙ ap (λ (c : ℕ). tab_cells x.line (columns_more p) c p ++ text_feed x (tab_end (columns_more p) p)) (seen-first x.bytes b p is e vs ∙ tab)
+        ∙ ap (λ (c : ℕ). tab_cells x.line (columns_more p) c p ++ text_feed x (tab_end (columns_more p) p))
+        (seen-first x.bytes b p is e vs ∙ tab)
         ∙ ap (λ (q : Point). tab_cells x.line (columns_more p) 9 p ++ text_feed x q) (tab_end-stop p one))
     go false k =
         feed-next x p small lt
         ∙ ap (λ (q : Point). cell (seen_at x.bytes p) q x.line ∷ text_feed x q) (byte-after x b p is e k one)
         ∙ ap (λ (c : ℕ). cell c (past_byte b p) x.line ∷ text_feed x (past_byte b p)) (seen-first x.bytes b p is e vs)
-        ∙ ap (λ (t : Bool). cond t (tab_cells x.line (columns_more p) 9 p) (cell b (past_byte b p) x.line ∷ []) ++ text_feed x (past_byte b p)) (sym k)
+        ∙ ap
+        (λ (t : Bool).
+        cond t (tab_cells x.line (columns_more p) 9 p) (cell b (past_byte b p) x.line ∷ [])
+        ++ text_feed x (past_byte b p))
+        (sym k)
 
 -- The cells of a line.
 
@@ -174,7 +206,8 @@ pub record HasLine (x : Setting) (line rest : List ℕ) (p : Point) : Type 0 whe
   pub column : 1 ≤ p.column
 
 -- it is fed as its cells, and then what comes behind it
-pub line-feed : (x : Setting) (line rest : List ℕ) (p : Point) → HasLine x line rest p → text_feed x p ≡ spread x.line line p ++ text_feed x (past_text line p)
+pub line-feed : (x : Setting) (line rest : List ℕ) (p : Point) → HasLine x line rest p →
+    text_feed x p ≡ spread x.line line p ++ text_feed x (past_text line p)
 line-feed x [] rest p h = refl
 line-feed x (b ∷ bs) rest p h =
     let within : p.index + suc (length bs) ≤ x.limit = h.within in
@@ -206,11 +239,16 @@ byte-end line b p one = go (b == 9) refl
     go : (t : Bool) → (b == 9) ≡ t → point_after (byte_cells line b p) p ≡ past_byte b p
     go true k =
         let tab : b ≡ 9 = eqb-true b 9 k in
-        subst (λ (c : ℕ). point_after (byte_cells line c p) p ≡ past_byte c p) (sym tab) (tab-end line (columns_more p) 9 p p ∙ tab_end-stop p one)
-    go false k = ap (λ (t : Bool). point_after (cond t (tab_cells line (columns_more p) 9 p) (cell b (past_byte b p) line ∷ [])) p) k
+        subst (λ (c : ℕ). point_after (byte_cells line c p) p ≡ past_byte c p) (sym tab)
+        (tab-end line (columns_more p) 9 p p ∙ tab_end-stop p one)
+    go false k =
+        ap
+        (λ (t : Bool).
+        point_after (cond t (tab_cells line (columns_more p) 9 p) (cell b (past_byte b p) line ∷ [])) p) k
 
 -- they end behind the line
-pub spread-end : (line : Line) (bytes : List ℕ) (p : Point) → 1 ≤ p.column → point_after (spread line bytes p) p ≡ past_text bytes p
+pub spread-end : (line : Line) (bytes : List ℕ) (p : Point) → 1 ≤ p.column →
+    point_after (spread line bytes p) p ≡ past_text bytes p
 spread-end line [] p one = refl
 spread-end line (b ∷ bs) p one =
     point_after-append (byte_cells line b p) (spread line bs (past_byte b p)) p
@@ -236,21 +274,34 @@ and_same false y e = refl
 
 all-spaces : (f : ℕ → Bool) (line : Line) (n : ℕ) (p : Point) → list_all f (bytes_of (tab_cells line n 32 p)) ≡ f 32
 all-spaces f line zero p = and_true (f 32)
-all-spaces f line (suc n) p = and_same (f 32) (list_all f (bytes_of (tab_cells line n 32 (next_column p)))) (all-spaces f line n (next_column p))
+all-spaces f line (suc n) p =
+    and_same (f 32) (list_all f (bytes_of (tab_cells line n 32 (next_column p)))) (all-spaces f line n (next_column p))
 
-all-tab : (f : ℕ → Bool) → f 32 ≡ f 9 → (line : Line) (n : ℕ) (p : Point) → list_all f (bytes_of (tab_cells line n 9 p)) ≡ f 9
+all-tab : (f : ℕ → Bool) → f 32 ≡ f 9 → (line : Line) (n : ℕ) (p : Point) →
+    list_all f (bytes_of (tab_cells line n 9 p)) ≡ f 9
 all-tab f e line zero p = and_true (f 9)
-all-tab f e line (suc n) p = and_same (f 9) (list_all f (bytes_of (tab_cells line n 32 (next_column p)))) (all-spaces f line n (next_column p) ∙ e)
+all-tab f e line (suc n) p =
+    and_same (f 9) (list_all f (bytes_of (tab_cells line n 32 (next_column p))))
+    (all-spaces f line n (next_column p) ∙ e)
 
-all-byte : (f : ℕ → Bool) → f 32 ≡ f 9 → (line : Line) (b : ℕ) (p : Point) → list_all f (bytes_of (byte_cells line b p)) ≡ f b
+all-byte : (f : ℕ → Bool) → f 32 ≡ f 9 → (line : Line) (b : ℕ) (p : Point) →
+    list_all f (bytes_of (byte_cells line b p)) ≡ f b
 all-byte f e line b p = go (b == 9) refl
   where
     go : (t : Bool) → (b == 9) ≡ t → list_all f (bytes_of (byte_cells line b p)) ≡ f b
-    go true k = let tab : b ≡ 9 = eqb-true b 9 k in subst (λ (c : ℕ). list_all f (bytes_of (byte_cells line c p)) ≡ f c) (sym tab) (all-tab f e line (columns_more p) p)
-    go false k = ap (λ (t : Bool). list_all f (bytes_of (cond t (tab_cells line (columns_more p) 9 p) (cell b (past_byte b p) line ∷ [])))) k ∙ and_true (f b)
+    go true k =
+        let tab : b ≡ 9 = eqb-true b 9 k in
+        subst (λ (c : ℕ). list_all f (bytes_of (byte_cells line c p)) ≡ f c) (sym tab)
+        (all-tab f e line (columns_more p) p)
+    go false k =
+        ap
+        (λ (t : Bool).
+        list_all f (bytes_of (cond t (tab_cells line (columns_more p) 9 p) (cell b (past_byte b p) line ∷ [])))) k
+        ∙ and_true (f b)
 
 -- a test that does not tell spaces from tabs holds of all the cells' bytes if of all the line's
-pub all-spread : (f : ℕ → Bool) → f 32 ≡ f 9 → (line : Line) (bytes : List ℕ) (p : Point) → list_all f (bytes_of (spread line bytes p)) ≡ list_all f bytes
+pub all-spread : (f : ℕ → Bool) → f 32 ≡ f 9 → (line : Line) (bytes : List ℕ) (p : Point) →
+    list_all f (bytes_of (spread line bytes p)) ≡ list_all f bytes
 all-spread f e line [] p = refl
 all-spread f e line (b ∷ bs) p =
     ap (list_all f) (bytes-append (byte_cells line b p) (spread line bs (past_byte b p)))
@@ -263,28 +314,46 @@ count-next f b bs = sum_by-cons (λ (x : ℕ). cond (f x) 1 0) b bs
 
 count-append : (f : ℕ → Bool) (xs ys : List ℕ) → count_by f (xs ++ ys) ≡ count_by f xs + count_by f ys
 count-append f [] ys = omega arith
-count-append f (x ∷ xs) ys = let next = count-next f x (xs ++ ys) in let first = count-next f x xs in let more = count-append f xs ys in omega arith
+count-append f (x ∷ xs) ys =
+    let next = count-next f x (xs ++ ys) in let first = count-next f x xs in let more = count-append f xs ys in
+    omega arith
 
-count-spaces : (f : ℕ → Bool) → f 32 ≡ false → (line : Line) (n : ℕ) (p : Point) → count_by f (bytes_of (tab_cells line n 32 p)) ≡ 0
+count-spaces : (f : ℕ → Bool) → f 32 ≡ false → (line : Line) (n : ℕ) (p : Point) →
+    count_by f (bytes_of (tab_cells line n 32 p)) ≡ 0
 count-spaces f s line zero p = count-next f 32 [] ∙ rw s refl
-count-spaces f s line (suc n) p = count-next f 32 (bytes_of (tab_cells line n 32 (next_column p))) ∙ rw (s, count-spaces f s line n (next_column p)) refl
+count-spaces f s line (suc n) p =
+    count-next f 32 (bytes_of (tab_cells line n 32 (next_column p)))
+    ∙ rw (s, count-spaces f s line n (next_column p)) refl
 
-count-tab : (f : ℕ → Bool) → f 32 ≡ false → (line : Line) (n : ℕ) (p : Point) → count_by f (bytes_of (tab_cells line n 9 p)) ≡ cond (f 9) 1 0
+count-tab : (f : ℕ → Bool) → f 32 ≡ false → (line : Line) (n : ℕ) (p : Point) →
+    count_by f (bytes_of (tab_cells line n 9 p)) ≡ cond (f 9) 1 0
 count-tab f s line zero p = let next = count-next f 9 [] in omega arith
-count-tab f s line (suc n) p = let next = count-next f 9 (bytes_of (tab_cells line n 32 (next_column p))) in let none = count-spaces f s line n (next_column p) in omega arith
+count-tab f s line (suc n) p =
+    let next = count-next f 9 (bytes_of (tab_cells line n 32 (next_column p))) in
+    let none = count-spaces f s line n (next_column p) in omega arith
 
-count-byte : (f : ℕ → Bool) → f 32 ≡ false → (line : Line) (b : ℕ) (p : Point) → count_by f (bytes_of (byte_cells line b p)) ≡ cond (f b) 1 0
+count-byte : (f : ℕ → Bool) → f 32 ≡ false → (line : Line) (b : ℕ) (p : Point) →
+    count_by f (bytes_of (byte_cells line b p)) ≡ cond (f b) 1 0
 count-byte f s line b p = go (b == 9) refl
   where
     go : (t : Bool) → (b == 9) ≡ t → count_by f (bytes_of (byte_cells line b p)) ≡ cond (f b) 1 0
-    go true k = let tab : b ≡ 9 = eqb-true b 9 k in subst (λ (c : ℕ). count_by f (bytes_of (byte_cells line c p)) ≡ cond (f c) 1 0) (sym tab) (count-tab f s line (columns_more p) p)
-    go false k = ap (λ (t : Bool). count_by f (bytes_of (cond t (tab_cells line (columns_more p) 9 p) (cell b (past_byte b p) line ∷ [])))) k ∙ (let next = count-next f b [] in omega arith)
+    go true k =
+        let tab : b ≡ 9 = eqb-true b 9 k in
+        subst (λ (c : ℕ). count_by f (bytes_of (byte_cells line c p)) ≡ cond (f c) 1 0) (sym tab)
+        (count-tab f s line (columns_more p) p)
+    go false k =
+        ap
+        (λ (t : Bool).
+        count_by f (bytes_of (cond t (tab_cells line (columns_more p) 9 p) (cell b (past_byte b p) line ∷ [])))) k
+        ∙ (let next = count-next f b [] in omega arith)
 
 -- no space is counted, so as many as in the line
-pub count-spread : (f : ℕ → Bool) → f 32 ≡ false → (line : Line) (bytes : List ℕ) (p : Point) → count_by f (bytes_of (spread line bytes p)) ≡ count_by f bytes
+pub count-spread : (f : ℕ → Bool) → f 32 ≡ false → (line : Line) (bytes : List ℕ) (p : Point) →
+    count_by f (bytes_of (spread line bytes p)) ≡ count_by f bytes
 count-spread f s line [] p = refl
 count-spread f s line (b ∷ bs) p =
-    let parts = ap (count_by f) (bytes-append (byte_cells line b p) (spread line bs (past_byte b p))) ∙ count-append f (bytes_of (byte_cells line b p)) (bytes_of (spread line bs (past_byte b p))) in
+    let parts = ap (count_by f) (bytes-append (byte_cells line b p) (spread line bs (past_byte b p)))
+    ∙ count-append f (bytes_of (byte_cells line b p)) (bytes_of (spread line bs (past_byte b p))) in
     let one = count-byte f s line b p in
     let more = count-spread f s line bs (past_byte b p) in
     let next = count-next f b bs in
@@ -313,7 +382,9 @@ no_feed-byte line b p e = go (b == 9)
 
 pub no_feed-spread : (line : Line) (bytes : List ℕ) (p : Point) → NoEnding bytes → NoFeed (spread line bytes p)
 no_feed-spread line [] p h = tt
-no_feed-spread line (b ∷ bs) p h = no_feed-append (byte_cells line b p) (spread line bs (past_byte b p)) (no_feed-byte line b p h.0) (no_feed-spread line bs (past_byte b p) h.1)
+no_feed-spread line (b ∷ bs) p h =
+    no_feed-append (byte_cells line b p) (spread line bs (past_byte b p)) (no_feed-byte line b p h.0)
+    (no_feed-spread line bs (past_byte b p) h.1)
 
 pub line_cells-append : (xs ys : List Cell) → NoFeed xs → line_cells (xs ++ ys) ≡ xs ++ line_cells ys
 line_cells-append [] ys h = refl
@@ -360,12 +431,14 @@ at-none zero (c ∷ bytes) e = cc
 at-none (suc index) [] e = refl
 at-none (suc index) (c ∷ bytes) e = at-none index bytes e
 
-none-next : (index : ℕ) (bytes rest : List ℕ) → drop (index + 1) bytes ≡ rest → begins_with 10 rest ≡ false → (slice_index bytes (index + 1) == 10) ≡ false
+none-next : (index : ℕ) (bytes rest : List ℕ) → drop (index + 1) bytes ≡ rest → begins_with 10 rest ≡ false →
+    (slice_index bytes (index + 1) == 10) ≡ false
 none-next index bytes [] e h = ap (λ (c : ℕ). c == 10) (at-none (index + 1) bytes e)
 none-next index bytes (b ∷ rest) e h = ap (λ (c : ℕ). c == 10) (at-next (index + 1) bytes b rest e) ∙ h
 
 -- the point behind it
-ending-step : (bytes : List ℕ) (ending : Ending) (rest : List ℕ) (p : Point) → drop p.index bytes ≡ ending_bytes ending ++ rest → EndsBefore ending rest →
+ending-step : (bytes : List ℕ) (ending : Ending) (rest : List ℕ) (p : Point) →
+    drop p.index bytes ≡ ending_bytes ending ++ rest → EndsBefore ending rest →
     (is_ending (slice_index bytes p.index) ≡ true) × (next_point bytes p ≡ past_ending ending p)
 ending-step bytes LineFeed rest p e h = let here = at-next p.index bytes 10 rest e in (rw here refl, rw here refl)
 ending-step bytes Return rest p e h =
@@ -381,30 +454,37 @@ seen-ending : (bytes : List ℕ) (p : Point) → is_ending (slice_index bytes p.
 seen-ending bytes p e = rw e refl
 
 -- an ending is fed as one line feed
-pub ending-feed : (x : Setting) (ending : Ending) (rest : List ℕ) (p : Point) → HasEnding x ending rest p → text_feed x p ≡ cell 10 (past_ending ending p) x.line ∷ text_feed x (past_ending ending p)
+pub ending-feed : (x : Setting) (ending : Ending) (rest : List ℕ) (p : Point) → HasEnding x ending rest p →
+    text_feed x p ≡ cell 10 (past_ending ending p) x.line ∷ text_feed x (past_ending ending p)
 ending-feed x ending rest p h =
     let step = ending-step x.bytes ending rest p h.text h.before in
     feed-next x p h.small h.within
     ∙ ap (λ (b : ℕ). cell b (after x p) x.line ∷ text_feed x (after x p)) (seen-ending x.bytes p step.0)
     ∙ ap (λ (q : Point). cell 10 q x.line ∷ text_feed x q)
-    (ap (λ (t : Bool). cond t (line_begun x (next_point x.bytes p)) (next_point x.bytes p)) step.0 ∙ ap (line_begun x) step.1 ∙ h.begun)
+    (ap (λ (t : Bool). cond t (line_begun x (next_point x.bytes p)) (next_point x.bytes p)) step.0
+    ∙ ap (line_begun x) step.1 ∙ h.begun)
 
 -- Pieces of a text.
 
-pub slice-front : (bytes : List ℕ) (i j : ℕ) (xs rest : List ℕ) → drop i bytes ≡ xs ++ rest → j ≡ i + length xs → slice_range bytes i j ≡ xs
+pub slice-front : (bytes : List ℕ) (i j : ℕ) (xs rest : List ℕ) → drop i bytes ≡ xs ++ rest → j ≡ i + length xs →
+    slice_range bytes i j ≡ xs
 slice-front bytes i j xs rest e k = ap (take (j - i)) e ∙ take_at xs rest (j - i) (omega arith)
 
 -- a slice is cut at a place inside
-pub slice-split : (bytes : List ℕ) (a b c : ℕ) → a ≤ b → b ≤ c → slice_range bytes a c ≡ slice_range bytes a b ++ slice_range bytes b c
+pub slice-split : (bytes : List ℕ) (a b c : ℕ) → a ≤ b → b ≤ c →
+    slice_range bytes a c ≡ slice_range bytes a b ++ slice_range bytes b c
 slice-split bytes a b c h k =
     let size : c - a ≡ (b - a) + (c - b) = omega arith in
     let place : a + (b - a) ≡ b = omega arith in
     ap (λ (i : ℕ). take i (drop a bytes)) size
     ∙ take-add (b - a) (c - b) (drop a bytes)
-    ∙ ap (λ (l : List ℕ). take (b - a) (drop a bytes) ++ take (c - b) l) (drop-drop (b - a) a bytes ∙ ap (λ (i : ℕ). drop i bytes) place)
+    ∙ ap (λ (l : List ℕ). take (b - a) (drop a bytes) ++ take (c - b) l)
+    (drop-drop (b - a) a bytes ∙ ap (λ (i : ℕ). drop i bytes) place)
 
 -- a piece of a line is one of the text
-pub slice-inside : (bytes line : List ℕ) (from end i size : ℕ) → slice_range bytes from end ≡ line → end ≡ from + length line → i + size ≤ length line → slice_range bytes (from + i) (from + i + size) ≡ take size (drop i line)
+pub slice-inside : (bytes line : List ℕ) (from end i size : ℕ) → slice_range bytes from end ≡ line →
+    end ≡ from + length line → i + size ≤ length line →
+    slice_range bytes (from + i) (from + i + size) ≡ take size (drop i line)
 slice-inside bytes line from end i size is long le =
     let left = end - (from + i) in
     let one : from + i + size - (from + i) ≡ size = omega arith in
@@ -412,13 +492,19 @@ slice-inside bytes line from end i size is long le =
     ap (λ (k : ℕ). take k (drop (from + i) bytes)) one
     ∙ sym (take-take size left (drop (from + i) bytes) (omega arith))
     ∙ ap (λ (l : List ℕ). take size (take left l)) (sym (drop-drop i from bytes))
-    ∙ ap (take size) (sym (drop-take i left (drop from bytes)) ∙ ap (λ (k : ℕ). drop i (take k (drop from bytes))) all ∙ ap (drop i) is)
+    ∙ ap (take size)
+    (sym (drop-take i left (drop from bytes)) ∙ ap (λ (k : ℕ). drop i (take k (drop from bytes))) all
+    ∙ ap (drop i) is)
 
-pub drop-past : (bytes : List ℕ) (i : ℕ) (xs rest : List ℕ) → drop i bytes ≡ xs ++ rest → drop (i + length xs) bytes ≡ rest
-drop-past bytes i xs rest e = sym (drop-drop (length xs) i bytes) ∙ ap (drop (length xs)) e ∙ drop_at xs rest (length xs) refl
+pub drop-past : (bytes : List ℕ) (i : ℕ) (xs rest : List ℕ) → drop i bytes ≡ xs ++ rest →
+    drop (i + length xs) bytes ≡ rest
+drop-past bytes i xs rest e =
+    sym (drop-drop (length xs) i bytes) ∙ ap (drop (length xs)) e ∙ drop_at xs rest (length xs) refl
 
-pub front-within : (bytes : List ℕ) (i : ℕ) (xs rest : List ℕ) → drop i bytes ≡ xs ++ rest → i ≤ length bytes → i + length xs + length rest ≡ length bytes
-front-within bytes i xs rest e le = let size = ap length e in let parts = length-append xs rest in let left = length-drop i bytes in omega arith
+pub front-within : (bytes : List ℕ) (i : ℕ) (xs rest : List ℕ) → drop i bytes ≡ xs ++ rest → i ≤ length bytes →
+    i + length xs + length rest ≡ length bytes
+front-within bytes i xs rest e le =
+    let size = ap length e in let parts = length-append xs rest in let left = length-drop i bytes in omega arith
 
 pub ending-some : (ending : Ending) → 0 < length (ending_bytes ending)
 ending-some LineFeed = omega arith
@@ -437,9 +523,11 @@ pub record IsEnding (bytes : List ℕ) (p q : Point) : Type 0 where
   pub line : q.line ≡ p.line + 1
   pub column : q.column ≡ 1
 
-pub is-ending : (bytes : List ℕ) (ending : Ending) (rest : List ℕ) (p : Point) → drop p.index bytes ≡ ending_bytes ending ++ rest → EndsBefore ending rest → IsEnding bytes p (past_ending ending p)
+pub is-ending : (bytes : List ℕ) (ending : Ending) (rest : List ℕ) (p : Point) →
+    drop p.index bytes ≡ ending_bytes ending ++ rest → EndsBefore ending rest → IsEnding bytes p (past_ending ending p)
 is-ending bytes ending rest p e h =
-    let size : length (drop p.index bytes) ≡ length (ending_bytes ending) + length rest = ap length e ∙ length-append (ending_bytes ending) rest in
+    let size : length (drop p.index bytes) ≡ length (ending_bytes ending) + length rest = ap length e
+    ∙ length-append (ending_bytes ending) rest in
     let some = ending-some ending in
     let left = length-drop p.index bytes in
     record {

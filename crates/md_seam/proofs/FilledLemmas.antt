@@ -1,5 +1,6 @@
 -- A document is read as the same tree before its text parts are read and after.
-use Rattle.std.proofs.Common.{◌≡◌, ℕ, zero, suc, Bool, true, false, cond, ◌&&◌, List, [], ◌∷◌, ◌++◌, refl, ap, sym, ◌∙◌, subst}
+use Rattle.std.proofs.Common.{◌≡◌, ℕ, zero, suc, Bool, true, false, cond, ◌&&◌, List, [], ◌∷◌, ◌++◌, refl, ap, sym, ◌∙◌}
+use Rattle.std.proofs.Common.{subst}
 use Rattle.std.specs.Prelude.{Option, Some, option_map, ◌==◌, not}
 use Rattle.std.proofs.lemmas.Bool.{and_parts, not-true}
 use Rattle.md_engine.specs.declared.event.Point.{Point}
@@ -8,9 +9,13 @@ use Rattle.md_engine.specs.declared.event.Kind.{Kind}
 use Rattle.md_engine.specs.declared.event.Kind.TheVariants.{Enter, Exit}
 use Rattle.md_engine.specs.declared.event.Name.{Name}
 use Rattle.md_engine.specs.declared.event.Name.TheVariants as n
-use Rattle.md_seam.specs.Events.Spelled.{Reading, Text, Purpose, AsParagraph, AsHeading, AsInfo, AsMeta, AsLabel, AsDestination, AsTitle, AsCell, AsFootnoteLabel, Role, Tells, IsQuiet, IsPrefix, role, begun, before_prefix, after_prefix, read_by, read, unread, spelled}
+use Rattle.md_seam.specs.Events.Spelled.{Reading, Text, Purpose, AsParagraph, AsHeading, AsInfo, AsMeta, AsLabel}
+use Rattle.md_seam.specs.Events.Spelled.{AsDestination, AsTitle, AsCell, AsFootnoteLabel, Role, Tells, IsQuiet}
+use Rattle.md_seam.specs.Events.Spelled.{IsPrefix, role, begun, before_prefix, after_prefix, read_by, read, unread}
+use Rattle.md_seam.specs.Events.Spelled.{spelled}
 use Rattle.md_seam.specs.Events.Inline.{is_linked, is_inline}
-use Rattle.md_seam.specs.Events.Tiles.{stands_in_part, is_data, is_part, is_chunk, depth_behind, chunks_stand, first_list, further_lists, filled_from, filled}
+use Rattle.md_seam.specs.Events.Tiles.{stands_in_part, is_data, is_part, is_chunk, depth_behind, chunks_stand}
+use Rattle.md_seam.specs.Events.Tiles.{first_list, further_lists, filled_from, filled}
 use Rattle.md_seam.specs.Events.Nested.{is_exit}
 use Rattle.md_seam.proofs.SpelledLemmas.{Roles, QuietOrPrefix, QuietOrEnding, read-append, read-inline}
 
@@ -70,12 +75,14 @@ has-at : (depth : ℕ) (r : Reading) → HasText r → HasTextAt depth r
 has-at zero r has = tt
 has-at (suc depth) r has = has
 
-part-has : (bytes : List ℕ) (name : Name) (p : Point) (r : Reading) → is_part name ≡ true → HasText (read_by bytes Enter (role name) p r)
+part-has : (bytes : List ℕ) (name : Name) (p : Point) (r : Reading) → is_part name ≡ true →
+    HasText (read_by bytes Enter (role name) p r)
 part-has bytes name p r h =
     let tells : (purpose : Purpose) × (role name ≡ Tells purpose) = part-tells name h in
     (begun p, ap (λ (x : Role). (read_by bytes Enter x p r).text) tells.1)
 
-enter-has : (bytes : List ℕ) (kind : Kind) (name : Name) (p : Point) (r : Reading) → HasTextAt (cond (is_part name && not (is_exit kind)) 1 0) (read_by bytes kind (role name) p r)
+enter-has : (bytes : List ℕ) (kind : Kind) (name : Name) (p : Point) (r : Reading) →
+    HasTextAt (cond (is_part name && not (is_exit kind)) 1 0) (read_by bytes kind (role name) p r)
 enter-has bytes Enter name p r = go (is_part name) refl
   where
     go : (x : Bool) → is_part name ≡ x → HasTextAt (cond (x && true) 1 0) (read_by bytes Enter (role name) p r)
@@ -87,14 +94,18 @@ enter-has bytes Exit name p r = go (is_part name)
     go true = tt
     go false = tt
 
-keep-has : (bytes : List ℕ) (kind : Kind) (x : Role) (p : Point) (r : Reading) → QuietOrPrefix x → HasText r → HasText (read_by bytes kind x p r)
+keep-has : (bytes : List ℕ) (kind : Kind) (x : Role) (p : Point) (r : Reading) → QuietOrPrefix x → HasText r →
+    HasText (read_by bytes kind x p r)
 keep-has bytes Enter IsQuiet p r h has = has
 keep-has bytes Exit IsQuiet p r h has = has
-keep-has bytes Enter IsPrefix p r h has = (before_prefix bytes p has.0, ap (λ (x : Option Text). option_map (before_prefix bytes p) x) has.1)
-keep-has bytes Exit IsPrefix p r h has = (after_prefix p has.0, ap (λ (x : Option Text). option_map (after_prefix p) x) has.1)
+keep-has bytes Enter IsPrefix p r h has =
+    (before_prefix bytes p has.0, ap (λ (x : Option Text). option_map (before_prefix bytes p) x) has.1)
+keep-has bytes Exit IsPrefix p r h has =
+    (after_prefix p has.0, ap (λ (x : Option Text). option_map (after_prefix p) x) has.1)
 keep-has bytes kind _ p r h has = absurd h
 
-quiet-kept : (bytes : List ℕ) (kind : Kind) (x : Role) (p : Point) (r : Reading) → x ≡ IsQuiet → read_by bytes kind x p r ≡ r
+quiet-kept : (bytes : List ℕ) (kind : Kind) (x : Role) (p : Point) (r : Reading) → x ≡ IsQuiet →
+    read_by bytes kind x p r ≡ r
 quiet-kept bytes Enter x p r e = ap (λ (x : Role). read_by bytes Enter x p r) e
 quiet-kept bytes Exit x p r e = ap (λ (x : Role). read_by bytes Exit x p r) e
 
@@ -115,17 +126,24 @@ further-inline (events ∷ lists) h = h.1
 -- Event by event.
 
 abbrev Same : List ℕ → List Event → Type 0
-Same bytes es = (depth : ℕ) (r : Reading) (lists : List (List Event)) → chunks_stand depth es ≡ true → HasTextAt depth r → EachInline lists → read bytes r (filled_from false es lists) ≡ read bytes r es
+Same bytes es =
+    (depth : ℕ) (r : Reading) (lists : List (List Event)) → chunks_stand depth es ≡ true → HasTextAt depth r →
+    EachInline lists → read bytes r (filled_from false es lists) ≡ read bytes r es
 
 abbrev SameBehind : List ℕ → List Event → Type 0
 SameBehind bytes [] = Unit {0}
 SameBehind bytes (e ∷ es) = Same bytes es
 
 -- an event with no link stays as it is
-same-unlinked : (bytes : List ℕ) (e : Event) (es : List Event) (depth : ℕ) (r : Reading) (lists : List (List Event)) → Same bytes es → is_linked e ≡ false → chunks_stand depth es ≡ true →
-    HasTextAt depth (read_by bytes e.kind (role e.name) e.point r) → EachInline lists → read bytes r (filled_from false (e ∷ es) lists) ≡ read bytes r (e ∷ es)
+same-unlinked : (bytes : List ℕ) (e : Event) (es : List Event) (depth : ℕ) (r : Reading) (lists : List (List Event)) →
+    Same bytes es → is_linked e ≡ false → chunks_stand depth es ≡ true →
+    HasTextAt depth (read_by bytes e.kind (role e.name) e.point r) → EachInline lists →
+    read bytes r (filled_from false (e ∷ es) lists) ≡ read bytes r (e ∷ es)
 same-unlinked bytes e es depth r lists same unlinked stands has each =
-    ap (λ (x : Bool). read bytes r (cond x (first_list lists ++ filled_from true es (further_lists lists)) (e ∷ filled_from false es lists))) unlinked
+    ap
+    (λ (x : Bool).
+    read bytes r
+    (cond x (first_list lists ++ filled_from true es (further_lists lists)) (e ∷ filled_from false es lists))) unlinked
     ∙ same depth (read_by bytes e.kind (role e.name) e.point r) lists stands has each
 
 exit-kind : (kind : Kind) → is_exit kind ≡ true → kind ≡ Exit
@@ -137,55 +155,104 @@ enter-kind Enter h = refl
 enter-kind Exit h = cc
 
 -- a chunk gives way to what an inline layer makes of it
-same-linked : (bytes : List ℕ) (e : Event) (es : List Event) (depth : ℕ) (r : Reading) (lists : List (List Event)) → SameBehind bytes es → is_linked e ≡ true → is_chunk e es ≡ true → chunks_stand (depth_behind e.kind (suc depth)) es ≡ true →
+same-linked : (bytes : List ℕ) (e : Event) (es : List Event) (depth : ℕ) (r : Reading) (lists : List (List Event)) →
+    SameBehind bytes es → is_linked e ≡ true → is_chunk e es ≡ true →
+    chunks_stand (depth_behind e.kind (suc depth)) es ≡ true →
     HasText r → EachInline lists → read bytes r (filled_from false (e ∷ es) lists) ≡ read bytes r (e ∷ es)
 same-linked bytes e [] depth r lists same linked chunk stands has each = cc
 same-linked bytes e (f ∷ es) depth r lists same linked chunk stands has each =
-    let outer : (not (is_exit e.kind) && is_data e.name && is_exit f.kind ≡ true) × (is_data f.name ≡ true) = and_parts (not (is_exit e.kind) && is_data e.name && is_exit f.kind) (is_data f.name) chunk in
-    let middle : (not (is_exit e.kind) && is_data e.name ≡ true) × (is_exit f.kind ≡ true) = and_parts (not (is_exit e.kind) && is_data e.name) (is_exit f.kind) outer.0 in
-    let inner : (not (is_exit e.kind) ≡ true) × (is_data e.name ≡ true) = and_parts (not (is_exit e.kind)) (is_data e.name) middle.0 in
-    let starts : read_by bytes e.kind (role e.name) e.point r ≡ r = quiet-kept bytes e.kind (role e.name) e.point r (data-role e.name inner.1) in
-    let ends : read_by bytes f.kind (role f.name) f.point r ≡ r = quiet-kept bytes f.kind (role f.name) f.point r (data-role f.name outer.1) in
-    let within : chunks_stand (suc (suc depth)) (f ∷ es) ≡ true = subst (λ (k : Kind). chunks_stand (depth_behind k (suc depth)) (f ∷ es) ≡ true) (enter-kind e.kind inner.0) stands in
-    let behind : (cond (is_linked f) ((suc depth == 0) && is_chunk f es) (stands_in_part f.kind f.name) && chunks_stand (depth_behind f.kind (suc (suc depth))) es) ≡ true =
-    subst (λ (x : Bool). cond x (is_exit f.kind && (suc depth == 0) && not (is_linked f) && chunks_stand 0 es) (cond (is_linked f) ((suc depth == 0) && is_chunk f es) (stands_in_part f.kind f.name) && chunks_stand (depth_behind f.kind (suc (suc depth))) es) ≡ true) (data-no_part f.name outer.1) within in
+    let outer : (not (is_exit e.kind) && is_data e.name && is_exit f.kind ≡ true) ×
+    (is_data f.name ≡ true) = and_parts (not (is_exit e.kind) && is_data e.name && is_exit f.kind)
+    (is_data f.name) chunk in
+    let middle : (not (is_exit e.kind) && is_data e.name ≡ true) ×
+    (is_exit f.kind ≡ true) = and_parts (not (is_exit e.kind) && is_data e.name) (is_exit f.kind) outer.0 in
+    let inner : (not (is_exit e.kind) ≡ true) ×
+    (is_data e.name ≡ true) = and_parts (not (is_exit e.kind)) (is_data e.name) middle.0 in
+    let starts : read_by bytes e.kind (role e.name) e.point r ≡
+    r = quiet-kept bytes e.kind (role e.name) e.point r (data-role e.name inner.1) in
+    let ends : read_by bytes f.kind (role f.name) f.point r ≡
+    r = quiet-kept bytes f.kind (role f.name) f.point r (data-role f.name outer.1) in
+    let within : chunks_stand (suc (suc depth)) (f ∷ es) ≡
+    true = subst (λ (k : Kind). chunks_stand (depth_behind k (suc depth)) (f ∷ es) ≡ true)
+    (enter-kind e.kind inner.0) stands in
+    let behind : (cond (is_linked f) ((suc depth == 0) && is_chunk f es) (stands_in_part f.kind f.name)
+    && chunks_stand (depth_behind f.kind (suc (suc depth))) es) ≡
+    true =
+    subst
+    (λ (x : Bool).
+    cond x (is_exit f.kind && (suc depth == 0) && not (is_linked f) && chunks_stand 0 es)
+    (cond (is_linked f) ((suc depth == 0) && is_chunk f es) (stands_in_part f.kind f.name)
+    && chunks_stand (depth_behind f.kind (suc (suc depth))) es) ≡
+    true)
+    (data-no_part f.name outer.1) within in
     let on : chunks_stand (suc depth) es ≡ true =
     subst (λ (k : Kind). chunks_stand (depth_behind k (suc (suc depth))) es ≡ true) (exit-kind f.kind middle.1)
-    (and_parts (cond (is_linked f) ((suc depth == 0) && is_chunk f es) (stands_in_part f.kind f.name)) (chunks_stand (depth_behind f.kind (suc (suc depth))) es) behind).1 in
-    ap (λ (x : Bool). read bytes r (cond x (first_list lists ++ filled_from true (f ∷ es) (further_lists lists)) (e ∷ filled_from false (f ∷ es) lists))) linked
+    (and_parts (cond (is_linked f) ((suc depth == 0) && is_chunk f es) (stands_in_part f.kind f.name))
+    (chunks_stand (depth_behind f.kind (suc (suc depth))) es) behind).1 in
+    ap
+    (λ (x : Bool).
+    read bytes r
+    (cond x (first_list lists ++ filled_from true (f ∷ es) (further_lists lists))
+    (e ∷ filled_from false (f ∷ es) lists))) linked
     ∙ read-append bytes r (first_list lists) (filled_from false es (further_lists lists))
-    ∙ ap (λ (x : Reading). read bytes x (filled_from false es (further_lists lists))) (read-inline bytes r has.0 (first_list lists) has.1 (first-inline lists each))
+    ∙ ap (λ (x : Reading). read bytes x (filled_from false es (further_lists lists)))
+    (read-inline bytes r has.0 (first_list lists) has.1 (first-inline lists each))
     ∙ same (suc depth) r (further_lists lists) on has (further-inline lists each)
     ∙ ap (λ (x : Reading). read bytes x es) (sym ends)
     ∙ ap (λ (x : Reading). read bytes (read_by bytes f.kind (role f.name) f.point x) es) (sym starts)
 
 same-step : (bytes : List ℕ) (e : Event) (es : List Event) → Same bytes es → SameBehind bytes es → Same bytes (e ∷ es)
 same-step bytes e es same behind zero r lists stands has each =
-    let parts : (not (is_linked e) ≡ true) × (chunks_stand (cond (is_part e.name && not (is_exit e.kind)) 1 0) es ≡ true) = and_parts (not (is_linked e)) (chunks_stand (cond (is_part e.name && not (is_exit e.kind)) 1 0) es) stands in
-    same-unlinked bytes e es (cond (is_part e.name && not (is_exit e.kind)) 1 0) r lists same (not-true (is_linked e) parts.0) parts.1 (enter-has bytes e.kind e.name e.point r) each
+    let parts : (not (is_linked e) ≡ true) ×
+    (chunks_stand (cond (is_part e.name && not (is_exit e.kind)) 1 0) es ≡ true) = and_parts (not (is_linked e))
+    (chunks_stand (cond (is_part e.name && not (is_exit e.kind)) 1 0) es) stands in
+    same-unlinked bytes e es (cond (is_part e.name && not (is_exit e.kind)) 1 0) r lists same
+    (not-true (is_linked e) parts.0) parts.1 (enter-has bytes e.kind e.name e.point r) each
 same-step bytes e es same behind (suc depth) r lists stands has each = go (is_part e.name) (is_linked e) refl stands
   where
     go : (x y : Bool) → is_linked e ≡ y →
-        cond x (is_exit e.kind && (depth == 0) && not (is_linked e) && chunks_stand 0 es) (cond (is_linked e) ((depth == 0) && is_chunk e es) (stands_in_part e.kind e.name) && chunks_stand (depth_behind e.kind (suc depth)) es) ≡ true →
+        cond x (is_exit e.kind && (depth == 0) && not (is_linked e) && chunks_stand 0 es)
+        (cond (is_linked e) ((depth == 0) && is_chunk e es) (stands_in_part e.kind e.name)
+        && chunks_stand (depth_behind e.kind (suc depth)) es) ≡
+        true →
         read bytes r (filled_from false (e ∷ es) lists) ≡ read bytes r (e ∷ es)
     go true y linked h =
-        let outer : (is_exit e.kind && (depth == 0) && not (is_linked e) ≡ true) × (chunks_stand 0 es ≡ true) = and_parts (is_exit e.kind && (depth == 0) && not (is_linked e)) (chunks_stand 0 es) h in
-        same-unlinked bytes e es 0 r lists same (not-true (is_linked e) (and_parts (is_exit e.kind && (depth == 0)) (not (is_linked e)) outer.0).1) outer.1 tt each
+        let outer : (is_exit e.kind && (depth == 0) && not (is_linked e) ≡ true) ×
+        (chunks_stand 0 es ≡ true) = and_parts (is_exit e.kind && (depth == 0) && not (is_linked e))
+        (chunks_stand 0 es) h in
+        same-unlinked bytes e es 0 r lists same
+        (not-true (is_linked e) (and_parts (is_exit e.kind && (depth == 0)) (not (is_linked e)) outer.0).1) outer.1 tt each
     go false y linked h =
-        let outer : (cond (is_linked e) ((depth == 0) && is_chunk e es) (stands_in_part e.kind e.name) ≡ true) × (chunks_stand (depth_behind e.kind (suc depth)) es ≡ true) =
-        and_parts (cond (is_linked e) ((depth == 0) && is_chunk e es) (stands_in_part e.kind e.name)) (chunks_stand (depth_behind e.kind (suc depth)) es) h in
-        by y linked (subst (λ (x : Bool). cond x ((depth == 0) && is_chunk e es) (stands_in_part e.kind e.name) ≡ true) linked outer.0) outer.1
+        let outer : (cond (is_linked e) ((depth == 0) && is_chunk e es) (stands_in_part e.kind e.name) ≡ true) ×
+        (chunks_stand (depth_behind e.kind (suc depth)) es ≡ true) =
+        and_parts (cond (is_linked e) ((depth == 0) && is_chunk e es) (stands_in_part e.kind e.name))
+        (chunks_stand (depth_behind e.kind (suc depth)) es) h in
+        by y linked
+        (subst
+        (λ (x : Bool). cond x ((depth == 0) && is_chunk e es) (stands_in_part e.kind e.name) ≡ true) linked outer.0)
+        outer.1
       where
-        by : (y : Bool) → is_linked e ≡ y → cond y ((depth == 0) && is_chunk e es) (stands_in_part e.kind e.name) ≡ true → chunks_stand (depth_behind e.kind (suc depth)) es ≡ true →
+        by : (y : Bool) → is_linked e ≡ y →
+            cond y ((depth == 0) && is_chunk e es) (stands_in_part e.kind e.name) ≡ true →
+            chunks_stand (depth_behind e.kind (suc depth)) es ≡ true →
             read bytes r (filled_from false (e ∷ es) lists) ≡ read bytes r (e ∷ es)
-        by false linked stands on = same-unlinked bytes e es (depth_behind e.kind (suc depth)) r lists same linked on (has-at (depth_behind e.kind (suc depth)) (read_by bytes e.kind (role e.name) e.point r) (keep-has bytes e.kind (role e.name) e.point r (stands-role e.kind e.name stands) has)) each
-        by true linked chunk on = same-linked bytes e es depth r lists behind linked (and_parts (depth == 0) (is_chunk e es) chunk).1 on has each
+        by false linked stands on =
+            same-unlinked bytes e es (depth_behind e.kind (suc depth)) r lists same linked on
+            (has-at (depth_behind e.kind (suc depth)) (read_by bytes e.kind (role e.name) e.point r)
+            (keep-has bytes e.kind (role e.name) e.point r (stands-role e.kind e.name stands) has)) each
+        by true linked chunk on =
+            same-linked bytes e es depth r lists behind linked
+            (and_parts (depth == 0) (is_chunk e es) chunk).1 on has each
 
 same-both : (bytes : List ℕ) (es : List Event) → (inner : Same bytes es) × SameBehind bytes es
 same-both bytes [] = ((λ depth r lists stands has each. refl), tt)
-same-both bytes (e ∷ es) = let both : (inner : Same bytes es) × SameBehind bytes es = same-both bytes es in (same-step bytes e es both.0 both.1, both.0)
+same-both bytes (e ∷ es) =
+    let both : (inner : Same bytes es) × SameBehind bytes es = same-both bytes es in
+    (same-step bytes e es both.0 both.1, both.0)
 
 -- Whatever a layer gives for the chunks of a block list, the tree is the same.
-pub spelled-filled : (bytes : List ℕ) (events : List Event) (lists : List (List Event)) → chunks_stand 0 events ≡ true → EachInline lists → spelled (filled events lists) bytes ≡ spelled events bytes
+pub spelled-filled : (bytes : List ℕ) (events : List Event) (lists : List (List Event)) → chunks_stand 0 events ≡ true →
+    EachInline lists → spelled (filled events lists) bytes ≡ spelled events bytes
 unfolding spelled
-spelled-filled bytes events lists stands each = ap (λ (r : Reading). r.here) ((same-both bytes events).0 0 unread lists stands tt each)
+spelled-filled bytes events lists stands each =
+    ap (λ (r : Reading). r.here) ((same-both bytes events).0 0 unread lists stands tt each)

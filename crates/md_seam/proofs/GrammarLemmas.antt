@@ -3,7 +3,8 @@ use Rattle.std.proofs.Common.{◌≡◌, Bool, true, false, cond, List, [], ◌�
 use Rattle.md_engine.specs.declared.event.Event.{Event}
 use Rattle.md_engine.specs.declared.event.Name.{Name}
 use Rattle.md_engine.specs.declared.event.Point.{Point}
-use Rattle.md_seam.specs.Events.Grammar.{Expression, behind, blocks, inside, is_whole, keeps_grammar, left_behind, left_of, may_end}
+use Rattle.md_seam.specs.Events.Grammar.{Expression, behind, blocks, inside, is_whole, keeps_grammar, left_behind}
+use Rattle.md_seam.specs.Events.Grammar.{left_of, may_end}
 use Rattle.md_seam.specs.Events.Inline.{pair_unless_empty}
 use Rattle.md_seam.specs.Events.Nested.{around, exit, pair}
 use Rattle.md_seam.specs.Events.Places.{same_place}
@@ -23,10 +24,12 @@ Leads text from to es = (outer : List Expression) → left_of text (from ++ oute
 -- what is left behind them
 pub leads-rest : (text : Expression) (a b outer : List Expression) (xs ys : List Event) → Leads text a b xs →
     left_of text (a ++ outer) (xs ++ ys) ≡ left_of text (b ++ outer) ys
-leads-rest text a b outer xs ys h = left_of-append text (a ++ outer) xs ys ∙ ap (λ (l : List Expression). left_of text l ys) (h outer)
+leads-rest text a b outer xs ys h =
+    left_of-append text (a ++ outer) xs ys ∙ ap (λ (l : List Expression). left_of text l ys) (h outer)
 
 -- one behind the other
-pub leads-append : (text : Expression) (a b c : List Expression) (xs ys : List Event) → Leads text a b xs → Leads text b c ys →
+pub leads-append : (text : Expression) (a b c : List Expression) (xs ys : List Event) → Leads text a b xs →
+    Leads text b c ys →
     Leads text a c (xs ++ ys)
 leads-append text a b c xs ys h k outer = leads-rest text a b outer xs ys h ∙ k outer
 
@@ -37,15 +40,22 @@ pub record IsWord (text : Expression) (from : List Expression) (es : List Event)
   pub ends : may_end left ≡ true
 
 -- a word behind such events
-pub word-behind : (text : Expression) (a b : List Expression) (xs ys : List Event) → Leads text a b xs → IsWord text b ys → IsWord text a (xs ++ ys)
-word-behind text a b xs ys h w = record { left = w.left; leads = leads-append text a b (w.left ∷ []) xs ys h w.leads; ends = w.ends }
+pub word-behind : (text : Expression) (a b : List Expression) (xs ys : List Event) → Leads text a b xs →
+    IsWord text b ys → IsWord text a (xs ++ ys)
+word-behind text a b xs ys h w = record {
+  left = w.left;
+  leads = leads-append text a b (w.left ∷ []) xs ys h w.leads;
+  ends = w.ends;
+}
 
 -- the exit of a part that may end
-leads-exit : (text left x : Expression) (name : Name) (p : Point) → may_end left ≡ true → Leads text (left ∷ x ∷ []) (x ∷ []) (exit name p ∷ [])
+leads-exit : (text left x : Expression) (name : Name) (p : Point) → may_end left ≡ true →
+    Leads text (left ∷ x ∷ []) (x ∷ []) (exit name p ∷ [])
 leads-exit text left x name p e outer = ap (λ (b : Bool). cond b (x ∷ outer) []) e
 
 -- a part around such a word
-pub leads-around : (text x : Expression) (name : Name) (p q : Point) (es : List Event) → IsWord text (inside text name ∷ []) es →
+pub leads-around : (text x : Expression) (name : Name) (p q : Point) (es : List Event) →
+    IsWord text (inside text name ∷ []) es →
     Leads text (x ∷ []) (behind name x ∷ []) (around name p q es)
 leads-around text x name p q es w outer =
     left_of-append text (inside text name ∷ behind name x ∷ outer) es (exit name q ∷ [])
@@ -73,6 +83,7 @@ leads-unless text x name p q e = go (same_place p q)
 -- A whole text.
 
 -- blocks are a text,
-pub keeps-blocks : (text : Expression) (es : List Event) → is_whole (left_of text (blocks ∷ []) es) ≡ true → keeps_grammar text es ≡ true
+pub keeps-blocks : (text : Expression) (es : List Event) → is_whole (left_of text (blocks ∷ []) es) ≡ true →
+    keeps_grammar text es ≡ true
 unfolding keeps_grammar
 keeps-blocks text es h = rw h refl

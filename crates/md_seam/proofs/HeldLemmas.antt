@@ -1,5 +1,6 @@
 -- Every byte of a text stands in a piece, where the pieces lie side by side from its first byte to its last.
-use Rattle.std.proofs.Common.{◌≡◌, ℕ, zero, suc, ◌<◌, Bool, true, false, cond, not, ◌&&◌, ◌||◌, List, [], ◌∷◌, ◌++◌, length, refl, ap, arith}
+use Rattle.std.proofs.Common.{◌≡◌, ℕ, zero, suc, ◌<◌, Bool, true, false, cond, not, ◌&&◌, ◌||◌, List, [], ◌∷◌, ◌++◌}
+use Rattle.std.proofs.Common.{length, refl, ap, arith}
 use Rattle.std.specs.Prelude.{◌==◌, Option, Some, None}
 use Rattle.std.specs.List.{Contains, list_all}
 use Rattle.std.proofs.lemmas.Bool.{and_from, and_parts, or_left}
@@ -13,10 +14,12 @@ use Rattle.md_engine.specs.declared.event.Point.{Point}
 use Rattle.md_seam.specs.Events.Held.{Holds, byte_point}
 use Rattle.md_seam.specs.Events.Inline.{Covers, Piece, is_linked, is_one_line, piece_of, pieces, pieces_from}
 use Rattle.md_seam.specs.Events.Nested.{is_exit}
-use Rattle.md_seam.specs.Events.Pieces.{begins_in_tab, ends_in_tab, is_piece_name, piece_rule, piece_stands, piece_text, pieces_stand, stands_over}
+use Rattle.md_seam.specs.Events.Pieces.{begins_in_tab, ends_in_tab, is_piece_name, piece_rule, piece_stands, piece_text}
+use Rattle.md_seam.specs.Events.Pieces.{pieces_stand, stands_over}
 use Rattle.md_seam.specs.Events.Places.{at_or_before, first_point, same_place}
 use Rattle.md_definition.specs.Texts.{split_lines}
-use Rattle.md_seam.specs.Events.Tiles.{chunks_stand, depth_behind, end_point, is_chunk, is_data, is_part, stands_in_part}
+use Rattle.md_seam.specs.Events.Tiles.{chunks_stand, depth_behind, end_point, is_chunk, is_data, is_part}
+use Rattle.md_seam.specs.Events.Tiles.{stands_in_part}
 
 -- The name of a piece.
 
@@ -25,12 +28,14 @@ abbrev AreNamed : List Piece → Type 0
 AreNamed pieces = list_all (λ (piece : Piece). not piece.linked || is_piece_name piece.name) pieces ≡ true
 
 -- a rule that holds of a text is one
-over-named : (rule : Option (List ℕ → Bool)) (text : List ℕ) → elim rule [ None ↦ false | Some over ↦ over text ] ≡ true → elim rule [ None ↦ false | Some over ↦ true ] ≡ true
+over-named : (rule : Option (List ℕ → Bool)) (text : List ℕ) →
+    elim rule [ None ↦ false | Some over ↦ over text ] ≡ true → elim rule [ None ↦ false | Some over ↦ true ] ≡ true
 over-named None text h = h
 over-named (Some over) text h = refl
 
 -- so each piece that stands has the name of one
-piece-named : (bytes : List ℕ) (piece : Piece) → piece_stands bytes piece ≡ true → (not piece.linked || is_piece_name piece.name) ≡ true → is_piece_name piece.name ≡ true
+piece-named : (bytes : List ℕ) (piece : Piece) → piece_stands bytes piece ≡ true →
+    (not piece.linked || is_piece_name piece.name) ≡ true → is_piece_name piece.name ≡ true
 piece-named bytes piece h k = go piece.linked last k
   where
     text : List ℕ
@@ -38,10 +43,12 @@ piece-named bytes piece h k = go piece.linked last k
 
     last : cond piece.linked (is_one_line (split_lines text) true) (stands_over piece.name text) ≡ true
     last =
-        (and_parts (not (same_place piece.first piece.after) && ((piece.first.vs == 0) || begins_in_tab piece.name) && ((piece.after.vs == 0) || ends_in_tab piece.name))
+        (and_parts (not (same_place piece.first piece.after) && ((piece.first.vs == 0) || begins_in_tab piece.name)
+        && ((piece.after.vs == 0) || ends_in_tab piece.name))
         (cond piece.linked (is_one_line (split_lines text) true) (stands_over piece.name text)) h).1
 
-    go : (linked : Bool) → cond linked (is_one_line (split_lines text) true) (stands_over piece.name text) ≡ true → (not linked || is_piece_name piece.name) ≡ true → is_piece_name piece.name ≡ true
+    go : (linked : Bool) → cond linked (is_one_line (split_lines text) true) (stands_over piece.name text) ≡ true →
+        (not linked || is_piece_name piece.name) ≡ true → is_piece_name piece.name ≡ true
     go true h k = k
     go false h k = over-named (piece_rule piece.name) text h
 
@@ -51,35 +58,58 @@ piece-named bytes piece h k = go piece.linked last k
 contains-next : (x y : Piece) (xs : List Piece) → Contains xs x → Contains (y ∷ xs) x
 contains-next x y xs h = (suc h.0, omega (arith, h.1), h.2)
 
-next-holds : (bytes : List ℕ) (first : Piece) (rest : List Piece) (index : ℕ) → Holds bytes rest index → Holds bytes (first ∷ rest) index
-next-holds bytes first rest index h = record { piece = h.piece; among = contains-next h.piece first rest h.among; begins = h.begins; ends = h.ends; stands = h.stands; name = h.name }
+next-holds : (bytes : List ℕ) (first : Piece) (rest : List Piece) (index : ℕ) → Holds bytes rest index →
+    Holds bytes (first ∷ rest) index
+next-holds bytes first rest index h = record {
+  piece = h.piece;
+  among = contains-next h.piece first rest h.among;
+  begins = h.begins;
+  ends = h.ends;
+  stands = h.stands;
+  name = h.name;
+}
 
 -- a point at the place of another comes no later than what that one does
 same-before : (p q r : Point) → same_place p q ≡ true → at_or_before p r ≡ true → at_or_before q r ≡ true
 same-before p q r h k = grind (arith, nat_tests)
 
 -- from a point at the byte or before, to one behind its first column
-pieces-hold : (bytes : List ℕ) (from to : Point) (list : List Piece) (index : ℕ) → Covers from list to → pieces_stand bytes list ≡ true → AreNamed list → at_or_before from (byte_point index) ≡ true → at_or_before to (byte_point index) ≡ false →
+pieces-hold : (bytes : List ℕ) (from to : Point) (list : List Piece) (index : ℕ) → Covers from list to →
+    pieces_stand bytes list ≡ true → AreNamed list → at_or_before from (byte_point index) ≡ true →
+    at_or_before to (byte_point index) ≡ false →
     Holds bytes list index
-pieces-hold bytes from to [] index covers stand named h k = let late : at_or_before to (byte_point index) ≡ true = same-before from to (byte_point index) covers h in cc
+pieces-hold bytes from to [] index covers stand named h k =
+    let late : at_or_before to (byte_point index) ≡ true = same-before from to (byte_point index) covers h in cc
 pieces-hold bytes from to (piece ∷ list) index covers stand named h k =
-    go (at_or_before piece.after (byte_point index)) refl (λ before. pieces-hold bytes piece.after to list index covers.1 stands.1 names.1 before k)
+    go (at_or_before piece.after (byte_point index)) refl
+    (λ before. pieces-hold bytes piece.after to list index covers.1 stands.1 names.1 before k)
   where
     stands : (piece_stands bytes piece ≡ true) × (pieces_stand bytes list ≡ true)
     stands = and_parts (piece_stands bytes piece) (pieces_stand bytes list) stand
 
     names : ((not piece.linked || is_piece_name piece.name) ≡ true) × AreNamed list
-    names = and_parts (not piece.linked || is_piece_name piece.name) (list_all (λ (piece : Piece). not piece.linked || is_piece_name piece.name) list) named
+    names =
+        and_parts (not piece.linked || is_piece_name piece.name)
+        (list_all (λ (piece : Piece). not piece.linked || is_piece_name piece.name) list) named
 
-    go : (x : Bool) → at_or_before piece.after (byte_point index) ≡ x → (at_or_before piece.after (byte_point index) ≡ true → Holds bytes list index) → Holds bytes (piece ∷ list) index
+    go : (x : Bool) → at_or_before piece.after (byte_point index) ≡ x →
+        (at_or_before piece.after (byte_point index) ≡ true → Holds bytes list index) → Holds bytes (piece ∷ list) index
     go true e rest = next-holds bytes piece list index (rest e)
-    go false e rest = record { piece = piece; among = (0, omega arith, refl); begins = same-before from piece.first (byte_point index) covers.0 h; ends = ap not e; stands = stands.0; name = piece-named bytes piece stands.0 names.0 }
+    go false e rest = record {
+      piece = piece;
+      among = (0, omega arith, refl);
+      begins = same-before from piece.first (byte_point index) covers.0 h;
+      ends = ap not e;
+      stands = stands.0;
+      name = piece-named bytes piece stands.0 names.0;
+    }
 
 -- no byte begins before the first point, and none behind the last
 first-before : (index : ℕ) → at_or_before first_point (byte_point index) ≡ true
 first-before index = grind (arith, nat_tests)
 
-end-behind : (bytes : List ℕ) (index : ℕ) → index < length bytes → at_or_before (end_point bytes) (byte_point index) ≡ false
+end-behind : (bytes : List ℕ) (index : ℕ) → index < length bytes →
+    at_or_before (end_point bytes) (byte_point index) ≡ false
 end-behind bytes index h = grind (arith, nat_tests)
 
 -- Events.
@@ -92,11 +122,15 @@ is_named e = not (is_linked e) || is_piece_name e.name
 pieces-named : (e : Event) (es : List Event) → list_all is_named (e ∷ es) ≡ true → AreNamed (pieces_from e es)
 pieces-named e [] h = refl
 pieces-named e (f ∷ es) h =
-    let both : (is_named e ≡ true) × (list_all is_named (f ∷ es) ≡ true) = and_parts (is_named e) (list_all is_named (f ∷ es)) h in
+    let both : (is_named e ≡ true) ×
+    (list_all is_named (f ∷ es) ≡ true) = and_parts (is_named e) (list_all is_named (f ∷ es)) h in
     go e.kind f.kind both.0 (pieces-named f es both.1)
   where
-    go : (k l : Kind) → is_named e ≡ true → AreNamed (pieces_from f es) → AreNamed (piece_of e f k l ++ pieces_from f es)
-    go Enter Exit one rest = and_from (is_named e) (list_all (λ (piece : Piece). not piece.linked || is_piece_name piece.name) (pieces_from f es)) one rest
+    go : (k l : Kind) → is_named e ≡ true → AreNamed (pieces_from f es) →
+        AreNamed (piece_of e f k l ++ pieces_from f es)
+    go Enter Exit one rest =
+        and_from (is_named e)
+        (list_all (λ (piece : Piece). not piece.linked || is_piece_name piece.name) (pieces_from f es)) one rest
     go Enter Enter one rest = rest
     go Exit l one rest = rest
 
@@ -105,9 +139,12 @@ all-named [] h = refl
 all-named (e ∷ es) h = pieces-named e es h
 
 -- Every byte of a text stands in a piece of its events.
-pub bytes-held : (bytes : List ℕ) (events : List Event) → Covers first_point (pieces events) (end_point bytes) → pieces_stand bytes (pieces events) ≡ true → list_all is_named events ≡ true → (index : ℕ) → index < length bytes →
+pub bytes-held : (bytes : List ℕ) (events : List Event) → Covers first_point (pieces events) (end_point bytes) →
+    pieces_stand bytes (pieces events) ≡ true → list_all is_named events ≡ true → (index : ℕ) → index < length bytes →
     Holds bytes (pieces events) index
-bytes-held bytes events covers stand named index h = pieces-hold bytes first_point (end_point bytes) (pieces events) index covers stand (all-named events named) (first-before index) (end-behind bytes index h)
+bytes-held bytes events covers stand named index h =
+    pieces-hold bytes first_point (end_point bytes) (pieces events) index covers stand (all-named events named)
+    (first-before index) (end-behind bytes index h)
 
 -- A block list, where each chunk is called `Data`.
 
@@ -120,40 +157,55 @@ data-named name h = cc
 chunk-data : (e : Event) (es : List Event) → is_chunk e es ≡ true → is_data e.name ≡ true
 chunk-data e [] h = cc
 chunk-data e (f ∷ es) h =
-    let begun : not (is_exit e.kind) && is_data e.name && is_exit f.kind ≡ true = (and_parts (not (is_exit e.kind) && is_data e.name && is_exit f.kind) (is_data f.name) h).0 in
-    let named : not (is_exit e.kind) && is_data e.name ≡ true = (and_parts (not (is_exit e.kind) && is_data e.name) (is_exit f.kind) begun).0 in
+    let begun : not (is_exit e.kind) && is_data e.name && is_exit f.kind ≡
+    true = (and_parts (not (is_exit e.kind) && is_data e.name && is_exit f.kind) (is_data f.name) h).0 in
+    let named : not (is_exit e.kind) && is_data e.name ≡
+    true = (and_parts (not (is_exit e.kind) && is_data e.name) (is_exit f.kind) begun).0 in
     (and_parts (not (is_exit e.kind)) (is_data e.name) named).1
 
 -- an event in a text part, where chunks stand only in text parts, and what stands behind it
-inside-named : (depth : ℕ) (e : Event) (es : List Event) → chunks_stand (suc depth) (e ∷ es) ≡ true → (is_named e ≡ true) × ((behind : ℕ) × (chunks_stand behind es ≡ true))
+inside-named : (depth : ℕ) (e : Event) (es : List Event) → chunks_stand (suc depth) (e ∷ es) ≡ true →
+    (is_named e ≡ true) × ((behind : ℕ) × (chunks_stand behind es ≡ true))
 inside-named depth e es h = go (is_part e.name) (is_linked e) h
   where
     behind : ℕ
     behind = depth_behind e.kind (suc depth)
 
     go : (part linked : Bool) →
-        cond part (is_exit e.kind && (depth == 0) && not linked && chunks_stand 0 es) ((cond linked ((depth == 0) && is_chunk e es) (stands_in_part e.kind e.name)) && chunks_stand behind es) ≡ true →
+        cond part (is_exit e.kind && (depth == 0) && not linked && chunks_stand 0 es)
+        ((cond linked ((depth == 0) && is_chunk e es) (stands_in_part e.kind e.name)) && chunks_stand behind es) ≡
+        true →
         ((not linked || is_piece_name e.name) ≡ true) × ((behind : ℕ) × (chunks_stand behind es ≡ true))
     go true linked h =
-        let both : (is_exit e.kind && (depth == 0) && not linked ≡ true) × (chunks_stand 0 es ≡ true) = and_parts (is_exit e.kind && (depth == 0) && not linked) (chunks_stand 0 es) h in
-        (or_left (not linked) (is_piece_name e.name) (and_parts (is_exit e.kind && (depth == 0)) (not linked) both.0).1, (0, both.1))
+        let both : (is_exit e.kind && (depth == 0) && not linked ≡ true) ×
+        (chunks_stand 0 es ≡ true) = and_parts (is_exit e.kind && (depth == 0) && not linked)
+        (chunks_stand 0 es) h in (
+          or_left (not linked) (is_piece_name e.name)
+              (and_parts (is_exit e.kind && (depth == 0)) (not linked) both.0).1,
+          (0, both.1),
+        )
     go false true h =
-        let both : ((depth == 0) && is_chunk e es ≡ true) × (chunks_stand behind es ≡ true) = and_parts ((depth == 0) && is_chunk e es) (chunks_stand behind es) h in
+        let both : ((depth == 0) && is_chunk e es ≡ true) ×
+        (chunks_stand behind es ≡ true) = and_parts ((depth == 0) && is_chunk e es) (chunks_stand behind es) h in
         (data-named e.name (chunk-data e es (and_parts (depth == 0) (is_chunk e es) both.0).1), (behind, both.1))
     go false false h = (refl, (behind, (and_parts (stands_in_part e.kind e.name) (chunks_stand behind es) h).1))
 
 -- all events
-pub chunks-named : (depth : ℕ) (events : List Event) → chunks_stand depth events ≡ true → list_all is_named events ≡ true
+pub chunks-named : (depth : ℕ) (events : List Event) → chunks_stand depth events ≡ true →
+    list_all is_named events ≡ true
 chunks-named depth [] h = refl
 chunks-named zero (e ∷ es) h =
     let behind : ℕ = cond (is_part e.name && not (is_exit e.kind)) 1 0 in
-    let both : (not (is_linked e) ≡ true) × (chunks_stand behind es ≡ true) = and_parts (not (is_linked e)) (chunks_stand behind es) h in
-    and_from (is_named e) (list_all is_named es) (or_left (not (is_linked e)) (is_piece_name e.name) both.0) (chunks-named behind es both.1)
+    let both : (not (is_linked e) ≡ true) ×
+    (chunks_stand behind es ≡ true) = and_parts (not (is_linked e)) (chunks_stand behind es) h in
+    and_from (is_named e) (list_all is_named es) (or_left (not (is_linked e)) (is_piece_name e.name) both.0)
+    (chunks-named behind es both.1)
 chunks-named (suc depth) (e ∷ es) h =
     let both : (is_named e ≡ true) × ((behind : ℕ) × (chunks_stand behind es ≡ true)) = inside-named depth e es h in
     and_from (is_named e) (list_all is_named es) both.0 (chunks-named both.1.0 es both.1.1)
 
 -- So every byte of a text stands in a piece of its block list.
-pub blocks-held : (bytes : List ℕ) (blocks : List Event) → Covers first_point (pieces blocks) (end_point bytes) → pieces_stand bytes (pieces blocks) ≡ true → chunks_stand 0 blocks ≡ true → (index : ℕ) → index < length bytes →
+pub blocks-held : (bytes : List ℕ) (blocks : List Event) → Covers first_point (pieces blocks) (end_point bytes) →
+    pieces_stand bytes (pieces blocks) ≡ true → chunks_stand 0 blocks ≡ true → (index : ℕ) → index < length bytes →
     Holds bytes (pieces blocks) index
 blocks-held bytes blocks covers stand chunks = bytes-held bytes blocks covers stand (chunks-named 0 blocks chunks)

@@ -1,5 +1,6 @@
 -- The plain layer keeps the promise of all inline layers.
-use Rattle.std.proofs.Common.{◌≡◌, ℕ, suc, ◌+◌, ◌-◌, ◌≤◌, Bool, true, false, cond, ◌&&◌, List, [], ◌∷◌, ◌++◌, length, take, drop, refl, ap, sym, ◌∙◌, subst, append_assoc, arith}
+use Rattle.std.proofs.Common.{◌≡◌, ℕ, suc, ◌+◌, ◌-◌, ◌≤◌, Bool, true, false, cond, ◌&&◌, List, [], ◌∷◌, ◌++◌, length}
+use Rattle.std.proofs.Common.{take, drop, refl, ap, sym, ◌∙◌, subst, append_assoc, arith}
 use Rattle.std.specs.Prelude.{◌==◌, IsTrue, not}
 use Rattle.std.specs.List.{list_all, prefix_len}
 use Rattle.std.proofs.lemmas.List.{append-nil, take-append-drop, length-take}
@@ -12,12 +13,17 @@ use Rattle.md_engine.specs.declared.event.Name.{Name}
 use Rattle.md_engine.specs.declared.event.Name.TheVariants as n
 use Rattle.md_seam.specs.declared.inline.Chunk.{Chunk}
 use Rattle.md_definition.specs.Lines.{is_ending, without_ending}
-use Rattle.md_seam.specs.Events.Places.{first_point, is_placed, are_placed, same_place, at_or_before, past_byte, past_text}
+use Rattle.md_seam.specs.Events.Places.{first_point, is_placed, are_placed, same_place, at_or_before, past_byte}
+use Rattle.md_seam.specs.Events.Places.{past_text}
 use Rattle.md_seam.specs.Events.Nested.{pair, Balanced, Forward, last_point}
-use Rattle.md_seam.specs.Events.Inline.{Part, pieces, Covers, in_order, chunk_placed, chunk_text, line_end, pair_unless_empty, endings_of, plain_chunk, plain_chunks, together, plain_events, is_inline, is_line_ending, line_endings, Fills, Framed, IsPart, KeepsFrame}
+use Rattle.md_seam.specs.Events.Inline.{Part, pieces, Covers, in_order, chunk_placed, chunk_text, line_end}
+use Rattle.md_seam.specs.Events.Inline.{pair_unless_empty, endings_of, plain_chunk, plain_chunks, together}
+use Rattle.md_seam.specs.Events.Inline.{plain_events, is_inline, is_line_ending, line_endings, Fills, Framed, IsPart}
+use Rattle.md_seam.specs.Events.Inline.{KeepsFrame}
 use Rattle.md_definition.proofs.TextsLemmas.{NoEnding}
 use Rattle.md_seam.proofs.PlacesLemmas.{all-append, placed-facts, placed-from, placed-text}
-use Rattle.md_seam.proofs.NestedLemmas.{balanced-none, balanced-append, at_or_before-refl, at_or_before-trans, forward-from}
+use Rattle.md_seam.proofs.NestedLemmas.{balanced-none, balanced-append, at_or_before-refl, at_or_before-trans}
+use Rattle.md_seam.proofs.NestedLemmas.{forward-from}
 
 -- Places.
 
@@ -28,11 +34,14 @@ pub same-trans : (p q r : Point) → same_place p q ≡ true → same_place q r 
 same-trans p q r h k =
     let first : (p.index == q.index ≡ true) × (p.vs == q.vs ≡ true) = and_parts (p.index == q.index) (p.vs == q.vs) h in
     let next : (q.index == r.index ≡ true) × (q.vs == r.vs ≡ true) = and_parts (q.index == r.index) (q.vs == r.vs) k in
-    and_from _ _ (eq-eqb p.index r.index (eqb-true _ _ first.0 ∙ eqb-true _ _ next.0)) (eq-eqb p.vs r.vs (eqb-true _ _ first.1 ∙ eqb-true _ _ next.1))
+    and_from _ _ (eq-eqb p.index r.index (eqb-true _ _ first.0 ∙ eqb-true _ _ next.0))
+    (eq-eqb p.vs r.vs (eqb-true _ _ first.1 ∙ eqb-true _ _ next.1))
 
 pub past-index : (text : List ℕ) (p : Point) → (past_text text p).index ≡ p.index + length text
 past-index [] p = omega arith
-past-index (b ∷ text) p = let h : (past_text text (past_byte b p)).index ≡ (p.index + 1) + length text = past-index text (past_byte b p) in omega arith
+past-index (b ∷ text) p =
+    let h : (past_text text (past_byte b p)).index ≡ (p.index + 1) + length text = past-index text (past_byte b p) in
+    omega arith
 
 pub past-vs : (b : ℕ) (text : List ℕ) (p : Point) → (past_text (b ∷ text) p).vs ≡ 0
 past-vs b [] p = refl
@@ -54,14 +63,18 @@ before-text (b ∷ text) p = further (past_text (b ∷ text) p) (past-index (b �
 
 pub line-no_ending : (text : List ℕ) → NoEnding (without_ending text)
 line-no_ending [] = tt
-line-no_ending (b ∷ text) = subst NoEnding (sym (take_while-cons (λ (b : ℕ). not (is_ending b)) b text)) (go (is_ending b) refl (line-no_ending text))
+line-no_ending (b ∷ text) =
+    subst NoEnding (sym (take_while-cons (λ (b : ℕ). not (is_ending b)) b text))
+    (go (is_ending b) refl (line-no_ending text))
   where
-    go : (x : Bool) → is_ending b ≡ x → NoEnding (without_ending text) → NoEnding (cond (not x) (b ∷ without_ending text) [])
+    go : (x : Bool) → is_ending b ≡ x → NoEnding (without_ending text) →
+        NoEnding (cond (not x) (b ∷ without_ending text) [])
     go true e rest = tt
     go false e rest = (e, rest)
 
 -- it stands at the front of the chunk, and so in the text
-line-next : (bytes : List ℕ) (chunk : Chunk) → (rest : List ℕ) × (drop chunk.first.index bytes ≡ without_ending (chunk_text bytes chunk) ++ rest)
+line-next : (bytes : List ℕ) (chunk : Chunk) →
+    (rest : List ℕ) × (drop chunk.first.index bytes ≡ without_ending (chunk_text bytes chunk) ++ rest)
 line-next bytes chunk =
     let size : ℕ = chunk.after.index - chunk.first.index in
     let behind : List ℕ = drop chunk.first.index bytes in
@@ -73,7 +86,8 @@ line-next bytes chunk =
     )
 
 -- it is no longer than the chunk
-pub line-length : (bytes : List ℕ) (chunk : Chunk) → length (without_ending (chunk_text bytes chunk)) ≤ chunk.after.index - chunk.first.index
+pub line-length : (bytes : List ℕ) (chunk : Chunk) →
+    length (without_ending (chunk_text bytes chunk)) ≤ chunk.after.index - chunk.first.index
 line-length bytes chunk =
     let size : ℕ = chunk.after.index - chunk.first.index in
     let behind : List ℕ = drop chunk.first.index bytes in
@@ -85,7 +99,8 @@ line-length bytes chunk =
 pub end-behind : (bytes : List ℕ) (chunk : Chunk) → IsTrue (at_or_before chunk.first (line_end bytes chunk))
 end-behind bytes chunk = before-text (without_ending (chunk_text bytes chunk)) chunk.first
 
-pub end-before : (bytes : List ℕ) (chunk : Chunk) → IsTrue (at_or_before chunk.first chunk.after) → IsTrue (at_or_before (line_end bytes chunk) chunk.after)
+pub end-before : (bytes : List ℕ) (chunk : Chunk) → IsTrue (at_or_before chunk.first chunk.after) →
+    IsTrue (at_or_before (line_end bytes chunk) chunk.after)
 end-before bytes chunk h = go (without_ending (chunk_text bytes chunk)) (line-length bytes chunk)
   where
     index : (p q : Point) → IsTrue (at_or_before p q) → p.index ≤ q.index
@@ -94,18 +109,23 @@ end-before bytes chunk h = go (without_ending (chunk_text bytes chunk)) (line-le
     before : (p q : Point) → p.index ≤ q.index → p.vs ≡ 0 → IsTrue (at_or_before p q)
     before p q h e = grind (arith, nat_tests)
 
-    go : (line : List ℕ) → length line ≤ chunk.after.index - chunk.first.index → IsTrue (at_or_before (past_text line chunk.first) chunk.after)
+    go : (line : List ℕ) → length line ≤ chunk.after.index - chunk.first.index →
+        IsTrue (at_or_before (past_text line chunk.first) chunk.after)
     go [] small = h
     go (b ∷ line) small =
         let i : chunk.first.index ≤ chunk.after.index = index chunk.first chunk.after h in
-        let e : (past_text (b ∷ line) chunk.first).index ≡ chunk.first.index + length (b ∷ line) = past-index (b ∷ line) chunk.first in
+        let e : (past_text (b ∷ line) chunk.first).index ≡
+        chunk.first.index + length (b ∷ line) = past-index (b ∷ line) chunk.first in
         before (past_text (b ∷ line) chunk.first) chunk.after (omega (arith, small)) (past-vs b line chunk.first)
 
-pub end-placed : (bytes : List ℕ) (chunk : Chunk) → is_placed bytes chunk.first ≡ true → is_placed bytes (line_end bytes chunk) ≡ true
+pub end-placed : (bytes : List ℕ) (chunk : Chunk) → is_placed bytes chunk.first ≡ true →
+    is_placed bytes (line_end bytes chunk) ≡ true
 end-placed bytes chunk h =
     let line : List ℕ = without_ending (chunk_text bytes chunk) in
     let next : (rest : List ℕ) × (drop chunk.first.index bytes ≡ line ++ rest) = line-next bytes chunk in
-    placed-from bytes (line_end bytes chunk) (placed-text bytes chunk.first line next.0 (placed-facts bytes chunk.first h) next.1 (line-no_ending (chunk_text bytes chunk)))
+    placed-from bytes (line_end bytes chunk)
+    (placed-text bytes chunk.first line next.0 (placed-facts bytes chunk.first h) next.1
+    (line-no_ending (chunk_text bytes chunk)))
 
 -- A pair, or nothing.
 
@@ -116,21 +136,24 @@ balanced-pair name p q = go (same_place p q)
     go true = balanced-none
     go false = record { matches = (tt, (refl, tt)); closed = refl }
 
-placed-pair : (bytes : List ℕ) (name : Name) (p q : Point) → is_placed bytes p ≡ true → is_placed bytes q ≡ true → are_placed bytes (pair_unless_empty name p q) ≡ true
+placed-pair : (bytes : List ℕ) (name : Name) (p q : Point) → is_placed bytes p ≡ true → is_placed bytes q ≡ true →
+    are_placed bytes (pair_unless_empty name p q) ≡ true
 placed-pair bytes name p q h k = go (same_place p q)
   where
     go : (x : Bool) → are_placed bytes (cond x [] (pair name p q)) ≡ true
     go true = refl
     go false = and_from (is_placed bytes p) (is_placed bytes q && true) h (and_from (is_placed bytes q) true k refl)
 
-inline-pair : (name : Name) (p q : Point) → is_inline name ≡ true → list_all (λ (e : Event). is_inline e.name) (pair_unless_empty name p q) ≡ true
+inline-pair : (name : Name) (p q : Point) → is_inline name ≡ true →
+    list_all (λ (e : Event). is_inline e.name) (pair_unless_empty name p q) ≡ true
 inline-pair name p q h = go (same_place p q)
   where
     go : (x : Bool) → list_all (λ (e : Event). is_inline e.name) (cond x [] (pair name p q)) ≡ true
     go true = refl
     go false = and_from (is_inline name) (is_inline name && true) h (and_from (is_inline name) true h refl)
 
-forward-pair : (o : Point) (name : Name) (p q : Point) (es : List Event) → IsTrue (at_or_before o p) → IsTrue (at_or_before p q) → Forward q es → Forward o (pair_unless_empty name p q ++ es)
+forward-pair : (o : Point) (name : Name) (p q : Point) (es : List Event) → IsTrue (at_or_before o p) →
+    IsTrue (at_or_before p q) → Forward q es → Forward o (pair_unless_empty name p q ++ es)
 forward-pair o name p q es h k f = go (same_place p q)
   where
     go : (x : Bool) → Forward o (cond x [] (pair name p q) ++ es)
@@ -141,7 +164,9 @@ endings-append : (xs ys : List Event) → line_endings (xs ++ ys) ≡ line_endin
 endings-append [] ys = refl
 endings-append (e ∷ xs) ys = go (is_line_ending e.name) (endings-append xs ys)
   where
-    go : (x : Bool) → line_endings (xs ++ ys) ≡ line_endings xs ++ line_endings ys → cond x (e ∷ line_endings (xs ++ ys)) (line_endings (xs ++ ys)) ≡ cond x (e ∷ line_endings xs) (line_endings xs) ++ line_endings ys
+    go : (x : Bool) → line_endings (xs ++ ys) ≡ line_endings xs ++ line_endings ys →
+        cond x (e ∷ line_endings (xs ++ ys)) (line_endings (xs ++ ys)) ≡
+        cond x (e ∷ line_endings xs) (line_endings xs) ++ line_endings ys
     go true h = ap (λ (l : List Event). e ∷ l) h
     go false h = h
 
@@ -165,76 +190,111 @@ plain-balanced : (bytes : List ℕ) (chunks : List Chunk) → Balanced (together
 plain-balanced bytes [] = balanced-none
 plain-balanced bytes (chunk ∷ chunks) =
     balanced-append (plain_chunk bytes chunk) (together (plain_chunks bytes chunks))
-    (balanced-append (pair_unless_empty n.Data chunk.first (line_end bytes chunk)) (pair_unless_empty n.LineEnding (line_end bytes chunk) chunk.after) (balanced-pair n.Data chunk.first (line_end bytes chunk)) (balanced-pair n.LineEnding (line_end bytes chunk) chunk.after))
+    (balanced-append (pair_unless_empty n.Data chunk.first (line_end bytes chunk))
+    (pair_unless_empty n.LineEnding (line_end bytes chunk) chunk.after)
+    (balanced-pair n.Data chunk.first (line_end bytes chunk))
+    (balanced-pair n.LineEnding (line_end bytes chunk) chunk.after))
     (plain-balanced bytes chunks)
 
-last-pair : (o : Point) (name : Name) (p q : Point) → IsTrue (at_or_before o p) → IsTrue (at_or_before p q) → (es : List Event) (r : Point) → ((o : Point) → IsTrue (at_or_before o q) → IsTrue (at_or_before (last_point o es) r)) → IsTrue (at_or_before (last_point o (pair_unless_empty name p q ++ es)) r)
+last-pair : (o : Point) (name : Name) (p q : Point) → IsTrue (at_or_before o p) → IsTrue (at_or_before p q) →
+    (es : List Event) (r : Point) →
+    ((o : Point) → IsTrue (at_or_before o q) → IsTrue (at_or_before (last_point o es) r)) →
+    IsTrue (at_or_before (last_point o (pair_unless_empty name p q ++ es)) r)
 last-pair o name p q h k es r rest = go (same_place p q)
   where
     go : (x : Bool) → IsTrue (at_or_before (last_point o (cond x [] (pair name p q) ++ es)) r)
     go true = rest o (at_or_before-trans o p q h k)
     go false = rest q (at_or_before-refl q)
 
-plain-forward : (bytes : List ℕ) (chunk : Chunk) → IsTrue (at_or_before chunk.first chunk.after) → Forward chunk.first (plain_chunk bytes chunk)
+plain-forward : (bytes : List ℕ) (chunk : Chunk) → IsTrue (at_or_before chunk.first chunk.after) →
+    Forward chunk.first (plain_chunk bytes chunk)
 plain-forward bytes chunk h =
     let end : Point = line_end bytes chunk in
-    forward-pair chunk.first n.Data chunk.first end (pair_unless_empty n.LineEnding end chunk.after) (at_or_before-refl chunk.first) (end-behind bytes chunk)
-    (subst (Forward end) (append-nil (pair_unless_empty n.LineEnding end chunk.after)) (forward-pair end n.LineEnding end chunk.after [] (at_or_before-refl end) (end-before bytes chunk h) tt))
+    forward-pair chunk.first n.Data chunk.first end (pair_unless_empty n.LineEnding end chunk.after)
+    (at_or_before-refl chunk.first) (end-behind bytes chunk)
+    (subst (Forward end) (append-nil (pair_unless_empty n.LineEnding end chunk.after))
+    (forward-pair end n.LineEnding end chunk.after [] (at_or_before-refl end) (end-before bytes chunk h) tt))
 
-plain-last : (bytes : List ℕ) (chunk : Chunk) → IsTrue (at_or_before chunk.first chunk.after) → IsTrue (at_or_before (last_point chunk.first (plain_chunk bytes chunk)) chunk.after)
+plain-last : (bytes : List ℕ) (chunk : Chunk) → IsTrue (at_or_before chunk.first chunk.after) →
+    IsTrue (at_or_before (last_point chunk.first (plain_chunk bytes chunk)) chunk.after)
 plain-last bytes chunk h =
     let end : Point = line_end bytes chunk in
-    last-pair chunk.first n.Data chunk.first end (at_or_before-refl chunk.first) (end-behind bytes chunk) (pair_unless_empty n.LineEnding end chunk.after) chunk.after
-    (λ o before. subst (λ (l : List Event). IsTrue (at_or_before (last_point o l) chunk.after)) (append-nil (pair_unless_empty n.LineEnding end chunk.after))
+    last-pair chunk.first n.Data chunk.first end (at_or_before-refl chunk.first) (end-behind bytes chunk)
+    (pair_unless_empty n.LineEnding end chunk.after) chunk.after
+    (λ o before. subst (λ (l : List Event). IsTrue (at_or_before (last_point o l) chunk.after))
+    (append-nil (pair_unless_empty n.LineEnding end chunk.after))
     (last-pair o n.LineEnding end chunk.after before (end-before bytes chunk h) [] chunk.after (λ o h. h)))
 
-plain-placed : (bytes : List ℕ) (chunks : List Chunk) → list_all (chunk_placed bytes) chunks ≡ true → are_placed bytes (together (plain_chunks bytes chunks)) ≡ true
+plain-placed : (bytes : List ℕ) (chunks : List Chunk) → list_all (chunk_placed bytes) chunks ≡ true →
+    are_placed bytes (together (plain_chunks bytes chunks)) ≡ true
 plain-placed bytes [] h = refl
 plain-placed bytes (chunk ∷ chunks) h =
-    let outer : (chunk_placed bytes chunk ≡ true) × (list_all (chunk_placed bytes) chunks ≡ true) = and_parts (chunk_placed bytes chunk) (list_all (chunk_placed bytes) chunks) h in
-    let inner : (is_placed bytes chunk.first ≡ true) × (is_placed bytes chunk.after ≡ true) = and_parts (is_placed bytes chunk.first) (is_placed bytes chunk.after) outer.0 in
+    let outer : (chunk_placed bytes chunk ≡ true) ×
+    (list_all (chunk_placed bytes) chunks ≡ true) = and_parts (chunk_placed bytes chunk)
+    (list_all (chunk_placed bytes) chunks) h in
+    let inner : (is_placed bytes chunk.first ≡ true) ×
+    (is_placed bytes chunk.after ≡ true) = and_parts (is_placed bytes chunk.first)
+    (is_placed bytes chunk.after) outer.0 in
     let ends : is_placed bytes (line_end bytes chunk) ≡ true = end-placed bytes chunk inner.0 in
     all-append (λ (e : Event). is_placed bytes e.point) (plain_chunk bytes chunk) (together (plain_chunks bytes chunks))
-    (all-append (λ (e : Event). is_placed bytes e.point) (pair_unless_empty n.Data chunk.first (line_end bytes chunk)) (pair_unless_empty n.LineEnding (line_end bytes chunk) chunk.after)
+    (all-append (λ (e : Event). is_placed bytes e.point) (pair_unless_empty n.Data chunk.first (line_end bytes chunk))
+    (pair_unless_empty n.LineEnding (line_end bytes chunk) chunk.after)
     (placed-pair bytes n.Data chunk.first (line_end bytes chunk) inner.0 ends)
     (placed-pair bytes n.LineEnding (line_end bytes chunk) chunk.after ends inner.1))
     (plain-placed bytes chunks outer.1)
 
-plain-inline : (bytes : List ℕ) (chunks : List Chunk) → list_all (λ (e : Event). is_inline e.name) (together (plain_chunks bytes chunks)) ≡ true
+plain-inline : (bytes : List ℕ) (chunks : List Chunk) →
+    list_all (λ (e : Event). is_inline e.name) (together (plain_chunks bytes chunks)) ≡ true
 plain-inline bytes [] = refl
 plain-inline bytes (chunk ∷ chunks) =
     all-append (λ (e : Event). is_inline e.name) (plain_chunk bytes chunk) (together (plain_chunks bytes chunks))
-    (all-append (λ (e : Event). is_inline e.name) (pair_unless_empty n.Data chunk.first (line_end bytes chunk)) (pair_unless_empty n.LineEnding (line_end bytes chunk) chunk.after)
+    (all-append (λ (e : Event). is_inline e.name) (pair_unless_empty n.Data chunk.first (line_end bytes chunk))
+    (pair_unless_empty n.LineEnding (line_end bytes chunk) chunk.after)
     (inline-pair n.Data chunk.first (line_end bytes chunk) refl)
     (inline-pair n.LineEnding (line_end bytes chunk) chunk.after refl))
     (plain-inline bytes chunks)
 
-plain-endings : (bytes : List ℕ) (chunks : List Chunk) → line_endings (together (plain_chunks bytes chunks)) ≡ endings_of bytes chunks
+plain-endings : (bytes : List ℕ) (chunks : List Chunk) →
+    line_endings (together (plain_chunks bytes chunks)) ≡ endings_of bytes chunks
 plain-endings bytes [] = refl
 plain-endings bytes (chunk ∷ chunks) =
     let content : List Event = pair_unless_empty n.Data chunk.first (line_end bytes chunk) in
     let ending : List Event = pair_unless_empty n.LineEnding (line_end bytes chunk) chunk.after in
     endings-append (content ++ ending) (together (plain_chunks bytes chunks))
     ∙ ap (λ (l : List Event). l ++ line_endings (together (plain_chunks bytes chunks)))
-    (endings-append content ending ∙ ap (λ (l : List Event). l ++ line_endings ending) (endings-data chunk.first (line_end bytes chunk)) ∙ endings-ending (line_end bytes chunk) chunk.after)
+    (endings-append content ending
+    ∙ ap (λ (l : List Event). l ++ line_endings ending) (endings-data chunk.first (line_end bytes chunk))
+    ∙ endings-ending (line_end bytes chunk) chunk.after)
     ∙ ap (λ (l : List Event). ending ++ l) (plain-endings bytes chunks)
 
 plain-covers : (bytes : List ℕ) (chunk : Chunk) → Covers chunk.first (pieces (plain_chunk bytes chunk)) chunk.after
-plain-covers bytes chunk = go (line_end bytes chunk) (same_place chunk.first (line_end bytes chunk)) refl (same_place (line_end bytes chunk) chunk.after) refl
+plain-covers bytes chunk =
+    go (line_end bytes chunk) (same_place chunk.first (line_end bytes chunk)) refl
+    (same_place (line_end bytes chunk) chunk.after) refl
   where
     go : (end : Point) (x : Bool) → same_place chunk.first end ≡ x → (y : Bool) → same_place end chunk.after ≡ y →
-        Covers chunk.first (pieces (cond x [] (pair n.Data chunk.first end) ++ cond y [] (pair n.LineEnding end chunk.after))) chunk.after
+        Covers chunk.first
+        (pieces (cond x [] (pair n.Data chunk.first end) ++ cond y [] (pair n.LineEnding end chunk.after))) chunk.after
     go end true h true k = same-trans chunk.first end chunk.after h k
     go end true h false k = (h, same-refl chunk.after)
     go end false h true k = (same-refl chunk.first, k)
     go end false h false k = (same-refl chunk.first, (same-refl end, same-refl chunk.after))
 
-pub plain-fills : (bytes : List ℕ) (p : Point) (chunks : List Chunk) → in_order p chunks ≡ true → Fills chunks (plain_chunks bytes chunks)
+pub plain-fills : (bytes : List ℕ) (p : Point) (chunks : List Chunk) → in_order p chunks ≡ true →
+    Fills chunks (plain_chunks bytes chunks)
 plain-fills bytes p [] h = tt
 plain-fills bytes p (chunk ∷ chunks) h =
-    let outer : (at_or_before p chunk.first && at_or_before chunk.first chunk.after ≡ true) × (in_order chunk.after chunks ≡ true) = and_parts (at_or_before p chunk.first && at_or_before chunk.first chunk.after) (in_order chunk.after chunks) h in
-    let inner : (at_or_before p chunk.first ≡ true) × (at_or_before chunk.first chunk.after ≡ true) = and_parts (at_or_before p chunk.first) (at_or_before chunk.first chunk.after) outer.0 in
-    (plain-forward bytes chunk inner.1, plain-last bytes chunk inner.1, plain-covers bytes chunk, plain-fills bytes chunk.after chunks outer.1)
+    let outer : (at_or_before p chunk.first && at_or_before chunk.first chunk.after ≡ true) ×
+    (in_order chunk.after chunks ≡ true) = and_parts
+    (at_or_before p chunk.first && at_or_before chunk.first chunk.after) (in_order chunk.after chunks) h in
+    let inner : (at_or_before p chunk.first ≡ true) ×
+    (at_or_before chunk.first chunk.after ≡ true) = and_parts (at_or_before p chunk.first)
+    (at_or_before chunk.first chunk.after) outer.0 in (
+      plain-forward bytes chunk inner.1,
+      plain-last bytes chunk inner.1,
+      plain-covers bytes chunk,
+      plain-fills bytes chunk.after chunks outer.1,
+    )
 
 -- What the plain layer gives for a text part keeps the promise of every layer.
 pub plain-framed : (bytes : List ℕ) (part : Part) → IsPart bytes part → Framed bytes part (plain_events bytes part)

@@ -12,11 +12,13 @@ use Rattle.md_seam.specs.Events.Nested.{open_behind, open_after, Fits, Matches, 
 
 -- Open names.
 
-pub open_after-append : (names : List Name) (xs ys : List Event) → open_after names (xs ++ ys) ≡ open_after (open_after names xs) ys
+pub open_after-append : (names : List Name) (xs ys : List Event) →
+    open_after names (xs ++ ys) ≡ open_after (open_after names xs) ys
 open_after-append names [] ys = refl
 open_after-append names (e ∷ xs) ys = open_after-append (open_behind names e.kind e.name) xs ys
 
-pub matches-append : (names : List Name) (xs ys : List Event) → Matches names xs → Matches (open_after names xs) ys → Matches names (xs ++ ys)
+pub matches-append : (names : List Name) (xs ys : List Event) → Matches names xs → Matches (open_after names xs) ys →
+    Matches names (xs ++ ys)
 matches-append names [] ys m k = k
 matches-append names (e ∷ xs) ys m k = (m.0, matches-append (open_behind names e.kind e.name) xs ys m.1 k)
 
@@ -24,23 +26,27 @@ pub matches-front : (names : List Name) (xs ys : List Event) → Matches names (
 matches-front names [] ys m = tt
 matches-front names (e ∷ xs) ys m = (m.0, matches-front (open_behind names e.kind e.name) xs ys m.1)
 
-pub matches-rest : (names : List Name) (xs ys : List Event) → Matches names (xs ++ ys) → Matches (open_after names xs) ys
+pub matches-rest : (names : List Name) (xs ys : List Event) → Matches names (xs ++ ys) →
+    Matches (open_after names xs) ys
 matches-rest names [] ys m = m
 matches-rest names (e ∷ xs) ys m = matches-rest (open_behind names e.kind e.name) xs ys m.1
 
 -- What is open around some events does not matter to them.
 
-open_behind-under : (names outer : List Name) (kind : Kind) (name : Name) → Fits names kind name → open_behind (names ++ outer) kind name ≡ open_behind names kind name ++ outer
+open_behind-under : (names outer : List Name) (kind : Kind) (name : Name) → Fits names kind name →
+    open_behind (names ++ outer) kind name ≡ open_behind names kind name ++ outer
 open_behind-under names outer Enter name f = refl
 open_behind-under [] outer Exit name f = absurd f
 open_behind-under (n ∷ names) outer Exit name f = refl
 
-fits-under : (names outer : List Name) (kind : Kind) (name : Name) → Fits names kind name → Fits (names ++ outer) kind name
+fits-under : (names outer : List Name) (kind : Kind) (name : Name) → Fits names kind name →
+    Fits (names ++ outer) kind name
 fits-under names outer Enter name f = tt
 fits-under [] outer Exit name f = absurd f
 fits-under (n ∷ names) outer Exit name f = f
 
-pub open_after-under : (names outer : List Name) (xs : List Event) → Matches names xs → open_after (names ++ outer) xs ≡ open_after names xs ++ outer
+pub open_after-under : (names outer : List Name) (xs : List Event) → Matches names xs →
+    open_after (names ++ outer) xs ≡ open_after names xs ++ outer
 open_after-under names outer [] m = refl
 open_after-under names outer (e ∷ xs) m =
     ap (λ (l : List Name). open_after l xs) (open_behind-under names outer e.kind e.name m.0)
@@ -50,7 +56,8 @@ pub matches-under : (names outer : List Name) (xs : List Event) → Matches name
 matches-under names outer [] m = tt
 matches-under names outer (e ∷ xs) m = (
   fits-under names outer e.kind e.name m.0,
-  subst (λ (l : List Name). Matches l xs) (sym (open_behind-under names outer e.kind e.name m.0)) (matches-under (open_behind names e.kind e.name) outer xs m.1),
+  subst (λ (l : List Name). Matches l xs) (sym (open_behind-under names outer e.kind e.name m.0))
+      (matches-under (open_behind names e.kind e.name) outer xs m.1),
 )
 
 -- Balanced events leave open what is open.
@@ -71,21 +78,28 @@ balanced-append xs ys b c = record {
 }
 
 -- balanced events stand in front of others, under open names
-pub matches-before : (names : List Name) (xs ys : List Event) → Balanced xs → Matches names ys → Matches names (xs ++ ys)
-matches-before names xs ys b m = matches-append names xs ys (balanced-matches names xs b) (subst (λ (l : List Name). Matches l ys) (sym (balanced-open names xs b)) m)
+pub matches-before : (names : List Name) (xs ys : List Event) → Balanced xs → Matches names ys →
+    Matches names (xs ++ ys)
+matches-before names xs ys b m =
+    matches-append names xs ys (balanced-matches names xs b)
+    (subst (λ (l : List Name). Matches l ys) (sym (balanced-open names xs b)) m)
 
-pub open_after-before : (names : List Name) (xs ys : List Event) → Balanced xs → open_after names (xs ++ ys) ≡ open_after names ys
-open_after-before names xs ys b = open_after-append names xs ys ∙ ap (λ (l : List Name). open_after l ys) (balanced-open names xs b)
+pub open_after-before : (names : List Name) (xs ys : List Event) → Balanced xs →
+    open_after names (xs ++ ys) ≡ open_after names ys
+open_after-before names xs ys b =
+    open_after-append names xs ys ∙ ap (λ (l : List Name). open_after l ys) (balanced-open names xs b)
 
 -- events between an enter, which may have a link, and its exit
-pub balanced-around : (e f : Event) (inside : List Event) → e.kind ≡ Enter → f.kind ≡ Exit → e.name ≡ f.name → Balanced inside → Balanced (e ∷ inside ++ f ∷ [])
+pub balanced-around : (e f : Event) (inside : List Event) → e.kind ≡ Enter → f.kind ≡ Exit → e.name ≡ f.name →
+    Balanced inside → Balanced (e ∷ inside ++ f ∷ [])
 balanced-around e f inside entered left named b =
     let opened : open_behind [] e.kind e.name ≡ e.name ∷ [] = ap (λ (k : Kind). open_behind [] k e.name) entered in
     record {
       matches = (
         subst (λ (k : Kind). Fits [] k e.name) (sym entered) tt,
         subst (λ (l : List Name). Matches l (inside ++ f ∷ [])) (sym opened)
-            (matches-before (e.name ∷ []) inside (f ∷ []) b (subst (λ (k : Kind). Fits (e.name ∷ []) k f.name) (sym left) named, tt)),
+            (matches-before (e.name ∷ []) inside (f ∷ []) b
+            (subst (λ (k : Kind). Fits (e.name ∷ []) k f.name) (sym left) named, tt)),
       );
       closed =
           ap (λ (l : List Name). open_after l (inside ++ f ∷ [])) opened
@@ -95,15 +109,20 @@ balanced-around e f inside entered left named b =
 
 -- Balanced events may stand anywhere among others.
 
-pub matches-insert : (names : List Name) (xs inside ys : List Event) → Balanced inside → Matches names (xs ++ ys) → Matches names (xs ++ (inside ++ ys))
+pub matches-insert : (names : List Name) (xs inside ys : List Event) → Balanced inside → Matches names (xs ++ ys) →
+    Matches names (xs ++ (inside ++ ys))
 matches-insert names xs inside ys b m =
-    matches-append names xs (inside ++ ys) (matches-front names xs ys m) (matches-before (open_after names xs) inside ys b (matches-rest names xs ys m))
+    matches-append names xs (inside ++ ys) (matches-front names xs ys m)
+    (matches-before (open_after names xs) inside ys b (matches-rest names xs ys m))
 
-pub open_after-insert : (names : List Name) (xs inside ys : List Event) → Balanced inside → open_after names (xs ++ (inside ++ ys)) ≡ open_after names (xs ++ ys)
+pub open_after-insert : (names : List Name) (xs inside ys : List Event) → Balanced inside →
+    open_after names (xs ++ (inside ++ ys)) ≡ open_after names (xs ++ ys)
 open_after-insert names xs inside ys b =
-    open_after-append names xs (inside ++ ys) ∙ open_after-before (open_after names xs) inside ys b ∙ sym (open_after-append names xs ys)
+    open_after-append names xs (inside ++ ys) ∙ open_after-before (open_after names xs) inside ys b
+    ∙ sym (open_after-append names xs ys)
 
-pub balanced-insert : (xs inside ys : List Event) → Balanced inside → Balanced (xs ++ ys) → Balanced (xs ++ (inside ++ ys))
+pub balanced-insert : (xs inside ys : List Event) → Balanced inside → Balanced (xs ++ ys) →
+    Balanced (xs ++ (inside ++ ys))
 balanced-insert xs inside ys b c = record {
   matches = matches-insert [] xs inside ys b c.matches;
   closed = open_after-insert [] xs inside ys b ∙ c.closed;
@@ -115,7 +134,8 @@ pub last_point-append : (p : Point) (xs ys : List Event) → last_point p (xs ++
 last_point-append p [] ys = refl
 last_point-append p (e ∷ xs) ys = last_point-append e.point xs ys
 
-pub forward-append : (p : Point) (xs ys : List Event) → Forward p xs → Forward (last_point p xs) ys → Forward p (xs ++ ys)
+pub forward-append : (p : Point) (xs ys : List Event) → Forward p xs → Forward (last_point p xs) ys →
+    Forward p (xs ++ ys)
 forward-append p [] ys f g = g
 forward-append p (e ∷ xs) ys f g = (f.0, forward-append e.point xs ys f.1 g)
 
@@ -130,7 +150,8 @@ forward-rest p (e ∷ xs) ys f = forward-rest e.point xs ys f.1
 pub at_or_before-refl : (p : Point) → IsTrue (at_or_before p p)
 at_or_before-refl p = grind (arith, common_steps)
 
-pub at_or_before-trans : (p q r : Point) → IsTrue (at_or_before p q) → IsTrue (at_or_before q r) → IsTrue (at_or_before p r)
+pub at_or_before-trans : (p q r : Point) → IsTrue (at_or_before p q) → IsTrue (at_or_before q r) →
+    IsTrue (at_or_before p r)
 at_or_before-trans p q r h k = grind (arith, common_steps)
 
 -- events that go forward from a point do so from any before it
@@ -145,12 +166,20 @@ forward-last p (e ∷ xs) f = at_or_before-trans p e.point (last_point e.point x
 -- Nested lists.
 
 -- a nested list goes on with balanced events
-pub nested-append : (xs ys : List Event) → Nested xs → Balanced ys → Forward (last_point first_point xs) ys → Nested (xs ++ ys)
-nested-append xs ys n b f = record { balanced = balanced-append xs ys n.balanced b; forward = forward-append first_point xs ys n.forward f }
+pub nested-append : (xs ys : List Event) → Nested xs → Balanced ys → Forward (last_point first_point xs) ys →
+    Nested (xs ++ ys)
+nested-append xs ys n b f = record {
+  balanced = balanced-append xs ys n.balanced b;
+  forward = forward-append first_point xs ys n.forward f;
+}
 
 -- a nested list inside a nested list: its points lie between those around it
-pub nested-insert : (xs inside ys : List Event) → Nested (xs ++ ys) → Balanced inside → Forward (last_point first_point xs) inside → Forward (last_point (last_point first_point xs) inside) ys → Nested (xs ++ (inside ++ ys))
+pub nested-insert : (xs inside ys : List Event) → Nested (xs ++ ys) → Balanced inside →
+    Forward (last_point first_point xs) inside → Forward (last_point (last_point first_point xs) inside) ys →
+    Nested (xs ++ (inside ++ ys))
 nested-insert xs inside ys n b f g = record {
   balanced = balanced-insert xs inside ys b n.balanced;
-  forward = forward-append first_point xs (inside ++ ys) (forward-front first_point xs ys n.forward) (forward-append (last_point first_point xs) inside ys f g);
+  forward =
+      forward-append first_point xs (inside ++ ys) (forward-front first_point xs ys n.forward)
+      (forward-append (last_point first_point xs) inside ys f g);
 }

@@ -1,20 +1,32 @@
 -- A construct that is off occurs nowhere in the tree of a text.
-use Rattle.std.proofs.Common.{◌≡◌, ℕ, zero, suc, Bool, true, false, cond, arith, ◌==◌, ◌&&◌, ◌||◌, List, [], ◌∷◌, ◌++◌, length, Option, Some, None, refl, ◌∙◌}
+use Rattle.std.proofs.Common.{◌≡◌, ℕ, zero, suc, Bool, true, false, cond, arith, ◌==◌, ◌&&◌, ◌||◌, List, [], ◌∷◌, ◌++◌}
+use Rattle.std.proofs.Common.{length, Option, Some, None, refl, ◌∙◌}
 use Rattle.std.proofs.lemmas.Bool.{and_from, and_parts, or_right}
 use Rattle.md_engine.specs.declared.configuration.ParseOptions.{ParseOptions}
-use Rattle.md_definition.specs.Containers.{Labelled, Marker, Taken, continues, footnote_by, footnote_continues, item_by, item_continues, opens, opens_footnote, opens_item, opens_quote, quote_taken}
+use Rattle.md_definition.specs.Containers.{Labelled, Marker, Taken, continues, footnote_by, footnote_continues, item_by}
+use Rattle.md_definition.specs.Containers.{item_continues, opens, opens_footnote, opens_item, opens_quote, quote_taken}
 use Rattle.md_definition.specs.Definition.{Defined, cut_definitions}
 use Rattle.md_definition.specs.Grouped.{grouped, grouped_block, with_front, with_item}
 use Rattle.md_definition.specs.Html.{HtmlKind, html_ends}
-use Rattle.md_definition.specs.Leaves.{ParagraphContext, Came, Finished, NoText, Opened, Text, break_at, closes, code_at, code_goes_on, fence_at, fence_from, fence_goes_on, goes_on, heading_at, html_at, html_by, html_goes_on, html_line, is_fence_marker, starts, table_at, table_by, table_goes_on, underline_depth, underlined, underlined_by}
+use Rattle.md_definition.specs.Leaves.{ParagraphContext, Came, Finished, NoText, Opened, Text, break_at, closes}
+use Rattle.md_definition.specs.Leaves.{code_at, code_goes_on, fence_at, fence_from, fence_goes_on, goes_on, heading_at}
+use Rattle.md_definition.specs.Leaves.{html_at, html_by, html_goes_on, html_line, is_fence_marker, starts, table_at}
+use Rattle.md_definition.specs.Leaves.{table_by, table_goes_on, underline_depth, underlined, underlined_by}
 use Rattle.md_definition.specs.Lines.{lines_of}
 use Rattle.md_definition.specs.Meaning.{tree}
 use Rattle.md_seam.specs.Events.On.{are_on, is_on, is_setext_depth}
 use Rattle.md_definition.specs.Preamble.{Front, front_by, first_column, front_of, preamble_by, rests_at, without_mark}
 use Rattle.md_definition.specs.Rest.{Rest, is_blank, line_of, lose}
-use Rattle.md_definition.specs.State.{At, Container, InFootnote, InItem, InQuote, Kept, Leaf, NoLeaf, OpenCode, OpenFence, OpenHtml, OpenParagraph, OpenTable, Opening, Path, Spot, Within, at_spot, closed, container_block, cut, fence_block, shut, shut_paragraph, spot, texts, then_block, then_definitions, then_leaf, then_paragraph}
-use Rattle.md_definition.specs.Step.{all_continued, all_continued_by, came, leaf_line_by, on_or_fresh, row_or_text, entered, fresh_by, fresh_line, is_concrete, is_open_text, stopped_by, leaf_line, lazy_by, opened, spot_of, step, steps, stopped, text_by, text_line, underline_or_text, with_lazy}
-use Rattle.md_definition.specs.Tree.{Block, Blocks, Definition, End, Fence, Footnote, Heading, Html, Item, Line, ListOf, Math, More, Paragraph, Quote, Table}
+use Rattle.md_definition.specs.State.{At, Container, InFootnote, InItem, InQuote, Kept, Leaf, NoLeaf, OpenCode}
+use Rattle.md_definition.specs.State.{OpenFence, OpenHtml, OpenParagraph, OpenTable, Opening, Path, Spot, Within}
+use Rattle.md_definition.specs.State.{at_spot, closed, container_block, cut, fence_block, shut, shut_paragraph, spot}
+use Rattle.md_definition.specs.State.{texts, then_block, then_definitions, then_leaf, then_paragraph}
+use Rattle.md_definition.specs.Step.{all_continued, all_continued_by, came, leaf_line_by, on_or_fresh, row_or_text}
+use Rattle.md_definition.specs.Step.{entered, fresh_by, fresh_line, is_concrete, is_open_text, stopped_by, leaf_line}
+use Rattle.md_definition.specs.Step.{lazy_by, opened, spot_of, step, steps, stopped, text_by, text_line}
+use Rattle.md_definition.specs.Step.{underline_or_text, with_lazy}
+use Rattle.md_definition.specs.Tree.{Block, Blocks, Definition, End, Fence, Footnote, Heading, Html, Item, Line, ListOf}
+use Rattle.md_definition.specs.Tree.{Math, More, Paragraph, Quote, Table}
 use Rattle.md_definition.proofs.ColumnLemmas.{opened_by, step_by}
 use Rattle.md_definition.proofs.FindsLemmas.{Finds, first-found, none-found, some-found, unless-found, when-found}
 use Rattle.md_definition.proofs.QuoteLaw.{tree_by}
@@ -41,7 +53,8 @@ definitions-on : (options : ParseOptions) (bs : Blocks) (ds : List Defined) → 
     are_on options bs ≡ true → are_on options (then_definitions bs ds) ≡ true
 definitions-on options bs [] on h = h
 definitions-on options bs (d ∷ ds) on h =
-    definitions-on options (then_block bs (Definition d.label d.destination d.title)) ds on (then-on options bs (Definition d.label d.destination d.title) h on)
+    definitions-on options (then_block bs (Definition d.label d.destination d.title)) ds on
+    (then-on options bs (Definition d.label d.destination d.title) h on)
 
 -- the definitions that are cut from the front of a paragraph
 cut-on : (options : ParseOptions) (bs : Blocks) (lines : List (List ℕ)) → are_on options bs ≡ true →
@@ -63,7 +76,8 @@ paragraph-on options bs (line ∷ lines) h = then-on options bs (Paragraph (line
 shut_paragraph-on : (options : ParseOptions) (bs : Blocks) (lines : List (List ℕ)) → are_on options bs ≡ true →
     are_on options (shut_paragraph options bs lines) ≡ true
 unfolding shut_paragraph
-shut_paragraph-on options bs lines h = paragraph-on options (then_definitions bs (cut options lines).0) (cut options lines).1 (cut-on options bs lines h)
+shut_paragraph-on options bs lines h =
+    paragraph-on options (then_definitions bs (cut options lines).0) (cut options lines).1 (cut-on options bs lines h)
 
 -- Open leaves.
 
@@ -86,7 +100,8 @@ fence_block-on : (options : ParseOptions) (o : Opening) (lines : List Line) (clo
 fence_block-on options o lines closed = go (o.marker == 36)
   where
     go : (x : Bool) →
-        is_on options (cond x (Math o.meta lines closed) (Fence o.marker o.info o.meta lines closed)) ≡ cond x options.constructs.math_flow options.constructs.code_fenced
+        is_on options (cond x (Math o.meta lines closed) (Fence o.marker o.info o.meta lines closed)) ≡
+        cond x options.constructs.math_flow options.constructs.code_fenced
     go true = refl
     go false = refl
 
@@ -96,7 +111,8 @@ then_leaf-on : (options : ParseOptions) (bs : Blocks) (leaf : Leaf) → are_on o
 then_leaf-on options bs NoLeaf h k = h
 then_leaf-on options bs (OpenParagraph lines) h k = shut_paragraph-on options bs (texts lines) h
 then_leaf-on options bs (OpenCode lines) h k = then-on options bs _ h k
-then_leaf-on options bs (OpenFence o lines) h k = then-on options bs (fence_block o lines false) h (fence_block-on options o lines false ∙ k)
+then_leaf-on options bs (OpenFence o lines) h k =
+    then-on options bs (fence_block o lines false) h (fence_block-on options o lines false ∙ k)
 then_leaf-on options bs (OpenHtml kind lines) h k = then-on options bs (Html lines) h k
 then_leaf-on options bs (OpenTable delimiter rows) h k = then-on options bs (Table delimiter rows) h k
 
@@ -116,7 +132,8 @@ unfolding heading_at
 heading-on options r = λ c e. grind (arith)
 
 -- indented code
-code-on : (options : ParseOptions) (against : ParagraphContext) (r : Rest) → Finds (code_at options against r) (CameOn options)
+code-on : (options : ParseOptions) (against : ParagraphContext) (r : Rest) →
+    Finds (code_at options against r) (CameOn options)
 unfolding code_at
 code-on options against r = search (when-found, some-found, first_of_three)
 
@@ -154,7 +171,9 @@ unfolding fence_goes_on
 fence_goes-on options o lines r h = go (closes options o r)
   where
     go : (x : Bool) →
-        CameOn options (cond x (Finished (fence_block o lines true)) (Opened (OpenFence o (lines ++ line_of (lose o.indent r) ∷ []))))
+        CameOn options
+        (cond x (Finished (fence_block o lines true))
+        (Opened (OpenFence o (lines ++ line_of (lose o.indent r) ∷ []))))
     go true = fence_block-on options o lines true ∙ h
     go false = h
 
@@ -164,7 +183,8 @@ html_line-on : (options : ParseOptions) (kind : HtmlKind) (lines : List Line) (r
 html_line-on options kind lines r h = go (html_ends kind r.bytes)
   where
     go : (x : Bool) →
-        CameOn options (cond x (Finished (Html (lines ++ line_of r ∷ []))) (Opened (OpenHtml kind (lines ++ line_of r ∷ []))))
+        CameOn options
+        (cond x (Finished (Html (lines ++ line_of r ∷ []))) (Opened (OpenHtml kind (lines ++ line_of r ∷ []))))
     go true = h
     go false = h
 
@@ -175,7 +195,8 @@ html_by-on options against r None h = none-found (CameOn options)
 html_by-on options against r (Some kind) h = search (when-found, some-found, html_line-on)
 
 -- HTML
-html-on : (options : ParseOptions) (against : ParagraphContext) (r : Rest) → Finds (html_at options against r) (CameOn options)
+html-on : (options : ParseOptions) (against : ParagraphContext) (r : Rest) →
+    Finds (html_at options against r) (CameOn options)
 unfolding html_at
 html-on options against r = search (when-found, html_by-on, first_of_two)
 
@@ -186,7 +207,8 @@ unfolding html_goes_on
 html_goes-on options kind lines r h = search (unless-found, some-found, html_line-on)
 
 -- the first leaf that starts at a rest
-starts-on : (options : ParseOptions) (against : ParagraphContext) (r : Rest) → Finds (starts options against r) (CameOn options)
+starts-on : (options : ParseOptions) (against : ParagraphContext) (r : Rest) →
+    Finds (starts options against r) (CameOn options)
 unfolding starts
 starts-on options against r = search (first-found, code-on, fence-on, html-on, heading-on, break-on)
 
@@ -202,7 +224,8 @@ goes-on : (options : ParseOptions) (leaf : Leaf) (r : Rest) → is_leaf_on optio
 goes-on options NoLeaf r h = none-found (CameOn options)
 goes-on options (OpenParagraph lines) r h = none-found (CameOn options)
 goes-on options (OpenCode lines) r h = code_goes-on options lines r h
-goes-on options (OpenFence o lines) r h = some-found (CameOn options) (fence_goes_on options o lines r) (fence_goes-on options o lines r h)
+goes-on options (OpenFence o lines) r h =
+    some-found (CameOn options) (fence_goes_on options o lines r) (fence_goes-on options o lines r h)
 goes-on options (OpenHtml kind lines) r h = html_goes-on options kind lines r h
 goes-on options (OpenTable delimiter rows) r h = table_goes-on options delimiter rows r h
 
@@ -293,7 +316,9 @@ text-on options bs lines r h = by (is_blank r.bytes)
     line None on = leaf (starts options Text r) (starts-on options Text r)
 
     by : (x : Bool) →
-        SpotOn options (cond x (spot_of (then_leaf options bs (OpenParagraph lines))) (underline_or_text options bs lines r (underline_depth options r)))
+        SpotOn options
+        (cond x (spot_of (then_leaf options bs (OpenParagraph lines)))
+        (underline_or_text options bs lines r (underline_depth options r)))
     by true = (shut_on, refl)
     by false = line (underline_depth options r) (underline-on options r)
 
@@ -328,8 +353,10 @@ container-on : (options : ParseOptions) (container : Container) (bs : Blocks) �
     is_container_on options container ≡ true → are_on options bs ≡ true →
     is_on options (container_block container bs) ≡ true
 container-on options InQuote bs h k = and_from options.constructs.block_quote (are_on options bs) h k
-container-on options (InItem digits marker width starts_blank) bs h k = and_from options.constructs.list_item (are_on options bs) h k
-container-on options (InFootnote label) bs h k = and_from options.constructs.gfm_footnote_definition (are_on options bs) h k
+container-on options (InItem digits marker width starts_blank) bs h k =
+    and_from options.constructs.list_item (are_on options bs) h k
+container-on options (InFootnote label) bs h k =
+    and_from options.constructs.gfm_footnote_definition (are_on options bs) h k
 
 -- a quote
 quote_taken-on : (options : ParseOptions) (r : Rest) → options.constructs.block_quote ≡ true →
@@ -353,7 +380,8 @@ footnote_by-on options from (Some l) h = search (when-found, some-found)
 opens-on : (options : ParseOptions) (interrupting : Bool) (r : Rest) →
     Finds (opens options interrupting r) (TakenOn options)
 unfolding opens_quote opens_item opens_footnote
-opens-on options interrupting r = search (first-found, when-found, quote_taken-on, item_by-on, footnote_by-on, first_of_two, first_of_three)
+opens-on options interrupting r =
+    search (first-found, when-found, quote_taken-on, item_by-on, footnote_by-on, first_of_two, first_of_three)
 
 -- an open container that continues
 continues-on : (options : ParseOptions) (container : Container) (r : Rest) →
@@ -368,13 +396,15 @@ continues-on options (InFootnote label) r h = search (when-found, some-found)
 -- every open container is on, every finished block, and the open leaf
 abbrev PathOn : ParseOptions → Path → Type 0
 PathOn options (At s) = SpotOn options s
-PathOn options (Within before container p) = (are_on options before ≡ true) × (is_container_on options container ≡ true) × PathOn options p
+PathOn options (Within before container p) =
+    (are_on options before ≡ true) × (is_container_on options container ≡ true) × PathOn options p
 
 -- everything closed
 closed-on : (options : ParseOptions) (p : Path) → PathOn options p → are_on options (closed options p) ≡ true
 closed-on options (At s) h = then_leaf-on options s.here s.leaf h.0 h.1
 closed-on options (Within before container p) h =
-    then-on options before (container_block container (closed options p)) h.0 (container-on options container (closed options p) h.1 (closed-on options p h.2))
+    then-on options before (container_block container (closed options p)) h.0
+    (container-on options container (closed options p) h.1 (closed-on options p h.2))
 
 -- containers that open, and a leaf in them
 opened-on : (options : ParseOptions) (n : ℕ) (r : Rest) → PathOn options (opened options n r)
@@ -437,7 +467,12 @@ stopped-on options before container p r h = go (opens options false r) (opens-on
 
     lazy : (o : Option Leaf) → Finds o (λ l. is_leaf_on options l ≡ true) →
         PathOn options (lazy_by options before container p r o)
-    lazy (Some leaf) on = (h.0, h.1, at_spot-on options p (record { here = (spot p).here; leaf = leaf }) h.2 ((spot-on options p h.2).0, on leaf refl))
+    lazy (Some leaf) on = (
+      h.0,
+      h.1,
+      at_spot-on options p (record { here = (spot p).here; leaf = leaf }) h.2
+          ((spot-on options p h.2).0, on leaf refl),
+    )
     lazy None on = fresh-on options behind r behind_on
 
     go : (o : Option Taken) → Finds o (TakenOn options) → PathOn options (stopped_by options before container p r o)
@@ -447,7 +482,8 @@ stopped-on options before container p r h = go (opens options false r) (opens-on
 -- a line
 step-on : (options : ParseOptions) (p : Path) (r : Rest) → PathOn options p → PathOn options (step options p r)
 step-on options (At s) r h = all_continued-on options s r h
-step-on options (Within before container p) r h = go (λ s. step-on options p s h.2) (continues options container r) (continues-on options container r h.1)
+step-on options (Within before container p) r h =
+    go (λ s. step-on options p s h.2) (continues options container r) (continues-on options container r h.1)
   where
     go : ((s : Rest) → PathOn options (step options p s)) → (o : Option Taken) → Finds o (TakenOn options) →
         PathOn options (step_by options before container p r o)
@@ -463,16 +499,21 @@ steps-on options p (r ∷ rs) h = steps-on options (step options p r) rs (step-o
 
 -- an item in a list of its own
 list-on : (options : ParseOptions) (marker : ℕ) (item : Block) (bs : Blocks) →
-    options.constructs.list_item ≡ true → is_on options item ≡ true → are_on options bs ≡ true → are_on options (More (ListOf marker (More item End)) bs) ≡ true
+    options.constructs.list_item ≡ true → is_on options item ≡ true → are_on options bs ≡ true →
+    are_on options (More (ListOf marker (More item End)) bs) ≡ true
 list-on options marker item bs on h k = search (and_from)
 
 -- an item before these blocks
 item-on : (options : ParseOptions) (marker : ℕ) (item : Block) (bs : Blocks) →
-    options.constructs.list_item ≡ true → is_on options item ≡ true → are_on options bs ≡ true → are_on options (with_item marker item bs) ≡ true
+    options.constructs.list_item ≡ true → is_on options item ≡ true → are_on options bs ≡ true →
+    are_on options (with_item marker item bs) ≡ true
 item-on options marker item (More (ListOf m items) bs) on h k = go (marker == m)
   where
     go : (x : Bool) →
-        are_on options (cond x (More (ListOf m (More item items)) bs) (More (ListOf marker (More item End)) (More (ListOf m items) bs))) ≡ true
+        are_on options
+        (cond x (More (ListOf m (More item items)) bs)
+        (More (ListOf marker (More item End)) (More (ListOf m items) bs))) ≡
+        true
     go true = rw h k
     go false = list-on options marker item (More (ListOf m items) bs) on h k
 item-on options marker item bs on h k = list-on options marker item bs on h k
@@ -480,7 +521,9 @@ item-on options marker item bs on h k = list-on options marker item bs on h k
 -- a block before these
 front-on : (options : ParseOptions) (b : Block) (bs : Blocks) → is_on options b ≡ true → are_on options bs ≡ true →
     are_on options (with_front b bs) ≡ true
-front-on options (Item marker digits inner) bs h k = item-on options marker (Item marker digits inner) bs (first_of_two options.constructs.list_item (are_on options inner) h) h k
+front-on options (Item marker digits inner) bs h k =
+    item-on options marker (Item marker digits inner) bs
+    (first_of_two options.constructs.list_item (are_on options inner) h) h k
 front-on options b bs h k = and_from (is_on options b) (are_on options bs) h k
 
 mutual
@@ -494,14 +537,16 @@ mutual
       and_from options.constructs.list_item (are_on options (grouped bs)) parts.0 (grouped-on options bs parts.1)
   grouped_block-on options (Footnote label bs) h =
       let parts = and_parts options.constructs.gfm_footnote_definition (are_on options bs) h in
-      and_from options.constructs.gfm_footnote_definition (are_on options (grouped bs)) parts.0 (grouped-on options bs parts.1)
+      and_from options.constructs.gfm_footnote_definition (are_on options (grouped bs)) parts.0
+      (grouped-on options bs parts.1)
   grouped_block-on options b h = h
 
   grouped-on : (options : ParseOptions) (bs : Blocks) → are_on options bs ≡ true → are_on options (grouped bs) ≡ true
   grouped-on options End h = h
   grouped-on options (More b bs) h =
       let parts = and_parts (is_on options b) (are_on options bs) h in
-      front-on options (grouped_block b) (grouped bs) (grouped_block-on options b parts.0) (grouped-on options bs parts.1)
+      front-on options (grouped_block b) (grouped bs) (grouped_block-on options b parts.0)
+      (grouped-on options bs parts.1)
 
 -- The tree of a text.
 
@@ -528,7 +573,8 @@ tree-on options text = go (front_of options lines) (front_of-on options lines)
     body : (rs : List Rest) → are_on options (grouped (closed options (steps options (At (spot_of End)) rs))) ≡ true
     body rs =
         let p = steps options (At (spot_of End)) rs in
-        grouped-on options (closed options p) (closed-on options p (steps-on options (At (spot_of End)) rs (refl, refl)))
+        grouped-on options (closed options p)
+        (closed-on options p (steps-on options (At (spot_of End)) rs (refl, refl)))
 
     go : (o : Option Front) → Finds o (λ f. is_on options f.block ≡ true) →
         are_on options (tree_by options (preamble_by (first_column text) lines o)) ≡ true

@@ -18,4 +18,5 @@ pub read-paragraph : (bytes : List ℕ) (r : Reading) (p q : Point) (inside : Li
     read bytes r (around n.Paragraph p q inside) ≡ add_block (t.Paragraph (trim_each lines)) r
 read-paragraph bytes r p q inside lines none between is =
     read-told bytes r n.Paragraph AsParagraph p q inside refl none between
-    ∙ ap (λ (x : List (List ℕ)). add_block (t.Paragraph (trim_each x)) r) (split-lines lines (text_to bytes q.index (text_after bytes (begun p) inside)) is)
+    ∙ ap (λ (x : List (List ℕ)). add_block (t.Paragraph (trim_each x)) r)
+    (split-lines lines (text_to bytes q.index (text_after bytes (begun p) inside)) is)

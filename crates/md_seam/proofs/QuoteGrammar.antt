@@ -13,27 +13,38 @@ use Rattle.md_seam.specs.Events.Places.{same_place}
 
 -- the events of a prefix, from a point to a point
 abbrev prefix_part : Point → Point → Point → List Event
-prefix_part marker past q = enter n.BlockQuotePrefix marker ∷ enter n.BlockQuoteMarker marker ∷ exit n.BlockQuoteMarker past ∷ pair_unless_empty n.SpaceOrTab past q ++ exit n.BlockQuotePrefix q ∷ []
+prefix_part marker past q =
+    enter n.BlockQuotePrefix marker ∷ enter n.BlockQuoteMarker marker ∷ exit n.BlockQuoteMarker past
+    ∷ pair_unless_empty n.SpaceOrTab past q ++ exit n.BlockQuotePrefix q ∷ []
 
 -- it may stand where that is left behind it
-leads-part : (text x : Expression) (marker past q : Point) → Leads text (x ∷ []) (behind n.BlockQuotePrefix x ∷ []) (prefix_part marker past q)
+leads-part : (text x : Expression) (marker past q : Point) →
+    Leads text (x ∷ []) (behind n.BlockQuotePrefix x ∷ []) (prefix_part marker past q)
 leads-part text x marker past q outer = go (same_place past q)
   where
-    go : (empty : Bool) → left_of text (x ∷ outer) (enter n.BlockQuotePrefix marker ∷ enter n.BlockQuoteMarker marker ∷ exit n.BlockQuoteMarker past ∷ cond empty [] (pair n.SpaceOrTab past q) ++ exit n.BlockQuotePrefix q ∷ []) ≡ behind n.BlockQuotePrefix x ∷ outer
+    go : (empty : Bool) →
+        left_of text (x ∷ outer)
+        (enter n.BlockQuotePrefix marker ∷ enter n.BlockQuoteMarker marker ∷ exit n.BlockQuoteMarker past
+        ∷ cond empty [] (pair n.SpaceOrTab past q) ++ exit n.BlockQuotePrefix q ∷ []) ≡
+        behind n.BlockQuotePrefix x ∷ outer
     go true = refl
     go false = refl
 
 -- a prefix may stand where that is left behind it, with whitespace in front of it or not
 pub leads-prefix : (text x y : Expression) (p marker past q : Point) → behind n.BlockQuotePrefix x ≡ y →
     behind n.BlockQuotePrefix (behind n.SpaceOrTab x) ≡ y →
-    Leads text (x ∷ []) (y ∷ []) (pair_unless_empty n.SpaceOrTab p marker ++ enter n.BlockQuotePrefix marker ∷ enter n.BlockQuoteMarker marker ∷ exit n.BlockQuoteMarker past ∷ pair_unless_empty n.SpaceOrTab past q ++ exit n.BlockQuotePrefix q ∷ [])
+    Leads text (x ∷ []) (y ∷ [])
+    (pair_unless_empty n.SpaceOrTab p marker ++ enter n.BlockQuotePrefix marker ∷ enter n.BlockQuoteMarker marker
+    ∷ exit n.BlockQuoteMarker past ∷ pair_unless_empty n.SpaceOrTab past q ++ exit n.BlockQuotePrefix q ∷ [])
 leads-prefix text x y p marker past q h k = go (leads-unless text x n.SpaceOrTab p marker refl)
   where
     indent : List Event
     indent = pair_unless_empty n.SpaceOrTab p marker
 
     inner : List Event
-    inner = enter n.BlockQuotePrefix marker ∷ enter n.BlockQuoteMarker marker ∷ exit n.BlockQuoteMarker past ∷ pair_unless_empty n.SpaceOrTab past q
+    inner =
+        enter n.BlockQuotePrefix marker ∷ enter n.BlockQuoteMarker marker ∷ exit n.BlockQuoteMarker past
+        ∷ pair_unless_empty n.SpaceOrTab past q
 
     end : List Event
     end = exit n.BlockQuotePrefix q ∷ []
@@ -42,9 +53,12 @@ leads-prefix text x y p marker past q h k = go (leads-unless text x n.SpaceOrTab
     same true = k
     same false = h
 
-    go : (some : Bool) × Leads text (x ∷ []) (maybe some n.SpaceOrTab x ∷ []) indent → Leads text (x ∷ []) (y ∷ []) (indent ++ inner ++ end)
+    go : (some : Bool) × Leads text (x ∷ []) (maybe some n.SpaceOrTab x ∷ []) indent →
+        Leads text (x ∷ []) (y ∷ []) (indent ++ inner ++ end)
     go w =
         let room : Expression = maybe w.0 n.SpaceOrTab x in
         let all : Leads text (x ∷ []) (behind n.BlockQuotePrefix room ∷ []) (indent ++ (inner ++ end)) =
-        leads-append text (x ∷ []) (room ∷ []) (behind n.BlockQuotePrefix room ∷ []) indent (inner ++ end) w.1 (leads-part text room marker past q) in
-        subst (λ (z : Expression). Leads text (x ∷ []) (z ∷ []) (indent ++ inner ++ end)) (same w.0) (subst (Leads text (x ∷ []) (behind n.BlockQuotePrefix room ∷ [])) (sym (append_assoc indent inner end)) all)
+        leads-append text (x ∷ []) (room ∷ []) (behind n.BlockQuotePrefix room ∷ []) indent (inner ++ end) w.1
+        (leads-part text room marker past q) in
+        subst (λ (z : Expression). Leads text (x ∷ []) (z ∷ []) (indent ++ inner ++ end)) (same w.0)
+        (subst (Leads text (x ∷ []) (behind n.BlockQuotePrefix room ∷ [])) (sym (append_assoc indent inner end)) all)

@@ -6,11 +6,16 @@ use Rattle.md_engine.specs.Place.{IsPlaced}
 use Rattle.md_seam.specs.Parts.{ArePlaced}
 
 -- some of the events that are left behind others
-pub placed-place : (bytes : List ℕ) (all new more : List Event) (from many : ℕ) → new ≡ all ++ take many (drop from more) → ArePlaced bytes all → ArePlaced bytes more → ArePlaced bytes new
+pub placed-place : (bytes : List ℕ) (all new more : List Event) (from many : ℕ) →
+    new ≡ all ++ take many (drop from more) → ArePlaced bytes all → ArePlaced bytes more → ArePlaced bytes new
 placed-place bytes all new more from many is h k =
-    rw is (All-append (λ (e : Event). IsPlaced bytes e.point) all (take many (drop from more)) h (All-take (λ (e : Event). IsPlaced bytes e.point) _ _ (All-drop (λ (e : Event). IsPlaced bytes e.point) _ more k)))
+    rw is
+    (All-append (λ (e : Event). IsPlaced bytes e.point) all (take many (drop from more)) h
+    (All-take (λ (e : Event). IsPlaced bytes e.point) _ _
+    (All-drop (λ (e : Event). IsPlaced bytes e.point) _ more k)))
 
 -- one more event, or none
-pub placed-push_if : (bytes : List ℕ) (all new : List Event) (e : Event) (b : Bool) → new ≡ cond b (all ++ e ∷ []) all → ArePlaced bytes all → IsPlaced bytes e.point → ArePlaced bytes new
+pub placed-push_if : (bytes : List ℕ) (all new : List Event) (e : Event) (b : Bool) → new ≡ cond b (all ++ e ∷ []) all →
+    ArePlaced bytes all → IsPlaced bytes e.point → ArePlaced bytes new
 placed-push_if bytes all new e true is h k = rw is (All-push (λ (x : Event). IsPlaced bytes x.point) all e h k)
 placed-push_if bytes all new e false is h k = rw is h

@@ -125,7 +125,8 @@ record Missing : Type 0 where
       ++ pair n.FrontmatterChunk (at 2 1 4) (at 2 2 5))) ≡ false
   -- a definition without a destination: "[a]:"
   definition_without_destination : keeps_grammar unread_text (
-      around n.Definition (on 0) (on 4) (label (on 0) (on 1) (on 2) (on 3) ++ pair n.DefinitionMarker (on 3) (on 4))) ≡ false
+      around n.Definition (on 0) (on 4) (label (on 0) (on 1) (on 2) (on 3) ++ pair n.DefinitionMarker (on 3) (on 4))) ≡
+      false
   -- a definition without a label: ":a"
   definition_without_label : keeps_grammar unread_text (
       around n.Definition (on 0) (on 2) (pair n.DefinitionMarker (on 0) (on 1) ++ destination (on 1) (on 2))) ≡ false
@@ -271,7 +272,8 @@ record Misplaced : Type 0 where
   -- code with a third fence: "```\n```\n```"
   third_fence : keeps_grammar unread_text (
       around n.CodeFenced (on 0) (at 3 4 11) (fence (on 0) (on 3) ++ pair n.LineEnding (on 3) (at 2 1 4)
-      ++ fence (at 2 1 4) (at 2 4 7) ++ pair n.LineEnding (at 2 4 7) (at 3 1 8) ++ fence (at 3 1 8) (at 3 4 11))) ≡ false
+      ++ fence (at 2 1 4) (at 2 4 7) ++ pair n.LineEnding (at 2 4 7) (at 3 1 8) ++ fence (at 3 1 8) (at 3 4 11))) ≡
+      false
   -- math with a fence of code: "```"
   fence_in_math : keeps_grammar unread_text (around n.MathFlow (on 0) (on 3) (fence (on 0) (on 3))) ≡ false
   -- code with a line of frontmatter: "```\na"
@@ -364,7 +366,8 @@ record Misplaced : Type 0 where
       ++ front_fence (at 2 1 6) (at 2 4 9)))) ≡ false
   -- a byte order mark behind a paragraph: "a\n(mark)"
   mark_behind : keeps_grammar unread_text (
-      paragraph (on 0) (on 1) ++ pair n.LineEnding (on 1) (at 2 1 2) ++ pair n.ByteOrderMark (at 2 1 2) (at 2 4 5)) ≡ false
+      paragraph (on 0) (on 1) ++ pair n.LineEnding (on 1) (at 2 1 2) ++ pair n.ByteOrderMark (at 2 1 2) (at 2 4 5)) ≡
+      false
 
 misplaced : Misplaced
 unfolding keeps_grammar

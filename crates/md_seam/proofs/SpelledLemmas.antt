@@ -5,15 +5,18 @@ use Rattle.md_engine.specs.declared.event.Point.{Point}
 use Rattle.md_engine.specs.declared.event.Event.{Event}
 use Rattle.md_engine.specs.declared.event.Kind.{Kind}
 use Rattle.md_engine.specs.declared.event.Kind.TheVariants.{Enter, Exit}
-use Rattle.md_seam.specs.Events.Spelled.{Reading, Text, OpenLeaf, Role, IsPrefix, IsEnding, IsQuiet, role, before_prefix, after_prefix, at_ending, on_leaf, next_line, read_by, read}
+use Rattle.md_seam.specs.Events.Spelled.{Reading, Text, OpenLeaf, Role, IsPrefix, IsEnding, IsQuiet, role}
+use Rattle.md_seam.specs.Events.Spelled.{before_prefix, after_prefix, at_ending, on_leaf, next_line, read_by, read}
 
 -- a reader goes on over what is appended
-pub read-append : (bytes : List ℕ) (r : Reading) (xs ys : List Event) → read bytes r (xs ++ ys) ≡ read bytes (read bytes r xs) ys
+pub read-append : (bytes : List ℕ) (r : Reading) (xs ys : List Event) →
+    read bytes r (xs ++ ys) ≡ read bytes (read bytes r xs) ys
 read-append bytes r [] ys = refl
 read-append bytes r (e ∷ xs) ys = read-append bytes (read_by bytes e.kind (role e.name) e.point r) xs ys
 
 -- the events behind some others are read from what those are read as
-pub read-from : (bytes : List ℕ) (start r : Reading) (xs ys : List Event) → read bytes start xs ≡ r → read bytes start (xs ++ ys) ≡ read bytes r ys
+pub read-from : (bytes : List ℕ) (start r : Reading) (xs ys : List Event) → read bytes start xs ≡ r →
+    read bytes start (xs ++ ys) ≡ read bytes r ys
 read-from bytes start r xs ys e = read-append bytes start xs ys ∙ ap (λ (x : Reading). read bytes x ys) e
 
 -- Events that leave what is read.
@@ -52,21 +55,28 @@ QuietOrEnding IsEnding = Unit {0}
 QuietOrEnding _ = ⊥
 
 -- a fact of roles under which an event leaves a reading, so that events do
-pub read-kept : (bytes : List ℕ) (P : Role → Type 0) (r : Reading) (es : List Event) → ((kind : Kind) (x : Role) (p : Point) → P x → read_by bytes kind x p r ≡ r) → Roles P es → read bytes r es ≡ r
+pub read-kept : (bytes : List ℕ) (P : Role → Type 0) (r : Reading) (es : List Event) →
+    ((kind : Kind) (x : Role) (p : Point) → P x → read_by bytes kind x p r ≡ r) → Roles P es → read bytes r es ≡ r
 read-kept bytes P r [] kept h = refl
-read-kept bytes P r (e ∷ es) kept h = ap (λ (x : Reading). read bytes x es) (kept e.kind (role e.name) e.point h.0) ∙ read-kept bytes P r es kept h.1
+read-kept bytes P r (e ∷ es) kept h =
+    ap (λ (x : Reading). read bytes x es) (kept e.kind (role e.name) e.point h.0) ∙ read-kept bytes P r es kept h.1
 
 cond-same : (x : Bool) (a b : Reading) → a ≡ b → cond x a b ≡ b
 cond-same true a b e = e
 cond-same false a b e = refl
 
 same-text : (r : Reading) (f : Text → Text) → r.text ≡ None → record r { text = option_map f r.text } ≡ r
-same-text r f e = ap (λ (x : Option Text). record r { text = option_map f x }) e ∙ sym (ap (λ (x : Option Text). record r { text = x }) e)
+same-text r f e =
+    ap (λ (x : Option Text). record r { text = option_map f x }) e
+    ∙ sym (ap (λ (x : Option Text). record r { text = x }) e)
 
 same-leaf : (r : Reading) (f : OpenLeaf → OpenLeaf) → r.leaf ≡ None → record r { leaf = option_map f r.leaf } ≡ r
-same-leaf r f e = ap (λ (x : Option OpenLeaf). record r { leaf = option_map f x }) e ∙ sym (ap (λ (x : Option OpenLeaf). record r { leaf = x }) e)
+same-leaf r f e =
+    ap (λ (x : Option OpenLeaf). record r { leaf = option_map f x }) e
+    ∙ sym (ap (λ (x : Option OpenLeaf). record r { leaf = x }) e)
 
-kept-quiet : (bytes : List ℕ) (r : Reading) (kind : Kind) (x : Role) (p : Point) → Quiet x → read_by bytes kind x p r ≡ r
+kept-quiet : (bytes : List ℕ) (r : Reading) (kind : Kind) (x : Role) (p : Point) → Quiet x →
+    read_by bytes kind x p r ≡ r
 kept-quiet bytes r Enter IsQuiet p h = refl
 kept-quiet bytes r Exit IsQuiet p h = refl
 kept-quiet bytes r kind _ p h = absurd h
@@ -75,7 +85,8 @@ kept-quiet bytes r kind _ p h = absurd h
 pub read-quiet : (bytes : List ℕ) (r : Reading) (es : List Event) → Roles Quiet es → read bytes r es ≡ r
 read-quiet bytes r es h = read-kept bytes Quiet r es (kept-quiet bytes r) h
 
-kept-prefix : (bytes : List ℕ) (r : Reading) → r.text ≡ None → (kind : Kind) (x : Role) (p : Point) → QuietOrPrefix x → read_by bytes kind x p r ≡ r
+kept-prefix : (bytes : List ℕ) (r : Reading) → r.text ≡ None → (kind : Kind) (x : Role) (p : Point) → QuietOrPrefix x →
+    read_by bytes kind x p r ≡ r
 kept-prefix bytes r e Enter IsQuiet p h = refl
 kept-prefix bytes r e Exit IsQuiet p h = refl
 kept-prefix bytes r e Enter IsPrefix p h = same-text r (before_prefix bytes p) e
@@ -83,14 +94,18 @@ kept-prefix bytes r e Exit IsPrefix p h = same-text r (after_prefix p) e
 kept-prefix bytes r e kind _ p h = absurd h
 
 -- container prefixes leave what is read where no text is, also inside a fence
-pub read-prefixes : (bytes : List ℕ) (r : Reading) (es : List Event) → r.text ≡ None → Roles QuietOrPrefix es → read bytes r es ≡ r
+pub read-prefixes : (bytes : List ℕ) (r : Reading) (es : List Event) → r.text ≡ None → Roles QuietOrPrefix es →
+    read bytes r es ≡ r
 read-prefixes bytes r es e h = read-kept bytes QuietOrPrefix r es (kept-prefix bytes r e) h
 
-kept-ending : (bytes : List ℕ) (r : Reading) (p : Point) → r.leaf ≡ None → (text : Option Text) → at_ending bytes p text r ≡ r
+kept-ending : (bytes : List ℕ) (r : Reading) (p : Point) → r.leaf ≡ None → (text : Option Text) →
+    at_ending bytes p text r ≡ r
 kept-ending bytes r p e (Some text) = refl
-kept-ending bytes r p e None = cond-same (nat_lt p.index (length bytes)) (on_leaf next_line r) r (same-leaf r next_line e)
+kept-ending bytes r p e None =
+    cond-same (nat_lt p.index (length bytes)) (on_leaf next_line r) r (same-leaf r next_line e)
 
-kept-between : (bytes : List ℕ) (r : Reading) → r.text ≡ None → r.leaf ≡ None → (kind : Kind) (x : Role) (p : Point) → Between x → read_by bytes kind x p r ≡ r
+kept-between : (bytes : List ℕ) (r : Reading) → r.text ≡ None → r.leaf ≡ None → (kind : Kind) (x : Role) (p : Point) →
+    Between x → read_by bytes kind x p r ≡ r
 kept-between bytes r e l Enter IsQuiet p h = refl
 kept-between bytes r e l Exit IsQuiet p h = refl
 kept-between bytes r e l Enter IsPrefix p h = same-text r (before_prefix bytes p) e
@@ -100,10 +115,12 @@ kept-between bytes r e l Exit IsEnding p h = kept-ending bytes r p l r.text
 kept-between bytes r e l kind _ p h = absurd h
 
 -- what stands between blocks leaves what is read
-pub read-between : (bytes : List ℕ) (r : Reading) (es : List Event) → r.text ≡ None → r.leaf ≡ None → Roles Between es → read bytes r es ≡ r
+pub read-between : (bytes : List ℕ) (r : Reading) (es : List Event) → r.text ≡ None → r.leaf ≡ None → Roles Between es →
+    read bytes r es ≡ r
 read-between bytes r es e l h = read-kept bytes Between r es (kept-between bytes r e l) h
 
-kept-inline : (bytes : List ℕ) (r : Reading) (text : Text) → r.text ≡ Some text → (kind : Kind) (x : Role) (p : Point) → QuietOrEnding x → read_by bytes kind x p r ≡ r
+kept-inline : (bytes : List ℕ) (r : Reading) (text : Text) → r.text ≡ Some text → (kind : Kind) (x : Role) (p : Point) →
+    QuietOrEnding x → read_by bytes kind x p r ≡ r
 kept-inline bytes r text e Enter IsQuiet p h = refl
 kept-inline bytes r text e Exit IsQuiet p h = refl
 kept-inline bytes r text e Enter IsEnding p h = refl
@@ -111,7 +128,8 @@ kept-inline bytes r text e Exit IsEnding p h = ap (λ (x : Option Text). at_endi
 kept-inline bytes r text e kind _ p h = absurd h
 
 -- what an inline layer gives leaves a text that is being read
-pub read-inline : (bytes : List ℕ) (r : Reading) (text : Text) (es : List Event) → r.text ≡ Some text → Roles QuietOrEnding es → read bytes r es ≡ r
+pub read-inline : (bytes : List ℕ) (r : Reading) (text : Text) (es : List Event) → r.text ≡ Some text →
+    Roles QuietOrEnding es → read bytes r es ≡ r
 read-inline bytes r text es e h = read-kept bytes QuietOrEnding r es (kept-inline bytes r text e) h
 
 -- Texts.
@@ -126,21 +144,28 @@ abbrev pub text_after : List ℕ → Text → List Event → Text
 text_after bytes text [] = text
 text_after bytes text (e ∷ es) = text_after bytes (text_by bytes e.kind (role e.name) e.point text) es
 
-pub text_after-append : (bytes : List ℕ) (text : Text) (xs ys : List Event) → text_after bytes text (xs ++ ys) ≡ text_after bytes (text_after bytes text xs) ys
+pub text_after-append : (bytes : List ℕ) (text : Text) (xs ys : List Event) →
+    text_after bytes text (xs ++ ys) ≡ text_after bytes (text_after bytes text xs) ys
 text_after-append bytes text [] ys = refl
-text_after-append bytes text (e ∷ xs) ys = text_after-append bytes (text_by bytes e.kind (role e.name) e.point text) xs ys
+text_after-append bytes text (e ∷ xs) ys =
+    text_after-append bytes (text_by bytes e.kind (role e.name) e.point text) xs ys
 
-step-text : (bytes : List ℕ) (r : Reading) (text : Text) → r.text ≡ Some text → (kind : Kind) (x : Role) (p : Point) → Between x → read_by bytes kind x p r ≡ record r { text = Some (text_by bytes kind x p text) }
+step-text : (bytes : List ℕ) (r : Reading) (text : Text) → r.text ≡ Some text → (kind : Kind) (x : Role) (p : Point) →
+    Between x → read_by bytes kind x p r ≡ record r { text = Some (text_by bytes kind x p text) }
 step-text bytes r text e Enter IsQuiet p h = ap (λ (x : Option Text). record r { text = x }) e
 step-text bytes r text e Exit IsQuiet p h = ap (λ (x : Option Text). record r { text = x }) e
-step-text bytes r text e Enter IsPrefix p h = ap (λ (x : Option Text). record r { text = option_map (before_prefix bytes p) x }) e
-step-text bytes r text e Exit IsPrefix p h = ap (λ (x : Option Text). record r { text = option_map (after_prefix p) x }) e
+step-text bytes r text e Enter IsPrefix p h =
+    ap (λ (x : Option Text). record r { text = option_map (before_prefix bytes p) x }) e
+step-text bytes r text e Exit IsPrefix p h =
+    ap (λ (x : Option Text). record r { text = option_map (after_prefix p) x }) e
 step-text bytes r text e Enter IsEnding p h = ap (λ (x : Option Text). record r { text = x }) e
-step-text bytes r text e Exit IsEnding p h = ap (λ (x : Option Text). at_ending bytes p x r) e ∙ ap (λ (x : Option Text). record r { text = x }) e
+step-text bytes r text e Exit IsEnding p h =
+    ap (λ (x : Option Text). at_ending bytes p x r) e ∙ ap (λ (x : Option Text). record r { text = x }) e
 step-text bytes r text e kind _ p h = absurd h
 
 -- inside a text nothing but container prefixes matters
-pub read-text : (bytes : List ℕ) (r : Reading) (text : Text) (es : List Event) → r.text ≡ Some text → Roles Between es → read bytes r es ≡ record r { text = Some (text_after bytes text es) }
+pub read-text : (bytes : List ℕ) (r : Reading) (text : Text) (es : List Event) → r.text ≡ Some text → Roles Between es →
+    read bytes r es ≡ record r { text = Some (text_after bytes text es) }
 read-text bytes r text [] e h = ap (λ (x : Option Text). record r { text = x }) e
 read-text bytes r text (f ∷ es) e h =
     let next : Text = text_by bytes f.kind (role f.name) f.point text in
@@ -148,9 +173,11 @@ read-text bytes r text (f ∷ es) e h =
     ∙ read-text bytes (record r { text = Some next }) next es refl h.1
 
 -- what an inline layer gives moves no text
-pub text-inline : (bytes : List ℕ) (text : Text) (es : List Event) → Roles QuietOrEnding es → text_after bytes text es ≡ text
+pub text-inline : (bytes : List ℕ) (text : Text) (es : List Event) → Roles QuietOrEnding es →
+    text_after bytes text es ≡ text
 text-inline bytes text [] h = refl
-text-inline bytes text (e ∷ es) h = ap (λ (x : Text). text_after bytes x es) (go e.kind (role e.name) h.0) ∙ text-inline bytes text es h.1
+text-inline bytes text (e ∷ es) h =
+    ap (λ (x : Text). text_after bytes x es) (go e.kind (role e.name) h.0) ∙ text-inline bytes text es h.1
   where
     go : (kind : Kind) (x : Role) → QuietOrEnding x → text_by bytes kind x e.point text ≡ text
     go Enter IsQuiet h = refl

@@ -25,10 +25,12 @@ pub stays-on : (T : Step) (S : Scheme) (n : StateName) (c : Class) (t : World �
 stays-on T S n c t steps does each = record {
   step = λ w b e h.
       let is : t (reading w) ≡ record { to = Next n; world = took w } = each (reading w) b e h in
-      steps (reading w) (Next n) (took w) (sym (ap (λ (a : Transition). a.to) is)) (sym (ap (λ (a : Transition). a.world) is));
+      steps (reading w) (Next n) (took w) (sym (ap (λ (a : Transition). a.to) is))
+      (sym (ap (λ (a : Transition). a.world) is));
   ready = λ w b e h at.
       let is : t (reading w) ≡ record { to = Next n; world = took w } = each (reading w) b e h in
-      does-stands S n (reading w) (t (reading w)) (Next n) (took w) (sym (ap (λ (a : Transition). a.to) is)) (sym (ap (λ (a : Transition). a.world) is)) (does (reading w) refl at);
+      does-stands S n (reading w) (t (reading w)) (Next n) (took w) (sym (ap (λ (a : Transition). a.to) is))
+      (sym (ap (λ (a : Transition). a.world) is)) (does (reading w) refl at);
 }
 
 -- no byte of a class ends a line,

@@ -1,5 +1,6 @@
 -- What is still to come of a line, as a state is fed it: its whitespace, and its end.
-use Rattle.std.specs.Prelude.{◌≡◌, ℕ, zero, suc, ◌+◌, ◌-◌, Bool, false, ◌&&◌, ◌==◌, if◌then◌else◌, nat_lt, nat_le, List, [], ◌∷◌, ◌++◌, map}
+use Rattle.std.specs.Prelude.{◌≡◌, ℕ, zero, suc, ◌+◌, ◌-◌, Bool, false, ◌&&◌, ◌==◌, if◌then◌else◌, nat_lt, nat_le, List}
+use Rattle.std.specs.Prelude.{[], ◌∷◌, ◌++◌, map}
 use Rattle.md_engine.specs.declared.event.Name.TheVariants.{SpaceOrTab}
 use Rattle.md_engine.specs.declared.event.Point.{Point}
 use Rattle.md_engine.specs.declared.state.Name.TheVariants as n
@@ -69,7 +70,12 @@ inside_white cells h =
     let white = h.scratch.whitespace in
     let room = white.max - white.size in
     let p = white_end room cells h.point in
-    after_white (white_rest room cells) (record h { events = h.events ++ exit SpaceOrTab p ∷ []; point = p; scratch = asking white.min white.max (white.size + white_size room cells) h.scratch })
+    after_white (white_rest room cells)
+    (record h {
+      events = h.events ++ exit SpaceOrTab p ∷ [];
+      point = p;
+      scratch = asking white.min white.max (white.size + white_size room cells) h.scratch;
+    })
 
 -- the whole rule: all whitespace as far as there is room is one part, if there is any
 unfoldable pub white_at : List Cell → Here → Outcome
@@ -85,4 +91,5 @@ white_behaves its.Inside cells h = inside_white cells h
 white_behaves its.After cells h = after_white cells h
 
 pub record HasWhite (B : Behaviour) : Type 0 where
-  pub each : (state : WhiteState) (cells : List Cell) (h : Here) → B (n.SpaceOrTab state) cells h ≡ white_behaves state cells h
+  pub each : (state : WhiteState) (cells : List Cell) (h : Here) →
+      B (n.SpaceOrTab state) cells h ≡ white_behaves state cells h

@@ -1,5 +1,6 @@
 -- What stands between two points of a text: bytes, and columns of tabs that are cut.
-use Rattle.std.specs.Prelude.{ℕ, ◌+◌, ◌-◌, ◌%◌, ◌&&◌, ◌==◌, nat_lt, nat_le, if◌then◌else◌, List, [], length, slice_range}
+use Rattle.std.specs.Prelude.{ℕ, ◌+◌, ◌-◌, ◌%◌, ◌&&◌, ◌==◌, nat_lt, nat_le, if◌then◌else◌, List, [], length}
+use Rattle.std.specs.Prelude.{slice_range}
 use Rattle.md_engine.specs.declared.event.Point.{Point}
 use Rattle.md_seam.specs.declared.slice.Position.{Position}
 
@@ -17,7 +18,9 @@ tab_left p = 4 - (p.column + 3) % 4
 
 -- the columns before the bytes: those of a tab that the part begins within
 abbrev pub columns_in_front : Position → ℕ
-columns_in_front at = if nat_lt 0 at.start.vs then (if at.start.index == at.end.index then at.end.vs - at.start.vs else tab_left at.start) else 0
+columns_in_front at =
+    if nat_lt 0 at.start.vs then (if at.start.index == at.end.index then at.end.vs - at.start.vs else tab_left at.start)
+    else 0
 
 -- the columns behind the bytes: those of a tab that the part ends within
 abbrev pub columns_behind : Position → ℕ

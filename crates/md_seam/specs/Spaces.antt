@@ -1,5 +1,6 @@
 -- Spaces and tabs.
-use Rattle.std.specs.Prelude.{◌≡◌, refl, ℕ, ◌+◌, ◌-◌, ◌^◌, ◌<◌, ◌≤◌, Bool, true, false, ◌&&◌, ◌==◌, if◌then◌else◌, nat_lt, nat_le, Option, Some, None}
+use Rattle.std.specs.Prelude.{◌≡◌, refl, ℕ, ◌+◌, ◌-◌, ◌^◌, ◌<◌, ◌≤◌, Bool, true, false, ◌&&◌, ◌==◌, if◌then◌else◌}
+use Rattle.std.specs.Prelude.{nat_lt, nat_le, Option, Some, None}
 use Rattle.md_engine.specs.declared.event.Name.TheVariants.{SpaceOrTab}
 use Rattle.md_engine.specs.declared.state.Name.{Name as StateName}
 use Rattle.md_engine.specs.declared.state.Name.TheVariants as n
@@ -38,7 +39,10 @@ calmed s = asking 0 0 0 s
 -- an attempt at so much whitespace begins
 abbrev pub white_then : World → ℕ → ℕ → State → State → Transition
 white_then w min max ok nok =
-    record { to = Retry (n.SpaceOrTab its.Start); world = record (tried w ok nok) { scratch = asking min max 0 w.scratch } }
+    record {
+      to = Retry (n.SpaceOrTab its.Start);
+      world = record (tried w ok nok) { scratch = asking min max 0 w.scratch };
+    }
 
 -- by whether whitespace stands here, and there is room for it
 abbrev pub start_code : World → Bool → Transition
@@ -47,7 +51,13 @@ start_code w false = record { to = Retry (n.SpaceOrTab its.After); world = w }
 
 abbrev pub inside_code : World → Bool → Transition
 inside_code w true =
-    record { to = Next (n.SpaceOrTab its.Inside); world = record (taken w) { scratch = asking w.scratch.whitespace.min w.scratch.whitespace.max (w.scratch.whitespace.size + 1) w.scratch } }
+    record {
+      to = Next (n.SpaceOrTab its.Inside);
+      world = record (taken w) {
+        scratch = asking w.scratch.whitespace.min w.scratch.whitespace.max
+            (w.scratch.whitespace.size + 1) w.scratch;
+      };
+    }
 inside_code w false = record { to = Retry (n.SpaceOrTab its.After); world = exited w SpaceOrTab }
 
 -- by whether it is enough
@@ -90,7 +100,9 @@ ends_line (Some b) = b == 10
 
 -- whitespace leaves all but its own fields, and refuses only where some is asked for
 abbrev pub white_ready : StateName → Spot → After → Type 0
-white_ready n x K = (x.scratch.whitespace.size ≤ cells_before x.point) × Ends (λ s. s ≡ calmed x.scratch) (λ s. (s ≡ calmed x.scratch) × (0 < x.scratch.whitespace.min)) x K
+white_ready n x K =
+    (x.scratch.whitespace.size ≤ cells_before x.point) ×
+    Ends (λ s. s ≡ calmed x.scratch) (λ s. (s ≡ calmed x.scratch) × (0 < x.scratch.whitespace.min)) x K
 
 abbrev pub white_rank : StateName → Spot → Rank
 white_rank (n.SpaceOrTab its.Start) x = ranked 2 refl

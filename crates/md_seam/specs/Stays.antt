@@ -9,4 +9,5 @@ use Rattle.md_seam.specs.Transition.{Transition, taken}
 
 -- a state takes each byte of a class, does nothing else, and stays
 abbrev pub TakesEach : Class → StateName → (World → Transition) → Type 0
-TakesEach c n t = (w : World) (b : ℕ) → w.current ≡ Some b → has c b ≡ true → t w ≡ record { to = Next n; world = taken w }
+TakesEach c n t =
+    (w : World) (b : ℕ) → w.current ≡ Some b → has c b ≡ true → t w ≡ record { to = Next n; world = taken w }

@@ -1,5 +1,6 @@
 -- Linked parts, and the events that stand in their places once they are read.
-use Rattle.std.specs.Prelude.{◌≡◌, ℕ, zero, suc, Bool, nat_lt, nat_le, if◌then◌else◌, List, [], ◌∷◌, ◌++◌, length, take, drop, Option, Some, None, is_none}
+use Rattle.std.specs.Prelude.{◌≡◌, ℕ, zero, suc, Bool, nat_lt, nat_le, if◌then◌else◌, List, [], ◌∷◌, ◌++◌, length, take}
+use Rattle.std.specs.Prelude.{drop, Option, Some, None, is_none}
 use Rattle.std.specs.Option.{is_some}
 use Rattle.std.specs.List.{prefix_len}
 use Rattle.md_engine.specs.declared.event.Content.{Content}
@@ -57,19 +58,20 @@ belongs_by end Exit index = nat_le index end
 abbrev pub belongs : ℕ → Event → Bool
 belongs end e = belongs_by end e.kind e.point.index
 
--- how many of the events that are left stand in the place of a chunk that ends at this byte: all of them in the last one
+-- how many of the events that are left stand in the place of a chunk that ends at this byte: all of them in the last
+-- one
 abbrev pub share : ℕ → List Event → ℕ → ℕ
 share zero left end = length left
 share (suc more) left end = prefix_len (belongs end) left
 
--- A part of so many chunks is begun, of which such events may be read, unless chunks of another part are left: the events that
--- are left, and for how many chunks, before and behind.
+-- A part of so many chunks is begun, of which such events may be read, unless chunks of another part are left: the
+-- events that are left, and for how many chunks, before and behind.
 abbrev pub Begun : (List Event → Type 0) → ℕ → List Event → ℕ → List Event → ℕ → Type 0
 Begun reads many left zero now chunks = reads now × (chunks ≡ many)
 Begun reads many left (suc more) now chunks = (now ≡ left) × (chunks ≡ suc more)
 
--- The events with what was read in the places of the parts that the reader wants. Of a part that has begun, these events are
--- left, for so many chunks.
+-- The events with what was read in the places of the parts that the reader wants. Of a part that has begun, these
+-- events are left, for so many chunks.
 abbrev pub Substituted : (Content → Bool) → Readings → List Event → ℕ → List Event → List Event → Type 0
 Substituted wants reads left chunks [] out = out ≡ []
 Substituted wants reads left chunks (e ∷ []) out = out ≡ e ∷ []
@@ -79,7 +81,8 @@ Substituted wants reads left chunks (e ∷ f ∷ es) out = elim (wanted wants e)
     | zero ↦
         (answer rest : List Event) × (read : reads content (chunk_of e f ∷ chunks_behind wants es) answer)
         × (is : out ≡ take (share (length (chunks_behind wants es)) answer f.point.index) answer ++ rest)
-        × Substituted wants reads (drop (share (length (chunks_behind wants es)) answer f.point.index) answer) (length (chunks_behind wants es)) es rest
+        × Substituted wants reads (drop (share (length (chunks_behind wants es)) answer f.point.index) answer)
+        (length (chunks_behind wants es)) es rest
     | suc more ↦
         (rest : List Event) × (is : out ≡ take (share more left f.point.index) left ++ rest)
         × Substituted wants reads (drop (share more left f.point.index) left) more es rest

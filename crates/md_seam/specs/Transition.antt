@@ -27,7 +27,10 @@ exited w name = record w { events = w.events ++ exit name w.point ∷ [] }
 
 -- a part begins that is read later
 abbrev pub entered_link : World → Name → Link → World
-entered_link w name link = record w { events = w.events ++ record { kind = Enter; name = name; point = w.point; link = Some link } ∷ [] }
+entered_link w name link = record w {
+  events = w.events
+      ++ record { kind = Enter; name = name; point = w.point; link = Some link } ∷ [];
+}
 
 -- what stands at the point is taken
 abbrev pub taken : World → World
@@ -35,7 +38,16 @@ taken w = record w { point = after w.setting w.point }
 
 -- an attempt has begun
 abbrev pub tried : World → State → State → World
-tried w ok nok = record w { frames = record { ok = ok; nok = nok; is_check = false; events_len = length w.events; point = w.point } ∷ w.frames }
+tried w ok nok = record w {
+  frames = record {
+    ok = ok;
+    nok = nok;
+    is_check = false;
+    events_len = length w.events;
+    point = w.point;
+  }
+      ∷ w.frames;
+}
 
 -- a state that needs no more than to see what stands at its point
 abbrev pub NeedsNothing : StateName → World → Type 0

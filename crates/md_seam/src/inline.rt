@@ -43,5 +43,6 @@ pub trait Inline {
     ) -> Result<Vec<Event>, Message>
         requires { AreChunks state.now.bytes.now chunks.now }
         ensures placed { IfOk result (λ events. ArePlaced state.now.bytes.now events.items) }
-        ensures reading { IfOk result (λ events. reads self.now state.now.bytes.now (record { kind = kind; chunks = chunks.now }) events.items) };
+        ensures reading { IfOk result
+            (λ events. reads self.now state.now.bytes.now (record { kind = kind; chunks = chunks.now }) events.items) };
 }

@@ -31,7 +31,8 @@ fn read_line(tokenizer: &mut Tokenizer, end: usize) -> Result<(), Message>
     requires { end ≤ length (world tokenizer.old).setting.bytes }
     ensures { let w = world tokenizer.old in
         let to = past_text (without_ending (slice_range w.setting.bytes w.point.index end)) w.point in
-        OnOk result (world tokenizer.new ≡ record w { point = to; events = w.events ++ pair_unless_empty Name.Data w.point to }) }
+        OnOk result (world tokenizer.new ≡
+        record w { point = to; events = w.events ++ pair_unless_empty Name.Data w.point to }) }
 {
     if tokenizer.point.index < end && !ends_line(tokenizer.bytes[tokenizer.point.index]) {
         tokenizer.enter(Name::Data)?;
@@ -49,7 +50,10 @@ fn read_chunk(tokenizer: &mut Tokenizer, chunk: &Chunk) -> Result<(), Message>
     requires chunk { IsChunk (world tokenizer.old).setting.bytes chunk.now }
     requires skips { (world tokenizer.old).setting.skips ≡ [] }
     ensures setting { OnOk result ((world tokenizer.new).setting ≡ (world tokenizer.old).setting) }
-    ensures events { OnOk result (IsTrue (is_line (world tokenizer.old).setting.bytes chunk.now) → IsTrue (ends_whole chunk.now) → (world tokenizer.new).events ≡ (world tokenizer.old).events ++ plain_chunk (world tokenizer.old).setting.bytes chunk.now) }
+    ensures events { OnOk result
+        (IsTrue (is_line (world tokenizer.old).setting.bytes chunk.now) → IsTrue (ends_whole chunk.now) →
+        (world tokenizer.new).events ≡
+        (world tokenizer.old).events ++ plain_chunk (world tokenizer.old).setting.bytes chunk.now) }
 {
     tokenizer.point = chunk.first;
     let end = chunk.after.index;

@@ -9,7 +9,8 @@ ghost use Rattle.md_engine.specs.World.{world};
 ghost use Rattle.md_engine.specs.declared.state.Name.{Name as StateName};
 ghost use Rattle.md_engine.specs.declared.state.State.{State};
 ghost use Rattle.md_engine.specs.declared.state.space_or_tab.State.{State as WhiteState};
-ghost use Rattle.md_seam.specs.Spaces.{WhiteNeeds, after_transition, any_size, inside_transition, sees_white, small_indent, start_transition, white_then, white_transition};
+ghost use Rattle.md_seam.specs.Spaces.{WhiteNeeds, after_transition, any_size, inside_transition, sees_white};
+ghost use Rattle.md_seam.specs.Spaces.{small_indent, start_transition, white_then, white_transition};
 ghost use Rattle.md_seam.specs.Transition.{IsAt};
 
 use md_engine::event::Name;
@@ -42,8 +43,8 @@ pub fn small_indent(tokenizer: &Tokenizer) -> usize
     }
 }
 
-/// Tries whitespace of at least `min` and at most `max` columns, and goes on with `ok` where it is there, else with `nok`.
-/// No limit is the greatest `usize`.
+/// Tries whitespace of at least `min` and at most `max` columns, and goes on with `ok` where it is there, else with
+/// `nok`. No limit is the greatest `usize`.
 pub fn space_or_tab_min_max(
     tokenizer: &mut Tokenizer,
     min: usize,
@@ -52,7 +53,8 @@ pub fn space_or_tab_min_max(
     nok: State,
 ) -> State
     ensures to { result ≢ State.Error → result ≡ (white_then (world tokenizer.old) min max ok nok).to }
-    ensures world { result ≢ State.Error → world tokenizer.new ≡ (white_then (world tokenizer.old) min max ok nok).world }
+    ensures world { result ≢ State.Error →
+        world tokenizer.new ≡ (white_then (world tokenizer.old) min max ok nok).world }
 {
     or_error!(tokenizer.attempt(ok, nok));
     tokenizer.scratch.whitespace = Whitespace { min, max, size: 0 };
@@ -62,7 +64,8 @@ pub fn space_or_tab_min_max(
 /// Tries at least one space or tab, and goes on with `ok` where it is there, else with `nok`.
 pub fn space_or_tab(tokenizer: &mut Tokenizer, ok: State, nok: State) -> State
     ensures to { result ≢ State.Error → result ≡ (white_then (world tokenizer.old) 1 any_size ok nok).to }
-    ensures world { result ≢ State.Error → world tokenizer.new ≡ (white_then (world tokenizer.old) 1 any_size ok nok).world }
+    ensures world { result ≢ State.Error →
+        world tokenizer.new ≡ (white_then (world tokenizer.old) 1 any_size ok nok).world }
 {
     space_or_tab_min_max(tokenizer, 1, usize::MAX, ok, nok)
 }

@@ -1,13 +1,15 @@
 // Parts that are read after the events around them stand.
 //
-// A linked part is a chunk of the text on one line. Chunks between which nothing but container prefixes stands are read as
-// one, and what is found there is put in the places of the chunks.
+// A linked part is a chunk of the text on one line. Chunks between which nothing but container prefixes stands are read
+// as one, and what is found there is put in the places of the chunks.
 
-ghost use Rattle.std.specs.Prelude.{◌≡◌, ℕ, ◌+◌, ◌-◌, ◌<◌, ◌≤◌, ◌∷◌, ◌++◌, Bool, IfOk, List, OnOk, [], drop, length, take};
+ghost use Rattle.std.specs.Prelude.{◌≡◌, ℕ, ◌+◌, ◌-◌, ◌<◌, ◌≤◌, ◌∷◌, ◌++◌, Bool, IfOk, List, OnOk, [], drop, length};
+ghost use Rattle.std.specs.Prelude.{take};
 ghost use Rattle.std.specs.List.{prefix_len};
 ghost use Rattle.md_engine.specs.declared.event.Content.{Content};
 ghost use Rattle.md_seam.specs.Parts.{AreChunks, ArePlaced};
-ghost use Rattle.md_seam.specs.Substituted.{Begun, Readings, Substituted, belongs, chunk_of, chunks_from, share, stays, wanted};
+ghost use Rattle.md_seam.specs.Substituted.{Begun, Readings, Substituted, belongs, chunk_of, chunks_from, share, stays};
+ghost use Rattle.md_seam.specs.Substituted.{wanted};
 
 use crate::inline::Chunk;
 pub use crate::names::is_prefix;
@@ -169,7 +171,11 @@ impl Found {
         requires found { ArePlaced (R.text reader.now) self.events.items }
         ensures chunks { IfOk result (λ found. 0 < found.chunks) }
         ensures placed { IfOk result (λ found. ArePlaced (R.text reader.now) found.events.items) }
-        ensures begun { IfOk result (λ found. Begun (R.reads_as reader.now content (chunks_from (R.wants reader.now) events.now)) (length (chunks_from (R.wants reader.now) events.now)) (drop self.placed self.events.items) self.chunks (drop found.placed found.events.items) found.chunks) }
+        ensures begun { IfOk result
+            (λ found.
+            Begun (R.reads_as reader.now content (chunks_from (R.wants reader.now) events.now))
+            (length (chunks_from (R.wants reader.now) events.now)) (drop self.placed self.events.items) self.chunks
+            (drop found.placed found.events.items) found.chunks) }
     {
         if self.chunks > 0 {
             return Ok(self);
@@ -196,7 +202,8 @@ impl Found {
         ensures placed { let left = drop self.old.placed self.old.events.items in
             OnOk result (events.new.items ≡ events.old.items ++ take (share (self.old.chunks - 1) left end) left) }
         ensures left { let left = drop self.old.placed self.old.events.items in
-            OnOk result (drop self.new.placed self.new.events.items ≡ drop (share (self.old.chunks - 1) left end) left) }
+            OnOk result (drop self.new.placed self.new.events.items ≡ drop (share (self.old.chunks - 1) left end)
+            left) }
     {
         let left = &self.events[self.placed..];
         let many = if self.chunks > 1 {
@@ -223,7 +230,8 @@ pub fn subtokenize<R: Reader>(
     requires placed { ArePlaced (R.text reader.now) events.now }
     requires empty { spare.items ≡ [] }
     ensures placed { IfOk result (λ all. ArePlaced (R.text reader.now) all.items) }
-    ensures substituted { IfOk result (λ all. Substituted (R.wants reader.now) (R.reads_as reader.now) [] 0 events.now all.items) }
+    ensures substituted { IfOk result
+        (λ all. Substituted (R.wants reader.now) (R.reads_as reader.now) [] 0 events.now all.items) }
 {
     let mut all = spare;
     let mut found = Found::nothing(alloc);

@@ -24,7 +24,8 @@ pub fn run<R: Read, W: Write, E: Write>(
     output: &mut W,
     errors: &mut E,
 ) -> u8
-    ensures { Runs (codes "plain_blocks") (PrintsOutline ⟦<Plain as Body>⟧.outlines ⟦<Plain as Body>⟧.built) (map string_bytes args.now)
+    ensures { Runs (codes "plain_blocks") (PrintsOutline ⟦<Plain as Body>⟧.outlines ⟦<Plain as Body>⟧.built)
+        (map string_bytes args.now)
         (R.remaining input.old) (R.remaining input.new)
         (W.contents output.old) (W.contents output.new)
         (E.contents errors.old) (E.contents errors.new) result }

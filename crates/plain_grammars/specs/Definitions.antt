@@ -1,5 +1,6 @@
 -- What the parts of definitions mean.
-use Rattle.std.specs.Prelude.{ℕ, ◌+◌, ◌-◌, Bool, ◌&&◌, not, ◌==◌, if◌then◌else◌, List, [], ◌∷◌, map, drop, Option, Some, None}
+use Rattle.std.specs.Prelude.{ℕ, ◌+◌, ◌-◌, Bool, ◌&&◌, not, ◌==◌, if◌then◌else◌, List, [], ◌∷◌, map, drop, Option, Some}
+use Rattle.std.specs.Prelude.{None}
 use Rattle.std.specs.Borrow.{Bor}
 use Rattle.std.specs.Option.{option_map}
 use Rattle.md_definition.specs.Enclosed as e
@@ -39,7 +40,11 @@ abbrev pub destination_meaning : Destination → d.Destination
 destination_meaning x = record { text = x.text.now; rest = x.rest.now }
 
 abbrev pub defined_meaning : Defined → d.Defined
-defined_meaning x = record { label = texts x.label.items; destination = x.destination.now; title = option_map (λ lines. texts lines.items) x.title }
+defined_meaning x = record {
+  label = texts x.label.items;
+  destination = x.destination.now;
+  title = option_map (λ lines. texts lines.items) x.title;
+}
 
 abbrev pub found_meaning : List (Bor (List ℕ)) → Found → d.Cut
 found_meaning lines x = record { defined = defined_meaning x.defined; rest = texts (drop x.next lines) }

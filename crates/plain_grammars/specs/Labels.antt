@@ -4,4 +4,7 @@ use Rattle.md_definition.specs.Label as l
 use Rattle.plain_grammars.specs.declared.label.Labels.{Labels}
 
 abbrev pub labels_meaning : Labels → l.Labels
-labels_meaning x = record { definitions = map string_bytes x.definitions.items; footnotes = map string_bytes x.footnotes.items }
+labels_meaning x = record {
+  definitions = map string_bytes x.definitions.items;
+  footnotes = map string_bytes x.footnotes.items;
+}

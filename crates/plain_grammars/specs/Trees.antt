@@ -33,9 +33,11 @@ block_step (layer.Heading depth lines) = t.Heading depth (map (λ l. l.now) line
 block_step layer.Break = t.Break
 block_step (layer.Code lines) = t.Code (line_meanings lines.items)
 block_step (layer.Html lines) = t.Html (line_meanings lines.items)
-block_step (layer.Fence marker info meta lines closed) = t.Fence marker (option_copied info) (option_copied meta) (line_meanings lines.items) closed
+block_step (layer.Fence marker info meta lines closed) =
+    t.Fence marker (option_copied info) (option_copied meta) (line_meanings lines.items) closed
 block_step (layer.Math meta lines closed) = t.Math (option_copied meta) (line_meanings lines.items) closed
-block_step (layer.Definition label destination title) = t.Definition (map (λ l. l.now) label.items) destination.now (option_map (λ v. map (λ l. l.now) v.items) title)
+block_step (layer.Definition label destination title) =
+    t.Definition (map (λ l. l.now) label.items) destination.now (option_map (λ v. map (λ l. l.now) v.items) title)
 block_step (layer.Paragraph lines) = t.Paragraph (map (λ l. l.now) lines.items)
 block_step (layer.Table delimiter rows) = t.Table delimiter.now (map (λ row. map (λ l. l.now) row.items) rows.items)
 

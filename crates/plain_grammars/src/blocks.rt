@@ -18,7 +18,8 @@ pub fn push_block<'a>(blocks: &mut Vec<Block<'a>>, block: Block<'a>) -> Result<(
 
 /// Adds a paragraph of these lines, if there are any.
 pub fn push_paragraph<'a>(blocks: &mut Vec<Block<'a>>, lines: Vec<&'a [u8]>) -> Result<(), Message>
-    ensures { OnOk result (meanings blocks.new.items ≡ then_paragraph (meanings blocks.old.items) (slices lines.entry.items)) }
+    ensures { OnOk result
+        (meanings blocks.new.items ≡ then_paragraph (meanings blocks.old.items) (slices lines.entry.items)) }
 {
     match lines.as_slice() {
         [] => Ok(()),

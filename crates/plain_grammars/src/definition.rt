@@ -1,5 +1,6 @@
 // Link reference definitions (CommonMark 4.7).
-ghost use Rattle.std.specs.Prelude.{◌≡◌, ℕ, ◌+◌, ◌^◌, ◌<◌, ◌≤◌, ◌&&◌, not, false, List, length, drop, nat_le, sum_by, option_map, IfOk};
+ghost use Rattle.std.specs.Prelude.{◌≡◌, ℕ, ◌+◌, ◌^◌, ◌<◌, ◌≤◌, ◌&&◌, not, false, List, length, drop, nat_le, sum_by};
+ghost use Rattle.std.specs.Prelude.{option_map, IfOk};
 ghost use Rattle.std.specs.Borrow.{Bor};
 ghost use Rattle.std.specs.List.{list_all, prefix_len};
 ghost use Rattle.md_definition.specs.Bytes.{is_end};
@@ -109,7 +110,10 @@ fn enclosed_lines<'a>(
     lines: &[&'a [u8]],
     ahead: Ahead<'a>,
 ) -> Result<Option<Text<'a>>, Message>
-    ensures { IfOk result (λ found. option_map (m.text_meaning lines.now) found ≡ text.enclosed_lines opener closer (m.ahead_meaning lines.now ahead.entry)) }
+    ensures { IfOk result
+        (λ found.
+        option_map (m.text_meaning lines.now) found ≡
+        text.enclosed_lines opener closer (m.ahead_meaning lines.now ahead.entry)) }
 {
     let mut text = Vec::new(alloc);
     let mut rest = ahead.rest;
@@ -170,7 +174,9 @@ fn label_at<'a>(
     lines: &[&'a [u8]],
     ahead: Ahead<'a>,
 ) -> Result<Option<Text<'a>>, Message>
-    ensures { IfOk result (λ found. option_map (m.text_meaning lines.now) found ≡ definition.label_at (m.ahead_meaning lines.now ahead.entry)) }
+    ensures { IfOk result
+        (λ found.
+        option_map (m.text_meaning lines.now) found ≡ definition.label_at (m.ahead_meaning lines.now ahead.entry)) }
 {
     if !begins_with(b'[', ahead.rest) {
         return Ok(None);
@@ -198,7 +204,8 @@ fn label_at<'a>(
 
 /// What follows the `:` that comes first.
 fn after_colon<'a>(ahead: Ahead<'a>) -> Option<Ahead<'a>>
-    ensures { (lines : List (Bor (List ℕ))) → option_map (m.ahead_meaning lines) result ≡ definition.after_colon (m.ahead_meaning lines ahead.entry) }
+    ensures { (lines : List (Bor (List ℕ))) →
+        option_map (m.ahead_meaning lines) result ≡ definition.after_colon (m.ahead_meaning lines ahead.entry) }
 {
     if begins_with(b':', ahead.rest) {
         Some(Ahead {
@@ -322,7 +329,9 @@ fn title_at<'a>(
     lines: &[&'a [u8]],
     ahead: Ahead<'a>,
 ) -> Result<Option<Title<'a>>, Message>
-    ensures { IfOk result (λ found. option_map (m.title_meaning lines.now) found ≡ definition.title_at (m.ahead_meaning lines.now ahead.entry)) }
+    ensures { IfOk result
+        (λ found.
+        option_map (m.title_meaning lines.now) found ≡ definition.title_at (m.ahead_meaning lines.now ahead.entry)) }
 {
     let Some((opener, rest)) = ahead.rest.split_first() else {
         return Ok(None);
@@ -359,7 +368,10 @@ fn title_after<'a>(
     lines: &[&'a [u8]],
     ahead: Ahead<'a>,
 ) -> Result<Option<Title<'a>>, Message>
-    ensures { IfOk result (λ found. option_map (m.title_meaning lines.now) found ≡ definition.title_after ahead.entry.rest.now (m.texts (drop ahead.entry.next lines.now))) }
+    ensures { IfOk result
+        (λ found.
+        option_map (m.title_meaning lines.now) found ≡
+        definition.title_after ahead.entry.rest.now (m.texts (drop ahead.entry.next lines.now))) }
 {
     if !is_parted(ahead.rest) {
         return Ok(None);
@@ -370,14 +382,18 @@ fn title_after<'a>(
     }
 }
 
-/// The definition with this label, whose destination comes first. Without a title it ends with the line of the destination.
+/// The definition with this label, whose destination comes first. Without a title it ends with the line of the
+/// destination.
 fn with_destination<'a>(
     alloc: Global,
     lines: &[&'a [u8]],
     label: Vec<&'a [u8]>,
     ahead: Ahead<'a>,
 ) -> Result<Option<Found<'a>>, Message>
-    ensures { IfOk result (λ found. option_map (m.found_meaning lines.now) found ≡ definition.with_destination (m.texts label.entry.items) (m.ahead_meaning lines.now ahead.entry)) }
+    ensures { IfOk result
+        (λ found.
+        option_map (m.found_meaning lines.now) found ≡
+        definition.with_destination (m.texts label.entry.items) (m.ahead_meaning lines.now ahead.entry)) }
 {
     let Some(destination) = destination_at(ahead.rest) else {
         return Ok(None);
@@ -424,7 +440,9 @@ fn definition_at<'a>(
     lines: &[&'a [u8]],
     next: usize,
 ) -> Result<Option<Found<'a>>, Message>
-    ensures { IfOk result (λ found. option_map (m.found_meaning lines.now) found ≡ definition.definition_at (m.texts (drop next lines.now))) }
+    ensures { IfOk result
+        (λ found.
+        option_map (m.found_meaning lines.now) found ≡ definition.definition_at (m.texts (drop next lines.now))) }
 {
     if next >= lines.len() {
         return Ok(None);
@@ -449,8 +467,8 @@ fn definition_at<'a>(
     }
 }
 
-/// The definitions at the front of a paragraph, and the lines that remain. The lines are given without leading spaces and
-/// tabs.
+/// The definitions at the front of a paragraph, and the lines that remain. The lines are given without leading spaces
+/// and tabs.
 pub fn cut_definitions<'a>(alloc: Global, lines: &[&'a [u8]]) -> Result<Cut<'a>, Message>
     ensures { IfOk result (λ cut. m.cut_meaning cut ≡ definition.cut_definitions (m.texts lines.now)) }
 {

@@ -90,7 +90,8 @@ pub struct Labels {
 /// Adds the labels of a block.
 #[cycle(labelling)]
 fn push_block(alloc: Global, labels: &mut Labels, block: &Block) -> Result<(), Message>
-    ensures { OnOk result (labels_meaning labels.new ≡ label.both (labels_meaning labels.old) (label.block_labels (meaning block.now))) }
+    ensures { OnOk result
+        (labels_meaning labels.new ≡ label.both (labels_meaning labels.old) (label.block_labels (meaning block.now))) }
 {
     match block {
         Block::Quote(blocks) | Block::ListOf(_, blocks) | Block::Item(_, _, blocks) => {
@@ -112,7 +113,8 @@ fn push_block(alloc: Global, labels: &mut Labels, block: &Block) -> Result<(), M
 /// Adds the labels of blocks.
 #[cycle(labelling)]
 fn push_blocks(alloc: Global, labels: &mut Labels, blocks: &[Block]) -> Result<(), Message>
-    ensures { OnOk result (labels_meaning labels.new ≡ label.both (labels_meaning labels.old) (label.labels (meanings blocks.now))) }
+    ensures { OnOk result
+        (labels_meaning labels.new ≡ label.both (labels_meaning labels.old) (label.labels (meanings blocks.now))) }
 {
     for block in blocks {
         push_block(alloc, labels, block)?;

@@ -1,5 +1,5 @@
-// The grammars of the line definition as plain functions: bytes, columns, lines, frontmatter, HTML, definitions, labels and
-// tables. `md_plain` makes trees of them.
+// The grammars of the line definition as plain functions: bytes, columns, lines, frontmatter, HTML, definitions, labels
+// and tables. `md_plain` makes trees of them.
 #![tactic(auto)]
 
 pub mod ahead;

@@ -71,14 +71,15 @@ fn lines_in<'a>(alloc: Global, rests: &[Rest<'a>]) -> Result<Vec<&'a [u8]>, Mess
     Ok(lines)
 }
 
-/// The frontmatter of these lines, which follow a fence with this marker: the first fence with the same marker closes it, and
-/// without one there is none.
+/// The frontmatter of these lines, which follow a fence with this marker: the first fence with the same marker closes
+/// it, and without one there is none.
 fn front_by<'a, 'b>(
     alloc: Global,
     marker: u8,
     rests: &'b [Rest<'a>],
 ) -> Result<Option<Front<'a, 'b>>, Message>
-    ensures front { IfOk result (λ o. option_map fronts.front_meaning o ≡ preamble.front_by (Some marker) (fronts.lines_in rests.now)) }
+    ensures front { IfOk result
+        (λ o. option_map fronts.front_meaning o ≡ preamble.front_by (Some marker) (fronts.lines_in rests.now)) }
     ensures after { IfOk result (λ o. IfSome o (λ f. fronts.IsEnd rests.now f.after.now)) }
 {
     let (inside, behind) = rests.split_at(lines_before_fence(marker, rests));
@@ -99,7 +100,8 @@ pub fn front_of<'a, 'b>(
     options: &ParseOptions,
     rests: &'b [Rest<'a>],
 ) -> Result<Option<Front<'a, 'b>>, Message>
-    ensures front { IfOk result (λ o. option_map fronts.front_meaning o ≡ preamble.front_of options.now (fronts.lines_in rests.now)) }
+    ensures front { IfOk result
+        (λ o. option_map fronts.front_meaning o ≡ preamble.front_of options.now (fronts.lines_in rests.now)) }
     ensures after { IfOk result (λ o. IfSome o (λ f. fronts.IsEnd (drop 1 rests.now) f.after.now)) }
 {
     let Some((first, later)) = rests.split_first() else {

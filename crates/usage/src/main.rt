@@ -1,4 +1,5 @@
-// How to use the library: this program prints the lines of the headings and paragraphs of a text, and a line for each break.
+// How to use the library: this program prints the lines of the headings and paragraphs of a text, and a line for each
+// break.
 #![tactic(auto)]
 
 ghost use Rattle.markdown_blocks.specs.Parsed.{IsSmall};

@@ -23,7 +23,9 @@ behind-front : (cells : List Cell) (p : Point) → AreFront (behind_events cells
 behind-front [] p = ((refl, refl), tt)
 behind-front (c ∷ cs) p = go (is_white c.byte)
   where
-    go : (x : Bool) → AreFront (cond x (pair n.SpaceOrTab p c.after ++ exit n.BlockQuotePrefix c.after ∷ []) (exit n.BlockQuotePrefix p ∷ []))
+    go : (x : Bool) →
+        AreFront
+        (cond x (pair n.SpaceOrTab p c.after ++ exit n.BlockQuotePrefix c.after ∷ []) (exit n.BlockQuotePrefix p ∷ []))
     go true = ((refl, refl), ((refl, refl), ((refl, refl), tt)))
     go false = ((refl, refl), tt)
 
@@ -37,4 +39,5 @@ pub quote-front : (options : ParseOptions) (cells : List Cell) (p : Point) → A
 quote-front options cells p =
     let q : Point = white_end (small_indent options) cells p in
     let rest : List Cell = white_rest (small_indent options) cells in
-    each-append (IsNamed is_front) (indent_events options cells p) (marker_events rest q) (white-front (begins_white cells) p q) (marker-front rest q)
+    each-append (IsNamed is_front) (indent_events options cells p) (marker_events rest q)
+    (white-front (begins_white cells) p q) (marker-front rest q)

@@ -1,5 +1,6 @@
 -- A block quote goes on and opens by the cells of a line where it does by its bytes.
-use Rattle.std.proofs.Common.{◌≡◌, ℕ, Bool, true, false, cond, ◌&&◌, List, ◌∷◌, ◌++◌, Option, Some, None, refl, sym, subst, arith}
+use Rattle.std.proofs.Common.{◌≡◌, ℕ, Bool, true, false, cond, ◌&&◌, List, ◌∷◌, ◌++◌, Option, Some, None, refl, sym}
+use Rattle.std.proofs.Common.{subst, arith}
 use Rattle.md_engine.specs.declared.configuration.ParseOptions.{ParseOptions}
 use Rattle.md_engine.specs.declared.event.Event.{Event}
 use Rattle.md_engine.specs.declared.event.Point.{Point}
@@ -21,9 +22,16 @@ use Rattle.markdown_blocks.proofs.BlockQuote.Facts.{quote-continues, quote-opens
 use Rattle.md_engine.specs.declared.event.Name.TheVariants as n
 
 -- what a quote leaves, whether its begin stands in front of its prefix or not
-quote-passes : (options : ParseOptions) (line : Line) (text past : List ℕ) (r : Rest) (end : Point) (stop cells : List Cell) (p : Point) (es : List Event) (t : Taken) →
+quote-passes : (options : ParseOptions) (line : Line) (text past : List ℕ) (r : Rest) (end : Point)
+    (stop cells : List Cell) (p : Point) (es : List Event) (t : Taken) →
     NoEnding r.bytes → quote_taken options r ≡ Some t → HasPrefix options line text past end stop cells p t.rest →
-    HasPassed line text past end stop cells (record { container = InQuote; events = es; cells = prefix_rest options cells; point = prefix_end options cells p }) t
+    HasPassed line text past end stop cells
+    (record {
+      container = InQuote;
+      events = es;
+      cells = prefix_rest options cells;
+      point = prefix_end options cells p;
+    }) t
 quote-passes options line text past r end stop cells p es t h e has = record {
   container = sym (quote-container options r t e);
   read = tt;
@@ -35,7 +43,8 @@ quote-passes options line text past r end stop cells p es t h e has = record {
 }
 
 -- a quote goes on or opens by the cells where its prefix stands by the bytes
-by-prefix : (Has : Passed → Taken → Type 0) (passed : Passed) (options : ParseOptions) → ByRest (λ line text past r stop p.
+by-prefix : (Has : Passed → Taken → Type 0) (passed : Passed) (options : ParseOptions) →
+    ByRest (λ line text past r stop p.
     let cells = rest_cells line r p ++ stop in
     ((t : Taken) → quote_taken options r ≡ Some t →
     HasPrefix options line text past (past_rest r p) stop cells p t.rest → Has passed t) →
@@ -57,7 +66,8 @@ by-prefix Has passed options line text past r stop p is h k short found =
 -- a quote goes on
 pub quote-goes : (options : ParseOptions) → ByRest (λ line text past r stop p.
     let cells = rest_cells line r p ++ stop in
-    Agree (HasFurther line text past p (past_rest r p) stop cells) (quote_rules.goes options InQuote cells p) (quote_taken options r))
+    Agree (HasFurther line text past p (past_rest r p) stop cells) (quote_rules.goes options InQuote cells p)
+    (quote_taken options r))
 quote-goes options line text past r stop p is h k short =
     by-prefix Has (quote_on options cells p) options line text past r stop p is h k short further
   where
@@ -79,7 +89,8 @@ quote-goes options line text past r stop p is h k short =
 -- a quote opens, if quotes are on
 pub quote-begins : (options : ParseOptions) (interrupting : Bool) → ByRest (λ line text past r stop p.
     let cells = rest_cells line r p ++ stop in
-    Agree (HasOpening line text past p (past_rest r p) stop cells) (quote_rules.opens options interrupting cells p) (opens_quote options r))
+    Agree (HasOpening line text past p (past_rest r p) stop cells) (quote_rules.opens options interrupting cells p)
+    (opens_quote options r))
 unfolding opens_quote
 quote-begins options interrupting line text past r stop p is h k short = on options.constructs.block_quote
   where
@@ -94,7 +105,8 @@ quote-begins options interrupting line text past r stop p is h k short = on opti
     opening t e has =
         let es = prefix_events options cells p in
         record {
-          passes = quote-passes options line text past r (past_rest r p) stop cells p (enter n.BlockQuote p ∷ es) t h e has;
+          passes =
+              quote-passes options line text past r (past_rest r p) stop cells p (enter n.BlockQuote p ∷ es) t h e has;
           inside = es;
           events = refl;
           opening = quote-opens text p (prefix_end options cells p) es has.prefix;
@@ -102,6 +114,7 @@ quote-begins options interrupting line text past r stop p is h k short = on opti
         }
 
     on : (x : Bool) →
-        Agree Has (cond (x && takes_prefix options cells) (Some (quote_new options cells p)) None) (cond x (quote_taken options r) None)
+        Agree Has (cond (x && takes_prefix options cells) (Some (quote_new options cells p)) None)
+        (cond x (quote_taken options r) None)
     on true = by-prefix Has (quote_new options cells p) options line text past r stop p is h k short opening
     on false = tt

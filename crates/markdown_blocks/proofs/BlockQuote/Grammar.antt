@@ -17,7 +17,10 @@ pub prefix-others : (bytes : List ℕ) (p q : Point) (es : List Event) → IsPre
 prefix-others bytes p q es is = subst AreOthers (sym is.events) (go (same_place p is.marker) (same_place is.behind q))
   where
     go : (x y : Bool) →
-        AreOthers (cond x [] (pair n.SpaceOrTab p is.marker) ++ enter n.BlockQuotePrefix is.marker ∷ enter n.BlockQuoteMarker is.marker ∷ exit n.BlockQuoteMarker is.behind ∷ cond y [] (pair n.SpaceOrTab is.behind q) ++ exit n.BlockQuotePrefix q ∷ [])
+        AreOthers
+        (cond x [] (pair n.SpaceOrTab p is.marker) ++ enter n.BlockQuotePrefix is.marker
+        ∷ enter n.BlockQuoteMarker is.marker ∷ exit n.BlockQuoteMarker is.behind
+        ∷ cond y [] (pair n.SpaceOrTab is.behind q) ++ exit n.BlockQuotePrefix q ∷ [])
     go true true = refl
     go true false = refl
     go false true = refl
@@ -27,10 +30,12 @@ prefix-others bytes p q es is = subst AreOthers (sym is.events) (go (same_place 
 pub prefix-stays : (bytes : List ℕ) (p q : Point) (es : List Event) → IsPrefix bytes p q es → (text x : Expression) →
     TakesPrefixes x → Leads text (x ∷ []) (x ∷ []) es
 prefix-stays bytes p q es is text x takes =
-    subst (Leads text (x ∷ []) (x ∷ [])) (sym is.events) (leads-prefix text x x p is.marker is.behind q takes.1 (ap (behind n.BlockQuotePrefix) takes.0 ∙ takes.1))
+    subst (Leads text (x ∷ []) (x ∷ [])) (sym is.events)
+    (leads-prefix text x x p is.marker is.behind q takes.1 (ap (behind n.BlockQuotePrefix) takes.0 ∙ takes.1))
 
 -- and where it opens, with its begin
 pub prefix-begins : (bytes : List ℕ) (p q : Point) (es : List Event) → IsPrefix bytes p q es → (text : Expression) →
     Leads text (blocks ∷ []) (blocks ∷ behind_block ∷ []) (enter n.BlockQuote p ∷ es)
 prefix-begins bytes p q es is text outer =
-    subst (Leads text (inside text n.BlockQuote ∷ []) (blocks ∷ [])) (sym is.events) (leads-prefix text (inside text n.BlockQuote) blocks p is.marker is.behind q refl refl) (behind_block ∷ outer)
+    subst (Leads text (inside text n.BlockQuote ∷ []) (blocks ∷ [])) (sym is.events)
+    (leads-prefix text (inside text n.BlockQuote) blocks p is.marker is.behind q refl refl) (behind_block ∷ outer)

@@ -13,7 +13,8 @@ use Rattle.markdown_blocks.specs.Containers.BlockQuote.{quote_rules}
 use Rattle.markdown_blocks.specs.Registry.{IsOf, kind_of, shape_of}
 use Rattle.markdown_blocks.proofs.BlockQuote.Fronts.{quote-begins, quote-goes}
 use Rattle.markdown_blocks.proofs.BlockQuote.Tree.{no_quote-empty, opens-quote, simple-quote}
-use Rattle.markdown_blocks.proofs.BlockQuote.Trial.{prefix-passed, prefix-tried, quote-passed, quote-tried, prefix-looked, quote-looked}
+use Rattle.markdown_blocks.proofs.BlockQuote.Trial.{prefix-passed, prefix-tried, quote-passed, quote-tried}
+use Rattle.markdown_blocks.proofs.BlockQuote.Trial.{prefix-looked, quote-looked}
 use Rattle.markdown_blocks.proofs.ContainerLaws.{ByRest, ContainerLaws}
 use Rattle.markdown_blocks.proofs.PassedFacts.{Agree, HasFurther}
 use Rattle.markdown_blocks.proofs.SimpleBlocks.{IsSimple}
@@ -46,8 +47,10 @@ quote-laws = record {
   where
     goes : (options : ParseOptions) (c : Container) → IsOf kind.BlockQuote c → ByRest (λ line text past r stop p.
         let cells = rest_cells line r p ++ stop in
-        Agree (HasFurther line text past p (past_rest r p) stop cells) (quote_rules.goes options c cells p) (continues options c r))
+        Agree (HasFurther line text past p (past_rest r p) stop cells) (quote_rules.goes options c cells p)
+        (continues options c r))
     goes options c is = each-quote (λ d. ByRest (λ line text past r stop p.
         let cells = rest_cells line r p ++ stop in
-        Agree (HasFurther line text past p (past_rest r p) stop cells) (quote_rules.goes options d cells p) (continues options d r)))
+        Agree (HasFurther line text past p (past_rest r p) stop cells) (quote_rules.goes options d cells p)
+        (continues options d r)))
         (quote-goes options) c is

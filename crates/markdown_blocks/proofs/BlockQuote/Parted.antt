@@ -1,5 +1,6 @@
 -- The prefix of a block quote in a text that goes on behind it.
-use Rattle.std.proofs.Common.{◌≡◌, ℕ, ◌<◌, Bool, true, false, cond, ◌&&◌, List, [], ◌∷◌, ◌++◌, slice_range, sym, subst, arith}
+use Rattle.std.proofs.Common.{◌≡◌, ℕ, ◌<◌, Bool, true, false, cond, ◌&&◌, List, [], ◌∷◌, ◌++◌, slice_range, sym, subst}
+use Rattle.std.proofs.Common.{arith}
 use Rattle.std.specs.Prelude.{◌==◌, IsTrue, Some}
 use Rattle.std.proofs.lemmas.Bool.{and_from}
 use Rattle.std.proofs.lemmas.Bool.Decides.{nat_tests}
@@ -20,14 +21,20 @@ use Rattle.markdown_blocks.proofs.BetweenFacts.{white-at}
 
 -- it begins where no tab of a character is cut
 pub prefix-clear : (bytes : List ℕ) (p q : Point) (es : List Event) → IsPrefix bytes p q es → clear bytes p ≡ true
-prefix-clear bytes p q es is = low-clear bytes p (λ e. white-at bytes p.index is.marker.index p.index is.white_before (omega arith) (before is.marker is.indent is.marker_whole e))
+prefix-clear bytes p q es is =
+    low-clear bytes p
+    (λ e.
+    white-at bytes p.index is.marker.index p.index is.white_before (omega arith)
+    (before is.marker is.indent is.marker_whole e))
   where
     before : (m : Point) → IsTrue (at_or_before p m) → m.vs ≡ 0 → (p.vs == 0) ≡ false → p.index < m.index
     before m h w e = grind (arith, nat_tests)
 
 -- a text goes on behind it
 pub prefix-parted : (bytes : List ℕ) (p q : Point) (es : List Event) → IsPrefix bytes p q es → PartsText bytes p q es
-prefix-parted bytes p q es is span rest marks between more = subst (λ (l : List Event). are_parted bytes (Some span) (l ++ rest) ≡ true) (sym is.events) (go (same_place p is.marker) (same_place is.behind q))
+prefix-parted bytes p q es is span rest marks between more =
+    subst (λ (l : List Event). are_parted bytes (Some span) (l ++ rest) ≡ true) (sym is.events)
+    (go (same_place p is.marker) (same_place is.behind q))
   where
     marker : Point
     marker = is.marker
@@ -38,15 +45,23 @@ prefix-parted bytes p q es is span rest marks between more = subst (λ (l : List
     piece : List ℕ
     piece = slice_range bytes span.from marker.index
 
-    step : ((begins_line span piece && is_blank (last_line (split_lines piece))) && (is_between bytes (byte_at q) && are_parted bytes (Some (behind_prefix q)) rest)) ≡ true
+    step : ((begins_line span piece && is_blank (last_line (split_lines piece)))
+        && (is_between bytes (byte_at q) && are_parted bytes (Some (behind_prefix q)) rest)) ≡
+        true
     step =
         let at = marks marker.index (byte-order p marker is.indent is.marker_whole) is.white_before in
-        and_from (begins_line span piece && is_blank (last_line (split_lines piece))) (is_between bytes (byte_at q) && are_parted bytes (Some (behind_prefix q)) rest)
+        and_from (begins_line span piece && is_blank (last_line (split_lines piece)))
+        (is_between bytes (byte_at q) && are_parted bytes (Some (behind_prefix q)) rest)
         (and_from (begins_line span piece) (is_blank (last_line (split_lines piece))) at.0 at.1)
         (and_from (is_between bytes (byte_at q)) (are_parted bytes (Some (behind_prefix q)) rest) between more)
 
     go : (x y : Bool) →
-        are_parted bytes (Some span) ((cond x [] (pair n.SpaceOrTab p marker) ++ enter n.BlockQuotePrefix marker ∷ enter n.BlockQuoteMarker marker ∷ exit n.BlockQuoteMarker behind ∷ cond y [] (pair n.SpaceOrTab behind q) ++ exit n.BlockQuotePrefix q ∷ []) ++ rest) ≡ true
+        are_parted bytes (Some span)
+        ((cond x [] (pair n.SpaceOrTab p marker) ++ enter n.BlockQuotePrefix marker
+        ∷ enter n.BlockQuoteMarker marker ∷ exit n.BlockQuoteMarker behind ∷ cond y [] (pair n.SpaceOrTab behind q)
+        ++ exit n.BlockQuotePrefix q ∷ [])
+        ++ rest) ≡
+        true
     go true true = step
     go true false = step
     go false true = step

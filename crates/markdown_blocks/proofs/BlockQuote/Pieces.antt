@@ -1,5 +1,6 @@
 -- The pieces of the prefix of a block quote stand over their bytes.
-use Rattle.std.proofs.Common.{◌≡◌, ℕ, zero, suc, ◌-◌, Bool, true, false, cond, List, [], ◌∷◌, ◌++◌, take, drop, slice_range, refl, ap, sym, ◌∙◌, subst, arith}
+use Rattle.std.proofs.Common.{◌≡◌, ℕ, zero, suc, ◌-◌, Bool, true, false, cond, List, [], ◌∷◌, ◌++◌, take, drop}
+use Rattle.std.proofs.Common.{slice_range, refl, ap, sym, ◌∙◌, subst, arith}
 use Rattle.std.specs.Prelude.{◌==◌, Some, slice_get}
 use Rattle.std.proofs.lemmas.Bool.{and_from, or_right}
 use Rattle.md_engine.specs.declared.event.Event.{Event}
@@ -29,22 +30,30 @@ marker-stands : (bytes : List ℕ) (p q : Point) (es : List Event) → (is : IsP
 marker-stands bytes p q es is =
     let past : is.behind.index ≡ suc is.marker.index = is.past in
     over-stands bytes n.BlockQuoteMarker is.marker is.behind (62 ∷ [])
-    (record { some = omega arith; whole = is.behind_whole; slice = ap (slice_range bytes is.marker.index) past ∙ slice-one bytes is.marker.index 62 is.byte })
+    (record {
+      some = omega arith;
+      whole = is.behind_whole;
+      slice = ap (slice_range bytes is.marker.index) past ∙ slice-one bytes is.marker.index 62 is.byte;
+    })
     (begins-whole n.BlockQuoteMarker is.marker is.marker_whole) refl
 
 -- whitespace that may be cut from a tab at both ends
 white-stands : (bytes : List ℕ) (p q : Point) → same_place p q ≡ false →
     stands_over n.SpaceOrTab (slice_range bytes p.index q.index) ≡ true →
     piece_stands bytes (span n.SpaceOrTab p q) ≡ true
-white-stands bytes p q apart blank = piece-stands bytes n.SpaceOrTab p q apart (begins-cut n.SpaceOrTab p refl) (or_right (q.vs == 0) true refl) blank
+white-stands bytes p q apart blank =
+    piece-stands bytes n.SpaceOrTab p q apart (begins-cut n.SpaceOrTab p refl) (or_right (q.vs == 0) true refl) blank
 
 -- all of it
 pub prefix-stood : (bytes : List ℕ) (p q : Point) (es : List Event) → IsPrefix bytes p q es → Stood bytes es
-prefix-stood bytes p q es is = subst (Stood bytes) (sym is.events) (go (same_place p is.marker) refl (same_place is.behind q) refl)
+prefix-stood bytes p q es is =
+    subst (Stood bytes) (sym is.events) (go (same_place p is.marker) refl (same_place is.behind q) refl)
   where
     prefix : Bool → Bool → List Event
     prefix x y =
-        cond x [] (pair n.SpaceOrTab p is.marker) ++ enter n.BlockQuotePrefix is.marker ∷ enter n.BlockQuoteMarker is.marker ∷ exit n.BlockQuoteMarker is.behind ∷ cond y [] (pair n.SpaceOrTab is.behind q) ++ exit n.BlockQuotePrefix q ∷ []
+        cond x [] (pair n.SpaceOrTab p is.marker) ++ enter n.BlockQuotePrefix is.marker
+        ∷ enter n.BlockQuoteMarker is.marker ∷ exit n.BlockQuoteMarker is.behind
+        ∷ cond y [] (pair n.SpaceOrTab is.behind q) ++ exit n.BlockQuotePrefix q ∷ []
 
     marker : piece_stands bytes (span n.BlockQuoteMarker is.marker is.behind) ≡ true
     marker = marker-stands bytes p q es is
@@ -59,4 +68,7 @@ prefix-stood bytes p q es is = subst (Stood bytes) (sym is.events) (go (same_pla
     go true e true f = record { ends = refl; stand = and_from _ true marker refl }
     go true e false f = record { ends = refl; stand = and_from _ _ marker (and_from _ true (behind f) refl) }
     go false e true f = record { ends = refl; stand = and_from _ _ (before e) (and_from _ true marker refl) }
-    go false e false f = record { ends = refl; stand = and_from _ _ (before e) (and_from _ _ marker (and_from _ true (behind f) refl)) }
+    go false e false f = record {
+      ends = refl;
+      stand = and_from _ _ (before e) (and_from _ _ marker (and_from _ true (behind f) refl));
+    }

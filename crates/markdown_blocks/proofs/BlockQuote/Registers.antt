@@ -16,11 +16,13 @@ quote-cont-start w true h = h
 quote-cont-start w false h = h
 
 quote-cont-before : (w : World) (b : Bool) → Registers w → Registers (quote.cont_before_code w b).world
-quote-cont-before w true h = adds _ _ w.resolvers refl refl (adds _ _ w.resolvers refl refl (adds w.events _ w.resolvers refl refl h))
+quote-cont-before w true h =
+    adds _ _ w.resolvers refl refl (adds _ _ w.resolvers refl refl (adds w.events _ w.resolvers refl refl h))
 quote-cont-before w false h = h
 
 quote-cont-after : (w : World) (b : Bool) → Registers w → Registers (quote.cont_after_code w b).world
-quote-cont-after w true h = adds _ _ w.resolvers refl refl (adds _ _ w.resolvers refl refl (adds w.events _ w.resolvers refl refl h))
+quote-cont-after w true h =
+    adds _ _ w.resolvers refl refl (adds _ _ w.resolvers refl refl (adds w.events _ w.resolvers refl refl h))
 quote-cont-after w false h = adds w.events _ w.resolvers refl refl h
 
 -- each of them

@@ -23,7 +23,11 @@ opens-quote options r t e = go options.constructs.block_quote e
 
 -- it makes no list
 pub simple-quote : (bs : Blocks) → AreSimple bs → IsSimple (Quote bs)
-simple-quote bs h = record { shallow = shallow-blocks bs h; grouped_same = ap Quote (grouped-blocks bs h); in_front = λ more. refl }
+simple-quote bs h = record {
+  shallow = shallow-blocks bs h;
+  grouped_same = ap Quote (grouped-blocks bs h);
+  in_front = λ more. refl;
+}
 
 -- it does not go on over an empty line
 pub no_quote-empty : (options : ParseOptions) (column : ℕ) → quote_taken options (rest_at column []) ≡ None

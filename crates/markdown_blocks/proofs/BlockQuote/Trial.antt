@@ -30,8 +30,10 @@ taken-if false u t e = cc
 
 -- on a further line,
 pub prefix-tried : (options : ParseOptions) (cells : List Cell) (h : Here) → IsRest h.scratch →
-    prefix_at options cells h ≡ passed_by (cond (takes_prefix options cells) (Some (quote_on options cells h.point)) None) h
-prefix-tried options cells h is = prefix-is options cells h is ∙ tried-if (takes_prefix options cells) (quote_on options cells h.point) h
+    prefix_at options cells h ≡
+    passed_by (cond (takes_prefix options cells) (Some (quote_on options cells h.point)) None) h
+prefix-tried options cells h is =
+    prefix-is options cells h is ∙ tried-if (takes_prefix options cells) (quote_on options cells h.point) h
 
 -- not where another byte than whitespace and `>` stands first,
 no_prefix : (options : ParseOptions) (cells : List Cell) → may_begin (first_seen cells) ≡ false →
@@ -61,7 +63,8 @@ prefix-passed options cells p t e =
 pub quote-tried : (options : ParseOptions) (interrupting : Bool) (cells : List Cell) (h : Here) → IsRest h.scratch →
     quote_at options cells h ≡ passed_by (quote_rules.opens options interrupting cells h.point) h
 quote-tried options interrupting cells h is =
-    quote-is options cells h is ∙ tried-if (options.constructs.block_quote && takes_prefix options cells) (quote_new options cells h.point) h
+    quote-is options cells h is
+    ∙ tried-if (options.constructs.block_quote && takes_prefix options cells) (quote_new options cells h.point) h
 
 pub quote-looked : (options : ParseOptions) (cells : List Cell) (h : Here) → IsRest h.scratch →
     may_begin (first_seen cells) ≡ false → quote_at options cells h ≡ Refuses h.scratch h.flags
@@ -80,4 +83,8 @@ quote-passed options interrupting cells p t e =
     let is = taken-if (options.constructs.block_quote && takes_prefix options cells) (quote_new options cells p) t e in
     let takes = (and_parts options.constructs.block_quote (takes_prefix options cells) is.0).1 in
     subst (IsPassed kind.BlockQuote cells) is.1
-    (record { one = refl; shorter = prefix-shorter options cells takes; front = ((refl, refl), quote-front options cells p) })
+    (record {
+      one = refl;
+      shorter = prefix-shorter options cells takes;
+      front = ((refl, refl), quote-front options cells p);
+    })

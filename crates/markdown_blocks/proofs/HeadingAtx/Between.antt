@@ -1,5 +1,6 @@
 -- The events of a heading stand between characters.
-use Rattle.std.proofs.Common.{◌≡◌, ℕ, ◌+◌, ◌-◌, Bool, true, false, cond, List, [], ◌∷◌, ◌++◌, length, take, drop, refl, ap, sym, ◌∙◌, subst, append_assoc, drop-drop, arith}
+use Rattle.std.proofs.Common.{◌≡◌, ℕ, ◌+◌, ◌-◌, Bool, true, false, cond, List, [], ◌∷◌, ◌++◌, length, take, drop, refl}
+use Rattle.std.proofs.Common.{ap, sym, ◌∙◌, subst, append_assoc, drop-drop, arith}
 use Rattle.std.specs.Prelude.{◌==◌, not, slice_index, Some, None}
 use Rattle.std.specs.List.{AllPass}
 use Rattle.std.proofs.lemmas.Bool.Decides.{nat_tests}
@@ -23,8 +24,10 @@ use Rattle.md_seam.proofs.PlacesLemmas.{at-next}
 use Rattle.md_definition.proofs.TextsLemmas.{NoEnding}
 use Rattle.md_outline.specs.Between.{is_between}
 use Rattle.markdown_blocks.specs.Leaf.HeadingAtx.{heading_around, read_text, read_title}
-use Rattle.markdown_blocks.proofs.BetweenFacts.{AreBetween, around-between, between-append, between-before, between-behind, between-more, chunk-between, is_low, white-low}
-use Rattle.markdown_blocks.proofs.HeadingAtx.Places.{back_bytes, line-end-is, text-end-is, text_begin, text_bytes, text_end}
+use Rattle.markdown_blocks.proofs.BetweenFacts.{AreBetween, around-between, between-append, between-before}
+use Rattle.markdown_blocks.proofs.BetweenFacts.{between-behind, between-more, chunk-between, is_low, white-low}
+use Rattle.markdown_blocks.proofs.HeadingAtx.Places.{back_bytes, line-end-is, text-end-is, text_begin, text_bytes}
+use Rattle.markdown_blocks.proofs.HeadingAtx.Places.{text_end}
 use Rattle.markdown_blocks.proofs.LeafFacts.{LineAt}
 use Rattle.markdown_blocks.proofs.LineTexts.{line-stands, no_ending-parts, without-none}
 
@@ -101,7 +104,8 @@ runs-between : (bytes : List ℕ) (run : Run) (xs rest : List ℕ) (p : Point) �
     BehindRun bytes run p.index → is_between bytes (past_text xs p).index ≡ true → AreBetween bytes (line_runs run xs p)
 runs-between bytes run [] rest p text behind end = closes-between bytes run p end
 runs-between bytes run (b ∷ xs) rest p text behind end =
-    go (goes_on run b) refl (λ k. runs-between bytes run xs rest (past_byte b p) more (run-goes_on bytes run p.index b here k) end)
+    go (goes_on run b) refl
+    (λ k. runs-between bytes run xs rest (past_byte b p) more (run-goes_on bytes run p.index b here k) end)
     (runs-between bytes (begun b) xs rest (past_byte b p) more (run-begins bytes p.index b here) end)
   where
     here : slice_index bytes p.index ≡ b
@@ -112,12 +116,15 @@ runs-between bytes run (b ∷ xs) rest p text behind end =
 
     go : (t : Bool) → goes_on run b ≡ t → (goes_on run b ≡ true → AreBetween bytes (line_runs run xs (past_byte b p))) →
         AreBetween bytes (line_runs (begun b) xs (past_byte b p)) →
-        AreBetween bytes (cond t (line_runs run xs (past_byte b p)) ((closes run p ++ opens (begun b) p) ++ line_runs (begun b) xs (past_byte b p)))
+        AreBetween bytes
+        (cond t (line_runs run xs (past_byte b p))
+        ((closes run p ++ opens (begun b) p) ++ line_runs (begun b) xs (past_byte b p)))
     go true k same next = same k
     go false k same next =
         let at : is_between bytes p.index ≡ true = run-ends bytes run p.index b here behind k in
         between-append bytes (closes run p ++ opens (begun b) p) (line_runs (begun b) xs (past_byte b p))
-        (between-append bytes (closes run p) (opens (begun b) p) (closes-between bytes run p at) (opens-between bytes (begun b) p at)) next
+        (between-append bytes (closes run p) (opens (begun b) p) (closes-between bytes run p at)
+        (opens-between bytes (begun b) p at)) next
 
 -- behind and in front of a piece of spaces, tabs and `#`
 between-past_marks : (bytes xs rest : List ℕ) (p : Point) → drop p.index bytes ≡ xs ++ rest → AllPass is_mark xs →
@@ -125,7 +132,8 @@ between-past_marks : (bytes xs rest : List ℕ) (p : Point) → drop p.index byt
 between-past_marks bytes [] rest p text marks h = h
 between-past_marks bytes (b ∷ xs) rest p text marks h =
     let here : slice_index bytes p.index ≡ b = at-next p.index bytes b (xs ++ rest) text in
-    between-past_marks bytes xs rest (past_byte b p) (past-next p.index bytes b (xs ++ rest) text) (pass-rest is_mark b xs marks)
+    between-past_marks bytes xs rest (past_byte b p) (past-next p.index bytes b (xs ++ rest) text)
+    (pass-rest is_mark b xs marks)
     (between-behind bytes (p.index + 1) (low-behind bytes p.index b here (mark-low b (pass-first is_mark b xs marks))))
 
 between-at_marks : (bytes xs rest : List ℕ) (p : Point) → drop p.index bytes ≡ xs ++ rest → AllPass is_mark xs →
@@ -133,7 +141,8 @@ between-at_marks : (bytes xs rest : List ℕ) (p : Point) → drop p.index bytes
 between-at_marks bytes [] rest p text marks h = h
 between-at_marks bytes (b ∷ xs) rest p text marks h =
     let here : slice_index bytes p.index ≡ b = at-next p.index bytes b (xs ++ rest) text in
-    between-before bytes p.index (subst (λ (c : ℕ). is_low c ≡ true) (sym here) (mark-low b (pass-first is_mark b xs marks)))
+    between-before bytes p.index
+    (subst (λ (c : ℕ). is_low c ≡ true) (sym here) (mark-low b (pass-first is_mark b xs marks)))
 
 -- what stands behind a piece of a text
 behind-piece : (bytes xs rest : List ℕ) (p : Point) → drop p.index bytes ≡ xs ++ rest →
@@ -150,7 +159,8 @@ text-between bytes text rest size p q stands none end h k = go (size == 0)
   where
     line : line_end bytes (record { first = p; after = q }) ≡ q
     line =
-        ap (λ (l : List ℕ). past_text (without_ending l) p) (slice-front bytes p.index q.index text rest stands (ap (λ (r : Point). r.index) end ∙ past-index text p))
+        ap (λ (l : List ℕ). past_text (without_ending l) p)
+        (slice-front bytes p.index q.index text rest stands (ap (λ (r : Point). r.index) end ∙ past-index text p))
         ∙ ap (λ (l : List ℕ). past_text l p) (without-none text none)
         ∙ sym end
 
@@ -159,7 +169,8 @@ text-between bytes text rest size p q stands none end h k = go (size == 0)
     go false =
         let events : List Event = plain_chunk bytes (record { first = p; after = q }) in
         between-more bytes (enter n.HeadingAtxText p) ((events ++ []) ++ exit n.HeadingAtxText q ∷ []) h
-        (between-append bytes (events ++ []) (exit n.HeadingAtxText q ∷ []) (between-append bytes events [] (chunk-between bytes p q q line h k k) refl)
+        (between-append bytes (events ++ []) (exit n.HeadingAtxText q ∷ [])
+        (between-append bytes events [] (chunk-between bytes p q q line h k k) refl)
         (between-more bytes (exit n.HeadingAtxText q) [] k refl))
 
 -- what stands in a heading
@@ -175,19 +186,30 @@ title-between bytes line rest p stands none first last =
     let begin : Point = text_begin line p in
     let end : Point = text_end line p in
     let behind : drop (front_len line) line ≡ text ++ back =
-    sym (take-append-drop size (drop (front_len line) line)) ∙ ap (λ (l : List ℕ). text ++ l) (drop-drop size (front_len line) line) in
-    let whole : line ≡ front ++ (text ++ back) = sym (take-append-drop (front_len line) line) ∙ ap (λ (l : List ℕ). front ++ l) behind in
-    let at_front : drop p.index bytes ≡ front ++ ((text ++ back) ++ rest) = stands ∙ ap (λ (l : List ℕ). l ++ rest) whole ∙ append_assoc front (text ++ back) rest in
-    let at_text : drop begin.index bytes ≡ text ++ (back ++ rest) = behind-piece bytes front ((text ++ back) ++ rest) p at_front ∙ append_assoc text back rest in
+    sym (take-append-drop size (drop (front_len line) line))
+    ∙ ap (λ (l : List ℕ). text ++ l) (drop-drop size (front_len line) line) in
+    let whole : line ≡ front ++ (text ++ back) = sym (take-append-drop (front_len line) line)
+    ∙ ap (λ (l : List ℕ). front ++ l) behind in
+    let at_front : drop p.index bytes ≡ front ++ ((text ++ back) ++ rest) = stands
+    ∙ ap (λ (l : List ℕ). l ++ rest) whole ∙ append_assoc front (text ++ back) rest in
+    let at_text : drop begin.index bytes ≡
+    text ++ (back ++ rest) = behind-piece bytes front ((text ++ back) ++ rest) p at_front
+    ∙ append_assoc text back rest in
     let at_back : drop end.index bytes ≡ back ++ rest =
-    ap (λ (q : Point). drop q.index bytes) (text-end-is line p) ∙ behind-piece bytes text (back ++ rest) begin at_text in
-    let after : is_between bytes (past_text back end).index ≡ true = subst (λ (q : Point). is_between bytes q.index ≡ true) (line-end-is line p) last in
-    let starts : is_between bytes begin.index ≡ true = between-past_marks bytes front ((text ++ back) ++ rest) p at_front (front-marks line) first in
-    let ends : is_between bytes end.index ≡ true = between-at_marks bytes back rest end at_back (behind-marks line) after in
+    ap (λ (q : Point). drop q.index bytes) (text-end-is line p)
+    ∙ behind-piece bytes text (back ++ rest) begin at_text in
+    let after : is_between bytes (past_text back end).index ≡
+    true = subst (λ (q : Point). is_between bytes q.index ≡ true) (line-end-is line p) last in
+    let starts : is_between bytes begin.index ≡
+    true = between-past_marks bytes front ((text ++ back) ++ rest) p at_front (front-marks line) first in
+    let ends : is_between bytes end.index ≡
+    true = between-at_marks bytes back rest end at_back (behind-marks line) after in
     let inner : NoEnding (text ++ back) = (no_ending-parts front (text ++ back) (subst NoEnding whole none)).1 in
     between-append bytes (title.front ++ read_text bytes title.text) title.back
-    (between-append bytes title.front (read_text bytes title.text) (runs-between bytes Apart front ((text ++ back) ++ rest) p at_front first starts)
-    (text-between bytes text (back ++ rest) size begin end at_text (no_ending-parts text back inner).0 (text-end-is line p) starts ends))
+    (between-append bytes title.front (read_text bytes title.text)
+    (runs-between bytes Apart front ((text ++ back) ++ rest) p at_front first starts)
+    (text-between bytes text (back ++ rest) size begin end at_text (no_ending-parts text back inner).0
+    (text-end-is line p) starts ends))
     (runs-between bytes Apart back rest end at_back ends after)
 
 -- and so does the heading
@@ -195,7 +217,8 @@ pub heading-between : (bytes : List ℕ) (r : Rest) (line : List ℕ) (p q : Poi
     is_between bytes p.index ≡ true → is_between bytes q.index ≡ true →
     AreBetween bytes (heading_around line p (read_title bytes (title_of line p)))
 heading-between bytes r line p q is first last =
-    around-between bytes n.HeadingAtx p (past_text line p) (read_title bytes (title_of line p)) first ends (title-between bytes line (drop q.index bytes) p stands is.no_ending first ends)
+    around-between bytes n.HeadingAtx p (past_text line p) (read_title bytes (title_of line p)) first ends
+    (title-between bytes line (drop q.index bytes) p stands is.no_ending first ends)
   where
     ends : is_between bytes (past_text line p).index ≡ true
     ends = subst (λ (e : Point). is_between bytes e.index ≡ true) is.end last

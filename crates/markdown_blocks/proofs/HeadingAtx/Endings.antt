@@ -38,14 +38,22 @@ opens-others heading.Text p = refl
 
 runs-others : (run : heading.Run) (xs : List ℕ) (p : Point) → AreOthers (line_runs run xs p)
 runs-others run xs p =
-    runs-each (λ q. Unit {0}) AreOthers (record { append = others-append; closes = λ r q h. closes-others r q; opens = λ r q h. opens-others r q; next = λ b q h. tt }) run xs p tt
+    runs-each (λ q. Unit {0}) AreOthers
+    (record {
+      append = others-append;
+      closes = λ r q h. closes-others r q;
+      opens = λ r q h. opens-others r q;
+      next = λ b q h. tt;
+    }) run xs p tt
 
 -- what stands in a heading, with its text
 title-others : (line : List ℕ) (p : Point) (text : List Event) → AreOthers text →
     AreOthers ((title_of line p).front ++ text ++ (title_of line p).back)
 title-others line p text h =
     let title : Title = title_of line p in
-    others-append (title.front ++ text) title.back (others-append title.front text (runs-others heading.Apart (take (front_len line) line) p) h) (runs-others heading.Apart (back_bytes line) (text_end line p))
+    others-append (title.front ++ text) title.back
+    (others-append title.front text (runs-others heading.Apart (take (front_len line) line) p) h)
+    (runs-others heading.Apart (back_bytes line) (text_end line p))
 
 -- before it is read
 linked-others : (text : Option Chunk) → AreOthers (linked_text text)
@@ -73,7 +81,9 @@ read-others bytes r line p q is = go (length (text_of line) == 0)
         ∙ sym (text-end-is line p)
 
     pairs : (x y : Bool) → y ≡ true →
-        AreOthers (around n.HeadingAtxText begin end ((cond x [] (pair n.Data begin end) ++ cond y [] (pair n.LineEnding end end)) ++ []))
+        AreOthers
+        (around n.HeadingAtxText begin end
+        ((cond x [] (pair n.Data begin end) ++ cond y [] (pair n.LineEnding end end)) ++ []))
     pairs true true h = refl
     pairs false true h = refl
     pairs x false h = cc
@@ -81,7 +91,12 @@ read-others bytes r line p q is = go (length (text_of line) == 0)
     go : (none : Bool) → AreOthers (read_text bytes (cond none None (Some (record { first = begin; after = end }))))
     go true = refl
     go false =
-        subst (λ (q : Point). AreOthers (around n.HeadingAtxText begin end ((pair_unless_empty n.Data begin q ++ pair_unless_empty n.LineEnding q end) ++ []))) (sym ended)
+        subst
+        (λ (q : Point).
+        AreOthers
+        (around n.HeadingAtxText begin end
+        ((pair_unless_empty n.Data begin q ++ pair_unless_empty n.LineEnding q end) ++ [])))
+        (sym ended)
         (pairs (same_place begin end) (same_place end end) (same-refl end))
 
 -- A heading is a leaf, before its text is read and once it is.
@@ -93,9 +108,11 @@ around-leads line p inside h =
 pub unread-ending : (line : List ℕ) (p : Point) →
     Leads line_start behind_leaf (heading_around line p (unread_title (title_of line p)))
 unread-ending line p =
-    around-leads line p (unread_title (title_of line p)) (title-others line p (linked_text (title_of line p).text) (linked-others (title_of line p).text))
+    around-leads line p (unread_title (title_of line p))
+    (title-others line p (linked_text (title_of line p).text) (linked-others (title_of line p).text))
 
 pub read-ending : (bytes : List ℕ) (r : Rest) (line : List ℕ) (p q : Point) → LineAt bytes r line p q →
     Leads line_start behind_leaf (heading_around line p (read_title bytes (title_of line p)))
 read-ending bytes r line p q is =
-    around-leads line p (read_title bytes (title_of line p)) (title-others line p (read_text bytes (title_of line p).text) (read-others bytes r line p q is))
+    around-leads line p (read_title bytes (title_of line p))
+    (title-others line p (read_text bytes (title_of line p).text) (read-others bytes r line p q is))

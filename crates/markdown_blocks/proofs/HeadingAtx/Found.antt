@@ -18,7 +18,9 @@ heading-found options r =
     let depth = run_len 35 text in
     let on : Bool = options.constructs.heading_atx && has_small_indent options r in
     let same : depth ≡ 0 + depth = omega arith in
-    ap by (go on (nat_le 1 depth) (nat_le depth 6) (nat_le (0 + depth) 6) (is_parted (drop depth text)) (ap (λ (k : ℕ). nat_le k 6) same))
+    ap by
+    (go on (nat_le 1 depth) (nat_le depth 6) (nat_le (0 + depth) 6) (is_parted (drop depth text))
+    (ap (λ (k : ℕ). nat_le k 6) same))
   where
     by : Bool → Option Came
     by x = cond x (Some (Finished (heading_block r))) None
@@ -35,10 +37,12 @@ heading-simple options r h =
     let text = trim_start r.bytes in
     let depth = run_len 35 text in
     let same : depth ≡ 0 + depth = omega arith in
-    let heading : is_heading text ≡ true = (and_parts (options.constructs.heading_atx && has_small_indent options r) (is_heading text) h).1 in
+    let heading : is_heading text ≡
+    true = (and_parts (options.constructs.heading_atx && has_small_indent options r) (is_heading text) h).1 in
     let opening = (and_parts (nat_le 1 depth) (nat_le (0 + depth) 6 && is_parted (drop depth text)) heading).1 in
     record {
-      shallow = ap (λ (k : ℕ). nat_le k 6) same ∙ (and_parts (nat_le (0 + depth) 6) (is_parted (drop depth text)) opening).0;
+      shallow =
+          ap (λ (k : ℕ). nat_le k 6) same ∙ (and_parts (nat_le (0 + depth) 6) (is_parted (drop depth text)) opening).0;
       grouped_same = refl;
       in_front = λ bs. refl;
     }

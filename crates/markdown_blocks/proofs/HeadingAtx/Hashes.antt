@@ -85,4 +85,5 @@ hash-marker ys some all = and_from (nat_le 1 (length ys)) (list_all (λ b. b == 
 pub hashes-stand : (bytes xs rest : List ℕ) (p : Point) → AllPass is_mark xs → drop p.index bytes ≡ xs ++ rest →
     CutsFirst p xs → pieces_stand bytes (pieces (line_runs heading.Apart xs p)) ≡ true
 hashes-stand bytes xs rest p marks e cut =
-    ap (λ (es : List Event). pieces_stand bytes (pieces es)) (hashes-are Apart xs p (marks-are xs marks)) ∙ runs-stand bytes n.HeadingAtxSequence 35 xs rest p hash-marker refl (marks-are xs marks) e cut
+    ap (λ (es : List Event). pieces_stand bytes (pieces es)) (hashes-are Apart xs p (marks-are xs marks))
+    ∙ runs-stand bytes n.HeadingAtxSequence 35 xs rest p hash-marker refl (marks-are xs marks) e cut

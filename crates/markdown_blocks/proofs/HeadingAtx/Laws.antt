@@ -39,12 +39,15 @@ use Rattle.markdown_blocks.proofs.HeadingAtx.Outside.{heading-own}
 line-begins : (options : ParseOptions) (r : Rest) → heading_leaf.starts options r ≡ true →
     is_heading (trim_start (rest_line r)) ≡ true
 line-begins options r starts =
-    ap is_heading (rest-trim r) ∙ (and_parts (options.constructs.heading_atx && has_small_indent options r) (is_heading (trim_start r.bytes)) starts).1
+    ap is_heading (rest-trim r)
+    ∙ (and_parts (options.constructs.heading_atx && has_small_indent options r)
+    (is_heading (trim_start r.bytes)) starts).1
 
 -- what is known of its events
 heading-facts : (options : ParseOptions) (bytes : List ℕ) (r : Rest) (p q : Point) →
     heading_leaf.starts options r ≡ true → LineAt bytes r (rest_line r) p q →
-    LeafFacts bytes (Some (heading_leaf.block r)) p q (heading_leaf.unread (rest_line r) p) (heading_leaf.done bytes (rest_line r) p)
+    LeafFacts bytes (Some (heading_leaf.block r)) p q (heading_leaf.unread (rest_line r) p)
+    (heading_leaf.done bytes (rest_line r) p)
 heading-facts options bytes r p q starts is = record {
   unread_nested = subst (λ (e : Point). Nested_in p e unread) (sym is.end) (unread-nested line p);
   nested = subst (λ (e : Point). Nested_in p e done) (sym is.end) (read-nested bytes line p);
@@ -56,9 +59,11 @@ heading-facts options bytes r p q starts is = record {
   unread_ending = unread-ending line p;
   ending = read-ending bytes r line p q is;
   parts =
-      stands-around bytes n.HeadingAtx p (past_text line p) (unread_title (title_of line p)) refl (stands-title bytes r line p q is);
+      stands-around bytes n.HeadingAtx p (past_text line p) (unread_title (title_of line p)) refl
+      (stands-title bytes r line p q is);
   filled =
-      fill-around bytes n.HeadingAtx p (past_text line p) (unread_title (title_of line p)) (read_title bytes (title_of line p)) refl (fill-title bytes line p);
+      fill-around bytes n.HeadingAtx p (past_text line p) (unread_title (title_of line p))
+      (read_title bytes (title_of line p)) refl (fill-title bytes line p);
   between = λ first last. heading-between bytes r line p q is first last;
   parted = heading-sits bytes line p;
   plain = λ h. heading-plain bytes line p h;
@@ -88,10 +93,12 @@ heading-laws = record {
   adds_is = heading-adds;
   no_content = heading-no_content;
   set =
-      λ options r p es starts. heading-resolved (rest_line r) p (past_text (rest_line r) p) es (line-begins options r starts);
+      λ options r p es starts. heading-resolved (rest_line r) p (past_text (rest_line r) p) es
+      (line-begins options r starts);
   own = heading-own;
   facts = heading-facts;
   becomes = λ options bytes r p q starts is wants reads w rt.
-      becomes-around wants reads n.HeadingAtx p (past_text (rest_line r) p) (unread_title (title_of (rest_line r) p)) (read_title bytes (title_of (rest_line r) p))
+      becomes-around wants reads n.HeadingAtx p (past_text (rest_line r) p) (unread_title (title_of (rest_line r) p))
+      (read_title bytes (title_of (rest_line r) p))
       (title-becomes bytes r (rest_line r) p q is wants reads w rt);
 }

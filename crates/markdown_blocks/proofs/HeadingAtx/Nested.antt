@@ -1,5 +1,6 @@
 -- The events of a heading nest, and go from the begin of its line to its end.
-use Rattle.std.proofs.Common.{◌≡◌, ℕ, List, [], ◌∷◌, ◌++◌, length, take, refl, sym, subst, append_assoc, append-nil, Bool, true, false, cond}
+use Rattle.std.proofs.Common.{◌≡◌, ℕ, List, [], ◌∷◌, ◌++◌, length, take, refl, sym, subst, append_assoc, append-nil}
+use Rattle.std.proofs.Common.{Bool, true, false, cond}
 use Rattle.std.specs.Prelude.{IsTrue, ◌==◌, Some, None}
 use Rattle.md_engine.specs.declared.event.Event.{Event}
 use Rattle.md_engine.specs.declared.event.Name.{Name}
@@ -18,7 +19,8 @@ use Rattle.md_seam.proofs.InlineLemmas.{before-text}
 use Rattle.md_seam.proofs.NestedLemmas.{at_or_before-refl, at_or_before-trans, balanced-none}
 use Rattle.markdown_blocks.specs.Leaf.HeadingAtx.{heading_around, read_text, read_title}
 use Rattle.markdown_blocks.proofs.HeadingAtx.Places.{back_bytes, line-end-is, text-order, text_begin, text_end}
-use Rattle.markdown_blocks.proofs.SpanLemmas.{Nested_in, Spans, around-nested, chunk-nested, either, linked-nested, nested_in-append, spans-append}
+use Rattle.markdown_blocks.proofs.SpanLemmas.{Nested_in, Spans, around-nested, chunk-nested, either, linked-nested}
+use Rattle.markdown_blocks.proofs.SpanLemmas.{nested_in-append, spans-append}
 
 -- Runs.
 
@@ -51,13 +53,16 @@ ends-runs : (run : Run) (xs : List ℕ) (p : Point) → Ends (open_in run) (line
 ends-runs run [] p = subst (Ends (open_in run)) (append-nil (closes run p)) (ends-closes run p [] (tt, refl))
 ends-runs run (b ∷ xs) p =
     let rest : List Event = line_runs (begun b) xs (past_byte b p) in
-    either (Ends (open_in run)) (goes_on run b) (line_runs run xs (past_byte b p)) ((closes run p ++ opens (begun b) p) ++ rest) (ends-runs run xs (past_byte b p))
+    either (Ends (open_in run)) (goes_on run b) (line_runs run xs (past_byte b p))
+    ((closes run p ++ opens (begun b) p) ++ rest) (ends-runs run xs (past_byte b p))
     (subst (Ends (open_in run)) (sym (append_assoc (closes run p) (opens (begun b) p) rest))
-    (ends-closes run p (opens (begun b) p ++ rest) (ends-opens (begun b) p rest (ends-runs (begun b) xs (past_byte b p)))))
+    (ends-closes run p (opens (begun b) p ++ rest)
+    (ends-opens (begun b) p rest (ends-runs (begun b) xs (past_byte b p)))))
 
 -- the runs of a piece of a line nest
 runs-balanced : (xs : List ℕ) (p : Point) → Balanced (line_runs Apart xs p)
-runs-balanced xs p = let ends : Ends [] (line_runs Apart xs p) = ends-runs Apart xs p in record { matches = ends.0; closed = ends.1 }
+runs-balanced xs p =
+    let ends : Ends [] (line_runs Apart xs p) = ends-runs Apart xs p in record { matches = ends.0; closed = ends.1 }
 
 -- the end of a run stands at its point, and so does its begin
 spans-closes : (run : Run) (p q : Point) → IsTrue (at_or_before p q) → Spans p q (closes run q)
@@ -80,8 +85,10 @@ spans-runs run (b ∷ xs) p q h =
     let next : Point = past_byte b q in
     let end : Point = past_text xs next in
     let rest : List Event = line_runs (begun b) xs next in
-    either (Spans p end) (goes_on run b) (line_runs run xs next) ((closes run q ++ opens (begun b) q) ++ rest) (spans-runs run xs p next (at_or_before-trans p q next h (before-text (b ∷ []) q)))
-    (spans-append p q end (closes run q ++ opens (begun b) q) rest (spans-append p q q (closes run q) (opens (begun b) q) (spans-closes run p q h) (spans-opens (begun b) q))
+    either (Spans p end) (goes_on run b) (line_runs run xs next) ((closes run q ++ opens (begun b) q) ++ rest)
+    (spans-runs run xs p next (at_or_before-trans p q next h (before-text (b ∷ []) q)))
+    (spans-append p q end (closes run q ++ opens (begun b) q) rest
+    (spans-append p q q (closes run q) (opens (begun b) q) (spans-closes run p q h) (spans-opens (begun b) q))
     (spans-runs (begun b) xs q next (before-text (b ∷ []) q)))
 
 -- they stand between its ends
@@ -100,7 +107,8 @@ front-balanced line p = runs-balanced (take (front_len line) line) p
 -- what is left stands behind the text, and on the line
 back-span : (line : List ℕ) (p : Point) → Spans (text_end line p) (past_text line p) (title_of line p).back
 back-span line p =
-    subst (λ (q : Point). Spans (text_end line p) q (title_of line p).back) (sym (line-end-is line p)) (runs-span (back_bytes line) (text_end line p))
+    subst (λ (q : Point). Spans (text_end line p) q (title_of line p).back) (sym (line-end-is line p))
+    (runs-span (back_bytes line) (text_end line p))
 
 back-balanced : (line : List ℕ) (p : Point) → Balanced (title_of line p).back
 back-balanced line p = runs-balanced (back_bytes line) (text_end line p)
@@ -122,7 +130,8 @@ unread_text-nested line p = go (length (text_of line) == 0)
         Nested_in begin end (linked_text (cond none None (Some (record { first = begin; after = end }))))
     go true = (balanced-none, (tt, text-order line p))
     go false =
-        around-nested n.HeadingAtxText begin end (enter_link n.Data begin heading_link ∷ exit n.Data end ∷ []) (linked-nested heading_link begin end (text-order line p))
+        around-nested n.HeadingAtxText begin end (enter_link n.Data begin heading_link ∷ exit n.Data end ∷ [])
+        (linked-nested heading_link begin end (text-order line p))
 
 -- and once it is
 read_text-nested : (bytes line : List ℕ) (p : Point) →
@@ -135,7 +144,9 @@ read_text-nested bytes line p = go (length (text_of line) == 0)
     go : (none : Bool) → Nested_in (text_begin line p) (text_end line p) (read_text bytes (cond none None (Some chunk)))
     go true = (balanced-none, (tt, text-order line p))
     go false =
-        around-nested n.HeadingAtxText chunk.first chunk.after (plain_chunk bytes chunk ++ []) (subst (Nested_in chunk.first chunk.after) (sym (append-nil (plain_chunk bytes chunk))) (chunk-nested bytes chunk (text-order line p)))
+        around-nested n.HeadingAtxText chunk.first chunk.after (plain_chunk bytes chunk ++ [])
+        (subst (Nested_in chunk.first chunk.after) (sym (append-nil (plain_chunk bytes chunk)))
+        (chunk-nested bytes chunk (text-order line p)))
 
 -- what stands in a heading, whatever stands in the place of its text
 title-nested : (line : List ℕ) (p : Point) (text : List Event) → Nested_in (text_begin line p) (text_end line p) text →
@@ -145,15 +156,18 @@ title-nested line p text h =
     let begin : Point = text_begin line p in
     let end : Point = text_end line p in
     nested_in-append p end (past_text line p) (title.front ++ text) title.back
-    (nested_in-append p begin end title.front text (front-balanced line p, front-span line p) h) (back-balanced line p, back-span line p)
+    (nested_in-append p begin end title.front text (front-balanced line p, front-span line p) h)
+    (back-balanced line p, back-span line p)
 
 -- The heading, before its text is read and once it is.
 pub unread-nested : (line : List ℕ) (p : Point) →
     Nested_in p (past_text line p) (heading_around line p (unread_title (title_of line p)))
 unread-nested line p =
-    around-nested n.HeadingAtx p (past_text line p) (unread_title (title_of line p)) (title-nested line p (linked_text (title_of line p).text) (unread_text-nested line p))
+    around-nested n.HeadingAtx p (past_text line p) (unread_title (title_of line p))
+    (title-nested line p (linked_text (title_of line p).text) (unread_text-nested line p))
 
 pub read-nested : (bytes line : List ℕ) (p : Point) →
     Nested_in p (past_text line p) (heading_around line p (read_title bytes (title_of line p)))
 read-nested bytes line p =
-    around-nested n.HeadingAtx p (past_text line p) (read_title bytes (title_of line p)) (title-nested line p (read_text bytes (title_of line p).text) (read_text-nested bytes line p))
+    around-nested n.HeadingAtx p (past_text line p) (read_title bytes (title_of line p))
+    (title-nested line p (read_text bytes (title_of line p).text) (read_text-nested bytes line p))

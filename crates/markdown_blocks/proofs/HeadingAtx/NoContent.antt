@@ -34,15 +34,21 @@ runs-no_content : (wants : Content → Bool) → wants content.Text ≡ false �
     (run : heading.Run) (cells : List Cell) (p : Point) → NoContent wants (heading.runs run cells p)
 runs-no_content wants w run [] p = closes-no_content wants run p
 runs-no_content wants w run (c ∷ cs) p =
-    go (heading.goes_on run c.byte) (runs-no_content wants w run cs c.after) (runs-no_content wants w (heading.begun c.byte) cs c.after)
+    go (heading.goes_on run c.byte) (runs-no_content wants w run cs c.after)
+    (runs-no_content wants w (heading.begun c.byte) cs c.after)
   where
     go : (x : Bool) → NoContent wants (heading.runs run cs c.after) →
         NoContent wants (heading.runs (heading.begun c.byte) cs c.after) →
-        NoContent wants (cond x (heading.runs run cs c.after) ((heading.closes run p ++ heading.opens (heading.begun c.byte) p) ++ heading.runs (heading.begun c.byte) cs c.after))
+        NoContent wants
+        (cond x (heading.runs run cs c.after)
+        ((heading.closes run p ++ heading.opens (heading.begun c.byte) p)
+        ++ heading.runs (heading.begun c.byte) cs c.after))
     go true h k = h
     go false h k =
-        no_content-append wants (heading.closes run p ++ heading.opens (heading.begun c.byte) p) (heading.runs (heading.begun c.byte) cs c.after)
-        (no_content-append wants (heading.closes run p) (heading.opens (heading.begun c.byte) p) (closes-no_content wants run p) (opens-no_content wants w (heading.begun c.byte) p)) k
+        no_content-append wants (heading.closes run p ++ heading.opens (heading.begun c.byte) p)
+        (heading.runs (heading.begun c.byte) cs c.after)
+        (no_content-append wants (heading.closes run p) (heading.opens (heading.begun c.byte) p)
+        (closes-no_content wants run p) (opens-no_content wants w (heading.begun c.byte) p)) k
 
 -- what a heading adds
 pub heading-no_content : (wants : Content → Bool) → wants content.Text ≡ false →
@@ -52,8 +58,14 @@ heading-no_content wants w options cells p =
     let end : Point = white_end room cells p in
     let inner : List Event = heading.runs heading.Apart (line_cells (white_rest room cells)) end in
     let inside : NoContent wants (heading.heading_inside options cells p) =
-    no_content-append wants (cond (begins_white cells) (pair n.SpaceOrTab p end) []) inner (indent (begins_white cells) end) (runs-no_content wants w heading.Apart (line_cells (white_rest room cells)) end) in
-    (refl, refl, no_content-append wants (heading.heading_inside options cells p) (exit n.HeadingAtx (line_end cells p) ∷ []) inside (refl, refl, tt))
+    no_content-append wants (cond (begins_white cells) (pair n.SpaceOrTab p end) []) inner
+    (indent (begins_white cells) end)
+    (runs-no_content wants w heading.Apart (line_cells (white_rest room cells)) end) in (
+      refl,
+      refl,
+      no_content-append wants (heading.heading_inside options cells p)
+          (exit n.HeadingAtx (line_end cells p) ∷ []) inside (refl, refl, tt),
+    )
   where
     indent : (some : Bool) (q : Point) → NoContent wants (cond some (pair n.SpaceOrTab p q) [])
     indent true q = (refl, refl, (refl, refl, tt))

@@ -18,7 +18,9 @@ use Rattle.markdown_blocks.proofs.ContainerNames.{is_front}
 
 pub heading-passes : (xs ys : List Event) → AreOutside xs → headings_resolved (xs ++ ys) ≡ xs ++ headings_resolved ys
 heading-passes [] ys h = refl
-heading-passes (e ∷ xs) ys h = ap (λ (x : Bool). e ∷ resolved (cond x Before Outside) (xs ++ ys)) h.0 ∙ ap (λ (l : List Event). e ∷ l) (heading-passes xs ys h.1)
+heading-passes (e ∷ xs) ys h =
+    ap (λ (x : Bool). e ∷ resolved (cond x Before Outside) (xs ++ ys)) h.0
+    ∙ ap (λ (l : List Event). e ∷ l) (heading-passes xs ys h.1)
 
 -- no heading stands in front of a line
 pub front-heading : (name : Name) → is_front name ≡ true → is_heading name ≡ false
@@ -26,7 +28,10 @@ front-heading n.HeadingAtx h = cc
 front-heading _ h = refl
 
 -- a heading that begins on a line ends there too
-pub heading-own : (options : ParseOptions) (cells : List Cell) (p : Point) → NoEnds is_own (heading_leaf.adds options cells p) → AreOutside (heading_leaf.adds options cells p)
+pub heading-own : (options : ParseOptions) (cells : List Cell) (p : Point) →
+    NoEnds is_own (heading_leaf.adds options cells p) → AreOutside (heading_leaf.adds options cells p)
 heading-own options cells p h =
-    let bad : true ≡ false = (each-behind (IsNoEnd is_own) (heading_inside options cells p) (exit n.HeadingAtx (line_end cells p) ∷ []) h.1).0 in
+    let bad : true ≡
+    false = (each-behind (IsNoEnd is_own) (heading_inside options cells p)
+    (exit n.HeadingAtx (line_end cells p) ∷ []) h.1).0 in
     absurd (cc)

@@ -1,5 +1,6 @@
 -- The pieces of a heading stand, before its text is read and once it is.
-use Rattle.std.proofs.Common.{◌≡◌, ℕ, zero, suc, ◌+◌, ◌<◌, ◌≤◌, Bool, true, false, cond, List, [], ◌∷◌, ◌++◌, length, take, drop, refl, ap, sym, ◌∙◌, subst, append_assoc, append-nil, arith}
+use Rattle.std.proofs.Common.{◌≡◌, ℕ, zero, suc, ◌+◌, ◌<◌, ◌≤◌, Bool, true, false, cond, List, [], ◌∷◌, ◌++◌, length}
+use Rattle.std.proofs.Common.{take, drop, refl, ap, sym, ◌∙◌, subst, append_assoc, append-nil, arith}
 use Rattle.std.specs.Prelude.{◌==◌, nat_le, Some, None}
 use Rattle.std.proofs.lemmas.Bool.{and_from, and_parts}
 use Rattle.std.proofs.lemmas.Bool.Decides.{nat_tests}
@@ -27,7 +28,8 @@ use Rattle.markdown_blocks.proofs.HeadingAtx.Places.{IsTitle, back_bytes, text_b
 use Rattle.markdown_blocks.proofs.HeadingAtx.Tiled.{runs-tiled}
 use Rattle.markdown_blocks.proofs.LeafFacts.{LineAt}
 use Rattle.markdown_blocks.proofs.LineTexts.{line-stands, past-whole}
-use Rattle.markdown_blocks.proofs.PieceFacts.{CutsFirst, Starts, Stood, chunk_span, starts-append, stood-append, stood-around, stood-none, whole-first}
+use Rattle.markdown_blocks.proofs.PieceFacts.{CutsFirst, Starts, Stood, chunk_span, starts-append, stood-append}
+use Rattle.markdown_blocks.proofs.PieceFacts.{stood-around, stood-none, whole-first}
 use Rattle.markdown_blocks.proofs.PiecesLemmas.{Tiled}
 
 -- the text of a heading, not read yet
@@ -40,7 +42,10 @@ linked_text-stood bytes size p q chunked = go (size == 0) chunked
     go true chunked = stood-none bytes
     go false chunked =
         stood-around bytes n.HeadingAtxText p q (enter_link n.Data p heading_link ∷ exit n.Data q ∷ []) refl
-        (record { ends = refl; stand = and_from (piece_stands bytes (chunk_span n.Data p q)) true (chunked refl).linked refl })
+        (record {
+          ends = refl;
+          stand = and_from (piece_stands bytes (chunk_span n.Data p q)) true (chunked refl).linked refl;
+        })
 
 -- and read
 read_text-stood : (bytes : List ℕ) (size : ℕ) (p q : Point) → ((size == 0) ≡ false → Chunked bytes p q) →
@@ -54,7 +59,8 @@ read_text-stood bytes size p q chunked = go (size == 0) chunked
         Stood bytes (read_text bytes (cond none None (Some chunk)))
     go true chunked = stood-none bytes
     go false chunked =
-        stood-around bytes n.HeadingAtxText p q (plain_chunk bytes chunk ++ []) (starts-append (plain_chunk bytes chunk) [] (chunked refl).starts)
+        stood-around bytes n.HeadingAtxText p q (plain_chunk bytes chunk ++ [])
+        (starts-append (plain_chunk bytes chunk) [] (chunked refl).starts)
         (subst (Stood bytes) (sym (append-nil (plain_chunk bytes chunk))) (chunked refl).read)
 
 -- What stands in a heading, with its text.
@@ -73,7 +79,8 @@ cuts-take p (suc k) (b ∷ line) h = h
 -- a heading has an opening sequence
 front-some : (line : List ℕ) → is_heading (trim_start line) ≡ true → 0 < front_len line
 front-some line h =
-    let least : nat_le 1 (run_len 35 (trim_start line)) ≡ true = (and_parts (nat_le 1 (run_len 35 (trim_start line))) (is_opening 0 (trim_start line)) h).0 in
+    let least : nat_le 1 (run_len 35 (trim_start line)) ≡
+    true = (and_parts (nat_le 1 (run_len 35 (trim_start line))) (is_opening 0 (trim_start line)) h).0 in
     let some : 1 ≤ run_len 35 (trim_start line) = grind (arith, nat_tests, least) in
     omega (arith, some)
 
@@ -83,10 +90,12 @@ titled : (bytes : List ℕ) (r : Rest) (line : List ℕ) (p q : Point) → LineA
 titled bytes r line p q is heading = record {
   linked = around_text (linked_text title.text) (linked_text-stood bytes size begin end text);
   linked_starts =
-      starts-append (title.front ++ linked_text title.text) title.back (starts-append title.front (linked_text title.text) starts);
+      starts-append (title.front ++ linked_text title.text) title.back
+      (starts-append title.front (linked_text title.text) starts);
   read = around_text (read_text bytes title.text) (read_text-stood bytes size begin end text);
   read_starts =
-      starts-append (title.front ++ read_text bytes title.text) title.back (starts-append title.front (read_text bytes title.text) starts);
+      starts-append (title.front ++ read_text bytes title.text) title.back
+      (starts-append title.front (read_text bytes title.text) starts);
 }
   where
     title : Title
@@ -139,10 +148,17 @@ titled bytes r line p q is heading = record {
 
     front-stands : Stood bytes title.front
     front-stands =
-        record { ends = front-tiled.ends; stand = hashes-stand bytes front (drop (front_len line) line ++ left) p (front-marks line) front-parts (cuts-take p (front_len line) line is.cut_first) }
+        record {
+          ends = front-tiled.ends;
+          stand =
+              hashes-stand bytes front (drop (front_len line) line ++ left) p (front-marks line) front-parts
+              (cuts-take p (front_len line) line is.cut_first);
+        }
 
     starts : Starts title.front
-    starts = let index : begin.index ≡ p.index + length front = past-index front p in starts-tiled p begin title.front front-tiled (omega (arith, index, long, some))
+    starts =
+        let index : begin.index ≡ p.index + length front = past-index front p in
+        starts-tiled p begin title.front front-tiled (omega (arith, index, long, some))
 
     end-whole : end.vs ≡ 0
     end-whole = past-whole until p (omega (arith, until-long, some))
@@ -157,14 +173,20 @@ titled bytes r line p q is heading = record {
 
     back-stands : Stood bytes title.back
     back-stands =
-        record { ends = back-tiled.ends; stand = hashes-stand bytes (back_bytes line) left end (behind-marks line) end-left (whole-first end (back_bytes line) end-whole) }
+        record {
+          ends = back-tiled.ends;
+          stand =
+              hashes-stand bytes (back_bytes line) left end (behind-marks line) end-left
+              (whole-first end (back_bytes line) end-whole);
+        }
 
     text : (size == 0) ≡ false → Chunked bytes begin end
     text e =
         let at : IsTitle bytes line p = title-is bytes r line p q is in
         let first : begin.index ≡ p.index + length front = past-index front p in
         let last : end.index ≡ p.index + length until = past-index until p in
-        chunked-alone bytes (text_of line) begin end (grind (arith, nat_tests)) at.no_ending end-whole (omega (arith, first, last, long, until-long)) at.slice
+        chunked-alone bytes (text_of line) begin end (grind (arith, nat_tests)) at.no_ending end-whole
+        (omega (arith, first, last, long, until-long)) at.slice
 
     around_text : (es : List Event) → Stood bytes es → Stood bytes ((title.front ++ es) ++ title.back)
     around_text es h =

@@ -1,5 +1,6 @@
 -- Where the parts of a heading stand, on its line and in a text.
-use Rattle.std.proofs.Common.{◌≡◌, ℕ, ◌+◌, List, [], ◌∷◌, ◌++◌, length, take, drop, refl, ap, sym, ◌∙◌, subst, take-add, true, ◌<◌, slice_range, arith}
+use Rattle.std.proofs.Common.{◌≡◌, ℕ, ◌+◌, List, [], ◌∷◌, ◌++◌, length, take, drop, refl, ap, sym, ◌∙◌, subst, take-add}
+use Rattle.std.proofs.Common.{true, ◌<◌, slice_range, arith}
 use Rattle.std.specs.Prelude.{IsTrue}
 use Rattle.std.proofs.lemmas.Bool.{and_from}
 use Rattle.std.proofs.lemmas.List.{length-take-le, take-append-drop}
@@ -47,7 +48,8 @@ line-end-is line p =
 -- the text ends no earlier than it begins
 pub text-order : (line : List ℕ) (p : Point) → IsTrue (at_or_before (text_begin line p) (text_end line p))
 text-order line p =
-    subst (λ (q : Point). IsTrue (at_or_before (text_begin line p) q)) (sym (text-end-is line p)) (before-text (text_bytes line) (text_begin line p))
+    subst (λ (q : Point). IsTrue (at_or_before (text_begin line p) q)) (sym (text-end-is line p))
+    (before-text (text_bytes line) (text_begin line p))
 
 -- In a text.
 
@@ -64,10 +66,13 @@ title-is bytes r line p q is =
     let text : List ℕ = text_of line in
     let size : ℕ = length text in
     let fits = title-fits line in
-    let from : (text_begin line p).index ≡ p.index + first = past-index (take first line) p ∙ ap (λ (k : ℕ). p.index + k) (length-take-le first line (omega (arith, fits))) in
-    let to : (text_end line p).index ≡ p.index + (first + size) = past-index (take (first + size) line) p ∙ ap (λ (k : ℕ). p.index + k) (length-take-le (first + size) line fits) in
+    let from : (text_begin line p).index ≡ p.index + first = past-index (take first line) p
+    ∙ ap (λ (k : ℕ). p.index + k) (length-take-le first line (omega (arith, fits))) in
+    let to : (text_end line p).index ≡ p.index + (first + size) = past-index (take (first + size) line) p
+    ∙ ap (λ (k : ℕ). p.index + k) (length-take-le (first + size) line fits) in
     let sum : p.index + (first + size) ≡ p.index + first + size = omega arith in
-    let parts : drop first line ≡ text ++ drop size (drop first line) = sym (take-append-drop size (drop first line)) ∙ ap (λ (l : List ℕ). l ++ drop size (drop first line)) (title-text line) in
+    let parts : drop first line ≡ text ++ drop size (drop first line) = sym (take-append-drop size (drop first line))
+    ∙ ap (λ (l : List ℕ). l ++ drop size (drop first line)) (title-text line) in
     let behind : NoEnding (drop first line) = no_ending-drop first line is.no_ending in
     record {
       slice =

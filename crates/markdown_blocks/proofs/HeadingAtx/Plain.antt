@@ -13,7 +13,8 @@ use Rattle.markdown_blocks.specs.Leaf.HeadingAtx.{heading_around, read_text, rea
 use Rattle.markdown_blocks.proofs.HeadingAtx.Places.{text_begin, text_end}
 use Rattle.markdown_blocks.proofs.HeadingAtx.Runs.{runs-each}
 use Rattle.markdown_blocks.proofs.PartedFacts.{clear}
-use Rattle.markdown_blocks.proofs.PlainFacts.{ArePlain, chunk-plain, past-clear, plain-append, plain-around, plain-cons, plain-nil}
+use Rattle.markdown_blocks.proofs.PlainFacts.{ArePlain, chunk-plain, past-clear, plain-append, plain-around, plain-cons}
+use Rattle.markdown_blocks.proofs.PlainFacts.{plain-nil}
 
 -- the begin and the end of a run
 plain-closes : (bytes : List ℕ) (run : Run) (p : Point) → clear bytes p ≡ true → ArePlain bytes (closes run p)
@@ -32,7 +33,13 @@ plain-opens bytes TextRun p h = record { names = refl; texts = refl }
 plain-runs : (bytes : List ℕ) (run : Run) (xs : List ℕ) (p : Point) → clear bytes p ≡ true →
     ArePlain bytes (line_runs run xs p)
 plain-runs bytes run xs p h =
-    runs-each (λ q. clear bytes q ≡ true) (ArePlain bytes) (record { append = plain-append bytes; closes = plain-closes bytes; opens = plain-opens bytes; next = λ b q h. refl }) run xs p h
+    runs-each (λ q. clear bytes q ≡ true) (ArePlain bytes)
+    (record {
+      append = plain-append bytes;
+      closes = plain-closes bytes;
+      opens = plain-opens bytes;
+      next = λ b q h. refl;
+    }) run xs p h
 
 -- the text of a heading
 plain-text : (bytes : List ℕ) (size : ℕ) (p q : Point) → clear bytes p ≡ true → clear bytes q ≡ true →
@@ -43,7 +50,8 @@ plain-text bytes size p q hp hq = go (size == 0)
     go true = plain-nil bytes
     go false =
         let chunk : Chunk = record { first = p; after = q } in
-        plain-around bytes n.HeadingAtxText p q (plain_chunk bytes chunk ++ []) refl hp hq (plain-append bytes (plain_chunk bytes chunk) [] (chunk-plain bytes chunk) (plain-nil bytes))
+        plain-around bytes n.HeadingAtxText p q (plain_chunk bytes chunk ++ []) refl hp hq
+        (plain-append bytes (plain_chunk bytes chunk) [] (chunk-plain bytes chunk) (plain-nil bytes))
 
 -- what stands in it
 plain-title : (bytes line : List ℕ) (p : Point) → clear bytes p ≡ true →
@@ -54,11 +62,14 @@ plain-title bytes line p h =
     let begin : clear bytes (text_begin line p) ≡ true = past-clear bytes (take (front_len line) line) p h in
     let end : clear bytes (text_end line p) ≡ true = past-clear bytes (take (front_len line + size) line) p h in
     plain-append bytes (title.front ++ read_text bytes title.text) title.back
-    (plain-append bytes title.front (read_text bytes title.text) (plain-runs bytes Apart (take (front_len line) line) p h) (plain-text bytes size (text_begin line p) (text_end line p) begin end))
+    (plain-append bytes title.front (read_text bytes title.text)
+    (plain-runs bytes Apart (take (front_len line) line) p h)
+    (plain-text bytes size (text_begin line p) (text_end line p) begin end))
     (plain-runs bytes Apart (drop (front_len line + size) line) (text_end line p) end)
 
 -- and so may the heading
 pub heading-plain : (bytes line : List ℕ) (p : Point) → clear bytes p ≡ true →
     ArePlain bytes (heading_around line p (read_title bytes (title_of line p)))
 heading-plain bytes line p h =
-    plain-around bytes n.HeadingAtx p (past_text line p) (read_title bytes (title_of line p)) refl refl refl (plain-title bytes line p h)
+    plain-around bytes n.HeadingAtx p (past_text line p) (read_title bytes (title_of line p)) refl refl refl
+    (plain-title bytes line p h)

@@ -27,7 +27,8 @@ heading-open w true b c h = h
 heading-open w false true c h = h
 heading-open w false false c h = heading-behind _ c (adds w.events _ w.resolvers refl refl h)
 
-heading-at : (w : World) (a b c : Bool) → Registers w → Registers (heading.at_break_code (same_name r.HeadingAtx) w a b c).world
+heading-at : (w : World) (a b c : Bool) → Registers w →
+    Registers (heading.at_break_code (same_name r.HeadingAtx) w a b c).world
 heading-at w true true c h = adds w.events _ w.resolvers refl refl h
 heading-at w true false c h = adds w.events (enter_link n.Data w.point heading_link) w.resolvers refl refl h
 heading-at w false b true h = adds-own w.events (exit n.HeadingAtx w.point) w.resolvers refl h
@@ -44,9 +45,13 @@ heading-data w false b h = heading-behind _ b (adds w.events _ w.resolvers refl 
 -- each of them
 pub heading-registers : (state : HeadingState) (w : World) → Registers w →
     Registers (heading.heading_transition (same_name r.HeadingAtx) state w).world
-heading-registers at.Start w h = start-registers n.HeadingAtx _ w w.setting.options.constructs.heading_atx (sees_white w.current) h
+heading-registers at.Start w h =
+    start-registers n.HeadingAtx _ w w.setting.options.constructs.heading_atx (sees_white w.current) h
 heading-registers at.Before w h = heading-before w (is_current 35 w.current) h
-heading-registers at.SequenceOpen w h = heading-open w (is_current 35 w.current && nat_lt w.scratch.size 6) (heading.sees_text w.current) (sees_white w.current) h
-heading-registers at.AtBreak w h = heading-at w (heading.sees_text w.current) (is_current 35 w.current) (ends_line w.current) h
+heading-registers at.SequenceOpen w h =
+    heading-open w (is_current 35 w.current && nat_lt w.scratch.size 6) (heading.sees_text w.current)
+    (sees_white w.current) h
+heading-registers at.AtBreak w h =
+    heading-at w (heading.sees_text w.current) (is_current 35 w.current) (ends_line w.current) h
 heading-registers at.SequenceFurther w h = heading-further w (is_current 35 w.current) (sees_white w.current) h
 heading-registers at.Data w h = heading-data w (heading.sees_text w.current) (sees_white w.current) h

@@ -13,14 +13,18 @@ pub record OfRuns (At : Point → Type 0) (P : List Event → Type 0) : Type 0 w
   pub opens : (run : Run) (p : Point) → At p → P (opens run p)
   pub next : (b : ℕ) (p : Point) → At p → At (past_byte b p)
 
-pub runs-each : (At : Point → Type 0) (P : List Event → Type 0) → OfRuns At P → (run : Run) (xs : List ℕ) (p : Point) → At p →
+pub runs-each : (At : Point → Type 0) (P : List Event → Type 0) → OfRuns At P → (run : Run) (xs : List ℕ) (p : Point) →
+    At p →
     P (line_runs run xs p)
 runs-each At P of run [] p h = of.closes run p h
 runs-each At P of run (b ∷ xs) p h =
     let more = of.next b p h in
-    go (goes_on run b) (runs-each At P of run xs (past_byte b p) more) (runs-each At P of (begun b) xs (past_byte b p) more)
+    go (goes_on run b) (runs-each At P of run xs (past_byte b p) more)
+    (runs-each At P of (begun b) xs (past_byte b p) more)
   where
     go : (same : Bool) → P (line_runs run xs (past_byte b p)) → P (line_runs (begun b) xs (past_byte b p)) →
-        P (cond same (line_runs run xs (past_byte b p)) ((closes run p ++ opens (begun b) p) ++ line_runs (begun b) xs (past_byte b p)))
+        P
+        (cond same (line_runs run xs (past_byte b p))
+        ((closes run p ++ opens (begun b) p) ++ line_runs (begun b) xs (past_byte b p)))
     go true on next = on
     go false on next = of.append _ _ (of.append _ _ (of.closes run p h) (of.opens (begun b) p h)) next

@@ -1,5 +1,7 @@
 -- What the events of a heading are read as: its markers, and its text.
-use Rattle.std.proofs.Common.{◌≡◌, ℕ, zero, suc, ◌+◌, ◌≤◌, Bool, true, false, cond, ◌&&◌, List, [], ◌∷◌, ◌++◌, length, take, drop, reverse, slice_range, refl, ap, sym, ◌∙◌, subst, drop-drop, inl, inr, ◌⊎◌, ◌||◌, ◌<◌, arith}
+use Rattle.std.proofs.Common.{◌≡◌, ℕ, zero, suc, ◌+◌, ◌≤◌, Bool, true, false, cond, ◌&&◌, List, [], ◌∷◌, ◌++◌, length}
+use Rattle.std.proofs.Common.{take, drop, reverse, slice_range, refl, ap, sym, ◌∙◌, subst, drop-drop, inl, inr, ◌⊎◌}
+use Rattle.std.proofs.Common.{◌||◌, ◌<◌, arith}
 use Rattle.std.specs.Prelude.{◌==◌, nat_le, Option, Some, None, option_map}
 use Rattle.std.specs.List.{prefix_len}
 use Rattle.std.proofs.lemmas.Bool.{and_parts, eqb-true}
@@ -17,7 +19,9 @@ use Rattle.md_seam.specs.declared.inline.Chunk.{Chunk}
 use Rattle.md_seam.specs.Events.Inline.{plain_chunks, together}
 use Rattle.md_seam.specs.Events.Nested.{around}
 use Rattle.md_seam.specs.Events.Places.{past_byte, past_text}
-use Rattle.md_seam.specs.Events.Spelled.{AsHeading, AsMarkers, HeadingAtxLeaf, HeadingSoFar, OfHeadingAtx, OpenLeaf, Reading, Tells, Text, add_block, begun, byte_at, columns_left, first_told, fresh, noted, read, read_exit, text_to, told_at}
+use Rattle.md_seam.specs.Events.Spelled.{AsHeading, AsMarkers, HeadingAtxLeaf, HeadingSoFar, OfHeadingAtx, OpenLeaf}
+use Rattle.md_seam.specs.Events.Spelled.{Reading, Tells, Text, add_block, begun, byte_at, columns_left, first_told}
+use Rattle.md_seam.specs.Events.Spelled.{fresh, noted, read, read_exit, text_to, told_at}
 use Rattle.md_definition.specs.Leaves.{heading_lines, heading_text, without_closing}
 use Rattle.md_definition.specs.Rest.{Rest, is_parted, is_white, run_len, trim, trim_end, trim_start}
 use Rattle.md_definition.specs.Texts.{split_lines, trim_each}
@@ -25,7 +29,8 @@ use Rattle.md_definition.specs.Tree.{Block, Heading}
 use Rattle.md_seam.proofs.BlocksLemmas.{read-leaf, read-told}
 use Rattle.md_seam.proofs.FeedLines.{past_text-whole, slice-inside}
 use Rattle.md_seam.proofs.InlineLemmas.{past-index}
-use Rattle.md_seam.proofs.SpelledLemmas.{Between, Quiet, QuietOrEnding, Roles, read-from, read-quiet, text-inline, text_after}
+use Rattle.md_seam.proofs.SpelledLemmas.{Between, Quiet, QuietOrEnding, Roles, read-from, read-quiet, text-inline}
+use Rattle.md_seam.proofs.SpelledLemmas.{text_after}
 use Rattle.md_definition.proofs.TextsLemmas.{NoEnding, split-line}
 use Rattle.markdown_blocks.specs.Leaf.HeadingAtx.{heading_around, heading_block, read_text, read_title}
 use Rattle.markdown_blocks.proofs.HeadingAtx.Places.{IsTitle, title-is}
@@ -80,12 +85,18 @@ front-other b bs e =
 run-goes : (run : Run) (b : ℕ) (bs : List ℕ) (p : Point) → goes_on run b ≡ true →
     line_runs run (b ∷ bs) p ≡ line_runs run bs (past_byte b p)
 run-goes run b bs p e =
-    ap (λ (t : Bool). cond t (line_runs run bs (past_byte b p)) (closes run p ++ opens (rule.begun b) p ++ line_runs (rule.begun b) bs (past_byte b p))) e
+    ap
+    (λ (t : Bool).
+    cond t (line_runs run bs (past_byte b p))
+    (closes run p ++ opens (rule.begun b) p ++ line_runs (rule.begun b) bs (past_byte b p))) e
 
 run-turns : (run into : Run) (b : ℕ) (bs : List ℕ) (p : Point) → goes_on run b ≡ false → rule.begun b ≡ into →
     line_runs run (b ∷ bs) p ≡ closes run p ++ opens into p ++ line_runs into bs (past_byte b p)
 run-turns run into b bs p e f =
-    ap (λ (t : Bool). cond t (line_runs run bs (past_byte b p)) (closes run p ++ opens (rule.begun b) p ++ line_runs (rule.begun b) bs (past_byte b p))) e
+    ap
+    (λ (t : Bool).
+    cond t (line_runs run bs (past_byte b p))
+    (closes run p ++ opens (rule.begun b) p ++ line_runs (rule.begun b) bs (past_byte b p))) e
     ∙ ap (λ (x : Run). closes run p ++ opens x p ++ line_runs x bs (past_byte b p)) f
 
 -- The opening sequence.
@@ -99,7 +110,8 @@ white-quiet (b ∷ bs) p = go (is_white b) refl (white-quiet bs (past_byte b p))
         Roles Quiet (line_runs White (take (prefix_len is_white bs) bs) (past_byte b p)) →
         Roles Quiet (line_runs White (take (prefix_len is_white (b ∷ bs)) (b ∷ bs)) p)
     go true e more =
-        subst (λ (k : ℕ). Roles Quiet (line_runs White (take k (b ∷ bs)) p)) (sym (count-one is_white b bs e)) (subst (Roles Quiet) (sym (run-goes White b (take (prefix_len is_white bs) bs) p e)) more)
+        subst (λ (k : ℕ). Roles Quiet (line_runs White (take k (b ∷ bs)) p)) (sym (count-one is_white b bs e))
+        (subst (Roles Quiet) (sym (run-goes White b (take (prefix_len is_white bs) bs) p e)) more)
     go false e more =
         subst (λ (k : ℕ). Roles Quiet (line_runs White (take k (b ∷ bs)) p)) (sym (count-none is_white b bs e)) (tt, tt)
 
@@ -113,13 +125,23 @@ read-markers : (bytes : List ℕ) (r : Reading) (first p : Point) → r.text ≡
     read_exit bytes (Tells AsMarkers) p r ≡ marked r (slice_range bytes (byte_at first) p.index)
 read-markers bytes r first p t l =
     ap (λ (x : Option Text). told_at bytes AsMarkers p x r) t
-    ∙ ap (λ (x : Option OpenLeaf). record r { text = None; leaf = option_map (noted AsMarkers (record { spaces = columns_left first; text = slice_range bytes (byte_at first) p.index })) x }) l
+    ∙ ap
+    (λ (x : Option OpenLeaf).
+    record r {
+      text = None;
+      leaf =
+          option_map
+          (noted AsMarkers (record { spaces = columns_left first; text = slice_range bytes (byte_at first) p.index })) x;
+    }) l
 
 -- from inside the run on
 read-opening : (bytes : List ℕ) (r : Reading) (first : Point) (bs : List ℕ) (p : Point) → r.text ≡ Some (begun first) →
     r.leaf ≡ Some (fresh OfHeadingAtx) →
-    read bytes r (line_runs Hashes (take (opening_len bs) bs) p) ≡ marked r (slice_range bytes (byte_at first) (p.index + run_len 35 bs))
-read-opening bytes r first [] p t l = let end : p.index ≡ p.index + run_len 35 [] = omega arith in read-markers bytes r first p t l ∙ ap (λ (i : ℕ). marked r (slice_range bytes (byte_at first) i)) end
+    read bytes r (line_runs Hashes (take (opening_len bs) bs) p) ≡
+    marked r (slice_range bytes (byte_at first) (p.index + run_len 35 bs))
+read-opening bytes r first [] p t l =
+    let end : p.index ≡ p.index + run_len 35 [] = omega arith in
+    read-markers bytes r first p t l ∙ ap (λ (i : ℕ). marked r (slice_range bytes (byte_at first) i)) end
 read-opening bytes r first (b ∷ bs) p t l =
     go (b == 35) refl (is_white b) refl (read-opening bytes r first bs (past_byte b p) t l)
   where
@@ -138,12 +160,14 @@ read-opening bytes r first (b ∷ bs) p t l =
     go true e y f more =
         let size = count-one (λ (c : ℕ). c == 35) b bs e in
         let end : p.index + 1 + run_len 35 bs ≡ p.index + run_len 35 (b ∷ bs) = omega (arith, size) in
-        ap by (opening-hash b bs e) ∙ ap (read bytes r) (run-goes Hashes b (take (opening_len bs) bs) p e) ∙ more ∙ ap to end
+        ap by (opening-hash b bs e) ∙ ap (read bytes r) (run-goes Hashes b (take (opening_len bs) bs) p e) ∙ more
+        ∙ ap to end
     go false e true f more =
         let left = take (prefix_len is_white bs) bs in
         ap by (opening-other b bs e ∙ count-one is_white b bs f)
         ∙ ap (read bytes r) (run-turns Hashes White b left p e (begun-white b f))
-        ∙ read-quiet bytes (read_exit bytes (Tells AsMarkers) p r) (line_runs White left (past_byte b p)) (white-quiet bs (past_byte b p))
+        ∙ read-quiet bytes (read_exit bytes (Tells AsMarkers) p r) (line_runs White left (past_byte b p))
+        (white-quiet bs (past_byte b p))
         ∙ read-markers bytes r first p t l
         ∙ ap to (none e)
     go false e false f more =
@@ -166,7 +190,8 @@ gap-white bytes r run b bs p gap e = absurd gap
 
 gap-hash : (bytes : List ℕ) (r : Reading) (run : Run) (b : ℕ) (bs : List ℕ) (p : Point) → Gap run → is_white b ≡ false →
     (b == 35) ≡ true →
-    read bytes r (line_runs run (b ∷ bs) p) ≡ read bytes (record r { text = Some (begun p) }) (line_runs Hashes bs (past_byte b p))
+    read bytes r (line_runs run (b ∷ bs) p) ≡
+    read bytes (record r { text = Some (begun p) }) (line_runs Hashes bs (past_byte b p))
 gap-hash bytes r Apart b bs p gap e f = ap (read bytes r) (run-turns Apart Hashes b bs p refl (begun-hash b f))
 gap-hash bytes r White b bs p gap e f = ap (read bytes r) (run-turns White Hashes b bs p e (begun-hash b f))
 gap-hash bytes r run b bs p gap e f = absurd gap
@@ -177,7 +202,13 @@ heading-first b bs h = go (b == 35) refl
   where
     go : (x : Bool) → (b == 35) ≡ x → x ≡ true
     go true e = refl
-    go false e = let bad : false ≡ true = sym (ap (λ (k : ℕ). nat_le 1 k && (nat_le (0 + k) 6 && is_parted (drop k (b ∷ bs)))) (count-none (λ (c : ℕ). c == 35) b bs e)) ∙ h in cc
+    go false e =
+        let bad : false ≡
+        true = sym
+        (ap (λ (k : ℕ). nat_le 1 k && (nat_le (0 + k) 6 && is_parted (drop k (b ∷ bs))))
+        (count-none (λ (c : ℕ). c == 35) b bs e))
+        ∙ h in
+        cc
 
 -- where a line has no whitespace any more
 abbrev behind_white : List ℕ → Point → Point
@@ -186,7 +217,9 @@ behind_white line p = past_text (take (prefix_len is_white line) line) p
 -- the markers of a heading, and what stands around them
 read-front : (bytes : List ℕ) (r : Reading) (run : Run) (line : List ℕ) (p : Point) → Gap run →
     is_heading (trim_start line) ≡ true → r.leaf ≡ Some (fresh OfHeadingAtx) →
-    read bytes r (line_runs run (take (front_len line) line) p) ≡ marked r (slice_range bytes (byte_at (behind_white line p)) ((behind_white line p).index + run_len 35 (trim_start line)))
+    read bytes r (line_runs run (take (front_len line) line) p) ≡
+    marked r
+    (slice_range bytes (byte_at (behind_white line p)) ((behind_white line p).index + run_len 35 (trim_start line)))
 read-front bytes r run [] p gap h l = cc
 read-front bytes r run (b ∷ bs) p gap h l = go (is_white b) refl (read-front bytes r White bs (past_byte b p) tt)
   where
@@ -200,7 +233,9 @@ read-front bytes r run (b ∷ bs) p gap h l = go (is_white b) refl (read-front b
         marked r (slice_range bytes (byte_at q) (q.index + run_len 35 (drop k (b ∷ bs))))
 
     go : (x : Bool) → is_white b ≡ x →
-        (is_heading (trim_start bs) ≡ true → r.leaf ≡ Some (fresh OfHeadingAtx) → read bytes r (line_runs White (take (front_len bs) bs) (past_byte b p)) ≡ to (suc (prefix_len is_white bs))) →
+        (is_heading (trim_start bs) ≡ true → r.leaf ≡ Some (fresh OfHeadingAtx) →
+        read bytes r (line_runs White (take (front_len bs) bs) (past_byte b p)) ≡ to (suc (prefix_len is_white bs)))
+        →
         by (front_len (b ∷ bs)) ≡ to (prefix_len is_white (b ∷ bs))
     go true e more =
         let size = count-one is_white b bs e in
@@ -251,9 +286,18 @@ read-closes : (bytes : List ℕ) (r : Reading) (heading : HeadingSoFar) (m : ℕ
     read bytes r (closes run p) ≡ record r { text = None }
 read-closes bytes r heading m ms Hashes p l e t =
     let further : List ℕ = slice_range bytes (byte_at t.0) p.index in
-    let with_markers : List ℕ → Reading = λ markers. record r { text = None; leaf = Some (HeadingAtxLeaf (record heading { markers = markers })) } in
+    let with_markers : List ℕ →
+    Reading = λ markers. record r {
+      text = None;
+      leaf = Some (HeadingAtxLeaf (record heading { markers = markers }));
+    } in
     ap (λ (x : Option Text). told_at bytes AsMarkers p x r) t.1
-    ∙ ap (λ (x : Option OpenLeaf). record r { text = None; leaf = option_map (noted AsMarkers (record { spaces = columns_left t.0; text = further })) x }) l
+    ∙ ap
+    (λ (x : Option OpenLeaf).
+    record r {
+      text = None;
+      leaf = option_map (noted AsMarkers (record { spaces = columns_left t.0; text = further })) x;
+    }) l
     ∙ ap (λ (x : List ℕ). with_markers (first_told x further)) e
     ∙ ap with_markers (sym e)
     ∙ ap (λ (x : Option OpenLeaf). record r { text = None; leaf = x }) (sym l)
@@ -262,12 +306,15 @@ read-closes bytes r heading m ms White p l e t = ap (λ (x : Option Text). recor
 read-closes bytes r heading m ms rule.Text p l e t = ap (λ (x : Option Text). record r { text = x }) t
 
 -- so what is left of runs says nothing
-read-runs : (bytes : List ℕ) (r : Reading) (heading : HeadingSoFar) (m : ℕ) (ms : List ℕ) (run : Run) (line : List ℕ) (p : Point) →
+read-runs : (bytes : List ℕ) (r : Reading) (heading : HeadingSoFar) (m : ℕ) (ms : List ℕ) (run : Run) (line : List ℕ)
+    (p : Point) →
     r.leaf ≡ Some (HeadingAtxLeaf heading) → heading.markers ≡ m ∷ ms → InRun run r.text →
     read bytes r (line_runs run line p) ≡ record r { text = None }
 read-runs bytes r heading m ms run [] p l e t = read-closes bytes r heading m ms run p l e t
 read-runs bytes r heading m ms run (b ∷ bs) p l e t =
-    go (goes_on run b) refl (read-runs bytes r heading m ms run bs (past_byte b p) l e t) (read-runs bytes (record r { text = text_in (rule.begun b) p }) heading m ms (rule.begun b) bs (past_byte b p) l e (in-run (rule.begun b) p))
+    go (goes_on run b) refl (read-runs bytes r heading m ms run bs (past_byte b p) l e t)
+    (read-runs bytes (record r { text = text_in (rule.begun b) p }) heading m ms (rule.begun b) bs
+    (past_byte b p) l e (in-run (rule.begun b) p))
   where
     into : Run
     into = rule.begun b
@@ -282,7 +329,9 @@ read-runs bytes r heading m ms run (b ∷ bs) p l e t =
     go false k same turned =
         ap (read bytes r) (run-turns run into b bs p k refl)
         ∙ read-from bytes r mid (closes run p ++ opens into p) (line_runs into bs (past_byte b p))
-        (read-from bytes r (record r { text = None }) (closes run p) (opens into p) (read-closes bytes r heading m ms run p l e t) ∙ read-opens bytes (record r { text = None }) into p refl)
+        (read-from bytes r (record r { text = None }) (closes run p) (opens into p)
+        (read-closes bytes r heading m ms run p l e t)
+        ∙ read-opens bytes (record r { text = None }) into p refl)
         ∙ turned
 
 -- The text.
@@ -307,7 +356,8 @@ bare-take (suc n) [] h = refl
 bare-take (suc n) (b ∷ bs) h = go (is_white b) refl
   where
     go : (x : Bool) → is_white b ≡ x → Bare (take (suc n) (b ∷ bs))
-    go true e = let bad : suc (prefix_len is_white bs) ≡ 0 = sym (count-one is_white b bs e) ∙ h in absurd (omega (arith, bad))
+    go true e =
+        let bad : suc (prefix_len is_white bs) ≡ 0 = sym (count-one is_white b bs e) ∙ h in absurd (omega (arith, bad))
     go false e = count-none is_white b (take n bs) e
 
 -- the text of a heading begins with no whitespace
@@ -336,18 +386,21 @@ titled r markers lines =
 -- the text of a heading is read as that line
 read-part : (bytes : List ℕ) (r : Reading) (markers : List ℕ) (begin end : Point) (text : List ℕ) → begin.vs ≡ 0 →
     slice_range bytes begin.index end.index ≡ text → NoEnding text → Bare text →
-    read bytes (marked r markers) (read_text bytes (chunk_unless_empty (length text) begin end)) ≡ titled r markers (heading_lines text)
+    read bytes (marked r markers) (read_text bytes (chunk_unless_empty (length text) begin end)) ≡
+    titled r markers (heading_lines text)
 read-part bytes r markers begin end [] whole is none bare = refl
 read-part bytes r markers begin end (b ∷ bs) whole is none bare =
     let chunk : Chunk = record { first = begin; after = end } in
     let inside : List Event = together (plain_chunks bytes (chunk ∷ [])) in
     let some : length (b ∷ bs) == 0 ≡ false = grind (arith, nat_tests) in
     let text : text_to bytes end.index (text_after bytes (begun begin) inside) ≡ b ∷ bs =
-    ap (text_to bytes end.index) (text-inline bytes (begun begin) inside (plain-roles QuietOrEnding bytes (chunk ∷ []) tt tt))
+    ap (text_to bytes end.index)
+    (text-inline bytes (begun begin) inside (plain-roles QuietOrEnding bytes (chunk ∷ []) tt tt))
     ∙ ap (λ (vs : ℕ). slice_range bytes (cond (vs == 0) begin.index (begin.index + 1)) end.index) whole
     ∙ is in
     ap (λ (x : Bool). read bytes (marked r markers) (read_text bytes (cond x None (Some chunk)))) some
-    ∙ read-told bytes (marked r markers) n.HeadingAtxText AsHeading begin end inside refl refl (plain-roles Between bytes (chunk ∷ []) tt tt)
+    ∙ read-told bytes (marked r markers) n.HeadingAtxText AsHeading begin end inside refl refl
+    (plain-roles Between bytes (chunk ∷ []) tt tt)
     ∙ ap (λ (x : List ℕ). titled r markers (trim_each (split_lines x))) text
     ∙ ap (titled r markers) (text-lines (b ∷ bs) none bare)
 
@@ -355,7 +408,11 @@ read-part bytes r markers begin end (b ∷ bs) whole is none bare =
 
 -- a heading has a marker
 heading-depth : (bytes : List ℕ) → is_heading bytes ≡ true → 1 ≤ run_len 35 bytes
-heading-depth bytes h = let some : nat_le 1 (run_len 35 bytes) ≡ true = (and_parts (nat_le 1 (run_len 35 bytes)) (nat_le (0 + run_len 35 bytes) 6 && is_parted (drop (run_len 35 bytes) bytes)) h).0 in grind (arith, nat_tests)
+heading-depth bytes h =
+    let some : nat_le 1 (run_len 35 bytes) ≡
+    true = (and_parts (nat_le 1 (run_len 35 bytes))
+    (nat_le (0 + run_len 35 bytes) 6 && is_parted (drop (run_len 35 bytes) bytes)) h).0 in
+    grind (arith, nat_tests)
 
 -- what has a byte has a first one
 not-empty : (bytes : List ℕ) → 1 ≤ length bytes → (b : ℕ) × (bs : List ℕ) × (bytes ≡ b ∷ bs)
@@ -376,7 +433,8 @@ record IsAt (bytes line : List ℕ) (p : Point) (end : ℕ) : Type 0 where
   fits : front_len line + length (text_of line) ≤ length line
 
 abbrev markers_of : List ℕ → List ℕ → Point → List ℕ
-markers_of bytes line p = let q = behind_white line p in slice_range bytes (byte_at q) (q.index + run_len 35 (trim_start line))
+markers_of bytes line p =
+    let q = behind_white line p in slice_range bytes (byte_at q) (q.index + run_len 35 (trim_start line))
 
 -- they are as many as the run of `#`
 markers-are : (bytes line : List ℕ) (p : Point) (end : ℕ) → IsAt bytes line p end →
@@ -386,7 +444,8 @@ markers-are bytes line p end is =
     let depth = run_len 35 (trim_start line) in
     let q = behind_white line p in
     let fits = is.fits in
-    let place : q.index ≡ p.index + indent = past-index (take indent line) p ∙ ap (λ (k : ℕ). p.index + k) (length-prefix_len is_white line) in
+    let place : q.index ≡ p.index + indent = past-index (take indent line) p
+    ∙ ap (λ (k : ℕ). p.index + k) (length-prefix_len is_white line) in
     ap (λ (vs : ℕ). length (slice_range bytes (cond (vs == 0) q.index (q.index + 1)) (q.index + depth))) is.whole
     ∙ ap (λ (k : ℕ). length (slice_range bytes k (k + depth))) place
     ∙ ap length (slice-inside bytes line p.index end indent depth is.text is.size (omega (arith, fits)))
@@ -394,7 +453,11 @@ markers-are bytes line p end is =
 
 -- what stands in a heading is read as its markers and its text
 read-inside : (bytes line : List ℕ) (p : Point) (end : ℕ) (r : Reading) → IsAt bytes line p end → r.text ≡ None →
-    read bytes (record r { leaf = Some (fresh OfHeadingAtx) }) (read_title bytes (title_of line p)) ≡ record r { leaf = Some (HeadingAtxLeaf (record { markers = markers_of bytes line p; text = heading_lines (text_of line) })) }
+    read bytes (record r { leaf = Some (fresh OfHeadingAtx) }) (read_title bytes (title_of line p)) ≡
+    record r {
+      leaf = Some
+          (HeadingAtxLeaf (record { markers = markers_of bytes line p; text = heading_lines (text_of line) }));
+    }
 read-inside bytes line p end r is t =
     let opened : Reading = record r { leaf = Some (fresh OfHeadingAtx) } in
     let markers : List ℕ = markers_of bytes line p in
@@ -408,9 +471,12 @@ read-inside bytes line p end r is t =
     let depth = heading-depth (trim_start line) is.heading in
     let some = not-empty markers (omega (arith, depth, markers-are bytes line p end is)) in
     read-from bytes opened (titled r markers lines) (title.front ++ read_text bytes title.text) title.back
-    (read-from bytes opened (marked r markers) title.front (read_text bytes title.text) (read-front bytes opened Apart line p tt is.heading refl)
-    ∙ read-part bytes r markers from to (text_of line) is.text_whole is.title.slice is.title.no_ending (bare-text (drop (prefix_len is_white line + run_len 35 (trim_start line)) line)))
-    ∙ read-runs bytes (titled r markers lines) heading some.0 some.1 Apart (drop (first + size) line) to refl some.2 refl
+    (read-from bytes opened (marked r markers) title.front (read_text bytes title.text)
+    (read-front bytes opened Apart line p tt is.heading refl)
+    ∙ read-part bytes r markers from to (text_of line) is.text_whole is.title.slice is.title.no_ending
+    (bare-text (drop (prefix_len is_white line + run_len 35 (trim_start line)) line)))
+    ∙ read-runs bytes (titled r markers lines) heading some.0 some.1 Apart
+    (drop (first + size) line) to refl some.2 refl
     ∙ ap (λ (x : Option Text). record r { text = x; leaf = Some (HeadingAtxLeaf heading) }) (sym t)
 
 -- the heading of a text that begins with its markers
@@ -420,14 +486,18 @@ heading_of text = let depth = run_len 35 text in Heading depth (heading_lines (h
 -- The heading is read as its block.
 read-at : (bytes line : List ℕ) (p q : Point) (end : ℕ) (r : Reading) → IsAt bytes line p end → r.text ≡ None →
     r.leaf ≡ None →
-    read bytes r (around n.HeadingAtx p q (read_title bytes (title_of line p))) ≡ add_block (heading_of (trim_start line)) r
+    read bytes r (around n.HeadingAtx p q (read_title bytes (title_of line p))) ≡
+    add_block (heading_of (trim_start line)) r
 read-at bytes line p q end r is t l =
     let indent = prefix_len is_white line in
     let depth = run_len 35 (trim_start line) in
-    let leaf : OpenLeaf = HeadingAtxLeaf (record { markers = markers_of bytes line p; text = heading_lines (text_of line) }) in
-    read-leaf bytes r n.HeadingAtx OfHeadingAtx p q (read_title bytes (title_of line p)) leaf refl l (read-inside bytes line p end r is t)
+    let leaf : OpenLeaf = HeadingAtxLeaf
+    (record { markers = markers_of bytes line p; text = heading_lines (text_of line) }) in
+    read-leaf bytes r n.HeadingAtx OfHeadingAtx p q (read_title bytes (title_of line p)) leaf refl l
+    (read-inside bytes line p end r is t)
     ∙ ap (λ (k : ℕ). add_block (Heading k (heading_lines (text_of line))) r) (markers-are bytes line p end is)
-    ∙ ap (λ (x : List ℕ). add_block (Heading depth (heading_lines (heading_text x))) r) (sym (drop-drop depth indent line))
+    ∙ ap (λ (x : List ℕ). add_block (Heading depth (heading_lines (heading_text x))) r)
+    (sym (drop-drop depth indent line))
 
 -- behind a byte no tab is cut
 taken-whole : (n : ℕ) (line : List ℕ) (p : Point) → (p.vs ≡ 0) ⊎ ((0 < n) × (0 < length line)) →
@@ -459,7 +529,9 @@ markers-whole (b ∷ bs) p cut h = go (p.vs == 0) refl (b == 9) refl cut
 
     go : (x : Bool) → (p.vs == 0) ≡ x → (y : Bool) → (b == 9) ≡ y → (x || y) ≡ true → (behind_white (b ∷ bs) p).vs ≡ 0
     go true e y f k = past_text-whole (take (prefix_len is_white (b ∷ bs)) (b ∷ bs)) p (whole e)
-    go false e true f k = let size = count-one is_white b bs (tab f) in taken-whole (prefix_len is_white (b ∷ bs)) (b ∷ bs) p (inr (omega arith, omega arith))
+    go false e true f k =
+        let size = count-one is_white b bs (tab f) in
+        taken-whole (prefix_len is_white (b ∷ bs)) (b ∷ bs) p (inr (omega arith, omega arith))
     go false e false f k = cc
 
 -- The events of a line that is a heading are read as its heading.

@@ -1,5 +1,6 @@
 -- The text of a heading: the resolver sets it as one chunk, and what is read of it stands in its place.
-use Rattle.std.proofs.Common.{◌≡◌, ℕ, ◌+◌, Bool, true, false, cond, List, [], ◌∷◌, ◌++◌, length, drop, take, refl, arith, ◌&&◌, ◌==◌, ◌<◌, sym, subst, ◌||◌, append_assoc, append-nil, ◌∙◌, ap}
+use Rattle.std.proofs.Common.{◌≡◌, ℕ, ◌+◌, Bool, true, false, cond, List, [], ◌∷◌, ◌++◌, length, drop, take, refl}
+use Rattle.std.proofs.Common.{arith, ◌&&◌, ◌==◌, ◌<◌, sym, subst, ◌||◌, append_assoc, append-nil, ◌∙◌, ap}
 use Rattle.std.specs.Prelude.{◌==◌, IsTrue, Some, None}
 use Rattle.std.specs.List.{AllPass, list_all}
 use Rattle.std.proofs.lemmas.Bool.{and_from, eq-eqb}
@@ -13,7 +14,8 @@ use Rattle.md_engine.specs.declared.event.Point.{Point}
 use Rattle.md_leaves.specs.Heading.{heading_link}
 use Rattle.md_leaves.specs.HeadingRule as heading
 use Rattle.md_leaves.specs.HeadingText.{Before, headings_resolved, linked_text, resolved}
-use Rattle.md_leaves.specs.HeadingTitle.{Title, chunk_unless_empty, front_len, line_runs, text_of, title_of, unread_title}
+use Rattle.md_leaves.specs.HeadingTitle.{Title, chunk_unless_empty, front_len, line_runs, text_of, title_of}
+use Rattle.md_leaves.specs.HeadingTitle.{unread_title}
 use Rattle.md_leaves.proofs.TitleLemmas.{behind-marks, front-marks, is_mark, title-fits, title-resolved}
 use Rattle.md_leaves.proofs.TitleRuns.{pass-first, pass-rest}
 use Rattle.md_seam.specs.declared.inline.Chunk.{Chunk}
@@ -35,17 +37,22 @@ use Rattle.markdown_blocks.proofs.LeafFacts.{LineAt, ReadsText}
 use Rattle.markdown_blocks.proofs.LineTexts.{past-whole}
 use Rattle.markdown_blocks.proofs.PartFacts.{NoLinks, NoParts, IsNoPart}
 use Rattle.markdown_blocks.proofs.PartsStand.{Stands, inside-linked, stands-append, stands-outside, stands-part}
-use Rattle.markdown_blocks.proofs.SubstitutedLemmas.{Becomes, becomes-append, becomes-same, no_links-unwanted, part-becomes}
+use Rattle.markdown_blocks.proofs.SubstitutedLemmas.{Becomes, becomes-append, becomes-same, no_links-unwanted}
+use Rattle.markdown_blocks.proofs.SubstitutedLemmas.{part-becomes}
 
 -- It is set.
 
 -- the resolver sets the text of a heading, and goes on behind it
 pub heading-resolved : (line : List ℕ) (p q : Point) (es : List Event) → heading.is_heading (trim_start line) ≡ true →
-    headings_resolved (around n.HeadingAtx p q (line_runs heading.Apart line p) ++ es) ≡ around n.HeadingAtx p q (unread_title (title_of line p)) ++ headings_resolved es
+    headings_resolved (around n.HeadingAtx p q (line_runs heading.Apart line p) ++ es) ≡
+    around n.HeadingAtx p q (unread_title (title_of line p)) ++ headings_resolved es
 heading-resolved line p q es h =
     let after = headings_resolved es in
-    ap (λ (rest : List Event). enter n.HeadingAtx p ∷ resolved Before rest) (append_assoc (line_runs heading.Apart line p) (exit n.HeadingAtx q ∷ []) es)
-    ∙ ap (λ (rest : List Event). enter n.HeadingAtx p ∷ rest) (title-resolved line p q es h ∙ sym (append_assoc (unread_title (title_of line p)) (exit n.HeadingAtx q ∷ []) after))
+    ap (λ (rest : List Event). enter n.HeadingAtx p ∷ resolved Before rest)
+    (append_assoc (line_runs heading.Apart line p) (exit n.HeadingAtx q ∷ []) es)
+    ∙ ap (λ (rest : List Event). enter n.HeadingAtx p ∷ rest)
+    (title-resolved line p q es h
+    ∙ sym (append_assoc (unread_title (title_of line p)) (exit n.HeadingAtx q ∷ []) after))
 
 -- Around it nothing is read later.
 
@@ -72,7 +79,8 @@ runs-unlinked : (run : heading.Run) (bytes : List ℕ) (p : Point) → AllPass i
     NoLinks (line_runs run bytes p)
 runs-unlinked run [] p h = subst NoLinks (append-nil (heading.closes run p)) (closes-unlinked run p [] tt)
 runs-unlinked run (b ∷ bs) p h =
-    go (heading.goes_on run b) refl (runs-unlinked run bs q (pass-rest is_mark b bs h)) (runs-unlinked (heading.begun b) bs q (pass-rest is_mark b bs h))
+    go (heading.goes_on run b) refl (runs-unlinked run bs q (pass-rest is_mark b bs h))
+    (runs-unlinked (heading.begun b) bs q (pass-rest is_mark b bs h))
   where
     q : Point
     q = past_byte b p
@@ -82,7 +90,10 @@ runs-unlinked run (b ∷ bs) p h =
     go true e same next = rw e same
     go false e same next =
         let rest = line_runs (heading.begun b) bs q in
-        rw e (subst NoLinks (sym (append_assoc (heading.closes run p) (heading.opens (heading.begun b) p) rest)) (closes-unlinked run p (heading.opens (heading.begun b) p ++ rest) (opens-unlinked b p rest (pass-first is_mark b bs h) next)))
+        rw e
+        (subst NoLinks (sym (append_assoc (heading.closes run p) (heading.opens (heading.begun b) p) rest))
+        (closes-unlinked run p (heading.opens (heading.begun b) p ++ rest)
+        (opens-unlinked b p rest (pass-first is_mark b bs h) next)))
 
 -- nothing around the text is read later
 front-unlinked : (line : List ℕ) (p : Point) → NoLinks (title_of line p).front
@@ -111,7 +122,13 @@ closes-no_parts heading.Text p = (refl, tt)
 -- so it is in what is left of runs
 runs-no_parts : (run : heading.Run) (xs : List ℕ) (p : Point) → NoParts (line_runs run xs p)
 runs-no_parts run xs p =
-    runs-each (λ q. Unit {0}) NoParts (record { append = each-append IsNoPart; closes = λ r q h. closes-no_parts r q; opens = λ r q h. opens-no_parts r q; next = λ b q h. tt }) run xs p tt
+    runs-each (λ q. Unit {0}) NoParts
+    (record {
+      append = each-append IsNoPart;
+      closes = λ r q h. closes-no_parts r q;
+      opens = λ r q h. opens-no_parts r q;
+      next = λ b q h. tt;
+    }) run xs p tt
 
 -- The text is a chunk of one line.
 
@@ -122,8 +139,11 @@ stands-title bytes r line p q is =
     let title : Title = title_of line p in
     stands-append bytes (title.front ++ linked_text title.text) title.back
     (stands-append bytes title.front (linked_text title.text)
-    (stands-outside bytes title.front (runs-no_parts heading.Apart (take (front_len line) line) p) (front-unlinked line p)) (text (length (text_of line) == 0) refl))
-    (stands-outside bytes title.back (runs-no_parts heading.Apart (drop (front_len line + length (text_of line)) line) end) (back-unlinked line p))
+    (stands-outside bytes title.front (runs-no_parts heading.Apart (take (front_len line) line) p)
+    (front-unlinked line p))
+    (text (length (text_of line) == 0) refl))
+    (stands-outside bytes title.back
+    (runs-no_parts heading.Apart (drop (front_len line + length (text_of line)) line) end) (back-unlinked line p))
   where
     begin : Point
     begin = text_begin line p
@@ -137,7 +157,8 @@ stands-title bytes r line p q is =
     text : (x : Bool) → (length (text_of line) == 0) ≡ x → Stands bytes (linked_text (cond x None (Some chunk)))
     text true e = stands-outside bytes [] tt tt
     text false e =
-        stands-part bytes n.HeadingAtxText Text begin end (chunk ∷ []) (linked n.Data heading_link (chunk ∷ [])) refl (inside-linked bytes heading_link (chunk ∷ [])) (same-refl begin)
+        stands-part bytes n.HeadingAtxText Text begin end (chunk ∷ []) (linked n.Data heading_link (chunk ∷ [])) refl
+        (inside-linked bytes heading_link (chunk ∷ [])) (same-refl begin)
         (title-lines bytes r line p q is (grind (arith, nat_tests)))
 
 -- What is read stands in its place.
@@ -152,13 +173,16 @@ fill-text bytes size p q h = go (size == 0)
 
     order : in_order p (chunk ∷ []) ≡ true
     order =
-        and_from (at_or_before p p && at_or_before p q) true (and_from (at_or_before p p) (at_or_before p q) (at_or_before-refl p) h) refl
+        and_from (at_or_before p p && at_or_before p q) true
+        (and_from (at_or_before p p) (at_or_before p q) (at_or_before-refl p) h) refl
 
     go : (none : Bool) →
         Fill bytes (linked_text (cond none None (Some chunk))) (read_text bytes (cond none None (Some chunk)))
     go true = fill-same bytes [] tt tt
     go false =
-        fill-part bytes n.HeadingAtxText Text p q (chunk ∷ []) (linked n.Data heading_link (chunk ∷ [])) (together (plain_chunks bytes (chunk ∷ []))) refl (inside-linked bytes heading_link (chunk ∷ [])) (plain-fills bytes p (chunk ∷ []) order)
+        fill-part bytes n.HeadingAtxText Text p q (chunk ∷ []) (linked n.Data heading_link (chunk ∷ []))
+        (together (plain_chunks bytes (chunk ∷ []))) refl (inside-linked bytes heading_link (chunk ∷ []))
+        (plain-fills bytes p (chunk ∷ []) order)
         (linked-filled bytes heading_link (chunk ∷ []))
 
 -- what stands in a heading
@@ -166,10 +190,14 @@ pub fill-title : (bytes line : List ℕ) (p : Point) →
     Fill bytes (unread_title (title_of line p)) (read_title bytes (title_of line p))
 fill-title bytes line p =
     let title : Title = title_of line p in
-    fill-append bytes (title.front ++ linked_text title.text) (title.front ++ read_text bytes title.text) title.back title.back
-    (fill-append bytes title.front title.front (linked_text title.text) (read_text bytes title.text) (fill-same bytes title.front (front-unlinked line p) (runs-no_parts heading.Apart (take (front_len line) line) p))
+    fill-append bytes (title.front ++ linked_text title.text)
+    (title.front ++ read_text bytes title.text) title.back title.back
+    (fill-append bytes title.front title.front (linked_text title.text) (read_text bytes title.text)
+    (fill-same bytes title.front (front-unlinked line p)
+    (runs-no_parts heading.Apart (take (front_len line) line) p))
     (fill-text bytes (length (text_of line)) (text_begin line p) (text_end line p) (text-order line p)))
-    (fill-same bytes title.back (back-unlinked line p) (runs-no_parts heading.Apart (drop (front_len line + length (text_of line)) line) (text_end line p)))
+    (fill-same bytes title.back (back-unlinked line p)
+    (runs-no_parts heading.Apart (drop (front_len line + length (text_of line)) line) (text_end line p)))
 
 -- Whoever reads it as the plain layer does gives these events.
 
@@ -193,14 +221,17 @@ text-becomes bytes r line p q is wants reads w rt = go (length (text_of line) ==
 
     whole : 0 < length (text_of line) → list_all (λ (chunk : Chunk). chunk.after.vs == 0) (chunk ∷ []) ≡ true
     whole some =
-        and_from (end.vs == 0) true (eq-eqb end.vs 0 (past-whole (take (front_len line + length (text_of line)) line) p (omega (arith, size, some)))) refl
+        and_from (end.vs == 0) true
+        (eq-eqb end.vs 0
+        (past-whole (take (front_len line + length (text_of line)) line) p (omega (arith, size, some)))) refl
 
     go : (x : Bool) → (length (text_of line) == 0) ≡ x →
         Becomes wants reads (linked_text (cond x None (Some chunk))) (read_text bytes (cond x None (Some chunk)))
     go true e = becomes-same wants reads [] tt
     go false e =
         let some : 0 < length (text_of line) = grind (arith, nat_tests) in
-        part-becomes wants reads n.HeadingAtxText n.Data heading_link begin end chunk (plain_events bytes (record { kind = Text; chunks = chunk ∷ [] })) w refl
+        part-becomes wants reads n.HeadingAtxText n.Data heading_link begin end chunk
+        (plain_events bytes (record { kind = Text; chunks = chunk ∷ [] })) w refl
         (λ answer h. rt (chunk ∷ []) answer h end (title-lines bytes r line p q is some) (whole some))
 
 -- what stands in a heading
@@ -209,7 +240,9 @@ pub title-becomes : (bytes : List ℕ) (r : Rest) (line : List ℕ) (p q : Point
     Becomes wants reads (unread_title (title_of line p)) (read_title bytes (title_of line p))
 title-becomes bytes r line p q is wants reads w rt =
     let title : Title = title_of line p in
-    becomes-append wants reads (title.front ++ linked_text title.text) (title.front ++ read_text bytes title.text) title.back title.back
-    (becomes-append wants reads title.front title.front (linked_text title.text) (read_text bytes title.text) (becomes-same wants reads title.front (no_links-unwanted wants title.front (front-unlinked line p)))
+    becomes-append wants reads (title.front ++ linked_text title.text)
+    (title.front ++ read_text bytes title.text) title.back title.back
+    (becomes-append wants reads title.front title.front (linked_text title.text) (read_text bytes title.text)
+    (becomes-same wants reads title.front (no_links-unwanted wants title.front (front-unlinked line p)))
     (text-becomes bytes r line p q is wants reads w rt))
     (becomes-same wants reads title.back (no_links-unwanted wants title.back (back-unlinked line p)))

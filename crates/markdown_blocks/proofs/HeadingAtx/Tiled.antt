@@ -1,5 +1,6 @@
 -- A heading covers its line.
-use Rattle.std.proofs.Common.{◌≡◌, ℕ, Bool, true, false, cond, List, [], ◌∷◌, ◌++◌, length, take, drop, refl, ap, sym, ◌∙◌, subst, append_assoc, append-nil}
+use Rattle.std.proofs.Common.{◌≡◌, ℕ, Bool, true, false, cond, List, [], ◌∷◌, ◌++◌, length, take, drop, refl, ap, sym}
+use Rattle.std.proofs.Common.{◌∙◌, subst, append_assoc, append-nil}
 use Rattle.std.specs.Prelude.{◌==◌, Some, None}
 use Rattle.std.proofs.lemmas.Bool.{eqb-true}
 use Rattle.md_engine.specs.declared.event.Event.{Event}
@@ -9,14 +10,16 @@ use Rattle.md_engine.specs.declared.event.Point.{Point}
 use Rattle.md_leaves.specs.Heading.{heading_link}
 use Rattle.md_leaves.specs.HeadingRule.{Apart, Hashes, Run, Text, White, begun, closes, goes_on, opens}
 use Rattle.md_leaves.specs.HeadingText.{linked_text}
-use Rattle.md_leaves.specs.HeadingTitle.{Title, chunk_unless_empty, front_len, line_runs, text_of, title_of, unread_title}
+use Rattle.md_leaves.specs.HeadingTitle.{Title, chunk_unless_empty, front_len, line_runs, text_of, title_of}
+use Rattle.md_leaves.specs.HeadingTitle.{unread_title}
 use Rattle.md_seam.specs.Events.Nested.{enter, enter_link, exit}
 use Rattle.md_seam.specs.Events.Places.{past_byte, past_text, same_place}
 use Rattle.md_definition.specs.Rest.{is_white}
 use Rattle.md_seam.proofs.InlineLemmas.{same-refl}
 use Rattle.markdown_blocks.specs.Leaf.HeadingAtx.{heading_around}
 use Rattle.markdown_blocks.proofs.HeadingAtx.Places.{back_bytes, line-end-is, text-end-is, text_begin, text_end}
-use Rattle.markdown_blocks.proofs.PiecesLemmas.{Shut, Tiled, shut-exit, tiled-append, tiled-around, tiled-enter, tiled-none, tiled-two}
+use Rattle.markdown_blocks.proofs.PiecesLemmas.{Shut, Tiled, shut-exit, tiled-append, tiled-around, tiled-enter}
+use Rattle.markdown_blocks.proofs.PiecesLemmas.{tiled-none, tiled-two}
 use Rattle.markdown_blocks.proofs.SpanLemmas.{either}
 
 -- a run that was begun
@@ -62,14 +65,19 @@ shut-runs run (b ∷ xs) p ok e h =
     let next : Point = past_byte b p in
     let end : Point = past_text xs next in
     let rest : List Event = line_runs (begun b) xs next in
-    either (Shut e end) (goes_on run b) (line_runs run xs next) ((closes run p ++ opens (begun b) p) ++ rest) (shut-runs run xs next ok e h)
+    either (Shut e end) (goes_on run b) (line_runs run xs next) ((closes run p ++ opens (begun b) p) ++ rest)
+    (shut-runs run xs next ok e h)
     (subst (Shut e end) (sym (append_assoc (closes run p) (opens (begun b) p) rest))
-    (shut-closes run e p end (opens (begun b) p ++ rest) ok h (tiled-opens (begun b) p end rest (open-begun b) (shut-runs (begun b) xs next (open-begun b)))))
+    (shut-closes run e p end (opens (begun b) p ++ rest) ok h
+    (tiled-opens (begun b) p end rest (open-begun b) (shut-runs (begun b) xs next (open-begun b)))))
 
 -- so all runs cover their bytes
 pub runs-tiled : (xs : List ℕ) (p : Point) → Tiled p (past_text xs p) (line_runs Apart xs p)
 runs-tiled [] p = tiled-none p p (same-refl p)
-runs-tiled (b ∷ xs) p = let next : Point = past_byte b p in tiled-opens (begun b) p (past_text xs next) (line_runs (begun b) xs next) (open-begun b) (shut-runs (begun b) xs next (open-begun b))
+runs-tiled (b ∷ xs) p =
+    let next : Point = past_byte b p in
+    tiled-opens (begun b) p (past_text xs next) (line_runs (begun b) xs next) (open-begun b)
+    (shut-runs (begun b) xs next (open-begun b))
 
 -- the text of a heading covers so many bytes
 text-tiled : (size : ℕ) (p q : Point) → (size ≡ 0 → q ≡ p) → Tiled p q (linked_text (chunk_unless_empty size p q))
@@ -79,7 +87,8 @@ text-tiled size p q none = go (size == 0) refl
     go true e =
         tiled-none p q (subst (λ (r : Point). same_place p r ≡ true) (sym (none (eqb-true size 0 e))) (same-refl p))
     go false e =
-        tiled-around n.HeadingAtxText p q (enter_link n.Data p heading_link ∷ exit n.Data q ∷ []) (tiled-two (enter_link n.Data p heading_link) (exit n.Data q) refl refl)
+        tiled-around n.HeadingAtxText p q (enter_link n.Data p heading_link ∷ exit n.Data q ∷ [])
+        (tiled-two (enter_link n.Data p heading_link) (exit n.Data q) refl refl)
 
 -- what stands in a heading covers its line
 title-tiled : (line : List ℕ) (p : Point) → Tiled p (past_text line p) (unread_title (title_of line p))
@@ -88,10 +97,14 @@ title-tiled line p =
     let size : ℕ = length (text_of line) in
     let begin : Point = text_begin line p in
     let end : Point = text_end line p in
-    let none : size ≡ 0 → end ≡ begin = λ h. text-end-is line p ∙ ap (λ (i : ℕ). past_text (take i (drop (front_len line) line)) begin) h in
-    let back : Tiled end (past_text line p) title.back = subst (λ (q : Point). Tiled end q title.back) (sym (line-end-is line p)) (runs-tiled (back_bytes line) end) in
+    let none : size ≡ 0 →
+    end ≡ begin = λ h. text-end-is line p
+    ∙ ap (λ (i : ℕ). past_text (take i (drop (front_len line) line)) begin) h in
+    let back : Tiled end (past_text line p) title.back = subst (λ (q : Point). Tiled end q title.back)
+    (sym (line-end-is line p)) (runs-tiled (back_bytes line) end) in
     tiled-append p end (past_text line p) (title.front ++ linked_text title.text) title.back
-    (tiled-append p begin end title.front (linked_text title.text) (runs-tiled (take (front_len line) line) p) (text-tiled size begin end none)) back
+    (tiled-append p begin end title.front (linked_text title.text) (runs-tiled (take (front_len line) line) p)
+    (text-tiled size begin end none)) back
 
 -- and so does the heading
 pub heading-tiled : (line : List ℕ) (p : Point) →

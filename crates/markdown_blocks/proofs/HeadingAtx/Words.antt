@@ -31,15 +31,21 @@ linked-text (Some chunk) = (true, λ x outer. refl)
 read-text : (bytes : List ℕ) (chunk : Option Chunk) → IsHeadingText plain_text (read_text bytes chunk)
 read-text bytes None = (false, λ x outer. refl)
 read-text bytes (Some chunk) =
-    let words : IsWord plain_text (plain_text ∷ []) (plain_chunk bytes chunk ++ []) = subst (IsWord plain_text (plain_text ∷ [])) (sym (append-nil (plain_chunk bytes chunk))) (chunk-word bytes true chunk) in
-    (true, λ x. leads-around plain_text x n.HeadingAtxText chunk.first chunk.after (plain_chunk bytes chunk ++ []) words)
+    let words : IsWord plain_text (plain_text ∷ []) (plain_chunk bytes chunk ++ []) = subst
+    (IsWord plain_text (plain_text ∷ [])) (sym (append-nil (plain_chunk bytes chunk)))
+    (chunk-word bytes true chunk) in (
+      true,
+      λ x. leads-around plain_text x n.HeadingAtxText chunk.first chunk.after (plain_chunk bytes chunk ++ []) words,
+    )
 
 -- so the heading is a block, before its text is read and once it is
 heading-leads : (text : Expression) (line : List ℕ) (p : Point) (inside : List Event) →
     is_heading (trim_start line) ≡ true → IsHeadingText text inside →
-    Leads text (blocks ∷ []) (behind_block ∷ []) (heading_around line p ((title_of line p).front ++ inside ++ (title_of line p).back))
+    Leads text (blocks ∷ []) (behind_block ∷ [])
+    (heading_around line p ((title_of line p).front ++ inside ++ (title_of line p).back))
 heading-leads text line p inside h words =
-    leads-around text blocks n.HeadingAtx p (past_text line p) ((title_of line p).front ++ inside ++ (title_of line p).back) (title-word text line p words.0 inside h words.1)
+    leads-around text blocks n.HeadingAtx p (past_text line p)
+    ((title_of line p).front ++ inside ++ (title_of line p).back) (title-word text line p words.0 inside h words.1)
 
 pub unread-word : (line : List ℕ) (p : Point) → is_heading (trim_start line) ≡ true →
     Leads unread_text (blocks ∷ []) (behind_block ∷ []) (heading_around line p (unread_title (title_of line p)))

@@ -12,7 +12,8 @@ use Rattle.md_content.specs.ParagraphRule.{line_events}
 use Rattle.md_seam.specs.declared.inline.Chunk.{Chunk}
 use Rattle.md_seam.specs.Ahead.{point_after}
 use Rattle.md_seam.specs.Events.Nested.{enter_link, exit}
-use Rattle.md_definition.specs.State.{Kept, Leaf, NoLeaf, OpenParagraph, shut_paragraph, texts, then_leaf, then_paragraph}
+use Rattle.md_definition.specs.State.{Kept, Leaf, NoLeaf, OpenParagraph, shut_paragraph, texts, then_leaf}
+use Rattle.md_definition.specs.State.{then_paragraph}
 use Rattle.md_definition.specs.Tree.{Blocks, Paragraph}
 use Rattle.markdown_blocks.specs.Leaf.Paragraph.{paragraph_leaf}
 use Rattle.markdown_blocks.specs.HeldLeaf.{IsBuiltLeaf}
@@ -35,7 +36,8 @@ shut-lines options bs ks off = rw off refl
 simple-behind : (bs : Blocks) (lines : List (List ℕ)) → AreSimple bs → AreSimple (then_paragraph bs lines)
 simple-behind bs [] h = h
 simple-behind bs (line ∷ lines) h =
-    simple-then bs (Paragraph (line ∷ lines)) h (record { shallow = refl; grouped_same = refl; in_front = λ more. refl })
+    simple-then bs (Paragraph (line ∷ lines)) h
+    (record { shallow = refl; grouped_same = refl; in_front = λ more. refl })
 
 -- What is read of content.
 
@@ -44,7 +46,9 @@ lines-outside [] p = (refl, tt)
 lines-outside (c ∷ cs) p = go (c.byte == 10) (lines-outside cs c.after)
   where
     go : (x : Bool) → AreOutside (line_events cs c.after) →
-        AreOutside (cond x (exit n.Data c.after ∷ enter_link n.Data c.after text_link ∷ line_events cs c.after) (line_events cs c.after))
+        AreOutside
+        (cond x (exit n.Data c.after ∷ enter_link n.Data c.after text_link ∷ line_events cs c.after)
+        (line_events cs c.after))
     go true k = (refl, (refl, k))
     go false k = k
 
@@ -54,8 +58,14 @@ unfolding content_events
 content-outside bytes options chunks =
     let w : World = part_world bytes options chunks in
     let cells : List Cell = text_feed w.setting w.point in
-    settled-each IsOutside (λ e q h. h) chunks (paragraph_over cells w.point)
-    (refl, (refl, outside-append (line_events cells w.point) (exit n.Paragraph (point_after cells w.point) ∷ []) (lines-outside cells w.point) (refl, tt)))
+    settled-each IsOutside (λ e q h. h) chunks (paragraph_over cells w.point) (
+      refl,
+      (
+        refl,
+        outside-append (line_events cells w.point) (exit n.Paragraph (point_after cells w.point) ∷ [])
+            (lines-outside cells w.point) (refl, tt),
+      ),
+    )
 
 pub paragraph-laws : TextLaws paragraph_leaf
 paragraph-laws = record {

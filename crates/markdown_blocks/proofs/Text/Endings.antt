@@ -1,6 +1,7 @@
 -- The lines of a text fill their leaf, before they are read and once they are.
 use Rattle.markdown_blocks.proofs.FrontStands.{fronts-others}
-use Rattle.std.proofs.Common.{◌≡◌, ℕ, ◌+◌, ◌<◌, Bool, true, false, cond, List, [], ◌∷◌, ◌++◌, length, refl, sym, subst, arith}
+use Rattle.std.proofs.Common.{◌≡◌, ℕ, ◌+◌, ◌<◌, Bool, true, false, cond, List, [], ◌∷◌, ◌++◌, length, refl, sym, subst}
+use Rattle.std.proofs.Common.{arith}
 use Rattle.std.proofs.lemmas.Bool.Decides.{nat_tests}
 use Rattle.md_engine.specs.declared.configuration.ParseOptions.{ParseOptions}
 use Rattle.md_engine.specs.declared.event.Event.{Event}
@@ -20,7 +21,9 @@ use Rattle.markdown_blocks.proofs.RowFacts.{IsRow}
 
 -- what the plain layer gives for a line
 pub chunk-stays : (bytes : List ℕ) (chunk : Chunk) → Stays (plain_chunk bytes chunk)
-chunk-stays bytes chunk = go (line_end bytes chunk) (same_place chunk.first (line_end bytes chunk)) (same_place (line_end bytes chunk) chunk.after)
+chunk-stays bytes chunk =
+    go (line_end bytes chunk) (same_place chunk.first (line_end bytes chunk))
+    (same_place (line_end bytes chunk) chunk.after)
   where
     go : (end : Point) (x y : Bool) →
         Stays (cond x [] (pair n.Data chunk.first end) ++ cond y [] (pair n.LineEnding end chunk.after))
@@ -32,19 +35,26 @@ chunk-stays bytes chunk = go (line_end bytes chunk) (same_place chunk.first (lin
 -- a line of a text part with what stands in front of the next, and the next
 pub filling-next : (bytes : List ℕ) (q r : Point) (chunk front rest : List Event) → Stays chunk →
     LinePrefix bytes [] q r front → Filling rest → Filling (chunk ++ front ++ rest)
-filling-next bytes q r chunk front rest h is k = filling-append (chunk ++ front) rest (stays-append chunk front h (stays-others front (fronts-others bytes [] q r front is))) k
+filling-next bytes q r chunk front rest h is k =
+    filling-append (chunk ++ front) rest
+    (stays-append chunk front h (stays-others front (fronts-others bytes [] q r front is))) k
 
 -- the lines of a text, before they are read
 pub linked-filling : (options : ParseOptions) (bytes : List ℕ) (row : Row) (rows : List Row) →
     AreLines options bytes row rows → Filling (unread_lines row rows)
 linked-filling options bytes row [] is = λ from ys. refl
 linked-filling options bytes row (next ∷ rows) is =
-    filling-next bytes is.3 next.first (unread_lines (record row { end = behind_row row }) []) next.front (unread_lines next rows) (λ from. (true, λ ys. refl)) is.6 (linked-filling options bytes next rows is.7)
+    filling-next bytes is.3 next.first (unread_lines (record row { end = behind_row row }) []) next.front
+    (unread_lines next rows) (λ from. (true, λ ys. refl)) is.6 (linked-filling options bytes next rows is.7)
 
 -- and once they are: the last is not empty, and has no ending there
-pub last-filling : (options : ParseOptions) (bytes line : List ℕ) (row : Row) → IsRow options bytes line row → row.kind ≡ TextRow → Filling (plain_chunk bytes (record { first = row.first; after = row.end }))
+pub last-filling : (options : ParseOptions) (bytes line : List ℕ) (row : Row) → IsRow options bytes line row →
+    row.kind ≡ TextRow → Filling (plain_chunk bytes (record { first = row.first; after = row.end }))
 last-filling options bytes line row is text =
-    subst (λ (end : Point). Filling (pair_unless_empty n.Data row.first end ++ pair_unless_empty n.LineEnding end row.end)) (sym (line_end-alone options bytes line row is))
+    subst
+    (λ (end : Point).
+    Filling (pair_unless_empty n.Data row.first end ++ pair_unless_empty n.LineEnding end row.end))
+    (sym (line_end-alone options bytes line row is))
     (go (same_place row.first row.end) apart (same_place row.end row.end) (same-refl row.end))
   where
     some : row.first.index + length line ≡ row.end.index → 0 < length line → same_place row.first row.end ≡ false
@@ -64,4 +74,5 @@ pub read-filling : (options : ParseOptions) (bytes : List ℕ) (row : Row) (rows
 read-filling options bytes row [] is = last-filling options bytes is.0 row is.1 is.2
 read-filling options bytes row (next ∷ rows) is =
     let chunk : Chunk = record { first = row.first; after = behind_row row } in
-    filling-next bytes is.3 next.first (plain_chunk bytes chunk) next.front (read_lines bytes next rows) (chunk-stays bytes chunk) is.6 (read-filling options bytes next rows is.7)
+    filling-next bytes is.3 next.first (plain_chunk bytes chunk) next.front (read_lines bytes next rows)
+    (chunk-stays bytes chunk) is.6 (read-filling options bytes next rows is.7)

@@ -36,16 +36,19 @@ use Rattle.markdown_blocks.proofs.Text.Places.{read-between, read-nested, read-p
 use Rattle.markdown_blocks.proofs.Text.Words.{linked-word, read-word}
 
 -- its lines, as the line definition keeps them
-abbrev pub kept-of : (options : ParseOptions) (bytes : List ℕ) (row : Row) (rows : List Row) → AreLines options bytes row rows → List Kept
+abbrev pub kept-of : (options : ParseOptions) (bytes : List ℕ) (row : Row) (rows : List Row) →
+    AreLines options bytes row rows → List Kept
 kept-of options bytes row [] h = kept h.1.rest ∷ []
 kept-of options bytes row (next ∷ rows) h = kept h.1.rest ∷ kept-of options bytes next rows h.7
 
 -- they are read as these
-lines-read : (options : ParseOptions) (bytes : List ℕ) (row : Row) (rows : List Row) → (h : AreLines options bytes row rows) →
+lines-read : (options : ParseOptions) (bytes : List ℕ) (row : Row) (rows : List Row) →
+    (h : AreLines options bytes row rows) →
     IsRead bytes row rows (kept-of options bytes row rows h)
 lines-read options bytes row [] h = read-one options bytes h.0 row h.1 h.2
 lines-read options bytes row (next ∷ rows) h =
-    read-more options bytes h.0 row next rows h.3 (kept-of options bytes next rows h.7) h.1 h.2 h.5 h.6 (lines-read options bytes next rows h.7)
+    read-more options bytes h.0 row next rows h.3 (kept-of options bytes next rows h.7) h.1 h.2 h.5 h.6
+    (lines-read options bytes next rows h.7)
 
 -- the last one ends in no tab
 end-clear : (options : ParseOptions) (bytes : List ℕ) (row : Row) (rows : List Row) → AreLines options bytes row rows →
@@ -53,28 +56,44 @@ end-clear : (options : ParseOptions) (bytes : List ℕ) (row : Row) (rows : List
 end-clear options bytes row [] h = ap (λ (v : ℕ). (v == 0) || is_between bytes (byte_at row.end)) h.1.end_whole
 end-clear options bytes row (next ∷ rows) h = end-clear options bytes next rows h.7
 
-pub text-facts : (options : ParseOptions) (bytes : List ℕ) (row : Row) (rows : List Row) → (h : AreLines options bytes row rows) →
-    LeafFacts bytes (Some (text_leaf.block (texts (kept-of options bytes row rows h)))) row.first (last_row row rows).end
+pub text-facts : (options : ParseOptions) (bytes : List ℕ) (row : Row) (rows : List Row) →
+    (h : AreLines options bytes row rows) →
+    LeafFacts bytes (Some (text_leaf.block (texts (kept-of options bytes row rows h)))) row.first
+    (last_row row rows).end
     (text_unread row rows) (text_done bytes row rows)
 text-facts options bytes row rows h = record {
   unread_nested = around-nested text_leaf.name row.first end unread (unread-nested options bytes row rows h);
   nested = around-nested text_leaf.name row.first end done (read-nested options bytes row rows h);
   tiled = tiled-around text_leaf.name row.first end unread (unread-tiled options bytes row rows h);
-  unread_stood = stood-around bytes text_leaf.name row.first end unread (linked-starts row rows) (unread-stood options bytes row rows h);
-  stood = stood-around bytes text_leaf.name row.first end done (read-starts options bytes row rows h) (read-stood options bytes row rows h);
-  unread_word = leads-around unread_text blocks text_leaf.name row.first end unread (linked-word options bytes unread_text row rows refl h);
+  unread_stood =
+      stood-around bytes text_leaf.name row.first end unread (linked-starts row rows)
+      (unread-stood options bytes row rows h);
+  stood =
+      stood-around bytes text_leaf.name row.first end done (read-starts options bytes row rows h)
+      (read-stood options bytes row rows h);
+  unread_word =
+      leads-around unread_text blocks text_leaf.name row.first end unread
+      (linked-word options bytes unread_text row rows refl h);
   word = leads-around plain_text blocks text_leaf.name row.first end done (read-word options bytes true row rows h);
   unread_ending = leaf-leads text_leaf.name row.first end unread refl (linked-filling options bytes row rows h true);
   ending = leaf-leads text_leaf.name row.first end done refl (read-filling options bytes row rows h true);
   parts =
-      stands-part bytes text_leaf.name Text row.first end chunks unread refl (lines-inside options bytes row rows h) (chunks-begin row rows) (chunks-lines options bytes row rows h);
+      stands-part bytes text_leaf.name Text row.first end chunks unread refl (lines-inside options bytes row rows h)
+      (chunks-begin row rows) (chunks-lines options bytes row rows h);
   filled =
       fill-part bytes text_leaf.name Text row.first end chunks unread done refl (lines-inside options bytes row rows h)
-      (plain-fills bytes row.first chunks (chunks-order options bytes row rows h)) (lines-filled options bytes row rows h);
-  between = λ first last. around-between bytes text_leaf.name row.first end done first last (read-between options bytes row rows h first last);
+      (plain-fills bytes row.first chunks (chunks-order options bytes row rows h))
+      (lines-filled options bytes row rows h);
+  between =
+      λ first last. around-between bytes text_leaf.name row.first end done first last
+      (read-between options bytes row rows h first last);
   parted = text-sits options bytes row rows h;
-  plain = λ first. plain-around bytes text_leaf.name row.first end done refl first (end-clear options bytes row rows h) (read-plain options bytes row rows h);
-  reads = λ r text leaf. read-lines bytes row rows (kept-of options bytes row rows h) r (lines-read options bytes row rows h) text;
+  plain =
+      λ first. plain-around bytes text_leaf.name row.first end done refl first (end-clear options bytes row rows h)
+      (read-plain options bytes row rows h);
+  reads =
+      λ r text leaf. read-lines bytes row rows (kept-of options bytes row rows h) r
+      (lines-read options bytes row rows h) text;
 }
   where
     end : Point

@@ -1,7 +1,9 @@
 -- Prefixes part a text at the begins of its lines.
 use Rattle.markdown_blocks.proofs.FrontStands.{fronts-parted, Fine, EndBlank, begins-fine, end-blank, ended-blank}
 use Rattle.markdown_blocks.proofs.Text.Order.{first-text}
-use Rattle.std.proofs.Common.{◌≡◌, ◌⊎◌, inl, inr, ℕ, zero, suc, ◌+◌, ◌-◌, ◌<◌, ◌≤◌, Bool, true, false, cond, ◌||◌, List, [], ◌∷◌, ◌++◌, length, get_or, drop, slice_range, refl, ap, sym, ◌∙◌, subst, append_assoc, arith}
+use Rattle.std.proofs.Common.{◌≡◌, ◌⊎◌, inl, inr, ℕ, zero, suc, ◌+◌, ◌-◌, ◌<◌, ◌≤◌, Bool, true, false, cond, ◌||◌, List}
+use Rattle.std.proofs.Common.{[], ◌∷◌, ◌++◌, length, get_or, drop, slice_range, refl, ap, sym, ◌∙◌, subst, append_assoc}
+use Rattle.std.proofs.Common.{arith}
 use Rattle.std.specs.Prelude.{◌==◌, not, slice_index, Some, None}
 use Rattle.std.proofs.lemmas.Bool.{and_from, true≢false}
 use Rattle.std.proofs.lemmas.Bool.Decides.{nat_tests}
@@ -22,7 +24,8 @@ use Rattle.md_definition.proofs.TextsLemmas.{NoEnding, ending_bytes}
 use Rattle.md_outline.specs.Between.{is_between}
 use Rattle.md_outline.specs.Outlined.{TextSpan as Span, are_parted, begins_line}
 use Rattle.markdown_blocks.specs.Fronted.{cut_tab}
-use Rattle.markdown_blocks.specs.Rows.{BlankRow, Row, TextRow, behind_row, last_row, line_kind, read_lines, kind_of, text_done}
+use Rattle.markdown_blocks.specs.Rows.{BlankRow, Row, TextRow, behind_row, last_row, line_kind, read_lines, kind_of}
+use Rattle.markdown_blocks.specs.Rows.{text_done}
 use Rattle.markdown_blocks.specs.Registry.{first_of, leaf, trials, text_leaf}
 use Rattle.markdown_blocks.proofs.RowFacts.{IsEnding, slice-split, IsRow}
 use Rattle.markdown_blocks.proofs.PartedFacts.{Sits, byte-from, clear, low-clear, passes-chunk, Marks, behind_prefix}
@@ -44,10 +47,13 @@ marks-ended bytes p q span ending fine within j h blank =
     let white : List ℕ = slice_range bytes q.index j in
     let piece : slice_range bytes span.from j ≡ front ++ (ending_bytes ending.ending ++ white) =
     slice-split bytes span.from p.index j within (later size further)
-    ∙ ap (λ (l : List ℕ). front ++ l) (slice-split bytes p.index q.index j size further ∙ ap (λ (l : List ℕ). l ++ white) ending.text) in
-    let last : EndBlank (split_lines (front ++ (ending_bytes ending.ending ++ white))) = ended-blank front ending.ending white blank in (
+    ∙ ap (λ (l : List ℕ). front ++ l)
+    (slice-split bytes p.index q.index j size further ∙ ap (λ (l : List ℕ). l ++ white) ending.text) in
+    let last : EndBlank
+    (split_lines (front ++ (ending_bytes ending.ending ++ white))) = ended-blank front ending.ending white blank in (
       begins-fine bytes span j fine,
-      ap (λ (l : List ℕ). is_blank (last_line (split_lines l))) piece ∙ end-blank (split_lines (front ++ (ending_bytes ending.ending ++ white))) last,
+      ap (λ (l : List ℕ). is_blank (last_line (split_lines l))) piece
+          ∙ end-blank (split_lines (front ++ (ending_bytes ending.ending ++ white))) last,
     )
   where
     later : {a b c : ℕ} → a ≤ b → b ≤ c → a ≤ c
@@ -58,10 +64,12 @@ abbrev pub Core : List ℕ → Row → List Event → Type 0
 Core bytes row es = (span : Span) → Fine bytes span → span.from ≤ row.end.index → are_parted bytes (Some span) es ≡ true
 
 -- a byte of a line
-pub line-at : (bytes line : List ℕ) (a e k b : ℕ) → slice_range bytes a e ≡ line → e ≡ a + length line → k < length line →
+pub line-at : (bytes line : List ℕ) (a e k b : ℕ) → slice_range bytes a e ≡ line → e ≡ a + length line →
+    k < length line →
     get_or line k 0 ≡ b → slice_index bytes (a + k) ≡ b
 line-at bytes line a e k b text size h at =
-    sym (get_or-drop a bytes k 0) ∙ sym (get_or-take (e - a) (drop a bytes) k 0 (omega (arith, size, h))) ∙ ap (λ (l : List ℕ). get_or l k 0) text ∙ at
+    sym (get_or-drop a bytes k 0) ∙ sym (get_or-take (e - a) (drop a bytes) k 0 (omega (arith, size, h)))
+    ∙ ap (λ (l : List ℕ). get_or l k 0) text ∙ at
 
 -- a line that begins within a tab begins with it
 pub line-clear : (bytes : List ℕ) (row : Row) (spaces : ℕ) (rest : List ℕ) → Cut spaces row.first →
@@ -70,13 +78,15 @@ pub line-clear : (bytes : List ℕ) (row : Row) (spaces : ℕ) (rest : List ℕ)
 line-clear bytes row zero rest cut text size = ap (λ (v : ℕ). (v == 0) || is_between bytes (byte_at row.first)) cut
 line-clear bytes row (suc spaces) rest cut text size =
     let zero_at : row.first.index + 0 ≡ row.first.index = omega arith in
-    let tab : slice_index bytes row.first.index ≡ 9 = ap (slice_index bytes) (sym zero_at) ∙ line-at bytes (9 ∷ rest) row.first.index row.end.index 0 9 text size (omega arith) refl in
+    let tab : slice_index bytes row.first.index ≡ 9 = ap (slice_index bytes) (sym zero_at)
+    ∙ line-at bytes (9 ∷ rest) row.first.index row.end.index 0 9 text size (omega arith) refl in
     low-clear bytes row.first (λ e. subst (λ (b : ℕ). is_low b ≡ true) (sym tab) refl)
 
 pub rest-clear : (options : ParseOptions) (bytes line : List ℕ) (row : Row) → IsRow options bytes line row →
     clear bytes row.first ≡ true
 rest-clear options bytes line row is =
-    line-clear bytes row is.rest.spaces is.rest.bytes is.cut (is.text ∙ is.line_is) (is.size ∙ ap (λ (l : List ℕ). row.first.index + length l) is.line_is)
+    line-clear bytes row is.rest.spaces is.rest.bytes is.cut (is.text ∙ is.line_is)
+    (is.size ∙ ap (λ (l : List ℕ). row.first.index + length l) is.line_is)
 
 -- a line of text is not blank
 pub text-nonblank : (options : ParseOptions) (r : Rest) → line_kind options r ≡ TextRow → is_blank r.bytes ≡ false
@@ -95,14 +105,19 @@ pub line-begins : (bytes : List ℕ) (row : Row) (spaces : ℕ) (rest : List ℕ
     NoEnding (cut_tab spaces ++ rest) → BeginsText bytes row
 line-begins bytes row zero [] cut text size blank none = absurd (true≢false blank)
 line-begins bytes row zero (b ∷ rest) cut text size blank none =
-    let at : byte_at row.first ≡ row.first.index + 0 = ap (λ (v : ℕ). cond (v == 0) row.first.index (row.first.index + 1)) cut ∙ omega arith in
-    let is : slice_index bytes (byte_at row.first) ≡ b = ap (slice_index bytes) at ∙ line-at bytes (b ∷ rest) row.first.index row.end.index 0 b text size (omega arith) refl in
+    let at : byte_at row.first ≡
+    row.first.index + 0 = ap (λ (v : ℕ). cond (v == 0) row.first.index (row.first.index + 1)) cut
+    ∙ omega arith in
+    let is : slice_index bytes (byte_at row.first) ≡ b = ap (slice_index bytes) at
+    ∙ line-at bytes (b ∷ rest) row.first.index row.end.index 0 b text size (omega arith) refl in
     record { fine = ap (λ (c : ℕ). not (c == 10)) is ∙ feed-none b none.0; within = omega (arith, at, size) }
 line-begins bytes row (suc spaces) [] cut text size blank none = absurd (true≢false blank)
 line-begins bytes row (suc spaces) (b ∷ rest) cut text size blank none =
     let other : (row.first.vs == 0) ≡ false = positive row.first.vs cut.0 in
-    let at : byte_at row.first ≡ row.first.index + 1 = ap (λ (x : Bool). cond x row.first.index (row.first.index + 1)) other in
-    let is : slice_index bytes (byte_at row.first) ≡ b = ap (slice_index bytes) at ∙ line-at bytes (9 ∷ b ∷ rest) row.first.index row.end.index 1 b text size (omega arith) refl in
+    let at : byte_at row.first ≡
+    row.first.index + 1 = ap (λ (x : Bool). cond x row.first.index (row.first.index + 1)) other in
+    let is : slice_index bytes (byte_at row.first) ≡ b = ap (slice_index bytes) at
+    ∙ line-at bytes (9 ∷ b ∷ rest) row.first.index row.end.index 1 b text size (omega arith) refl in
     record { fine = ap (λ (c : ℕ). not (c == 10)) is ∙ feed-none b none.1.0; within = omega (arith, at, size) }
   where
     positive : (v : ℕ) → 0 < v → (v == 0) ≡ false
@@ -111,14 +126,17 @@ line-begins bytes row (suc spaces) (b ∷ rest) cut text size blank none =
 pub text-begins : (options : ParseOptions) (bytes line : List ℕ) (row : Row) → IsRow options bytes line row →
     row.kind ≡ TextRow → BeginsText bytes row
 text-begins options bytes line row is e =
-    line-begins bytes row is.rest.spaces is.rest.bytes is.cut (is.text ∙ is.line_is) (is.size ∙ ap (λ (l : List ℕ). row.first.index + length l) is.line_is) (text-nonblank options is.rest (sym is.kind ∙ e)) (subst NoEnding is.line_is is.no_ending)
+    line-begins bytes row is.rest.spaces is.rest.bytes is.cut (is.text ∙ is.line_is)
+    (is.size ∙ ap (λ (l : List ℕ). row.first.index + length l) is.line_is)
+    (text-nonblank options is.rest (sym is.kind ∙ e)) (subst NoEnding is.line_is is.no_ending)
 
 -- the last line of a text
 core-alone : (bytes : List ℕ) (row : Row) (ys : List Event) → are_parted bytes None ys ≡ true →
     Core bytes row (read_lines bytes row [] ++ exit text_leaf.name row.end ∷ ys)
 core-alone bytes row ys h span fine within =
     passes-chunk bytes (Some span) (record { first = row.first; after = row.end }) (exit text_leaf.name row.end ∷ ys)
-    ∙ and_from (begins_line span (slice_range bytes span.from row.end.index)) (are_parted bytes None ys) (begins-fine bytes span row.end.index fine) h
+    ∙ and_from (begins_line span (slice_range bytes span.from row.end.index)) (are_parted bytes None ys)
+    (begins-fine bytes span row.end.index fine) h
 
 -- so it is behind the first line, and what stands in front of the next
 pub read-parted : (options : ParseOptions) (bytes : List ℕ) (row : Row) (rows : List Row) (ys : List Event) →
@@ -129,11 +147,14 @@ read-parted options bytes row (next ∷ rows) ys h more span fine within =
     let q : Point = h.3 in
     let chunk : Chunk = record { first = row.first; after = behind_row row } in
     let events : List Event = plain_chunk bytes chunk in
-    let apart : ((events ++ next.front) ++ text) ++ rest ≡ events ++ (next.front ++ (text ++ rest)) = simp append_assoc in
+    let apart : ((events ++ next.front) ++ text) ++ rest ≡
+    events ++ (next.front ++ (text ++ rest)) = simp append_assoc in
     let from : span.from ≤ q.index = omega (arith, within, h.5.size) in
     ap (are_parted bytes (Some span)) apart
     ∙ passes-chunk bytes (Some span) chunk (next.front ++ (text ++ rest))
-    ∙ fronts-parted bytes [] q next.first next.front span (text ++ rest) h.6 refl (ending-behind bytes row.end q h.5) (rest-clear options bytes line.0 next line.1) (marks-ended bytes row.end q span h.5 fine within) (further (read-parted options bytes next rows ys h.7 more) from)
+    ∙ fronts-parted bytes [] q next.first next.front span (text ++ rest) h.6 refl (ending-behind bytes row.end q h.5)
+    (rest-clear options bytes line.0 next line.1) (marks-ended bytes row.end q span h.5 fine within)
+    (further (read-parted options bytes next rows ys h.7 more) from)
   where
     line : (line : List ℕ) × IsRow options bytes line next × (next.kind ≡ TextRow)
     line = first-text options bytes next rows h.7
@@ -150,20 +171,28 @@ read-parted options bytes row (next ∷ rows) ys h more span fine within =
     later : (a b c d : ℕ) → a ≤ b → b ≤ c → c ≤ d → a ≤ d
     later a b c d h k l = omega (arith, h, k, l)
 
-    further : Core bytes next (text ++ rest) → span.from ≤ h.3.index → (after : Span) → ((after ≡ span) × (h.3 ≡ next.first)) ⊎ (after ≡ behind_prefix next.first) →
+    further : Core bytes next (text ++ rest) → span.from ≤ h.3.index → (after : Span) →
+        ((after ≡ span) × (h.3 ≡ next.first)) ⊎ (after ≡ behind_prefix next.first) →
         are_parted bytes (Some after) (text ++ rest) ≡ true
     further core from after (inl c) =
-        let here : span.from ≤ next.end.index = later span.from h.3.index (byte_at next.first) next.end.index from (subst (λ (x : Point). h.3.index ≤ byte_at x) c.1 (byte-from h.3)) begins.within in
+        let here : span.from ≤
+        next.end.index = later span.from h.3.index (byte_at next.first) next.end.index from
+        (subst (λ (x : Point). h.3.index ≤ byte_at x) c.1 (byte-from h.3)) begins.within in
         core after (subst (Fine bytes) (sym c.0) fine) (subst (λ (s : Span). s.from ≤ next.end.index) (sym c.0) here)
-    further core from after (inr c) = core after (subst (Fine bytes) (sym c) begins.fine) (subst (λ (s : Span). s.from ≤ next.end.index) (sym c) begins.within)
+    further core from after (inr c) =
+        core after (subst (Fine bytes) (sym c) begins.fine)
+        (subst (λ (s : Span). s.from ≤ next.end.index) (sym c) begins.within)
 
 -- A text that begins ends.
-pub text-sits : (options : ParseOptions) (bytes : List ℕ) (row : Row) (rows : List Row) → AreLines options bytes row rows →
+pub text-sits : (options : ParseOptions) (bytes : List ℕ) (row : Row) (rows : List Row) →
+    AreLines options bytes row rows →
     Sits bytes (text_done bytes row rows)
 text-sits options bytes row rows h ys more =
-    let line : (line : List ℕ) × IsRow options bytes line row × (row.kind ≡ TextRow) = first-text options bytes row rows h in
+    let line : (line : List ℕ) × IsRow options bytes line row ×
+    (row.kind ≡ TextRow) = first-text options bytes row rows h in
     let begins : BeginsText bytes row = text-begins options bytes line.0 row line.1 line.2 in
     let events : List Event = read_lines bytes row rows in
     let span : Span = record { from = byte_at row.first; is_parted = false } in
-    ap (λ (es : List Event). are_parted bytes None (enter text_leaf.name row.first ∷ es)) (append_assoc events (exit text_leaf.name (last_row row rows).end ∷ []) ys)
+    ap (λ (es : List Event). are_parted bytes None (enter text_leaf.name row.first ∷ es))
+    (append_assoc events (exit text_leaf.name (last_row row rows).end ∷ []) ys)
     ∙ read-parted options bytes row rows ys h more span refl begins.within

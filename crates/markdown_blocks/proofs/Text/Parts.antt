@@ -17,13 +17,17 @@ use Rattle.markdown_blocks.proofs.FrontNames.{fronts-unlinked}
 use Rattle.md_seam.specs.Events.Inline.{plain_chunk, plain_chunks}
 use Rattle.markdown_blocks.proofs.FillFacts.{Filled, passes-filled}
 
-pub lines-inside : (options : ParseOptions) (bytes : List ℕ) (row : Row) (rows : List Row) → AreLines options bytes row rows → Inside bytes (chunks_of row rows) (unread_lines row rows)
+pub lines-inside : (options : ParseOptions) (bytes : List ℕ) (row : Row) (rows : List Row) →
+    AreLines options bytes row rows → Inside bytes (chunks_of row rows) (unread_lines row rows)
 lines-inside options bytes row [] is = inside-chunk bytes row.first row.end
 lines-inside options bytes row (next ∷ rows) is =
     let q : Point = behind_row row in
     let lines : List Event = unread_lines next rows in
-    inside-append bytes ((record { first = row.first; after = q }) ∷ []) (chunks_of next rows) (enter_link n.Data row.first text_leaf.link ∷ exit n.Data q ∷ []) (next.front ++ lines) (inside-chunk bytes row.first q)
-    (inside-append bytes [] (chunks_of next rows) next.front lines (fronts-inside bytes [] is.3 next.first next.front refl is.6) (lines-inside options bytes next rows is.7))
+    inside-append bytes ((record { first = row.first; after = q }) ∷ []) (chunks_of next rows)
+    (enter_link n.Data row.first text_leaf.link ∷ exit n.Data q ∷ []) (next.front ++ lines)
+    (inside-chunk bytes row.first q)
+    (inside-append bytes [] (chunks_of next rows) next.front lines
+    (fronts-inside bytes [] is.3 next.first next.front refl is.6) (lines-inside options bytes next rows is.7))
 
 -- a text begins with its first chunk
 pub chunks-begin : (row : Row) (rows : List Row) → begins_at row.first (chunks_of row rows) ≡ true
@@ -31,7 +35,9 @@ chunks-begin row [] = same-refl row.first
 chunks-begin row (next ∷ rows) = same-refl row.first
 
 -- what is read of the lines of a text, with what stands in front of each
-pub lines-filled : (options : ParseOptions) (bytes : List ℕ) (row : Row) (rows : List Row) → AreLines options bytes row rows → Filled bytes (chunks_of row rows) (unread_lines row rows) (read_lines bytes row rows)
+pub lines-filled : (options : ParseOptions) (bytes : List ℕ) (row : Row) (rows : List Row) →
+    AreLines options bytes row rows →
+    Filled bytes (chunks_of row rows) (unread_lines row rows) (read_lines bytes row rows)
 lines-filled options bytes row [] h ys more = refl
 lines-filled options bytes row (next ∷ rows) h ys more =
     let chunk : List Event = plain_chunk bytes (record { first = row.first; after = behind_row row }) in
@@ -41,7 +47,8 @@ lines-filled options bytes row (next ∷ rows) h ys more =
     let lists : List (List Event) = plain_chunks bytes (chunks_of next rows) ++ more in
     let rest : List Event = filled_from false ys more in
     ap (λ (l : List Event). chunk ++ filled_from false l lists) (append_assoc front lines ys)
-    ∙ ap (λ (l : List Event). chunk ++ l) (passes-filled front (lines ++ ys) lists (fronts-unlinked bytes [] h.3 next.first front h.6))
+    ∙ ap (λ (l : List Event). chunk ++ l)
+    (passes-filled front (lines ++ ys) lists (fronts-unlinked bytes [] h.3 next.first front h.6))
     ∙ ap (λ (l : List Event). chunk ++ (front ++ l)) (lines-filled options bytes next rows h.7 ys more)
     ∙ sym (append_assoc chunk front (read ++ rest))
     ∙ sym (append_assoc (chunk ++ front) read rest)

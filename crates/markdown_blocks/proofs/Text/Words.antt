@@ -29,12 +29,19 @@ unread_rest = behind n.Data unread_text
 pub linked-word : (options : ParseOptions) (bytes : List ℕ) (x : Expression) (row : Row) (rows : List Row) →
     behind n.Data x ≡ unread_rest →
     AreLines options bytes row rows → IsWord unread_text (x ∷ []) (unread_lines row rows)
-linked-word options bytes x row [] e is = record { left = unread_rest; leads = λ outer. ap (λ (y : Expression). y ∷ outer) e; ends = refl }
+linked-word options bytes x row [] e is = record {
+  left = unread_rest;
+  leads = λ outer. ap (λ (y : Expression). y ∷ outer) e;
+  ends = refl;
+}
 linked-word options bytes x row (next ∷ rows) e is =
     let chunk : List Event = enter_link n.Data row.first text_leaf.link ∷ exit n.Data (behind_row row) ∷ [] in
-    let front : Leads unread_text (unread_rest ∷ []) (unread_rest ∷ []) next.front = front-stays unread_text unread_rest bytes [] is.3 next.first next.front (refl, refl) is.6 refl in
+    let front : Leads unread_text (unread_rest ∷ [])
+    (unread_rest ∷ []) next.front = front-stays unread_text unread_rest bytes [] is.3 next.first next.front
+    (refl, refl) is.6 refl in
     word-behind unread_text (x ∷ []) (unread_rest ∷ []) (chunk ++ next.front) (unread_lines next rows)
-    (leads-append unread_text (x ∷ []) (unread_rest ∷ []) (unread_rest ∷ []) chunk next.front (λ outer. ap (λ (y : Expression). y ∷ outer) e) front)
+    (leads-append unread_text (x ∷ []) (unread_rest ∷ []) (unread_rest ∷ []) chunk next.front
+    (λ outer. ap (λ (y : Expression). y ∷ outer) e) front)
     (linked-word options bytes unread_rest next rows refl is.7)
 
 -- an ending has a byte at least
@@ -45,11 +52,22 @@ ending-grows bytes p q is = let some = ending-some is.ending in omega (arith, so
 pub ended-leads : (options : ParseOptions) (bytes line : List ℕ) (first : Bool) (row : Row) (q : Point) →
     IsRow options bytes line row →
     row.after ≡ Some q → IsEnding bytes row.end q →
-    Leads plain_text (text_left first ∷ []) (text_left false ∷ []) (plain_chunk bytes (record { first = row.first; after = behind_row row }))
+    Leads plain_text (text_left first ∷ []) (text_left false ∷ [])
+    (plain_chunk bytes (record { first = row.first; after = behind_row row }))
 ended-leads options bytes line first row q is after ending =
-    subst (λ (r : Point). Leads plain_text (text_left first ∷ []) (text_left false ∷ []) (plain_chunk bytes (record { first = row.first; after = r }))) (sym (behind-is row q after))
-    (subst (λ (e : Point). Leads plain_text (text_left first ∷ []) (text_left false ∷ []) (pair_unless_empty n.Data row.first e ++ pair_unless_empty n.LineEnding e q)) (sym (line_end-ended options bytes line row q is ending))
-    (subst (λ (es : List Event). Leads plain_text (text_left first ∷ []) (text_left false ∷ []) (pair_unless_empty n.Data row.first row.end ++ es)) (sym apart) leads))
+    subst
+    (λ (r : Point).
+    Leads plain_text (text_left first ∷ []) (text_left false ∷ [])
+    (plain_chunk bytes (record { first = row.first; after = r })))
+    (sym (behind-is row q after))
+    (subst (λ (e : Point). Leads plain_text (text_left first ∷ []) (text_left false ∷ [])
+    (pair_unless_empty n.Data row.first e ++ pair_unless_empty n.LineEnding e q))
+    (sym (line_end-ended options bytes line row q is ending))
+    (subst
+    (λ (es : List Event).
+    Leads plain_text (text_left first ∷ []) (text_left false ∷ [])
+    (pair_unless_empty n.Data row.first row.end ++ es))
+    (sym apart) leads))
   where
     mid : Bool → Expression
     mid line = maybe line n.Data (text_left first)
@@ -66,11 +84,18 @@ ended-leads options bytes line first row q is after ending =
     same false true = refl
     same false false = refl
 
-    leads : Leads plain_text (text_left first ∷ []) (text_left false ∷ []) (pair_unless_empty n.Data row.first row.end ++ pair n.LineEnding row.end q)
+    leads : Leads plain_text (text_left first ∷ []) (text_left false ∷ [])
+        (pair_unless_empty n.Data row.first row.end ++ pair n.LineEnding row.end q)
     leads =
         let text = leads-unless plain_text (text_left first) n.Data row.first row.end refl in
-        subst (λ (x : Expression). Leads plain_text (text_left first ∷ []) (x ∷ []) (pair_unless_empty n.Data row.first row.end ++ pair n.LineEnding row.end q)) (same first text.0)
-        (leads-append plain_text (text_left first ∷ []) (mid text.0 ∷ []) (behind n.LineEnding (mid text.0) ∷ []) (pair_unless_empty n.Data row.first row.end) (pair n.LineEnding row.end q) text.1 (leads-pair plain_text (mid text.0) n.LineEnding row.end q refl))
+        subst
+        (λ (x : Expression).
+        Leads plain_text (text_left first ∷ []) (x ∷ [])
+        (pair_unless_empty n.Data row.first row.end ++ pair n.LineEnding row.end q))
+        (same first text.0)
+        (leads-append plain_text (text_left first ∷ []) (mid text.0 ∷ []) (behind n.LineEnding (mid text.0) ∷ [])
+        (pair_unless_empty n.Data row.first row.end) (pair n.LineEnding row.end q) text.1
+        (leads-pair plain_text (mid text.0) n.LineEnding row.end q refl))
 
 -- the lines of a text
 pub read-word : (options : ParseOptions) (bytes : List ℕ) (first : Bool) (row : Row) (rows : List Row) →
@@ -79,7 +104,10 @@ pub read-word : (options : ParseOptions) (bytes : List ℕ) (first : Bool) (row 
 read-word options bytes first row [] is = chunk-word bytes first (record { first = row.first; after = row.end })
 read-word options bytes first row (next ∷ rows) is =
     let chunk : List Event = plain_chunk bytes (record { first = row.first; after = behind_row row }) in
-    let front : Leads plain_text (text_left false ∷ []) (text_left false ∷ []) next.front = front-stays plain_text (text_left false) bytes [] is.3 next.first next.front (refl, refl) is.6 refl in
-    word-behind plain_text (text_left first ∷ []) (text_left false ∷ []) (chunk ++ next.front) (read_lines bytes next rows)
-    (leads-append plain_text (text_left first ∷ []) (text_left false ∷ []) (text_left false ∷ []) chunk next.front (ended-leads options bytes is.0 first row is.3 is.1 is.4 is.5) front)
+    let front : Leads plain_text (text_left false ∷ []) (text_left false ∷ []) next.front = front-stays plain_text
+    (text_left false) bytes [] is.3 next.first next.front (refl, refl) is.6 refl in
+    word-behind plain_text (text_left first ∷ []) (text_left false ∷ []) (chunk ++ next.front)
+    (read_lines bytes next rows)
+    (leads-append plain_text (text_left first ∷ []) (text_left false ∷ []) (text_left false ∷ []) chunk next.front
+    (ended-leads options bytes is.0 first row is.3 is.1 is.4 is.5) front)
     (read-word options bytes false next rows is.7)

@@ -1,5 +1,6 @@
 -- What is known of the events of a thematic break, by the bytes of its line.
-use Rattle.std.proofs.Common.{◌≡◌, ℕ, suc, ◌+◌, Bool, true, false, cond, ◌&&◌, ◌||◌, List, [], ◌∷◌, ◌++◌, length, drop, refl, ap, sym, ◌∙◌, subst, append_assoc, arith}
+use Rattle.std.proofs.Common.{◌≡◌, ℕ, suc, ◌+◌, Bool, true, false, cond, ◌&&◌, ◌||◌, List, [], ◌∷◌, ◌++◌, length, drop}
+use Rattle.std.proofs.Common.{refl, ap, sym, ◌∙◌, subst, append_assoc, arith}
 use Rattle.std.specs.Prelude.{◌==◌, nat_le, count_by, Some}
 use Rattle.std.specs.List.{list_all, prefix_len}
 use Rattle.std.proofs.lemmas.Bool.{and_from, and_parts, eq-eqb, eqb-true, or_left, or_right}
@@ -35,7 +36,8 @@ use Rattle.markdown_blocks.proofs.PartFacts.{NoLinks, NoParts, quiet-no_parts, I
 use Rattle.markdown_blocks.proofs.PartedFacts.{around-sits, quiets-still, sits-still}
 use Rattle.markdown_blocks.proofs.PartsStand.{stands-around, stands-outside}
 use Rattle.markdown_blocks.proofs.PieceFacts.{Starts, Stood, stood-around}
-use Rattle.markdown_blocks.proofs.PieceRuns.{AreMarks, IsMarker, run_event, runs-each, runs-nested, runs-stand, runs-tiled}
+use Rattle.markdown_blocks.proofs.PieceRuns.{AreMarks, IsMarker, run_event, runs-each, runs-nested, runs-stand}
+use Rattle.markdown_blocks.proofs.PieceRuns.{runs-tiled}
 use Rattle.markdown_blocks.proofs.PiecesLemmas.{Tiled, tiled-around}
 use Rattle.markdown_blocks.proofs.PlainFacts.{plain-around, plain-quiet}
 use Rattle.markdown_blocks.proofs.RestFacts.{rest-trim}
@@ -92,15 +94,20 @@ pub break-set : (line : List ℕ) (p : Point) (es : List Event) →
 break-set line p es =
     let m : ℕ = first_byte (trim_start line) in
     let q : Point = past_text line p in
-    ap (λ (l : List Event). resolved (enter n.ThematicBreak p ∷ l)) (append_assoc (marks_of Apart m line p) (exit n.ThematicBreak q ∷ []) es)
+    ap (λ (l : List Event). resolved (enter n.ThematicBreak p ∷ l))
+    (append_assoc (marks_of Apart m line p) (exit n.ThematicBreak q ∷ []) es)
     ∙ ap (λ (l : List Event). enter n.ThematicBreak p ∷ l) (runs-set Apart m line p (exit n.ThematicBreak q ∷ es))
-    ∙ ap (λ (l : List Event). enter n.ThematicBreak p ∷ l) (sym (append_assoc (marks_of Apart m line p) (exit n.ThematicBreak q ∷ []) (resolved es)))
+    ∙ ap (λ (l : List Event). enter n.ThematicBreak p ∷ l)
+    (sym (append_assoc (marks_of Apart m line p) (exit n.ThematicBreak q ∷ []) (resolved es)))
 
 -- nothing is read of it later
 pub break-unlinked : (line : List ℕ) (p : Point) → NoLinks (break_line line p)
 break-unlinked line p =
-    let m : ℕ = first_byte (trim_start line) in
-    (refl, each-append IsUnlinked (marks_of Apart m line p) (exit n.ThematicBreak (past_text line p) ∷ []) (runs-unlinked Apart m line p) (refl, tt))
+    let m : ℕ = first_byte (trim_start line) in (
+      refl,
+      each-append IsUnlinked (marks_of Apart m line p) (exit n.ThematicBreak (past_text line p) ∷ [])
+          (runs-unlinked Apart m line p) (refl, tt),
+    )
 
 -- What it is over.
 
@@ -112,12 +119,18 @@ rule-marker m e ys some all = go (m == 42) refl (m == 45) refl (m == 95) refl e
     least = grind (arith, nat_tests, some)
 
     run : (c : ℕ) → (m == c) ≡ true → is_run 1 c ys ≡ true
-    run c f = and_from (nat_le 1 (length ys)) (list_all (λ b. b == c) ys) least (subst (λ (d : ℕ). list_all (λ b. b == d) ys ≡ true) (eqb-true m c f) all)
+    run c f =
+        and_from (nat_le 1 (length ys)) (list_all (λ b. b == c) ys) least
+        (subst (λ (d : ℕ). list_all (λ b. b == d) ys ≡ true) (eqb-true m c f) all)
 
     go : (x : Bool) → (m == 42) ≡ x → (y : Bool) → (m == 45) ≡ y → (z : Bool) → (m == 95) ≡ z → (x || y || z) ≡ true →
         stands_over n.ThematicBreakSequence ys ≡ true
-    go true f y g z h e = or_left (is_run 1 42 ys || is_run 1 45 ys) (is_run 1 95 ys) (or_left (is_run 1 42 ys) (is_run 1 45 ys) (run 42 f))
-    go false f true g z h e = or_left (is_run 1 42 ys || is_run 1 45 ys) (is_run 1 95 ys) (or_right (is_run 1 42 ys) (is_run 1 45 ys) (run 45 g))
+    go true f y g z h e =
+        or_left (is_run 1 42 ys || is_run 1 45 ys) (is_run 1 95 ys)
+        (or_left (is_run 1 42 ys) (is_run 1 45 ys) (run 42 f))
+    go false f true g z h e =
+        or_left (is_run 1 42 ys || is_run 1 45 ys) (is_run 1 95 ys)
+        (or_right (is_run 1 42 ys) (is_run 1 45 ys) (run 45 g))
     go false f false g true h e = or_right (is_run 1 42 ys || is_run 1 45 ys) (is_run 1 95 ys) (run 95 h)
     go false f false g false h e = cc
 
@@ -131,7 +144,8 @@ marks-are m (b ∷ bs) h =
 rule-marks : (bs : List ℕ) → is_rule bs ≡ true → AreMarks (first_byte bs) bs
 rule-marks [] e = tt
 rule-marks (m ∷ bs) e =
-    let both = (and_parts (is_rule_marker m && list_all (λ b. (b == m) || is_white b) bs) (nat_le 2 (count_by (λ b. b == m) bs)) e).0 in
+    let both = (and_parts (is_rule_marker m && list_all (λ b. (b == m) || is_white b) bs)
+    (nat_le 2 (count_by (λ b. b == m) bs)) e).0 in
     let all = (and_parts (is_rule_marker m) (list_all (λ b. (b == m) || is_white b) bs) both).1 in
     (ap (λ (x : Bool). x || is_white m) (eq-eqb m m refl), marks-are m bs all)
 
@@ -155,11 +169,16 @@ marker-low b h = grind (arith, nat_tests)
 rule-low : (bytes : List ℕ) → is_rule bytes ≡ true → list_all is_low bytes ≡ true
 rule-low [] h = refl
 rule-low (m ∷ bytes) h =
-    let outer : (is_rule_marker m && list_all (λ (b : ℕ). (b == m) || is_white b) bytes ≡ true) × (nat_le 2 (count_by (λ (b : ℕ). b == m) bytes) ≡ true) =
-    and_parts (is_rule_marker m && list_all (λ (b : ℕ). (b == m) || is_white b) bytes) (nat_le 2 (count_by (λ (b : ℕ). b == m) bytes)) h in
-    let inner : (is_rule_marker m ≡ true) × (list_all (λ (b : ℕ). (b == m) || is_white b) bytes ≡ true) = and_parts (is_rule_marker m) (list_all (λ (b : ℕ). (b == m) || is_white b) bytes) outer.0 in
+    let outer : (is_rule_marker m && list_all (λ (b : ℕ). (b == m) || is_white b) bytes ≡ true) ×
+    (nat_le 2 (count_by (λ (b : ℕ). b == m) bytes) ≡ true) =
+    and_parts (is_rule_marker m && list_all (λ (b : ℕ). (b == m) || is_white b) bytes)
+    (nat_le 2 (count_by (λ (b : ℕ). b == m) bytes)) h in
+    let inner : (is_rule_marker m ≡ true) ×
+    (list_all (λ (b : ℕ). (b == m) || is_white b) bytes ≡ true) = and_parts (is_rule_marker m)
+    (list_all (λ (b : ℕ). (b == m) || is_white b) bytes) outer.0 in
     let low : is_low m ≡ true = marker-low m inner.0 in
-    and_from (is_low m) (list_all is_low bytes) low (all-more (λ (b : ℕ). (b == m) || is_white b) is_low bytes (either low) inner.1)
+    and_from (is_low m) (list_all is_low bytes) low
+    (all-more (λ (b : ℕ). (b == m) || is_white b) is_low bytes (either low) inner.1)
   where
     either : is_low m ≡ true → (b : ℕ) → ((b == m) || is_white b) ≡ true → is_low b ≡ true
     either low b h = go (b == m) refl h
@@ -189,10 +208,12 @@ runs-word text m true [] p = record { left = behind_run true; leads = λ outer. 
 runs-word text m false [] p = record { left = behind_run false; leads = λ outer. refl; ends = refl }
 runs-word text m true (b ∷ bs) p =
     let on = runs-word text m false bs (past_byte b p) in
-    either (IsWord text (Nothing ∷ behind_run true ∷ [])) (b == m) _ _ (runs-word text m true bs (past_byte b p)) (record { left = on.left; leads = on.leads; ends = on.ends })
+    either (IsWord text (Nothing ∷ behind_run true ∷ [])) (b == m) _ _ (runs-word text m true bs (past_byte b p))
+    (record { left = on.left; leads = on.leads; ends = on.ends })
 runs-word text m false (b ∷ bs) p =
     let on = runs-word text m true bs (past_byte b p) in
-    either (IsWord text (Nothing ∷ behind_run false ∷ [])) (b == m) _ _ (record { left = on.left; leads = on.leads; ends = on.ends }) (runs-word text m false bs (past_byte b p))
+    either (IsWord text (Nothing ∷ behind_run false ∷ [])) (b == m) _ _
+    (record { left = on.left; leads = on.leads; ends = on.ends }) (runs-word text m false bs (past_byte b p))
 
 -- in its indent
 indent-word : (text : Expression) (m : ℕ) (bs : List ℕ) (p : Point) → is_rule_marker m ≡ true →
@@ -236,7 +257,11 @@ break-word text m (b ∷ bs) p mark first = go (b == m) refl
 pub break-facts : (options : ParseOptions) (bytes : List ℕ) (r : Rest) (p q : Point) →
     break_leaf.starts options r ≡ true → LineAt bytes r (rest_line r) p q →
     LeafFacts bytes (Some Break) p q (break_line (rest_line r) p) (break_line (rest_line r) p)
-break-facts options bytes r p q starts at = subst (λ (x : Point). LeafFacts bytes (Some Break) p q (around n.ThematicBreak p x inside_of) (around n.ThematicBreak p x inside_of)) at.end facts
+break-facts options bytes r p q starts at =
+    subst
+    (λ (x : Point).
+    LeafFacts bytes (Some Break) p q (around n.ThematicBreak p x inside_of) (around n.ThematicBreak p x inside_of))
+    at.end facts
   where
     line : List ℕ
     line = rest_line r
@@ -279,14 +304,18 @@ break-facts options bytes r p q starts at = subst (λ (x : Point). LeafFacts byt
     stood =
         stood-around bytes n.ThematicBreak p q inside_of (first line rule m) (record {
           ends = tiled.ends;
-          stand = runs-stand bytes n.ThematicBreakSequence m line (drop q.index bytes) p (rule-marker m mark) (marker-black m mark) (indent-marks m line (rule-marks (trim_start line) rule)) text at.cut_first;
+          stand =
+              runs-stand bytes n.ThematicBreakSequence m line (drop q.index bytes) p (rule-marker m mark)
+              (marker-black m mark) (indent-marks m line (rule-marks (trim_start line) rule)) text at.cut_first;
         })
 
     word : (text : Expression) → IsWord text (inside text n.ThematicBreak ∷ []) inside_of
     word text = break-word text m line p mark refl
 
     ends : ending.Leads line_start behind_leaf (around n.ThematicBreak p q inside_of)
-    ends = leaf-leads n.ThematicBreak p q inside_of refl (others-lead (in_leaf true) inside_of refl (runs-others Apart m line p))
+    ends =
+        leaf-leads n.ThematicBreak p q inside_of refl
+        (others-lead (in_leaf true) inside_of refl (runs-others Apart m line p))
 
     facts :
         LeafFacts bytes (Some Break) p q (around n.ThematicBreak p q inside_of) (around n.ThematicBreak p q inside_of)
@@ -301,9 +330,15 @@ break-facts options bytes r p q starts at = subst (λ (x : Point). LeafFacts byt
       unread_ending = ends;
       ending = ends;
       parts = stands-around bytes n.ThematicBreak p q inside_of refl (stands-outside bytes inside_of outside unlinked);
-      filled = fill-around bytes n.ThematicBreak p q inside_of inside_of refl (fill-same bytes inside_of unlinked outside);
-      between = λ begin end. around-between bytes n.ThematicBreak p q inside_of begin end (low-between bytes line p q inside_of at.text at.size (trim-low line (rule-low (trim_start line) rule)) nested.1.0 nested.1.1 end);
-      parted = around-sits bytes n.ThematicBreak p q inside_of tt (sits-still bytes inside_of (quiets-still inside_of quiet));
-      plain = λ whole. plain-around bytes n.ThematicBreak p q inside_of refl refl refl (plain-quiet bytes inside_of quiet);
+      filled =
+          fill-around bytes n.ThematicBreak p q inside_of inside_of refl (fill-same bytes inside_of unlinked outside);
+      between =
+          λ begin end. around-between bytes n.ThematicBreak p q inside_of begin end
+          (low-between bytes line p q inside_of at.text at.size
+          (trim-low line (rule-low (trim_start line) rule)) nested.1.0 nested.1.1 end);
+      parted =
+          around-sits bytes n.ThematicBreak p q inside_of tt (sits-still bytes inside_of (quiets-still inside_of quiet));
+      plain =
+          λ whole. plain-around bytes n.ThematicBreak p q inside_of refl refl refl (plain-quiet bytes inside_of quiet);
       reads = λ r none shut. read-break bytes r p q inside_of shut quiet;
     }

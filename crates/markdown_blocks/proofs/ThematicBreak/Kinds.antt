@@ -1,5 +1,6 @@
 -- Which lines are breaks: by their cells those that are by their bytes.
-use Rattle.std.proofs.Common.{◌≡◌, ℕ, zero, suc, ◌+◌, Bool, true, false, cond, ◌&&◌, ◌||◌, List, [], ◌∷◌, ◌++◌, length, drop, ◌<◌, ◌^◌, refl, sym, ap, ◌∙◌, subst, arith}
+use Rattle.std.proofs.Common.{◌≡◌, ℕ, zero, suc, ◌+◌, Bool, true, false, cond, ◌&&◌, ◌||◌, List, [], ◌∷◌, ◌++◌, length}
+use Rattle.std.proofs.Common.{drop, ◌<◌, ◌^◌, refl, sym, ap, ◌∙◌, subst, arith}
 use Rattle.std.specs.Prelude.{◌==◌, nat_le, count_by}
 use Rattle.std.specs.List.{list_all, prefix_len}
 use Rattle.std.proofs.lemmas.Bool.{and_parts, eq-eqb, eqb-true}
@@ -30,7 +31,8 @@ marker-black m e = grind (arith, nat_tests)
 pub rule-first : (bytes : List ℕ) → is_rule bytes ≡ true → is_rule_marker (first_byte bytes) ≡ true
 rule-first [] e = cc
 rule-first (m ∷ bytes) e =
-    let both = (and_parts (is_rule_marker m && list_all (λ b. (b == m) || is_white b) bytes) (nat_le 2 (count_by (λ b. b == m) bytes)) e).0 in
+    let both = (and_parts (is_rule_marker m && list_all (λ b. (b == m) || is_white b) bytes)
+    (nat_le 2 (count_by (λ b. b == m) bytes)) e).0 in
     (and_parts (is_rule_marker m) (list_all (λ b. (b == m) || is_white b) bytes) both).0
 
 -- in front of it stands whitespace
@@ -76,15 +78,30 @@ rule-spread line (b ∷ bs) p = go (b == 9) refl (is_rule_marker b) refl
         is_rule (bytes_of (spread line (b ∷ bs) p)) ≡ is_rule (b ∷ bs)
     go true e m k =
         let tab : b ≡ 9 = eqb-true b 9 e in
-        subst (λ (c : ℕ). is_rule (bytes_of (spread line (c ∷ bs) p)) ≡ is_rule (c ∷ bs)) (sym tab) (rule-tab line (columns_more p) p (spread line bs (past_byte 9 p)))
+        subst (λ (c : ℕ). is_rule (bytes_of (spread line (c ∷ bs) p)) ≡ is_rule (c ∷ bs)) (sym tab)
+        (rule-tab line (columns_more p) p (spread line bs (past_byte 9 p)))
     go false e false k =
-        ap (λ (t : Bool). is_rule (bytes_of (cond t (tab_cells line (columns_more p) 9 p) (cell b (past_byte b p) line ∷ []) ++ spread line bs (past_byte b p)))) e
+        ap
+        (λ (t : Bool).
+        is_rule
+        (bytes_of
+        (cond t (tab_cells line (columns_more p) 9 p) (cell b (past_byte b p) line ∷ [])
+        ++ spread line bs (past_byte b p)))) e
         ∙ rule-none b (bytes_of (spread line bs (past_byte b p))) k
         ∙ sym (rule-none b bs k)
     go false e true k =
-        ap (λ (t : Bool). is_rule (bytes_of (cond t (tab_cells line (columns_more p) 9 p) (cell b (past_byte b p) line ∷ []) ++ spread line bs (past_byte b p)))) e
-        ∙ ap (λ (t : Bool). is_rule_marker b && t && nat_le 2 (count_by (λ c. c == b) (bytes_of (spread line bs (past_byte b p))))) (all-spread (λ c. (c == b) || is_white c) (or_true (32 == b) (9 == b)) line bs (past_byte b p))
-        ∙ ap (λ (n : ℕ). is_rule_marker b && list_all (λ c. (c == b) || is_white c) bs && nat_le 2 n) (count-spread (λ c. c == b) (marker-apart b k) line bs (past_byte b p))
+        ap
+        (λ (t : Bool).
+        is_rule
+        (bytes_of
+        (cond t (tab_cells line (columns_more p) 9 p) (cell b (past_byte b p) line ∷ [])
+        ++ spread line bs (past_byte b p)))) e
+        ∙ ap
+        (λ (t : Bool).
+        is_rule_marker b && t && nat_le 2 (count_by (λ c. c == b) (bytes_of (spread line bs (past_byte b p)))))
+        (all-spread (λ c. (c == b) || is_white c) (or_true (32 == b) (9 == b)) line bs (past_byte b p))
+        ∙ ap (λ (n : ℕ). is_rule_marker b && list_all (λ c. (c == b) || is_white c) bs && nat_le 2 n)
+        (count-spread (λ c. c == b) (marker-apart b k) line bs (past_byte b p))
 
 -- Whether a break stands on a line.
 
@@ -107,7 +124,9 @@ break-fits options said text behind r p stop is h k short = go (has_small_indent
     left = white_rest (small_indent options) (rest_cells said r p ++ stop)
 
     By : Bool → Type 0
-    By small = is_break options (rest_cells said r p ++ stop) ≡ (options.constructs.thematic_break && small && is_rule (trim_start r.bytes))
+    By small =
+        is_break options (rest_cells said r p ++ stop) ≡
+        (options.constructs.thematic_break && small && is_rule (trim_start r.bytes))
 
     with-small : (on x y : Bool) → x ≡ y → (on && x) ≡ (on && true && y)
     with-small true x y e = e
@@ -120,6 +139,14 @@ break-fits options said text behind r p stop is h k short = go (has_small_indent
     go : (small : Bool) → has_small_indent options r ≡ small → By (has_small_indent options r)
     go true e =
         let q : Point = white_end (small_indent options) (rest_cells said r p ++ stop) p in
-        let same : is_rule (line_bytes left) ≡ is_rule (trim_start r.bytes) = ap is_rule (small-indented options said text behind r p stop is h k short e).bytes ∙ rule-spread said (trim_start r.bytes) q in
-        subst By (sym e) (with-small options.constructs.thematic_break (is_rule (line_bytes left)) (is_rule (trim_start r.bytes)) same)
-    go false e = subst By (sym e) (with-large options.constructs.thematic_break (is_rule (line_bytes left)) (is_rule (trim_start r.bytes)) (white-no_rule left (large-white options said text behind r p stop is e)))
+        let same : is_rule (line_bytes left) ≡
+        is_rule (trim_start r.bytes) = ap is_rule
+        (small-indented options said text behind r p stop is h k short e).bytes
+        ∙ rule-spread said (trim_start r.bytes) q in
+        subst By (sym e)
+        (with-small options.constructs.thematic_break (is_rule (line_bytes left))
+        (is_rule (trim_start r.bytes)) same)
+    go false e =
+        subst By (sym e)
+        (with-large options.constructs.thematic_break (is_rule (line_bytes left)) (is_rule (trim_start r.bytes))
+        (white-no_rule left (large-white options said text behind r p stop is e)))

@@ -22,5 +22,6 @@ break-laws = record {
   set = λ options r p es starts. break-set (rest_line r) p es;
   facts = break-facts;
   becomes = λ options bytes r p q starts at wants reads text read.
-      becomes-same wants reads (break_leaf.unread (rest_line r) p) (no_links-unwanted wants (break_leaf.unread (rest_line r) p) (break-unlinked (rest_line r) p));
+      becomes-same wants reads (break_leaf.unread (rest_line r) p)
+      (no_links-unwanted wants (break_leaf.unread (rest_line r) p) (break-unlinked (rest_line r) p));
 }

@@ -21,19 +21,25 @@ runs-outside White m [] p = (refl, tt)
 runs-outside Apart m (c ∷ cs) p = go (c.byte == m) (runs-outside Marks m cs c.after) (runs-outside White m cs c.after)
   where
     go : (x : Bool) → AreOutside (runs Marks m cs c.after) → AreOutside (runs White m cs c.after) →
-        AreOutside (cond x (enter n.ThematicBreakSequence p ∷ runs Marks m cs c.after) (enter n.SpaceOrTab p ∷ runs White m cs c.after))
+        AreOutside
+        (cond x (enter n.ThematicBreakSequence p ∷ runs Marks m cs c.after)
+        (enter n.SpaceOrTab p ∷ runs White m cs c.after))
     go true h k = (refl, h)
     go false h k = (refl, k)
 runs-outside Marks m (c ∷ cs) p = go (c.byte == m) (runs-outside Marks m cs c.after) (runs-outside White m cs c.after)
   where
     go : (x : Bool) → AreOutside (runs Marks m cs c.after) → AreOutside (runs White m cs c.after) →
-        AreOutside (cond x (runs Marks m cs c.after) (exit n.ThematicBreakSequence p ∷ enter n.SpaceOrTab p ∷ runs White m cs c.after))
+        AreOutside
+        (cond x (runs Marks m cs c.after)
+        (exit n.ThematicBreakSequence p ∷ enter n.SpaceOrTab p ∷ runs White m cs c.after))
     go true h k = h
     go false h k = (refl, (refl, k))
 runs-outside White m (c ∷ cs) p = go (c.byte == m) (runs-outside Marks m cs c.after) (runs-outside White m cs c.after)
   where
     go : (x : Bool) → AreOutside (runs Marks m cs c.after) → AreOutside (runs White m cs c.after) →
-        AreOutside (cond x (exit n.SpaceOrTab p ∷ enter n.ThematicBreakSequence p ∷ runs Marks m cs c.after) (runs White m cs c.after))
+        AreOutside
+        (cond x (exit n.SpaceOrTab p ∷ enter n.ThematicBreakSequence p ∷ runs Marks m cs c.after)
+        (runs White m cs c.after))
     go true h k = (refl, (refl, h))
     go false h k = k
 
@@ -43,12 +49,14 @@ indent-outside true p q = (refl, (refl, tt))
 indent-outside false p q = tt
 
 -- a whole break
-pub break-own : (options : ParseOptions) (cells : List Cell) (p : Point) → NoEnds is_own (break_leaf.adds options cells p) → AreOutside (break_leaf.adds options cells p)
+pub break-own : (options : ParseOptions) (cells : List Cell) (p : Point) →
+    NoEnds is_own (break_leaf.adds options cells p) → AreOutside (break_leaf.adds options cells p)
 break-own options cells p h =
     let q : Point = white_end (small_indent options) cells p in
     let rest : List Cell = white_rest (small_indent options) cells in (
       refl,
       outside-append (break_inside options cells p) (exit n.ThematicBreak (line_end cells p) ∷ [])
-          (outside-append (cond (begins_white cells) (pair n.SpaceOrTab p q) []) (runs Apart (first_cell rest) (line_cells rest) q) (indent-outside (begins_white cells) p q)
+          (outside-append (cond (begins_white cells) (pair n.SpaceOrTab p q) [])
+          (runs Apart (first_cell rest) (line_cells rest) q) (indent-outside (begins_white cells) p q)
           (runs-outside Apart (first_cell rest) (line_cells rest) q)) (refl, tt),
     )

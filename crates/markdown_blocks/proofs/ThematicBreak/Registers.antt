@@ -30,7 +30,9 @@ break-sequence w false false h = adds w.events _ w.resolvers refl refl h
 
 -- each of them
 pub break-registers : (state : BreakState) (w : World) → Registers w → Registers (break.break_transition state w).world
-break-registers at.Start w h = start-registers n.ThematicBreak _ w w.setting.options.constructs.thematic_break (sees_white w.current) h
+break-registers at.Start w h =
+    start-registers n.ThematicBreak _ w w.setting.options.constructs.thematic_break (sees_white w.current) h
 break-registers at.Before w h = break-before w w.current h
-break-registers at.AtBreak w h = break-at w (is_current w.scratch.marker w.current) (ends_line w.current && nat_le 3 w.scratch.size) h
+break-registers at.AtBreak w h =
+    break-at w (is_current w.scratch.marker w.current) (ends_line w.current && nat_le 3 w.scratch.size) h
 break-registers at.Sequence w h = break-sequence w (is_current w.scratch.marker w.current) (sees_white w.current) h

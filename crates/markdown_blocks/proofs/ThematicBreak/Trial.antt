@@ -1,5 +1,6 @@
 -- What a thematic break comes to, where it takes a line and where it refuses one.
-use Rattle.std.proofs.Common.{◌≡◌, ℕ, ◌≤◌, Bool, true, false, cond, List, [], ◌∷◌, ◌++◌, length, arith, refl, sym, ◌∙◌, ap, ap₂, append_assoc}
+use Rattle.std.proofs.Common.{◌≡◌, ℕ, ◌≤◌, Bool, true, false, cond, List, [], ◌∷◌, ◌++◌, length, arith, refl, sym, ◌∙◌}
+use Rattle.std.proofs.Common.{ap, ap₂, append_assoc}
 use Rattle.std.proofs.lemmas.Bool.{and_parts}
 use Rattle.md_engine.specs.declared.configuration.ParseOptions.{ParseOptions}
 use Rattle.md_engine.specs.declared.event.Event.{Event}
@@ -29,36 +30,49 @@ inside-none : (options : ParseOptions) (cells : List Cell) (p : Point) → begin
     break_inside options cells p ≡ runs Apart (first_cell cells) (line_cells cells) p
 inside-none options cells p e =
     let room = small_indent options in
-    ap (λ (x : Bool). cond x (pair n.SpaceOrTab p (white_end room cells p)) [] ++ runs Apart (first_cell (white_rest room cells)) (line_cells (white_rest room cells)) (white_end room cells p)) e
-    ∙ ap₂ (λ (r : List Cell) (q : Point). runs Apart (first_cell r) (line_cells r) q) (none-rest room cells e) (none-end room cells p e)
+    ap
+    (λ (x : Bool).
+    cond x (pair n.SpaceOrTab p (white_end room cells p)) []
+    ++ runs Apart (first_cell (white_rest room cells)) (line_cells (white_rest room cells)) (white_end room cells p)) e
+    ∙ ap₂ (λ (r : List Cell) (q : Point). runs Apart (first_cell r) (line_cells r) q) (none-rest room cells e)
+    (none-end room cells p e)
 
 inside-white : (options : ParseOptions) (cells : List Cell) (p : Point) → begins_white cells ≡ true →
-    break_inside options cells p ≡ pair n.SpaceOrTab p (white_end (small_indent options) cells p) ++ runs Apart (first_cell (white_rest (small_indent options) cells))
+    break_inside options cells p ≡
+    pair n.SpaceOrTab p (white_end (small_indent options) cells p)
+    ++ runs Apart (first_cell (white_rest (small_indent options) cells))
     (line_cells (white_rest (small_indent options) cells)) (white_end (small_indent options) cells p)
 inside-white options cells p e =
     let room = small_indent options in
-    ap (λ (x : Bool). cond x (pair n.SpaceOrTab p (white_end room cells p)) [] ++ runs Apart (first_cell (white_rest room cells)) (line_cells (white_rest room cells)) (white_end room cells p)) e
+    ap
+    (λ (x : Bool).
+    cond x (pair n.SpaceOrTab p (white_end room cells p)) []
+    ++ runs Apart (first_cell (white_rest room cells)) (line_cells (white_rest room cells)) (white_end room cells p)) e
 
 -- at the marker a rule is taken to the end of the line, and else nothing is
 marked : (cells : List Cell) (h : Here) → is_rule (line_bytes cells) ≡ true →
     before_marker cells h ≡ broken Apart (first_cell cells) cells h
 unfolding before_marker
 marked [] h e = cc
-marked (c ∷ cs) h e = ap (λ (x : Bool). cond x (broken Apart c.byte (c ∷ cs) h) (Refuses (without_marker h.scratch) h.flags)) e
+marked (c ∷ cs) h e =
+    ap (λ (x : Bool). cond x (broken Apart c.byte (c ∷ cs) h) (Refuses (without_marker h.scratch) h.flags)) e
 
 unmarked : (cells : List Cell) (h : Here) → is_rule (line_bytes cells) ≡ false →
     before_marker cells h ≡ Refuses (without_marker h.scratch) h.flags
 unfolding before_marker
 unmarked [] h e = refl
-unmarked (c ∷ cs) h e = ap (λ (x : Bool). cond x (broken Apart c.byte (c ∷ cs) h) (Refuses (without_marker h.scratch) h.flags)) e
+unmarked (c ∷ cs) h e =
+    ap (λ (x : Bool). cond x (broken Apart c.byte (c ∷ cs) h) (Refuses (without_marker h.scratch) h.flags)) e
 
 -- the events of a break, behind those that were there
 regroup : (es rs : List Event) (a d : Event) → (es ++ a ∷ []) ++ rs ++ d ∷ [] ≡ es ++ (a ∷ rs ++ d ∷ [])
-regroup es rs a d = ap (λ (xs : List Event). xs ++ d ∷ []) (append_assoc es (a ∷ []) rs) ∙ append_assoc es (a ∷ rs) (d ∷ [])
+regroup es rs a d =
+    ap (λ (xs : List Event). xs ++ d ∷ []) (append_assoc es (a ∷ []) rs) ∙ append_assoc es (a ∷ rs) (d ∷ [])
 
 regroup-white : (es rs : List Event) (a b c d : Event) →
     (es ++ a ∷ []) ++ b ∷ c ∷ [] ++ rs ++ d ∷ [] ≡ es ++ (a ∷ b ∷ c ∷ rs ++ d ∷ [])
-regroup-white es rs a b c d = ap (λ (xs : List Event). xs ++ d ∷ []) (append_assoc (es ++ a ∷ []) (b ∷ c ∷ []) rs) ∙ regroup es (b ∷ c ∷ rs) a d
+regroup-white es rs a b c d =
+    ap (λ (xs : List Event). xs ++ d ∷ []) (append_assoc (es ++ a ∷ []) (b ∷ c ∷ []) rs) ∙ regroup es (b ∷ c ∷ rs) a d
 
 -- a trial at rest ends at rest
 rest-marker : (s : Scratch) → IsRest s → without_marker s ≡ s
@@ -77,7 +91,8 @@ break-looked options cells e =
 -- A break takes its line,
 pub break-took : (options : ParseOptions) (cells : List Cell) (h : Here) → IsRest h.scratch →
     is_break options cells ≡ true →
-    break_at options cells h ≡ shut_line (around n.ThematicBreak h.point (line_end cells h.point) (break_inside options cells h.point)) cells h
+    break_at options cells h ≡
+    shut_line (around n.ThematicBreak h.point (line_end cells h.point) (break_inside options cells h.point)) cells h
 break-took options cells h is e = go (begins_white cells) refl
   where
     room : ℕ
@@ -93,34 +108,49 @@ break-took options cells h is e = go (begins_white cells) refl
     left = white_rest (small_indent options) cells
 
     on : options.constructs.thematic_break ≡ true
-    on = (and_parts options.constructs.thematic_break (is_rule (line_bytes (white_rest (small_indent options) cells))) e).0
+    on =
+        (and_parts options.constructs.thematic_break (is_rule (line_bytes (white_rest (small_indent options) cells))) e).0
 
     rule : is_rule (line_bytes (white_rest (small_indent options) cells)) ≡ true
-    rule = (and_parts options.constructs.thematic_break (is_rule (line_bytes (white_rest (small_indent options) cells))) e).1
+    rule =
+        (and_parts options.constructs.thematic_break (is_rule (line_bytes (white_rest (small_indent options) cells))) e).1
 
     -- what it is up to its scratch, its events and its point
     new : List Event → Point → Scratch → List Cell → Outcome
-    new es x s rest = Accepts (record { events = es; point = x; scratch = s; flags = record h.flags { leaf = held_leaf.None } }) rest
+    new es x s rest =
+        Accepts (record { events = es; point = x; scratch = s; flags = record h.flags { leaf = held_leaf.None } }) rest
 
     go : (x : Bool) → begins_white cells ≡ x →
-        break_at options cells h ≡ shut_line (around n.ThematicBreak h.point (line_end cells h.point) (break_inside options cells h.point)) cells h
+        break_at options cells h ≡
+        shut_line
+        (around n.ThematicBreak h.point (line_end cells h.point) (break_inside options cells h.point)) cells h
     go true s =
         let at : Here = behind_white room cells (entered_here n.ThematicBreak h) in
         let end : line_end left q ≡ p = white-line_end room cells h.point in
-        let es : List Event = at.events ++ runs Apart (first_cell left) (line_cells left) q ++ exit n.ThematicBreak (line_end left q) ∷ [] in
+        let es : List Event = at.events ++ runs Apart (first_cell left) (line_cells left) q
+        ++ exit n.ThematicBreak (line_end left q) ∷ [] in
         let same : es ≡ h.events ++ around n.ThematicBreak h.point p (break_inside options cells h.point) =
-        regroup-white h.events (runs Apart (first_cell left) (line_cells left) q) (enter n.ThematicBreak h.point) (enter n.SpaceOrTab h.point) (exit n.SpaceOrTab q) (exit n.ThematicBreak (line_end left q))
-        ∙ ap₂ (λ (x : Point) (es : List Event). h.events ++ (enter n.ThematicBreak h.point ∷ es ++ exit n.ThematicBreak x ∷ [])) end (sym (inside-white options cells h.point s)) in
+        regroup-white h.events (runs Apart (first_cell left) (line_cells left) q) (enter n.ThematicBreak h.point)
+        (enter n.SpaceOrTab h.point) (exit n.SpaceOrTab q) (exit n.ThematicBreak (line_end left q))
+        ∙ ap₂
+        (λ (x : Point) (es : List Event).
+        h.events ++ (enter n.ThematicBreak h.point ∷ es ++ exit n.ThematicBreak x ∷ [])) end
+        (sym (inside-white options cells h.point s)) in
         at-white n.ThematicBreak _ before_marker options cells h on s ∙ marked left at rule
         ∙ ap₂ (λ (x : Point) (t : Scratch). new es x t (from_ending left)) end (rest-white h.scratch is)
         ∙ ap₂ (λ (xs : List Event) (rest : List Cell). new xs p h.scratch rest) same (white-ending room cells)
     go false s =
         let at : Here = entered_here n.ThematicBreak h in
-        let here' : is_rule (line_bytes cells) ≡ true = sym (ap (λ (r : List Cell). is_rule (line_bytes r)) (none-rest room cells s)) ∙ rule in
-        let es : List Event = at.events ++ runs Apart (first_cell cells) (line_cells cells) h.point ++ exit n.ThematicBreak p ∷ [] in
+        let here' : is_rule (line_bytes cells) ≡
+        true = sym (ap (λ (r : List Cell). is_rule (line_bytes r)) (none-rest room cells s))
+        ∙ rule in
+        let es : List Event = at.events ++ runs Apart (first_cell cells) (line_cells cells) h.point
+        ++ exit n.ThematicBreak p ∷ [] in
         let same : es ≡ h.events ++ around n.ThematicBreak h.point p (break_inside options cells h.point) =
-        regroup h.events (runs Apart (first_cell cells) (line_cells cells) h.point) (enter n.ThematicBreak h.point) (exit n.ThematicBreak p)
-        ∙ ap (λ (es : List Event). h.events ++ (enter n.ThematicBreak h.point ∷ es ++ exit n.ThematicBreak p ∷ [])) (sym (inside-none options cells h.point s)) in
+        regroup h.events (runs Apart (first_cell cells) (line_cells cells) h.point) (enter n.ThematicBreak h.point)
+        (exit n.ThematicBreak p)
+        ∙ ap (λ (es : List Event). h.events ++ (enter n.ThematicBreak h.point ∷ es ++ exit n.ThematicBreak p ∷ []))
+        (sym (inside-none options cells h.point s)) in
         at-none n.ThematicBreak _ before_marker options cells h on s ∙ marked cells at here'
         ∙ ap₂ (λ (xs : List Event) (t : Scratch). new xs p t (from_ending cells)) same (rest-marker h.scratch is)
 
@@ -138,11 +168,15 @@ break-refused options cells h is e = by options.constructs.thematic_break refl
     go : options.constructs.thematic_break ≡ true → is_rule (line_bytes left) ≡ false → (x : Bool) →
         begins_white cells ≡ x → break_at options cells h ≡ Refuses h.scratch h.flags
     go on rule true s =
-        at-white n.ThematicBreak _ before_marker options cells h on s ∙ unmarked left (behind_white room cells (entered_here n.ThematicBreak h)) rule
+        at-white n.ThematicBreak _ before_marker options cells h on s
+        ∙ unmarked left (behind_white room cells (entered_here n.ThematicBreak h)) rule
         ∙ ap (λ (t : Scratch). Refuses t h.flags) (rest-white h.scratch is)
     go on rule false s =
-        let here' : is_rule (line_bytes cells) ≡ false = sym (ap (λ (r : List Cell). is_rule (line_bytes r)) (none-rest room cells s)) ∙ rule in
-        at-none n.ThematicBreak _ before_marker options cells h on s ∙ unmarked cells (entered_here n.ThematicBreak h) here'
+        let here' : is_rule (line_bytes cells) ≡
+        false = sym (ap (λ (r : List Cell). is_rule (line_bytes r)) (none-rest room cells s))
+        ∙ rule in
+        at-none n.ThematicBreak _ before_marker options cells h on s
+        ∙ unmarked cells (entered_here n.ThematicBreak h) here'
         ∙ ap (λ (t : Scratch). Refuses t h.flags) (rest-marker h.scratch is)
 
     by : (x : Bool) → options.constructs.thematic_break ≡ x → break_at options cells h ≡ Refuses h.scratch h.flags
@@ -154,7 +188,9 @@ break-refused options cells h is e = by options.constructs.thematic_break refl
 before_marker-shrinks : (n : ℕ) (cells : List Cell) (h : Here) → length cells ≤ n → Shrinks n (before_marker cells h)
 unfolding before_marker
 before_marker-shrinks n [] h le = tt
-before_marker-shrinks n (c ∷ cs) h le = cond-shrinks n (is_rule (line_bytes (c ∷ cs))) _ _ (let less = from_ending-shrinks (c ∷ cs) in omega arith, from_ending-again (c ∷ cs)) tt
+before_marker-shrinks n (c ∷ cs) h le =
+    cond-shrinks n (is_rule (line_bytes (c ∷ cs))) _ _
+    (let less = from_ending-shrinks (c ∷ cs) in omega arith, from_ending-again (c ∷ cs)) tt
 
 pub break-shrinks : (options : ParseOptions) (cells : List Cell) (h : Here) →
     Shrinks (length cells) (break_at options cells h)

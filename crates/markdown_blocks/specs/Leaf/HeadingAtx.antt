@@ -23,7 +23,8 @@ use Rattle.markdown_blocks.specs.LineLeaf.{LineLeaf}
 -- the text of a heading, once it is read
 abbrev pub read_text : List ℕ → Option Chunk → List Event
 read_text bytes None = []
-read_text bytes (Some chunk) = around n.HeadingAtxText chunk.first chunk.after (plain_events bytes (record { kind = Text; chunks = chunk ∷ [] }))
+read_text bytes (Some chunk) =
+    around n.HeadingAtxText chunk.first chunk.after (plain_events bytes (record { kind = Text; chunks = chunk ∷ [] }))
 
 -- its parts, once its text is read
 abbrev pub read_title : List ℕ → Title → List Event

@@ -30,7 +30,8 @@ first_cell (c ∷ cs) = c.byte
 
 -- whether a break stands here, with as much whitespace before it as there may be
 abbrev pub is_break : ParseOptions → List Cell → Bool
-is_break options cells = options.constructs.thematic_break && is_rule (line_bytes (white_rest (small_indent options) cells))
+is_break options cells =
+    options.constructs.thematic_break && is_rule (line_bytes (white_rest (small_indent options) cells))
 
 -- what stands in it: its indent, and its runs
 abbrev pub break_inside : ParseOptions → List Cell → Point → List Event
@@ -49,7 +50,9 @@ first_byte (b ∷ bs) = b
 
 -- a break on a line that begins at this point
 abbrev pub break_line : List ℕ → Point → List Event
-break_line line p = around n.ThematicBreak p (past_text line p) (mark_runs n.ThematicBreakSequence mark.Apart (first_byte (trim_start line)) line p)
+break_line line p =
+    around n.ThematicBreak p (past_text line p)
+    (mark_runs n.ThematicBreakSequence mark.Apart (first_byte (trim_start line)) line p)
 
 abbrev pub break_leaf : LineLeaf
 break_leaf = record {

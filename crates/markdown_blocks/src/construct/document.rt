@@ -3,11 +3,11 @@
 //     document ::= [ byte_order_mark ] line *( line_ending line )
 //     line     ::= *prefix *container flow
 //
-// Its table takes the mark, if there is one. The lines that follow are read by the table of flow, which has the states of
-// containers too. On each line the containers that are open are asked from the outermost in whether they go on, then others may
-// open, and flow reads the rest of the line. Only then is it known whether the line goes on the open paragraph, so that all
-// containers stay open although not all went on (CommonMark 5.1, "laziness"). Else those that did not go on end: their ends are
-// put where the line before ended, in front of its ending.
+// Its table takes the mark, if there is one. The lines that follow are read by the table of flow, which has the states
+// of containers too. On each line the containers that are open are asked from the outermost in whether they go on, then
+// others may open, and flow reads the rest of the line. Only then is it known whether the line goes on the open
+// paragraph, so that all containers stay open although not all went on (CommonMark 5.1, "laziness"). Else those that
+// did not go on end: their ends are put where the line before ended, in front of its ending.
 
 ghost use Rattle.std.specs.Prelude.{◌≡◌, ◌≢◌};
 ghost use Rattle.md_engine.specs.Scheme.{stands};
@@ -15,10 +15,13 @@ ghost use Rattle.md_engine.specs.World.{looks, world};
 ghost use Rattle.md_engine.specs.declared.state.Name.{Name as StateName};
 ghost use Rattle.md_engine.specs.declared.state.State.{State};
 ghost use Rattle.md_engine.specs.declared.state.document.State.{State as DocumentState};
-ghost use Rattle.markdown_blocks.specs.Flow.{containers_after_transition, existing_after_transition, existing_before_transition, flow_end_transition, new_after_transition, new_before_transition};
+ghost use Rattle.markdown_blocks.specs.Flow.{containers_after_transition, existing_after_transition};
+ghost use Rattle.markdown_blocks.specs.Flow.{existing_before_transition, flow_end_transition, new_after_transition};
+ghost use Rattle.markdown_blocks.specs.Flow.{new_before_transition};
 ghost use Rattle.markdown_blocks.specs.LineFlags.{ending_name, next_container, stays};
 ghost use Rattle.markdown_blocks.specs.HeldLeaf.{takes_lazy};
-ghost use Rattle.markdown_blocks.specs.Document.{before_frontmatter_transition, document_own_transition, document_table_scheme, document_transition, start_transition};
+ghost use Rattle.markdown_blocks.specs.Document.{before_frontmatter_transition, document_own_transition};
+ghost use Rattle.markdown_blocks.specs.Document.{document_table_scheme, document_transition, start_transition};
 ghost use Rattle.md_seam.specs.Transition.{IsAt, NeedsNothing};
 
 use crate::construct::registry;
@@ -86,7 +89,8 @@ fn next_container(tokenizer: &Tokenizer) -> Option<Container>
 pub fn container_existing_before(tokenizer: &mut Tokenizer) -> State
     requires { IsAt NeedsNothing (StateName.Document DocumentState.ContainerExistingBefore) (world tokenizer.old) }
     ensures to { result ≢ State.Error → result ≡ (existing_before_transition (world tokenizer.old)).to }
-    ensures world { result ≢ State.Error → world tokenizer.new ≡ (existing_before_transition (world tokenizer.old)).world }
+    ensures world { result ≢ State.Error →
+        world tokenizer.new ≡ (existing_before_transition (world tokenizer.old)).world }
 {
     match next_container(tokenizer) {
         None => State::Retry(StateName::Document(DocumentState::ContainerNewBefore)),
@@ -182,7 +186,8 @@ pub fn containers_after(tokenizer: &mut Tokenizer) -> State
     State::Retry(StateName::Flow(FlowState::Start))
 }
 
-/// Whether a line that starts no other leaf goes on this one, although not all containers went on (CommonMark 5.1, "laziness").
+/// Whether a line that starts no other leaf goes on this one, although not all containers went on (CommonMark 5.1,
+/// "laziness").
 fn takes_lazy(leaf: HeldLeaf) -> bool
     ensures { result ≡ takes_lazy leaf }
 {
@@ -214,8 +219,8 @@ fn ending_name(blank: bool) -> Name
     }
 }
 
-/// Behind the leaf of a line, at its ending or the end of the text: containers end that did not go on, unless the line goes on the
-/// open paragraph; at the end of the text all do.
+/// Behind the leaf of a line, at its ending or the end of the text: containers end that did not go on, unless the line
+/// goes on the open paragraph; at the end of the text all do.
 ///
 /// ```markdown
 /// > | > a
@@ -253,7 +258,8 @@ pub fn flow_end(tokenizer: &mut Tokenizer) -> State
 pub fn call(tokenizer: &mut Tokenizer, state: DocumentState) -> State
     requires { IsAt NeedsNothing (StateName.Document state) (world tokenizer.old) }
     ensures to { result ≢ State.Error → result ≡ (document_own_transition state (world tokenizer.old)).to }
-    ensures world { result ≢ State.Error → world tokenizer.new ≡ (document_own_transition state (world tokenizer.old)).world }
+    ensures world { result ≢ State.Error →
+        world tokenizer.new ≡ (document_own_transition state (world tokenizer.old)).world }
 {
     match state {
         DocumentState::Start => start(tokenizer),
@@ -273,7 +279,8 @@ fn call_state(tokenizer: &mut Tokenizer, name: StateName) -> State
     requires current { (world tokenizer.old).current ≡ looks (world tokenizer.old) }
     requires stands { stands document_table_scheme (world tokenizer.old) (State.Next name) }
     ensures to { result ≢ State.Error → result ≡ (document_transition name (world tokenizer.old)).to }
-    ensures world { result ≢ State.Error → world tokenizer.new ≡ (document_transition name (world tokenizer.old)).world }
+    ensures world { result ≢ State.Error →
+        world tokenizer.new ≡ (document_transition name (world tokenizer.old)).world }
 {
     match name {
         StateName::Bom(state) => partial_bom::call(tokenizer, state),

@@ -13,7 +13,9 @@ ghost use Rattle.markdown_blocks.specs.States.{flow_table_scheme, flow_transitio
 ghost use Rattle.md_engine.specs.declared.state.Name.{Name as StateName};
 ghost use Rattle.md_engine.specs.declared.state.State.{State};
 ghost use Rattle.md_engine.specs.declared.state.flow.State.{State as FlowState};
-ghost use Rattle.markdown_blocks.specs.Flow.{after_transition, before_content_transition, before_transition, blank_line_after_transition, blank_line_before_transition, flow_own_transition, start_transition};
+ghost use Rattle.markdown_blocks.specs.Flow.{after_transition, before_content_transition, before_transition};
+ghost use Rattle.markdown_blocks.specs.Flow.{blank_line_after_transition, blank_line_before_transition};
+ghost use Rattle.markdown_blocks.specs.Flow.{flow_own_transition, start_transition};
 ghost use Rattle.markdown_blocks.specs.Registry.{LeafName};
 ghost use Rattle.md_seam.specs.Transition.{IsAt, NeedsNothing};
 
@@ -60,7 +62,8 @@ pub fn start(_tokenizer: &mut Tokenizer) -> State
 pub fn blank_line_before(tokenizer: &mut Tokenizer) -> State
     requires { IsAt NeedsNothing (StateName.Flow FlowState.BlankLineBefore) (world tokenizer.old) }
     ensures to { result ≢ State.Error → result ≡ (blank_line_before_transition (world tokenizer.old)).to }
-    ensures world { result ≢ State.Error → world tokenizer.new ≡ (blank_line_before_transition (world tokenizer.old)).world }
+    ensures world { result ≢ State.Error →
+        world tokenizer.new ≡ (blank_line_before_transition (world tokenizer.old)).world }
 {
     if blank_line::ends_line(tokenizer.current) {
         return State::Retry(StateName::Flow(FlowState::BlankLineAfter));
@@ -84,7 +87,8 @@ pub fn blank_line_before(tokenizer: &mut Tokenizer) -> State
 pub fn before_heading_atx(tokenizer: &mut Tokenizer) -> State
     requires { IsAt NeedsNothing (StateName.Flow FlowState.BeforeHeadingAtx) (world tokenizer.old) }
     ensures to { result ≢ State.Error → result ≡ (before_transition LeafName.HeadingAtx (world tokenizer.old)).to }
-    ensures world { result ≢ State.Error → world tokenizer.new ≡ (before_transition LeafName.HeadingAtx (world tokenizer.old)).world }
+    ensures world { result ≢ State.Error →
+        world tokenizer.new ≡ (before_transition LeafName.HeadingAtx (world tokenizer.old)).world }
 {
     if !heading_atx::may_begin(tokenizer.current) {
         return State::Retry(StateName::Flow(FlowState::BeforeThematicBreak));
@@ -105,7 +109,8 @@ pub fn before_heading_atx(tokenizer: &mut Tokenizer) -> State
 pub fn before_thematic_break(tokenizer: &mut Tokenizer) -> State
     requires { IsAt NeedsNothing (StateName.Flow FlowState.BeforeThematicBreak) (world tokenizer.old) }
     ensures to { result ≢ State.Error → result ≡ (before_transition LeafName.ThematicBreak (world tokenizer.old)).to }
-    ensures world { result ≢ State.Error → world tokenizer.new ≡ (before_transition LeafName.ThematicBreak (world tokenizer.old)).world }
+    ensures world { result ≢ State.Error →
+        world tokenizer.new ≡ (before_transition LeafName.ThematicBreak (world tokenizer.old)).world }
 {
     if !thematic_break::may_begin(tokenizer.current) {
         return State::Retry(StateName::Flow(FlowState::BeforeContent));
@@ -126,7 +131,8 @@ pub fn before_thematic_break(tokenizer: &mut Tokenizer) -> State
 pub fn before_content(tokenizer: &mut Tokenizer) -> State
     requires { IsAt NeedsNothing (StateName.Flow FlowState.BeforeContent) (world tokenizer.old) }
     ensures to { result ≢ State.Error → result ≡ (before_content_transition (world tokenizer.old)).to }
-    ensures world { result ≢ State.Error → world tokenizer.new ≡ (before_content_transition (world tokenizer.old)).world }
+    ensures world { result ≢ State.Error →
+        world tokenizer.new ≡ (before_content_transition (world tokenizer.old)).world }
 {
     or_error!(tokenizer.attempt(State::Next(StateName::Flow(FlowState::After)), State::Nok));
     State::Retry(StateName::Content(ContentState::ChunkStart))
@@ -166,7 +172,8 @@ pub fn after(_tokenizer: &mut Tokenizer) -> State
 pub fn call(tokenizer: &mut Tokenizer, state: FlowState) -> State
     requires { IsAt NeedsNothing (StateName.Flow state) (world tokenizer.old) }
     ensures to { result ≢ State.Error → result ≡ (flow_own_transition state (world tokenizer.old)).to }
-    ensures world { result ≢ State.Error → world tokenizer.new ≡ (flow_own_transition state (world tokenizer.old)).world }
+    ensures world { result ≢ State.Error →
+        world tokenizer.new ≡ (flow_own_transition state (world tokenizer.old)).world }
 {
     match state {
         FlowState::Start => start(tokenizer),
@@ -184,8 +191,13 @@ pub fn call(tokenizer: &mut Tokenizer, state: FlowState) -> State
 fn call_state(tokenizer: &mut Tokenizer, name: StateName) -> State
     requires current { (world tokenizer.old).current ≡ looks (world tokenizer.old) }
     requires stands { stands flow_table_scheme (world tokenizer.old) (State.Next name) }
-    ensures to { result ≢ State.Error → result ≡ (flow_transition (λ target other. ⟦<ResolveName as PartialEq>⟧.eq other target) name (world tokenizer.old)).to }
-    ensures world { result ≢ State.Error → world tokenizer.new ≡ (flow_transition (λ target other. ⟦<ResolveName as PartialEq>⟧.eq other target) name (world tokenizer.old)).world }
+    ensures to { result ≢ State.Error →
+        result ≡
+        (flow_transition (λ target other. ⟦<ResolveName as PartialEq>⟧.eq other target) name (world tokenizer.old)).to }
+    ensures world { result ≢ State.Error →
+        world tokenizer.new ≡
+        (flow_transition (λ target other. ⟦<ResolveName as PartialEq>⟧.eq other target) name
+        (world tokenizer.old)).world }
 {
     match name {
         StateName::BlankLine(state) => blank_line::call(tokenizer, state),

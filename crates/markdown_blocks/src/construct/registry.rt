@@ -13,7 +13,8 @@ ghost use Rattle.md_engine.specs.Scheme.{stands};
 ghost use Rattle.md_engine.specs.World.{looks, world};
 ghost use Rattle.md_engine.specs.declared.resolve.name.Name.{Name as ResolveName};
 ghost use Rattle.md_engine.specs.declared.state.State.{State};
-ghost use Rattle.markdown_blocks.specs.Registry.{construct_transition, first_container, goes_on_with, may_go_on, may_open, new_kind, resolved_by};
+ghost use Rattle.markdown_blocks.specs.Registry.{construct_transition, first_container, goes_on_with, may_go_on};
+ghost use Rattle.markdown_blocks.specs.Registry.{may_open, new_kind, resolved_by};
 ghost use Rattle.markdown_blocks.specs.States.{flow_table_scheme};
 
 use md_containers::block_quote;
@@ -68,8 +69,14 @@ pub fn goes_on_with(kind: ContainerKind) -> StateName
 pub fn call(tokenizer: &mut Tokenizer, name: StateName) -> State
     requires current { (world tokenizer.old).current ≡ looks (world tokenizer.old) }
     requires stands { stands flow_table_scheme (world tokenizer.old) (State.Next name) }
-    ensures to { result ≢ State.Error → result ≡ (construct_transition (λ target other. ⟦<ResolveName as PartialEq>⟧.eq other target) name (world tokenizer.old)).to }
-    ensures world { result ≢ State.Error → world tokenizer.new ≡ (construct_transition (λ target other. ⟦<ResolveName as PartialEq>⟧.eq other target) name (world tokenizer.old)).world }
+    ensures to { result ≢ State.Error →
+        result ≡
+        (construct_transition (λ target other. ⟦<ResolveName as PartialEq>⟧.eq other target) name
+        (world tokenizer.old)).to }
+    ensures world { result ≢ State.Error →
+        world tokenizer.new ≡
+        (construct_transition (λ target other. ⟦<ResolveName as PartialEq>⟧.eq other target) name
+        (world tokenizer.old)).world }
 {
     match name {
         StateName::BlockQuote(state) => block_quote::call(tokenizer, state),
@@ -86,7 +93,9 @@ pub fn resolve(tokenizer: &mut Tokenizer, name: ResolveName) -> Result<Option<Su
     requires { (world tokenizer.old).frames ≡ [] }
     ensures frames { OnOk result ((world tokenizer.new).frames ≡ []) }
     ensures finds { IfOk result (λ found. option_map found_in found ≡ None) }
-    ensures resolves { OnOk result (world tokenizer.new ≡ record (world tokenizer.old) { events = resolved_by name (world tokenizer.old).events }) }
+    ensures resolves { OnOk result
+        (world tokenizer.new ≡
+        record (world tokenizer.old) { events = resolved_by name (world tokenizer.old).events }) }
 {
     match name {
         ResolveName::HeadingAtx => heading_atx::resolve(tokenizer),

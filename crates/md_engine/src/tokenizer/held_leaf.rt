@@ -1,7 +1,7 @@
 // The leaf that is open between two lines.
 
-/// The leaf block that is open: what the next line goes on, or ends. Of a leaf of several lines this holds what is kept of it from line to
-/// line.
+/// The leaf block that is open: what the next line goes on, or ends. Of a leaf of several lines this holds what is kept
+/// of it from line to line.
 #[derive(Clone, Copy, Debug, PartialEq, Eq)]
 pub enum HeldLeaf {
     /// None: the last one has ended.

@@ -62,7 +62,8 @@ pub fn push_heading<'a>(
     depth: usize,
     heading: Heading<'a>,
 ) -> Result<(), Message>
-    ensures { OnOk result (entries_of lines.new.items ≡ entries_of lines.old.items ++ heading_entries depth (heading_of heading.entry)) }
+    ensures { OnOk result
+        (entries_of lines.new.items ≡ entries_of lines.old.items ++ heading_entries depth (heading_of heading.entry)) }
 {
     let level = u8::try_from(heading.level()).unwrap_or(u8::MAX);
     push(lines, depth, Word::Heading(level), "")?;

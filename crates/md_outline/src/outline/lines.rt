@@ -89,7 +89,8 @@ pub fn push<'a>(
     word: Word,
     text: &'a str,
 ) -> Result<(), Message>
-    ensures { OnOk result (entries_of lines.new.items ≡ entries_of lines.old.items ++ entry_with depth word text.now ∷ []) }
+    ensures { OnOk result
+        (entries_of lines.new.items ≡ entries_of lines.old.items ++ entry_with depth word text.now ∷ []) }
 {
     let line = OutlineLine {
         depth,
@@ -109,8 +110,10 @@ pub fn push_full_lines<'a>(
     depth: usize,
     text: &'a [u8],
 ) -> Result<&'a [u8], Message>
-    ensures rest { IfOk result (λ rest. IsUtf8 text.now → IsUtf8 rest.now × (rest.now ≡ last_line (split_lines text.now))) }
-    ensures lines { OnOk result (IsUtf8 text.now → entries_of lines.new.items ≡ entries_of lines.old.items ++ full_entries depth text.now) }
+    ensures rest { IfOk result
+        (λ rest. IsUtf8 text.now → IsUtf8 rest.now × (rest.now ≡ last_line (split_lines text.now))) }
+    ensures lines { OnOk result
+        (IsUtf8 text.now → entries_of lines.new.items ≡ entries_of lines.old.items ++ full_entries depth text.now) }
 {
     let mut left = text;
     'rest: loop {
@@ -129,7 +132,8 @@ pub fn push_lines<'a>(
     depth: usize,
     text: &'a [u8],
 ) -> Result<(), Message>
-    ensures { OnOk result (IsUtf8 text.now → entries_of lines.new.items ≡ entries_of lines.old.items ++ text_entries depth text.now) }
+    ensures { OnOk result
+        (IsUtf8 text.now → entries_of lines.new.items ≡ entries_of lines.old.items ++ text_entries depth text.now) }
 {
     let rest = push_full_lines(lines, depth, text)?;
     push(lines, depth, Word::Line, line_text(rest))

@@ -32,7 +32,10 @@ pub fn push_block<'a>(
     is_shown: bool,
     text: &'a [u8],
 ) -> Result<(), Message>
-    ensures { OnOk result (IsUtf8 text.now → entries_of lines.new.items ≡ entries_of lines.old.items ++ begin_entries depth is_shown ++ text_entries (depth + 1) text.now) }
+    ensures { OnOk result
+        (IsUtf8 text.now →
+        entries_of lines.new.items ≡
+        entries_of lines.old.items ++ begin_entries depth is_shown ++ text_entries (depth + 1) text.now) }
 {
     push_begin(lines, depth, is_shown)?;
     push_lines(lines, next(depth)?, text)
@@ -45,7 +48,10 @@ pub fn push_piece<'a>(
     is_shown: bool,
     text: &'a [u8],
 ) -> Result<(), Message>
-    ensures { OnOk result (IsUtf8 text.now → entries_of lines.new.items ≡ entries_of lines.old.items ++ begin_entries depth is_shown ++ full_entries (depth + 1) text.now) }
+    ensures { OnOk result
+        (IsUtf8 text.now →
+        entries_of lines.new.items ≡
+        entries_of lines.old.items ++ begin_entries depth is_shown ++ full_entries (depth + 1) text.now) }
 {
     push_begin(lines, depth, is_shown)?;
     push_full_lines(lines, next(depth)?, text)?;

@@ -90,7 +90,8 @@ pub fn push_leaf<'a>(
     depth: usize,
     leaf: Leaf<'a>,
 ) -> Result<(), Message>
-    ensures { OnOk result (entries_of lines.new.items ≡ entries_of lines.old.items ++ leaf_entries depth (leaf_of leaf.entry)) }
+    ensures { OnOk result
+        (entries_of lines.new.items ≡ entries_of lines.old.items ++ leaf_entries depth (leaf_of leaf.entry)) }
 {
     match leaf {
         Leaf::Break => push(lines, depth, Word::Break, ""),

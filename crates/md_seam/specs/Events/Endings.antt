@@ -1,7 +1,7 @@
 -- Which line endings end a blank line.
 --
--- A line is blank if nothing but whitespace stands on it behind the prefixes of its containers, and no leaf goes on over it. Its
--- ending is a `BlankLineEnding`; any other is a `LineEnding`.
+-- A line is blank if nothing but whitespace stands on it behind the prefixes of its containers, and no leaf goes on
+-- over it. Its ending is a `BlankLineEnding`; any other is a `LineEnding`.
 use Rattle.std.specs.Prelude.{Bool, true, false, ◌&&◌, ◌||◌, not, List, [], ◌∷◌}
 use Rattle.md_engine.specs.declared.event.Event.{Event}
 use Rattle.md_engine.specs.declared.event.Kind.{Kind}
@@ -58,7 +58,8 @@ ends_rightly kind x s = true
 
 abbrev pub endings_stand_from : Spot → List Event → Bool
 endings_stand_from s [] = true
-endings_stand_from s (e ∷ es) = ends_rightly e.kind (on_line e.name) s && endings_stand_from (spot_behind e.kind (on_line e.name) s) es
+endings_stand_from s (e ∷ es) =
+    ends_rightly e.kind (on_line e.name) s && endings_stand_from (spot_behind e.kind (on_line e.name) s) es
 
 -- at the begin of a line, outside of leaves
 abbrev pub line_start : Spot

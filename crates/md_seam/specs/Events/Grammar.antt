@@ -1,7 +1,7 @@
 -- The grammar of events: in which names a name may stand, in which order, and how often.
 --
--- The names that stand directly in a part make a word, and `inside` is the table of the words that each name allows: regular
--- expressions over names. Pieces of the text hold nothing, so they have no line in it.
+-- The names that stand directly in a part make a word, and `inside` is the table of the words that each name allows:
+-- regular expressions over names. Pieces of the text hold nothing, so they have no line in it.
 use Rattle.std.specs.Prelude.{Bool, true, false, ◌&&◌, ◌||◌, if◌then◌else◌, List, [], ◌∷◌}
 use Rattle.std.specs.List.{list_any}
 use Rattle.md_engine.specs.declared.event.Event.{Event}
@@ -83,7 +83,11 @@ abbrev pub line_break : Expression
 line_break = Then (One (n.LineEnding ∷ n.BlankLineEnding ∷ [])) prefixes
 
 abbrev pub block : Expression
-block = One (n.BlockQuote ∷ n.ListOrdered ∷ n.ListUnordered ∷ n.GfmFootnoteDefinition ∷ n.HeadingAtx ∷ n.HeadingSetext ∷ n.ThematicBreak ∷ n.CodeIndented ∷ n.CodeFenced ∷ n.MathFlow ∷ n.HtmlFlow ∷ n.Definition ∷ n.Paragraph ∷ n.GfmTable ∷ [])
+block =
+    One
+    (n.BlockQuote ∷ n.ListOrdered ∷ n.ListUnordered ∷ n.GfmFootnoteDefinition ∷ n.HeadingAtx ∷ n.HeadingSetext
+    ∷ n.ThematicBreak ∷ n.CodeIndented ∷ n.CodeFenced ∷ n.MathFlow ∷ n.HtmlFlow ∷ n.Definition ∷ n.Paragraph
+    ∷ n.GfmTable ∷ [])
 
 -- behind a block: two blocks never stand on one line
 abbrev pub behind_block : Expression
@@ -104,7 +108,10 @@ plain_text = Then (optional (one n.Data)) (Many (Then next_line (optional (one n
 -- What stands in a part of each name, where this stands in text parts.
 abbrev pub inside : Expression → Name → Expression
 -- frontmatter: a fence, lines, and a fence
-inside text n.Frontmatter = Then (one n.FrontmatterFence) (Then (Many (Then (one n.LineEnding) (optional (one n.FrontmatterChunk)))) (Then (one n.LineEnding) (one n.FrontmatterFence)))
+inside text n.Frontmatter =
+    Then (one n.FrontmatterFence)
+    (Then (Many (Then (one n.LineEnding) (optional (one n.FrontmatterChunk))))
+    (Then (one n.LineEnding) (one n.FrontmatterFence)))
 inside text n.FrontmatterFence = Then (one n.FrontmatterSequence) white
 -- a block quote, with its first prefix
 inside text n.BlockQuote = Then white (Then (one n.BlockQuotePrefix) blocks)
@@ -116,11 +123,19 @@ inside text n.ListItem = Then white (Then (one n.ListItemPrefix) blocks)
 inside text n.ListItemPrefix = Then (optional (one n.ListItemValue)) (Then (one n.ListItemMarker) white)
 -- a footnote definition
 inside text n.GfmFootnoteDefinition = Then white (Then (one n.GfmFootnoteDefinitionPrefix) blocks)
-inside text n.GfmFootnoteDefinitionPrefix = Then (one n.GfmFootnoteDefinitionLabel) (Then (one n.DefinitionMarker) white)
-inside text n.GfmFootnoteDefinitionLabel = Then (one n.GfmFootnoteDefinitionLabelMarker) (Then (one n.GfmFootnoteDefinitionMarker) (Then (one n.GfmFootnoteDefinitionLabelString) (one n.GfmFootnoteDefinitionLabelMarker)))
+inside text n.GfmFootnoteDefinitionPrefix =
+    Then (one n.GfmFootnoteDefinitionLabel) (Then (one n.DefinitionMarker) white)
+inside text n.GfmFootnoteDefinitionLabel =
+    Then (one n.GfmFootnoteDefinitionLabelMarker)
+    (Then (one n.GfmFootnoteDefinitionMarker)
+    (Then (one n.GfmFootnoteDefinitionLabelString) (one n.GfmFootnoteDefinitionLabelMarker)))
 inside text n.GfmFootnoteDefinitionLabelString = text
 -- an ATX heading: its opening sequence, its text, and its closing sequence
-inside text n.HeadingAtx = Then white (Then (one n.HeadingAtxSequence) (Then white (Then (optional (one n.HeadingAtxText)) (Then white (Then (optional (one n.HeadingAtxSequence)) white)))))
+inside text n.HeadingAtx =
+    Then white
+    (Then (one n.HeadingAtxSequence)
+    (Then white (Then (optional (one n.HeadingAtxText))
+    (Then white (Then (optional (one n.HeadingAtxSequence)) white)))))
 inside text n.HeadingAtxText = text
 -- a setext heading: its text, and on the next line its underline
 inside text n.HeadingSetext = Then (one n.HeadingSetextText) (Then next_line (one n.HeadingSetextUnderline))
@@ -129,27 +144,48 @@ inside text n.HeadingSetextUnderline = Then white (Then (one n.HeadingSetextUnde
 -- a thematic break
 inside text n.ThematicBreak = Then white (some (Then (one n.ThematicBreakSequence) white))
 -- indented code: its indent and its lines, of which the first is not empty
-inside text n.CodeIndented = Then (one n.SpaceOrTab) (Then (one n.CodeFlowChunk) (Many (Then next_line (optional (one n.CodeFlowChunk)))))
+inside text n.CodeIndented =
+    Then (one n.SpaceOrTab) (Then (one n.CodeFlowChunk) (Many (Then next_line (optional (one n.CodeFlowChunk)))))
 -- fenced code: a fence, lines, and a fence if it is closed
-inside text n.CodeFenced = Then (one n.CodeFencedFence) (Then (Many (Then next_line (optional (one n.CodeFlowChunk)))) (optional (Then next_line (one n.CodeFencedFence))))
-inside text n.CodeFencedFence = Then (one n.CodeFencedFenceSequence) (Then white (optional (Then (one n.CodeFencedFenceInfo) (optional (Then (one n.SpaceOrTab) (optional (one n.CodeFencedFenceMeta)))))))
+inside text n.CodeFenced =
+    Then (one n.CodeFencedFence)
+    (Then (Many (Then next_line (optional (one n.CodeFlowChunk)))) (optional (Then next_line (one n.CodeFencedFence))))
+inside text n.CodeFencedFence =
+    Then (one n.CodeFencedFenceSequence)
+    (Then white
+    (optional
+    (Then (one n.CodeFencedFenceInfo) (optional (Then (one n.SpaceOrTab) (optional (one n.CodeFencedFenceMeta)))))))
 inside text n.CodeFencedFenceInfo = text
 inside text n.CodeFencedFenceMeta = text
 -- math
-inside text n.MathFlow = Then (one n.MathFlowFence) (Then (Many (Then next_line (optional (one n.MathFlowChunk)))) (optional (Then next_line (one n.MathFlowFence))))
+inside text n.MathFlow =
+    Then (one n.MathFlowFence)
+    (Then (Many (Then next_line (optional (one n.MathFlowChunk)))) (optional (Then next_line (one n.MathFlowFence))))
 inside text n.MathFlowFence = Then (one n.MathFlowFenceSequence) (Then white (optional (one n.MathFlowFenceMeta)))
 inside text n.MathFlowFenceMeta = text
 -- HTML: lines, of which the first may be two pieces
-inside text n.HtmlFlow = Then (one n.HtmlFlowData) (Then (optional (one n.HtmlFlowData)) (Many (Then next_line (optional (one n.HtmlFlowData)))))
+inside text n.HtmlFlow =
+    Then (one n.HtmlFlowData)
+    (Then (optional (one n.HtmlFlowData)) (Many (Then next_line (optional (one n.HtmlFlowData)))))
 -- a definition: a label, a destination, and perhaps a title
-inside text n.Definition = Then (one n.DefinitionLabel) (Then (one n.DefinitionMarker) (Then white (Then (optional next_line) (Then (one n.DefinitionDestination) (Then white (optional (Then (optional next_line) (Then (one n.DefinitionTitle) white))))))))
-inside text n.DefinitionLabel = Then (one n.DefinitionLabelMarker) (Then (one n.DefinitionLabelString) (one n.DefinitionLabelMarker))
+inside text n.Definition =
+    Then (one n.DefinitionLabel)
+    (Then (one n.DefinitionMarker)
+    (Then white
+    (Then (optional next_line)
+    (Then (one n.DefinitionDestination)
+    (Then white (optional (Then (optional next_line) (Then (one n.DefinitionTitle) white))))))))
+inside text n.DefinitionLabel =
+    Then (one n.DefinitionLabelMarker) (Then (one n.DefinitionLabelString) (one n.DefinitionLabelMarker))
 inside text n.DefinitionLabelString = text
 inside text n.DefinitionDestination = One (n.DefinitionDestinationLiteral ∷ n.DefinitionDestinationRaw ∷ [])
-inside text n.DefinitionDestinationLiteral = Then (one n.DefinitionDestinationLiteralMarker) (Then (optional (one n.DefinitionDestinationString)) (one n.DefinitionDestinationLiteralMarker))
+inside text n.DefinitionDestinationLiteral =
+    Then (one n.DefinitionDestinationLiteralMarker)
+    (Then (optional (one n.DefinitionDestinationString)) (one n.DefinitionDestinationLiteralMarker))
 inside text n.DefinitionDestinationRaw = one n.DefinitionDestinationString
 inside text n.DefinitionDestinationString = text
-inside text n.DefinitionTitle = Then (one n.DefinitionTitleMarker) (Then (optional (one n.DefinitionTitleString)) (one n.DefinitionTitleMarker))
+inside text n.DefinitionTitle =
+    Then (one n.DefinitionTitleMarker) (Then (optional (one n.DefinitionTitleString)) (one n.DefinitionTitleMarker))
 inside text n.DefinitionTitleString = text
 -- a paragraph
 inside text n.Paragraph = text
@@ -158,11 +194,17 @@ inside text n.GfmTable = Then (one n.GfmTableHead) (optional (Then next_line (on
 inside text n.GfmTableHead = Then (one n.GfmTableRow) (Then next_line (one n.GfmTableDelimiterRow))
 inside text n.GfmTableBody = Then (one n.GfmTableRow) (Many (Then next_line (one n.GfmTableRow)))
 inside text n.GfmTableRow = Then white (Then (some (one n.GfmTableCell)) white)
-inside text n.GfmTableCell = Then (optional (one n.GfmTableCellDivider)) (Then white (Then (optional (Then (one n.GfmTableCellText) white)) (optional (one n.GfmTableCellDivider))))
+inside text n.GfmTableCell =
+    Then (optional (one n.GfmTableCellDivider))
+    (Then white (Then (optional (Then (one n.GfmTableCellText) white)) (optional (one n.GfmTableCellDivider))))
 inside text n.GfmTableCellText = text
 inside text n.GfmTableDelimiterRow = Then white (Then (some (one n.GfmTableDelimiterCell)) white)
-inside text n.GfmTableDelimiterCell = Then (optional (one n.GfmTableCellDivider)) (Then white (Then (one n.GfmTableDelimiterCellValue) (Then white (optional (one n.GfmTableCellDivider)))))
-inside text n.GfmTableDelimiterCellValue = Then (optional (one n.GfmTableDelimiterMarker)) (Then (one n.GfmTableDelimiterFiller) (optional (one n.GfmTableDelimiterMarker)))
+inside text n.GfmTableDelimiterCell =
+    Then (optional (one n.GfmTableCellDivider))
+    (Then white (Then (one n.GfmTableDelimiterCellValue) (Then white (optional (one n.GfmTableCellDivider)))))
+inside text n.GfmTableDelimiterCellValue =
+    Then (optional (one n.GfmTableDelimiterMarker))
+    (Then (one n.GfmTableDelimiterFiller) (optional (one n.GfmTableDelimiterMarker)))
 inside text _ = Nothing
 
 -- What is left.
@@ -185,7 +227,9 @@ is_whole (x ∷ y ∷ ys) = false
 
 -- A text: blocks, with a byte order mark or frontmatter in front, or both.
 abbrev pub texts : List Expression
-texts = blocks ∷ Then (one n.ByteOrderMark) blocks ∷ Then (one n.Frontmatter) behind_block ∷ Then (one n.ByteOrderMark) (Then (one n.Frontmatter) behind_block) ∷ []
+texts =
+    blocks ∷ Then (one n.ByteOrderMark) blocks ∷ Then (one n.Frontmatter) behind_block
+    ∷ Then (one n.ByteOrderMark) (Then (one n.Frontmatter) behind_block) ∷ []
 
 -- Whether events keep the grammar, where this stands in text parts.
 unfoldable pub keeps_grammar : Expression → List Event → Bool

@@ -10,8 +10,9 @@ use Rattle.md_seam.specs.Events.Places.{at_or_before, first_point}
 abbrev pub byte_point : ℕ → Point
 byte_point index = record first_point { index = index }
 
--- A piece in which a byte stands: it begins at the byte or before, and ends behind the byte's first column. It is over what its
--- name says, and that is the name of no block, group or part. A tab may stand in further pieces by its other columns.
+-- A piece in which a byte stands: it begins at the byte or before, and ends behind the byte's first column. It is over
+-- what its name says, and that is the name of no block, group or part. A tab may stand in further pieces by its other
+-- columns.
 pub record Holds (bytes : List ℕ) (pieces : List Piece) (index : ℕ) : Type 0 where
   pub piece : Piece
   pub among : Contains pieces piece

@@ -1,5 +1,6 @@
 -- What every inline layer promises of the events that it answers for a text part, and what the plain layer answers.
-use Rattle.std.specs.Prelude.{◌≡◌, ℕ, ◌<◌, Bool, true, false, ◌&&◌, ◌==◌, if◌then◌else◌, IsTrue, List, [], ◌∷◌, ◌++◌, length, slice_range, Some, None}
+use Rattle.std.specs.Prelude.{◌≡◌, ℕ, ◌<◌, Bool, true, false, ◌&&◌, ◌==◌, if◌then◌else◌, IsTrue, List, [], ◌∷◌, ◌++◌}
+use Rattle.std.specs.Prelude.{length, slice_range, Some, None}
 use Rattle.std.specs.List.{list_all}
 use Rattle.md_engine.specs.declared.event.Point.{Point}
 use Rattle.md_engine.specs.declared.event.Event.{Event}
@@ -50,7 +51,8 @@ Covers from (piece ∷ pieces) to = IsTrue (same_place from piece.first) × Cove
 -- whether chunks stand behind a point, one behind the other
 abbrev pub in_order : Point → List Chunk → Bool
 in_order p [] = true
-in_order p (chunk ∷ chunks) = at_or_before p chunk.first && at_or_before chunk.first chunk.after && in_order chunk.after chunks
+in_order p (chunk ∷ chunks) =
+    at_or_before p chunk.first && at_or_before chunk.first chunk.after && in_order chunk.after chunks
 
 -- whether both ends of a chunk are points of the text
 abbrev pub chunk_placed : List ℕ → Chunk → Bool
@@ -75,7 +77,9 @@ is_one_line _ ends_part = false
 -- whether each chunk is a line and its ending; the last has none if the part ends there
 abbrev pub are_lines : List ℕ → Point → List Chunk → Bool
 are_lines bytes end [] = true
-are_lines bytes end (chunk ∷ chunks) = is_one_line (split_lines (chunk_text bytes chunk)) (is_none chunks && same_place chunk.after end) && are_lines bytes end chunks
+are_lines bytes end (chunk ∷ chunks) =
+    is_one_line (split_lines (chunk_text bytes chunk)) (is_none chunks && same_place chunk.after end)
+    && are_lines bytes end chunks
 
 -- whether a chunk is one line, with its ending or not
 abbrev pub is_line : List ℕ → Chunk → Bool
@@ -96,11 +100,14 @@ pair_unless_empty name p q = if same_place p q then [] else pair name p q
 -- a `LineEnding` over each ending of the chunks
 abbrev pub endings_of : List ℕ → List Chunk → List Event
 endings_of bytes [] = []
-endings_of bytes (chunk ∷ chunks) = pair_unless_empty n.LineEnding (line_end bytes chunk) chunk.after ++ endings_of bytes chunks
+endings_of bytes (chunk ∷ chunks) =
+    pair_unless_empty n.LineEnding (line_end bytes chunk) chunk.after ++ endings_of bytes chunks
 
 -- what the plain layer gives for a chunk: `Data` over its line, and a `LineEnding` over its ending
 abbrev pub plain_chunk : List ℕ → Chunk → List Event
-plain_chunk bytes chunk = pair_unless_empty n.Data chunk.first (line_end bytes chunk) ++ pair_unless_empty n.LineEnding (line_end bytes chunk) chunk.after
+plain_chunk bytes chunk =
+    pair_unless_empty n.Data chunk.first (line_end bytes chunk)
+    ++ pair_unless_empty n.LineEnding (line_end bytes chunk) chunk.after
 
 abbrev pub plain_chunks : List ℕ → List Chunk → List (List Event)
 plain_chunks bytes [] = []
@@ -117,7 +124,9 @@ plain_events bytes part = together (plain_chunks bytes part.chunks)
 
 -- the plain layer answers so for a part whose chunks are lines that end between two bytes
 abbrev pub PlainReads : List ℕ → Part → List Event → Type 0
-PlainReads bytes part events = (end : Point) → IsTrue (are_lines bytes end part.chunks) → IsTrue (list_all ends_whole part.chunks) → events ≡ plain_events bytes part
+PlainReads bytes part events =
+    (end : Point) → IsTrue (are_lines bytes end part.chunks) → IsTrue (list_all ends_whole part.chunks) →
+    events ≡ plain_events bytes part
 
 -- The promise of every layer.
 
@@ -143,13 +152,14 @@ line_endings (e ∷ es) = if is_line_ending e.name then e ∷ line_endings es el
 abbrev pub Fills : List Chunk → List (List Event) → Type 0
 Fills [] [] = Unit {0}
 Fills (chunk ∷ chunks) (events ∷ rest) =
-    Forward chunk.first events × IsTrue (at_or_before (last_point chunk.first events) chunk.after) × Covers chunk.first (pieces events) chunk.after × Fills chunks rest
+    Forward chunk.first events × IsTrue (at_or_before (last_point chunk.first events) chunk.after) ×
+    Covers chunk.first (pieces events) chunk.after × Fills chunks rest
 Fills [] (events ∷ rest) = ⊥
 Fills (chunk ∷ chunks) [] = ⊥
 
--- What the events of a text part are in every layer: brackets over the whole part, at points of the text, with no name of a
--- block, and with one `LineEnding` over each ending of a chunk and none elsewhere. They are cut into what stands in the place
--- of each chunk, and no piece reaches over two.
+-- What the events of a text part are in every layer: brackets over the whole part, at points of the text, with no name
+-- of a block, and with one `LineEnding` over each ending of a chunk and none elsewhere. They are cut into what stands
+-- in the place of each chunk, and no piece reaches over two.
 pub record Framed (bytes : List ℕ) (part : Part) (events : List Event) : Type 0 where
   pub balanced : Balanced events
   pub placed : IsTrue (are_placed bytes events)
@@ -159,7 +169,8 @@ pub record Framed (bytes : List ℕ) (part : Part) (events : List Event) : Type 
   pub whole : together cut ≡ events
   pub fills : Fills part.chunks cut
 
--- A text part that may be read: it has a chunk at least, and its chunks stand in the text, one behind the other, one a line.
+-- A text part that may be read: it has a chunk at least, and its chunks stand in the text, one behind the other, one a
+-- line.
 pub record IsPart (bytes : List ℕ) (part : Part) : Type 0 where
   pub end : Point
   pub lines : IsTrue (are_lines bytes end part.chunks)
@@ -169,4 +180,5 @@ pub record IsPart (bytes : List ℕ) (part : Part) : Type 0 where
 
 -- a layer that keeps the promise of every layer
 abbrev pub KeepsFrame : List ℕ → (Part → List Event → Type 0) → Type 0
-KeepsFrame bytes reads = (part : Part) (events : List Event) → IsPart bytes part → reads part events → Framed bytes part events
+KeepsFrame bytes reads =
+    (part : Part) (events : List Event) → IsPart bytes part → reads part events → Framed bytes part events

@@ -1,7 +1,8 @@
 -- Which blocks may stand in a tree under given options: those whose construct is on.
 use Rattle.std.specs.Prelude.{ℕ, Bool, true, ◌&&◌, ◌||◌, ◌==◌}
 use Rattle.md_engine.specs.declared.configuration.ParseOptions.{ParseOptions}
-use Rattle.md_definition.specs.Tree.{Block, Frontmatter, Quote, ListOf, Item, Footnote, Heading, Break, Code, Html, Fence, Math, Definition, Paragraph, Table, Blocks, End, More}
+use Rattle.md_definition.specs.Tree.{Block, Frontmatter, Quote, ListOf, Item, Footnote, Heading, Break, Code, Html}
+use Rattle.md_definition.specs.Tree.{Fence, Math, Definition, Paragraph, Table, Blocks, End, More}
 
 -- an underline makes a heading of depth 1 or 2 (CommonMark 4.3)
 abbrev pub is_setext_depth : ℕ → Bool
@@ -15,7 +16,8 @@ abbrev mutual
   is_on options (ListOf marker items) = options.constructs.list_item && are_on options items
   is_on options (Item marker digits blocks) = options.constructs.list_item && are_on options blocks
   is_on options (Footnote label blocks) = options.constructs.gfm_footnote_definition && are_on options blocks
-  is_on options (Heading depth lines) = options.constructs.heading_atx || (options.constructs.heading_setext && is_setext_depth depth)
+  is_on options (Heading depth lines) =
+      options.constructs.heading_atx || (options.constructs.heading_setext && is_setext_depth depth)
   is_on options Break = options.constructs.thematic_break
   is_on options (Code lines) = options.constructs.code_indented
   is_on options (Html lines) = options.constructs.html_flow

@@ -1,7 +1,8 @@
 -- What the pieces of a text are: the innermost pairs of its events, each over its bytes.
 --
 -- A piece is never empty and never a block, so every byte of a text stands in a piece that says what it is.
-use Rattle.std.specs.Prelude.{ℕ, Bool, true, false, ◌&&◌, ◌||◌, ◌==◌, not, nat_le, if◌then◌else◌, List, [], ◌∷◌, codes, length, slice_range, Option, Some, None}
+use Rattle.std.specs.Prelude.{ℕ, Bool, true, false, ◌&&◌, ◌||◌, ◌==◌, not, nat_le, if◌then◌else◌, List, [], ◌∷◌, codes}
+use Rattle.std.specs.Prelude.{length, slice_range, Option, Some, None}
 use Rattle.std.specs.List.{list_all}
 use Rattle.std.specs.Str.{bytes_eq}
 use Rattle.md_engine.specs.declared.event.Name.{Name}
@@ -11,7 +12,8 @@ use Rattle.md_definition.specs.Lines.{is_ending}
 use Rattle.md_seam.specs.Events.Places.{same_place}
 use Rattle.md_definition.specs.Rest.{is_blank}
 use Rattle.md_definition.specs.Texts.{split_lines}
-use Rattle.md_definition.specs.Ascii.{asterisk, backtick, carriage_return, dollar, equals_sign, hash, hyphen, line_feed, tilde, underscore}
+use Rattle.md_definition.specs.Ascii.{asterisk, backtick, carriage_return, dollar, equals_sign, hash, hyphen, line_feed}
+use Rattle.md_definition.specs.Ascii.{tilde, underscore}
 
 -- Bytes.
 
@@ -27,7 +29,9 @@ is_one_of bytes (b ∷ c ∷ text) = false
 
 -- LF, CR or CR LF (CommonMark 2.1)
 abbrev pub is_line_ending : List ℕ → Bool
-is_line_ending text = bytes_eq text (line_feed ∷ []) || bytes_eq text (carriage_return ∷ []) || bytes_eq text (carriage_return ∷ line_feed ∷ [])
+is_line_ending text =
+    bytes_eq text (line_feed ∷ []) || bytes_eq text (carriage_return ∷ [])
+    || bytes_eq text (carriage_return ∷ line_feed ∷ [])
 
 -- bytes of one line
 abbrev pub is_in_line : List ℕ → Bool
@@ -52,7 +56,8 @@ piece_rule n.GfmFootnoteDefinitionLabelMarker = Some (is_one_of (codes "[]"))
 piece_rule n.GfmFootnoteDefinitionMarker = Some (is_one_of (codes "^"))
 piece_rule n.HeadingAtxSequence = Some (is_run 1 hash)
 piece_rule n.HeadingSetextUnderlineSequence = Some (λ text. is_run 1 equals_sign text || is_run 1 hyphen text)
-piece_rule n.ThematicBreakSequence = Some (λ text. is_run 1 asterisk text || is_run 1 hyphen text || is_run 1 underscore text)
+piece_rule n.ThematicBreakSequence =
+    Some (λ text. is_run 1 asterisk text || is_run 1 hyphen text || is_run 1 underscore text)
 piece_rule n.CodeFencedFenceSequence = Some (λ text. is_run 3 backtick text || is_run 3 tilde text)
 piece_rule n.CodeFlowChunk = Some is_in_line
 piece_rule n.MathFlowFenceSequence = Some (is_run 2 dollar)
@@ -92,14 +97,15 @@ ends_in_tab _ = false
 abbrev pub piece_text : List ℕ → Piece → List ℕ
 piece_text bytes piece = slice_range bytes piece.first.index piece.after.index
 
--- Whether a piece may stand where it does: it is not empty, it is over what its name says, and a chunk that is not read yet is
--- a line, with its ending or not.
+-- Whether a piece may stand where it does: it is not empty, it is over what its name says, and a chunk that is not read
+-- yet is a line, with its ending or not.
 abbrev pub piece_stands : List ℕ → Piece → Bool
 piece_stands bytes piece =
     not (same_place piece.first piece.after)
     && ((piece.first.vs == 0) || begins_in_tab piece.name)
     && ((piece.after.vs == 0) || ends_in_tab piece.name)
-    && (if piece.linked then is_one_line (split_lines (piece_text bytes piece)) true else stands_over piece.name (piece_text bytes piece))
+    && (if piece.linked then is_one_line (split_lines (piece_text bytes piece)) true
+    else stands_over piece.name (piece_text bytes piece))
 
 abbrev pub pieces_stand : List ℕ → List Piece → Bool
 pieces_stand bytes pieces = list_all (piece_stands bytes) pieces

@@ -1,5 +1,6 @@
 -- The points of a text: where they are, and which comes first.
-use Rattle.std.specs.Prelude.{ℕ, ◌+◌, ◌-◌, Bool, ◌&&◌, ◌||◌, ◌==◌, not, nat_lt, nat_le, if◌then◌else◌, List, [], ◌∷◌, length, take, drop}
+use Rattle.std.specs.Prelude.{ℕ, ◌+◌, ◌-◌, Bool, ◌&&◌, ◌||◌, ◌==◌, not, nat_lt, nat_le, if◌then◌else◌, List, [], ◌∷◌}
+use Rattle.std.specs.Prelude.{length, take, drop}
 use Rattle.std.specs.List.{list_all}
 use Rattle.md_engine.specs.declared.event.Point.{Point}
 use Rattle.md_engine.specs.declared.event.Event.{Event}
@@ -28,14 +29,15 @@ columns_before bytes index = columns_from 0 (last_line (split_lines (take index 
 
 -- Whether virtual spaces are counted only within a tab.
 abbrev pub within_tab : List ℕ → Point → Bool
-within_tab bytes p = (p.vs == 0) || ((first_byte (drop p.index bytes) == 9) && nat_lt p.vs (tab_columns (columns_before bytes p.index)))
+within_tab bytes p =
+    (p.vs == 0) || ((first_byte (drop p.index bytes) == 9) && nat_lt p.vs (tab_columns (columns_before bytes p.index)))
 
 -- whether a byte is the LF of a CR LF, which is one ending
 abbrev pub splits_pair : List ℕ → ℕ → Bool
 splits_pair bytes index = nat_lt 0 index && is_pair bytes (index - 1)
 
--- Whether a point is one of the text: its line is 1 plus the line endings before it, its column 1 plus the columns before
--- it on that line, and it does not stand inside an ending.
+-- Whether a point is one of the text: its line is 1 plus the line endings before it, its column 1 plus the columns
+-- before it on that line, and it does not stand inside an ending.
 abbrev pub is_placed : List ℕ → Point → Bool
 is_placed bytes p =
     nat_le p.index (length bytes) && within_tab bytes p

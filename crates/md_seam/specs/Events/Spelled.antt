@@ -1,15 +1,17 @@
 -- The block tree that a list of events spells out.
 --
--- A fold over the events. It goes on from a half-read tree: the containers that are open, the blocks that are finished in
--- the innermost, the leaf block that is open, and the text that is being read.
-use Rattle.std.specs.Prelude.{ℕ, ◌+◌, ◌-◌, Bool, true, false, ◌||◌, ◌==◌, nat_lt, if◌then◌else◌, List, [], ◌∷◌, ◌++◌, length, map, slice_range, Option, Some, None, option_map}
+-- A fold over the events. It goes on from a half-read tree: the containers that are open, the blocks that are finished
+-- in the innermost, the leaf block that is open, and the text that is being read.
+use Rattle.std.specs.Prelude.{ℕ, ◌+◌, ◌-◌, Bool, true, false, ◌||◌, ◌==◌, nat_lt, if◌then◌else◌, List, [], ◌∷◌, ◌++◌}
+use Rattle.std.specs.Prelude.{length, map, slice_range, Option, Some, None, option_map}
 use Rattle.md_engine.specs.declared.event.Point.{Point}
 use Rattle.md_engine.specs.declared.event.Event.{Event}
 use Rattle.md_engine.specs.declared.event.Kind.{Kind}
 use Rattle.md_engine.specs.declared.event.Kind.TheVariants.{Enter, Exit}
 use Rattle.md_engine.specs.declared.event.Name.{Name}
 use Rattle.md_engine.specs.declared.event.Name.TheVariants as n
-use Rattle.md_definition.specs.Tree.{Line, Block, Blocks, Quote, ListOf, Item, Footnote, Heading, Break, Code, Html, Fence, Math, Definition, Paragraph, Table, End, More}
+use Rattle.md_definition.specs.Tree.{Line, Block, Blocks, Quote, ListOf, Item, Footnote, Heading, Break, Code, Html}
+use Rattle.md_definition.specs.Tree.{Fence, Math, Definition, Paragraph, Table, End, More}
 use Rattle.md_definition.specs.Tree as t
 use Rattle.md_definition.specs.Containers.{is_bullet}
 use Rattle.md_definition.specs.Rest.{trim, tab_columns}
@@ -38,8 +40,8 @@ abbrev pub first_some : {A : Type 0} → Option A → A → Option A
 first_some None now = Some now
 first_some (Some x) now = Some x
 
--- What is known of an open container: which list it is, an item's marker and digits, the label of a footnote definition.
--- There is no marker yet where it is 0, and no digits or label where they are empty.
+-- What is known of an open container: which list it is, an item's marker and digits, the label of a footnote
+-- definition. There is no marker yet where it is 0, and no digits or label where they are empty.
 pub data Shape : Type 0 where
   QuoteShape : Shape
   OrderedShape : Shape
@@ -334,7 +336,8 @@ underline_depth marker = if marker == 61 then 1 else 2
 
 -- the block that an open leaf block is, if it ends here
 abbrev pub block_of : OpenLeaf → Block
-block_of (FrontmatterLeaf fences) = t.Frontmatter (first_byte fences.markers) (map (λ (line : Line). line.text) fences.lines)
+block_of (FrontmatterLeaf fences) =
+    t.Frontmatter (first_byte fences.markers) (map (λ (line : Line). line.text) fences.lines)
 block_of (HeadingAtxLeaf heading) = Heading (length heading.markers) heading.text
 block_of (HeadingSetextLeaf heading) = Heading (underline_depth (first_byte heading.markers)) heading.text
 block_of BreakLeaf = Break
@@ -420,7 +423,8 @@ told purpose line r = on_leaf (noted purpose line) r
 
 abbrev pub told_at : List ℕ → Purpose → Point → Option Text → Reading → Reading
 told_at bytes purpose p None r = r
-told_at bytes purpose p (Some text) r = told purpose (record { spaces = text.spaces; text = text_to bytes p.index text }) (record r { text = None })
+told_at bytes purpose p (Some text) r =
+    told purpose (record { spaces = text.spaces; text = text_to bytes p.index text }) (record r { text = None })
 
 abbrev pub finished : Option OpenLeaf → Reading → Reading
 finished None r = r
@@ -437,7 +441,10 @@ at_ending bytes p (Some text) r = r
 at_ending bytes p None r = if nat_lt p.index (length bytes) then on_leaf next_line r else r
 
 abbrev pub read_enter : List ℕ → Role → Point → Reading → Reading
-read_enter bytes (Holds shape) p r = record r { outer = (record { shape = shape; before = r.here }) ∷ r.outer; here = End }
+read_enter bytes (Holds shape) p r = record r {
+  outer = (record { shape = shape; before = r.here }) ∷ r.outer;
+  here = End;
+}
 read_enter bytes (Opens kind) p r = record r { leaf = Some (fresh kind) }
 read_enter bytes (Tells purpose) p r = record r { text = Some (begun p) }
 read_enter bytes IsFence p r = on_leaf at_fence r

@@ -1,5 +1,6 @@
 -- Every byte of a text is accounted for: the innermost pairs of its events lie side by side.
-use Rattle.std.specs.Prelude.{◌≡◌, ℕ, zero, suc, Bool, true, false, ◌&&◌, ◌||◌, ◌==◌, not, if◌then◌else◌, IsTrue, List, [], ◌∷◌, ◌++◌, length, map, slice_range, Option, Some, None}
+use Rattle.std.specs.Prelude.{◌≡◌, ℕ, zero, suc, Bool, true, false, ◌&&◌, ◌||◌, ◌==◌, not, if◌then◌else◌, IsTrue, List}
+use Rattle.std.specs.Prelude.{[], ◌∷◌, ◌++◌, length, map, slice_range, Option, Some, None}
 use Rattle.std.specs.List.{list_all}
 use Rattle.md_engine.specs.declared.event.Point.{Point}
 use Rattle.md_engine.specs.declared.event.Event.{Event}
@@ -17,7 +18,8 @@ use Rattle.md_seam.specs.Events.Nested.{Nested, is_exit}
 use Rattle.md_seam.specs.Events.Pieces.{pieces_stand}
 use Rattle.md_seam.specs.Events.Endings.{endings_stand}
 use Rattle.md_seam.specs.Events.Grammar.{keeps_grammar, unread_text}
-use Rattle.md_seam.specs.Events.Inline.{Part, Piece, pieces, Covers, Fills, are_lines, is_linked, plain_chunks, together}
+use Rattle.md_seam.specs.Events.Inline.{Part, Piece, pieces, Covers, Fills, are_lines, is_linked, plain_chunks}
+use Rattle.md_seam.specs.Events.Inline.{together}
 
 -- the point behind the last byte
 abbrev pub end_point : List ℕ → Point
@@ -40,7 +42,8 @@ part_kind n.DefinitionTitleString = Some k.String
 part_kind n.GfmFootnoteDefinitionLabelString = Some k.String
 part_kind _ = None
 
--- What may stand inside a text part beside the enters of its chunks: their exits, container prefixes, and spaces and tabs.
+-- What may stand inside a text part beside the enters of its chunks: their exits, container prefixes, and spaces and
+-- tabs.
 abbrev pub stands_in_part : Kind → Name → Bool
 stands_in_part Exit n.Data = true
 stands_in_part kind name = is_prefix name
@@ -64,7 +67,8 @@ part_end (e ∷ es) = if is_part e.name && is_exit e.kind then e.point else part
 -- the pieces that are not read yet
 abbrev pub chunks : List Piece → List Chunk
 chunks [] = []
-chunks (piece ∷ pieces) = if piece.linked then (record { first = piece.first; after = piece.after }) ∷ chunks pieces else chunks pieces
+chunks (piece ∷ pieces) =
+    if piece.linked then (record { first = piece.first; after = piece.after }) ∷ chunks pieces else chunks pieces
 
 -- a part, if it has anything to read
 abbrev pub part_of : PartKind → List Chunk → List Part
@@ -89,7 +93,8 @@ is_space_or_tab _ = false
 
 -- whether a piece that is called spaces and tabs holds nothing else
 abbrev pub is_white_piece : List ℕ → Piece → Bool
-is_white_piece bytes piece = not (is_space_or_tab piece.name) || is_blank (slice_range bytes piece.first.index piece.after.index)
+is_white_piece bytes piece =
+    not (is_space_or_tab piece.name) || is_blank (slice_range bytes piece.first.index piece.after.index)
 
 -- whether the first chunk begins at a point; there is one, since a part that would be empty does not stand
 abbrev pub begins_at : Point → List Chunk → Bool
@@ -98,12 +103,13 @@ begins_at p (chunk ∷ chunks) = same_place p chunk.first
 
 abbrev pub part_stands : List ℕ → Kind → Option PartKind → Point → List Event → Bool
 part_stands bytes Enter (Some kind) p es =
-    begins_at p (chunks (pieces (inside_part es))) && list_all (is_white_piece bytes) (pieces (inside_part es)) && are_lines bytes (part_end es) (chunks (pieces (inside_part es)))
+    begins_at p (chunks (pieces (inside_part es))) && list_all (is_white_piece bytes) (pieces (inside_part es))
+    && are_lines bytes (part_end es) (chunks (pieces (inside_part es)))
 part_stands bytes Enter None p es = true
 part_stands bytes Exit kind p es = true
 
--- Whether each text part stands as one chunk a line, from where it begins, and each reaches over the line's ending where the part
--- goes on behind it; nothing else is left out of the chunks but spaces, tabs and container prefixes.
+-- Whether each text part stands as one chunk a line, from where it begins, and each reaches over the line's ending
+-- where the part goes on behind it; nothing else is left out of the chunks but spaces, tabs and container prefixes.
 abbrev pub parts_stand : List ℕ → List Event → Bool
 parts_stand bytes [] = true
 parts_stand bytes (e ∷ es) = part_stands bytes e.kind (part_kind e.name) e.point es && parts_stand bytes es
@@ -119,14 +125,16 @@ abbrev pub is_chunk : Event → List Event → Bool
 is_chunk e [] = false
 is_chunk e (f ∷ es) = not (is_exit e.kind) && is_data e.name && is_exit f.kind && is_data f.name
 
--- Whether chunks stand only in text parts, directly inside of them, and nothing else but container prefixes does. The depth
--- is 0 outside of text parts, and 1 directly inside of one.
+-- Whether chunks stand only in text parts, directly inside of them, and nothing else but container prefixes does. The
+-- depth is 0 outside of text parts, and 1 directly inside of one.
 abbrev pub chunks_stand : ℕ → List Event → Bool
 chunks_stand depth [] = true
-chunks_stand zero (e ∷ es) = not (is_linked e) && chunks_stand (if is_part e.name && not (is_exit e.kind) then 1 else 0) es
+chunks_stand zero (e ∷ es) =
+    not (is_linked e) && chunks_stand (if is_part e.name && not (is_exit e.kind) then 1 else 0) es
 chunks_stand (suc depth) (e ∷ es) =
     if is_part e.name then is_exit e.kind && (depth == 0) && not (is_linked e) && chunks_stand 0 es
-    else (if is_linked e then (depth == 0) && is_chunk e es else stands_in_part e.kind e.name) && chunks_stand (depth_behind e.kind (suc depth)) es
+    else (if is_linked e then (depth == 0) && is_chunk e es else stands_in_part e.kind e.name)
+    && chunks_stand (depth_behind e.kind (suc depth)) es
 
 -- A list of events, at points of the text, whose text parts are not read yet.
 pub record IsBlockList (bytes : List ℕ) (events : List Event) : Type 0 where
@@ -155,7 +163,9 @@ further_lists (events ∷ rest) = rest
 abbrev pub filled_from : Bool → List Event → List (List Event) → List Event
 filled_from inside [] lists = []
 filled_from true (e ∷ es) lists = filled_from false es lists
-filled_from false (e ∷ es) lists = if is_linked e then first_list lists ++ filled_from true es (further_lists lists) else e ∷ filled_from false es lists
+filled_from false (e ∷ es) lists =
+    if is_linked e then first_list lists ++ filled_from true es (further_lists lists)
+    else e ∷ filled_from false es lists
 
 abbrev pub filled : List Event → List (List Event) → List Event
 filled events lists = filled_from false events lists
@@ -171,12 +181,14 @@ plain_read bytes blocks = filled blocks (together (plain_lists bytes (parts bloc
 -- each part is read as the layer reads it, chunk by chunk
 abbrev pub EachRead : (Part → List Event → Type 0) → List Part → List (List (List Event)) → Type 0
 EachRead reads [] [] = Unit {0}
-EachRead reads (part ∷ parts) (lists ∷ rest) = Fills part.chunks lists × reads part (together lists) × EachRead reads parts rest
+EachRead reads (part ∷ parts) (lists ∷ rest) =
+    Fills part.chunks lists × reads part (together lists) × EachRead reads parts rest
 EachRead reads [] (lists ∷ rest) = ⊥
 EachRead reads (part ∷ parts) [] = ⊥
 
--- The events of a text tile it, if text parts are read so: they are a block list whose innermost pairs, the chunks among
--- them, lie side by side from the first byte to the last, with the events that a layer reads in the place of each chunk.
+-- The events of a text tile it, if text parts are read so: they are a block list whose innermost pairs, the chunks
+-- among them, lie side by side from the first byte to the last, with the events that a layer reads in the place of each
+-- chunk.
 pub record Tiles (reads : Part → List Event → Type 0) (bytes : List ℕ) (events : List Event) : Type 0 where
   pub blocks : List Event
   pub block_list : IsBlockList bytes blocks

@@ -15,7 +15,10 @@ returns c =
     (λ output printing. record {
       events = events;
       state = state;
-      parsed = subst (λ (options : ParseOptions). IsParsed text options events state) c.built-options.ensures.value c.in_ok-events.ensures;
+      parsed =
+          subst
+          (λ (options : ParseOptions).
+          IsParsed text options events state) c.built-options.ensures.value c.in_ok-events.ensures;
       printing = printing ∙ ap printed_events c.deref.ensures.value;
     })
     c.print.ensures

@@ -27,12 +27,14 @@ read_flow-requires-clause-small c = rw c.as_bytes-bytes.ensures.value c.requires
 pub read_flow-requires-clause-placed : goal.read_flow-requires-clause-placed
 read_flow-requires-clause-placed c =
     let P : Point → Type 0 = λ p. IsPlaced c.as_bytes-bytes.result.now p in
-    subst P (sym c.in_ok-front.ensures.point) (body-placed c.as_bytes-bytes.result.now (rw c.as_bytes-bytes.ensures.value c.requires.size))
+    subst P (sym c.in_ok-front.ensures.point)
+    (body-placed c.as_bytes-bytes.result.now (rw c.as_bytes-bytes.ensures.value c.requires.size))
 
 pub subtokenize-requires-clause-placed : goal.subtokenize-requires-clause-placed
 subtokenize-requires-clause-placed c =
     let events_are = c.deref.ensures.value ∙ ap (λ (w : World). w.events) c.take_spare-spare.ensures.same in
-    let same : c.in_ok-tokenizer.tokenizer.bytes.now ≡ c.as_bytes-bytes.result.now = ap (λ (x : Setting). x.bytes) c.in_ok-tokenizer.ensures.setting in
+    let same : c.in_ok-tokenizer.tokenizer.bytes.now ≡
+    c.as_bytes-bytes.result.now = ap (λ (x : Setting). x.bytes) c.in_ok-tokenizer.ensures.setting in
     rw events_are (rw same at c.in_ok-tokenizer.tokenizer.sound.right)
 
 pub returns : goal.returns
@@ -41,19 +43,32 @@ returns c =
     let body = c.in_ok-body.body.items in
     let events_are = c.deref.ensures.value ∙ ap (λ (w : World). w.events) c.take_spare-spare.ensures.same in
     let none = reads-labels _ _ _ _ _ c.in_ok-tokenizer.ensures in
-    let read : Reads c.args.options.now c.args.value.now (c.in_ok-front.front.events.items ++ c.deref.result.now) c.in_ok-events.events.items =
-    parsed-reads c.args.options.now bytes c.args.value.now c.in_ok-front.front.point _ _ c.in_ok-front.front.events.items c.deref.result.now body c.in_ok-events.events.items
-    c.as_bytes-bytes.ensures.value c.requires.built c.utf8.value c.requires.size c.in_ok-front.ensures.point c.in_ok-front.ensures.events c.in_ok-tokenizer.ensures
-    wants_text (λ content chunks events. PlainReads bytes (record { kind = text_kind content; chunks = chunks }) events) refl (λ chunks answer reads end lines whole. reads end lines whole)
+    let read : Reads c.args.options.now c.args.value.now
+    (c.in_ok-front.front.events.items ++ c.deref.result.now) c.in_ok-events.events.items =
+    parsed-reads c.args.options.now bytes c.args.value.now c.in_ok-front.front.point _ _
+    c.in_ok-front.front.events.items c.deref.result.now body c.in_ok-events.events.items
+    c.as_bytes-bytes.ensures.value c.requires.built c.utf8.value c.requires.size c.in_ok-front.ensures.point
+    c.in_ok-front.ensures.events c.in_ok-tokenizer.ensures
+    wants_text
+    (λ content chunks events. PlainReads bytes (record { kind = text_kind content; chunks = chunks }) events) refl
+    (λ chunks answer reads end lines whole. reads end lines whole)
     events_are c.in_ok-body.ensures.substituted c.in_ok-events.ensures in
-    let of_mark : ArePlaced bytes c.in_ok-front.front.events.items = rw c.in_ok-front.ensures.bytes_are at c.in_ok-front.front.sound.right in
-    let same : c.in_ok-tokenizer.tokenizer.bytes.now ≡ bytes = ap (λ (x : Setting). x.bytes) c.in_ok-tokenizer.ensures.setting in
+    let of_mark : ArePlaced bytes c.in_ok-front.front.events.items = rw c.in_ok-front.ensures.bytes_are at
+    c.in_ok-front.front.sound.right in
+    let same : c.in_ok-tokenizer.tokenizer.bytes.now ≡
+    bytes = ap (λ (x : Setting). x.bytes) c.in_ok-tokenizer.ensures.setting in
     let of_flow : ArePlaced bytes c.deref.result.now = rw events_are
     (rw same at c.in_ok-tokenizer.tokenizer.sound.right) in
-    let before : ArePlaced bytes (c.in_ok-front.front.events.items ++ c.deref.result.now) = All-append (λ (e : Event). IsPlaced bytes e.point) c.in_ok-front.front.events.items c.deref.result.now of_mark of_flow in
+    let before : ArePlaced bytes (c.in_ok-front.front.events.items ++ c.deref.result.now) = All-append
+    (λ (e : Event). IsPlaced bytes e.point) c.in_ok-front.front.events.items c.deref.result.now of_mark of_flow in
     let placed : ArePlaced bytes c.in_ok-events.events.items =
-    rw c.in_ok-events.ensures (All-append (λ (e : Event). IsPlaced bytes e.point) c.in_ok-front.front.events.items body of_mark c.in_ok-body.ensures.placed) in
-    let tiled = read.tiles (events-placed c.args.value.now (c.in_ok-front.front.events.items ++ c.deref.result.now) (rw c.as_bytes-bytes.ensures.value at before)) in
+    rw c.in_ok-events.ensures
+    (All-append
+    (λ (e : Event).
+    IsPlaced bytes e.point) c.in_ok-front.front.events.items body of_mark c.in_ok-body.ensures.placed) in
+    let tiled = read.tiles
+    (events-placed c.args.value.now (c.in_ok-front.front.events.items ++ c.deref.result.now)
+    (rw c.as_bytes-bytes.ensures.value at before)) in
     record {
       bytes = c.as_bytes-bytes.ensures.value;
       options_are = refl;
@@ -61,11 +76,15 @@ returns c =
       placed = events-placed c.args.value.now c.in_ok-events.events.items (rw c.as_bytes-bytes.ensures.value at placed);
       tree = read.tree;
       on = ap (are_on c.args.options.now) read.tree ∙ tree-on c.args.options.now c.args.value.now;
-      in_quote = λ on may. text-quoted c.args.options.now c.args.value.now c.in_ok-events.events.items c.requires.built read.tree on may;
+      in_quote =
+          λ on may. text-quoted c.args.options.now c.args.value.now c.in_ok-events.events.items c.requires.built
+          read.tree on may;
       events_are = read.events_are;
       tiles = tiled.0;
       blocks_are = tiled.1 ∙ read.blocks_are;
-      held = blocks-held c.args.value.now tiled.0.blocks tiled.0.covers tiled.0.block_list.pieces_are tiled.0.block_list.chunks;
+      held =
+          blocks-held c.args.value.now tiled.0.blocks tiled.0.covers tiled.0.block_list.pieces_are
+          tiled.0.block_list.chunks;
       grammar = read.grammar;
       pieces_are = read.pieces_are;
       endings = read.endings;

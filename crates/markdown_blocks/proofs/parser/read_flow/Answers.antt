@@ -5,4 +5,6 @@ use Rattle.markdown_blocks.proofs.parser.read_flow.Goals as goal
 
 pub returns : goal.returns
 returns c =
-    flow-reads-from _ c.args.bytes.now c.args.options.now c.args.start _ _ _ _ _ _ eq-turned c.new-tokenizer.ensures refl (omega (arith, c.requires.small)) (c.push.ensures.runs c.in_default.not-Error) c.in_ok-found.ensures
+    flow-reads-from _ c.args.bytes.now c.args.options.now c.args.start _ _ _ _ _ _ eq-turned c.new-tokenizer.ensures
+    refl
+    (omega (arith, c.requires.small)) (c.push.ensures.runs c.in_default.not-Error) c.in_ok-found.ensures

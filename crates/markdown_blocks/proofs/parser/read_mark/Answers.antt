@@ -8,4 +8,5 @@ new-tokenizer-requires c = placed-first c.args.bytes.now c.requires
 
 pub returns : goal.returns
 returns c =
-    document-reads-from _ c.args.bytes.now c.args.options.now _ _ _ _ _ _ c.new-tokenizer.ensures refl (omega (arith, c.requires)) (c.push.ensures.runs c.in_default.not-Error) c.in_ok-flush.ensures
+    document-reads-from _ c.args.bytes.now c.args.options.now _ _ _ _ _ _ c.new-tokenizer.ensures refl
+    (omega (arith, c.requires)) (c.push.ensures.runs c.in_default.not-Error) c.in_ok-flush.ensures

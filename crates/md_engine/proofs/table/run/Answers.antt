@@ -32,7 +32,8 @@ pub call-requires-clause-stands : goal.call-requires-clause-stands
 call-requires-clause-stands g c =
     let p = plain_of c.loop-state.state c.in-Next.name c.in-Next.is in
     let st = c.loop-state.invariant.stands (not_error _ _ p) in
-    stands_same g.T.Table.scheme (reading (world c.loop-state.tokenizer)) (world c.see.new.self) (plain c.loop-state.state) (Next c.in-Next.name) (sym c.see.ensures) p st
+    stands_same g.T.Table.scheme (reading (world c.loop-state.tokenizer)) (world c.see.new.self)
+    (plain c.loop-state.state) (Next c.in-Next.name) (sym c.see.ensures) p st
 
 pub stay-requires : goal.stay-requires
 stay-requires g c = c.call.ensures.stands c.in_default.not-Error
@@ -43,9 +44,11 @@ loop-state-smaller g c =
     let S = g.T.Table.scheme in
     let v : World = world c.loop-state.tokenizer in
     let before : work S (world c.call.new.tokenizer) (plain c.call.result) < work S v (plain c.loop-state.state) =
-    falls_same S (world c.call.new.tokenizer) (world c.see.new.self) (reading (world c.loop-state.tokenizer)) (plain c.call.result) (Next c.in-Next.name) (plain c.loop-state.state) c.see.ensures (sym p)
+    falls_same S (world c.call.new.tokenizer) (world c.see.new.self) (reading (world c.loop-state.tokenizer))
+    (plain c.call.result) (Next c.in-Next.name) (plain c.loop-state.state) c.see.ensures (sym p)
     (c.call.ensures.falls c.in_default.not-Error) in
-    let below : work S (world c.stay.new.tokenizer) (plain c.call.result) ≤ work S (world c.call.new.tokenizer) (plain c.call.result) = c.stay.ensures.falls in
+    let below : work S (world c.stay.new.tokenizer) (plain c.call.result) ≤
+    work S (world c.call.new.tokenizer) (plain c.call.result) = c.stay.ensures.falls in
     omega (arith, before, below)
 
 pub loop-state-preserved : goal.loop-state-preserved
@@ -53,9 +56,23 @@ loop-state-preserved g c =
     let p = plain_of c.loop-state.state c.in-Next.name c.in-Next.is in
     let fine = not_error _ _ p in
     let P : World → Type 0 = λ w. g.T.Table.step c.in-Next.name w c.call.result (world c.call.new.tokenizer) in
-    let same : (world c.call.new.tokenizer).setting ≡ (world c.loop-state.tokenizer).setting = c.call.ensures.setting c.in_default.not-Error ∙ ap (λ (w : World). w.setting) c.see.ensures in
+    let same : (world c.call.new.tokenizer).setting ≡
+    (world c.loop-state.tokenizer).setting = c.call.ensures.setting c.in_default.not-Error
+    ∙ ap (λ (w : World). w.setting) c.see.ensures in
     record {
-      runs = λ h. runs-append _ _ _ _ _ _ _ _ (ThenCalls _ _ _ _ (c.loop-state.invariant.runs fine) (record { name = c.in-Next.name; names = p; may = c.if-is_waiting.ensures.goes_on refl; step = subst P c.see.ensures (c.call.ensures.step h); fine = h; setting = same; within = within-world c.loop-state.tokenizer })) (c.stay.ensures.runs c.args.is_end);
+      runs =
+          λ h. runs-append _ _ _ _ _ _ _ _
+          (ThenCalls _ _ _ _ (c.loop-state.invariant.runs fine)
+          (record {
+            name = c.in-Next.name;
+            names = p;
+            may = c.if-is_waiting.ensures.goes_on refl;
+            step = subst P c.see.ensures (c.call.ensures.step h);
+            fine = h;
+            setting = same;
+            within = within-world c.loop-state.tokenizer;
+          }))
+          (c.stay.ensures.runs c.args.is_end);
       stands = λ h. c.stay.ensures.stands;
       setting = λ h. c.stay.ensures.setting ∙ same ∙ c.loop-state.invariant.setting fine;
     }

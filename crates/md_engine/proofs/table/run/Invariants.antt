@@ -7,7 +7,8 @@ use Rattle.md_engine.proofs.table.run.Given as goal
 
 abbrev pub invariant-loop-state : goal.invariant-loop-state
 invariant-loop-state g l = record {
-  runs : l.state ≢ Error → Runs g.T.Table.step l.is_end l.fn.start (world l.initial.tokenizer) l.state (world l.tokenizer);
+  runs : l.state ≢ Error →
+      Runs g.T.Table.step l.is_end l.fn.start (world l.initial.tokenizer) l.state (world l.tokenizer);
   stands : l.state ≢ Error → stands g.T.Table.scheme (world l.tokenizer) (plain l.state);
   setting : l.state ≢ Error → (world l.tokenizer).setting ≡ (world l.initial.tokenizer).setting;
 }

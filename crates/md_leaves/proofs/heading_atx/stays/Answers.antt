@@ -10,9 +10,11 @@ use Rattle.md_seam.proofs.StaysLemmas.{in-line, in-word}
 use Rattle.md_leaves.proofs.heading_atx.stays.Goals as goal
 
 -- text of a heading is taken word by word
-data-takes : (is_name : ResolveName → Bool) → TakesEach Word (n.HeadingAtx its.Data) (heading_transition is_name its.Data)
+data-takes : (is_name : ResolveName → Bool) →
+    TakesEach Word (n.HeadingAtx its.Data) (heading_transition is_name its.Data)
 data-takes is_name w b e h =
-    let text : sees_text (Some b) ≡ true = ap (λ (x : Bool). not (x || nat_eq b 10)) (in-word b h) ∙ ap (λ (x : Bool). not (false || x)) (in-line Word b h) in
+    let text : sees_text (Some b) ≡ true = ap (λ (x : Bool). not (x || nat_eq b 10)) (in-word b h)
+    ∙ ap (λ (x : Bool). not (false || x)) (in-line Word b h) in
     ap (λ (x : Bool). data_code w x (sees_white w.current)) (ap sees_text e ∙ text)
 
 pub returns-in-Data : goal.returns-in-Data

@@ -7,5 +7,7 @@ use Rattle.md_outline.proofs.outline.outline.Given as goal
 abbrev pub invariant-loop-event : goal.invariant-loop-event
 invariant-loop-event l = record {
   bytes : l.reading.bytes ≡ l.state.bytes;
-  reads : IsOutlined l.events l.state.bytes.now → Goes l.state.bytes.now (drop l.event-index l.events) (state_of l.reading) (state_after l.state.bytes.now before_all l.events);
+  reads : IsOutlined l.events l.state.bytes.now →
+      Goes l.state.bytes.now (drop l.event-index l.events) (state_of l.reading)
+      (state_after l.state.bytes.now before_all l.events);
 }

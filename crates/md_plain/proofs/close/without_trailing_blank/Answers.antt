@@ -10,5 +10,9 @@ pub returns : goal.returns
 returns c =
     let count : c.blank_len-count.result ≡ suffix_len (λ (l : Line). is_blank l.text.now) c.args.lines.items =
     c.blank_len-count.ensures.value ∙ ap (suffix_len (λ (l : Line). is_blank l.text.now)) c.deref.ensures.value in
-    ap line_meanings (c.truncate.ensures.items ∙ ap (λ n. take (n - c.blank_len-count.result) c.args.lines.items) (c.len.ensures ∙ sym c.deref.ensures.len ∙ ap length c.deref.ensures.value) ∙ ap (λ n. take (length c.args.lines.items - n) c.args.lines.items) count)
+    ap line_meanings
+    (c.truncate.ensures.items
+    ∙ ap (λ n. take (n - c.blank_len-count.result) c.args.lines.items)
+    (c.len.ensures ∙ sym c.deref.ensures.len ∙ ap length c.deref.ensures.value)
+    ∙ ap (λ n. take (length c.args.lines.items - n) c.args.lines.items) count)
     ∙ without_suffix-map (λ l. is_blank l.text) line_meaning c.args.lines.items

@@ -4,4 +4,5 @@ use Rattle.plain_grammars.proofs.LabelLemmas.{label_behind}
 use Rattle.md_plain.proofs.containers.label_len.Given as goal
 
 abbrev pub invariant-loop-index : goal.invariant-loop-index
-invariant-loop-index l = footnote_label false l.bytes ≡ label_behind (take l.index l.bytes) (footnote_label l.escaped (drop l.index l.bytes))
+invariant-loop-index l =
+    footnote_label false l.bytes ≡ label_behind (take l.index l.bytes) (footnote_label l.escaped (drop l.index l.bytes))

@@ -9,17 +9,26 @@ use Rattle.md_plain.proofs.grouped.with_list.Goals as goal
 pub returns-then-marker-groups : goal.returns-then-marker-groups
 returns-then-marker-groups c bs =
     let g = c.args.groups in
-    let joined : meanings c.append.new.blocks.items ≡ then_blocks (meanings g.items.items) (meanings c.args.list.items) = ap (λ xs. meanings xs) c.in_ok-append.ensures ∙ meanings-append g.items.items c.args.list.items in
+    let joined : meanings c.append.new.blocks.items ≡
+    then_blocks (meanings g.items.items) (meanings c.args.list.items) = ap
+    (λ xs. meanings xs) c.in_ok-append.ensures
+    ∙ meanings-append g.items.items c.args.list.items in
     ap (λ xs. then_blocks (meanings c.push.new.items.items) (with_items g.marker (meanings xs) bs)) c.new.ensures.items
     ∙ then_blocks-push bs g.done.items c.push.new.items.items _ c.in_ok-push.ensures
-    ∙ ap (λ b. then_blocks (meanings g.done.items) (t.More b bs)) (meaning-ListOf g.marker c.append.new.blocks ∙ ap (t.ListOf g.marker) joined)
-    ∙ ap (then_blocks (meanings g.done.items)) (sym (with_items-list g.marker (meanings g.items.items) (meanings c.args.list.items) bs))
+    ∙ ap (λ b. then_blocks (meanings g.done.items) (t.More b bs))
+    (meaning-ListOf g.marker c.append.new.blocks ∙ ap (t.ListOf g.marker) joined)
+    ∙ ap (then_blocks (meanings g.done.items))
+    (sym (with_items-list g.marker (meanings g.items.items) (meanings c.args.list.items) bs))
     ∙ ap (λ m. then_groups g (t.More (t.ListOf m (meanings c.args.list.items)) bs)) (search rules)
 
 pub returns : goal.returns
 returns c bs =
     let g = c.args.groups in
-    ap (λ xs. then_blocks (meanings c.push-2.new.items.items) (with_items c.args.marker (meanings xs) bs)) c.new-2.ensures.items
+    ap
+    (λ xs.
+    then_blocks (meanings c.push-2.new.items.items) (with_items c.args.marker (meanings xs) bs)) c.new-2.ensures.items
     ∙ then_blocks-push bs c.in_ok-done.done.items c.push-2.new.items.items _ c.in_ok-push-2.ensures
     ∙ ap (λ b. then_blocks (meanings c.in_ok-done.done.items) (t.More b bs)) (meaning-ListOf c.args.marker c.args.list)
-    ∙ flushed-list g.marker c.args.marker (meanings g.done.items) (meanings g.items.items) (meanings c.in_ok-done.done.items) (meanings c.args.list.items) bs c.in_ok-done.ensures (eqb-other c.args.marker g.marker c.if-marker-groups.false)
+    ∙ flushed-list g.marker c.args.marker (meanings g.done.items) (meanings g.items.items)
+    (meanings c.in_ok-done.done.items) (meanings c.args.list.items) bs c.in_ok-done.ensures
+    (eqb-other c.args.marker g.marker c.if-marker-groups.false)

@@ -8,5 +8,6 @@ use Rattle.md_plain.proofs.meaning.blocks_of.Goals as goal
 
 pub loop-rest-preserved : goal.loop-rest-preserved
 loop-rest-preserved c =
-    steps-next c.args.options.now (At (spot_of End)) (path_meaning c.loop-rest.path) (path_meaning c.in_ok-path.path) c.args.rests.now c.rest-item.result c.loop-rest.rest-index
+    steps-next c.args.options.now (At (spot_of End)) (path_meaning c.loop-rest.path)
+    (path_meaning c.in_ok-path.path) c.args.rests.now c.rest-item.result c.loop-rest.rest-index
     (search rules) c.rest-item.is c.loop-rest.invariant c.in_ok-path.ensures

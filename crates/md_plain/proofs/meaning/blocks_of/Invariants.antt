@@ -7,4 +7,5 @@ use Rattle.md_plain.specs.States.{path_meaning}
 use Rattle.md_plain.proofs.meaning.blocks_of.Given as goal
 
 abbrev pub invariant-loop-rest : goal.invariant-loop-rest
-invariant-loop-rest l = path_meaning l.path ≡ steps l.options (At (spot_of End)) (rest_meanings (take l.rest-index l.rests))
+invariant-loop-rest l =
+    path_meaning l.path ≡ steps l.options (At (spot_of End)) (rest_meanings (take l.rest-index l.rests))

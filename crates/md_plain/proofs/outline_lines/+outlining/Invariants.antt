@@ -5,4 +5,6 @@ use Rattle.md_definition.specs.Outline.{entries_of}
 use Rattle.md_plain.proofs.outline_lines.+outlining.Given as goal
 
 abbrev pub invariant-push_blocks-loop-block : goal.invariant-push_blocks-loop-block
-invariant-push_blocks-loop-block l = entries_of l.outline.items ++ outline l.depth (meanings (drop l.block-index l.blocks)) ≡ entries_of l.fn.outline.items ++ outline l.depth (meanings l.blocks)
+invariant-push_blocks-loop-block l =
+    entries_of l.outline.items ++ outline l.depth (meanings (drop l.block-index l.blocks)) ≡
+    entries_of l.fn.outline.items ++ outline l.depth (meanings l.blocks)

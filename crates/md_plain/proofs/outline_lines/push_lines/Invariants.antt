@@ -5,4 +5,6 @@ use Rattle.md_definition.specs.Outline.{entries_of}
 use Rattle.md_plain.proofs.outline_lines.push_lines.Given as goal
 
 abbrev pub invariant-loop-line : goal.invariant-loop-line
-invariant-loop-line l = entries_of l.outline.items ++ line_entries l.depth (line_meanings (drop l.line-index l.lines)) ≡ entries_of l.fn.outline.items ++ line_entries l.depth (line_meanings l.lines)
+invariant-loop-line l =
+    entries_of l.outline.items ++ line_entries l.depth (line_meanings (drop l.line-index l.lines)) ≡
+    entries_of l.fn.outline.items ++ line_entries l.depth (line_meanings l.lines)

@@ -5,4 +5,6 @@ use Rattle.md_definition.specs.Outline.{entries_of}
 use Rattle.md_plain.proofs.outline_lines.push_texts.Given as goal
 
 abbrev pub invariant-loop-text : goal.invariant-loop-text
-invariant-loop-text l = entries_of l.outline.items ++ entries l.depth l.word (slices (drop l.text-index l.texts)) ≡ entries_of l.fn.outline.items ++ entries l.depth l.word (slices l.texts)
+invariant-loop-text l =
+    entries_of l.outline.items ++ entries l.depth l.word (slices (drop l.text-index l.texts)) ≡
+    entries_of l.fn.outline.items ++ entries l.depth l.word (slices l.texts)

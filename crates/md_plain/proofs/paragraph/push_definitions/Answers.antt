@@ -6,5 +6,6 @@ use Rattle.md_plain.proofs.paragraph.push_definitions.Goals as goal
 
 pub loop-defined-preserved : goal.loop-defined-preserved
 loop-defined-preserved c =
-    definitions-next (meanings c.args.blocks.now.items) (meanings c.loop-defined.blocks.items) (meanings c.push_block.new.blocks.items) c.loop-defined.yielded c.in-Some.defined c.loop-defined.invariant
+    definitions-next (meanings c.args.blocks.now.items) (meanings c.loop-defined.blocks.items)
+    (meanings c.push_block.new.blocks.items) c.loop-defined.yielded c.in-Some.defined c.loop-defined.invariant
     (c.in_ok-push_block.ensures ∙ ap (then_block (meanings c.loop-defined.blocks.items)) c.definition_block.ensures)

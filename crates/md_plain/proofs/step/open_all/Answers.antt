@@ -7,11 +7,17 @@ use Rattle.md_plain.proofs.step.open_all.Goals as goal
 
 pub returns-in_default : goal.returns-in_default
 returns-in_default c =
-    ap (within c.loop-count.frames.items) (sym (opened-none c.args.options.now (length c.args.rest.bytes.now - c.loop-count.count) (rest_meaning c.loop-count.left) (sym c.opens.ensures ∙ ap taken_option c.in_default.is)))
+    ap (within c.loop-count.frames.items)
+    (sym
+    (opened-none c.args.options.now (length c.args.rest.bytes.now - c.loop-count.count)
+    (rest_meaning c.loop-count.left) (sym c.opens.ensures ∙ ap taken_option c.in_default.is)))
     ∙ c.loop-count.invariant
 
 pub loop-count-preserved : goal.loop-count-preserved
 loop-count-preserved c =
-    opened-next c.args.options.now c.loop-count.frames.items c.push.new.items.items (record { before = c.new.result; container = c.in-Some.next.container }) (length c.args.rest.bytes.now) c.loop-count.count
-    (rest_meaning c.loop-count.left) (rest_meaning c.in-Some.next.rest) c.loop-count-test.true c.in_ok-push.ensures (ap (λ xs. meanings xs) c.new.ensures.items) (sym c.opens.ensures ∙ ap taken_option c.in-Some.is)
+    opened-next c.args.options.now c.loop-count.frames.items c.push.new.items.items
+    (record { before = c.new.result; container = c.in-Some.next.container })
+    (length c.args.rest.bytes.now) c.loop-count.count
+    (rest_meaning c.loop-count.left) (rest_meaning c.in-Some.next.rest) c.loop-count-test.true c.in_ok-push.ensures
+    (ap (λ xs. meanings xs) c.new.ensures.items) (sym c.opens.ensures ∙ ap taken_option c.in-Some.is)
     ∙ c.loop-count.invariant

@@ -9,5 +9,7 @@ abbrev pub invariant-loop-index : goal.invariant-loop-index
 invariant-loop-index l = record {
   count : length l.path.frames.items ≡ length l.initial.path.frames.items;
   path : definition.step l.options (path_meaning l.fn.path) (rest_meaning l.fn.rest)
-      ≡ within (take l.index l.path.frames.items) (definition.step l.options (within (drop l.index l.path.frames.items) (At (spot_meaning l.path.spot))) (rest_meaning l.rest));
+      ≡ within (take l.index l.path.frames.items)
+      (definition.step l.options (within (drop l.index l.path.frames.items) (At (spot_meaning l.path.spot)))
+      (rest_meaning l.rest));
 }

@@ -7,4 +7,5 @@ use Rattle.md_program.proofs.print.push_lines.Given as goal
 -- the lines so far
 abbrev pub invariant-loop-line : goal.invariant-loop-line
 invariant-loop-line l =
-    string_bytes l.text ≡ string_bytes l.initial.text ++ flat_map printed_line (map entry_of (take l.line-index l.lines))
+    string_bytes l.text ≡
+    string_bytes l.initial.text ++ flat_map printed_line (map entry_of (take l.line-index l.lines))

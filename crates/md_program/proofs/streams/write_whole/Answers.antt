@@ -4,7 +4,8 @@ use Rattle.std.proofs.KnownBytes.{Appends-trans}
 use Rattle.md_program.proofs.streams.write_whole.Goals as goal
 
 -- the front grows by what the rest loses
-moved : (all front rest : List ℕ) (n : ℕ) → all ≡ front ++ rest → all ≡ (front ++ take n rest) ++ take (length rest - n) (drop n rest)
+moved : (all front rest : List ℕ) (n : ℕ) → all ≡ front ++ rest →
+    all ≡ (front ++ take n rest) ++ take (length rest - n) (drop n rest)
 moved all front rest n split =
     split
     ∙ ap (λ bs. front ++ bs) (sym (take-append-drop n rest))

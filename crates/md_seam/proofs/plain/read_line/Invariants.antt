@@ -10,7 +10,10 @@ abbrev pub invariant-loop-tokenizer : goal.invariant-loop-tokenizer
 invariant-loop-tokenizer l = record {
   within : l.end ≤ length l.tokenizer.bytes.now;
   moved : world l.tokenizer ≡ record (world l.initial.tokenizer) { point = l.tokenizer.point };
-  line : past_text (without_ending (slice_range l.tokenizer.bytes.now l.tokenizer.point.index l.end)) l.tokenizer.point ≡ past_text (without_ending (slice_range l.initial.tokenizer.bytes.now l.initial.tokenizer.point.index l.end)) l.initial.tokenizer.point;
+  line : past_text
+      (without_ending (slice_range l.tokenizer.bytes.now l.tokenizer.point.index l.end)) l.tokenizer.point ≡
+      past_text
+      (without_ending (slice_range l.initial.tokenizer.bytes.now l.initial.tokenizer.point.index l.end)) l.initial.tokenizer.point;
 }
 
 abbrev pub decreases-loop-tokenizer : goal.decreases-loop-tokenizer

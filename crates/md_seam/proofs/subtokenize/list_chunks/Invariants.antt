@@ -5,7 +5,8 @@ use Rattle.md_seam.proofs.subtokenize.list_chunks.Given as goal
 abbrev pub invariant-loop-at : goal.invariant-loop-at
 invariant-loop-at g l = record {
   within : l.at ≤ length l.events;
-  chunks : l.chunks.items ++ chunks_behind (g.R.Reader.wants l.reader) (drop l.at l.events) ≡ chunks_from (g.R.Reader.wants l.reader) l.events;
+  chunks : l.chunks.items ++ chunks_behind (g.R.Reader.wants l.reader) (drop l.at l.events) ≡
+      chunks_from (g.R.Reader.wants l.reader) l.events;
 }
 
 abbrev pub decreases-loop-at : goal.decreases-loop-at

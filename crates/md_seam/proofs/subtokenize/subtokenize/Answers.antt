@@ -12,16 +12,23 @@ use Rattle.md_seam.proofs.ReadingLemmas.{placed-place}
 use Rattle.md_seam.specs.Substituted.{stays}
 use Rattle.md_seam.proofs.SubstitutedLemmas.{leads-all, leads-first, leads-part, leads-stays}
 use Rattle.md_seam.proofs.subtokenize.subtokenize.Goals as goal
-use Rattle.md_seam.proofs.subtokenize.subtokenize.Goals.{in_default-via-in-Some+else-at-events, in_default-via-in_default}
+use Rattle.md_seam.proofs.subtokenize.subtokenize.Goals.{in_default-via-in-Some+else-at-events}
+use Rattle.md_seam.proofs.subtokenize.subtokenize.Goals.{in_default-via-in_default}
 
 -- what indexing gives past the end of a list
 abbrev unset : Event
-unset = record { kind = Enter; name = Frontmatter; point = record { line = 0; column = 0; index = 0; vs = 0 }; link = None }
+unset = record {
+  kind = Enter;
+  name = Frontmatter;
+  point = record { line = 0; column = 0; index = 0; vs = 0 };
+  link = None;
+}
 
 pub loop-at-init : goal.loop-at-init
 loop-at-init g c = record {
   all = rw c.requires.empty (All-nil (λ (e : Event). IsPlaced (g.R.Reader.text c.args.reader.now) e.point));
-  found = rw c.nothing-found.ensures.events (All-nil (λ (e : Event). IsPlaced (g.R.Reader.text c.args.reader.now) e.point));
+  found =
+      rw c.nothing-found.ensures.events (All-nil (λ (e : Event). IsPlaced (g.R.Reader.text c.args.reader.now) e.point));
   substituted =
       leads-first (g.R.Reader.wants c.args.reader.now)
       (g.R.Reader.reads_as c.args.reader.now) c.args.events.now _ _ _ _ c.nothing-found.ensures.events c.nothing-found.ensures.placed c.nothing-found.ensures.chunks c.requires.empty;
@@ -30,11 +37,14 @@ loop-at-init g c = record {
 pub loop-at-preserved-then-at-events : goal.loop-at-preserved-then-at-events
 loop-at-preserved-then-at-events g c = record {
   all =
-      placed-place (g.R.Reader.text c.args.reader.now) _ _ _ _ _ c.in_ok-place-in-Some.ensures.placed c.loop-at.invariant.all c.in_ok-found-in-Some.ensures.placed;
+      placed-place
+      (g.R.Reader.text c.args.reader.now) _ _ _ _ _ c.in_ok-place-in-Some.ensures.placed c.loop-at.invariant.all c.in_ok-found-in-Some.ensures.placed;
   found = rw c.place.ensures.same c.in_ok-found-in-Some.ensures.placed;
   substituted =
       let begun = c.in_ok-found-in-Some.ensures.begun in
-      leads-part (g.R.Reader.wants c.args.reader.now) (g.R.Reader.reads_as c.args.reader.now) c.args.events.now _ _ _ _ _ _ _ _ _ c.loop-at.at _ c.in-Some.content c.if-at-events.true (take_rest c.args.events.now c.loop-at.at) c.in-Some.ensures begun c.in_ok-place-in-Some.ensures.chunks c.in_ok-place-in-Some.ensures.placed c.in_ok-place-in-Some.ensures.left c.loop-at.invariant.substituted;
+      leads-part (g.R.Reader.wants c.args.reader.now)
+      (g.R.Reader.reads_as c.args.reader.now) c.args.events.now _ _ _ _ _ _ _ _ _ c.loop-at.at _ c.in-Some.content c.if-at-events.true
+      (take_rest c.args.events.now c.loop-at.at) c.in-Some.ensures begun c.in_ok-place-in-Some.ensures.chunks c.in_ok-place-in-Some.ensures.placed c.in_ok-place-in-Some.ensures.left c.loop-at.invariant.substituted;
 }
 
 pub loop-at-preserved : goal.loop-at-preserved
@@ -65,4 +75,7 @@ loop-at-preserved g c =
     }
 
 pub returns-clause-substituted : goal.returns-clause-substituted
-returns-clause-substituted g c = leads-all (g.R.Reader.wants c.args.reader.now) (g.R.Reader.reads_as c.args.reader.now) c.args.events.now _ _ _ c.loop-at.at (omega arith) c.loop-at.invariant.substituted
+returns-clause-substituted g c =
+    leads-all (g.R.Reader.wants c.args.reader.now)
+    (g.R.Reader.reads_as c.args.reader.now) c.args.events.now _ _ _ c.loop-at.at
+    (omega arith) c.loop-at.invariant.substituted

@@ -8,7 +8,10 @@ abbrev pub invariant-loop-at : goal.invariant-loop-at
 invariant-loop-at g l = record {
   all : ArePlaced (g.R.Reader.text l.reader) l.all.items;
   found : ArePlaced (g.R.Reader.text l.reader) l.found.events.items;
-  substituted : (out : List Event) → Substituted (g.R.Reader.wants l.reader) (g.R.Reader.reads_as l.reader) (drop l.found.placed l.found.events.items) l.found.chunks (drop l.at l.events) out → Substituted (g.R.Reader.wants l.reader) (g.R.Reader.reads_as l.reader) [] 0 l.events (l.all.items ++ out);
+  substituted : (out : List Event) →
+      Substituted (g.R.Reader.wants l.reader) (g.R.Reader.reads_as l.reader)
+      (drop l.found.placed l.found.events.items) l.found.chunks (drop l.at l.events) out →
+      Substituted (g.R.Reader.wants l.reader) (g.R.Reader.reads_as l.reader) [] 0 l.events (l.all.items ++ out);
 }
 
 abbrev pub decreases-loop-at : goal.decreases-loop-at

@@ -7,4 +7,6 @@ use Rattle.plain_grammars.proofs.html.is_basic_name.Goals as goal
 
 pub returns : goal.returns
 unfolding is_basic_name
-returns c = any_from_yields_List (λ (k : Bor (List ℕ)). str_eq_ignore_ascii_case k.now c.args.name.now) _ _ _ c.any.ensures.ran (YieldsList-from_slice _ c.iter.ensures.rest) (λ x b q k. search (rules, tests))
+returns c =
+    any_from_yields_List (λ (k : Bor (List ℕ)). str_eq_ignore_ascii_case k.now c.args.name.now) _ _ _ c.any.ensures.ran
+    (YieldsList-from_slice _ c.iter.ensures.rest) (λ x b q k. search (rules, tests))

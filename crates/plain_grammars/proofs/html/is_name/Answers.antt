@@ -3,4 +3,5 @@ use Rattle.std.proofs.lemmas.Slice.Eq.{bytes_eq-Decides}
 use Rattle.plain_grammars.proofs.html.is_name.Goals as goal
 
 pub returns : goal.returns
-returns c = rw (← c.as_bytes.ensures.value) (same_from_decides _ _ c.eq_ignore_ascii_case.ensures.test (bytes_eq-Decides _ _))
+returns c =
+    rw (← c.as_bytes.ensures.value) (same_from_decides _ _ c.eq_ignore_ascii_case.ensures.test (bytes_eq-Decides _ _))

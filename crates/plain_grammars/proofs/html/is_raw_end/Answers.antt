@@ -6,4 +6,6 @@ use Rattle.plain_grammars.proofs.html.is_raw_end.Goals as goal
 
 pub returns : goal.returns
 unfolding is_raw_end
-returns c = any_from_yields_List (λ (k : Bor (List ℕ)). starts_in_any_case c.args.rest.now k.now) _ _ _ c.any.ensures.ran (YieldsList-from_slice _ c.iter.ensures.rest) (λ x b q k. search (rules, tests))
+returns c =
+    any_from_yields_List (λ (k : Bor (List ℕ)). starts_in_any_case c.args.rest.now k.now) _ _ _ c.any.ensures.ran
+    (YieldsList-from_slice _ c.iter.ensures.rest) (λ x b q k. search (rules, tests))

@@ -5,4 +5,6 @@ use Rattle.plain_grammars.specs.Trees.{meanings}
 use Rattle.plain_grammars.proofs.label.+labelling.Given as goal
 
 abbrev pub invariant-push_blocks-loop-block : goal.invariant-push_blocks-loop-block
-invariant-push_blocks-loop-block l = both (labels_meaning l.labels) (labels (meanings (drop l.block-index l.blocks))) ≡ both (labels_meaning l.fn.labels) (labels (meanings l.blocks))
+invariant-push_blocks-loop-block l =
+    both (labels_meaning l.labels) (labels (meanings (drop l.block-index l.blocks))) ≡
+    both (labels_meaning l.fn.labels) (labels (meanings l.blocks))

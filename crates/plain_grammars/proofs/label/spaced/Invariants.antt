@@ -5,4 +5,6 @@ use Rattle.plain_grammars.specs.Words.{with_words}
 use Rattle.plain_grammars.proofs.label.spaced.Given as goal
 
 abbrev pub invariant-loop-line : goal.invariant-loop-line
-invariant-loop-line l = with_words l.text.items (flat_map words (texts (drop l.line-index l.lines))) ≡ with_words [] (flat_map words (texts l.lines))
+invariant-loop-line l =
+    with_words l.text.items (flat_map words (texts (drop l.line-index l.lines))) ≡
+    with_words [] (flat_map words (texts l.lines))

@@ -4,7 +4,8 @@ use Rattle.std.proofs.lemmas.List.{length-map}
 use Rattle.std.proofs.lemmas.List.Folds.{list_all-map}
 use Rattle.md_definition.specs.Table.{is_delimiter, delimiter_columns}
 use Rattle.plain_grammars.proofs.table.delimiter_columns.Goals as goal
-use Rattle.plain_grammars.proofs.table.delimiter_columns.Goals.{else-has_mark-via-then-has_mark+else-are_delimiters, else-has_mark-via-else-has_mark}
+use Rattle.plain_grammars.proofs.table.delimiter_columns.Goals.{else-has_mark-via-then-has_mark+else-are_delimiters}
+use Rattle.plain_grammars.proofs.table.delimiter_columns.Goals.{else-has_mark-via-else-has_mark}
 
 pub returns-then-are_delimiters : goal.returns-then-are_delimiters
 unfolding delimiter_columns
@@ -21,5 +22,7 @@ returns c = rw (← c.in_ok-cells.ensures, list_all-map) (elim c.else-has_mark.b
       let marked : list_any (λ b. (b == 58) || (b == 124)) c.args.row.now ≡ true = cc in
       let all : list_all (λ y. is_delimiter y.now) c.in_ok-cells.cells.items ≡ false = cc in
       rw (marked, all) refl
-  | else-has_mark-via-else-has_mark w ↦ (let marked : list_any (λ b. (b == 58) || (b == 124)) c.args.row.now ≡ false = cc in rw marked refl)
+  | else-has_mark-via-else-has_mark w ↦ (let marked : list_any (λ b. (b == 58) || (b == 124)) c.args.row.now ≡
+      false = cc in
+      rw marked refl)
 ])

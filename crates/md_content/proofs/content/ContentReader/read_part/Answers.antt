@@ -15,7 +15,9 @@ pub loop-chunk-init : goal.loop-chunk-init
 loop-chunk-init c =
     let v : world c.new-tokenizer.result ≡
     fresh c.args.self.now.bytes.now c.args.self.now.options.now (first_of c.args.chunks.now) =
-    c.new-tokenizer.ensures ∙ ap (fresh c.args.self.now.bytes.now c.args.self.now.options.now) (first-at c.args.chunks.now _ c.requires.some) in
+    c.new-tokenizer.ensures
+    ∙ ap (fresh c.args.self.now.bytes.now c.args.self.now.options.now)
+    (first-at c.args.chunks.now _ c.requires.some) in
     let w = c.set_events.ensures ∙ without-events _ _ _ v refl c.clear.ensures.items in
     record {
       bytes = ap (λ (x : World). x.setting.bytes) w;
@@ -31,7 +33,8 @@ loop-chunk-init c =
         ∙ ap (λ (l : List Event). record y { events = l }) (empty ∙ sym none)
 
 pub define_skip-requires : goal.define_skip-requires
-define_skip-requires c = rw c.loop-chunk.invariant.bytes (c.requires.each c.loop-chunk.chunk-index _ (omega arith)).first
+define_skip-requires c =
+    rw c.loop-chunk.invariant.bytes (c.requires.each c.loop-chunk.chunk-index _ (omega arith)).first
 
 pub loop-chunk-preserved : goal.loop-chunk-preserved
 loop-chunk-preserved c =
@@ -45,15 +48,23 @@ loop-chunk-preserved c =
 
 pub returns : goal.returns
 returns c =
-    let kept = flushes-setting _ _ _ _ _ _ _ (record { setting = λ n w f v r. ap (λ (x : World). x.setting) r.1 }) c.in_ok-flush.ensures in
+    let kept = flushes-setting _ _ _ _ _ _ _
+    (record { setting = λ n w f v r. ap (λ (x : World). x.setting) r.1 }) c.in_ok-flush.ensures in
     let pushed = c.push.ensures.setting c.in_default.not-Error in
-    let same : c.flush.new.tokenizer.bytes.now ≡ c.args.self.now.bytes.now = ap (λ (x : Setting). x.bytes) kept ∙ ap (λ (x : Setting). x.bytes) pushed ∙ c.loop-chunk.invariant.bytes in
+    let same : c.flush.new.tokenizer.bytes.now ≡ c.args.self.now.bytes.now = ap (λ (x : Setting). x.bytes) kept
+    ∙ ap (λ (x : Setting). x.bytes) pushed ∙ c.loop-chunk.invariant.bytes in
     let count : length c.args.chunks.now ≡ suc (length c.args.chunks.now - 1) = omega (arith, c.requires.some) in
-    let read = part-read _ _ _ _ _ _ _ _ _ _ _ c.loop-chunk-test.false c.loop-chunk.invariant.skips (end-at _ _ _ count) (small-at _ _ _ _ c.requires (omega arith)) (c.push.ensures.runs c.in_default.not-Error) pushed (λ n old m v r. r.1) c.in_ok-flush.ensures in
+    let read = part-read _ _ _ _ _ _ _ _ _ _ _ c.loop-chunk-test.false c.loop-chunk.invariant.skips (end-at _ _ _ count)
+    (small-at _ _ _ _ c.requires (omega arith)) (c.push.ensures.runs c.in_default.not-Error) pushed
+    (λ n old m v r. r.1) c.in_ok-flush.ensures in
     let sound = rw same at c.flush.new.tokenizer.sound.right in
-    let back = written c.settle.new.events c.flush.new.tokenizer.events.items c.flush.new.tokenizer.events.len (c.settle.auto.events ∙ c.deref_mut.ensures.len) in
+    let back = written c.settle.new.events c.flush.new.tokenizer.events.items c.flush.new.tokenizer.events.len
+    (c.settle.auto.events ∙ c.deref_mut.ensures.len) in
     record {
-      placed = subst (ArePlaced c.args.self.now.bytes.now) (sym back) (c.settle.ensures.placed c.args.self.now.bytes.now c.requires (subst (ArePlaced c.args.self.now.bytes.now) (sym c.deref_mut.ensures.value) sound));
+      placed =
+          subst (ArePlaced c.args.self.now.bytes.now) (sym back)
+          (c.settle.ensures.placed c.args.self.now.bytes.now c.requires
+          (subst (ArePlaced c.args.self.now.bytes.now) (sym c.deref_mut.ensures.value) sound));
       events = back ∙ c.settle.ensures.settled ∙ ap (settled c.args.chunks.now) c.deref_mut.ensures.value ∙ read;
     }
   where

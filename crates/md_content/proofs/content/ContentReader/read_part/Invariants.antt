@@ -9,5 +9,6 @@ invariant-loop-chunk l = record {
   bytes : (world l.tokenizer).setting.bytes ≡ l.self.bytes.now;
   scratch : IsRest (world l.tokenizer).scratch;
   frames : (world l.tokenizer).frames ≡ [];
-  skips : skipping_all (world l.tokenizer) (drop l.chunk-index l.chunks) ≡ skipping_all (fresh l.self.bytes.now l.self.options.now (first_of l.chunks)) l.chunks;
+  skips : skipping_all (world l.tokenizer) (drop l.chunk-index l.chunks) ≡
+      skipping_all (fresh l.self.bytes.now l.self.options.now (first_of l.chunks)) l.chunks;
 }

@@ -2,10 +2,19 @@ use Rattle.md_engine.proofs.Sound.{sound-moved, sound-skip_if}
 use Rattle.md_engine.proofs.tokenizer.Tokenizer.define_skip.Goals as goal
 
 pub invariant_of-self-then-self-point-2 : goal.invariant_of-self-then-self-point-2
-invariant_of-self-then-self-point-2 c = record { sound = sound-moved _ _ c.args.point _ _ _ _ (sound-skip_if _ _ c.args.point _ _ _ _ _ _ c.args.self.now.sound c.requires c.push.ensures.items) c.requires }
+invariant_of-self-then-self-point-2 c = record {
+  sound = sound-moved _ _ c.args.point _ _ _ _
+      (sound-skip_if _ _ c.args.point _ _ _ _ _ _ c.args.self.now.sound c.requires c.push.ensures.items) c.requires;
+}
 
 pub invariant_of-self-else-self-point-2 : goal.invariant_of-self-else-self-point-2
-invariant_of-self-else-self-point-2 c = record { sound = sound-skip_if _ _ c.args.point _ _ _ _ _ _ c.args.self.now.sound c.requires c.push.ensures.items }
+invariant_of-self-else-self-point-2 c = record {
+  sound = sound-skip_if _ _ c.args.point _ _ _ _ _ _
+      c.args.self.now.sound c.requires c.push.ensures.items;
+}
 
 pub invariant_of-self-else-self-point : goal.invariant_of-self-else-self-point
-invariant_of-self-else-self-point c = record { sound = sound-skip_if _ _ c.args.point _ _ _ _ _ _ c.args.self.now.sound c.requires c.push.ensures.items }
+invariant_of-self-else-self-point c = record {
+  sound = sound-skip_if _ _ c.args.point _ _ _ _ _ _ c.args.self.now.sound
+      c.requires c.push.ensures.items;
+}

@@ -14,4 +14,5 @@ pub returns-clause-outer : goal.returns-clause-outer
 returns-clause-outer c = outer-popped _ _ _ _ _ _ _ _ c.args.self.now.sound c.pop.ensures.items
 
 pub returns-clause-same : goal.returns-clause-same
-returns-clause-same c = same-popped (λ (fs : List Frame). record (world c.args.self.now) { frames = reverse fs }) _ _ _ c.pop.ensures.items
+returns-clause-same c =
+    same-popped (λ (fs : List Frame). record (world c.args.self.now) { frames = reverse fs }) _ _ _ c.pop.ensures.items

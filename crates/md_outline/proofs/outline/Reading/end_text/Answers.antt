@@ -7,7 +7,8 @@ pub returns-in-Block-clause-read : goal.returns-in-Block-clause-read
 returns-in-Block-clause-read c =
     on_ok-map c.push_block.result
     (λ reads cut.
-    block-end c.args.self.now.bytes.now c.part-text.result.now c.in-Some.span c.args.end c.args.self.now.text c.args.purpose
+    block-end c.args.self.now.bytes.now c.part-text.result.now c.in-Some.span c.args.end c.args.self.now.text
+    c.args.purpose
     (state_of c.args.self.now) (entries_of c.push_block.new.lines.items)
     c.in-Some.is c.in-Block.is cut c.part-text.ensures reads)
     c.push_block.ensures

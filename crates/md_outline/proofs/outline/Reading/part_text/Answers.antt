@@ -7,6 +7,7 @@ pub returns-clause-read : goal.returns-clause-read
 returns-clause-read c =
     on_ok-map c.push_piece.result
     (λ reads cut.
-    piece-end c.args.self.now.bytes.now c.part-text.result.now c.in-Some.span c.args.end c.args.self.now.text (state_of c.args.self.now) (entries_of c.push_piece.new.lines.items)
+    piece-end c.args.self.now.bytes.now c.part-text.result.now c.in-Some.span c.args.end c.args.self.now.text
+    (state_of c.args.self.now) (entries_of c.push_piece.new.lines.items)
     c.in-Some.is cut c.part-text.ensures reads)
     c.push_piece.ensures

@@ -6,5 +6,6 @@ use Rattle.md_outline.proofs.outline.lines.line_text.Goals as goal
 
 pub returns : goal.returns
 returns c = λ u.
-    let rest : c.split_at.result.1.now ≡ trim_start c.args.line.now = c.split_at.ensures.back ∙ ap (λ n. drop n c.args.line.now) c.white_len.ensures.value in
+    let rest : c.split_at.result.1.now ≡ trim_start c.args.line.now = c.split_at.ensures.back
+    ∙ ap (λ n. drop n c.args.line.now) c.white_len.ensures.value in
     c.text_of.ensures (subst IsUtf8 (sym rest) (utf8-trim c.args.line.now u)) ∙ rest

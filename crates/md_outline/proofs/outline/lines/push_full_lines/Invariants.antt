@@ -9,7 +9,8 @@ use Rattle.md_outline.proofs.outline.lines.push_full_lines.Given as goal
 abbrev pub invariant-rest : goal.invariant-rest
 invariant-rest l =
     IsUtf8 l.text → IsUtf8 l.left ×
-    ((entries_of l.lines.items ++ full_entries l.depth l.left ≡ entries_of l.initial.lines.items ++ full_entries l.depth l.text) ×
+    ((entries_of l.lines.items ++ full_entries l.depth l.left ≡
+    entries_of l.initial.lines.items ++ full_entries l.depth l.text) ×
     (last_line (split_lines l.left) ≡ last_line (split_lines l.text)))
 
 abbrev pub decreases-rest : goal.decreases-rest

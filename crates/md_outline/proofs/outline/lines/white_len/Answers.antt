@@ -8,4 +8,8 @@ use Rattle.md_outline.proofs.outline.lines.white_len.Goals as goal
 
 pub returns-clause-value : goal.returns-clause-value
 returns-clause-value c =
-    count_from_yields_List c.take_while.result _ c.count.ensures.ran (YieldsList-from_take_while _ is_white (YieldsList-from_slice c.args.bytes.now (cc)) c.take_while.ensures.closure c.take_while.ensures.done (λ x b q k. search (rules, tests))) ∙ length-prefix_len is_white c.args.bytes.now
+    count_from_yields_List c.take_while.result _ c.count.ensures.ran
+    (YieldsList-from_take_while _ is_white
+    (YieldsList-from_slice c.args.bytes.now (cc)) c.take_while.ensures.closure c.take_while.ensures.done
+    (λ x b q k. search (rules, tests)))
+    ∙ length-prefix_len is_white c.args.bytes.now

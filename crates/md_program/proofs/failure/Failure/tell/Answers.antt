@@ -5,7 +5,8 @@ use Rattle.md_program.proofs.failure.Failure.tell.Goals as goal
 pub returns-in_err-write_whole : goal.returns-in_err-write_whole
 returns-in_err-write_whole g c =
     let held = g.E.Write.contents in
-    begins-first (held c.args.errors.now) (held c.write_whole.new.output) c.as_bytes.result.now _ _ c.as_bytes.ensures.value
+    begins-first (held c.args.errors.now)
+    (held c.write_whole.new.output) c.as_bytes.result.now _ _ c.as_bytes.ensures.value
     c.in_err-write_whole.ensures.1
 
 pub returns : goal.returns

@@ -6,7 +6,10 @@ use Rattle.md_seam.proofs.plain.PlainInline.read.Goals as goal
 
 -- what indexing gives past the end of a list
 abbrev unset : Chunk
-unset = record { first = record { line = 0; column = 0; index = 0; vs = 0 }; after = record { line = 0; column = 0; index = 0; vs = 0 } }
+unset = record {
+  first = record { line = 0; column = 0; index = 0; vs = 0 };
+  after = record { line = 0; column = 0; index = 0; vs = 0 };
+}
 
 pub new-tokenizer-requires : goal.new-tokenizer-requires
 new-tokenizer-requires c = (c.requires.each 0 _ c.requires.some).first
@@ -19,17 +22,24 @@ loop-chunk-init c = record {
 }
 
 pub read_chunk-requires-clause-chunk : goal.read_chunk-requires-clause-chunk
-read_chunk-requires-clause-chunk c = rw c.loop-chunk.invariant.bytes (c.requires.each c.loop-chunk.chunk-index _ (omega arith))
+read_chunk-requires-clause-chunk c =
+    rw c.loop-chunk.invariant.bytes (c.requires.each c.loop-chunk.chunk-index _ (omega arith))
 
 pub loop-chunk-preserved : goal.loop-chunk-preserved
 loop-chunk-preserved c = record {
   bytes = ap (λ (x : Setting). x.bytes) c.in_ok-read_chunk.ensures.setting ∙ c.loop-chunk.invariant.bytes;
   skips = ap (λ (x : Setting). x.skips) c.in_ok-read_chunk.ensures.setting ∙ c.loop-chunk.invariant.skips;
-  events = chunks-more c.args.state.now.bytes.now c.loop-chunk.tokenizer.bytes.now c.args.chunks.now c.loop-chunk.chunk-index unset c.loop-chunk.tokenizer.events.items c.read_chunk.new.tokenizer.events.items (omega arith) c.loop-chunk.invariant.bytes c.loop-chunk.invariant.events c.in_ok-read_chunk.ensures.events;
+  events =
+      chunks-more c.args.state.now.bytes.now c.loop-chunk.tokenizer.bytes.now c.args.chunks.now c.loop-chunk.chunk-index
+      unset c.loop-chunk.tokenizer.events.items c.read_chunk.new.tokenizer.events.items
+      (omega arith) c.loop-chunk.invariant.bytes c.loop-chunk.invariant.events c.in_ok-read_chunk.ensures.events;
 }
 
 pub returns : goal.returns
 returns c = record {
   placed = rw c.loop-chunk.invariant.bytes at c.loop-chunk.tokenizer.sound.right;
-  reading = chunks-all c.args.state.now.bytes.now c.args._kind c.args.chunks.now c.loop-chunk.chunk-index c.loop-chunk.tokenizer.events.items (omega arith) c.loop-chunk.invariant.events;
+  reading =
+      chunks-all c.args.state.now.bytes.now c.args._kind c.args.chunks.now c.loop-chunk.chunk-index
+      c.loop-chunk.tokenizer.events.items
+      (omega arith) c.loop-chunk.invariant.events;
 }

@@ -4,4 +4,5 @@ use Rattle.md_seam.proofs.subtokenize.Found.or_read.Goals as goal
 pub read-requires : goal.read-requires
 read-requires g c =
     rw (c.deref.ensures.value, c.in_ok-list_chunks.ensures)
-    (chunks-placed (g.R.Reader.text c.args.reader.now) (g.R.Reader.wants c.args.reader.now) c.args.events.now c.requires.placed c.requires.within)
+    (chunks-placed (g.R.Reader.text c.args.reader.now)
+    (g.R.Reader.wants c.args.reader.now) c.args.events.now c.requires.placed c.requires.within)

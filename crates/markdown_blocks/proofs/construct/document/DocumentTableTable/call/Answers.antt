@@ -7,14 +7,17 @@ use Rattle.markdown_blocks.proofs.construct.document.DocumentTableTable.call.Goa
 pub returns-clause-stands : goal.returns-clause-stands
 returns-clause-stands c = λ fine.
     let w = world c.args.tokenizer.now in
-    does-stands document_table_scheme c.args.name w _ _ _ (c.call_state.ensures.to fine) (c.call_state.ensures.world fine) (document_does c.args.name w c.requires.current c.requires.stands)
+    does-stands document_table_scheme c.args.name w _ _ _ (c.call_state.ensures.to fine)
+    (c.call_state.ensures.world fine) (document_does c.args.name w c.requires.current c.requires.stands)
 
 pub returns-clause-falls : goal.returns-clause-falls
 returns-clause-falls c = λ fine.
     let w = world c.args.tokenizer.now in
-    does-fall document_table_scheme c.args.name w _ _ _ (c.call_state.ensures.to fine) (c.call_state.ensures.world fine) (document_does c.args.name w c.requires.current c.requires.stands)
+    does-fall document_table_scheme c.args.name w _ _ _ (c.call_state.ensures.to fine) (c.call_state.ensures.world fine)
+    (document_does c.args.name w c.requires.current c.requires.stands)
 
 pub returns-clause-setting : goal.returns-clause-setting
 returns-clause-setting c = λ fine.
     let w = world c.args.tokenizer.now in
-    does-setting document_table_scheme c.args.name w _ _ (c.call_state.ensures.world fine) (document_does c.args.name w c.requires.current c.requires.stands)
+    does-setting document_table_scheme c.args.name w _ _ (c.call_state.ensures.world fine)
+    (document_does c.args.name w c.requires.current c.requires.stands)

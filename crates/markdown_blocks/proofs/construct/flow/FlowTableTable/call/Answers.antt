@@ -14,14 +14,17 @@ is_name target other = names.ghosts.eq other target
 pub returns-clause-stands : goal.returns-clause-stands
 returns-clause-stands c = λ fine.
     let w = world c.args.tokenizer.now in
-    does-stands flow_table_scheme c.args.name w _ _ _ (c.call_state.ensures.to fine) (c.call_state.ensures.world fine) (flow_does is_name c.args.name w c.requires.current c.requires.stands)
+    does-stands flow_table_scheme c.args.name w _ _ _ (c.call_state.ensures.to fine) (c.call_state.ensures.world fine)
+    (flow_does is_name c.args.name w c.requires.current c.requires.stands)
 
 pub returns-clause-falls : goal.returns-clause-falls
 returns-clause-falls c = λ fine.
     let w = world c.args.tokenizer.now in
-    does-fall flow_table_scheme c.args.name w _ _ _ (c.call_state.ensures.to fine) (c.call_state.ensures.world fine) (flow_does is_name c.args.name w c.requires.current c.requires.stands)
+    does-fall flow_table_scheme c.args.name w _ _ _ (c.call_state.ensures.to fine) (c.call_state.ensures.world fine)
+    (flow_does is_name c.args.name w c.requires.current c.requires.stands)
 
 pub returns-clause-setting : goal.returns-clause-setting
 returns-clause-setting c = λ fine.
     let w = world c.args.tokenizer.now in
-    does-setting flow_table_scheme c.args.name w _ _ (c.call_state.ensures.world fine) (flow_does is_name c.args.name w c.requires.current c.requires.stands)
+    does-setting flow_table_scheme c.args.name w _ _ (c.call_state.ensures.world fine)
+    (flow_does is_name c.args.name w c.requires.current c.requires.stands)

@@ -13,8 +13,12 @@ is_name target other = names.ghosts.eq other target
 
 pub returns-in-Content : goal.returns-in-Content
 returns-in-Content c =
-    rw c.in-Content.is (flow-stays is_name (n.Content c.in-Content.state) c.stays.result (IfSome_then c.stays.result c.stays.ensures (λ k h. h (is_name r.Content))))
+    rw c.in-Content.is
+    (flow-stays is_name (n.Content c.in-Content.state) c.stays.result
+    (IfSome_then c.stays.result c.stays.ensures (λ k h. h (is_name r.Content))))
 
 pub returns-in-HeadingAtx : goal.returns-in-HeadingAtx
 returns-in-HeadingAtx c =
-    rw c.in-HeadingAtx.is (flow-stays is_name (n.HeadingAtx c.in-HeadingAtx.state) c.stays-in-HeadingAtx.result (IfSome_then c.stays-in-HeadingAtx.result c.stays-in-HeadingAtx.ensures (λ k h. h (is_name r.HeadingAtx))))
+    rw c.in-HeadingAtx.is
+    (flow-stays is_name (n.HeadingAtx c.in-HeadingAtx.state) c.stays-in-HeadingAtx.result
+    (IfSome_then c.stays-in-HeadingAtx.result c.stays-in-HeadingAtx.ensures (λ k h. h (is_name r.HeadingAtx))))
