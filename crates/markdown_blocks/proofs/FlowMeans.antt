@@ -58,7 +58,7 @@ use Rattle.markdown_blocks.proofs.FlowLemmas.{flow_by_line, line_by_container, n
 use Rattle.markdown_blocks.proofs.States.{flow_does}
 use Rattle.markdown_blocks.proofs.Trials.{left-before, left-next}
 use Rattle.markdown_blocks.proofs.Registry.{construct-steps, container-states, leaf-states, tried-before, white_has}
-use Rattle.markdown_blocks.proofs.Registry.{container-laws, laws, leaf-starts, left-before, left-next}
+use Rattle.markdown_blocks.proofs.Registry.{container-laws, laws}
 
 -- an attempt that was begun here
 abbrev frame_here : State → State → World → Frame
