@@ -33,7 +33,7 @@ use Rattle.markdown_blocks.specs.Registry.{container_name, first_of, leaf as lin
 use Rattle.markdown_blocks.specs.Registry.{trials}
 use Rattle.markdown_blocks.specs.Rows.{leaf_behind, BlankRow, Group, LeafRow, Lines, Row, RowKind, Single, TextRow}
 use Rattle.markdown_blocks.specs.Rows.{behind_row, blank_line, chunks_of, ending_events, ending_of, goes_on}
-use Rattle.markdown_blocks.specs.Rows.{group_events, groups, groups_events, is_text, kind_of, last_row, leaf_done}
+use Rattle.markdown_blocks.specs.Rows.{group_events, groups, groups_events, kind_of, last_row, leaf_done}
 use Rattle.markdown_blocks.specs.Rows.{leaf_events, leaf_unread, line_kind, onto_groups, read_lines, row_events}
 use Rattle.markdown_blocks.specs.Rows.{row_events_by, rows_events, single_events_by, tail_events}
 use Rattle.markdown_blocks.specs.Fronted.{contained, cut_tab, rest_from, rest_line}

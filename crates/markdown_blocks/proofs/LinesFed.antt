@@ -38,7 +38,7 @@ use Rattle.markdown_blocks.specs.Fed.{fed, feeds, flow_begins, line_begins, not_
 use Rattle.markdown_blocks.specs.FlowRule.{Rule, ended, line_then}
 use Rattle.markdown_blocks.specs.LineFlags.{ending_name}
 use Rattle.markdown_blocks.specs.Rows.{leaf_behind, Held, Row, after_ending, behind_row, closes_before, held_at}
-use Rattle.markdown_blocks.specs.Rows.{is_text, onto_rows, row_events, row_kind, row_of, rows_at, rows_events}
+use Rattle.markdown_blocks.specs.Rows.{onto_rows, row_events, row_kind, row_of, rows_at, rows_events}
 use Rattle.markdown_blocks.specs.Stands.{AreOpen}
 use Rattle.markdown_blocks.specs.States.{FlowStep, flow_behaves_by, flow_table_scheme, flow_transition}
 use Rattle.markdown_blocks.specs.TextRows.{text_cells, text_rows, text_setting}

@@ -18,7 +18,7 @@ use Rattle.markdown_blocks.specs.Change.{Change, ends_of, is_none, open_behind}
 use Rattle.markdown_blocks.specs.Fronted.{contained, rest_from, rest_line}
 use Rattle.markdown_blocks.specs.Rows.{leaf_behind, final_row, first_row, group_done, group_kind, LeafRow, ending_of}
 use Rattle.markdown_blocks.specs.Rows.{BlankRow, Group, Lines, Row, RowKind, Single, TextRow, behind_row, closes_before}
-use Rattle.markdown_blocks.specs.Rows.{ending_events, goes_on, groups, groups_events, is_text, last_row, onto_groups}
+use Rattle.markdown_blocks.specs.Rows.{ending_events, goes_on, groups, groups_events, last_row, onto_groups}
 use Rattle.markdown_blocks.specs.Rows.{tail_events}
 use Rattle.markdown_blocks.proofs.ContainedLemmas.{contained-shapes, none-nil}
 use Rattle.markdown_blocks.proofs.FrontFacts.{LinePrefix}

@@ -1,6 +1,6 @@
 -- What a text is read as, where only constructs that are built may be on: its events nest, spell its tree and tile it.
 use Rattle.md_engine.specs.declared.tokenizer.held_leaf.HeldLeaf.TheVariants as held_leaf
-use Rattle.std.proofs.Common.{◌≡◌, ◌^◌, ◌<◌, arith, ℕ, Bool, true, false, suc, List, [], ◌++◌, length, drop, refl, ap}
+use Rattle.std.proofs.Common.{◌≡◌, ◌^◌, ◌<◌, arith, ℕ, Bool, true, suc, List, [], ◌++◌, length, drop, refl, ap}
 use Rattle.std.proofs.Common.{sym, ◌∙◌, subst}
 use Rattle.std.specs.Prelude.{IsTrue}
 use Rattle.std.specs.Str.{IsUtf8}

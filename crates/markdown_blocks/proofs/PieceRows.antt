@@ -23,7 +23,7 @@ use Rattle.markdown_blocks.specs.Document.{body_point, mark_end, mark_events}
 use Rattle.markdown_blocks.specs.Fronted.{contained, rest_from, rest_line}
 use Rattle.markdown_blocks.specs.Rows.{leaf_behind, final_row, first_row, group_done, group_kind, BlankRow, Group}
 use Rattle.markdown_blocks.specs.Rows.{Lines, Row, RowKind, Single, TextRow, ending_events, group_events, groups}
-use Rattle.markdown_blocks.specs.Rows.{groups_events, is_text, tail_events, LeafRow, ending_of}
+use Rattle.markdown_blocks.specs.Rows.{groups_events, tail_events, LeafRow, ending_of}
 use Rattle.markdown_blocks.specs.Unread.{group_unread, listed_group, listed_groups}
 use Rattle.markdown_blocks.proofs.EachRow.{EachGroup, EachRow, OfGroup, groups-each, last-each}
 use Rattle.markdown_blocks.proofs.FrontStands.{fronts-stood}

@@ -1,6 +1,6 @@
 -- What the lines of a text are, as flow reads them: facts that the lemmas on the tree rest on.
 use Rattle.md_engine.specs.declared.tokenizer.held_leaf.HeldLeaf.{HeldLeaf}
-use Rattle.std.proofs.Common.{◌≡◌, ℕ, ◌+◌, ◌≤◌, Bool, List, [], ◌∷◌, ◌++◌, length, slice_range, ap, ◌∙◌, arith}
+use Rattle.std.proofs.Common.{◌≡◌, ℕ, ◌+◌, ◌≤◌, List, [], ◌∷◌, ◌++◌, length, slice_range, ap, ◌∙◌, arith}
 use Rattle.std.specs.Prelude.{Some, None}
 use Rattle.md_engine.specs.declared.configuration.ParseOptions.{ParseOptions}
 use Rattle.md_engine.specs.declared.event.Point.{Point}
@@ -14,7 +14,7 @@ use Rattle.markdown_blocks.specs.Change.{open_behind}
 use Rattle.markdown_blocks.proofs.LeafFacts.{LineAt}
 use Rattle.md_definition.specs.Rest.{Rest}
 use Rattle.markdown_blocks.specs.Fronted.{contained, rest_from, rest_line}
-use Rattle.markdown_blocks.specs.Rows.{leaf_behind, BlankRow, LeafRow, Row, TextRow, blank_line, is_text, line_kind}
+use Rattle.markdown_blocks.specs.Rows.{leaf_behind, BlankRow, LeafRow, Row, TextRow, blank_line, line_kind}
 use Rattle.markdown_blocks.proofs.FrontFacts.{LinePrefix}
 use Rattle.markdown_blocks.proofs.PieceFacts.{CutsFirst}
 

@@ -29,7 +29,7 @@ use Rattle.markdown_blocks.specs.FlowReads.{text_cells, text_rows, text_setting}
 use Rattle.markdown_blocks.specs.Fronted.{Contained, contained, rest_from, rest_line}
 use Rattle.markdown_blocks.specs.Parsed.{IsBuilt}
 use Rattle.markdown_blocks.specs.Rows.{leaf_behind, Held, Row, RowKind, after_ending, closes_before, held_at, inside_of}
-use Rattle.markdown_blocks.specs.Rows.{is_text, line_kind, onto_rows, row_kind, row_of, rows_at, rows_by}
+use Rattle.markdown_blocks.specs.Rows.{line_kind, onto_rows, row_kind, row_of, rows_at, rows_by}
 use Rattle.markdown_blocks.proofs.FrontRows.{HasHeld, held-is}
 use Rattle.markdown_blocks.proofs.RestFacts.{rest-line_end, rest-no_ending}
 use Rattle.markdown_blocks.proofs.RestRows.{rest-cut, rest-ending, rest-past, rest-whole}

@@ -24,7 +24,7 @@ use Rattle.markdown_blocks.specs.Document.{body_point, mark_end, mark_events}
 use Rattle.markdown_blocks.specs.Fronted.{contained, rest_from, rest_line}
 use Rattle.markdown_blocks.specs.Rows.{leaf_behind, LeafRow, ending_of, leaf_unread, BlankRow, Group, Lines, Row}
 use Rattle.markdown_blocks.specs.Rows.{RowKind, Single, TextRow, behind_row, ending_events, goes_on as joins_on, groups}
-use Rattle.markdown_blocks.specs.Rows.{is_text, last_row, onto_groups, tail_events}
+use Rattle.markdown_blocks.specs.Rows.{last_row, onto_groups, tail_events}
 use Rattle.markdown_blocks.specs.Unread.{listed_group, listed_groups, listed_row_by, unread_lines}
 use Rattle.markdown_blocks.proofs.JoinedLemmas.{behind-is, behind-none}
 use Rattle.markdown_blocks.proofs.PiecesLemmas.{Follows, Tiled, follows-append, follows-tiled, tiled-append}

@@ -33,7 +33,7 @@ use Rattle.markdown_blocks.specs.Parsed.{IsBuilt}
 use Rattle.markdown_blocks.specs.Registry.{leaf, text_leaf}
 use Rattle.markdown_blocks.specs.Rows.{BlankRow, LeafRow, Row, RowKind, TextRow, groups, groups_events, is_lazy}
 use Rattle.markdown_blocks.specs.Rows.{line_kind}
-use Rattle.markdown_blocks.specs.HeldLeaf.{IsBuiltLeaf, kind_of_leaf}
+use Rattle.markdown_blocks.specs.HeldLeaf.{IsBuiltLeaf}
 use Rattle.markdown_blocks.specs.Stands.{IsPlain, containers_of, still_of}
 use Rattle.markdown_blocks.proofs.ContainedLemmas.{contained-shapes}
 use Rattle.markdown_blocks.proofs.KindLemmas.{kind-starts}

@@ -4,7 +4,7 @@
 -- ends) keeps it in
 -- `HeldLeaf`; what it is by the line definition is said here, and so is whether containers may open in it, once one may
 -- not.
-use Rattle.std.specs.Prelude.{◌≡◌, Bool, true, false, List, ◌∷◌}
+use Rattle.std.specs.Prelude.{◌≡◌, Bool, true, false}
 use Rattle.md_engine.specs.declared.tokenizer.held_leaf.HeldLeaf.{HeldLeaf}
 use Rattle.md_engine.specs.declared.tokenizer.held_leaf.HeldLeaf.TheVariants as held_leaf
 use Rattle.md_definition.specs.State.{Leaf, NoLeaf, OpenParagraph}

@@ -7,15 +7,13 @@
 -- of several lines (fenced code, HTML, a table) will add what its scratch holds.
 use Rattle.markdown_blocks.specs.HeldLeaf.{IsBuiltLeaf, MatchesLeaf, kind_of_leaf}
 use Rattle.md_engine.specs.declared.tokenizer.held_leaf.HeldLeaf.{HeldLeaf}
-use Rattle.std.specs.Prelude.{◌≡◌, Bool, List, [], ◌∷◌, None}
+use Rattle.std.specs.Prelude.{◌≡◌, List, [], ◌∷◌, None}
 use Rattle.md_engine.specs.declared.configuration.ParseOptions.{ParseOptions}
 use Rattle.md_engine.specs.declared.tokenizer.container.Container.{Container as Held}
 use Rattle.md_engine.specs.World.{Flags}
 use Rattle.md_seam.specs.Events.Spelled.{Around, Reading}
 use Rattle.markdown_blocks.specs.Registry.{MatchesContainer, shape_of}
-use Rattle.md_definition.specs.State.{At, Container, Leaf, NoLeaf, Path, Within, closed, shut, spot}
-use Rattle.markdown_blocks.specs.Leaf.Paragraph.{IsOpenText}
-use Rattle.md_definition.specs.Step.{is_open_text}
+use Rattle.md_definition.specs.State.{At, Container, Path, Within, closed, shut, spot}
 use Rattle.md_definition.specs.Tree.{Blocks}
 
 -- What was read.

@@ -1,6 +1,6 @@
 -- The text that flow reads from a point on: its cells, and its lines.
 use Rattle.md_engine.specs.declared.tokenizer.held_leaf.HeldLeaf.TheVariants as held_leaf
-use Rattle.std.specs.Prelude.{ℕ, suc, false, List, [], length}
+use Rattle.std.specs.Prelude.{ℕ, suc, List, [], length}
 use Rattle.md_engine.specs.declared.configuration.ParseOptions.{ParseOptions}
 use Rattle.md_engine.specs.declared.event.Point.{Point}
 use Rattle.md_engine.specs.Meaning.{Cell}

@@ -11,7 +11,6 @@ use Rattle.md_engine.specs.Scheme.{Scheme, stands}
 use Rattle.md_engine.specs.Staying.{StaysOn, took}
 use Rattle.md_engine.specs.World.{World, looks}
 use Rattle.md_engine.proofs.ClassLemmas.{no-ending}
-use Rattle.md_seam.specs.Spaces.{ends_line}
 use Rattle.md_definition.specs.Rest.{is_white}
 use Rattle.md_definition.specs.Rest.{is_white}
 use Rattle.md_seam.specs.Stays.{TakesEach}
