@@ -11,7 +11,7 @@ use Rattle.md_engine.specs.World.{World, after}
 use Rattle.md_engine.specs.Scheme.{Reaches, after_frame, Spot, spot, moved_to, After, Rank, Scheme, state_level}
 use Rattle.md_engine.specs.Scheme.{state_rank, state_number, keyed, frame_level, frame_rank, frame_number, base}
 use Rattle.md_engine.specs.Scheme.{frames_work, work, holds, after_all, Ends, EndsLater, Tries, TriesLater, Good, Fits}
-use Rattle.md_engine.specs.Scheme.{FitsState, of_owners}
+use Rattle.md_engine.specs.Scheme.{FitsState, of_owners, stands}
 use Rattle.md_engine.proofs.Falls.{later, tries, tries_later}
 use Rattle.md_engine.proofs.Points.{cells-fall, grown-same, rank-low, stays}
 use Rattle.md_engine.proofs.Powers.{weighs, weighs_with}
@@ -34,11 +34,11 @@ pub turns : (T own : Scheme) (n m : StateName) (w : World) (events : List Event)
     Fits T own m →
     own.ready m (moved_to (spot w) w.point s) (after_all T w.frames) → own.level m ≤ own.level n →
     (own.rank m (moved_to (spot w) w.point s)).number < (own.rank n (spot w)).number →
-    Good T n w (Next m) (record w { events = events; scratch = s })
+    Good T n w (Retry m) (record w { events = events; scratch = s })
 turns T own n m w events s fn fm r le lt =
     let a = fm.level in let b = fn.level in let c = fm.rank (moved_to (spot w) w.point s) in let d = fn.rank (spot w) in
     let low : (T.rank m (moved_to (spot w) w.point s)).number < (T.rank n (spot w)).number = rw (c, d) lt in
-    (fm.ready _ _ r, same-frames T w events w.point s n m (rw (a, b) le) (omega (arith, low)))
+    (fm.ready _ _ r, same-frames T w events w.point s n m (rw (a, b) le) (omega (arith, low)), (refl, refl))
 
 -- behind the cell that is here
 pub consumes : (T own : Scheme) (n m : StateName) (w : World) (events : List Event) (s : Scratch) → Fits T own n →
@@ -48,8 +48,11 @@ pub consumes : (T own : Scheme) (n m : StateName) (w : World) (events : List Eve
 consumes T own n m w events s fn fm inside r le =
     let a = fm.level in let b = fn.level in
     let less = cells-fall w.setting w.point inside in
-    let few = rank-low (T.rank m (moved_to (spot w) (after w.setting w.point) s)) in
-    (fm.ready _ _ r, same-frames T w events (after w.setting w.point) s n m (rw (a, b) le) (omega (arith, less, few)))
+    let few = rank-low (T.rank m (moved_to (spot w) (after w.setting w.point) s)) in (
+      fm.ready _ _ r,
+      same-frames T w events (after w.setting w.point) s n m (rw (a, b) le) (omega (arith, less, few)),
+      tt,
+    )
 
 ends-falls : (T : Scheme) (w : World) (n : StateName) → 0 + frames_work T w.setting.limit w.frames < work T w (Next n)
 ends-falls T w n =
@@ -62,19 +65,21 @@ pub accepts : (T : Scheme) (n : StateName) (w : World) (P Q : Scratch → Type 0
 accepts T n w P Q events s e is = (
   e.ok s w.point w.setting is (grown-same w.setting) (stays w.setting.limit w.point),
   omega (arith, ends-falls T w n),
+  tt,
 )
 
 pub refuses : (T : Scheme) (n : StateName) (w : World) (P Q : Scratch → Type 0) (events : List Event) (s : Scratch) →
     Ends P Q (spot w) (after_all T w.frames) → Q s →
     Good T n w Nok (record w { events = events; scratch = s })
-refuses T n w P Q events s e is = (e.nok s w.point w.setting is (grown-same w.setting), omega (arith, ends-falls T w n))
+refuses T n w P Q events s e is =
+    (e.nok s w.point w.setting is (grown-same w.setting), omega (arith, ends-falls T w n), tt)
 
 pub refuses_later : (T : Scheme) (n : StateName) (w : World) (P Q : Scratch → Type 0) (events : List Event)
     (s : Scratch) →
     EndsLater P Q (spot w) (after_all T w.frames) → Q s →
     Good T n w Nok (record w { events = events; scratch = s })
 refuses_later T n w P Q events s e is =
-    (e.nok s w.point w.setting is (grown-same w.setting), omega (arith, ends-falls T w n))
+    (e.nok s w.point w.setting is (grown-same w.setting), omega (arith, ends-falls T w n), tt)
 
 holds_by : (T own : Scheme) (st : State) (x : Spot) (K : After) → FitsState T own st → holds own st x K → holds T st x K
 holds_by T own Ok x K f h = h
@@ -152,13 +157,17 @@ tries_later_by T own f P Q x K a b t =
       nok_rank = λ s v is up. rw (r, rank_by T own f.nok _ b) (t.nok_rank s v is up);
     }
 
+-- what a call that begins an attempt keeps and lets fall
+abbrev Begun : Scheme → StateName → World → StateName → World → Type 0
+Begun T n w m new = stands T new (Next m) × (work T new (Next m) < work T w (Next n))
+
 -- an attempt at another construct, of a lower level, that is ready there
 begins_ready : (T own inner : Scheme) (n m : StateName) (w : World) (events : List Event) (q : Point) (s : Scratch)
     (f : Frame) →
     Fits T own n → Fits T inner m → FitsState T own f.ok → FitsState T own f.nok → f.point ≡ w.point →
     inner.ready m (moved_to (spot w) q s) (after_frame T f (after_all T w.frames)) →
     inner.level m < own.level n → frame_level own f ≤ own.level n → frame_rank own f < (own.rank n (spot w)).number →
-    Good T n w (Next m) (record w { events = events; frames = f ∷ w.frames; point = q; scratch = s })
+    Begun T n w m (record w { events = events; frames = f ∷ w.frames; point = q; scratch = s })
 begins_ready T own inner n m w events q s f fn fm fo fk same r low le lt =
     let y : Spot = moved_to (spot w) q s in
     let a = fm.level in let b = fn.level in let d = fn.rank (spot w) in
@@ -176,6 +185,21 @@ begins_ready T own inner n m w events q s f fn fm fo fk same r low le lt =
     (fm.ready y _ r, omega (arith, all))
 
 -- here or behind the cell that is here
+begins_by : (T own inner : Scheme) (n m : StateName) (w : World) (P Q : Scratch → Type 0) (events : List Event)
+    (q : Point) (s : Scratch) (f : Frame) →
+    Reaches w.setting.limit w.point q →
+    Fits T own n → Fits T inner m → FitsState T own f.ok → FitsState T own f.nok → f.point ≡ w.point →
+    Tries own f P Q (moved_to (spot w) w.point s) (after_all T w.frames) →
+    ((K : After) → Ends P Q (moved_to (spot w) q s) K → inner.ready m (moved_to (spot w) q s) K) →
+    inner.level m < own.level n → frame_level own f ≤ own.level n → frame_rank own f < (own.rank n (spot w)).number →
+    Begun T n w m (record w { events = events; frames = f ∷ w.frames; point = q; scratch = s })
+begins_by T own inner n m w P Q events q s f way fn fm fo fk same t r low le lt =
+    let x : Spot = moved_to (spot w) w.point s in
+    let e = tries T f P Q x (after_all T w.frames) same (tries_by T own f P Q x (after_all T w.frames) fo fk t) in
+    let e2 : Ends P Q (moved_to (spot w) q s) (after_frame T f (after_all T w.frames)) = later P Q x
+    (after_frame T f (after_all T w.frames)) q s way e in
+    begins_ready T own inner n m w events q s f fn fm fo fk same (r _ e2) low le lt
+
 pub begins_at : (T own inner : Scheme) (n m : StateName) (w : World) (P Q : Scratch → Type 0) (events : List Event)
     (q : Point) (s : Scratch) (f : Frame) →
     Reaches w.setting.limit w.point q →
@@ -185,11 +209,7 @@ pub begins_at : (T own inner : Scheme) (n m : StateName) (w : World) (P Q : Scra
     inner.level m < own.level n → frame_level own f ≤ own.level n → frame_rank own f < (own.rank n (spot w)).number →
     Good T n w (Next m) (record w { events = events; frames = f ∷ w.frames; point = q; scratch = s })
 begins_at T own inner n m w P Q events q s f way fn fm fo fk same t r low le lt =
-    let x : Spot = moved_to (spot w) w.point s in
-    let e = tries T f P Q x (after_all T w.frames) same (tries_by T own f P Q x (after_all T w.frames) fo fk t) in
-    let e2 : Ends P Q (moved_to (spot w) q s) (after_frame T f (after_all T w.frames)) = later P Q x
-    (after_frame T f (after_all T w.frames)) q s way e in
-    begins_ready T own inner n m w events q s f fn fm fo fk same (r _ e2) low le lt
+    let b = begins_by T own inner n m w P Q events q s f way fn fm fo fk same t r low le lt in (b.0, b.1, tt)
 
 pub begins_try : (T own inner : Scheme) (n m : StateName) (w : World) (P Q : Scratch → Type 0) (events : List Event)
     (s : Scratch) (f : Frame) →
@@ -197,9 +217,11 @@ pub begins_try : (T own inner : Scheme) (n m : StateName) (w : World) (P Q : Scr
     Tries own f P Q (moved_to (spot w) w.point s) (after_all T w.frames) →
     ((K : After) → Ends P Q (moved_to (spot w) w.point s) K → inner.ready m (moved_to (spot w) w.point s) K) →
     inner.level m < own.level n → frame_level own f ≤ own.level n → frame_rank own f < (own.rank n (spot w)).number →
-    Good T n w (Next m) (record w { events = events; frames = f ∷ w.frames; scratch = s })
-begins_try T own inner n m w P Q events s f =
-    begins_at T own inner n m w P Q events w.point s f (stays w.setting.limit w.point)
+    Good T n w (Retry m) (record w { events = events; frames = f ∷ w.frames; scratch = s })
+begins_try T own inner n m w P Q events s f fn fm fo fk same t r low le lt =
+    let b = begins_by T own inner n m w P Q events w.point s f (stays w.setting.limit w.point) fn fm fo fk same t r low
+    le lt in
+    (b.0, b.1, (refl, refl))
 
 -- an attempt here at a construct that accepts only behind the point where it begins
 pub begins_later : (T own inner : Scheme) (n m : StateName) (w : World) (P Q : Scratch → Type 0) (events : List Event)
@@ -208,9 +230,10 @@ pub begins_later : (T own inner : Scheme) (n m : StateName) (w : World) (P Q : S
     TriesLater own f P Q (moved_to (spot w) w.point s) (after_all T w.frames) →
     ((K : After) → EndsLater P Q (moved_to (spot w) w.point s) K → inner.ready m (moved_to (spot w) w.point s) K) →
     inner.level m < own.level n → frame_level own f ≤ own.level n → frame_rank own f < (own.rank n (spot w)).number →
-    Good T n w (Next m) (record w { events = events; frames = f ∷ w.frames; scratch = s })
+    Good T n w (Retry m) (record w { events = events; frames = f ∷ w.frames; scratch = s })
 begins_later T own inner n m w P Q events s f fn fm fo fk same t r low le lt =
     let x : Spot = moved_to (spot w) w.point s in
     let e = tries_later T f P Q x (after_all T w.frames) same
     (tries_later_by T own f P Q x (after_all T w.frames) fo fk t) in
-    begins_ready T own inner n m w events w.point s f fn fm fo fk same (r _ e) low le lt
+    let b = begins_ready T own inner n m w events w.point s f fn fm fo fk same (r _ e) low le lt in
+    (b.0, b.1, (refl, refl))

@@ -1,9 +1,14 @@
 -- What the loop keeps.
-use Rattle.std.proofs.Common.{◌≡◌, ◌≢◌, ap, inl, inr, ◌⊎◌}
+use Rattle.std.proofs.Common.{◌≡◌, ◌≢◌, ◌<◌, ◌≤◌, Bool, true, length, Option, ℕ, refl, sym, ◌∙◌, ap, ap₂, subst}
+use Rattle.std.proofs.Common.{inl, inr, ◌⊎◌}
+use Rattle.std.specs.List.{All}
+use Rattle.md_engine.specs.declared.event.Point.{Point}
 use Rattle.md_engine.specs.declared.state.Name.{Name as StateName}
 use Rattle.md_engine.specs.declared.state.State.{State}
 use Rattle.md_engine.specs.declared.state.State.TheVariants.{Error, Ok, Nok, Next, Retry}
-use Rattle.md_engine.specs.Run.{IsEnd, plain}
+use Rattle.md_engine.specs.Run.{IsEnd, Remains, Runs, RunsHere, Step, plain, reading}
+use Rattle.md_engine.specs.Run.Runs.{Stays, ThenCalls}
+use Rattle.md_engine.specs.World.{Setting, World, looks, looks_at}
 
 -- a state that names another, by either way
 pub plain_of : (s : State) (n : StateName) → (s ≡ Next n) ⊎ (s ≡ Retry n) → plain s ≡ Next n
@@ -19,3 +24,73 @@ is_end_of s (inr e) = rw e tt
 
 pub end_not_error : (s : State) → IsEnd s → s ≢ Error
 end_not_error s end h = let k : IsEnd Error = rw h at end in k
+
+-- one has come to a state of this name, which sees what stands here
+pub record CameTo (T : Step) (is_end : Bool) (s : State) (v : World) (name : StateName) (w : World) : Type 0 where
+  pub state : State
+  pub at : World
+  pub names : plain state ≡ Next name
+  pub sees : reading at ≡ w
+  pub may : (is_end ≡ true) ⊎ (at.point.index < at.setting.limit)
+  pub runs : Runs T is_end s v state at
+
+-- from each state of the first name
+abbrev pub CameHere : Step → StateName → World → StateName → World → Type 0
+CameHere T first old name w =
+    (is_end : Bool) (s : State) (v : World) → plain s ≡ Next first → reading v ≡ old →
+    (is_end ≡ true) ⊎ (v.point.index < v.setting.limit) → CameTo T is_end s v name w
+
+pub came-first : (T : Step) (first : StateName) (w : World) → CameHere T first w first w
+came-first T first w is_end s v names sees may = record {
+  state = s;
+  at = v;
+  names = names;
+  sees = sees;
+  may = may;
+  runs = Stays;
+}
+
+-- by one call more
+pub came-calls : (T : Step) (first name : StateName) (old w : World) (s' : State) (w' : World) →
+    CameHere T first old name w → T name w s' w' → s' ≢ Error → w'.setting ≡ w.setting →
+    All (λ f. f.events_len ≤ length w.events) w.frames → RunsHere T first old s' w'
+came-calls T first name old w s' w' came step fine same within is_end s v names sees may =
+    let h = came is_end s v names sees may in
+    let P : World → Type 0 = λ x. T name x s' w' in
+    let Q : World → Type 0 = λ x. All (λ f. f.events_len ≤ length x.events) x.frames in
+    ThenCalls h.state h.at s' w' h.runs
+    (record {
+      name = name;
+      names = h.names;
+      may = h.may;
+      step = subst P (sym h.sees) step;
+      fine = fine;
+      setting = same ∙ sym (ap (λ (x : World). x.setting) h.sees);
+      within = subst Q (sym h.sees) within;
+    })
+
+-- what stays at what stands here still sees it
+pub still-sees : (next : StateName) (w w' : World) → Remains (Retry next) w w' → w'.setting ≡ w.setting →
+    w.current ≡ looks w → w'.current ≡ looks w'
+still-sees next w w' r same seen =
+    r.1 ∙ seen ∙ ap₂ (λ (x : Setting) (p : Point). looks_at x p) (sym same) (sym r.0)
+
+reading-same : (w : World) → w.current ≡ looks w → reading w ≡ w
+reading-same w seen = ap (λ (o : Option ℕ). record w { current = o }) (sym seen)
+
+-- and so one has come to it
+pub came-stays : (T : Step) (first name next : StateName) (old w w' : World) → CameHere T first old name w →
+    RunsHere T first old (Retry next) w' → Remains (Retry next) w w' → w'.setting ≡ w.setting → w.current ≡ looks w →
+    CameHere T first old next w'
+came-stays T first name next old w w' came runs r same seen is_end s v names sees may =
+    let h = came is_end s v names sees may in
+    let there : w'.point ≡ h.at.point = r.0 ∙ sym (ap (λ (x : World). x.point) h.sees) in
+    let within : w'.setting ≡ h.at.setting = same ∙ sym (ap (λ (x : World). x.setting) h.sees) in
+    record {
+      state = Retry next;
+      at = w';
+      names = refl;
+      sees = reading-same w' (still-sees next w w' r same seen);
+      may = rw (there, within) h.may;
+      runs = runs is_end s v names sees may;
+    }

@@ -26,6 +26,11 @@ plain Ok = Ok
 plain Nok = Nok
 plain (Next name) = Next name
 
+-- a state that stays at what stands here has gone nowhere, and still sees it
+abbrev pub Remains : State → World → World → Type 0
+Remains (Retry name) w w' = (w'.point ≡ w.point) × (w'.current ≡ w.current)
+Remains _ w w' = Unit {0}
+
 abbrev pub IsEnd : State → Type 0
 IsEnd Ok = Unit {0}
 IsEnd Nok = Unit {0}
@@ -78,6 +83,12 @@ pub data Runs (T : Step) (is_end : Bool) (s : State) (w : World) : State → Wor
       Runs T is_end s w t' v'
   ThenCalls : (t : State) (v : World) (t' : State) (v' : World) → Runs T is_end s w t v → Calls T is_end t v t' v' →
       Runs T is_end s w t' v'
+
+-- a state of this name, which has seen what stands here, is called, and then each that stays there: what that comes to
+abbrev pub RunsHere : Step → StateName → World → State → World → Type 0
+RunsHere T name w s' w' =
+    (is_end : Bool) (s : State) (v : World) → plain s ≡ Next name → reading v ≡ w →
+    (is_end ≡ true) ⊎ (v.point.index < v.setting.limit) → Runs T is_end s v s' w'
 
 -- the loop ends where a state waits for more of the text, or where the construct has ended and no attempt is left
 abbrev pub IsStopped : Bool → State → World → Type 0

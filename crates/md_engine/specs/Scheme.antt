@@ -10,7 +10,7 @@ use Rattle.md_engine.specs.declared.state.State.{State}
 use Rattle.md_engine.specs.declared.state.State.TheVariants.{Error, Ok, Nok, Next, Retry}
 use Rattle.md_engine.specs.declared.tokenizer.Frame.{Frame}
 use Rattle.md_engine.specs.declared.tokenizer.Scratch.{Scratch}
-use Rattle.md_engine.specs.Run.{plain}
+use Rattle.md_engine.specs.Run.{Remains, plain}
 use Rattle.md_engine.specs.World.{Setting, World, looks_at}
 
 -- where a construct stands
@@ -199,9 +199,9 @@ pub record TriesLater (T : Scheme) (f : Frame) (P Q : Scratch → Type 0) (x : S
   pub nok_rank : (s : Scratch) (t : Setting) → Q s → Grown x.setting t →
       state_rank T f.nok (spot_at t x.point s) < frame_rank T f + 1
 
--- a state's call keeps what the table needs, and falls
+-- a state's call keeps what the table needs, falls, and goes nowhere where it stays
 abbrev pub Good : Scheme → StateName → World → State → World → Type 0
-Good T n w to new = stands T new (plain to) × (work T new (plain to) < work T w (Next n))
+Good T n w to new = stands T new (plain to) × (work T new (plain to) < work T w (Next n)) × Remains to w new
 
 -- a table has a state as its construct has it
 pub record Fits (T own : Scheme) (n : StateName) : Type 1 where

@@ -5,7 +5,8 @@
 ghost use Rattle.std.specs.Prelude.{Bool, ◌≡◌, ◌≢◌, ◌<◌, ◌≤◌, ◌⊎◌, [], length, IfOk, IfNone, IfSome, OnOk, false, true};
 ghost use Rattle.std.specs.Option.{option_map};
 ghost use Rattle.md_engine.specs.Found.{found_in};
-ghost use Rattle.md_engine.specs.Run.{Flushes, IsEnd, IsStopped, Leaves, Resolution, ResolvedIf, Runs, Step, plain};
+ghost use Rattle.md_engine.specs.Run.{Flushes, IsEnd, IsStopped, Leaves, Remains, Resolution, ResolvedIf, Runs};
+ghost use Rattle.md_engine.specs.Run.{RunsHere, Step, plain};
 ghost use Rattle.md_engine.specs.Scheme.{Scheme, stands, work};
 ghost use Rattle.md_engine.specs.Staying.{StaysOn};
 ghost use Rattle.md_engine.specs.World.{looks, reads_to, world};
@@ -37,7 +38,8 @@ pub trait Table {
         ensures stands { result ≢ State.Error → stands scheme (world tokenizer.new) (plain result) }
         ensures falls { result ≢ State.Error →
             work scheme (world tokenizer.new) (plain result) < work scheme (world tokenizer.old) (State.Next name) }
-        ensures setting { result ≢ State.Error → (world tokenizer.new).setting ≡ (world tokenizer.old).setting };
+        ensures setting { result ≢ State.Error → (world tokenizer.new).setting ≡ (world tokenizer.old).setting }
+        ensures remains { result ≢ State.Error → Remains result (world tokenizer.old) (world tokenizer.new) };
 
     /// A class of bytes that the state of this name only takes, to stay where it is: many are taken at once.
     fn stays(name: StateName) -> Option<Class>
@@ -103,6 +105,26 @@ fn stay<T: Table>(tokenizer: &mut Tokenizer, state: State)
     }
 }
 
+/// Calls the state of this name, and then each that stays at what stands here, which is seen already.
+fn call_here<T: Table>(tokenizer: &mut Tokenizer, first: StateName) -> State
+    requires current { (world tokenizer.old).current ≡ looks (world tokenizer.old) }
+    requires stands { stands T.scheme (world tokenizer.old) (State.Next first) }
+    ensures runs { result ≢ State.Error →
+        RunsHere T.step first (world tokenizer.old) result (world tokenizer.new) }
+    ensures stands { result ≢ State.Error → stands T.scheme (world tokenizer.new) (plain result) }
+    ensures falls { result ≢ State.Error →
+        work T.scheme (world tokenizer.new) (plain result) < work T.scheme (world tokenizer.old) (State.Next first) }
+    ensures setting { result ≢ State.Error → (world tokenizer.new).setting ≡ (world tokenizer.old).setting }
+{
+    let mut name = first;
+    loop {
+        match T::call(tokenizer, name) {
+            State::Retry(next) => name = next,
+            state => return state,
+        }
+    }
+}
+
 /// Goes from state to state until one waits for more of the text, or the last has ended.
 fn run<T: Table>(tokenizer: &mut Tokenizer, start: State, is_end: bool) -> State
     requires { stands T.scheme (world tokenizer.old) (plain start) }
@@ -124,7 +146,7 @@ fn run<T: Table>(tokenizer: &mut Tokenizer, start: State, is_end: bool) -> State
                     return state;
                 }
                 tokenizer.see();
-                match T::call(tokenizer, name) {
+                match call_here::<T>(tokenizer, name) {
                     State::Error => return State::Error,
                     next => {
                         stay::<T>(tokenizer, next);

@@ -15,7 +15,7 @@ use Rattle.md_engine.specs.declared.event.Name.TheVariants.{SpaceOrTab}
 use Rattle.md_engine.specs.declared.tokenizer.Scratch.{Scratch}
 use Rattle.md_engine.specs.Scheme.{After, Ends, EndsLater, Fits, Good, Grown, Reaches, Scheme, Spot, after_all, seen}
 use Rattle.md_engine.specs.Scheme.{spot, spot_at, stands, state_number, work}
-use Rattle.md_engine.specs.Run.{plain}
+use Rattle.md_engine.specs.Run.{Remains, plain}
 use Rattle.md_engine.specs.World.{Setting, World, after, looks}
 use Rattle.md_engine.proofs.Falls.{later, later_at}
 use Rattle.md_engine.proofs.Local.{accepts, begins_try, consumes, refuses, turns}
@@ -45,6 +45,12 @@ does-fall T name w a s w' e k d =
 pub does-setting : (T : Scheme) (name : StateName) (w : World) (a : Transition) (w' : World) → w' ≡ a.world →
     Does T name w a → w'.setting ≡ w.setting
 does-setting T name w a w' k d = ap (λ (x : World). x.setting) k ∙ d.1
+
+pub does-remain : (T : Scheme) (name : StateName) (w : World) (a : Transition) (s : State) (w' : World) → s ≡ a.to →
+    w' ≡ a.world → Does T name w a → Remains s w w'
+does-remain T name w a s w' e k d =
+    let P : World → Type 0 = λ x. Remains s w x in
+    subst P (sym k) (rw e d.0.2)
 
 -- what stands here may be read, where a test that nothing passes holds of it
 pub seen-in : (x : Spot) (t : Option ℕ → Bool) → t None ≡ false → t (seen x) ≡ true → x.point.index < x.setting.limit
@@ -102,6 +108,7 @@ accepts-behind T n w P Q events s inside e is =
     let less = weighs w.setting.limit 0 (state_number T (Next n) (spot w)) 0 (T.level n) (omega arith) (omega arith) in (
       e.ok s (after w.setting w.point) w.setting is (grown-same w.setting) (takes w.setting w.point inside),
       omega (arith, less),
+      tt,
     )
 
 pub record WhiteFits (T : Scheme) : Type 1 where

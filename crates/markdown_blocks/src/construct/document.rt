@@ -255,6 +255,7 @@ pub fn flow_end(tokenizer: &mut Tokenizer) -> State
 }
 
 /// Calls a state of the document: in front of its lines, or between the containers of a line.
+#[inline(always)]
 pub fn call(tokenizer: &mut Tokenizer, state: DocumentState) -> State
     requires { IsAt NeedsNothing (StateName.Document state) (world tokenizer.old) }
     ensures to { result ≢ State.Error → result ≡ (document_own_transition state (world tokenizer.old)).to }

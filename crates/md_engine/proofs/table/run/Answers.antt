@@ -1,10 +1,9 @@
-use Rattle.std.proofs.Common.{◌≡◌, ◌<◌, ◌≤◌, arith, ◌∙◌, ap, refl, subst, sym}
+use Rattle.std.proofs.Common.{◌≡◌, ◌<◌, ◌≤◌, arith, ◌∙◌, ap, refl, sym}
 use Rattle.md_engine.specs.declared.state.State.TheVariants.{Next}
 use Rattle.md_engine.specs.Run.{plain, reading}
-use Rattle.md_engine.specs.Run.Runs.{Stays, ThenCalls, ThenLeaves}
+use Rattle.md_engine.specs.Run.Runs.{Stays, ThenLeaves}
 use Rattle.md_engine.specs.Scheme.{work}
 use Rattle.md_engine.specs.World.{World, world}
-use Rattle.md_engine.proofs.ClassLemmas.{within-world}
 use Rattle.md_engine.proofs.Falls.{falls_same, leaves_falls, leaves_stands, stands_same}
 use Rattle.md_engine.proofs.Keeps.{runs-append}
 use Rattle.md_engine.proofs.Loops.{end_not_error, is_end_of, not_error, plain_of}
@@ -28,50 +27,42 @@ loop-state-preserved-in-Some g c =
       setting = λ _. c.leave.ensures.setting ∙ c.loop-state.invariant.setting fine;
     }
 
-pub call-requires-clause-stands : goal.call-requires-clause-stands
-call-requires-clause-stands g c =
+pub call_here-requires-clause-stands : goal.call_here-requires-clause-stands
+call_here-requires-clause-stands g c =
     let p = plain_of c.loop-state.state c.in-Next.name c.in-Next.is in
     let st = c.loop-state.invariant.stands (not_error _ _ p) in
     stands_same g.T.Table.scheme (reading (world c.loop-state.tokenizer)) (world c.see.new.self)
     (plain c.loop-state.state) (Next c.in-Next.name) (sym c.see.ensures) p st
 
 pub stay-requires : goal.stay-requires
-stay-requires g c = c.call.ensures.stands c.in_default.not-Error
+stay-requires g c = c.call_here.ensures.stands c.in_default.not-Error
 
 pub loop-state-smaller : goal.loop-state-smaller
 loop-state-smaller g c =
     let p = plain_of c.loop-state.state c.in-Next.name c.in-Next.is in
     let S = g.T.Table.scheme in
     let v : World = world c.loop-state.tokenizer in
-    let before : work S (world c.call.new.tokenizer) (plain c.call.result) < work S v (plain c.loop-state.state) =
-    falls_same S (world c.call.new.tokenizer) (world c.see.new.self) (reading (world c.loop-state.tokenizer))
-    (plain c.call.result) (Next c.in-Next.name) (plain c.loop-state.state) c.see.ensures (sym p)
-    (c.call.ensures.falls c.in_default.not-Error) in
-    let below : work S (world c.stay.new.tokenizer) (plain c.call.result) ≤
-    work S (world c.call.new.tokenizer) (plain c.call.result) = c.stay.ensures.falls in
+    let before : work S (world c.call_here.new.tokenizer) (plain c.call_here.result) <
+    work S v (plain c.loop-state.state) = falls_same S (world c.call_here.new.tokenizer) (world c.see.new.self)
+    (reading (world c.loop-state.tokenizer)) (plain c.call_here.result) (Next c.in-Next.name)
+    (plain c.loop-state.state) c.see.ensures (sym p) (c.call_here.ensures.falls c.in_default.not-Error) in
+    let below : work S (world c.stay.new.tokenizer) (plain c.call_here.result) ≤
+    work S (world c.call_here.new.tokenizer) (plain c.call_here.result) = c.stay.ensures.falls in
     omega (arith, before, below)
 
 pub loop-state-preserved : goal.loop-state-preserved
 loop-state-preserved g c =
     let p = plain_of c.loop-state.state c.in-Next.name c.in-Next.is in
     let fine = not_error _ _ p in
-    let P : World → Type 0 = λ w. g.T.Table.step c.in-Next.name w c.call.result (world c.call.new.tokenizer) in
-    let same : (world c.call.new.tokenizer).setting ≡
-    (world c.loop-state.tokenizer).setting = c.call.ensures.setting c.in_default.not-Error
+    let same : (world c.call_here.new.tokenizer).setting ≡
+    (world c.loop-state.tokenizer).setting = c.call_here.ensures.setting c.in_default.not-Error
     ∙ ap (λ (w : World). w.setting) c.see.ensures in
     record {
       runs =
           λ h. runs-append _ _ _ _ _ _ _ _
-          (ThenCalls _ _ _ _ (c.loop-state.invariant.runs fine)
-          (record {
-            name = c.in-Next.name;
-            names = p;
-            may = c.if-is_waiting.ensures.goes_on refl;
-            step = subst P c.see.ensures (c.call.ensures.step h);
-            fine = h;
-            setting = same;
-            within = within-world c.loop-state.tokenizer;
-          }))
+          (runs-append _ _ _ _ _ _ _ _ (c.loop-state.invariant.runs fine)
+          (c.call_here.ensures.runs h c.args.is_end c.loop-state.state (world c.loop-state.tokenizer) p
+          (sym c.see.ensures) (c.if-is_waiting.ensures.goes_on refl)))
           (c.stay.ensures.runs c.args.is_end);
       stands = λ h. c.stay.ensures.stands;
       setting = λ h. c.stay.ensures.setting ∙ same ∙ c.loop-state.invariant.setting fine;

@@ -1,7 +1,7 @@
 use Rattle.md_engine.specs.World.{world}
 use Rattle.markdown_blocks.specs.Document.{document_table_scheme}
 use Rattle.markdown_blocks.proofs.DocumentStates.{document_does}
-use Rattle.md_seam.proofs.SpacesGoods.{does-fall, does-setting, does-stands}
+use Rattle.md_seam.proofs.SpacesGoods.{does-fall, does-remain, does-setting, does-stands}
 use Rattle.markdown_blocks.proofs.construct.document.DocumentTableTable.call.Goals as goal
 
 pub returns-clause-stands : goal.returns-clause-stands
@@ -21,3 +21,9 @@ returns-clause-setting c = λ fine.
     let w = world c.args.tokenizer.now in
     does-setting document_table_scheme c.args.name w _ _ (c.call_state.ensures.world fine)
     (document_does c.args.name w c.requires.current c.requires.stands)
+
+pub returns-clause-remains : goal.returns-clause-remains
+returns-clause-remains c = λ fine.
+    let w = world c.args.tokenizer.now in
+    does-remain document_table_scheme c.args.name w _ _ _ (c.call_state.ensures.to fine)
+    (c.call_state.ensures.world fine) (document_does c.args.name w c.requires.current c.requires.stands)
