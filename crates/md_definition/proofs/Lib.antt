@@ -6,7 +6,9 @@ pub mod GrammarRows
 pub mod HtmlLemmas
 pub mod LinesLemmas
 pub mod PreambleLemmas
-pub mod QuotedLines
+pub mod PrefixedLines
+pub mod TreeLemmas
+pub mod WrapLaw
 pub mod QuoteLaw
 mod Rows
 pub mod TextsLemmas
