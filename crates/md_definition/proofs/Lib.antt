@@ -10,6 +10,7 @@ pub mod PrefixedLines
 pub mod TreeLemmas
 pub mod WrapLaw
 pub mod QuoteLaw
+pub mod ListLaw
 mod Rows
 pub mod TextsLemmas
 pub mod QuoteTaken
