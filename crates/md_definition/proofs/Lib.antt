@@ -6,8 +6,11 @@ pub mod GrammarRows
 pub mod HtmlLemmas
 pub mod LinesLemmas
 pub mod PreambleLemmas
-pub mod QuotedLines
+pub mod PrefixedLines
+pub mod TreeLemmas
+pub mod WrapLaw
 pub mod QuoteLaw
+pub mod ListLaw
 mod Rows
 pub mod TextsLemmas
 pub mod QuoteTaken

@@ -29,7 +29,7 @@ use Rattle.md_definition.specs.Tree.{Block, Blocks, Definition, End, Fence, Foot
 use Rattle.md_definition.specs.Tree.{Math, More, Paragraph, Quote, Table}
 use Rattle.md_definition.proofs.ColumnLemmas.{opened_by, step_by}
 use Rattle.md_definition.proofs.FindsLemmas.{Finds, first-found, none-found, some-found, unless-found, when-found}
-use Rattle.md_definition.proofs.QuoteLaw.{tree_by}
+use Rattle.md_definition.proofs.TreeLemmas.{tree_by}
 
 -- Blocks.
 
