@@ -66,7 +66,7 @@ fn gives(alloc: Global, list: &str, want: &str) -> Result<bool, Message> {
     let (Ok(events), Ok(want)) = (all(alloc, list), all(alloc, want)) else {
         return Err(Message);
     };
-    Ok(put_texts(alloc, events, Vec::new(alloc))?.0 == want)
+    Ok(put_texts(events, Vec::new(alloc))?.0 == want)
 }
 
 // A run that is refused memory answers so, and the next run is given it.

@@ -1,10 +1,17 @@
 -- Lines of content are joined one event after another.
 use Rattle.std.proofs.Common.{◌≡◌, ℕ, ◌+◌, ◌<◌, ◌≤◌, Bool, true, false, ◌&&◌, List, [], ◌∷◌, ◌++◌, length, length-drop}
-use Rattle.std.proofs.Common.{get_or, set, take, drop, refl, sym, ◌∙◌, ap, append_assoc, arith}
-use Rattle.std.proofs.lemmas.List.{drop-drop, drop-set-lt, get_or-drop, take_more_set}
+use Rattle.std.proofs.Common.{get_or, set, take, drop, refl, sym, ◌∙◌, ap, append_assoc, append-nil, arith, ◌-◌}
+use Rattle.std.proofs.Common.{length-set}
+use Rattle.std.proofs.lemmas.List.{drop-drop, drop-set-add, drop-set-lt, drop_all, get_or-drop, take-set-le, take_more}
+use Rattle.std.proofs.lemmas.List.{take_more_set}
+use Rattle.std.proofs.lemmas.List.Elements.{All-cons, All-head, All-tail}
 use Rattle.md_engine.specs.declared.event.Event.{Event}
+use Rattle.md_engine.specs.declared.event.Name.TheVariants as n
+use Rattle.md_engine.specs.declared.event.Point.{Point}
+use Rattle.md_engine.specs.Place.{IsPlaced, first_point}
 use Rattle.md_content.specs.Joined.{goes_on, is_content, joined, joined_with}
-use Rattle.md_seam.specs.Events.Nested.{is_exit}
+use Rattle.md_seam.specs.Events.Nested.{exit, is_exit}
+use Rattle.md_seam.specs.Parts.{ArePlaced}
 
 -- the first of some events, and those that are joined with it
 joined-head : (l : List Event) (j : ℕ) (d d' : Event) → 0 < length l → j ≡ joined_with l →
@@ -40,25 +47,129 @@ joined-at events at last d d' lt is =
         ◌≡◌ {A = List Event} (record e { point = f.point } ∷ joined l) (record e' { point = f'.point } ∷ joined l')
     together e e' f f' l l' p q r = rw (p, q, r) refl
 
--- one more event is joined, in its place: so many are kept in front
-pub joined-kept : (events first : List Event) (kept at last : ℕ) (e f : Event) → kept ≤ at → at < length events →
-    last ≡ at + joined_with (drop at events) →
-    e ≡ get_or events at e → f ≡ get_or events last f → take kept events ++ joined (drop at events) ≡ joined first →
-    let new : List Event = set events kept (record e { point = f.point }) in
-    take (kept + 1) new ++ joined (drop (last + 1) new) ≡ joined first
-joined-kept events first kept at last e f behind lt is here there so_far =
+-- Lines are joined up to a place: so many events are kept in front, and those from another place on stay as they are.
+pub record Joining (first events : List Event) (kept from at : ℕ) : Type 0 where
+  pub behind : kept ≤ from
+  pub before : from ≤ at
+  pub within : at ≤ length events
+  pub joined : take kept events ++ take (at - from) (drop from events) ++ joined (drop at events) ≡ joined first
+
+pub joins-none : (first : List Event) → Joining first first 0 0 0
+joins-none first = record { behind = omega arith; before = omega arith; within = omega arith; joined = refl }
+
+-- one event more stays
+pub joins-past : (first events : List Event) (kept from at last : ℕ) → at < length events →
+    last ≡ at + joined_with (drop at events) → last ≤ at → Joining first events kept from at →
+    Joining first events kept from (last + 1)
+joins-past first events kept from at last lt is none h =
+    let e : Event = exit n.Data first_point in
+    let same : last ≡ at = omega arith in
+    let here : get_or events last e ≡ get_or events at e = ap (λ (k : ℕ). get_or events k e) same in
+    let k = at - from in
+    let rest = drop from events in
+    let stays : joined (drop at events) ≡ get_or events at e ∷ joined (drop (last + 1) events) =
+    joined-at events at last e e lt is ∙ ap (λ (p : Point). record (get_or events at e) { point = p } ∷ joined (drop (last + 1) events)) (ap (λ (x : Event). x.point) here) in
+    let at_rest : get_or rest k e ≡ get_or events at e = get_or-drop from events k e
+    ∙ ap (λ (n : ℕ). get_or events n e) (omega (arith, h.before)) in
+    let front : take (last + 1 - from) rest ≡ take k rest ++ get_or events at e ∷ [] =
+    ap (λ (n : ℕ). take n rest) (omega (arith, h.before))
+    ∙ take_more rest k e (simp length-drop (omega (arith, h.before)))
+    ∙ ap (λ (x : Event). take k rest ++ x ∷ []) at_rest in
+    record {
+      behind = h.behind;
+      before = omega (arith, h.before);
+      within = omega arith;
+      joined =
+          ap (λ (es : List Event). take kept events ++ es ++ joined (drop (last + 1) events)) front
+          ∙ regroup (take kept events) (take k rest) (get_or events at e ∷ []) (joined (drop (last + 1) events))
+          ∙ ap (λ (es : List Event). take kept events ++ take k rest ++ es) (sym stays) ∙ h.joined;
+    }
+  where
+    regroup : (a b c d : List Event) → (a ++ (b ++ c)) ++ d ≡ (a ++ b) ++ (c ++ d)
+    regroup a b c d = simp append_assoc
+
+-- one event more ends a line that goes on: it takes the ending of that line, and stands behind those in front
+pub joins-line : (first events new : List Event) (kept from at last : ℕ) (e f : Event) → last < length events →
+    last ≡ at + joined_with (drop at events) → at < last → e ≡ get_or events at e → f ≡ get_or events last f →
+    let line : List Event = set events at (record e { point = f.point }) in
+    length new ≡ length line →
+    take (kept + (at + 1 - from)) new ≡ take kept line ++ take (at + 1 - from) (drop from line) →
+    drop (at + 1) new ≡ drop (at + 1) line → Joining first events kept from at →
+    Joining first new (kept + (at + 1 - from)) (last + 1) (last + 1)
+joins-line first events new kept from at last e f lt is more here_is there_is long moved back h =
     let now : Event = record e { point = f.point } in
-    let front : take (kept + 1) (set events kept now) ≡
-    take kept events ++ now ∷ [] = take_more_set events kept now (omega arith) in
-    let back : drop (last + 1) (set events kept now) ≡
-    drop (last + 1) events = drop-set-lt (last + 1) events kept now (omega arith) in
-    let more : joined (drop at events) ≡ now ∷ joined (drop (last + 1) events) = joined-at events at last e f lt is
-    ∙ both (get_or events at e) e (get_or events last f) f (sym here) (sym there) in
-    rw (front, back)
-    (append_assoc (take kept events) (now ∷ []) (joined (drop (last + 1) events))
-    ∙ ap (λ (l : List Event). take kept events ++ l) (sym more) ∙ so_far)
+    let now_is : ◌≡◌ {A = Event} now (record (get_or events at e) { point = (get_or events last f).point }) =
+    both e (get_or events at e) f (get_or events last f) here_is there_is in
+    let k = at - from in
+    let rest = drop from events in
+    let far = last - at in
+    let behind = drop (last + 1) events in
+    let same : drop (last + 1) new ≡ behind =
+    ap (λ (n : ℕ). drop n new) (omega (arith, more)) ∙ sym (drop-drop far (at + 1) new)
+    ∙ ap (drop far) back ∙ drop-drop far (at + 1) (set events at now)
+    ∙ ap (λ (n : ℕ). drop n (set events at now)) (omega (arith, more))
+    ∙ drop-set-lt (last + 1) events at now (omega (arith, more)) in
+    let here : set events at now ≡ set events (from + k) now =
+    ap (λ (n : ℕ). set events n now) (omega (arith, h.before)) in
+    let middle : take (at + 1 - from) (drop from (set events at now)) ≡ take k rest ++ now ∷ [] =
+    ap (λ (n : ℕ). take n (drop from (set events at now))) (omega (arith, h.before))
+    ∙ ap (λ (es : List Event). take (k + 1) (drop from es)) here
+    ∙ ap (take (k + 1)) (drop-set-add from events k now)
+    ∙ take_more_set rest k now (simp length-drop (omega (arith, h.before, more))) in
+    let front : take kept (set events at now) ≡ take kept events =
+    take-set-le kept events at now (omega (arith, h.behind, h.before)) in
+    let next : joined (drop at events) ≡ now ∷ joined behind =
+    joined-at events at last e f (omega (arith, more)) is
+    ∙ ap (λ (x : Event). x ∷ joined behind) (sym now_is) in
+    let none : last + 1 - (last + 1) ≡ 0 = omega arith in
+    record {
+      behind = omega (arith, h.behind, h.before, more);
+      before = omega arith;
+      within = omega (arith, long, length-set events at now);
+      joined =
+          ap (λ (es : List Event). take (kept + (at + 1 - from)) new ++ take (last + 1 - (last + 1)) es ++ joined es) same
+          ∙ ap (λ (n : ℕ). take (kept + (at + 1 - from)) new ++ take n behind ++ joined behind) none
+          ∙ ap (λ (es : List Event). es ++ [] ++ joined behind) moved
+          ∙ ap (λ (es : List Event). es ++ take (at + 1 - from) (drop from (set events at now)) ++ [] ++ joined behind) front
+          ∙ ap (λ (es : List Event). take kept events ++ es ++ [] ++ joined behind) middle
+          ∙ regroup (take kept events) (take k rest) (now ∷ []) (joined behind)
+          ∙ ap (λ (es : List Event). take kept events ++ take k rest ++ es) (sym next) ∙ h.joined;
+    }
   where
     both : (a b c d : Event) → a ≡ b → c ≡ d →
-        ◌≡◌ {A = List Event} (record a { point = c.point } ∷ joined (drop (last + 1) events))
-        (record b { point = d.point } ∷ joined (drop (last + 1) events))
+        ◌≡◌ {A = Event} (record a { point = c.point }) (record b { point = d.point })
     both a b c d p q = rw (p, q) refl
+
+    regroup : (a b c d : List Event) → ((a ++ (b ++ c)) ++ []) ++ d ≡ (a ++ b) ++ (c ++ d)
+    regroup a b c d = simp (append_assoc, append-nil)
+
+-- none are left
+pub joins-all : (first events new : List Event) (kept from at : ℕ) → length events ≤ at → length new ≡ length events →
+    take (kept + (at - from)) new ≡ take kept events ++ take (at - from) (drop from events) →
+    Joining first events kept from at → take (kept + (at - from)) new ≡ joined first
+joins-all first events new kept from at end long moved h =
+    moved ∙ sym (append-nil (take kept events ++ take (at - from) (drop from events)))
+    ∙ ap (λ (es : List Event). take kept events ++ take (at - from) (drop from events) ++ joined es)
+    (sym (drop_all at events end)) ∙ h.joined
+
+-- Events that stand at places of the text still do.
+
+abbrev Stands : List ℕ → Event → Type 0
+Stands bytes e = IsPlaced bytes e.point
+
+pub joined-placed : (bytes : List ℕ) (events : List Event) → ArePlaced bytes events → ArePlaced bytes (joined events)
+joined-placed bytes [] h = h
+joined-placed bytes (e ∷ []) h = h
+joined-placed bytes (e ∷ f ∷ []) h = h
+joined-placed bytes (e ∷ f ∷ g ∷ es) h =
+    let after = All-tail (Stands bytes) e (f ∷ g ∷ es) h in
+    let behind = All-tail (Stands bytes) f (g ∷ es) after in
+    go (is_exit e.kind && is_content e.name && goes_on (f ∷ g ∷ es)) refl
+    (All-head (Stands bytes) e (f ∷ g ∷ es) h) (All-head (Stands bytes) g es behind)
+    (joined-placed bytes es (All-tail (Stands bytes) g es behind)) (joined-placed bytes (f ∷ g ∷ es) after)
+  where
+    go : (b : Bool) → (is_exit e.kind && is_content e.name && goes_on (f ∷ g ∷ es)) ≡ b → IsPlaced bytes e.point →
+        IsPlaced bytes g.point → ArePlaced bytes (joined es) → ArePlaced bytes (joined (f ∷ g ∷ es)) →
+        ArePlaced bytes (joined (e ∷ f ∷ g ∷ es))
+    go true k here there a b = rw k (All-cons (Stands bytes) (record e { point = g.point }) (joined es) there a)
+    go false k here there a b = rw k (All-cons (Stands bytes) e (joined (f ∷ g ∷ es)) here b)

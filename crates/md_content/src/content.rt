@@ -40,6 +40,7 @@ use md_engine::subtokenize::Subresult;
 use md_engine::table::{Table, flush, push};
 use md_engine::tokenizer::{HeldLeaf, Tokenizer};
 use md_seam::inline::Chunk;
+use md_seam::moving::move_down;
 use md_seam::subtokenize::{Reader, is_prefix, subtokenize};
 use std::alloc::Global;
 
@@ -310,21 +311,27 @@ fn joined_to(events: &[Event], at: usize) -> usize
 }
 
 /// Puts the ending of each line of content that goes on into that line.
+///
+/// The events between two such endings are moved at once.
 fn join(events: &mut Vec<Event>)
     ensures placed { (bytes : List ℕ) → ArePlaced bytes events.old.items → ArePlaced bytes events.new.items }
     ensures joined { events.new.items ≡ joined events.old.items }
 {
     let mut kept = 0;
+    let mut from = 0;
     let mut at = 0;
     while at < events.len() {
         let last = joined_to(events, at);
-        events[kept] = Event {
-            point: events[last].point,
-            ..events[at]
-        };
-        kept += 1;
+        if last > at {
+            events[at].point = events[last].point;
+            move_down(events, kept, from, at + 1);
+            kept += at + 1 - from;
+            from = last + 1;
+        }
         at = last + 1;
     }
+    move_down(events, kept, from, at);
+    kept += at - from;
     events.truncate(kept);
 }
 

@@ -1,6 +1,6 @@
 -- The walk that sets the text of headings, one event after another.
 use Rattle.std.proofs.Common.{◌≡◌, ℕ, Bool, true, false, cond, List, [], ◌∷◌, ◌++◌, Option, Some, None, refl, sym, ◌∙◌}
-use Rattle.std.proofs.Common.{ap, append_assoc, append-nil}
+use Rattle.std.proofs.Common.{ap, append_assoc, append-nil, drop}
 use Rattle.std.specs.Prelude.{IfSome}
 use Rattle.std.proofs.lemmas.List.Elements.{All-append, All-cons, All-head, All-nil, All-push, All-tail}
 use Rattle.md_engine.specs.declared.event.Event.{Event}
@@ -38,11 +38,10 @@ step-from all (Within first after last closing since) e es =
     go false false false k l m = rw (k, l, m) refl
 
 -- one event more: it is the first of those that are left
-pub walk-next : (w new : Walked) (given left rest after all : List Event) (e : Event) → given ≡ w.given →
-    left ≡ e ∷ rest →
-    new ≡ stepped (record w { given = given }) e → after ≡ rest → in_all w left ≡ all → in_all new after ≡ all
-walk-next w new given left rest after all e same front is kept so_far =
-    rw (kept, is, same) (step-from w.given w.place e rest ∙ ap (in_all w) (sym front) ∙ so_far)
+pub walk-next : (w new : Walked) (left after all : List Event) (e : Event) → left ≡ e ∷ drop 1 left →
+    new ≡ stepped w e → after ≡ drop 1 left → in_all w left ≡ all → in_all new after ≡ all
+walk-next w new left after all e front is kept so_far =
+    rw (kept, is) (step-from w.given w.place e (drop 1 left) ∙ ap (in_all w) (sym front) ∙ so_far)
 
 -- the last
 walk-ends : (w : Walked) (all : List Event) → in_all w [] ≡ all → finished w ≡ all
@@ -57,9 +56,8 @@ walk-ends w all is = go w.place refl
         rw e (sym same ∙ is)
 
 -- none are left
-pub walk-done : (w : Walked) (given left all : List Event) → given ≡ w.given → left ≡ [] → in_all w left ≡ all →
-    finished (record w { given = given }) ≡ all
-walk-done w given left all same none so_far = rw same (walk-ends w all (ap (in_all w) (sym none) ∙ so_far))
+pub walk-done : (w : Walked) (left all : List Event) → left ≡ [] → in_all w left ≡ all → finished w ≡ all
+walk-done w left all none so_far = walk-ends w all (ap (in_all w) (sym none) ∙ so_far)
 
 -- Events that stand at places of the text still do.
 

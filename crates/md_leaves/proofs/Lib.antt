@@ -13,6 +13,7 @@ pub mod BomSteps
 pub mod NonLazyGoods
 pub mod NonLazySteps
 pub mod HeadingWalkLemmas
+pub mod RewrittenLemmas
 pub mod TitleRuns
 pub mod TitleTexts
 pub mod TitleLemmas

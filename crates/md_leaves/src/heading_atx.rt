@@ -263,7 +263,7 @@ pub fn resolve(tokenizer: &mut Tokenizer) -> Result<Option<Subresult>, Message>
 {
     let events = tokenizer.take_events();
     let spare = tokenizer.take_spare();
-    let (with_texts, spare) = put_texts(tokenizer.alloc, events, spare)?;
+    let (with_texts, spare) = put_texts(events, spare)?;
     tokenizer.set_events(with_texts, spare);
     Ok(None)
 }

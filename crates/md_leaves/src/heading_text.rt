@@ -1,17 +1,16 @@
 // The text of each ATX heading, in one walk over the events.
 
-ghost use Rattle.std.specs.Prelude.{◌≡◌, ℕ, List, [], ◌++◌, IfOk, OnOk};
-ghost use Rattle.md_leaves.specs.Rewritten.{left_of, written_of};
+ghost use Rattle.std.specs.Prelude.{◌≡◌, ℕ, List, [], ◌++◌, IfOk, OnOk, drop, length, ◌≤◌};
+ghost use Rattle.md_leaves.specs.Rewritten.{IsFirst, held_of, left_of, written_of};
 ghost use Rattle.md_leaves.specs.HeadingText.{begins, ends, headings_resolved, is_heading, is_run, is_sequence};
 ghost use Rattle.md_leaves.specs.HeadingText.{text_between};
 ghost use Rattle.md_seam.specs.Parts.{ArePlaced};
 ghost use Rattle.md_seam.specs.Events.Tiles.{is_data};
 
 use crate::heading_atx::TEXT_LINK;
-use crate::rewriting::{Rewriting, append, push};
+use crate::rewriting::Rewriting;
 use md_engine::event::{Event, Kind, Name, Point};
 use md_engine::message::Message;
-use std::alloc::Global;
 
 /// Whether a heading begins here.
 fn begins_heading(event: &Event) -> bool
@@ -63,6 +62,7 @@ fn plain(kind: Kind, name: Name, point: Point) -> Event
 /// Writes the text between two points, as one part that is read later; nothing if it has no end.
 fn push_text(events: &mut Rewriting, first: Point, after: Option<Point>) -> Result<(), Message>
     ensures left { OnOk result (left_of events.new ≡ left_of events.old) }
+    ensures held { held_of events.new ≡ held_of events.old }
     ensures written { OnOk result (written_of events.new ≡ written_of events.old ++ text_between first after) }
 {
     let Some(after) = after else {
@@ -89,7 +89,7 @@ enum Stage {
     /// Behind it, before a further run.
     Opened,
     /// Behind the begin of a further run.
-    Within(Text),
+    Within,
 }
 
 /// The text of a heading, as far as it is known.
@@ -101,151 +101,160 @@ struct Text {
     after: Option<Point>,
     /// Where the last run has ended.
     last: Option<Point>,
+    /// How many of the events that are held stand between that text and the end of the last run: a run of `#`, which
+    /// may close the heading.
+    closing: usize,
+}
+
+impl Text {
+    /// A text without a run.
+    const NONE: Text = Text {
+        first: Point {
+            line: 0,
+            column: 0,
+            index: 0,
+            vs: 0,
+        },
+        after: None,
+        last: None,
+        closing: 0,
+    };
 }
 
 /// A walk over the events.
 #[derive(Drop)]
 struct Walk {
-    /// What is given for the events so far, up to the text that is open, and the events that are left.
+    /// What is given for the events so far, those that are held behind it, and those that are left. Outside of texts,
+    /// what is held is given as it is.
     all: Rewriting,
     stage: Stage,
-    /// What stands behind that text up to the end of the last run: a run of `#`, which may close the heading.
-    closing: Vec<Event>,
-    /// What stands behind that end.
-    since: Vec<Event>,
+    /// The text that is open, within a heading from its first further run on.
+    text: Text,
+    ghost within: { text.closing ≤ length (held_of all) },
 }
 
 impl Walk {
     ghost use Rattle.md_leaves.specs.HeadingWalk.{finished, stepped, walk_of};
 
     /// Goes on with an event outside of headings.
-    fn step_outside(&mut self, event: Event) -> Result<(), Message>
-        requires { self.old.stage ≡ Stage.Outside }
-        ensures left { OnOk result (left_of self.new.all ≡ left_of self.old.all) }
-        ensures walked { OnOk result (walk_of self.new ≡ stepped (walk_of self.old) event) }
+    fn step_outside(&mut self, event: Event)
+        requires stage { self.old.stage ≡ Stage.Outside }
+        requires first { IsFirst event (left_of self.old.all) }
+        ensures left { left_of self.new.all ≡ drop 1 (left_of self.old.all) }
+        ensures walked { walk_of self.new ≡ stepped (walk_of self.old) event }
     {
         if begins_heading(&event) {
             self.stage = Stage::Before;
         }
-        self.all.push(event)
+        self.all.hold(event);
     }
 
     /// Goes on with an event of a heading up to the end of its opening sequence.
-    fn step_before(&mut self, event: Event) -> Result<(), Message>
-        requires { self.old.stage ≡ Stage.Before }
-        ensures left { OnOk result (left_of self.new.all ≡ left_of self.old.all) }
-        ensures walked { OnOk result (walk_of self.new ≡ stepped (walk_of self.old) event) }
+    fn step_before(&mut self, event: Event)
+        requires stage { self.old.stage ≡ Stage.Before }
+        requires first { IsFirst event (left_of self.old.all) }
+        ensures left { left_of self.new.all ≡ drop 1 (left_of self.old.all) }
+        ensures walked { walk_of self.new ≡ stepped (walk_of self.old) event }
     {
         if ends_sequence(&event) {
             self.stage = Stage::Opened;
         } else if ends_heading(&event) {
             self.stage = Stage::Outside;
         }
-        self.all.push(event)
+        self.all.hold(event);
     }
 
     /// Goes on with an event of a heading between its opening sequence and a further run.
     fn step_opened(&mut self, event: Event) -> Result<(), Message>
-        requires { self.old.stage ≡ Stage.Opened }
-        ensures left { OnOk result (left_of self.new.all ≡ left_of self.old.all) }
+        requires stage { self.old.stage ≡ Stage.Opened }
+        requires first { IsFirst event (left_of self.old.all) }
+        ensures left { OnOk result (left_of self.new.all ≡ drop 1 (left_of self.old.all)) }
         ensures walked { OnOk result (walk_of self.new ≡ stepped (walk_of self.old) event) }
     {
         if begins_run(&event) {
-            self.stage = Stage::Within(Text {
+            self.stage = Stage::Within;
+            self.text = Text {
                 first: event.point,
                 after: None,
                 last: None,
-            });
-            self.closing.clear();
-            self.since.clear();
-            return push(&mut self.since, event);
-        }
-        if ends_heading(&event) {
+                closing: 0,
+            };
+            self.all.give()?;
+        } else if ends_heading(&event) {
             self.stage = Stage::Outside;
         }
-        self.all.push(event)
-    }
-
-    /// Gives the text that is open, and what stands behind it.
-    fn give_text(&mut self, text: Text) -> Result<(), Message>
-        ensures left { OnOk result (left_of self.new.all ≡ left_of self.old.all) }
-        ensures written { OnOk result
-            (written_of self.new.all ≡
-            written_of self.old.all ++ text_between text.first text.after ++ self.old.closing.items
-            ++ self.old.since.items) }
-        ensures stage { self.new.stage ≡ self.old.stage }
-    {
-        push_text(&mut self.all, text.first, text.after)?;
-        self.all.push_all(&self.closing)?;
-        self.all.push_all(&self.since)
+        self.all.hold(event);
+        Ok(())
     }
 
     /// Goes on with an event of a heading from its first further run on.
-    fn step_within(&mut self, text: Text, event: Event) -> Result<(), Message>
-        requires { self.old.stage ≡ Stage.Within text }
-        ensures left { OnOk result (left_of self.new.all ≡ left_of self.old.all) }
+    fn step_within(&mut self, event: Event) -> Result<(), Message>
+        requires stage { self.old.stage ≡ Stage.Within }
+        requires first { IsFirst event (left_of self.old.all) }
+        ensures left { OnOk result (left_of self.new.all ≡ drop 1 (left_of self.old.all)) }
         ensures walked { OnOk result (walk_of self.new ≡ stepped (walk_of self.old) event) }
     {
+        self.all.hold(event);
         if ends_data(&event) {
-            self.stage = Stage::Within(Text {
-                first: text.first,
-                after: Some(event.point),
-                last: Some(event.point),
-            });
-            self.closing.clear();
-            self.since.clear();
-            return Ok(());
+            self.text.after = Some(event.point);
+            self.text.last = Some(event.point);
+            self.text.closing = 0;
+            self.all.leave_out(self.all.held());
+        } else if ends_sequence(&event) {
+            let closing = self.text.closing;
+            self.text.after = self.text.last;
+            self.text.last = Some(event.point);
+            self.text.closing = 0;
+            self.all.leave_out(closing);
+            self.text.closing = self.all.held();
+        } else if ends_heading(&event) {
+            push_text(&mut self.all, self.text.first, self.text.after)?;
+            self.stage = Stage::Outside;
         }
-        if ends_sequence(&event) {
-            self.stage = Stage::Within(Text {
-                first: text.first,
-                after: text.last,
-                last: Some(event.point),
-            });
-            self.closing.clear();
-            append(&mut self.closing, &mut self.since)?;
-            return push(&mut self.closing, event);
-        }
-        if !ends_heading(&event) {
-            return push(&mut self.since, event);
-        }
-        self.give_text(text)?;
-        self.stage = Stage::Outside;
-        self.all.push(event)
+        Ok(())
     }
 
-    /// Goes on with the next event.
+    /// Goes on with the event that is left first.
     fn step(&mut self, event: Event) -> Result<(), Message>
-        ensures left { OnOk result (left_of self.new.all ≡ left_of self.old.all) }
+        requires { IsFirst event (left_of self.old.all) }
+        ensures left { OnOk result (left_of self.new.all ≡ drop 1 (left_of self.old.all)) }
         ensures walked { OnOk result (walk_of self.new ≡ stepped (walk_of self.old) event) }
     {
         match self.stage {
-            Stage::Outside => self.step_outside(event),
-            Stage::Before => self.step_before(event),
+            Stage::Outside => {
+                self.step_outside(event);
+                Ok(())
+            }
+            Stage::Before => {
+                self.step_before(event);
+                Ok(())
+            }
             Stage::Opened => self.step_opened(event),
-            Stage::Within(text) => self.step_within(text, event),
+            Stage::Within => self.step_within(event),
         }
     }
 
     /// What is given for all events, and a list to write to, which is empty.
-    fn finish(mut self) -> Result<(Vec<Event>, Vec<Event>), Message>
+    fn finish(self) -> Result<(Vec<Event>, Vec<Event>), Message>
         ensures { IfOk result (λ lists. lists.0.items ≡ finished (walk_of self)) }
     {
-        if let Stage::Within(text) = self.stage {
-            self.give_text(text)?;
+        let Walk {
+            mut all,
+            stage,
+            text,
+        } = self;
+        if let Stage::Within = stage {
+            push_text(&mut all, text.first, text.after)?;
         }
-        self.all.finish()
+        all.give()?;
+        all.finish()
     }
 }
 
 /// The events with the text of each heading set: from the run behind its opening sequence to the last that does not
 /// close it. They stand in the list of the events, which keeps no more memory than they need. What finds no place there
 /// is put into `spare` first, which is handed back empty.
-pub fn put_texts(
-    alloc: Global,
-    events: Vec<Event>,
-    spare: Vec<Event>,
-) -> Result<(Vec<Event>, Vec<Event>), Message>
+pub fn put_texts(events: Vec<Event>, spare: Vec<Event>) -> Result<(Vec<Event>, Vec<Event>), Message>
     requires { spare.items ≡ [] }
     ensures events { IfOk result (λ lists. lists.0.items ≡ headings_resolved events.items) }
     ensures placed { IfOk result
@@ -254,10 +263,9 @@ pub fn put_texts(
     let mut walk = Walk {
         all: Rewriting::new(events, spare),
         stage: Stage::Outside,
-        closing: Vec::new(alloc),
-        since: Vec::new(alloc),
+        text: Text::NONE,
     };
-    while let Some(event) = walk.all.next() {
+    while let Some(event) = walk.all.first() {
         walk.step(event)?;
     }
     let (mut all, spare) = walk.finish()?;

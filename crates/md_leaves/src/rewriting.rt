@@ -1,12 +1,13 @@
 // A list of events that is rewritten in its own place.
 
-ghost use Rattle.std.specs.Prelude.{◌≡◌, ◌≤◌, [], ◌∷◌, ◌++◌, IfNone, IfOk, IfSome, OnOk, length};
+ghost use Rattle.std.specs.Prelude.{◌≡◌, ◌≤◌, [], ◌∷◌, ◌++◌, IfNone, IfOk, IfSome, OnOk, drop, length};
 
 use md_engine::event::Event;
 use md_engine::message::Message;
+use md_seam::moving::move_down;
 
 /// Appends an event.
-pub(crate) fn push(events: &mut Vec<Event>, event: Event) -> Result<(), Message>
+fn push(events: &mut Vec<Event>, event: Event) -> Result<(), Message>
     ensures { OnOk result (events.new.items ≡ events.old.items ++ event ∷ []) }
 {
     if events.push(event).is_err() {
@@ -16,7 +17,7 @@ pub(crate) fn push(events: &mut Vec<Event>, event: Event) -> Result<(), Message>
 }
 
 /// Appends the events of another list, and leaves that empty.
-pub(crate) fn append(events: &mut Vec<Event>, more: &mut Vec<Event>) -> Result<(), Message>
+fn append(events: &mut Vec<Event>, more: &mut Vec<Event>) -> Result<(), Message>
     ensures items { OnOk result (events.new.items ≡ events.old.items ++ more.old.items) }
     ensures more { OnOk result (more.new.items ≡ []) }
 {
@@ -26,42 +27,101 @@ pub(crate) fn append(events: &mut Vec<Event>, more: &mut Vec<Event>) -> Result<(
     Ok(())
 }
 
-/// A list that is read from its front on, and written again in the places that are read. What finds no place there,
-/// since more is written than was read, stands behind it in a list of its own.
+/// A list that is read from its front on, and written again in the places that are read. What was read is held before
+/// it is given, so that many events are given at once. What finds no place there, since more is written than was read,
+/// stands behind it in a list of its own.
 #[derive(Drop)]
 pub(crate) struct Rewriting {
     events: Vec<Event>,
-    /// How many of the events were read.
-    read: usize,
     /// In how many of their places others stand.
     written: usize,
+    /// How many of the events were given or left out. Those behind them, up to what was read, are held.
+    done: usize,
+    /// How many of the events were read.
+    read: usize,
     more: Vec<Event>,
-    ghost within: { (written ≤ read) × (read ≤ length events.items) },
+    ghost within: { (written ≤ done) × (done ≤ read) × (read ≤ length events.items) },
 }
 
 impl Rewriting {
-    ghost use Rattle.md_leaves.specs.Rewritten.{left_of, written_of};
+    ghost use Rattle.md_leaves.specs.Rewritten.{IsFirst, held_of, left_of, written_of};
 
-    /// Takes the next event.
-    pub(crate) fn next(&mut self) -> Option<Event>
-        ensures some { IfSome result (λ event. left_of self.old ≡ event ∷ left_of self.new) }
-        ensures none { IfNone result (left_of self.old ≡ []) }
-        ensures written { written_of self.new ≡ written_of self.old }
+    /// The event that is left first.
+    pub(crate) fn first(&self) -> Option<Event>
+        ensures some { IfSome result (λ event. IsFirst event (left_of self.now)) }
+        ensures none { IfNone result (left_of self.now ≡ []) }
     {
         if self.read < self.events.len() {
-            let event = self.events[self.read];
-            self.read += 1;
-            return Some(event);
+            Some(self.events[self.read])
+        } else {
+            None
         }
-        None
+    }
+
+    /// Reads the event that is left first, and holds it.
+    pub(crate) fn hold(&mut self, _event: Event)
+        requires { IsFirst _event (left_of self.old) }
+        ensures left { left_of self.new ≡ drop 1 (left_of self.old) }
+        ensures held { held_of self.new ≡ held_of self.old ++ _event ∷ [] }
+        ensures written { written_of self.new ≡ written_of self.old }
+    {
+        self.read += 1;
+    }
+
+    /// How many events are held.
+    pub(crate) fn held(&self) -> usize
+        ensures { result ≡ length (held_of self.now) }
+    {
+        self.read - self.done
+    }
+
+    /// Leaves out so many of the events that are held, from their front on.
+    pub(crate) fn leave_out(&mut self, count: usize)
+        requires { count ≤ length (held_of self.old) }
+        ensures left { left_of self.new ≡ left_of self.old }
+        ensures held { held_of self.new ≡ drop count (held_of self.old) }
+        ensures written { written_of self.new ≡ written_of self.old }
+    {
+        self.done += count;
+    }
+
+    /// Writes the events that are held, where nothing stands behind the list.
+    fn give_here(&mut self)
+        requires { self.old.more.items ≡ [] }
+        ensures left { left_of self.new ≡ left_of self.old }
+        ensures held { held_of self.new ≡ [] }
+        ensures written { written_of self.new ≡ written_of self.old ++ held_of self.old }
+    {
+        move_down(&mut self.events, self.written, self.done, self.read);
+        self.written += self.read - self.done;
+        self.done = self.read;
+    }
+
+    /// Writes the events that are held.
+    pub(crate) fn give(&mut self) -> Result<(), Message>
+        ensures left { OnOk result (left_of self.new ≡ left_of self.old) }
+        ensures held { OnOk result (held_of self.new ≡ []) }
+        ensures written { OnOk result (written_of self.new ≡ written_of self.old ++ held_of self.old) }
+    {
+        if self.more.is_empty() {
+            self.give_here();
+            return Ok(());
+        }
+        let held = &self.events[self.done..self.read];
+        if self.more.extend_from_slice(held).is_err() {
+            return Err(Message);
+        }
+        self.done = self.read;
+        Ok(())
     }
 
     /// Writes an event.
     pub(crate) fn push(&mut self, event: Event) -> Result<(), Message>
         ensures left { left_of self.new ≡ left_of self.old }
+        ensures held { held_of self.new ≡ held_of self.old }
         ensures written { OnOk result (written_of self.new ≡ written_of self.old ++ event ∷ []) }
     {
-        if self.written < self.read && self.more.is_empty() {
+        if self.written < self.done && self.more.is_empty() {
             self.events[self.written] = event;
             self.written += 1;
             return Ok(());
@@ -69,27 +129,18 @@ impl Rewriting {
         push(&mut self.more, event)
     }
 
-    /// Writes some events.
-    pub(crate) fn push_all(&mut self, events: &[Event]) -> Result<(), Message>
-        ensures left { OnOk result (left_of self.new ≡ left_of self.old) }
-        ensures written { OnOk result (written_of self.new ≡ written_of self.old ++ events.now) }
-    {
-        for event in events {
-            self.push(*event)?;
-        }
-        Ok(())
-    }
-
     /// Begins to read these events. `more` is empty.
     pub(crate) fn new(events: Vec<Event>, more: Vec<Event>) -> Rewriting
         requires { more.items ≡ [] }
         ensures left { left_of result ≡ events.items }
+        ensures held { held_of result ≡ [] }
         ensures written { written_of result ≡ [] }
     {
         Rewriting {
             events,
-            read: 0,
             written: 0,
+            done: 0,
+            read: 0,
             more,
         }
     }

@@ -1,4 +1,5 @@
 pub mod BlocksStay
+pub mod FirstLine
 pub mod HeadingLemmas
 pub mod OutlineDepths
 pub mod OutlineLemmas

@@ -3,6 +3,7 @@
 #![tactic(auto)]
 
 pub mod inline;
+pub mod moving;
 pub mod names;
 pub mod plain;
 pub mod slice;

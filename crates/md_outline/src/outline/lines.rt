@@ -11,6 +11,7 @@ ghost use Rattle.md_outline.specs.TextLines.{after_ending, full_entries, line_le
 
 use md_definition::outline::{OutlineLine, Word};
 use md_engine::message::Message;
+use memchr::memchr2;
 use std::str;
 
 /// One more. A number that is no `usize` is one of which no memory holds so many.
@@ -43,9 +44,10 @@ pub fn first_line_len(text: &[u8]) -> usize
     ensures value { result ≡ line_len text.now }
     ensures bound { result ≤ length text.now }
 {
-    text.iter()
-        .take_while(|byte| **byte != b'\n' && **byte != b'\r')
-        .count()
+    match memchr2(b'\n', b'\r', text) {
+        Some(at) => at,
+        None => text.len(),
+    }
 }
 
 /// What follows the line ending that comes first: LF, CR or CR LF.

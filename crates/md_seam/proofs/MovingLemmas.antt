@@ -1,0 +1,43 @@
+-- Events are moved to the front of their list.
+use Rattle.std.proofs.Common.{◌≡◌, ℕ, ◌+◌, ◌-◌, ◌≤◌, List, ◌++◌, length, take, drop, refl, sym, ◌∙◌, ap, arith}
+use Rattle.std.proofs.Common.{length-drop}
+use lib.Seq.{paste}
+use Rattle.std.proofs.Math.Seq.{take-add}
+use Rattle.std.proofs.lemmas.List.{drop-drop, drop_at}
+use Rattle.std.proofs.lemmas.List.Edits.{drop-paste, take-paste}
+use Rattle.md_engine.specs.declared.event.Event.{Event}
+
+-- where they reach over the places that they leave
+pub moved : (events : List Event) (to from end : ℕ) → to ≤ from → from ≤ end → end ≤ length events →
+    take (to + (end - from)) (paste events to (drop from events) (end - from)) ≡
+    take to events ++ take (end - from) (drop from events)
+moved events to from end low le within =
+    take-paste events to (drop from events) (end - from) (omega arith) (simp length-drop (omega arith))
+
+pub behind-moved : (events : List Event) (to from end : ℕ) → to ≤ from → from ≤ end → end ≤ length events →
+    drop end (paste events to (drop from events) (end - from)) ≡ drop end events
+behind-moved events to from end low le within =
+    let n = end - from in
+    let new : List Event = paste events to (drop from events) n in
+    let far = end - (to + n) in
+    let at : (es : List Event) → drop far (drop (to + n) es) ≡ drop end es = λ es. drop-drop far (to + n) es
+    ∙ ap (λ (k : ℕ). drop k es) (omega arith) in
+    sym (at new)
+    ∙ ap (drop far) (drop-paste events to (drop from events) n (omega arith) (simp length-drop (omega arith)))
+    ∙ at events
+
+-- where they stay
+pub unmoved : (events : List Event) (to from end : ℕ) → to ≡ from →
+    take (to + (end - from)) events ≡ take to events ++ take (end - from) (drop from events)
+unmoved events to from end same =
+    take-add to (end - from) events ∙ ap (λ (n : ℕ). take to events ++ take (end - from) (drop n events)) same
+
+-- where they are copied
+pub behind-copied : (events front back : List Event) (from end : ℕ) → from ≤ end → length front ≡ from →
+    back ≡ drop from events → drop end (front ++ back) ≡ drop end events
+behind-copied events front back from end le long is =
+    let far = end - from in
+    ap (λ (n : ℕ). drop n (front ++ back)) (omega arith)
+    ∙ sym (drop-drop far (length front) (front ++ back))
+    ∙ ap (drop far) (drop_at front back (length front) refl ∙ is)
+    ∙ drop-drop far from events ∙ ap (λ (n : ℕ). drop n events) (omega arith)
