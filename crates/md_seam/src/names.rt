@@ -9,8 +9,6 @@ use md_engine::event::Name;
 pub fn is_prefix(name: Name) -> bool
     ensures { result ≡ is_prefix name }
 {
-    matches!(
-        name,
-        Name::SpaceOrTab | Name::BlockQuotePrefix | Name::BlockQuoteMarker
-    )
+    matches!(name, Name::BlockQuotePrefix | Name::BlockQuoteMarker)
+        || matches!(name, Name::SpaceOrTab)
 }

@@ -16,6 +16,9 @@ use md_engine::parse_state::ParseState;
 use md_engine::tokenizer::Tokenizer;
 use std::alloc::Global;
 
+/// How many events stand in the place of a chunk at most: those of its line and of its ending.
+const MOST: usize = 4;
+
 /// Reads a text part as lines: `Data` over each line, if it is not empty, and `LineEnding` over its ending.
 pub struct Plain;
 
@@ -77,6 +80,10 @@ impl Inline for Plain {
         state: &ParseState,
     ) -> Result<Vec<Event>, Message> {
         let mut tokenizer = Tokenizer::new(alloc, chunks[0].first, state.bytes, state.options);
+        let Ok(events) = Vec::with_capacity(alloc, chunks.len().saturating_mul(MOST)) else {
+            return Err(Message);
+        };
+        tokenizer.set_events(events, Vec::new(alloc));
         for chunk in chunks {
             read_chunk(&mut tokenizer, chunk)?;
         }

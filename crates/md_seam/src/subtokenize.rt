@@ -16,6 +16,7 @@ pub use crate::names::is_prefix;
 use md_engine::event::{Content, Event, Kind, Name};
 use md_engine::message::Message;
 use std::alloc::Global;
+use std::mem;
 
 /// Reads parts of some contents.
 pub trait Reader {
@@ -158,40 +159,33 @@ impl Found {
         }
     }
 
-    /// What is found in the part that begins with these events, unless chunks of another part are left.
+    /// Reads the part that begins with these events, unless chunks of another part are left.
     fn or_read<R: Reader>(
-        self,
+        &mut self,
         alloc: Global,
         reader: &R,
         content: Content,
         events: &[Event],
-    ) -> Result<Found, Message>
+    ) -> Result<(), Message>
         requires within { 1 < length events.now }
         requires placed { ArePlaced (R.text reader.now) events.now }
-        requires found { ArePlaced (R.text reader.now) self.events.items }
-        ensures chunks { IfOk result (λ found. 0 < found.chunks) }
-        ensures placed { IfOk result (λ found. ArePlaced (R.text reader.now) found.events.items) }
-        ensures begun { IfOk result
-            (λ found.
-            Begun (R.reads_as reader.now content (chunks_from (R.wants reader.now) events.now))
-            (length (chunks_from (R.wants reader.now) events.now)) (drop self.placed self.events.items) self.chunks
-            (drop found.placed found.events.items) found.chunks) }
+        requires found { ArePlaced (R.text reader.now) self.old.events.items }
+        ensures chunks { OnOk result (0 < self.new.chunks) }
+        ensures placed { OnOk result (ArePlaced (R.text reader.now) self.new.events.items) }
+        ensures begun { OnOk result
+            (Begun (R.reads_as reader.now content (chunks_from (R.wants reader.now) events.now))
+            (length (chunks_from (R.wants reader.now) events.now)) (drop self.old.placed self.old.events.items)
+            self.old.chunks (drop self.new.placed self.new.events.items) self.new.chunks) }
     {
         if self.chunks > 0 {
-            return Ok(self);
+            return Ok(());
         }
-        let Found {
-            events: old,
-            spare: mut chunks,
-            ..
-        } = self;
-        list_chunks(&mut chunks, reader, events)?;
-        Ok(Found {
-            events: reader.read(alloc, content, &chunks, old)?,
-            placed: 0,
-            chunks: chunks.len(),
-            spare: chunks,
-        })
+        list_chunks(&mut self.spare, reader, events)?;
+        self.placed = 0;
+        let old = mem::replace(&mut self.events, Vec::new(alloc));
+        self.events = reader.read(alloc, content, &self.spare, old)?;
+        self.chunks = self.spare.len();
+        Ok(())
     }
 
     /// Puts what belongs to the next chunk, which ends at the byte `end`, behind `events`.
@@ -240,7 +234,7 @@ pub fn subtokenize<R: Reader>(
         let event = events[at];
         match chunk_content(reader, &event) {
             Some(content) if at + 1 < events.len() => {
-                found = found.or_read(alloc, reader, content, &events[at..])?;
+                found.or_read(alloc, reader, content, &events[at..])?;
                 found.place(&mut all, events[at + 1].point.index)?;
                 at += 2;
             }

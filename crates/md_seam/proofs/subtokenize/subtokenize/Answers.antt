@@ -38,10 +38,10 @@ pub loop-at-preserved-then-at-events : goal.loop-at-preserved-then-at-events
 loop-at-preserved-then-at-events g c = record {
   all =
       placed-place
-      (g.R.Reader.text c.args.reader.now) _ _ _ _ _ c.in_ok-place-in-Some.ensures.placed c.loop-at.invariant.all c.in_ok-found-in-Some.ensures.placed;
-  found = rw c.place.ensures.same c.in_ok-found-in-Some.ensures.placed;
+      (g.R.Reader.text c.args.reader.now) _ _ _ _ _ c.in_ok-place-in-Some.ensures.placed c.loop-at.invariant.all c.in_ok-or_read-in-Some.ensures.placed;
+  found = rw c.place.ensures.same c.in_ok-or_read-in-Some.ensures.placed;
   substituted =
-      let begun = c.in_ok-found-in-Some.ensures.begun in
+      let begun = c.in_ok-or_read-in-Some.ensures.begun in
       leads-part (g.R.Reader.wants c.args.reader.now)
       (g.R.Reader.reads_as c.args.reader.now) c.args.events.now _ _ _ _ _ _ _ _ _ c.loop-at.at _ c.in-Some.content c.if-at-events.true
       (take_rest c.args.events.now c.loop-at.at) c.in-Some.ensures begun c.in_ok-place-in-Some.ensures.chunks c.in_ok-place-in-Some.ensures.placed c.in_ok-place-in-Some.ensures.left c.loop-at.invariant.substituted;

@@ -1,4 +1,5 @@
 use Rattle.std.proofs.Common.{ap, ◌∙◌, arith}
+use Rattle.std.proofs.lemmas.List.Elements.{All-nil}
 use Rattle.md_engine.specs.World.{Setting, World}
 use Rattle.md_seam.specs.declared.inline.Chunk.{Chunk}
 use Rattle.md_seam.proofs.PlainSteps.{chunks-all, chunks-more}
@@ -14,11 +15,19 @@ unset = record {
 pub new-tokenizer-requires : goal.new-tokenizer-requires
 new-tokenizer-requires c = (c.requires.each 0 _ c.requires.some).first
 
+pub set_events-requires-clause-frames : goal.set_events-requires-clause-frames
+set_events-requires-clause-frames c = ap (λ (w : World). w.frames) c.new-tokenizer.ensures
+
+pub set_events-requires-clause-placed : goal.set_events-requires-clause-placed
+set_events-requires-clause-placed c = rw c.in-Ok.ensures.items (All-nil _)
+
 pub loop-chunk-init : goal.loop-chunk-init
 loop-chunk-init c = record {
-  bytes = ap (λ (w : World). w.setting.bytes) c.new-tokenizer.ensures;
-  skips = ap (λ (w : World). w.setting.skips) c.new-tokenizer.ensures;
-  events = λ end lines whole. ap (λ (w : World). w.events) c.new-tokenizer.ensures;
+  bytes = ap (λ (w : World). w.setting.bytes) c.set_events.ensures
+      ∙ ap (λ (w : World). w.setting.bytes) c.new-tokenizer.ensures;
+  skips = ap (λ (w : World). w.setting.skips) c.set_events.ensures
+      ∙ ap (λ (w : World). w.setting.skips) c.new-tokenizer.ensures;
+  events = λ end lines whole. ap (λ (w : World). w.events) c.set_events.ensures ∙ c.in-Ok.ensures.items;
 }
 
 pub read_chunk-requires-clause-chunk : goal.read_chunk-requires-clause-chunk
