@@ -8,7 +8,7 @@ use Rattle.md_engine.specs.declared.tokenizer.container.name.ContainerKind.{Cont
 use Rattle.md_engine.specs.declared.tokenizer.Line.{Line}
 use Rattle.md_engine.specs.Meaning.{Cell, Here, Refuses}
 use Rattle.md_containers.proofs.Shorter.{Shortens}
-use Rattle.md_seam.specs.Look.{first_seen}
+use Rattle.md_seam.specs.Look.{seen_behind}
 use Rattle.md_seam.specs.Spaces.{IsRest}
 use Rattle.md_definition.specs.Containers.{Taken, continues}
 use Rattle.md_definition.specs.Preamble.{rest_at}
@@ -45,12 +45,14 @@ pub record ContainerLaws (k : ContainerKind) (rules : ContainerRules) : Type 1 w
   pub continues_is : (options : ParseOptions) (held : Held) (c : Container) (cells : List Cell) (h : Here) →
       IsRest h.scratch → IsOf k c → rules.holds held c →
       rules.continues options cells h ≡ passed_by (rules.goes options c cells h.point) h
-  -- Where what stands first may not begin it, or not its prefix on a further line, it is refused, and all is left as it
-  -- was.
-  pub begins_looked : (options : ParseOptions) (cells : List Cell) (h : Here) → IsRest h.scratch →
-      rules.may_open (first_seen cells) ≡ false → rules.begins options cells h ≡ Refuses h.scratch h.flags
-  pub continues_looked : (options : ParseOptions) (cells : List Cell) (h : Here) → IsRest h.scratch →
-      rules.may_go_on (first_seen cells) ≡ false → rules.continues options cells h ≡ Refuses h.scratch h.flags
+  -- Where what stands first behind whitespace may not begin it, or not its prefix on a further line, it is refused, and
+  -- all is left as it was.
+  pub begins_looked : (options : ParseOptions) (cells : List Cell) (h : Here) (b : ℕ) → IsRest h.scratch →
+      seen_behind cells ≡ Some b → rules.may_open b ≡ false →
+      rules.begins options cells h ≡ Refuses h.scratch h.flags
+  pub continues_looked : (options : ParseOptions) (cells : List Cell) (h : Here) (b : ℕ) → IsRest h.scratch →
+      seen_behind cells ≡ Some b → rules.may_go_on b ≡ false →
+      rules.continues options cells h ≡ Refuses h.scratch h.flags
   pub begins_shorter : (options : ParseOptions) (cells : List Cell) (h : Here) →
       Shortens (length cells) (rules.begins options cells h)
   pub continues_shorter : (options : ParseOptions) (cells : List Cell) (h : Here) →

@@ -36,6 +36,7 @@ use Rattle.md_leaves.specs.BomRule.{are_next, bom_at}
 use Rattle.md_seam.specs.Ahead.{point_after}
 use Rattle.md_seam.specs.Events.Nested.{pair}
 use Rattle.md_definition.specs.Preamble.{has_mark}
+use Rattle.md_seam.specs.Look.{looks_behind, may_with}
 use Rattle.md_seam.specs.Spaces.{is_current}
 use Rattle.markdown_blocks.specs.Document.{DocumentStep, ReadsMark, body_point, document_table_scheme}
 use Rattle.markdown_blocks.specs.Document.{document_transition, mark_end, mark_events}
@@ -220,7 +221,7 @@ trial-resolvers start ok nok w false = refl
 
 existing-resolvers : (w : World) (o : Option Container) → (existing_before_code w o).world.resolvers ≡ w.resolvers
 existing-resolvers w None = refl
-existing-resolvers w (Some c) = trial-resolvers _ _ _ w (may_go_on c.kind w.current)
+existing-resolvers w (Some c) = trial-resolvers _ _ _ w (may_with (may_go_on c.kind) (looks_behind w))
 
 end-resolvers : (w : World) (o : Option ℕ) → (flow_end_code w o).world.resolvers ≡ w.resolvers
 end-resolvers w None = refl
@@ -235,7 +236,7 @@ went-resolvers (s.Bom bom_state.Start) w = bom-start w (is_current 239 w.current
 went-resolvers (s.Bom bom_state.Inside) w =
     bom-inside w (is_current (mark_at w.scratch.size) w.current) (nat_lt w.scratch.size 2)
 went-resolvers (s.Document document.ContainerExistingBefore) w = existing-resolvers w (next_container w.flags)
-went-resolvers (s.Document document.ContainerNewBefore) w = trial-resolvers _ _ _ w (may_open w.current)
+went-resolvers (s.Document document.ContainerNewBefore) w = trial-resolvers _ _ _ w (may_with may_open (looks_behind w))
 went-resolvers (s.Document document.FlowEnd) w = end-resolvers (closed w (stays w.flags) w.flags.line_end) w.current
 went-resolvers _ w = refl
 

@@ -32,10 +32,10 @@ use Rattle.md_leaves.specs.Blank as blank
 use Rattle.md_leaves.proofs.BlankLook.{blank-ended, blank-refused}
 use Rattle.md_leaves.proofs.BlankSteps.{blank_steps}
 use Rattle.md_seam.specs.Events.Nested.{enter, exit, pair}
-use Rattle.md_seam.specs.Look.{first_seen}
+use Rattle.md_seam.specs.Look.{looks_behind, may_with}
 use Rattle.md_seam.specs.Spaces.{IsRest, ends_line}
 use Rattle.md_seam.specs.Transition.{Transition, entered, exited, taken}
-use Rattle.md_seam.proofs.LookLemmas.{first-seen}
+use Rattle.md_seam.proofs.LookLemmas.{first-seen, refused-first}
 use Rattle.md_seam.proofs.SpacesGoods.{does-stands}
 use Rattle.md_seam.proofs.WhiteSteps.{white_steps}
 use Rattle.markdown_blocks.specs.Document.{document_own_transition}
@@ -103,11 +103,6 @@ trial_steps B feed w from start ok nok false t =
     passes B feed _ _ w w refl refl
     (t.from_is ∙ ap (λ (o : Outcome). tried o t.onward t.otherwise) (t.looked refl) ∙ sym (t.nok_is w.scratch w.flags))
 
--- what a test says of what stands here it says of what stands first
-looks : (test : Option ℕ → Bool) (feed : Feed) (w : World) → Sees feed w → test w.current ≡ false →
-    test (first_seen (feed w.point)) ≡ false
-looks test feed w s e = ap test (first-seen feed w s) ∙ e
-
 -- Containers.
 
 existing_before_steps : (B : Behaviour) (feed : Feed) (w : World) (options : ParseOptions) (next : Rule)
@@ -123,7 +118,7 @@ existing_before_steps B feed w options next (Some c) has s is e =
     let onward : Rule = λ rest k. line_then options next rest (record k { flags = went_on k.flags }) in
     let otherwise : Scratch → Flags → Outcome =
     λ s g. new_of options next (feed w.point) (record (here w) { scratch = s; flags = g }) in
-    trial_steps B feed w _ _ _ _ (may_go_on c.kind w.current) (record {
+    trial_steps B feed w _ _ _ _ (may_with (may_go_on c.kind) (looks_behind w)) (record {
       onward = onward;
       otherwise = otherwise;
       from_is =
@@ -133,8 +128,9 @@ existing_before_steps B feed w options next (Some c) has s is e =
       ok_is = has.containers document.ContainerExistingAfter;
       nok_is = λ s g. has.containers document.ContainerNewBefore _ _;
       looked = λ no.
+          let first = refused-first (may_go_on c.kind) feed w s no in
           has.goes_on c.kind _ _
-          ∙ (container-laws c.kind).continues_looked options _ _ is (looks (may_go_on c.kind) feed w s no);
+          ∙ (container-laws c.kind).continues_looked options _ _ first.0 is first.1 first.2;
     })
 
 existing_after_steps : (B : Behaviour) (feed : Feed) (w : World) (options : ParseOptions) (next : Rule) →
@@ -153,7 +149,7 @@ new_before_steps B feed w options next has s is =
     let onward : Rule = λ rest k. new_of options next rest (opened k) in
     let otherwise : Scratch → Flags → Outcome =
     λ s g. behind_containers options next (feed w.point) (record (here w) { scratch = s; flags = g }) in
-    trial_steps B feed w _ _ _ _ (may_open w.current) (record {
+    trial_steps B feed w _ _ _ _ (may_with may_open (looks_behind w)) (record {
       onward = onward;
       otherwise = otherwise;
       from_is =
@@ -162,7 +158,8 @@ new_before_steps B feed w options next has s is =
       ok_is = has.containers document.ContainerNewAfter;
       nok_is = λ s g. has.containers document.ContainersAfter _ _;
       looked = λ no.
-          has.opens _ _ ∙ (container-laws new_kind).begins_looked options _ _ is (looks may_open feed w s no);
+          let first = refused-first may_open feed w s no in
+          has.opens _ _ ∙ (container-laws new_kind).begins_looked options _ _ first.0 is first.1 first.2;
     })
 
 -- where containers end no attempt is around, so none goes back to events before these ends
@@ -193,7 +190,7 @@ start_steps B feed w options next has =
 blank_line_before_steps : (B : Behaviour) (feed : Feed) (w : World) (options : ParseOptions) (next : Rule) (x : Bool) →
     HasFlow B options next → Sees feed w → ends_line w.current ≡ x →
     Steps B feed (Next (n.Flow flow.BlankLineBefore)) w
-    (blank_line_code w x (blank.may_begin w.current)).to (blank_line_code w x (blank.may_begin w.current)).world
+    (blank_line_code w x (may_with blank.may_begin (looks_behind w))).to (blank_line_code w x (may_with blank.may_begin (looks_behind w))).world
 blank_line_before_steps B feed w options next true has s e =
     let otherwise : Scratch → Flags → Outcome =
     λ s g. nonblank_of options next (feed w.point) (record (here w) { scratch = s; flags = g }) in
@@ -205,7 +202,7 @@ blank_line_before_steps B feed w options next true has s e =
 blank_line_before_steps B feed w options next false has s e =
     let otherwise : Scratch → Flags → Outcome =
     λ s g. nonblank_of options next (feed w.point) (record (here w) { scratch = s; flags = g }) in
-    trial_steps B feed w _ _ _ _ (blank.may_begin w.current) (record {
+    trial_steps B feed w _ _ _ _ (may_with blank.may_begin (looks_behind w)) (record {
       onward = blank_ended next;
       otherwise = otherwise;
       from_is =
@@ -214,7 +211,8 @@ blank_line_before_steps B feed w options next false has s e =
       ok_is = has.leaves flow.BlankLineAfter;
       nok_is = λ s g. has.leaves (front_of trials) _ _;
       looked = λ no.
-          has.blank.each blank_line.Start _ _ ∙ blank-refused _ (here w) (looks blank.may_begin feed w s no);
+          let first = refused-first blank.may_begin feed w s no in
+          has.blank.each blank_line.Start _ _ ∙ blank-refused _ (here w) first.0 first.1 first.2;
     })
 
 before_steps : (l : LeafName) (B : Behaviour) (feed : Feed) (w : World) (options : ParseOptions) (next : Rule) →
@@ -223,7 +221,7 @@ before_steps : (l : LeafName) (B : Behaviour) (feed : Feed) (w : World) (options
 before_steps l B feed w options next has s is =
     let otherwise : Scratch → Flags → Outcome =
     λ s g. leaves_of options next (behind l) (feed w.point) (record (here w) { scratch = s; flags = g }) in
-    trial_steps B feed w _ _ _ _ ((leaf l).may_begin w.current) (record {
+    trial_steps B feed w _ _ _ _ (may_with (leaf l).may_begin (looks_behind w)) (record {
       onward = line_ended next;
       otherwise = otherwise;
       from_is =
@@ -232,8 +230,9 @@ before_steps l B feed w options next has s is =
       ok_is = has.leaves flow.After;
       nok_is = λ s g. has.leaves (next_of l) _ _ ∙ left-next options next l _ _;
       looked = λ no.
+          let first = refused-first (leaf l).may_begin feed w s no in
           has.starts l _ _
-          ∙ (laws l).refused options _ (here w) is ((laws l).looked options _ (looks (leaf l).may_begin feed w s no));
+          ∙ (laws l).refused options _ (here w) is ((laws l).looked options _ first.0 first.1 first.2);
     })
 
 before_content_steps : (B : Behaviour) (feed : Feed) (w : World) (options : ParseOptions) (next : Rule) →

@@ -17,6 +17,7 @@ use Rattle.md_engine.proofs.Local.{accepts, begins_later, begins_try, consumes, 
 use Rattle.md_engine.proofs.Points.{passes-reaches, stays, takes}
 use Rattle.md_content.specs.Chunks.{chunk_scheme}
 use Rattle.md_leaves.specs.Blank.{blank_scheme, may_begin}
+use Rattle.md_seam.specs.Look.{looks_behind, may_with}
 use Rattle.md_seam.specs.Spaces.{IsRest, rest_ready}
 use Rattle.md_seam.proofs.SpacesGoods.{Does, seen-some}
 use Rattle.markdown_blocks.specs.Flow.{after_transition, before_content_transition, before_transition}
@@ -99,7 +100,7 @@ good_existing_before T w None has inner r = (
 )
 good_existing_before T w (Some c) has inner r =
     let i : ContainerFits T (goes_on_with c.kind) = inner c.kind in
-    looked T _ _ _ _ w (may_go_on c.kind w.current) has.existing_before has.new_before r (omega arith) (
+    looked T _ _ _ _ w (may_with (may_go_on c.kind) (looks_behind w)) has.existing_before has.new_before r (omega arith) (
       begins_later T flow_scheme i.own (n.Document document.ContainerExistingBefore)
           (goes_on_with c.kind) w IsRest IsRest w.events w.scratch _ has.existing_before i.starts has.existing_after has.new_before refl
           (prefix_tries (n.Document document.ContainerExistingAfter) (n.Document document.ContainerNewBefore) w
@@ -119,7 +120,7 @@ pub good_new_before : (T : Scheme) (w : World) → FlowFits T → ContainerFits 
     flow_ready (spot w) (after_all T w.frames) →
     Does T (n.Document document.ContainerNewBefore) w (new_before_transition w)
 good_new_before T w has inner r =
-    looked T _ _ _ _ w (may_open w.current) has.new_before has.containers_after r (omega arith) (
+    looked T _ _ _ _ w (may_with may_open (looks_behind w)) has.new_before has.containers_after r (omega arith) (
       begins_later T flow_scheme inner.own (n.Document document.ContainerNewBefore) first_container w IsRest IsRest
           w.events w.scratch _ has.new_before inner.starts has.new_after has.containers_after refl
           (prefix_tries (n.Document document.ContainerNewAfter) (n.Document document.ContainersAfter) w
@@ -169,13 +170,13 @@ flow_tries ok nok w K r low_ok low_nok same_ok same_nok = record {
 
 pub good_blank_line_before : (T : Scheme) (w : World) (ends : Bool) → FlowFits T →
     Fits T blank_scheme (n.BlankLine blank_line.Start) → flow_ready (spot w) (after_all T w.frames) →
-    Does T (n.Flow flow.BlankLineBefore) w (blank_line_code w ends (may_begin w.current))
+    Does T (n.Flow flow.BlankLineBefore) w (blank_line_code w ends (may_with may_begin (looks_behind w)))
 good_blank_line_before T w true has inner r = (
   turns T flow_scheme _ _ w w.events w.scratch has.blank_line_before has.blank_line_after r (omega arith) (omega arith),
   refl,
 )
 good_blank_line_before T w false has inner r =
-    looked T _ _ _ _ w (may_begin w.current) has.blank_line_before has.first_leaf r (omega arith) (
+    looked T _ _ _ _ w (may_with may_begin (looks_behind w)) has.blank_line_before has.first_leaf r (omega arith) (
       begins_try T flow_scheme blank_scheme (n.Flow flow.BlankLineBefore) (n.BlankLine blank_line.Start) w IsRest IsRest
           w.events w.scratch _ has.blank_line_before inner has.blank_line_after has.first_leaf refl
           (flow_tries (n.Flow flow.BlankLineAfter) (n.Flow (front_of trials)) w
@@ -191,7 +192,7 @@ pub good_before : (T : Scheme) (l : LeafName) (w : World) → FlowFits T → Lea
 good_before T l w has inner r =
     let a = inner.falls in
     let b = inner.next_low in
-    looked T _ _ _ _ w ((leaf l).may_begin w.current) inner.front inner.next r (omega (arith, a, b)) (
+    looked T _ _ _ _ w (may_with (leaf l).may_begin (looks_behind w)) inner.front inner.next r (omega (arith, a, b)) (
       begins_try T flow_scheme inner.own (n.Flow (leaf l).before) (leaf l).start w IsRest IsRest
           w.events w.scratch _ inner.front inner.starts has.behind inner.next refl
           (flow_tries (n.Flow flow.After) (n.Flow (next_of l)) w

@@ -10,7 +10,7 @@ use Rattle.md_engine.specs.declared.tokenizer.Line.{Line}
 use Rattle.md_engine.specs.declared.tokenizer.held_leaf.HeldLeaf.TheVariants as held_leaf
 use Rattle.md_engine.specs.Meaning.{Accepts, Cell, Fails, Here, Outcome, Refuses}
 use Rattle.md_seam.specs.Ahead.{from_ending, line_end}
-use Rattle.md_seam.specs.Look.{first_seen}
+use Rattle.md_seam.specs.Look.{seen_behind}
 use Rattle.md_seam.specs.Spaces.{IsRest}
 use Rattle.md_definition.specs.Rest.{Rest}
 use Rattle.md_seam.proofs.FeedLines.{Stops}
@@ -49,9 +49,9 @@ cond-shrinks n true a b p q = p
 cond-shrinks n false a b p q = q
 
 pub record LeafLaws (l : LineLeaf) : Type 1 where
-  -- It takes no line that begins with what it may not begin with.
-  pub looked : (options : ParseOptions) (cells : List Cell) → l.may_begin (first_seen cells) ≡ false →
-      l.takes options cells ≡ false
+  -- It takes no line where what it may not begin with stands first behind whitespace.
+  pub looked : (options : ParseOptions) (cells : List Cell) (b : ℕ) → seen_behind cells ≡ Some b →
+      l.may_begin b ≡ false → l.takes options cells ≡ false
   -- Its trial takes a line to its end, or refuses it and leaves all as it was.
   pub took : (options : ParseOptions) (cells : List Cell) (h : Here) → IsRest h.scratch → l.takes options cells ≡ true →
       l.trial options cells h ≡ shut_line (l.adds options cells h.point) cells h

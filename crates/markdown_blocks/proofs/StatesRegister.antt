@@ -20,6 +20,7 @@ use Rattle.md_engine.specs.World.{World, closed}
 use Rattle.md_content.specs.Chunks.{chunk_inside_code, chunk_transition, content_link}
 use Rattle.md_leaves.specs.Blank as blank
 use Rattle.md_seam.specs.Events.Nested.{enter_link, exit}
+use Rattle.md_seam.specs.Look.{looks_behind, may_with}
 use Rattle.md_seam.specs.Spaces as spaces
 use Rattle.md_seam.specs.Spaces.{ends_line, sees_white}
 use Rattle.md_seam.specs.Transition.{entered, exited, taken}
@@ -55,7 +56,7 @@ blank-before w false may h = trial _ _ _ w may h
 
 existing-before : (w : World) (o : Option Container) → Registers w → Registers (flow.existing_before_code w o).world
 existing-before w None h = h
-existing-before w (Some c) h = trial _ _ _ w (may_go_on c.kind w.current) h
+existing-before w (Some c) h = trial _ _ _ w (may_with (may_go_on c.kind) (looks_behind w)) h
 
 ending : (w : World) (b : Bool) → Registers w → Registers (exited (taken (entered w (ending_name b))) (ending_name b))
 ending w true h = adds _ _ w.resolvers refl refl (adds w.events _ w.resolvers refl refl h)
@@ -95,7 +96,7 @@ blank-registers blank_line.After w h = blank-after w (ends_line w.current) h
 containers-register : (state : DocumentState) (w : World) → Registers w →
     Registers (document_own_transition state w).world
 containers-register document.ContainerExistingBefore w h = existing-before w (next_container w.flags) h
-containers-register document.ContainerNewBefore w h = trial _ _ _ w (may_open w.current) h
+containers-register document.ContainerNewBefore w h = trial _ _ _ w (may_with may_open (looks_behind w)) h
 containers-register document.ContainerNewAfter w h = closed-registers w w.flags.continued w.flags.line_end h
 containers-register document.FlowEnd w h =
     flow-end (closed w (stays w.flags) w.flags.line_end) w.current
@@ -104,11 +105,11 @@ containers-register _ w h = h
 
 leaf-registers : (o : Option LeafName) (w : World) → Registers w → Registers (flow.leaf_transition o w).world
 leaf-registers None w h = h
-leaf-registers (Some l) w h = trial _ _ _ w ((leaf l).may_begin w.current) h
+leaf-registers (Some l) w h = trial _ _ _ w (may_with (leaf l).may_begin (looks_behind w)) h
 
 leaves-register : (state : FlowState) (w : World) → Registers w → Registers (flow.flow_own_transition state w).world
 leaves-register its.Start w h = h
-leaves-register its.BlankLineBefore w h = blank-before w (ends_line w.current) (blank.may_begin w.current) h
+leaves-register its.BlankLineBefore w h = blank-before w (ends_line w.current) (may_with blank.may_begin (looks_behind w)) h
 leaves-register its.BeforeContent w h = h
 leaves-register its.BlankLineAfter w h = h
 leaves-register its.After w h = h

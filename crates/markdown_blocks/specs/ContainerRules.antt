@@ -19,9 +19,10 @@ pub record ContainerRules : Type 1 where
   pub begins : ParseOptions → List Cell → Here → Outcome
   pub further : StateName
   pub continues : ParseOptions → List Cell → Here → Outcome
-  -- What may stand where it opens, and where its prefix on a further line begins: elsewhere it is refused at once.
-  pub may_open : Option ℕ → Bool
-  pub may_go_on : Option ℕ → Bool
+  -- What may stand first behind whitespace where it opens, and where its prefix on a further line begins: elsewhere it is
+  -- refused at once.
+  pub may_open : ℕ → Bool
+  pub may_go_on : ℕ → Bool
   -- By the cells of a line: the one that opens, if one does, where it would interrupt text or not; and an open one, if
   -- it goes on.
   pub opens : ParseOptions → Bool → List Cell → Point → Option Passed

@@ -12,6 +12,7 @@ use Rattle.md_engine.specs.declared.tokenizer.container.Container.{Container}
 use Rattle.md_engine.specs.Scheme.{After, Rank, Scheme, Spot, ranked}
 use Rattle.md_engine.specs.World.{World, closed}
 use Rattle.md_leaves.specs.Blank as blank
+use Rattle.md_seam.specs.Look.{looks_behind, may_with}
 use Rattle.md_seam.specs.Spaces.{ends_line, rest_ready}
 use Rattle.md_seam.specs.Transition.{Transition, entered, exited, taken, tried}
 use Rattle.markdown_blocks.specs.LineFlags.{begun_line, blanked, ending_name, next_container, next_line, stays, went_on}
@@ -21,8 +22,8 @@ use Rattle.markdown_blocks.specs.Registry.{new_kind, next_of, rank_of, trials, t
 
 -- What is tried.
 
--- by whether a construct may begin with what stands here: then it is tried by its first state, and flow goes on by
--- whether it took what stands here; elsewhere it is refused at once
+-- by whether a construct may begin here: then it is tried by its first state, and flow goes on by whether it took what
+-- stands here; elsewhere it is refused at once
 abbrev pub trial_code : StateName → StateName → StateName → World → Bool → Transition
 trial_code start ok nok w true = record { to = Retry start; world = tried w (Next ok) (Next nok) }
 trial_code start ok nok w false = record { to = Retry nok; world = w }
@@ -32,19 +33,21 @@ trial_code start ok nok w false = record { to = Retry nok; world = w }
 abbrev pub start_transition : World → Transition
 start_transition w = record { to = Retry (s.Flow flow.BlankLineBefore); world = w }
 
--- by whether the line ends here, and is blank, and by whether a blank line may begin with what stands here
+-- by whether the line ends here, and is blank, and by whether it may be blank
 abbrev pub blank_line_code : World → Bool → Bool → Transition
 blank_line_code w true may = record { to = Retry (s.Flow flow.BlankLineAfter); world = w }
 blank_line_code w false may =
     trial_code (s.BlankLine blank_line.Start) (s.Flow flow.BlankLineAfter) (s.Flow (front_of trials)) w may
 
 abbrev pub blank_line_before_transition : World → Transition
-blank_line_before_transition w = blank_line_code w (ends_line w.current) (blank.may_begin w.current)
+blank_line_before_transition w =
+    blank_line_code w (ends_line w.current) (may_with blank.may_begin (looks_behind w))
 
 -- in front of a leaf
 abbrev pub before_transition : LeafName → World → Transition
 before_transition l w =
-    trial_code (leaf l).start (s.Flow flow.After) (s.Flow (next_of l)) w ((leaf l).may_begin w.current)
+    trial_code (leaf l).start (s.Flow flow.After) (s.Flow (next_of l)) w
+    (may_with (leaf l).may_begin (looks_behind w))
 
 abbrev pub before_content_transition : World → Transition
 before_content_transition w =
@@ -66,7 +69,7 @@ abbrev pub existing_before_code : World → Option Container → Transition
 existing_before_code w None = record { to = Retry (s.Document document.ContainerNewBefore); world = w }
 existing_before_code w (Some c) =
     trial_code (goes_on_with c.kind) (s.Document document.ContainerExistingAfter)
-    (s.Document document.ContainerNewBefore) w (may_go_on c.kind w.current)
+    (s.Document document.ContainerNewBefore) w (may_with (may_go_on c.kind) (looks_behind w))
 
 abbrev pub existing_before_transition : World → Transition
 existing_before_transition w = existing_before_code w (next_container w.flags)
@@ -78,7 +81,7 @@ existing_after_transition w =
 abbrev pub new_before_transition : World → Transition
 new_before_transition w =
     trial_code first_container (s.Document document.ContainerNewAfter) (s.Document document.ContainersAfter) w
-    (may_open w.current)
+    (may_with may_open (looks_behind w))
 
 abbrev pub new_after_transition : World → Transition
 new_after_transition w =

@@ -3,7 +3,7 @@
 -- A value says what its trial takes by the cells of a line, as its states do; what the line definition has of it, by
 -- the rest of the line; and which events it has, from its begin to its end, at three stages. Its laws (`LeafLaws`) say
 -- that these fit.
-use Rattle.std.specs.Prelude.{ℕ, Bool, List, Option}
+use Rattle.std.specs.Prelude.{ℕ, Bool, List}
 use Rattle.md_engine.specs.declared.configuration.ParseOptions.{ParseOptions}
 use Rattle.md_engine.specs.declared.event.Event.{Event}
 use Rattle.md_engine.specs.declared.event.Point.{Point}
@@ -17,8 +17,8 @@ pub record LineLeaf : Type 0 where
   -- Its first state, and the state of flow in front of it.
   pub start : StateName
   pub before : FlowState
-  -- What may stand where it begins: elsewhere it is refused at once.
-  pub may_begin : Option ℕ → Bool
+  -- What may stand first behind whitespace where it begins: elsewhere it is refused at once.
+  pub may_begin : ℕ → Bool
   -- By the cells of the rest of a line: what is left of it at its first state, whether it takes the line, and then
   -- which events it adds.
   pub trial : ParseOptions → List Cell → Here → Outcome

@@ -175,12 +175,12 @@ goes_on_with k = (container_rules k).further
 abbrev pub continues_at : ParseOptions → ContainerKind → List Cell → Here → Outcome
 continues_at options k cells h = (container_rules k).continues options cells h
 
--- what may stand where one opens, and where the prefix of one on a further line begins
-abbrev pub may_open : Option ℕ → Bool
-may_open current = (container_rules new_kind).may_open current
+-- what may stand first behind whitespace where one opens, and where the prefix of one on a further line begins
+abbrev pub may_open : ℕ → Bool
+may_open b = (container_rules new_kind).may_open b
 
-abbrev pub may_go_on : ContainerKind → Option ℕ → Bool
-may_go_on k current = (container_rules k).may_go_on current
+abbrev pub may_go_on : ContainerKind → ℕ → Bool
+may_go_on k b = (container_rules k).may_go_on b
 
 -- by the cells of a line, the container that opens, if one does,
 abbrev pub opens_at : ParseOptions → Bool → List Cell → Point → Option Passed

@@ -1,5 +1,5 @@
 -- The prefix of a block quote.
-use Rattle.std.specs.Prelude.{refl, ℕ, Bool, true, false, Option}
+use Rattle.std.specs.Prelude.{refl, ℕ, Bool, true, false, ◌==◌}
 use Rattle.md_engine.specs.declared.event.Name.TheVariants.{BlockQuote, BlockQuoteMarker, BlockQuotePrefix, SpaceOrTab}
 use Rattle.md_engine.specs.declared.state.Name.{Name as StateName}
 use Rattle.md_engine.specs.declared.state.Name.TheVariants as n
@@ -8,13 +8,12 @@ use Rattle.md_engine.specs.declared.state.block_quote.State.TheVariants as its
 use Rattle.md_engine.specs.declared.state.State.TheVariants.{Ok, Nok, Next, Retry}
 use Rattle.md_engine.specs.Scheme.{After, Rank, Scheme, Spot, ranked}
 use Rattle.md_engine.specs.World.{World}
-use Rattle.md_seam.specs.Look.{white_or}
 use Rattle.md_seam.specs.Spaces.{is_current, later_ready, rest_ready, sees_white, small_indent, white_then}
 use Rattle.md_seam.specs.Transition.{Transition, entered, exited, taken}
 
--- what may stand where the prefix of a quote begins: whitespace, or `>`
-abbrev pub may_begin : Option ℕ → Bool
-may_begin current = white_or (λ o. is_current 62 o) current
+-- what may stand first behind the indent of a quote's prefix: `>`
+abbrev pub may_begin : ℕ → Bool
+may_begin b = b == 62
 
 -- by whether quotes are on
 abbrev pub start_code : World → Bool → Transition

@@ -13,6 +13,7 @@ ghost use Rattle.md_engine.specs.declared.state.State.{State};
 ghost use Rattle.md_engine.specs.declared.state.block_quote.State.{State as QuoteState};
 ghost use Rattle.md_containers.specs.Quote.{cont_after_transition, cont_before_transition, cont_start_transition};
 ghost use Rattle.md_containers.specs.Quote.{may_begin, quote_transition, start_transition};
+ghost use Rattle.md_seam.specs.Look.{may_with};
 ghost use Rattle.md_seam.specs.Transition.{IsAt, NeedsNothing};
 
 use md_engine::event::Name;
@@ -22,11 +23,11 @@ use md_engine::state::{Name as StateName, State};
 use md_engine::tokenizer::Tokenizer;
 use md_seam::space_or_tab::{is_space_or_tab, small_indent, space_or_tab_min_max};
 
-/// Whether the prefix of a quote may begin with what stands here: whitespace, or `>`.
-pub fn may_begin(current: Option<u8>) -> bool
-    ensures { result ≡ may_begin current }
+/// Whether the prefix of a quote may begin here, by what stands first behind whitespace: `>`, if that is known.
+pub fn may_begin(first: Option<u8>) -> bool
+    ensures { result ≡ may_with may_begin first }
 {
-    is_space_or_tab(current) || current == Some(b'>')
+    matches!(first, None | Some(b'>'))
 }
 
 /// Before a quote.

@@ -3,9 +3,11 @@ use Rattle.std.proofs.Common.{◌≡◌, ◌⊎◌, ◌^◌, ◌<◌, ◌≤◌,
 use Rattle.std.proofs.Common.{Option, Some, None, refl, sym, ◌∙◌, arith, append-nil, inl, inr}
 use Rattle.std.proofs.lemmas.Bool.Decides.{nat_tests}
 use Rattle.md_engine.specs.declared.event.Event.{Event}
+use Rattle.md_engine.specs.declared.event.Point.{Point}
 use Rattle.md_engine.specs.declared.state.State.{State}
 use Rattle.md_engine.specs.declared.tokenizer.Frame.{Frame}
 use Rattle.md_engine.specs.Meaning.{Behaviour, Cell, Feed, Follows, Steps, goes, here, line_of, resume}
+use Rattle.md_engine.specs.Place.{seen_at}
 use Rattle.md_engine.specs.Run.{reading}
 use Rattle.md_engine.specs.Scheme.{Scheme, after_all}
 use Rattle.md_engine.specs.World.{World, after, looks}
@@ -80,14 +82,22 @@ abbrev pub ahead : Feed → World → Option ℕ → List Cell
 ahead feed w None = []
 ahead feed w (Some b) = cell_here feed w b ∷ feed (after w.setting w.point)
 
--- the feed goes on with what the tokenizer sees
+-- the feed goes on with what the tokenizer sees, and follows the text as far as it may be read
 pub record Sees (feed : Feed) (w : World) : Type 0 where
   pub next : feed w.point ≡ ahead feed w w.current
+  pub along : (p : Point) → p.index < w.setting.limit →
+      feed p ≡
+      (record { byte = seen_at w.setting.bytes p; after = after w.setting p; line = line_of w.setting.line (feed p) }
+      ∷ feed (after w.setting p))
   pub short : length (feed w.point) < 2 ^ 63
 
 pub sees : (feed : Feed) (w : World) (is_end : Bool) → Follows feed w.setting is_end →
     (is_end ≡ true) ⊎ (w.point.index < w.setting.limit) → Sees feed (reading w)
-sees feed w is_end f may = record { next = go (nat_lt w.point.index w.setting.limit) refl may; short = f.short w.point }
+sees feed w is_end f may = record {
+  next = go (nat_lt w.point.index w.setting.limit) refl may;
+  along = f.cell;
+  short = f.short w.point;
+}
   where
     go : (b : Bool) → nat_lt w.point.index w.setting.limit ≡ b → (is_end ≡ true) ⊎ (w.point.index < w.setting.limit) →
         feed w.point ≡ ahead feed w (looks w)

@@ -1,29 +1,34 @@
--- A line is blank where it ends, and it is not where neither whitespace nor its end stands first.
-use Rattle.std.proofs.Common.{◌≡◌, ◌&&◌, Bool, true, false, cond, List, [], ◌∷◌, map, refl, ap, ◌∙◌, append-nil, arith}
+-- A line is blank where it ends, and it is not where another byte than its ending stands first behind whitespace.
+use Rattle.std.proofs.Common.{◌≡◌, ℕ, nat_eq, Some, Bool, true, false, cond, List, [], ◌∷◌, refl, ap, append-nil, arith}
 use Rattle.std.proofs.lemmas.Bool.Decides.{nat_tests}
 use Rattle.md_engine.specs.declared.event.Event.{Event}
 use Rattle.md_engine.specs.Meaning.{Accepts, Cell, Here, Refuses}
 use Rattle.md_leaves.specs.Blank.{may_begin}
 use Rattle.md_leaves.specs.BlankRule.{blank_at}
-use Rattle.md_seam.specs.Ahead.{line_bytes, line_cells}
-use Rattle.md_seam.specs.Look.{first_seen}
+use Rattle.md_seam.specs.Ahead.{line_bytes}
+use Rattle.md_seam.specs.Look.{first_seen, seen_behind}
 use Rattle.md_seam.specs.Spaces.{ends_line}
-use Rattle.md_definition.specs.Rest.{is_blank}
 use Rattle.md_definition.specs.Rest.{is_blank, is_white}
-use Rattle.md_seam.proofs.LookLemmas.{not-passing, not-white}
+use Rattle.md_seam.proofs.AheadLemmas.{white-no_ending}
 
--- its first byte is one of its line, and not white
-not-blank : (cells : List Cell) → may_begin (first_seen cells) ≡ false → is_blank (line_bytes cells) ≡ false
-not-blank [] e = cc
-not-blank (c ∷ cs) e =
-    ap (λ (x : Bool). is_blank (map (λ (d : Cell). d.byte) (cond x [] (c ∷ line_cells cs))))
-    (not-passing ends_line (c ∷ cs) e)
-    ∙ ap (λ (x : Bool). x && is_blank (line_bytes cs)) (not-white ends_line (c ∷ cs) e)
+-- that byte is one of its line, and not white
+not-blank : (cells : List Cell) (b : ℕ) → seen_behind cells ≡ Some b → may_begin b ≡ false →
+    is_blank (line_bytes cells) ≡ false
+not-blank [] b seen e = cc
+not-blank (c ∷ cs) b seen e = go (is_white c.byte) refl seen (λ k. not-blank cs b k e)
+  where
+    go : (x : Bool) → is_white c.byte ≡ x → cond x (seen_behind cs) (Some c.byte) ≡ Some b →
+        (seen_behind cs ≡ Some b → is_blank (line_bytes cs) ≡ false) → is_blank (line_bytes (c ∷ cs)) ≡ false
+    go true k is next = rw (white-no_ending c.byte k, k) (next is)
+    go false k is next =
+        let same : c.byte ≡ b = cc in
+        let on : nat_eq c.byte 10 ≡ false = rw same e in
+        rw (on, k) refl
 
-pub blank-refused : (cells : List Cell) (h : Here) → may_begin (first_seen cells) ≡ false →
+pub blank-refused : (cells : List Cell) (h : Here) (b : ℕ) → seen_behind cells ≡ Some b → may_begin b ≡ false →
     blank_at cells h ≡ Refuses h.scratch h.flags
 unfolding blank_at
-blank-refused cells h e = rw (not-blank cells e) refl
+blank-refused cells h b seen e = rw (not-blank cells b seen e) refl
 
 -- where the line ends here, nothing of it is left to take
 pub blank-ended : (cells : List Cell) (h : Here) → ends_line (first_seen cells) ≡ true →

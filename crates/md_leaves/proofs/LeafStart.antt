@@ -1,6 +1,6 @@
 -- The start of a leaf behind a small indent takes one step of its rule, and stands in any table that has its states.
-use Rattle.std.proofs.Common.{◌≡◌, ℕ, ◌<◌, ◌≤◌, ◌&&◌, ◌==◌, Bool, true, false, cond, List, [], ◌∷◌, map, Option, Some}
-use Rattle.std.proofs.Common.{refl, ap, sym, ◌∙◌, arith}
+use Rattle.std.proofs.Common.{◌≡◌, ℕ, ◌<◌, ◌≤◌, ◌&&◌, ◌==◌, Bool, true, false, cond, List, [], ◌∷◌, map, Some}
+use Rattle.std.proofs.Common.{refl, sym, ◌∙◌, arith, ◌⊎◌, inl, inr}
 use Rattle.md_engine.specs.declared.configuration.ParseOptions.{ParseOptions}
 use Rattle.md_engine.specs.declared.event.Name.{Name}
 use Rattle.md_engine.specs.declared.state.Name.{Name as StateName}
@@ -14,13 +14,14 @@ use Rattle.md_engine.proofs.Local.{refuses, turns}
 use Rattle.md_engine.proofs.StepOf.{Sees, begins, moves, passes}
 use Rattle.md_leaves.specs.LeafStart.{entered_here, start_at, start_code}
 use Rattle.md_leaves.proofs.LeafSteps.{white_frame}
+use Rattle.md_definition.specs.Rest.{is_white}
 use Rattle.md_seam.specs.Ahead.{HasWhite, begins_white, line_bytes, line_cells, white_rest}
 use Rattle.md_seam.specs.Events.Nested.{enter}
-use Rattle.md_seam.specs.Look.{first_seen, white_or}
+use Rattle.md_seam.specs.Look.{first_seen, seen_behind}
 use Rattle.md_seam.specs.Spaces.{IsRest, rest_ready, sees_white, small_indent}
 use Rattle.md_seam.specs.Transition.{entered}
-use Rattle.md_seam.proofs.AheadLemmas.{none-rest, small-some}
-use Rattle.md_seam.proofs.LookLemmas.{not-passing, not-white}
+use Rattle.md_seam.proofs.AheadLemmas.{small-some}
+use Rattle.md_seam.proofs.LookLemmas.{rest-begins}
 use Rattle.md_seam.proofs.SpacesGoods.{Does, WhiteFits, rest-calm, rest-none, white_try}
 use Rattle.md_seam.proofs.WhiteSteps.{begins-seen, behind_white, white-tried}
 
@@ -48,25 +49,31 @@ pub at-none : (name : Name) (on : Bool) (behind : List Cell → Here → Outcome
 unfolding start_at
 at-none name on behind options cells h is s = rw (is, s) refl
 
--- Where neither whitespace nor what it may begin with stands first, no line is taken: such a rule holds of no line that
--- begins with another byte.
-pub rule-refused : (test : Option ℕ → Bool) (on : Bool) (rule : List ℕ → Bool) (room : ℕ) (cells : List Cell) →
-    rule [] ≡ false → ((b : ℕ) (bytes : List ℕ) → test (Some b) ≡ false → rule (b ∷ bytes) ≡ false) →
-    white_or test (first_seen cells) ≡ false → on && rule (line_bytes (white_rest room cells)) ≡ false
-rule-refused test on rule room cells none other e = by on
+-- Where another byte than it may begin with stands first behind whitespace, no line is taken: such a rule holds of no
+-- line that begins with such a byte, or with whitespace.
+pub rule-refused : (may : ℕ → Bool) (on : Bool) (rule : List ℕ → Bool) (room : ℕ) (cells : List Cell) (b : ℕ) →
+    rule [] ≡ false → ((c : ℕ) (bytes : List ℕ) → may c ≡ false → rule (c ∷ bytes) ≡ false) →
+    ((c : ℕ) → is_white c ≡ true → may c ≡ false) → seen_behind cells ≡ Some b → may b ≡ false →
+    on && rule (line_bytes (white_rest room cells)) ≡ false
+rule-refused may on rule room cells b none other white seen e = by on
   where
-    ends : (cells : List Cell) → test (first_seen cells) ≡ false → rule (line_bytes cells) ≡ false
-    ends [] e = none
-    ends (c ∷ cs) e = go (c.byte == 10)
+    first : (c : ℕ) × (first_seen (white_rest room cells) ≡ Some c) × ((is_white c ≡ true) ⊎ (c ≡ b))
+    first = rest-begins room cells b seen
+
+    refused : (c : ℕ) → (is_white c ≡ true) ⊎ (c ≡ b) → may c ≡ false
+    refused c (inl is) = white c is
+    refused c (inr same) = rw same e
+
+    ends : (cells : List Cell) (c : ℕ) → first_seen cells ≡ Some c → may c ≡ false → rule (line_bytes cells) ≡ false
+    ends [] c is refused_byte = none
+    ends (d ∷ ds) c is refused_byte = let same : d.byte ≡ c = cc in go same (d.byte == 10)
       where
-        go : (x : Bool) → rule (map (λ (d : Cell). d.byte) (cond x [] (c ∷ line_cells cs))) ≡ false
-        go true = none
-        go false = other c.byte (line_bytes cs) e
+        go : d.byte ≡ c → (x : Bool) → rule (map (λ (k : Cell). k.byte) (cond x [] (d ∷ line_cells ds))) ≡ false
+        go same true = none
+        go same false = other d.byte (line_bytes ds) (rw same refused_byte)
 
     by : (x : Bool) → x && rule (line_bytes (white_rest room cells)) ≡ false
-    by true =
-        ap (λ (r : List Cell). rule (line_bytes r)) (none-rest room cells (not-white test cells e))
-        ∙ ends cells (not-passing test cells e)
+    by true = ends (white_rest room cells) first.0 first.1 (refused first.0 first.2)
     by false = refl
 
 -- The rule has it at its first state, and what is left of it behind the indent at the next.

@@ -1,5 +1,5 @@
 -- The blank line.
-use Rattle.std.specs.Prelude.{refl, ℕ, Bool, true, false, Option}
+use Rattle.std.specs.Prelude.{refl, ℕ, Bool, true, false, ◌==◌}
 use Rattle.md_engine.specs.declared.state.Name.{Name as StateName}
 use Rattle.md_engine.specs.declared.state.Name.TheVariants as n
 use Rattle.md_engine.specs.declared.state.blank_line.State.{State as BlankState}
@@ -7,13 +7,12 @@ use Rattle.md_engine.specs.declared.state.blank_line.State.TheVariants as its
 use Rattle.md_engine.specs.declared.state.State.TheVariants.{Ok, Nok, Next, Retry}
 use Rattle.md_engine.specs.Scheme.{Rank, Scheme, Spot, ranked}
 use Rattle.md_engine.specs.World.{World}
-use Rattle.md_seam.specs.Look.{white_or}
 use Rattle.md_seam.specs.Spaces.{any_size, ends_line, rest_ready, sees_white, white_then}
 use Rattle.md_seam.specs.Transition.{Transition}
 
--- what may stand where a blank line begins: whitespace, or the line's end
-abbrev pub may_begin : Option ℕ → Bool
-may_begin current = white_or ends_line current
+-- what may stand first behind the whitespace of a blank line: its ending
+abbrev pub may_begin : ℕ → Bool
+may_begin b = b == 10
 
 -- by whether whitespace stands here
 abbrev pub start_code : World → Bool → Transition

@@ -12,7 +12,6 @@ use Rattle.md_engine.specs.declared.tokenizer.held_leaf.HeldLeaf.TheVariants as 
 use Rattle.md_engine.specs.Scheme.{After, Ends, Rank, Scheme, Spot, cells_before, ranked, seen}
 use Rattle.md_engine.specs.World.{World}
 use Rattle.md_leaves.specs.LeafStart as leaf
-use Rattle.md_seam.specs.Look.{white_or}
 use Rattle.md_seam.specs.Spaces.{any_size, ends_line, IsRest, is_current, rest_ready, sees_white, white_then}
 use Rattle.md_seam.specs.Transition.{Transition, entered, exited, taken}
 
@@ -20,13 +19,9 @@ use Rattle.md_seam.specs.Transition.{Transition, entered, exited, taken}
 abbrev pub is_marker : ℕ → Bool
 is_marker b = (b == 42) || (b == 45) || (b == 95)
 
-abbrev pub sees_marker : Option ℕ → Bool
-sees_marker None = false
-sees_marker (Some b) = is_marker b
-
--- what may stand where a break begins: whitespace, or a marker
-abbrev pub may_begin : Option ℕ → Bool
-may_begin current = white_or sees_marker current
+-- what may stand first behind the indent of a break
+abbrev pub may_begin : ℕ → Bool
+may_begin b = is_marker b
 
 abbrev pub without_marker : Scratch → Scratch
 without_marker s = record s { marker = 0; size = 0 }

@@ -16,14 +16,13 @@ use Rattle.md_engine.specs.declared.tokenizer.held_leaf.HeldLeaf.TheVariants as 
 use Rattle.md_engine.specs.Scheme.{After, Ends, Rank, Scheme, Spot, ranked, seen}
 use Rattle.md_engine.specs.World.{World, registered}
 use Rattle.md_leaves.specs.LeafStart as leaf
-use Rattle.md_seam.specs.Look.{white_or}
 use Rattle.md_definition.specs.Rest.{is_white}
 use Rattle.md_seam.specs.Spaces.{any_size, ends_line, IsRest, is_current, rest_ready, sees_white, white_then}
 use Rattle.md_seam.specs.Transition.{Transition, entered, entered_link, exited, taken}
 
--- what may stand where a heading begins: whitespace, or `#`
-abbrev pub may_begin : Option ℕ → Bool
-may_begin current = white_or (λ o. is_current 35 o) current
+-- what may stand first behind the indent of a heading: `#`
+abbrev pub may_begin : ℕ → Bool
+may_begin b = b == 35
 
 -- whether something other than whitespace and the line's end stands here
 abbrev pub sees_text : Option ℕ → Bool

@@ -10,6 +10,7 @@ ghost use Rattle.md_engine.specs.declared.state.Name.{Name as StateName};
 ghost use Rattle.md_engine.specs.declared.state.State.{State};
 ghost use Rattle.md_engine.specs.declared.state.blank_line.State.{State as BlankState};
 ghost use Rattle.md_leaves.specs.Blank.{after_transition, blank_transition, may_begin, start_transition};
+ghost use Rattle.md_seam.specs.Look.{may_with};
 ghost use Rattle.md_seam.specs.Spaces.{ends_line};
 ghost use Rattle.md_seam.specs.Transition.{IsAt, NeedsNothing};
 
@@ -25,11 +26,11 @@ pub fn ends_line(current: Option<u8>) -> bool
     matches!(current, None | Some(b'\n'))
 }
 
-/// Whether a blank line may begin with what stands here: whitespace, or the line's end.
-pub fn may_begin(current: Option<u8>) -> bool
-    ensures { result ≡ may_begin current }
+/// Whether the line may be blank, by what stands first behind whitespace: its ending, if that is known.
+pub fn may_begin(first: Option<u8>) -> bool
+    ensures { result ≡ may_with may_begin first }
 {
-    is_space_or_tab(current) || ends_line(current)
+    matches!(first, None | Some(b'\n'))
 }
 
 /// Before a blank line.

@@ -17,6 +17,7 @@ ghost use Rattle.md_leaves.specs.Heading.{at_break_transition, before_transition
 ghost use Rattle.md_leaves.specs.Heading.{heading_transition, may_begin, sequence_further_transition};
 ghost use Rattle.md_leaves.specs.Heading.{sequence_open_transition, start_transition};
 ghost use Rattle.md_leaves.specs.HeadingText.{headings_resolved};
+ghost use Rattle.md_seam.specs.Look.{may_with};
 ghost use Rattle.md_seam.specs.Spaces.{sees_white};
 ghost use Rattle.md_seam.specs.Stays.{TakesEach};
 ghost use Rattle.md_seam.specs.Transition.{IsAt, NeedsNothing};
@@ -44,11 +45,11 @@ pub(crate) const TEXT_LINK: Link = Link {
     content: Content::Text,
 };
 
-/// Whether a heading may begin with what stands here: whitespace, or `#`.
-pub fn may_begin(current: Option<u8>) -> bool
-    ensures { result ≡ may_begin current }
+/// Whether a heading may begin here, by what stands first behind whitespace: `#`, if that is known.
+pub fn may_begin(first: Option<u8>) -> bool
+    ensures { result ≡ may_with may_begin first }
 {
-    is_space_or_tab(current) || current == Some(b'#')
+    matches!(first, None | Some(b'#'))
 }
 
 /// Before a heading.

@@ -13,6 +13,7 @@ ghost use Rattle.md_engine.specs.declared.state.State.{State};
 ghost use Rattle.md_engine.specs.declared.state.thematic_break.State.{State as BreakState};
 ghost use Rattle.md_leaves.specs.Break.{BreakNeeds, at_break_transition, before_transition, break_transition};
 ghost use Rattle.md_leaves.specs.Break.{is_marker, may_begin, sequence_transition, start_transition};
+ghost use Rattle.md_seam.specs.Look.{may_with};
 ghost use Rattle.md_seam.specs.Transition.{IsAt};
 
 use crate::leaf_start::start_leaf;
@@ -33,13 +34,13 @@ fn is_marker(byte: u8) -> bool
     byte == b'*' || byte == b'-' || byte == b'_'
 }
 
-/// Whether a break may begin with what stands here: whitespace, or a marker.
-pub fn may_begin(current: Option<u8>) -> bool
-    ensures { result ≡ may_begin current }
+/// Whether a break may begin here, by what stands first behind whitespace: a marker, if that is known.
+pub fn may_begin(first: Option<u8>) -> bool
+    ensures { result ≡ may_with may_begin first }
 {
-    match current {
-        Some(byte) => is_space_or_tab(current) || is_marker(byte),
-        None => false,
+    match first {
+        Some(byte) => is_marker(byte),
+        None => true,
     }
 }
 

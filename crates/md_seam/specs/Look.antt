@@ -1,13 +1,36 @@
--- What stands first of what is still to come: by it alone most trials are refused, before they begin.
-use Rattle.std.specs.Prelude.{ℕ, Bool, ◌||◌, List, [], ◌∷◌, Option, Some, None}
+-- What stands first of what is still to come, behind whitespace: by it alone most trials are refused, before they begin.
+use Rattle.std.specs.Prelude.{ℕ, Bool, true, if◌then◌else◌, List, [], ◌∷◌, Option, Some, None, slice_range}
 use Rattle.md_engine.specs.Meaning.{Cell}
-use Rattle.md_seam.specs.Spaces.{sees_white}
+use Rattle.md_engine.specs.Place.{is_ending}
+use Rattle.md_engine.specs.World.{World}
+use Rattle.md_definition.specs.Rest.{is_white}
 
 -- the byte of the first cell, if there is one
 abbrev pub first_seen : List Cell → Option ℕ
 first_seen [] = None
 first_seen (c ∷ cs) = Some c.byte
 
--- whether a construct may begin here that stands behind whitespace, by what it may begin with behind that
-abbrev pub white_or : (Option ℕ → Bool) → Option ℕ → Bool
-white_or test current = sees_white current || test current
+-- the byte of the first cell behind whitespace
+abbrev pub seen_behind : List Cell → Option ℕ
+seen_behind [] = None
+seen_behind (c ∷ cs) = if is_white c.byte then seen_behind cs else Some c.byte
+
+-- the first byte behind whitespace, as a state sees it
+abbrev pub first_behind : List ℕ → Option ℕ
+first_behind [] = None
+first_behind (b ∷ bytes) = if is_white b then first_behind bytes else Some (if is_ending b then 10 else b)
+
+-- by what stands here, and by what stands first behind whitespace
+abbrev pub behind_code : Option ℕ → Option ℕ → Option ℕ
+behind_code None found = None
+behind_code (Some b) found = if is_white b then found else Some b
+
+-- what a tokenizer sees first behind whitespace, as far as the text may be read now
+unfoldable pub looks_behind : World → Option ℕ
+looks_behind w = behind_code w.current (first_behind (slice_range w.setting.bytes w.point.index w.setting.limit))
+
+-- whether a construct may begin here that stands behind whitespace, by whether it begins with a byte: it may where that
+-- byte is not known
+abbrev pub may_with : (ℕ → Bool) → Option ℕ → Bool
+may_with begins None = true
+may_with begins (Some b) = begins b

@@ -9,6 +9,7 @@ ghost use Rattle.md_engine.specs.World.{world};
 ghost use Rattle.md_engine.specs.declared.state.Name.{Name as StateName};
 ghost use Rattle.md_engine.specs.declared.state.State.{State};
 ghost use Rattle.md_engine.specs.declared.state.space_or_tab.State.{State as WhiteState};
+ghost use Rattle.md_seam.specs.Look.{first_behind, looks_behind};
 ghost use Rattle.md_seam.specs.Spaces.{WhiteNeeds, after_transition, any_size, inside_transition, sees_white};
 ghost use Rattle.md_seam.specs.Spaces.{small_indent, start_transition, white_then, white_transition};
 ghost use Rattle.md_seam.specs.Transition.{IsAt};
@@ -30,6 +31,36 @@ pub fn is_space_or_tab(current: Option<u8>) -> bool
         Some(byte) => byte == b' ' || byte == b'\t',
         None => false,
     }
+}
+
+/// The first of these bytes behind whitespace, as a state sees it: a line ending as `\n`.
+fn first_behind(bytes: &[u8]) -> Option<u8>
+    ensures { result ≡ first_behind bytes.now }
+{
+    for byte in bytes {
+        match *byte {
+            b' ' | b'\t' => {}
+            b'\r' => return Some(b'\n'),
+            first => return Some(first),
+        }
+    }
+    None
+}
+
+/// What stands here or, where that is whitespace, what stands first behind it, as far as the text may be read now; none
+/// where that is not known, or where nothing stands.
+#[tactic(auto, unfolding(crate::specs::Look::looks_behind))]
+pub fn look_behind(tokenizer: &Tokenizer) -> Option<u8>
+    ensures { result ≡ looks_behind (world tokenizer.now) }
+{
+    let index = tokenizer.point.index;
+    if !is_space_or_tab(tokenizer.current) {
+        return tokenizer.current;
+    }
+    if index >= tokenizer.limit {
+        return None;
+    }
+    first_behind(&tokenizer.bytes[index..tokenizer.limit])
 }
 
 /// The greatest small indent, in columns: 3, or any where there is no indented code.

@@ -29,8 +29,8 @@ pub quote-laws : ContainerLaws kind.BlockQuote quote_rules
 quote-laws = record {
   begins_is = λ options interrupting cells h rest. quote-tried options interrupting cells h rest;
   continues_is = λ options held c cells h rest is holds. prefix-tried options cells h rest;
-  begins_looked = λ options cells h rest no. quote-looked options cells h rest no;
-  continues_looked = λ options cells h rest no. prefix-looked options cells h rest no;
+  begins_looked = quote-looked;
+  continues_looked = prefix-looked;
   begins_shorter = λ options cells h. quote-shortens options cells h;
   continues_shorter = λ options cells h. prefix-shortens options cells h;
   opened = λ options interrupting cells p t e. quote-passed options interrupting cells p t e;

@@ -1,16 +1,18 @@
 -- What is tried for a block quote: its prefix is taken where its cells say so, and takes a cell at least.
-use Rattle.std.proofs.Common.{◌≡◌, Bool, true, false, cond, ◌&&◌, List, Some, None, refl, ◌∙◌, subst, [], ◌∷◌, ap}
+use Rattle.std.proofs.Common.{◌≡◌, Bool, true, false, cond, ◌&&◌, List, Some, None, refl, ◌∙◌, subst, [], ◌∷◌, ap, ℕ, ◌⊎◌, inl, inr, arith}
 use Rattle.std.proofs.lemmas.Bool.{and_parts}
+use Rattle.std.proofs.lemmas.Bool.Decides.{nat_tests}
 use Rattle.md_engine.specs.declared.configuration.ParseOptions.{ParseOptions}
 use Rattle.md_engine.specs.declared.event.Point.{Point}
 use Rattle.md_engine.specs.declared.tokenizer.container.name.ContainerKind.TheVariants as kind
 use Rattle.md_engine.specs.Meaning.{Accepts, Cell, Here, Refuses}
 use Rattle.md_containers.specs.Quote.{may_begin}
 use Rattle.md_containers.specs.QuoteRule.{has_marker, prefix_at, quote_at, takes_prefix}
-use Rattle.md_seam.specs.Look.{first_seen}
-use Rattle.md_seam.specs.Spaces.{IsRest, is_current, small_indent}
-use Rattle.md_seam.proofs.AheadLemmas.{none-rest}
-use Rattle.md_seam.proofs.LookLemmas.{not-passing, not-white}
+use Rattle.md_definition.specs.Rest.{is_white}
+use Rattle.md_seam.specs.Ahead.{white_rest}
+use Rattle.md_seam.specs.Look.{first_seen, seen_behind}
+use Rattle.md_seam.specs.Spaces.{IsRest, small_indent}
+use Rattle.md_seam.proofs.LookLemmas.{rest-begins}
 use Rattle.markdown_blocks.specs.Containers.BlockQuote.{quote_new, quote_on, quote_rules}
 use Rattle.markdown_blocks.specs.Passed.{Passed, passed_by, passed_here}
 use Rattle.markdown_blocks.proofs.BlockQuote.Cells.{quote-front}
@@ -35,22 +37,27 @@ pub prefix-tried : (options : ParseOptions) (cells : List Cell) (h : Here) → I
 prefix-tried options cells h is =
     prefix-is options cells h is ∙ tried-if (takes_prefix options cells) (quote_on options cells h.point) h
 
--- not where another byte than whitespace and `>` stands first,
-no_prefix : (options : ParseOptions) (cells : List Cell) → may_begin (first_seen cells) ≡ false →
-    takes_prefix options cells ≡ false
-no_prefix options cells e =
-    ap has_marker (none-rest (small_indent options) cells (not-white (is_current 62) cells e))
-    ∙ go cells (not-passing (is_current 62) cells e)
+-- not where another byte than `>` stands first behind whitespace,
+no_prefix : (options : ParseOptions) (cells : List Cell) (b : ℕ) → seen_behind cells ≡ Some b →
+    may_begin b ≡ false → takes_prefix options cells ≡ false
+no_prefix options cells b seen e =
+    let first = rest-begins (small_indent options) cells b seen in
+    go (white_rest (small_indent options) cells) first.0 first.1 (refused first.0 first.2)
   where
-    go : (cells : List Cell) → is_current 62 (first_seen cells) ≡ false → has_marker cells ≡ false
-    go [] e = refl
-    go (c ∷ cs) e = e
+    refused : (c : ℕ) → (is_white c ≡ true) ⊎ (c ≡ b) → may_begin c ≡ false
+    refused c (inl white) = grind (arith, nat_tests)
+    refused c (inr same) = rw same e
 
-pub prefix-looked : (options : ParseOptions) (cells : List Cell) (h : Here) → IsRest h.scratch →
-    may_begin (first_seen cells) ≡ false → prefix_at options cells h ≡ Refuses h.scratch h.flags
-prefix-looked options cells h is e =
+    go : (cells : List Cell) (c : ℕ) → first_seen cells ≡ Some c → may_begin c ≡ false → has_marker cells ≡ false
+    go [] c is other = refl
+    go (d ∷ ds) c is other = let same : d.byte ≡ c = cc in rw same other
+
+pub prefix-looked : (options : ParseOptions) (cells : List Cell) (h : Here) (b : ℕ) → IsRest h.scratch →
+    seen_behind cells ≡ Some b → may_begin b ≡ false → prefix_at options cells h ≡ Refuses h.scratch h.flags
+prefix-looked options cells h b is seen e =
     prefix-tried options cells h is
-    ∙ ap (λ (x : Bool). passed_by (cond x (Some (quote_on options cells h.point)) None) h) (no_prefix options cells e)
+    ∙ ap (λ (x : Bool). passed_by (cond x (Some (quote_on options cells h.point)) None) h)
+    (no_prefix options cells b seen e)
 
 pub prefix-passed : (options : ParseOptions) (cells : List Cell) (p : Point) (t : Passed) →
     cond (takes_prefix options cells) (Some (quote_on options cells p)) None ≡ Some t → IsPassed kind.BlockQuote cells t
@@ -66,15 +73,15 @@ quote-tried options interrupting cells h is =
     quote-is options cells h is
     ∙ tried-if (options.constructs.block_quote && takes_prefix options cells) (quote_new options cells h.point) h
 
-pub quote-looked : (options : ParseOptions) (cells : List Cell) (h : Here) → IsRest h.scratch →
-    may_begin (first_seen cells) ≡ false → quote_at options cells h ≡ Refuses h.scratch h.flags
-quote-looked options cells h is e = quote-tried options false cells h is ∙ go options.constructs.block_quote
+pub quote-looked : (options : ParseOptions) (cells : List Cell) (h : Here) (b : ℕ) → IsRest h.scratch →
+    seen_behind cells ≡ Some b → may_begin b ≡ false → quote_at options cells h ≡ Refuses h.scratch h.flags
+quote-looked options cells h b is seen e = quote-tried options false cells h is ∙ go options.constructs.block_quote
   where
     new : Passed
     new = quote_new options cells h.point
 
     go : (x : Bool) → passed_by (cond (x && takes_prefix options cells) (Some new) None) h ≡ Refuses h.scratch h.flags
-    go true = ap (λ (y : Bool). passed_by (cond y (Some new) None) h) (no_prefix options cells e)
+    go true = ap (λ (y : Bool). passed_by (cond y (Some new) None) h) (no_prefix options cells b seen e)
     go false = refl
 
 pub quote-passed : (options : ParseOptions) (interrupting : Bool) (cells : List Cell) (p : Point) (t : Passed) →

@@ -1,5 +1,6 @@
 -- The trial of a heading takes a line to its end, or refuses it.
-use Rattle.std.proofs.Common.{◌≡◌, ℕ, ◌≤◌, true, false, List, length, refl, sym, ◌∙◌, arith}
+use Rattle.std.proofs.Common.{◌≡◌, ℕ, ◌≤◌, true, false, List, Some, length, refl, sym, ◌∙◌, arith}
+use Rattle.std.proofs.lemmas.Bool.Decides.{nat_tests}
 use Rattle.md_engine.specs.declared.configuration.ParseOptions.{ParseOptions}
 use Rattle.md_engine.specs.declared.event.Name.TheVariants.{HeadingAtx}
 use Rattle.md_engine.specs.Meaning.{Cell, Here, Refuses}
@@ -8,20 +9,20 @@ use Rattle.md_leaves.specs.HeadingRule.{before_opening, heading_at, in_heading, 
 use Rattle.md_leaves.proofs.HeadingWhole.{heading-refused, heading-taken}
 use Rattle.md_leaves.proofs.LeafStart.{rule-refused}
 use Rattle.md_seam.specs.Ahead.{line_bytes}
-use Rattle.md_seam.specs.Look.{first_seen}
-use Rattle.md_seam.specs.Spaces.{IsRest, is_current, small_indent}
+use Rattle.md_seam.specs.Look.{seen_behind}
+use Rattle.md_seam.specs.Spaces.{IsRest, small_indent}
 use Rattle.md_seam.proofs.SpacesGoods.{rest-calm}
 use Rattle.markdown_blocks.specs.Leaf.HeadingAtx.{heading_leaf}
 use Rattle.markdown_blocks.proofs.FromEnding.{from_ending-again, from_ending-shrinks}
 use Rattle.markdown_blocks.proofs.LeafLaws.{Shrinks, cond-shrinks, shut_line}
 use Rattle.markdown_blocks.proofs.LeafStarts.{start-shrinks}
 
--- a line that begins neither with whitespace nor with `#` holds no heading
-pub trial-looked : (options : ParseOptions) (cells : List Cell) → may_begin (first_seen cells) ≡ false →
-    is_heading_line options cells ≡ false
-trial-looked options cells e =
-    rule-refused (is_current 35) options.constructs.heading_atx is_heading (small_indent options) cells refl
-    (λ b bytes k. rw k refl) e
+-- a line where another byte than `#` stands first behind whitespace holds no heading
+pub trial-looked : (options : ParseOptions) (cells : List Cell) (b : ℕ) → seen_behind cells ≡ Some b →
+    may_begin b ≡ false → is_heading_line options cells ≡ false
+trial-looked options cells b seen e =
+    rule-refused may_begin options.constructs.heading_atx is_heading (small_indent options) cells b refl
+    (λ c bytes k. rw k refl) (λ c white. grind (arith, nat_tests)) seen e
 
 -- a line that holds a heading is taken
 pub trial-took : (options : ParseOptions) (cells : List Cell) (h : Here) → IsRest h.scratch →

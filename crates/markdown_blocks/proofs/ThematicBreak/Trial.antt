@@ -1,7 +1,8 @@
 -- What a thematic break comes to, where it takes a line and where it refuses one.
 use Rattle.std.proofs.Common.{◌≡◌, ℕ, ◌≤◌, Bool, true, false, cond, List, [], ◌∷◌, ◌++◌, length, arith, refl, sym, ◌∙◌}
-use Rattle.std.proofs.Common.{ap, ap₂, append_assoc}
+use Rattle.std.proofs.Common.{ap, ap₂, append_assoc, Some}
 use Rattle.std.proofs.lemmas.Bool.{and_parts}
+use Rattle.std.proofs.lemmas.Bool.Decides.{nat_tests}
 use Rattle.md_engine.specs.declared.configuration.ParseOptions.{ParseOptions}
 use Rattle.md_engine.specs.declared.event.Event.{Event}
 use Rattle.md_engine.specs.declared.event.Name.TheVariants as n
@@ -9,12 +10,12 @@ use Rattle.md_engine.specs.declared.event.Point.{Point}
 use Rattle.md_engine.specs.declared.tokenizer.Scratch.{Scratch}
 use Rattle.md_engine.specs.declared.tokenizer.held_leaf.HeldLeaf.TheVariants as held_leaf
 use Rattle.md_engine.specs.Meaning.{Accepts, Cell, Here, Outcome, Refuses}
-use Rattle.md_leaves.specs.Break.{may_begin, sees_marker, without_marker}
+use Rattle.md_leaves.specs.Break.{may_begin, without_marker}
 use Rattle.md_leaves.specs.BreakRule.{Apart, before_marker, break_at, broken, runs}
 use Rattle.md_leaves.specs.LeafStart.{entered_here}
 use Rattle.md_leaves.proofs.LeafStart.{at-none, at-off, at-white, rule-refused}
 use Rattle.md_seam.specs.Ahead.{begins_white, from_ending, line_bytes, line_cells, line_end, white_end, white_rest}
-use Rattle.md_seam.specs.Look.{first_seen}
+use Rattle.md_seam.specs.Look.{seen_behind}
 use Rattle.md_definition.specs.Leaves.{is_rule}
 use Rattle.md_seam.specs.Events.Nested.{around, enter, exit, pair}
 use Rattle.md_seam.specs.Spaces.{IsRest, calmed, small_indent}
@@ -81,12 +82,12 @@ rest-marker s e = ap without_marker e ∙ sym e
 rest-white : (s : Scratch) → IsRest s → without_marker (calmed s) ≡ s
 rest-white s e = ap (λ (t : Scratch). without_marker (calmed t)) e ∙ sym e
 
--- A line that begins neither with whitespace nor with a marker is no break.
-pub break-looked : (options : ParseOptions) (cells : List Cell) → may_begin (first_seen cells) ≡ false →
-    is_break options cells ≡ false
-break-looked options cells e =
-    rule-refused sees_marker options.constructs.thematic_break is_rule (small_indent options) cells refl
-    (λ b bytes k. rw k refl) e
+-- A line where another byte than a marker stands first behind whitespace is no break.
+pub break-looked : (options : ParseOptions) (cells : List Cell) (b : ℕ) → seen_behind cells ≡ Some b →
+    may_begin b ≡ false → is_break options cells ≡ false
+break-looked options cells b seen e =
+    rule-refused may_begin options.constructs.thematic_break is_rule (small_indent options) cells b refl
+    (λ c bytes k. rw k refl) (λ c white. grind (arith, nat_tests)) seen e
 
 -- A break takes its line,
 pub break-took : (options : ParseOptions) (cells : List Cell) (h : Here) → IsRest h.scratch →

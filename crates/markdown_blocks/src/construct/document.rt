@@ -39,6 +39,7 @@ use md_engine::subtokenize::Subresult;
 use md_engine::table::Table;
 use md_engine::tokenizer::{Container, Flags, HeldLeaf, Tokenizer};
 use md_leaves::partial_bom;
+use md_seam::space_or_tab::look_behind;
 
 /// At the start of the text: before a byte order mark, if there is one.
 ///
@@ -95,7 +96,7 @@ pub fn container_existing_before(tokenizer: &mut Tokenizer) -> State
     match next_container(tokenizer) {
         None => State::Retry(StateName::Document(DocumentState::ContainerNewBefore)),
         Some(container) => {
-            if !registry::may_go_on(container.kind, tokenizer.current) {
+            if !registry::may_go_on(container.kind, look_behind(tokenizer)) {
                 return State::Retry(StateName::Document(DocumentState::ContainerNewBefore));
             }
             or_error!(tokenizer.attempt(
@@ -136,7 +137,7 @@ pub fn container_new_before(tokenizer: &mut Tokenizer) -> State
     ensures to { result ≢ State.Error → result ≡ (new_before_transition (world tokenizer.old)).to }
     ensures world { result ≢ State.Error → world tokenizer.new ≡ (new_before_transition (world tokenizer.old)).world }
 {
-    if !registry::may_open(tokenizer.current) {
+    if !registry::may_open(look_behind(tokenizer)) {
         return State::Retry(StateName::Document(DocumentState::ContainersAfter));
     }
     or_error!(tokenizer.attempt(

@@ -3,7 +3,7 @@
 //     flow ::= blank_line | heading_atx | thematic_break | content
 //
 // The rest of a line, behind the prefixes of its containers, is tried in this order. What may not begin with the byte
-// that stands here is refused at once; else an attempt tells. The line then ends in the document.
+// that stands first behind whitespace is refused at once; else an attempt tells. The line then ends in the document.
 
 ghost use Rattle.std.specs.Prelude.{◌≡◌, ◌≢◌};
 ghost use Rattle.md_engine.specs.Scheme.{stands};
@@ -37,7 +37,7 @@ use md_engine::subtokenize::Subresult;
 use md_engine::table::Table;
 use md_engine::tokenizer::{HeldLeaf, Tokenizer};
 use md_leaves::{blank_line, heading_atx, thematic_break};
-use md_seam::space_or_tab;
+use md_seam::space_or_tab::{self, look_behind};
 
 /// At the start of a line.
 ///
@@ -68,7 +68,7 @@ pub fn blank_line_before(tokenizer: &mut Tokenizer) -> State
     if blank_line::ends_line(tokenizer.current) {
         return State::Retry(StateName::Flow(FlowState::BlankLineAfter));
     }
-    if !blank_line::may_begin(tokenizer.current) {
+    if !blank_line::may_begin(look_behind(tokenizer)) {
         return State::Retry(StateName::Flow(FlowState::BeforeHeadingAtx));
     }
     or_error!(tokenizer.attempt(
@@ -90,7 +90,7 @@ pub fn before_heading_atx(tokenizer: &mut Tokenizer) -> State
     ensures world { result ≢ State.Error →
         world tokenizer.new ≡ (before_transition LeafName.HeadingAtx (world tokenizer.old)).world }
 {
-    if !heading_atx::may_begin(tokenizer.current) {
+    if !heading_atx::may_begin(look_behind(tokenizer)) {
         return State::Retry(StateName::Flow(FlowState::BeforeThematicBreak));
     }
     or_error!(tokenizer.attempt(
@@ -112,7 +112,7 @@ pub fn before_thematic_break(tokenizer: &mut Tokenizer) -> State
     ensures world { result ≢ State.Error →
         world tokenizer.new ≡ (before_transition LeafName.ThematicBreak (world tokenizer.old)).world }
 {
-    if !thematic_break::may_begin(tokenizer.current) {
+    if !thematic_break::may_begin(look_behind(tokenizer)) {
         return State::Retry(StateName::Flow(FlowState::BeforeContent));
     }
     or_error!(tokenizer.attempt(

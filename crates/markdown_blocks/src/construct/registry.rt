@@ -16,6 +16,7 @@ ghost use Rattle.md_engine.specs.declared.state.State.{State};
 ghost use Rattle.markdown_blocks.specs.Registry.{construct_transition, first_container, goes_on_with, may_go_on};
 ghost use Rattle.markdown_blocks.specs.Registry.{may_open, new_kind, resolved_by};
 ghost use Rattle.markdown_blocks.specs.States.{flow_table_scheme};
+ghost use Rattle.md_seam.specs.Look.{may_with};
 
 use md_containers::block_quote;
 use md_engine::message::Message;
@@ -40,19 +41,20 @@ pub fn first_container() -> StateName
     StateName::BlockQuote(QuoteState::Start)
 }
 
-/// Whether it may open with what stands here.
-pub fn may_open(current: Option<u8>) -> bool
-    ensures { result ≡ may_open current }
+/// Whether it may open here, by what stands first behind whitespace, if that is known.
+pub fn may_open(first: Option<u8>) -> bool
+    ensures { result ≡ may_with may_open first }
 {
-    block_quote::may_begin(current)
+    block_quote::may_begin(first)
 }
 
-/// Whether the prefix of a container on a further line may begin with what stands here.
-pub fn may_go_on(kind: ContainerKind, current: Option<u8>) -> bool
-    ensures { result ≡ may_go_on kind current }
+/// Whether the prefix of a container on a further line may begin here, by what stands first behind whitespace, if that is
+/// known.
+pub fn may_go_on(kind: ContainerKind, first: Option<u8>) -> bool
+    ensures { result ≡ may_with (may_go_on kind) first }
 {
     match kind {
-        ContainerKind::BlockQuote => block_quote::may_begin(current),
+        ContainerKind::BlockQuote => block_quote::may_begin(first),
     }
 }
 
