@@ -3,7 +3,7 @@
 #
 # Each file of scripts/wrong-bodies has lines `file:`, `old:` (standing once in that file) and `new:`. All are applied to one copy of
 # the crates, where a body is wrong only for the number that stands for it: `is_wrong()` in a `new:` line asks that of the constructs,
-# in which the constructs of MDX, off in each program, give the number. The copy of `agree_bench` then tries the rows with the number
+# in which the constructs of MDX, off in each program, give the number. The copy of `bench` then tries the rows with the number
 # of its argument, and 0 stands for the bodies as they are. An edit of a crate of the plain program changes that body, each other the
 # parser.
 set -euo pipefail
@@ -96,9 +96,9 @@ fn main(rt: HostRuntime) -> io::Result<()> {{
     println!(rt; "{{}} tried, {{}} wrong{{}}", report.tried, report.wrong, if ran_out {{ ", memory ran out" }} else {{ "" }})
 }}
 """
-open(f"{work}/crates/agree_bench/src/main.rt", "w").write(main)
+open(f"{work}/crates/bench/src/main.rt", "w").write(main)
 PYTHON
-(cd "$work/crates/agree_bench" && rt try --steps 1 --cases "$work/cases" >"$work/said" 2>"$work/ends" </dev/null) || true
+(cd "$work/crates/bench" && rt try --steps 1 --cases "$work/cases" >"$work/said" 2>"$work/ends" </dev/null) || true
 python3 - "$work" scripts/wrong-bodies/*.edit <<'PYTHON'
 import re, sys
 
