@@ -1,22 +1,24 @@
 #!/usr/bin/env bash
-# Refuses requests for memory of the programs `blocks` and `events`, without proof: on the texts of their stored runs, and on each
-# begin of a text with a byte order mark, headings, quotes and a break.
+# Refuses requests for memory of the programs `blocks` and `events`, as `rt ci` or `rt run` has built them (`out`): on the texts of
+# their stored runs, and on each begin of a text with a byte order mark, headings, quotes and a break.
 #
-# For each number, every text has one run in which the request of that number is refused. A run that comes to this request must end
-# with status 3 and print nothing. One that makes fewer requests must end with status 0 and print what it prints where none is
-# refused; of stored runs, and of the whole text in `blocks`, that is given. So many runs at least must have been refused. The numbers
-# are the arguments, where there are any: `scripts/refuse_memory.sh $(seq 90)` refuses each request in turn, which takes many minutes.
+# Each text has a run in which nothing is refused, which must end with status 0 and print what is given, or anything where nothing is;
+# and for each request of that run one in which this request is refused (`scripts/refuse.c`). Such a run must end with status 3, say so
+# on its standard error and print nothing, or end as if nothing had been refused: the parser goes on where memory that is left over
+# cannot be given back. So many runs at least must have ended with status 3.
 set -euo pipefail
-cd "$(dirname "$0")/../crates"
+cd "$(dirname "$0")/.."
 work=$(mktemp -d)
 trap 'rm -rf "$work"' EXIT
-mkdir "$work/texts" "$work/blocks" "$work/events"
-printf '\xef\xbb\xbf# # a #\nb\n> > c\n> d\ne\n### ##\n***\n' >"$work/whole"
-for ((length = 3; length <= $(wc -c <"$work/whole"); length++)); do
-    head -c "$length" "$work/whole" >"$work/texts/$length"
-done
-cat >"$work/blocks/$((length - 1))" <<'OUTLINE'
-heading 1
+kit=$(dirname "$(rt doc)")
+"$kit/toolchain/bin/clang" --target=x86_64-unknown-linux-gnu --sysroot="$kit/toolchain" -O2 -shared -fPIC -nostdlib -fuse-ld=lld \
+    -o "$work/refuse.so" scripts/refuse.c
+python3 - "$work/refuse.so" blocks 1000 events 1000 <<'PYTHON'
+import os, subprocess, sys
+
+library, *programs = sys.argv[1:]
+WHOLE = b"\xef\xbb\xbf# # a #\nb\n> > c\n> d\ne\n### ##\n***\n"
+OUTLINE = b"""heading 1
   | # a
 paragraph
   | b
@@ -31,58 +33,45 @@ break
 
 definitions 0
 footnotes 0
-OUTLINE
-# A number that no run comes to stands for the runs in which nothing is refused.
-none=1000000
-export work
-
-# Refuses these requests of a program, so many runs at least.
-refuse() {
-    local program=$1 least=$2
-    shift 2
-    cp "$program/stdin" "$work/texts/stored"
-    cp "$program/stdout" "$work/$program/stored"
-    (cd "$program" && printf '%s\n' "$none" "$@" | xargs -P 4 -I {} bash -c \
-        "rt try --cases \"\$work/texts\" --fail-alloc {} >\"\$work/$program/{}.out\" 2>\"\$work/$program/{}.err\" </dev/null || true")
-    python3 - "$work" "$program" "$least" "$none" "$@" <<'PYTHON'
-import os, re, sys
-
-work, program, least, *numbers = sys.argv[1:]
-texts = sorted(os.listdir(f"{work}/texts"))
+"""
 
 
-def runs(number):
-    """The status of each text's run, and what it printed."""
-    said = open(f"{work}/{program}/{number}.err").read()
-    status = dict(re.findall(r"^case=(\S+) run=ended status=(\d+) ", said, re.M))
-    if sorted(status) != texts:
-        sys.exit(f"{program}, request {number}: not every run ended\n{said[-2000:]}")
-    parts = re.split(r"^== (\S+)\n", open(f"{work}/{program}/{number}.out").read(), flags=re.M)
-    return {text: (status[text], dict(zip(parts[1::2], parts[2::2])).get(text, "")) for text in texts}
+def run(program, text, number):
+    """The status of a run, what it printed and what it complained of, and whether the request of this number was refused."""
+    told, tell = os.pipe()
+    named = {"LD_PRELOAD": library, "REFUSE": str(number), "REFUSED_TO": str(tell)}
+    ran = subprocess.run([program], input=text, capture_output=True, env=named, pass_fds=[tell], timeout=60)
+    os.close(tell)
+    is_refused = os.read(told, 1) == b"r"
+    os.close(told)
+    return (ran.returncode, ran.stdout, ran.stderr), is_refused
 
 
-right = runs(numbers[0])
-for text in texts:
-    given = f"{work}/{program}/{text}"
-    wanted = open(given).read() if os.path.exists(given) else right[text][1]
-    if right[text] != ("0", wanted) or not wanted:
-        sys.exit(f"{program}, text {text}, nothing refused: status {right[text][0]}, and printed\n{right[text][1]}")
-refused = 0
-for number in numbers[1:]:
-    for text, ran in runs(number).items():
-        if ran != right[text] and ran != ("3", ""):
-            sys.exit(f"{program}, text {text}, request {number}: status {ran[0]}, and printed\n{ran[1]}")
-        refused += ran == ("3", "")
-print(f"refused memory: {program}, {len(texts) * len(numbers[1:])} runs, {refused} refused")
-if refused < int(least):
-    sys.exit(f"fewer than {least}")
+def refused(name):
+    """Refuses the requests of a program one after another, and answers how many runs and how many of them ended with status 3."""
+    folder, runs, count = f"crates/{name}", 0, 0
+    stored = open(f"{folder}/stdin", "rb").read()
+    given = {stored: open(f"{folder}/stdout", "rb").read()}
+    if name == "blocks":
+        given[WHOLE] = OUTLINE
+    for text in [stored, *(WHOLE[:length] for length in range(3, len(WHOLE) + 1))]:
+        right, _ = run(f"{folder}/out/{name}", text, 0)
+        if right != (0, given.get(text, right[1]), b"") or not right[1]:
+            sys.exit(f"{name}, text {text}, nothing refused: status, output and complaint {right}")
+        number = 1
+        while True:
+            ended, is_refused = run(f"{folder}/out/{name}", text, number)
+            if not is_refused:
+                break
+            if ended not in (right, (3, b"", f"{name}: out of memory\n".encode())):
+                sys.exit(f"{name}, text {text}, request {number} refused: status, output and complaint {ended}")
+            number, runs, count = number + 1, runs + 1, count + (ended != right)
+    return runs, count
+
+
+for name, least in zip(programs[::2], map(int, programs[1::2])):
+    runs, count = refused(name)
+    print(f"refused memory: {name}, {runs} requests refused, {count} runs ended by it")
+    if count < least:
+        sys.exit(f"fewer than {least}")
 PYTHON
-}
-
-if [ $# = 0 ]; then
-    refuse blocks 150 1 8 16 22 28 36 46 60
-    refuse events 50 4 20 34
-else
-    refuse blocks 1 "$@"
-    refuse events 1 "$@"
-fi

@@ -1,57 +1,120 @@
 #!/usr/bin/env bash
 # Tries wrong bodies that no contract can refuse, or that one may come to let through, without proof: each must change a row.
 #
-# Each file of scripts/wrong-bodies has lines `file:`, `old:` (standing once in that file) and `new:`. It is applied to a copy of
-# the crates, whose bench then has to find rows that disagree, or that it can't try. What it prints of the crates as they are, where
-# none disagrees, is its file `stdout`, which `rt ci` compares.
+# Each file of scripts/wrong-bodies has lines `file:`, `old:` (standing once in that file) and `new:`. All are applied to one copy of
+# the crates, where a body is wrong only for the number that stands for it: `is_wrong()` in a `new:` line asks that of the constructs,
+# in which the constructs of MDX, off in each program, give the number. The copy of `bench` then tries the rows with the number
+# of its argument, and 0 stands for the bodies as they are. An edit of a crate of the plain program changes that body, each other the
+# parser.
 set -euo pipefail
 cd "$(dirname "$0")/.."
 work=$(mktemp -d)
 trap 'rm -rf "$work"' EXIT
-# What the bench says of a copy with an edit, in a file of that edit's name.
-rows() {
-    local edit=$1 copy
-    copy="$work/$(basename "$edit" .edit)"
-    mkdir -p "$copy/crates"
-    cp crates.txt HANDLES "$copy/"
-    tar -C crates --exclude=out -cf - . | tar -C "$copy/crates" -xf -
-    python3 - "$edit" "$copy" <<'PYTHON'
+mkdir -p "$work/crates" "$work/cases"
+cp crates.txt HANDLES "$work/"
+tar -C crates --exclude=out -cf - . | tar -C "$work/crates" -xf -
+python3 - "$work" scripts/wrong-bodies/*.edit <<'PYTHON'
 import sys
-edit, copy = sys.argv[1:]
-lines = [line.rstrip("\n").split(": ", 1) for line in open(edit) if line.strip() and not line.startswith("#")]
-while lines:
-    (_, name), (_, old), (_, new) = lines[:3]
-    lines = lines[3:]
-    text = open(f"{copy}/{name}").read()
+
+work, *edits = sys.argv[1:]
+FLAGS = ["mdx_esm", "mdx_expression_flow", "mdx_expression_text", "mdx_jsx_flow", "mdx_jsx_text"]
+if len(edits) >= 2 ** len(FLAGS):
+    sys.exit("too many wrong bodies for one program")
+
+
+def replaced(name, old, new, why):
+    text = open(f"{work}/{name}").read()
     if text.count(old) != 1:
-        sys.exit(f"{edit}: `{old}` stands {text.count(old)} times in {name}")
-    open(f"{copy}/{name}", "w").write(text.replace(old, new))
+        sys.exit(f"{why}: `{old}` stands {text.count(old)} times in {name}")
+    open(f"{work}/{name}", "w").write(text.replace(old, new))
+
+
+bodies = [(0, "Blocks"), (0, "Plain")]
+for number, edit in enumerate(edits, 1):
+    lines = [line.rstrip("\n").split(": ", 1) for line in open(edit) if line.strip() and not line.startswith("#")]
+    tells = False
+    while lines:
+        (_, name), (_, old), (_, new) = lines[:3]
+        lines = lines[3:]
+        tells = tells or "is_wrong()" in new
+        replaced(name, old, new.replace("is_wrong()", f"is_wrong({number})"), edit)
+    if not tells:
+        sys.exit(f"{edit}: no `new:` asks is_wrong()")
+    bodies.append((number, "Plain" if name.split("/")[1] in ("plain_grammars", "md_plain", "plain_body") else "Blocks"))
+
+# which body is wrong
+places = " + ".join(f"(self.{flag} as u8) * {2 ** at}" for at, flag in enumerate(FLAGS))
+with open(f"{work}/crates/md_engine/src/configuration.rt", "a") as it:
+    it.write(f"\nimpl Constructs {{\n    pub fn is_wrong(&self, number: u8) -> bool {{\n        {places} == number\n    }}\n}}\n")
+
+# a body a number, which turns on the constructs of MDX that give the number
+main = """#![tactic(auto)]
+ghost use Rattle.std.specs.Prelude.{Unit};
+use blocks_body::Blocks;
+use blocks_vectors::report::Report;
+use blocks_vectors::rows::try_rows;
+use md_engine::configuration::{Constructs, ParseOptions};
+use md_engine::message::Message;
+use md_program::body::{Body, Outlined};
+use plain_body::Plain;
+use std::alloc::Global;
+use std::{env, io};
+"""
+arms = ""
+for number, body in bodies:
+    flags = "".join(f"{flag}: {str(bool(number >> at & 1)).lower()}, " for at, flag in enumerate(FLAGS))
+    main += f"""
+struct {body}{number};
+impl Body for {body}{number} {{
+    ghost accepts = {{ λ _. Unit {{0}} }};
+    ghost outlines = {{ λ _ _ _. Unit {{0}} }};
+    ghost built = {{ λ options. options }};
+    fn built(options: ParseOptions) -> ParseOptions {{
+        let all = {body}::built(ParseOptions {{ constructs: Constructs {{ {flags}..options.constructs }} }});
+        ParseOptions {{ constructs: Constructs {{ {flags}..all.constructs }} }}
+    }}
+    fn outlined<'a>(alloc: Global, text: &'a str, options: &'a ParseOptions) -> Result<Outlined<'a>, Message> {{
+        {body}::outlined(alloc, text, options)
+    }}
+}}
+"""
+    case = f"{body}{number}"
+    arms += f'            "{case}" => try_rows::<{case}>(rt.alloc(), rows, &mut report).is_err(),\n'
+    open(f"{work}/cases/{case}", "w").close()
+    open(f"{work}/cases/{case}.args", "w").write(case + "\n")
+main += f"""
+fn main(rt: HostRuntime) -> io::Result<()> {{
+    let mut report = Report::new(rt.alloc());
+    let mut ran_out = false;
+    for arg in env::args(&rt)?.skip(1) {{
+        for rows in blocks_cases::all() {{
+            ran_out |= match arg.as_str() {{
+{arms}                _ => true,
+            }};
+        }}
+    }}
+    println!(rt; "{{}} tried, {{}} wrong{{}}", report.tried, report.wrong, if ran_out {{ ", memory ran out" }} else {{ "" }})
+}}
+"""
+open(f"{work}/crates/bench/src/main.rt", "w").write(main)
 PYTHON
-    (cd "$copy/crates/blocks_bench" && rt try 2>&1 </dev/null || true) | tr -d '\0' >"$copy.said"
-    rm -rf "$copy"
-}
-found() {
-    grep -ao '[0-9]* tried, [0-9]* wrong' "$work/$(basename "$1" .edit).said" | tail -1 || true
-}
-export -f rows
-export work
-printf '%s\n' scripts/wrong-bodies/*.edit | xargs -P 4 -I {} bash -c 'set -euo pipefail; rows {}'
-passed=0
-failed=0
-right=$(cat crates/blocks_bench/stdout)
-case "$right" in
-    *[1-9]*" tried, 0 wrong") ;;
-    *) echo "crates/blocks_bench/stdout: $right"; exit 1 ;;
-esac
-for edit in scripts/wrong-bodies/*.edit; do
-    said=$(found "$edit")
-    if [ -n "$said" ] && [ "$said" != "$right" ]; then
-        passed=$((passed + 1))
-    else
-        echo "$edit: no row changes (${said:-no result})"
-        tail -3 "$work/$(basename "$edit" .edit).said"
-        failed=$((failed + 1))
-    fi
-done
-echo "wrong bodies: $passed passed, $failed failed"
-[ "$failed" = 0 ]
+(cd "$work/crates/bench" && rt try --steps 1 --cases "$work/cases" >"$work/said" 2>"$work/ends" </dev/null) || true
+python3 - "$work" scripts/wrong-bodies/*.edit <<'PYTHON'
+import re, sys
+
+work, *edits = sys.argv[1:]
+ends = open(f"{work}/ends", errors="replace").read()
+parts = re.split(r"^== (Blocks|Plain)(\d+)\n", open(f"{work}/said", errors="replace").read(), flags=re.M)
+said = dict(zip(zip(parts[1::3], map(int, parts[2::3])), (it.strip() for it in parts[3::3])))
+for body in ("Blocks", "Plain"):
+    if not re.fullmatch(r"[1-9]\d* tried, 0 wrong", said.get((body, 0), "")):
+        sys.exit(f"wrong bodies: {body} as it is: {said.get((body, 0), 'no result')}\n{ends[-3000:]}")
+failed = 0
+for number, edit in enumerate(edits, 1):
+    body, found = next(((it[0], said[it]) for it in said if it[1] == number), ("", "no result"))
+    if not re.match(r"\d+ tried, ", found) or found == said.get((body, 0)):
+        print(f"{edit}: no row changes ({found})")
+        failed += 1
+print(f"wrong bodies: {len(edits) - failed} passed, {failed} failed")
+sys.exit(failed != 0)
+PYTHON

@@ -1,18 +1,14 @@
 // The program `blocks`: it reads a Markdown text from its standard input and prints the outline of the text.
 #![tactic(auto)]
 
-pub mod run;
-
+use blocks_body::run::{NAME, run};
 use md_program::system::arguments;
 use std::process::ExitCode;
-
-/// The program's name, as its lines on the standard error say it.
-const NAME: &str = "blocks";
 
 fn main(rt: HostRuntime) -> ExitCode {
     let mut errors = rt.stderr();
     match arguments(&rt) {
-        Ok(args) => ExitCode::from(run::run(
+        Ok(args) => ExitCode::from(run(
             rt.alloc(),
             &args,
             &mut rt.stdin(),

@@ -3,6 +3,8 @@
 
 ghost use Rattle.blocks_body.specs.Built.{Outlines, built_from};
 
+pub mod run;
+
 use markdown_blocks::outline::outline;
 use markdown_blocks::parser::parse;
 use md_engine::configuration::{Constructs, ParseOptions};
@@ -48,6 +50,3 @@ impl Body for Blocks {
         })
     }
 }
-
-#[cfg(test)]
-mod tests;

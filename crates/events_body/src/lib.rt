@@ -5,6 +5,7 @@ ghost use Rattle.events_body.specs.Events.{PrintsEvents};
 
 mod names;
 pub mod print;
+pub mod run;
 
 use blocks_body::Blocks;
 use markdown_blocks::parser::parse;

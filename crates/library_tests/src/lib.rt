@@ -1,8 +1,18 @@
-// Tests of libraries whose proofs are long. A crate with tests is proved twice, so they stand beside them.
+// Tests of libraries. A crate with tests is proved twice, so they stand beside them, in one crate.
 #![tactic(auto)]
 
 #[cfg(test)]
+mod blocks_run;
+#[cfg(test)]
+mod events_run;
+#[cfg(test)]
+mod grammars;
+#[cfg(test)]
 mod heading_text;
+#[cfg(test)]
+mod outlines;
+#[cfg(test)]
+mod plain_outlines;
 #[cfg(test)]
 mod print;
 #[cfg(test)]

@@ -50,8 +50,3 @@ impl Body for Plain {
         listed(alloc, &meant)
     }
 }
-
-#[cfg(test)]
-mod grammar_tests;
-#[cfg(test)]
-mod tests;

@@ -1,13 +1,16 @@
-// A run of the program.
+// A run of the program `blocks`.
 ghost use Rattle.std.specs.Prelude.{codes, map, string_bytes};
 ghost use Rattle.md_program.specs.Ends.{Runs};
 ghost use Rattle.md_program.specs.Printed.{PrintsOutline};
 ghost use Rattle.blocks_body.specs.Built.{Outlines, built_from};
 
-use blocks_body::Blocks;
+use crate::Blocks;
 use md_program::printing::OutlineOf;
 use std::alloc::Global;
 use std::io::{Read, Write};
+
+/// The program's name, as its lines on the standard error say it.
+pub const NAME: &str = "blocks";
 
 /// Reads `input` whole and writes its outline to `output`; answers the status that the program ends with.
 ///
@@ -25,15 +28,5 @@ pub fn run<R: Read, W: Write, E: Write>(
         (W.contents output.old) (W.contents output.new)
         (E.contents errors.old) (E.contents errors.new) result }
 {
-    md_program::run::run::<OutlineOf<Blocks>, R, W, E>(
-        alloc,
-        crate::NAME,
-        args,
-        input,
-        output,
-        errors,
-    )
+    md_program::run::run::<OutlineOf<Blocks>, R, W, E>(alloc, NAME, args, input, output, errors)
 }
-
-#[cfg(test)]
-mod tests;

@@ -1,5 +1,5 @@
 // Runs over a text, over inputs that fail, and over outputs with little room.
-use super::run;
+use events_body::run::run;
 use std::alloc::Global;
 use std::io;
 use std::io::{ErrorKind, Read};

@@ -1,11 +1,14 @@
-// A run of the program.
+// A run of the program `events`.
 ghost use Rattle.std.specs.Prelude.{codes, map, string_bytes};
 ghost use Rattle.md_program.specs.Ends.{Runs};
 ghost use Rattle.events_body.specs.Events.{PrintsEvents};
 
-use events_body::Events;
+use crate::Events;
 use std::alloc::Global;
 use std::io::{Read, Write};
+
+/// The program's name, as its lines on the standard error say it.
+pub const NAME: &str = "events";
 
 /// Reads `input` whole and writes its events to `output`; answers the status that the program ends with.
 ///
@@ -23,8 +26,5 @@ pub fn run<R: Read, W: Write, E: Write>(
         (W.contents output.old) (W.contents output.new)
         (E.contents errors.old) (E.contents errors.new) result }
 {
-    md_program::run::run::<Events, R, W, E>(alloc, crate::NAME, args, input, output, errors)
+    md_program::run::run::<Events, R, W, E>(alloc, NAME, args, input, output, errors)
 }
-
-#[cfg(test)]
-mod tests;

@@ -1,7 +1,7 @@
 // Runs over readers and writers that fail.
 ghost use Rattle.std.specs.Prelude.{◌≤◌};
 
-use super::run;
+use blocks_body::run::run;
 use std::alloc::Global;
 use std::io;
 use std::io::{ErrorKind, Read, Write};

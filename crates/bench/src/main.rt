@@ -1,0 +1,83 @@
+// The bench. The first argument says what is tried: `blocks` the parser, `plain` the plain program, `agree` both against each other;
+// without one it is all three. Behind the first two stands a task of `blocks_vectors::task`, and behind `agree` the most letters of a
+// text. It prints what disagreed, and then how much was tried.
+#![tactic(auto)]
+
+use blocks_body::Blocks;
+use blocks_cases::case::CaseError;
+use blocks_vectors::agree::try_agree;
+use blocks_vectors::report::Report;
+use blocks_vectors::task::Task;
+use plain_body::Plain;
+use std::alloc::Global;
+use std::{env, io};
+
+/// So many letters where no argument says it.
+const MOST: usize = 7;
+
+/// Something to try.
+#[derive(Clone, Copy)]
+enum Bench {
+    Blocks(Task),
+    Plain(Task),
+    Agree(usize),
+}
+
+impl Bench {
+    /// What is tried without an argument.
+    const ALL: [Bench; 3] = [
+        Bench::Blocks(Task::Rows),
+        Bench::Plain(Task::Rows),
+        Bench::Agree(MOST),
+    ];
+
+    /// What these arguments name, or `None` where they name nothing.
+    fn asked_for(args: &[String]) -> Option<Bench> {
+        let (word, others) = args.split_first()?;
+        match (word.as_str(), others) {
+            ("blocks", others) => Some(Bench::Blocks(Task::asked_for(others)?)),
+            ("plain", others) => Some(Bench::Plain(Task::asked_for(others)?)),
+            ("agree", []) => Some(Bench::Agree(MOST)),
+            ("agree", [most]) => Some(Bench::Agree(most.as_str().parse().ok()?)),
+            _ => None,
+        }
+    }
+
+    /// Tries it.
+    fn perform(self, alloc: Global, report: &mut Report) -> Result<(), CaseError> {
+        match self {
+            Bench::Blocks(task) => task.perform::<Blocks>(alloc, report),
+            Bench::Plain(task) => task.perform::<Plain>(alloc, report),
+            Bench::Agree(most) => try_agree::<Blocks, Plain>(alloc, most, report),
+        }
+    }
+}
+
+fn main(rt: HostRuntime) -> io::Result<()> {
+    let mut args = Vec::new(rt.alloc());
+    for arg in env::args(&rt)?.skip(1) {
+        args.push(arg)?;
+    }
+    let asked = Bench::asked_for(args.as_slice());
+    if asked.is_none() && !args.is_empty() {
+        return println!(rt;
+            "blocks or plain, and rows, short LENGTH, or random SEED COUNT; or agree LENGTH"
+        );
+    }
+    for bench in Bench::ALL {
+        let mut report = Report::new(rt.alloc());
+        if asked
+            .unwrap_or(bench)
+            .perform(rt.alloc(), &mut report)
+            .is_err()
+        {
+            println!(rt; "memory ran out, or a row is no row")?;
+        }
+        print!(rt; "{}", report.list)?;
+        println!(rt; "{} tried, {} wrong", report.tried, report.wrong)?;
+        if asked.is_some() {
+            return Ok(());
+        }
+    }
+    Ok(())
+}
