@@ -551,7 +551,8 @@ ending-next bytes chunk is one whole placed lt = (
             let second : slice_index bytes (to.index + 1) ∷ slice_range bytes ((to.index + 1) + 1) chunk.after.index ≡
             10
             ∷ [] = sym
-            (range-next bytes (to.index + 1) chunk.after.index (omega (arith, left_length)) (omega (arith, left_length, is.after.index)))
+            (range-next bytes (to.index + 1) chunk.after.index (omega (arith, left_length))
+            (omega (arith, left_length, is.after.index)))
             ∙ rest ∙ feed in
             let ten : slice_index bytes (to.index + 1) ≡ 10 = cc in
             let pair : is_pair bytes to.index ≡ true = and_from _ _ (eq-eqb _ _ (byte ∙ return)) (eq-eqb _ _ ten) in
