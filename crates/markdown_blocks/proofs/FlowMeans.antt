@@ -190,7 +190,8 @@ start_steps B feed w options next has =
 blank_line_before_steps : (B : Behaviour) (feed : Feed) (w : World) (options : ParseOptions) (next : Rule) (x : Bool) →
     HasFlow B options next → Sees feed w → ends_line w.current ≡ x →
     Steps B feed (Next (n.Flow flow.BlankLineBefore)) w
-    (blank_line_code w x (may_with blank.may_begin (looks_behind w))).to (blank_line_code w x (may_with blank.may_begin (looks_behind w))).world
+    (blank_line_code w x (may_with blank.may_begin (looks_behind w))).to
+    (blank_line_code w x (may_with blank.may_begin (looks_behind w))).world
 blank_line_before_steps B feed w options next true has s e =
     let otherwise : Scratch → Flags → Outcome =
     λ s g. nonblank_of options next (feed w.point) (record (here w) { scratch = s; flags = g }) in

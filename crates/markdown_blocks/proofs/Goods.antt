@@ -100,7 +100,8 @@ good_existing_before T w None has inner r = (
 )
 good_existing_before T w (Some c) has inner r =
     let i : ContainerFits T (goes_on_with c.kind) = inner c.kind in
-    looked T _ _ _ _ w (may_with (may_go_on c.kind) (looks_behind w)) has.existing_before has.new_before r (omega arith) (
+    looked T _ _ _ _ w
+    (may_with (may_go_on c.kind) (looks_behind w)) has.existing_before has.new_before r (omega arith) (
       begins_later T flow_scheme i.own (n.Document document.ContainerExistingBefore)
           (goes_on_with c.kind) w IsRest IsRest w.events w.scratch _ has.existing_before i.starts has.existing_after has.new_before refl
           (prefix_tries (n.Document document.ContainerExistingAfter) (n.Document document.ContainerNewBefore) w

@@ -109,7 +109,8 @@ leaf-registers (Some l) w h = trial _ _ _ w (may_with (leaf l).may_begin (looks_
 
 leaves-register : (state : FlowState) (w : World) → Registers w → Registers (flow.flow_own_transition state w).world
 leaves-register its.Start w h = h
-leaves-register its.BlankLineBefore w h = blank-before w (ends_line w.current) (may_with blank.may_begin (looks_behind w)) h
+leaves-register its.BlankLineBefore w h =
+    blank-before w (ends_line w.current) (may_with blank.may_begin (looks_behind w)) h
 leaves-register its.BeforeContent w h = h
 leaves-register its.BlankLineAfter w h = h
 leaves-register its.After w h = h

@@ -19,8 +19,8 @@ pub record ContainerRules : Type 1 where
   pub begins : ParseOptions → List Cell → Here → Outcome
   pub further : StateName
   pub continues : ParseOptions → List Cell → Here → Outcome
-  -- What may stand first behind whitespace where it opens, and where its prefix on a further line begins: elsewhere it is
-  -- refused at once.
+  -- What may stand first behind whitespace where it opens, and where its prefix on a further line begins: elsewhere it
+  -- is refused at once.
   pub may_open : ℕ → Bool
   pub may_go_on : ℕ → Bool
   -- By the cells of a line: the one that opens, if one does, where it would interrupt text or not; and an open one, if

@@ -1,11 +1,11 @@
 -- What is known of a line by what stands first, and by what stands first behind whitespace.
 use Rattle.std.proofs.Common.{◌≡◌, ℕ, zero, suc, ◌+◌, ◌-◌, ◌%◌, ◌<◌, ◌≤◌, ◌⊎◌, inl, inr, Bool, true, false, cond, not}
-use Rattle.std.proofs.Common.{◌&&◌, List, [], ◌∷◌, length, drop, take, nat_eq, nat_lt, Option, Some, None, refl, sym, ◌∙◌}
+use Rattle.std.proofs.Common.{◌&&◌, List, [], ◌∷◌, length, take, nat_eq, nat_lt, Option, Some, None, refl, sym, ◌∙◌}
 use Rattle.std.proofs.Common.{ap, arith}
 use Rattle.std.specs.Prelude.{slice_index, slice_range}
 use Rattle.std.proofs.lemmas.Bool.{eqb-true, or_parts}
 use Rattle.std.proofs.lemmas.Bool.Decides.{nat_tests}
-use Rattle.std.proofs.lemmas.List.{drop_all, drop_more}
+use Rattle.std.proofs.lemmas.List.{drop_all}
 use Rattle.std.proofs.Math.Seq.{take-nil}
 use Rattle.md_engine.specs.declared.event.Point.{Point}
 use Rattle.md_engine.specs.Meaning.{Cell, Feed, line_of}
@@ -17,6 +17,7 @@ use Rattle.md_engine.proofs.StepOf.{Sees, ahead}
 use Rattle.md_definition.specs.Rest.{is_white}
 use Rattle.md_seam.specs.Ahead.{white_rest}
 use Rattle.md_seam.specs.Look.{behind_code, first_behind, first_seen, looks_behind, may_with, seen_behind}
+use Rattle.md_seam.proofs.PlainSteps.{range-next, range-none}
 
 -- a tokenizer sees the first of what it is fed
 pub first-seen : (feed : Feed) (w : World) → Sees feed w → first_seen (feed w.point) ≡ w.current
@@ -40,18 +41,9 @@ left_at x p = slice_range x.bytes p.index x.limit
 
 -- there are none from the limit or the end of the text on
 none-left : (x : Setting) (p : Point) → (x.limit ≤ p.index) ⊎ (length x.bytes ≤ p.index) → left_at x p ≡ []
-none-left x p (inl le) =
-    let none : x.limit - p.index ≡ 0 = omega arith in ap (λ (n : ℕ). take n (drop p.index x.bytes)) none
+none-left x p (inl le) = range-none x.bytes p.index x.limit le
 none-left x p (inr le) =
     ap (take (x.limit - p.index)) (drop_all p.index x.bytes le) ∙ take-nil (x.limit - p.index)
-
--- and else one more than behind the first of them
-one-left : (x : Setting) (p : Point) → p.index < x.limit → p.index < length x.bytes →
-    left_at x p ≡ slice_index x.bytes p.index ∷ slice_range x.bytes (p.index + 1) x.limit
-one-left x p lt inside =
-    let more : x.limit - p.index ≡ suc (x.limit - (p.index + 1)) = omega arith in
-    ap (take (x.limit - p.index)) (drop_more x.bytes p.index 0 inside)
-    ∙ ap (λ (n : ℕ). take n (slice_index x.bytes p.index ∷ drop (p.index + 1) x.bytes)) more
 
 -- a space, or a column of a tab, is white, and behind it the same byte is left or the next
 record IsWhiteAt (x : Setting) (p : Point) : Type 0 where
@@ -119,19 +111,19 @@ seen-along feed x (suc n) p b f le e =
     rest : List ℕ
     rest = slice_range x.bytes (p.index + 1) x.limit
 
+    left : ((after x p).index ≡ p.index) ⊎ ((after x p).index ≡ p.index + 1) → first_behind rest ≡ Some b →
+        first_behind (left_at x (after x p)) ≡ Some b
+    left (inl same) is = ap (λ (i : ℕ). first_behind (slice_range x.bytes i x.limit)) same ∙ e
+    left (inr more) is = ap (λ (i : ℕ). first_behind (slice_range x.bytes i x.limit)) more ∙ is
+
     first : (y : Bool) → is_white byte ≡ y → p.index < x.limit → first_behind (byte ∷ rest) ≡ Some b → Next →
         seen_behind (feed p) ≡ Some b
     first true k lt is next =
         let at : IsWhiteAt x p = white-at x p k in
         let less = cells-fall x p lt in
-        let left : ((after x p).index ≡ p.index) ⊎ ((after x p).index ≡ p.index + 1) →
-        first_behind (left_at x (after x p)) ≡ Some b = λ o. elim o as (λ o. first_behind (left_at x (after x p)) ≡ Some b) [
-          | inl same ↦ ap (λ (i : ℕ). first_behind (slice_range x.bytes i x.limit)) same ∙ e
-          | inr more ↦ ap (λ (i : ℕ). first_behind (slice_range x.bytes i x.limit)) more ∙ (rw k at is)
-        ] in
         ap seen_behind (f p lt)
         ∙ ap (λ (y : Bool). cond y (seen_behind (feed (after x p))) (Some (seen_at x.bytes p))) at.white
-        ∙ next (omega (arith, less)) (left at.behind)
+        ∙ next (omega (arith, less)) (left at.behind (rw k at is))
     first false k lt is next =
         let dark : is_white (seen_at x.bytes p) ≡ false = ap is_white (dark-at x p k) ∙ dark-seen byte k in
         ap seen_behind (f p lt)
@@ -143,7 +135,7 @@ seen-along feed x (suc n) p b f le e =
     go true true k h next =
         let lt : p.index < x.limit = grind (arith, nat_tests) in
         let inside : p.index < length x.bytes = grind (arith, nat_tests) in
-        first (is_white byte) refl lt (sym (ap first_behind (one-left x p lt inside)) ∙ e) next
+        first (is_white byte) refl lt (sym (ap first_behind (range-next x.bytes p.index x.limit lt inside)) ∙ e) next
     go true false k h next =
         let past : length x.bytes ≤ p.index = grind (arith, nat_tests) in
         let none : first_behind (left_at x p) ≡ None = ap first_behind (none-left x p (inr past)) in cc

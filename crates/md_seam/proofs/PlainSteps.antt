@@ -161,11 +161,11 @@ placed-column bytes p h = ∥∥₁_elim h.reached (hlevel props) (reached-colum
 abbrev pub line_left : List ℕ → Point → ℕ → List ℕ
 line_left bytes p end = without_ending (slice_range bytes p.index end)
 
-range-next : (bytes : List ℕ) (i end : ℕ) → i < end → end ≤ length bytes →
+pub range-next : (bytes : List ℕ) (i end : ℕ) → i < end → i < length bytes →
     slice_range bytes i end ≡ slice_index bytes i ∷ slice_range bytes (i + 1) end
 range-next bytes i end h k =
     let more : end - i ≡ suc (end - (i + 1)) = omega arith in
-    ap (λ (l : List ℕ). take (end - i) l) (drop_more bytes i 0 (omega arith))
+    ap (λ (l : List ℕ). take (end - i) l) (drop_more bytes i 0 k)
     ∙ ap (λ (n : ℕ). take n (slice_index bytes i ∷ drop (i + 1) bytes)) more
 
 pub range-none : (bytes : List ℕ) (i end : ℕ) → end ≤ i → slice_range bytes i end ≡ []
@@ -176,7 +176,7 @@ pub line-more : (bytes : List ℕ) (p : Point) (end : ℕ) → p.index < end →
     is_ending (slice_index bytes p.index) ≡ false →
     line_left bytes p end ≡ slice_index bytes p.index ∷ without_ending (slice_range bytes (p.index + 1) end)
 line-more bytes p end h k plain =
-    ap without_ending (range-next bytes p.index end h k)
+    ap without_ending (range-next bytes p.index end h (omega arith))
     ∙ take_while-cons (λ (b : ℕ). not (is_ending b)) (slice_index bytes p.index) (slice_range bytes (p.index + 1) end)
     ∙ ap
     (λ (x : Bool).
@@ -186,7 +186,7 @@ line-more bytes p end h k plain =
 pub line-stop : (bytes : List ℕ) (p : Point) (end : ℕ) → p.index < end → end ≤ length bytes →
     is_ending (slice_index bytes p.index) ≡ true → line_left bytes p end ≡ []
 line-stop bytes p end h k ends =
-    ap without_ending (range-next bytes p.index end h k)
+    ap without_ending (range-next bytes p.index end h (omega arith))
     ∙ take_while-cons (λ (b : ℕ). not (is_ending b)) (slice_index bytes p.index) (slice_range bytes (p.index + 1) end)
     ∙ ap
     (λ (x : Bool).
@@ -489,7 +489,7 @@ ending-next bytes chunk is one whole placed lt = (
         ∙ sym (range-drop bytes chunk.first.index (length line) chunk.after.index (omega (arith, lt, at))) ∙ found.2
 
     first : slice_index bytes to.index ∷ slice_range bytes (to.index + 1) chunk.after.index ≡ found.0 ∷ found.1
-    first = sym (range-next bytes to.index chunk.after.index lt is.after.index) ∙ left
+    first = sym (range-next bytes to.index chunk.after.index lt (omega (arith, lt, is.after.index))) ∙ left
 
     byte : slice_index bytes to.index ≡ found.0
     byte = cc first
@@ -551,7 +551,8 @@ ending-next bytes chunk is one whole placed lt = (
             let second : slice_index bytes (to.index + 1) ∷ slice_range bytes ((to.index + 1) + 1) chunk.after.index ≡
             10
             ∷ [] = sym
-            (range-next bytes (to.index + 1) chunk.after.index (omega (arith, left_length)) is.after.index)
+            (range-next bytes (to.index + 1) chunk.after.index (omega (arith, left_length))
+            (omega (arith, left_length, is.after.index)))
             ∙ rest ∙ feed in
             let ten : slice_index bytes (to.index + 1) ≡ 10 = cc in
             let pair : is_pair bytes to.index ≡ true = and_from _ _ (eq-eqb _ _ (byte ∙ return)) (eq-eqb _ _ ten) in

@@ -1,4 +1,4 @@
--- What stands first of what is still to come, behind whitespace: by it alone most trials are refused, before they begin.
+-- What stands first behind whitespace: by it alone most trials are refused, before they begin.
 use Rattle.std.specs.Prelude.{ℕ, Bool, true, if◌then◌else◌, List, [], ◌∷◌, Option, Some, None, slice_range}
 use Rattle.md_engine.specs.Meaning.{Cell}
 use Rattle.md_engine.specs.Place.{is_ending}

@@ -53,10 +53,10 @@ fn first_behind(bytes: &[u8]) -> Option<u8>
 pub fn look_behind(tokenizer: &Tokenizer) -> Option<u8>
     ensures { result ≡ looks_behind (world tokenizer.now) }
 {
-    let index = tokenizer.point.index;
     if !is_space_or_tab(tokenizer.current) {
         return tokenizer.current;
     }
+    let index = tokenizer.point.index;
     if index >= tokenizer.limit {
         return None;
     }

@@ -48,8 +48,8 @@ pub fn may_open(first: Option<u8>) -> bool
     block_quote::may_begin(first)
 }
 
-/// Whether the prefix of a container on a further line may begin here, by what stands first behind whitespace, if that is
-/// known.
+/// Whether the prefix of a container on a further line may begin here, by what stands first behind whitespace, if that
+/// is known.
 pub fn may_go_on(kind: ContainerKind, first: Option<u8>) -> bool
     ensures { result ≡ may_with (may_go_on kind) first }
 {
