@@ -78,16 +78,6 @@ fn leave(tokenizer: &mut Tokenizer, state: State) -> Option<State>
     }
 }
 
-/// Whether what stands at the point is yet to come.
-fn is_waiting(tokenizer: &Tokenizer, is_end: bool) -> bool
-    ensures waits { result ≡ true →
-        (is_end ≡ false) × ((world tokenizer.now).setting.limit ≤ (world tokenizer.now).point.index) }
-    ensures goes_on { result ≡ false →
-        (is_end ≡ true) ⊎ ((world tokenizer.now).point.index < (world tokenizer.now).setting.limit) }
-{
-    !is_end && tokenizer.point.index >= tokenizer.limit
-}
-
 /// Takes what a state that has taken something goes on to take, where it stays.
 fn stay<T: Table>(tokenizer: &mut Tokenizer, state: State)
     requires { stands T.scheme (world tokenizer.old) (plain state) }
@@ -142,10 +132,9 @@ fn run<T: Table>(tokenizer: &mut Tokenizer, start: State, is_end: bool) -> State
                 Some(next) => next,
             },
             State::Next(name) | State::Retry(name) => {
-                if is_waiting(tokenizer, is_end) {
+                if tokenizer.see_or_wait(is_end) {
                     return state;
                 }
-                tokenizer.see();
                 match call_here::<T>(tokenizer, name) {
                     State::Error => return State::Error,
                     next => {

@@ -5,7 +5,7 @@
 // equation over `world`, which is what contracts see of a tokenizer.
 ghost use Rattle.std.specs.Prelude.{◌≡◌, ◌-◌, IfOk, drop, ◌+◌, ◌^◌, ◌∷◌, ◌++◌, ◌<◌, ◌≤◌, [], length, All, AllPairs};
 ghost use Rattle.std.specs.Prelude.{if◌then◌else◌, is_ok, nat_le, nat_lt, ◌==◌, true, false, Some, None, take, IfSome};
-ghost use Rattle.std.specs.Prelude.{IfNone, reverse, slice_index};
+ghost use Rattle.std.specs.Prelude.{IfNone, reverse, slice_index, ◌⊎◌};
 ghost use Rattle.md_engine.specs.Place.{IsPlaced, begun_at, is_pair, next_point, stepped};
 ghost use Rattle.md_engine.specs.Sound.{IsSound};
 ghost use Rattle.md_engine.specs.Ends.{ends_at, point_of, put};
@@ -182,7 +182,14 @@ fn step(point: Point, byte: u8, pair: bool) -> Point
         index,
         vs,
     } = point;
-    if byte == b'\n' || byte == b'\r' {
+    if byte > b'\r' {
+        Point {
+            line,
+            column: column + 1,
+            index: index + 1,
+            vs: 0,
+        }
+    } else if byte == b'\n' || byte == b'\r' {
         Point {
             line: line + 1,
             column: 1,
@@ -305,17 +312,17 @@ impl<'a> Tokenizer<'a> {
                   else (world self.old).events;
             } }
     {
-        let point = self.point;
+        if self.events.reserve(1).is_err() {
+            return Err(Message);
+        }
         let event = Event {
             kind,
             name,
-            point,
+            point: self.point,
             link,
         };
-        match self.events.push(event) {
-            Ok(()) => Ok(()),
-            Err(_) => Err(Message),
-        }
+        self.events.push_reserved(event);
+        Ok(())
     }
 
     /// Adds the begin of a part at the point, or changes nothing.
@@ -366,6 +373,7 @@ impl<'a> Tokenizer<'a> {
             return None;
         }
         match self.bytes[index] {
+            byte if byte > b'\r' => Some(byte),
             b'\n' | b'\r' => Some(b'\n'),
             b'\t' if vs > 0 => Some(b' '),
             byte => Some(byte),
@@ -444,6 +452,9 @@ impl<'a> Tokenizer<'a> {
                   else (world self.old).frames;
             } }
     {
+        if self.frames.reserve(1).is_err() {
+            return Err(Message);
+        }
         let frame = Frame {
             ok,
             nok,
@@ -451,10 +462,8 @@ impl<'a> Tokenizer<'a> {
             events_len: self.events.len(),
             point: self.point,
         };
-        match self.frames.push(frame) {
-            Ok(()) => Ok(()),
-            Err(_) => Err(Message),
-        }
+        self.frames.push_reserved(frame);
+        Ok(())
     }
 
     /// Begins an attempt, or changes nothing: what follows goes on with `ok` where it holds, and else is taken back and
@@ -519,11 +528,24 @@ impl<'a> Tokenizer<'a> {
         self.point = frame.point;
     }
 
-    /// Sees what stands at the point.
-    pub(crate) fn see(&mut self)
-        ensures { world self.new ≡ record (world self.old) { current = looks (world self.old) } }
+    /// Sees what stands at the point, or waits where that is yet to come; whether it waits.
+    pub(crate) fn see_or_wait(&mut self, is_end: bool) -> bool
+        ensures waits { result ≡ true →
+            (is_end ≡ false) × ((world self.old).setting.limit ≤ (world self.old).point.index) }
+        ensures same { result ≡ true → world self.new ≡ world self.old }
+        ensures goes_on { result ≡ false →
+            (is_end ≡ true) ⊎ ((world self.old).point.index < (world self.old).setting.limit) }
+        ensures sees { result ≡ false →
+            world self.new ≡ record (world self.old) { current = looks (world self.old) } }
     {
-        self.current = self.look();
+        if self.point.index < self.limit {
+            self.current = self.look();
+            return false;
+        }
+        if is_end {
+            self.current = None;
+        }
+        !is_end
     }
 
     /// Sees and takes all bytes of a class that stand here, as far as the text may be read.

@@ -31,8 +31,8 @@ pub call_here-requires-clause-stands : goal.call_here-requires-clause-stands
 call_here-requires-clause-stands g c =
     let p = plain_of c.loop-state.state c.in-Next.name c.in-Next.is in
     let st = c.loop-state.invariant.stands (not_error _ _ p) in
-    stands_same g.T.Table.scheme (reading (world c.loop-state.tokenizer)) (world c.see.new.self)
-    (plain c.loop-state.state) (Next c.in-Next.name) (sym c.see.ensures) p st
+    stands_same g.T.Table.scheme (reading (world c.loop-state.tokenizer)) (world c.see_or_wait.new.self)
+    (plain c.loop-state.state) (Next c.in-Next.name) (sym (c.if-see_or_wait.ensures.sees refl)) p st
 
 pub stay-requires : goal.stay-requires
 stay-requires g c = c.call_here.ensures.stands c.in_default.not-Error
@@ -43,9 +43,9 @@ loop-state-smaller g c =
     let S = g.T.Table.scheme in
     let v : World = world c.loop-state.tokenizer in
     let before : work S (world c.call_here.new.tokenizer) (plain c.call_here.result) <
-    work S v (plain c.loop-state.state) = falls_same S (world c.call_here.new.tokenizer) (world c.see.new.self)
+    work S v (plain c.loop-state.state) = falls_same S (world c.call_here.new.tokenizer) (world c.see_or_wait.new.self)
     (reading (world c.loop-state.tokenizer)) (plain c.call_here.result) (Next c.in-Next.name)
-    (plain c.loop-state.state) c.see.ensures (sym p) (c.call_here.ensures.falls c.in_default.not-Error) in
+    (plain c.loop-state.state) (c.if-see_or_wait.ensures.sees refl) (sym p) (c.call_here.ensures.falls c.in_default.not-Error) in
     let below : work S (world c.stay.new.tokenizer) (plain c.call_here.result) ≤
     work S (world c.call_here.new.tokenizer) (plain c.call_here.result) = c.stay.ensures.falls in
     omega (arith, before, below)
@@ -56,13 +56,14 @@ loop-state-preserved g c =
     let fine = not_error _ _ p in
     let same : (world c.call_here.new.tokenizer).setting ≡
     (world c.loop-state.tokenizer).setting = c.call_here.ensures.setting c.in_default.not-Error
-    ∙ ap (λ (w : World). w.setting) c.see.ensures in
+    ∙ ap (λ (w : World). w.setting) (c.if-see_or_wait.ensures.sees refl) in
     record {
       runs =
           λ h. runs-append _ _ _ _ _ _ _ _
           (runs-append _ _ _ _ _ _ _ _ (c.loop-state.invariant.runs fine)
           (c.call_here.ensures.runs h c.args.is_end c.loop-state.state (world c.loop-state.tokenizer) p
-          (sym c.see.ensures) (c.if-is_waiting.ensures.goes_on refl)))
+          (sym (c.if-see_or_wait.ensures.sees refl))
+          (c.if-see_or_wait.ensures.goes_on refl)))
           (c.stay.ensures.runs c.args.is_end);
       stands = λ h. c.stay.ensures.stands;
       setting = λ h. c.stay.ensures.setting ∙ same ∙ c.loop-state.invariant.setting fine;
