@@ -11,10 +11,10 @@ ghost use Rattle.md_engine.specs.Staying.{StaysOn};
 ghost use Rattle.md_engine.specs.World.{looks, reads_to, world};
 ghost use Rattle.md_engine.specs.declared.state.State.{State};
 
-use crate::class::Class;
 use crate::message::Message;
 use crate::resolve::Name as ResolveName;
 use crate::state::{Name as StateName, State};
+use crate::stay::Stay;
 use crate::subtokenize::Subresult;
 use crate::tokenizer::Tokenizer;
 
@@ -39,9 +39,9 @@ pub trait Table {
             work scheme (world tokenizer.new) (plain result) < work scheme (world tokenizer.old) (State.Next name) }
         ensures setting { result ≢ State.Error → (world tokenizer.new).setting ≡ (world tokenizer.old).setting };
 
-    /// A class of bytes that the state of this name only takes, to stay where it is: many are taken at once.
-    fn stays(name: StateName) -> Option<Class>
-        ensures { IfSome result (λ class. StaysOn step scheme name class) };
+    /// What the state of this name only takes and counts, to stay where it is: much is taken at once.
+    fn stays(name: StateName) -> Option<Stay>
+        ensures { IfSome result (λ stay. StaysOn step scheme name stay) };
 
     /// Runs the resolver of this name, when no attempt is left. After an `Err` the parse has failed.
     fn resolve(tokenizer: &mut Tokenizer, name: ResolveName) -> Result<Option<Subresult>, Message>
@@ -98,8 +98,8 @@ fn stay<T: Table>(tokenizer: &mut Tokenizer, state: State)
     let State::Next(name) = state else {
         return;
     };
-    if let Some(class) = T::stays(name) {
-        tokenizer.see_all(class);
+    if let Some(stay) = T::stays(name) {
+        tokenizer.see_all(stay);
     }
 }
 

@@ -19,6 +19,7 @@ use crate::event::{Event, Kind, Link, Name, Point};
 use crate::message::Message;
 use crate::resolve::Name as ResolveName;
 use crate::state::State;
+use crate::stay::Stay;
 use crate::tokenizer::container::name::name_of;
 pub use crate::tokenizer::container::{Container, ContainerKind};
 pub use crate::tokenizer::held_leaf::HeldLeaf;
@@ -251,7 +252,8 @@ fn turn(events: &mut Vec<Event>, at: usize, count: usize)
 }
 
 impl<'a> Tokenizer<'a> {
-    ghost use Rattle.md_engine.specs.Staying.{SeesAll, TakesAll};
+    ghost use Rattle.md_engine.specs.Staying.{SeesAll, SeesSpan, TakesAll};
+    ghost use Rattle.md_engine.specs.declared.stay.Stay.{Stay};
     ghost use Rattle.md_engine.specs.World.{closed, world, looks, after, fresh, line_begun, reads_to, registered};
     ghost use Rattle.md_engine.specs.World.{registered_before, skipping};
 
@@ -527,13 +529,50 @@ impl<'a> Tokenizer<'a> {
     }
 
     /// Sees and takes all bytes of a class that stand here, as far as the text may be read.
-    pub(crate) fn see_all(&mut self, class: Class)
-        ensures { SeesAll class (world self.old) (world self.new) }
+    fn see_span(&mut self, class: Class)
+        ensures { SeesSpan class (world self.old) (world self.new) }
     {
         let index = self.point.index;
         self.consume_all(class, self.limit);
         if self.point.index > index {
             self.current = Some(self.bytes[self.point.index - 1]);
+        }
+    }
+
+    /// Sees and takes the rest of the line.
+    fn see_line(&mut self)
+        ensures { SeesAll Stay.Line (world self.old) (world self.new) }
+    {
+        self.see_span(Class::Text);
+        while self.point.index < self.limit && self.bytes[self.point.index] == b'\t' {
+            self.see();
+            self.consume();
+            self.see_span(Class::Text);
+        }
+    }
+
+    /// Sees, takes and counts what stands here, as long as a state takes it that stays.
+    fn see_each(&mut self, stay: Stay)
+        ensures { SeesAll stay (world self.old) (world self.new) }
+    {
+        while let Some(byte) = self.look() {
+            if !stay.takes(&self.scratch, byte) {
+                return;
+            }
+            self.current = Some(byte);
+            self.consume();
+            stay.count(&mut self.scratch, byte);
+        }
+    }
+
+    /// Sees, takes and counts all that stands here and that a state takes that stays, as far as the text may be read.
+    pub(crate) fn see_all(&mut self, stay: Stay)
+        ensures { SeesAll stay (world self.old) (world self.new) }
+    {
+        match stay {
+            Stay::Line => self.see_line(),
+            Stay::Word => self.see_span(Class::Word),
+            _ => self.see_each(stay),
         }
     }
 

@@ -4,7 +4,7 @@ use Rattle.md_engine.specs.Run.{plain, reading}
 use Rattle.md_engine.specs.Run.Runs.{Stays, ThenCalls, ThenLeaves}
 use Rattle.md_engine.specs.Scheme.{work}
 use Rattle.md_engine.specs.World.{World, world}
-use Rattle.md_engine.proofs.ClassLemmas.{within-world}
+use Rattle.md_engine.proofs.StayLemmas.{within-world}
 use Rattle.md_engine.proofs.Falls.{falls_same, leaves_falls, leaves_stands, stands_same}
 use Rattle.md_engine.proofs.Keeps.{runs-append}
 use Rattle.md_engine.proofs.Loops.{end_not_error, is_end_of, not_error, plain_of}
