@@ -1,29 +1,16 @@
 -- What is taken of a class at once is what is taken byte by byte.
 use Rattle.std.proofs.Common.{◌≡◌, ℕ, zero, suc, ◌+◌, ◌<◌, ◌≤◌, Bool, true, false, nat_eq, nat_lt, List, length, drop}
-use Rattle.std.proofs.Common.{◌-◌, length-drop, Option, Some, refl, sym, ◌∙◌, ap, ap₂, cond, arith, inr, subst}
+use Rattle.std.proofs.Common.{◌-◌, length-drop, Option, Some, refl, sym, ◌∙◌, ap, ap₂, cond, arith, subst}
 use Rattle.std.specs.Prelude.{slice_index, slice_range}
-use Rattle.std.specs.List.{All}
 use Rattle.std.proofs.lemmas.Bool.Decides.{nat_tests}
-use Rattle.std.proofs.lemmas.List.Elements.{All-weaker}
 use Rattle.std.proofs.lemmas.List.{get_or-drop, get_or-take, length-take-le}
 use Rattle.md_engine.specs.declared.class.Class.{Class}
 use Rattle.md_engine.specs.declared.event.Point.{Point}
-use Rattle.md_engine.specs.declared.state.Name.{Name as StateName}
-use Rattle.md_engine.specs.declared.state.State.{State}
-use Rattle.md_engine.specs.declared.state.State.TheVariants.{Next}
-use Rattle.md_engine.specs.declared.tokenizer.Frame.{Frame}
-use Rattle.md_engine.specs.declared.tokenizer.Tokenizer.{Tokenizer}
 use Rattle.md_engine.specs.Classes.{IsSpan, has}
-use Rattle.md_engine.specs.Sound.{IsSaved}
 use Rattle.md_engine.specs.Staying.{IsOf, SeesSpan, TakesAll, along, took, took_all}
 use Rattle.md_engine.specs.Place.{IsPlaced, is_ending, next_point}
-use Rattle.md_engine.specs.Run.{Runs, Step, plain}
-use Rattle.md_engine.specs.Run.Runs.{Stays, ThenCalls}
-use Rattle.md_engine.specs.Scheme.{Fits, Scheme, stands, work}
-use Rattle.md_engine.specs.World.{Setting, World, after, line_begun, looks, looks_at, world}
-use Rattle.md_engine.proofs.Local.{consumes}
-use Rattle.md_engine.proofs.Loops.{not_error}
-use Rattle.md_engine.proofs.Sound.{All-reverse, placed-next}
+use Rattle.md_engine.specs.World.{Setting, World, after, line_begun, looks_at}
+use Rattle.md_engine.proofs.Sound.{placed-next}
 
 -- a byte of a class is no line ending and no tab
 pub no-ending : (c : Class) (b : ℕ) → has c b ≡ true → (is_ending b ≡ false) × (nat_eq b 9 ≡ false)

@@ -1,5 +1,5 @@
 -- What states take and count one after another, to stay where they are, and what all of it comes to.
-use Rattle.std.specs.Prelude.{◌≡◌, ℕ, zero, suc, ◌+◌, ◌-◌, ◌^◌, ◌<◌, nat_lt, Bool, true, ◌&&◌, ◌||◌, ◌==◌, not}
+use Rattle.std.specs.Prelude.{◌≡◌, ℕ, zero, suc, ◌+◌, ◌-◌, ◌^◌, ◌<◌, ◌≤◌, nat_lt, Bool, true, ◌&&◌, ◌==◌, not}
 use Rattle.std.specs.Prelude.{List, slice_index, Some}
 use Rattle.md_engine.specs.declared.class.Class.{Class}
 use Rattle.md_engine.specs.declared.class.Class.TheVariants as class
@@ -9,7 +9,7 @@ use Rattle.md_engine.specs.declared.state.State.TheVariants.{Next}
 use Rattle.md_engine.specs.declared.stay.Stay.{Stay}
 use Rattle.md_engine.specs.declared.stay.Stay.TheVariants as stay
 use Rattle.md_engine.specs.declared.tokenizer.Scratch.{Scratch}
-use Rattle.md_engine.specs.Classes.{has}
+use Rattle.md_engine.specs.Classes.{has, is_white}
 use Rattle.md_engine.specs.Run.{Step, reading}
 use Rattle.md_engine.specs.Scheme.{Scheme, stands}
 use Rattle.md_engine.specs.World.{Setting, World, after, looks}
@@ -49,11 +49,25 @@ pub record SeesSpan (c : Class) (w w' : World) : Type 0 where
   pub each : (k : ℕ) → k < count → IsSeen c (took_all k w)
   pub ends : ¬ IsSeen c w'
 
+-- so many spaces and columns of tabs that stand here are seen and taken, one after another,
+abbrev pub SeesWhite : World → Type 0
+SeesWhite w = (w.point.index < w.setting.limit) × (is_white (slice_index w.setting.bytes w.point.index) ≡ true)
+
+pub data TookColumns (w : World) : ℕ → World → Type 0 where
+  NoColumn : TookColumns w zero w
+  OneColumn : (n : ℕ) (v : World) → TookColumns w n v → SeesWhite v → TookColumns w (suc n) (took v)
+
+-- and all of them, up to a limit
+pub record SeesColumns (most : ℕ) (w : World) (count : ℕ) (w' : World) : Type 0 where
+  pub some : TookColumns w count w'
+  pub within : count ≤ most
+  pub ends : count < most → ¬ SeesWhite w'
+
 -- what a state takes that stays, behind what was counted
 abbrev pub takes : Stay → Scratch → ℕ → Bool
 takes stay.Line s b = not (b == 10)
 takes stay.Word s b = has class.Word b
-takes stay.White s b = ((b == 32) || (b == 9)) && nat_lt s.whitespace.size s.whitespace.max
+takes stay.White s b = is_white b && nat_lt s.whitespace.size s.whitespace.max
 takes (stay.Byte one) s b = b == one
 takes (stay.UpTo one most) s b = (b == one) && nat_lt s.size most
 takes stay.Markers s b = (b == s.marker) && nat_lt s.size (2 ^ 64 - 1)

@@ -3,7 +3,7 @@
 ghost use Rattle.std.specs.Prelude.{◌≡◌, true};
 ghost use Rattle.md_engine.specs.Staying.{counted, takes};
 
-use crate::class::Class;
+use crate::class::{Class, is_white};
 use crate::tokenizer::{Scratch, Whitespace};
 
 /// What a state takes, a byte or a column of a tab at once, to do nothing else but count it.
@@ -31,9 +31,7 @@ impl Stay {
         match self {
             Stay::Line => byte != b'\n',
             Stay::Word => Class::Word.has(byte),
-            Stay::White => {
-                (byte == b' ' || byte == b'\t') && scratch.whitespace.size < scratch.whitespace.max
-            }
+            Stay::White => is_white(byte) && scratch.whitespace.size < scratch.whitespace.max,
             Stay::Byte(one) => byte == one,
             Stay::UpTo(one, most) => byte == one && scratch.size < most,
             Stay::Markers => byte == scratch.marker && scratch.size < usize::MAX,

@@ -1,4 +1,4 @@
-use Rattle.std.proofs.Common.{ℕ, Bool, ◌&&◌, nat_lt, Option, ap, ◌∙◌}
+use Rattle.std.proofs.Common.{ℕ, ◌&&◌, nat_lt, Option, ap, ◌∙◌}
 use Rattle.md_engine.specs.declared.state.Name.TheVariants as n
 use Rattle.md_engine.specs.declared.state.space_or_tab.State.TheVariants as its
 use Rattle.md_engine.specs.declared.stay.Stay.TheVariants.{White}

@@ -1,7 +1,7 @@
-use Rattle.std.proofs.Common.{◌≡◌, ◌<◌, ◌∙◌, ap, arith, refl}
+use Rattle.std.proofs.Common.{arith}
 use Rattle.md_engine.specs.declared.class.Class.TheVariants.{Text}
 use Rattle.md_engine.specs.declared.stay.Stay.TheVariants.{Line}
-use Rattle.md_engine.specs.World.{World, after, looks, world}
+use Rattle.md_engine.specs.World.{world}
 use Rattle.md_engine.proofs.StayLemmas.{line-ends, line-spans, span-sees, tab-taken}
 use Rattle.md_engine.proofs.tokenizer.Tokenizer.see_line.Goals as goal
 
@@ -14,18 +14,16 @@ loop-self-init c = record {
 
 pub loop-self-smaller : goal.loop-self-smaller
 loop-self-smaller c =
-    (tab-taken (world c.args.self.now) (world c.loop-self.self) (world c.consume.new.self)
-    (world c.see_span-in-loop-self.new.self) c.loop-self.invariant.some c.loop-self-test.true c.if-self-eq9.true
-    (c.consume.ensures ∙ ap (λ (w : World). record w { point = after w.setting w.point }) c.see.ensures)
-    c.see_span-in-loop-self.ensures).1
+    (tab-taken (world c.args.self.now) (world c.loop-self.self) (world c.see_columns.new.self)
+    (world c.see_span-in-loop-self.new.self) c.see_columns.result c.loop-self.invariant.some c.loop-self-test.true
+    c.if-self-eq9.true c.see_columns.ensures c.see_span-in-loop-self.ensures).1
 
 pub loop-self-preserved : goal.loop-self-preserved
 loop-self-preserved c = record {
   some =
-      (tab-taken (world c.args.self.now) (world c.loop-self.self) (world c.consume.new.self)
-      (world c.see_span-in-loop-self.new.self) c.loop-self.invariant.some c.loop-self-test.true c.if-self-eq9.true
-      (c.consume.ensures ∙ ap (λ (w : World). record w { point = after w.setting w.point }) c.see.ensures)
-      c.see_span-in-loop-self.ensures).0;
+      (tab-taken (world c.args.self.now) (world c.loop-self.self) (world c.see_columns.new.self)
+      (world c.see_span-in-loop-self.new.self) c.see_columns.result c.loop-self.invariant.some c.loop-self-test.true
+      c.if-self-eq9.true c.see_columns.ensures c.see_span-in-loop-self.ensures).0;
   ends = c.see_span-in-loop-self.ensures.ends;
 }
 
