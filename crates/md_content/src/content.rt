@@ -27,7 +27,6 @@ ghost use Rattle.md_seam.specs.Stays.{TakesEach};
 ghost use Rattle.md_seam.specs.Transition.{IsAt, NeedsNothing};
 
 use crate::paragraph;
-use md_engine::class::Class;
 use md_engine::configuration::ParseOptions;
 use md_engine::event::{Content, Event, Kind, Link, Name};
 use md_engine::message::Message;
@@ -36,6 +35,7 @@ use md_engine::resolve::Name as ResolveName;
 use md_engine::state::content::State as ContentState;
 use md_engine::state::paragraph::State as ParagraphState;
 use md_engine::state::{Name as StateName, State};
+use md_engine::stay::Stay;
 use md_engine::subtokenize::Subresult;
 use md_engine::table::{Table, flush, push};
 use md_engine::tokenizer::{HeldLeaf, Tokenizer};
@@ -114,13 +114,13 @@ pub fn call(tokenizer: &mut Tokenizer, state: ContentState) -> State
     }
 }
 
-/// A class of bytes that a state of a line of content only takes.
-pub fn stays(state: ContentState) -> Option<Class>
-    ensures { IfSome result (λ class. (is_name : ResolveName → Bool) →
-        TakesEach class (StateName.Content state) (chunk_transition is_name state)) }
+/// What a state of a line of content only takes.
+pub fn stays(state: ContentState) -> Option<Stay>
+    ensures { IfSome result (λ stay. (is_name : ResolveName → Bool) →
+        TakesEach stay (StateName.Content state) (chunk_transition is_name state)) }
 {
     match state {
-        ContentState::ChunkInside => Some(Class::Text),
+        ContentState::ChunkInside => Some(Stay::Line),
         _ => None,
     }
 }
@@ -154,7 +154,7 @@ impl Table for ContentTable {
         call_state(tokenizer, name)
     }
 
-    fn stays(name: StateName) -> Option<Class> {
+    fn stays(name: StateName) -> Option<Stay> {
         match name {
             StateName::Paragraph(state) => paragraph::stays(state),
             _ => None,

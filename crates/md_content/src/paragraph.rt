@@ -15,11 +15,11 @@ ghost use Rattle.md_content.specs.Paragraph.{start_transition};
 ghost use Rattle.md_seam.specs.Stays.{TakesEach};
 ghost use Rattle.md_seam.specs.Transition.{IsAt, NeedsNothing};
 
-use md_engine::class::Class;
 use md_engine::event::{Content, Link, Name};
 use md_engine::or_error;
 use md_engine::state::paragraph::State as ParagraphState;
 use md_engine::state::{Name as StateName, State};
+use md_engine::stay::Stay;
 use md_engine::tokenizer::Tokenizer;
 
 /// Before a paragraph.
@@ -103,12 +103,12 @@ pub fn call(tokenizer: &mut Tokenizer, state: ParagraphState) -> State
     }
 }
 
-/// A class of bytes that a state of a paragraph only takes.
-pub fn stays(state: ParagraphState) -> Option<Class>
-    ensures { IfSome result (λ class. TakesEach class (StateName.Paragraph state) (paragraph_transition state)) }
+/// What a state of a paragraph only takes.
+pub fn stays(state: ParagraphState) -> Option<Stay>
+    ensures { IfSome result (λ stay. TakesEach stay (StateName.Paragraph state) (paragraph_transition state)) }
 {
     match state {
-        ParagraphState::Inside => Some(Class::Text),
+        ParagraphState::Inside => Some(Stay::Line),
         _ => None,
     }
 }

@@ -1,29 +1,16 @@
 -- What is taken of a class at once is what is taken byte by byte.
 use Rattle.std.proofs.Common.{◌≡◌, ℕ, zero, suc, ◌+◌, ◌<◌, ◌≤◌, Bool, true, false, nat_eq, nat_lt, List, length, drop}
-use Rattle.std.proofs.Common.{◌-◌, length-drop, Option, Some, refl, sym, ◌∙◌, ap, ap₂, cond, arith, inr, subst}
+use Rattle.std.proofs.Common.{◌-◌, length-drop, Option, Some, refl, sym, ◌∙◌, ap, ap₂, cond, arith, subst}
 use Rattle.std.specs.Prelude.{slice_index, slice_range}
-use Rattle.std.specs.List.{All}
 use Rattle.std.proofs.lemmas.Bool.Decides.{nat_tests}
-use Rattle.std.proofs.lemmas.List.Elements.{All-weaker}
 use Rattle.std.proofs.lemmas.List.{get_or-drop, get_or-take, length-take-le}
 use Rattle.md_engine.specs.declared.class.Class.{Class}
 use Rattle.md_engine.specs.declared.event.Point.{Point}
-use Rattle.md_engine.specs.declared.state.Name.{Name as StateName}
-use Rattle.md_engine.specs.declared.state.State.{State}
-use Rattle.md_engine.specs.declared.state.State.TheVariants.{Next}
-use Rattle.md_engine.specs.declared.tokenizer.Frame.{Frame}
-use Rattle.md_engine.specs.declared.tokenizer.Tokenizer.{Tokenizer}
 use Rattle.md_engine.specs.Classes.{IsSpan, has}
-use Rattle.md_engine.specs.Sound.{IsSaved}
-use Rattle.md_engine.specs.Staying.{IsOf, Sees, SeesAll, StaysOn, TakesAll, along, took, took_all}
+use Rattle.md_engine.specs.Staying.{IsOf, SeesSpan, TakesAll, along, took, took_all}
 use Rattle.md_engine.specs.Place.{IsPlaced, is_ending, next_point}
-use Rattle.md_engine.specs.Run.{Runs, Step, plain}
-use Rattle.md_engine.specs.Run.Runs.{Stays, ThenCalls}
-use Rattle.md_engine.specs.Scheme.{Fits, Scheme, stands, work}
-use Rattle.md_engine.specs.World.{Setting, World, after, line_begun, looks, looks_at, world}
-use Rattle.md_engine.proofs.Local.{consumes}
-use Rattle.md_engine.proofs.Loops.{not_error}
-use Rattle.md_engine.proofs.Sound.{All-reverse, placed-next}
+use Rattle.md_engine.specs.World.{Setting, World, after, line_begun, looks_at}
+use Rattle.md_engine.proofs.Sound.{placed-next}
 
 -- a byte of a class is no line ending and no tab
 pub no-ending : (c : Class) (b : ℕ) → has c b ≡ true → (is_ending b ≡ false) × (nat_eq b 9 ≡ false)
@@ -54,7 +41,7 @@ index-further zero p = omega arith
 index-further (suc n) p = refl
 
 -- such a byte is seen as it is
-seen-here : (x : Setting) (c : Class) (p : Point) → p.index < x.limit → has c (slice_index x.bytes p.index) ≡ true →
+pub seen-here : (x : Setting) (c : Class) (p : Point) → p.index < x.limit → has c (slice_index x.bytes p.index) ≡ true →
     looks_at x p ≡ Some (slice_index x.bytes p.index)
 seen-here x c p lt h =
     let e = no-ending c (slice_index x.bytes p.index) h in
@@ -182,7 +169,7 @@ placed-behind c n bytes end p placed low at some h =
 
 -- what is taken as far as the text may be read is seen and taken, where the last byte is seen behind it
 sees-leapt : (c : Class) (n : ℕ) (w : World) → AreHere c n w.setting.bytes w.setting.limit w.point →
-    ¬ IsOf c w.setting.bytes w.setting.limit (further n w.point) → SeesAll c w (leapt n w)
+    ¬ IsOf c w.setting.bytes w.setting.limit (further n w.point) → SeesSpan c w (leapt n w)
 sees-leapt c n w h none = record {
   count = n;
   new = sym (took-leapt c n w h);
@@ -213,10 +200,10 @@ went c end w v t = record {
     at = ap (λ (x : World). x.point) is
 
 pub sees-some : (c : Class) (w v v' : World) → TakesAll c w.setting.limit w v → w.point.index < v.point.index →
-    v' ≡ record v { current = Some (slice_index v.setting.bytes (v.point.index - 1)) } → SeesAll c w v'
+    v' ≡ record v { current = Some (slice_index v.setting.bytes (v.point.index - 1)) } → SeesSpan c w v'
 sees-some c w v v' t lt e = go t.count (went c w.setting.limit w v t)
   where
-    go : (n : ℕ) → Went c n w.setting.limit w v → SeesAll c w v'
+    go : (n : ℕ) → Went c n w.setting.limit w v → SeesSpan c w v'
     go zero g =
         let none : v.point.index ≡ w.point.index = ap (λ (x : World). x.point.index) g.is in
         absurd (omega (arith, none, lt))
@@ -227,84 +214,14 @@ sees-some c w v v' t lt e = go t.count (went c w.setting.limit w v t)
         ∙ ap
         (λ (j : ℕ).
         record w { point = further (suc m) w.point; current = Some (slice_index w.setting.bytes j) }) i in
-        subst (SeesAll c w) (sym new) (sees-leapt c (suc m) w g.here g.ends)
+        subst (SeesSpan c w) (sym new) (sees-leapt c (suc m) w g.here g.ends)
 
 pub sees-none : (c : Class) (w v : World) → TakesAll c w.setting.limit w v → v.point.index ≤ w.point.index →
-    SeesAll c w v
+    SeesSpan c w v
 sees-none c w v t le = go t.count (went c w.setting.limit w v t)
   where
-    go : (n : ℕ) → Went c n w.setting.limit w v → SeesAll c w v
-    go zero g = subst (SeesAll c w) (sym g.is) (sees-leapt c 0 w g.here g.ends)
+    go : (n : ℕ) → Went c n w.setting.limit w v → SeesSpan c w v
+    go zero g = subst (SeesSpan c w) (sym g.is) (sees-leapt c 0 w g.here g.ends)
     go (suc m) g =
         let more : v.point.index ≡ w.point.index + suc m = ap (λ (x : World). x.point.index) g.is in
         absurd (omega (arith, more, le))
-
--- a state that stays: what it comes to behind so many bytes
-pub record Stayed (T : Step) (S : Scheme) (s : State) (w w' : World) : Type 0 where
-  pub runs : (is_end : Bool) → Runs T is_end s w s w'
-  pub ready : stands S w' (plain s)
-  pub falls : work S w' (plain s) ≤ work S w (plain s)
-  pub setting : w'.setting ≡ w.setting
-  pub within : All (λ (f : Frame). f.events_len ≤ length w'.events) w'.frames
-
--- it may stand at its own scheme
-fits-own : (S : Scheme) (n : StateName) → Fits S S n
-fits-own S n = record { ready = λ x K h. h; level = refl; rank = λ x. refl; tries = refl }
-
-stayed-more : (T : Step) (S : Scheme) (n : StateName) (c : Class) (w v : World) → StaysOn T S n c →
-    Stayed T S (Next n) w v → Sees c v → Stayed T S (Next n) w (took v)
-stayed-more T S n c w v s h here =
-    let b : ℕ = slice_index v.setting.bytes v.point.index in
-    let e : looks v ≡ Some b = seen-here v.setting c v.point here.0 here.1 in
-    let ready : stands S (took v) (Next n) = s.ready v b e here.1 h.ready in
-    let level : S.level n ≤ S.level n = omega arith in
-    let good = consumes S S n n v v.events v.scratch (fits-own S n) (fits-own S n) here.0 ready level in
-    let less : work S (took v) (Next n) < work S v (Next n) = good.1 in
-    record {
-      runs =
-          λ is_end. ThenCalls _ _ _ _ (h.runs is_end)
-          (record {
-            name = n;
-            names = refl;
-            may = inr here.0;
-            step = s.step v b e here.1;
-            fine = not_error (Next n) n refl;
-            setting = refl;
-            within = h.within;
-          });
-      ready = ready;
-      falls = omega (arith, h.falls, less);
-      setting = h.setting;
-      within = h.within;
-    }
-
--- all that is taken of a class, one after another, is what a state takes that stays
-pub stayed : (T : Step) (S : Scheme) (n : StateName) (c : Class) (k : ℕ) (w : World) → StaysOn T S n c →
-    stands S w (Next n) →
-    All (λ (f : Frame). f.events_len ≤ length w.events) w.frames → ((i : ℕ) → i < k → Sees c (took_all i w)) →
-    Stayed T S (Next n) w (took_all k w)
-unfolding took_all
-stayed T S n c zero w s r within h = record {
-  runs = λ is_end. Stays;
-  ready = r;
-  falls = omega arith;
-  setting = refl;
-  within = within;
-}
-stayed T S n c (suc k) w s r within h =
-    stayed-more T S n c w (took_all k w) s (stayed T S n c k w s r within (λ i lt. h i (omega (arith, lt))))
-    (h k (omega arith))
-
--- the attempts of a tokenizer go back to events that are there
-pub within-world : (t : Tokenizer) → All (λ (f : Frame). f.events_len ≤ length (world t).events) (world t).frames
-within-world t = All-reverse (λ (f : Frame). f.events_len ≤ length t.events.items) t.frames.items
-    (All-weaker (IsSaved t.bytes.now (length t.events.items)) (λ (f : Frame). f.events_len ≤ length t.events.items)
-    (λ f h. h.within) t.frames.items t.sound.saved)
-
--- a class is taken at once where a state stays on it
-pub stayed-by : (T : Step) (S : Scheme) (s : State) (n : StateName) (c : Class) (w w' : World) → s ≡ Next n →
-    StaysOn T S n c → stands S w (plain s) →
-    All (λ (f : Frame). f.events_len ≤ length w.events) w.frames → SeesAll c w w' → Stayed T S s w w'
-stayed-by T S s n c w w' e on r within t =
-    subst (λ (x : State). stands S w (plain x) → Stayed T S x w w') (sym e)
-    (λ ready. subst (Stayed T S (Next n) w) (sym t.new) (stayed T S n c t.count w on ready within t.each)) r

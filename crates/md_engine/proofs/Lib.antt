@@ -6,6 +6,7 @@ pub mod Local
 pub mod Closing
 pub mod Loops
 pub mod ClassLemmas
+pub mod StayLemmas
 pub mod Keeps
 pub mod StepOf
 pub mod ResolverNames

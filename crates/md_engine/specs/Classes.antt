@@ -16,6 +16,10 @@ admits Word b = not (b == 32)
 abbrev pub has : Class → ℕ → Bool
 has c b = goes_on b && admits c b
 
+-- a space or a tab; in a tab a state sees spaces
+abbrev pub is_white : ℕ → Bool
+is_white b = (b == 32) || (b == 9)
+
 -- so many bytes of a class stand in front, and no more
 pub record IsSpan (c : Class) (bytes : List ℕ) (n : ℕ) : Type 0 where
   pub within : n ≤ length bytes

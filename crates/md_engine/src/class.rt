@@ -3,7 +3,7 @@
 // No class has a line ending or a tab: behind each of its bytes the line goes on, one column further.
 
 ghost use Rattle.std.specs.Prelude.{◌≡◌};
-ghost use Rattle.md_engine.specs.Classes.{IsSpan, has};
+ghost use Rattle.md_engine.specs.Classes.{IsSpan, has, is_white};
 
 use memchr::memchr3;
 
@@ -14,6 +14,13 @@ pub enum Class {
     Text,
     /// All others but spaces: a word.
     Word,
+}
+
+/// Whether this is a space or a tab.
+pub fn is_white(byte: u8) -> bool
+    ensures { result ≡ is_white byte }
+{
+    byte == b' ' || byte == b'\t'
 }
 
 impl Class {

@@ -8,6 +8,7 @@ pub mod message;
 pub mod parse_state;
 pub mod resolve;
 pub mod state;
+pub mod stay;
 pub mod subtokenize;
 pub mod table;
 pub mod tokenizer;

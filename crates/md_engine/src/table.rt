@@ -12,10 +12,10 @@ ghost use Rattle.md_engine.specs.Staying.{StaysOn};
 ghost use Rattle.md_engine.specs.World.{looks, reads_to, world};
 ghost use Rattle.md_engine.specs.declared.state.State.{State};
 
-use crate::class::Class;
 use crate::message::Message;
 use crate::resolve::Name as ResolveName;
 use crate::state::{Name as StateName, State};
+use crate::stay::Stay;
 use crate::subtokenize::Subresult;
 use crate::tokenizer::Tokenizer;
 
@@ -41,9 +41,9 @@ pub trait Table {
         ensures setting { result ≢ State.Error → (world tokenizer.new).setting ≡ (world tokenizer.old).setting }
         ensures remains { result ≢ State.Error → Remains result (world tokenizer.old) (world tokenizer.new) };
 
-    /// A class of bytes that the state of this name only takes, to stay where it is: many are taken at once.
-    fn stays(name: StateName) -> Option<Class>
-        ensures { IfSome result (λ class. StaysOn step scheme name class) };
+    /// What the state of this name only takes and counts, to stay where it is: much is taken at once.
+    fn stays(name: StateName) -> Option<Stay>
+        ensures { IfSome result (λ stay. StaysOn step scheme name stay) };
 
     /// Runs the resolver of this name, when no attempt is left. After an `Err` the parse has failed.
     fn resolve(tokenizer: &mut Tokenizer, name: ResolveName) -> Result<Option<Subresult>, Message>
@@ -90,8 +90,8 @@ fn stay<T: Table>(tokenizer: &mut Tokenizer, state: State)
     let State::Next(name) = state else {
         return;
     };
-    if let Some(class) = T::stays(name) {
-        tokenizer.see_all(class);
+    if let Some(stay) = T::stays(name) {
+        tokenizer.see_all(stay);
     }
 }
 

@@ -13,12 +13,13 @@ ghost use Rattle.md_engine.specs.Ends.{ends_at, point_of, put};
 pub mod container;
 pub mod held_leaf;
 
-use crate::class::Class;
+use crate::class::{Class, is_white};
 use crate::configuration::ParseOptions;
 use crate::event::{Event, Kind, Link, Name, Point};
 use crate::message::Message;
 use crate::resolve::Name as ResolveName;
 use crate::state::State;
+use crate::stay::Stay;
 use crate::tokenizer::container::name::name_of;
 pub use crate::tokenizer::container::{Container, ContainerKind};
 pub use crate::tokenizer::held_leaf::HeldLeaf;
@@ -258,7 +259,8 @@ fn turn(events: &mut Vec<Event>, at: usize, count: usize)
 }
 
 impl<'a> Tokenizer<'a> {
-    ghost use Rattle.md_engine.specs.Staying.{SeesAll, TakesAll};
+    ghost use Rattle.md_engine.specs.Staying.{Sees, SeesAll, SeesColumns, SeesSpan, TakesAll};
+    ghost use Rattle.md_engine.specs.declared.stay.Stay.{Stay};
     ghost use Rattle.md_engine.specs.World.{closed, world, looks, after, fresh, line_begun, reads_to, registered};
     ghost use Rattle.md_engine.specs.World.{registered_before, skipping};
 
@@ -549,13 +551,97 @@ impl<'a> Tokenizer<'a> {
     }
 
     /// Sees and takes all bytes of a class that stand here, as far as the text may be read.
-    pub(crate) fn see_all(&mut self, class: Class)
-        ensures { SeesAll class (world self.old) (world self.new) }
+    fn see_span(&mut self, class: Class)
+        ensures { SeesSpan class (world self.old) (world self.new) }
     {
         let index = self.point.index;
         self.consume_all(class, self.limit);
         if self.point.index > index {
             self.current = Some(self.bytes[self.point.index - 1]);
+        }
+    }
+
+    /// Sees and takes spaces and columns of tabs, at most so many, and says how many there were.
+    fn see_columns(&mut self, most: usize) -> usize
+        ensures { SeesColumns most (world self.old) result (world self.new) }
+    {
+        let mut count = 0;
+        let mut point = self.point;
+        let mut seen = self.current;
+        while count < most && point.index < self.limit && is_white(self.bytes[point.index]) {
+            let byte = self.bytes[point.index];
+            seen = Some(if point.vs > 0 { b' ' } else { byte });
+            point = step(point, byte, false);
+            count += 1;
+        }
+        self.point = point;
+        self.current = seen;
+        count
+    }
+
+    /// Sees, takes and counts whitespace, up to its limit.
+    fn see_white(&mut self)
+        ensures { SeesAll Stay.White (world self.old) (world self.new) }
+    {
+        let Whitespace { max, size, .. } = self.scratch.whitespace;
+        if size < max {
+            self.scratch.whitespace.size = size + self.see_columns(max - size);
+        }
+    }
+
+    /// Sees and takes the rest of the line.
+    fn see_line(&mut self)
+        ensures { SeesAll Stay.Line (world self.old) (world self.new) }
+    {
+        self.see_span(Class::Text);
+        while self.point.index < self.limit && self.bytes[self.point.index] == b'\t' {
+            self.see_columns(usize::MAX);
+            self.see_span(Class::Text);
+        }
+    }
+
+    /// Sees, takes and counts what stands here, as long as a state takes it that stays.
+    fn see_each(&mut self, stay: Stay)
+        ensures { SeesAll stay (world self.old) (world self.new) }
+    {
+        while let Some(byte) = self.look() {
+            if !stay.takes(&self.scratch, byte) {
+                return;
+            }
+            self.current = Some(byte);
+            self.consume();
+            stay.count(&mut self.scratch, byte);
+        }
+    }
+
+    /// Whether something stands here that a state takes that stays.
+    fn sees(&self, stay: Stay) -> bool
+        ensures { result ≡ false → ¬ Sees stay (world self.now) }
+    {
+        match self.look() {
+            Some(byte) => stay.takes(&self.scratch, byte),
+            None => false,
+        }
+    }
+
+    /// Sees, takes and counts all of it.
+    fn see_some(&mut self, stay: Stay)
+        ensures { SeesAll stay (world self.old) (world self.new) }
+    {
+        match stay {
+            Stay::Line => self.see_line(),
+            Stay::Word => self.see_span(Class::Word),
+            Stay::White => self.see_white(),
+            _ => self.see_each(stay),
+        }
+    }
+
+    /// Sees, takes and counts all that stands here and that a state takes that stays, as far as the text may be read.
+    pub(crate) fn see_all(&mut self, stay: Stay)
+        ensures { SeesAll stay (world self.old) (world self.new) }
+    {
+        if self.sees(stay) {
+            self.see_some(stay);
         }
     }
 

@@ -24,13 +24,13 @@ ghost use Rattle.md_seam.specs.Transition.{IsAt, NeedsNothing};
 
 use crate::heading_text::put_texts;
 use crate::leaf_start::start_leaf;
-use md_engine::class::Class;
 use md_engine::event::{Content, Link, Name};
 use md_engine::message::Message;
 use md_engine::or_error;
 use md_engine::resolve::Name as ResolveName;
 use md_engine::state::heading_atx::State as HeadingState;
 use md_engine::state::{Name as StateName, State};
+use md_engine::stay::Stay;
 use md_engine::subtokenize::Subresult;
 use md_engine::tokenizer::{HeldLeaf, Tokenizer};
 use md_seam::space_or_tab::{is_space_or_tab, small_indent, space_or_tab, space_or_tab_min_max};
@@ -239,13 +239,15 @@ pub fn call(tokenizer: &mut Tokenizer, state: HeadingState) -> State
     }
 }
 
-/// A class of bytes that a state of a heading only takes.
-pub fn stays(state: HeadingState) -> Option<Class>
-    ensures { IfSome result (λ class. (is_name : ResolveName → Bool) →
-        TakesEach class (StateName.HeadingAtx state) (heading_transition is_name state)) }
+/// What a state of a heading only takes and counts.
+pub fn stays(state: HeadingState) -> Option<Stay>
+    ensures { IfSome result (λ stay. (is_name : ResolveName → Bool) →
+        TakesEach stay (StateName.HeadingAtx state) (heading_transition is_name state)) }
 {
     match state {
-        HeadingState::Data => Some(Class::Word),
+        HeadingState::SequenceOpen => Some(Stay::UpTo(b'#', OPENING)),
+        HeadingState::SequenceFurther => Some(Stay::Byte(b'#')),
+        HeadingState::Data => Some(Stay::Word),
         _ => None,
     }
 }

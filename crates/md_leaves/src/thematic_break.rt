@@ -6,7 +6,7 @@
 // All markers of a break are one byte. It adds `ThematicBreak` around `ThematicBreakSequence`, one for each run of
 // markers, and `SpaceOrTab`.
 
-ghost use Rattle.std.specs.Prelude.{◌≡◌, ◌≢◌};
+ghost use Rattle.std.specs.Prelude.{◌≡◌, ◌≢◌, IfSome};
 ghost use Rattle.md_engine.specs.World.{world};
 ghost use Rattle.md_engine.specs.declared.state.Name.{Name as StateName};
 ghost use Rattle.md_engine.specs.declared.state.State.{State};
@@ -14,6 +14,7 @@ ghost use Rattle.md_engine.specs.declared.state.thematic_break.State.{State as B
 ghost use Rattle.md_leaves.specs.Break.{BreakNeeds, at_break_transition, before_transition, break_transition};
 ghost use Rattle.md_leaves.specs.Break.{is_marker, may_begin, sequence_transition, start_transition};
 ghost use Rattle.md_seam.specs.Look.{may_with};
+ghost use Rattle.md_seam.specs.Stays.{TakesEach};
 ghost use Rattle.md_seam.specs.Transition.{IsAt};
 
 use crate::leaf_start::start_leaf;
@@ -21,6 +22,7 @@ use md_engine::event::Name;
 use md_engine::or_error;
 use md_engine::state::thematic_break::State as BreakState;
 use md_engine::state::{Name as StateName, State};
+use md_engine::stay::Stay;
 use md_engine::tokenizer::{HeldLeaf, Tokenizer};
 use md_seam::space_or_tab::{is_space_or_tab, small_indent, space_or_tab_min_max};
 
@@ -141,6 +143,16 @@ pub fn sequence(tokenizer: &mut Tokenizer) -> State
         )
     } else {
         State::Retry(StateName::ThematicBreak(BreakState::AtBreak))
+    }
+}
+
+/// What a state of a break only takes and counts.
+pub fn stays(state: BreakState) -> Option<Stay>
+    ensures { IfSome result (λ stay. TakesEach stay (StateName.ThematicBreak state) (break_transition state)) }
+{
+    match state {
+        BreakState::Sequence => Some(Stay::Markers),
+        _ => None,
     }
 }
 

@@ -4,7 +4,7 @@
 //
 // It adds one `SpaceOrTab` around them, and nothing where there are none.
 
-ghost use Rattle.std.specs.Prelude.{◌≡◌, ◌≢◌};
+ghost use Rattle.std.specs.Prelude.{◌≡◌, ◌≢◌, IfSome};
 ghost use Rattle.md_engine.specs.World.{world};
 ghost use Rattle.md_engine.specs.declared.state.Name.{Name as StateName};
 ghost use Rattle.md_engine.specs.declared.state.State.{State};
@@ -12,12 +12,14 @@ ghost use Rattle.md_engine.specs.declared.state.space_or_tab.State.{State as Whi
 ghost use Rattle.md_seam.specs.Look.{first_behind, looks_behind};
 ghost use Rattle.md_seam.specs.Spaces.{WhiteNeeds, after_transition, any_size, inside_transition, sees_white};
 ghost use Rattle.md_seam.specs.Spaces.{small_indent, start_transition, white_then, white_transition};
+ghost use Rattle.md_seam.specs.Stays.{TakesEach};
 ghost use Rattle.md_seam.specs.Transition.{IsAt};
 
 use md_engine::event::Name;
 use md_engine::or_error;
 use md_engine::state::space_or_tab::State as WhiteState;
 use md_engine::state::{Name as StateName, State};
+use md_engine::stay::Stay;
 use md_engine::tokenizer::{Tokenizer, Whitespace};
 
 /// The greatest small indent: 3 columns.
@@ -160,6 +162,16 @@ pub fn after(tokenizer: &mut Tokenizer) -> State
         size: 0,
     };
     if size >= min { State::Ok } else { State::Nok }
+}
+
+/// What a state of whitespace only takes and counts.
+pub fn stays(state: WhiteState) -> Option<Stay>
+    ensures { IfSome result (λ stay. TakesEach stay (StateName.SpaceOrTab state) (white_transition state)) }
+{
+    match state {
+        WhiteState::Inside => Some(Stay::White),
+        _ => None,
+    }
 }
 
 /// Calls a state of whitespace.

@@ -26,7 +26,6 @@ ghost use Rattle.md_seam.specs.Transition.{IsAt, NeedsNothing};
 
 use crate::construct::registry;
 use crate::resolve;
-use md_engine::class::Class;
 use md_engine::event::Name;
 use md_engine::message::Message;
 use md_engine::or_error;
@@ -35,6 +34,7 @@ use md_engine::state::bom::State as BomState;
 use md_engine::state::document::State as DocumentState;
 use md_engine::state::flow::State as FlowState;
 use md_engine::state::{Name as StateName, State};
+use md_engine::stay::Stay;
 use md_engine::subtokenize::Subresult;
 use md_engine::table::Table;
 use md_engine::tokenizer::{Container, Flags, HeldLeaf, Tokenizer};
@@ -309,7 +309,7 @@ impl Table for DocumentTable {
         call_state(tokenizer, name)
     }
 
-    fn stays(_name: StateName) -> Option<Class> {
+    fn stays(_name: StateName) -> Option<Stay> {
         None
     }
 

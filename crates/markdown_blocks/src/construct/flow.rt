@@ -22,7 +22,6 @@ ghost use Rattle.md_seam.specs.Transition.{IsAt, NeedsNothing};
 use crate::construct::{document, registry};
 use crate::resolve;
 use md_content::content;
-use md_engine::class::Class;
 use md_engine::message::Message;
 use md_engine::or_error;
 use md_engine::resolve::Name as ResolveName;
@@ -33,6 +32,7 @@ use md_engine::state::flow::State as FlowState;
 use md_engine::state::heading_atx::State as HeadingState;
 use md_engine::state::thematic_break::State as BreakState;
 use md_engine::state::{Name as StateName, State};
+use md_engine::stay::Stay;
 use md_engine::subtokenize::Subresult;
 use md_engine::table::Table;
 use md_engine::tokenizer::{HeldLeaf, Tokenizer};
@@ -226,10 +226,12 @@ impl Table for FlowTable {
         call_state(tokenizer, name)
     }
 
-    fn stays(name: StateName) -> Option<Class> {
+    fn stays(name: StateName) -> Option<Stay> {
         match name {
             StateName::Content(state) => content::stays(state),
             StateName::HeadingAtx(state) => heading_atx::stays(state),
+            StateName::SpaceOrTab(state) => space_or_tab::stays(state),
+            StateName::ThematicBreak(state) => thematic_break::stays(state),
             _ => None,
         }
     }

@@ -4,7 +4,7 @@ use Rattle.md_engine.specs.declared.state.State.TheVariants.{Error, Next, Retry}
 use Rattle.md_engine.specs.Run.{Remains, RunsHere, plain}
 use Rattle.md_engine.specs.Scheme.{stands, work}
 use Rattle.md_engine.specs.World.{World, world}
-use Rattle.md_engine.proofs.ClassLemmas.{within-world}
+use Rattle.md_engine.proofs.StayLemmas.{within-world}
 use Rattle.md_engine.proofs.Loops.{came-calls, came-first, came-stays, not_error, still-sees}
 use Rattle.md_engine.proofs.table.call_here.Goals as goal
 

@@ -22,3 +22,14 @@ returns-in-HeadingAtx c =
     rw c.in-HeadingAtx.is
     (flow-stays is_name (n.HeadingAtx c.in-HeadingAtx.state) c.stays-in-HeadingAtx.result
     (IfSome_then c.stays-in-HeadingAtx.result c.stays-in-HeadingAtx.ensures (λ k h. h (is_name r.HeadingAtx))))
+
+pub returns-in-SpaceOrTab : goal.returns-in-SpaceOrTab
+returns-in-SpaceOrTab c =
+    rw c.in-SpaceOrTab.is
+    (flow-stays is_name (n.SpaceOrTab c.in-SpaceOrTab.state) c.stays-in-SpaceOrTab.result c.stays-in-SpaceOrTab.ensures)
+
+pub returns-in-ThematicBreak : goal.returns-in-ThematicBreak
+returns-in-ThematicBreak c =
+    rw c.in-ThematicBreak.is
+    (flow-stays is_name (n.ThematicBreak c.in-ThematicBreak.state) c.stays-in-ThematicBreak.result
+    c.stays-in-ThematicBreak.ensures)
