@@ -194,6 +194,10 @@ impl Walk {
         ensures left { OnOk result (left_of self.new.all ≡ drop 1 (left_of self.old.all)) }
         ensures walked { OnOk result (walk_of self.new ≡ stepped (walk_of self.old) event) }
     {
+        if matches!(event.kind, Kind::Enter) {
+            self.all.hold(event);
+            return Ok(());
+        }
         self.all.hold(event);
         if ends_data(&event) {
             self.text.after = Some(event.point);

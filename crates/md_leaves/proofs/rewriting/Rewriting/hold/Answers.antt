@@ -1,4 +1,4 @@
-use Rattle.std.proofs.Common.{◌≡◌, ◌∙◌, ℕ, sym, ap, arith, drop}
+use Rattle.std.proofs.Common.{◌∙◌, ℕ, sym, ap, arith, drop}
 use Rattle.std.proofs.lemmas.List.{drop-drop}
 use Rattle.md_leaves.proofs.RewrittenLemmas.{held-more}
 use Rattle.md_leaves.proofs.rewriting.Rewriting.hold.Goals as goal

@@ -1,4 +1,4 @@
-use Rattle.std.proofs.Common.{arith, drop, length}
+use Rattle.std.proofs.Common.{arith}
 use Rattle.md_leaves.proofs.RewrittenLemmas.{held-fewer}
 use Rattle.md_leaves.proofs.rewriting.Rewriting.leave_out.Goals as goal
 
