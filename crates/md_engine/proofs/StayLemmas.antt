@@ -331,7 +331,18 @@ white-sees w v v' n room h new =
         go true false a c = let no : false ≡ true = rw (a, c) at is.2 in cc
         go false y a c = let no : false ≡ true = rw a at is.2 in cc
 
--- where no more is counted, none is taken
+-- where no whitespace stands, none is taken,
+pub white-none : (w : World) → ¬ SeesWhite w → SeesAll stay.White w w
+white-none w none = record { some = Nothing; ends = ends }
+  where
+    ends : ¬ Sees stay.White w
+    ends is = go (is_white is.0) refl
+      where
+        go : (x : Bool) → is_white is.0 ≡ x → ⊥
+        go true a = none (seen-white w is.0 is.1 a)
+        go false a = let no : false ≡ true = rw a at is.2 in cc
+
+-- and none where no more is counted
 pub white-full : (w : World) → w.scratch.whitespace.max ≤ w.scratch.whitespace.size → SeesAll stay.White w w
 white-full w le = record { some = Nothing; ends = ends }
   where

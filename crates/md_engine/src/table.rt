@@ -90,8 +90,14 @@ fn stay<T: Table>(tokenizer: &mut Tokenizer, state: State)
     let State::Next(name) = state else {
         return;
     };
-    if let Some(stay) = T::stays(name) {
-        tokenizer.see_all(stay);
+    let Some(stay) = T::stays(name) else {
+        return;
+    };
+    match stay {
+        Stay::Line => tokenizer.see_line(),
+        Stay::Word => tokenizer.see_word(),
+        Stay::White => tokenizer.see_white(),
+        _ => tokenizer.see_each(stay),
     }
 }
 

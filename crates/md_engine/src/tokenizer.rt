@@ -8,6 +8,7 @@ ghost use Rattle.std.specs.Prelude.{if◌then◌else◌, is_ok, nat_le, nat_lt, 
 ghost use Rattle.std.specs.Prelude.{IfNone, reverse, slice_index, ◌⊎◌};
 ghost use Rattle.md_engine.specs.Place.{IsPlaced, begun_at, is_pair, next_point, stepped};
 ghost use Rattle.md_engine.specs.Sound.{IsSound};
+ghost use Rattle.md_engine.specs.Classes.{is_white};
 ghost use Rattle.md_engine.specs.Ends.{ends_at, point_of, put};
 
 pub mod container;
@@ -214,6 +215,19 @@ fn step(point: Point, byte: u8, pair: bool) -> Point
     }
 }
 
+/// The point behind a space, or behind a column of a tab.
+fn next_column(point: Point, byte: u8) -> Point
+    requires white { is_white byte ≡ true }
+    requires room { (point.index < 2 ^ 61) × (point.line < 2 ^ 62) × (point.column < 2 ^ 63 + 99) × (point.vs < 4) }
+    ensures { result ≡ stepped byte false point }
+{
+    if byte == b' ' {
+        further(point, 1)
+    } else {
+        step(point, b'\t', false)
+    }
+}
+
 /// The point so many bytes further on its line.
 fn further(point: Point, count: usize) -> Point
     requires { (point.index + count < 2 ^ 62) × (point.column + count < 2 ^ 64) }
@@ -259,7 +273,7 @@ fn turn(events: &mut Vec<Event>, at: usize, count: usize)
 }
 
 impl<'a> Tokenizer<'a> {
-    ghost use Rattle.md_engine.specs.Staying.{Sees, SeesAll, SeesColumns, SeesSpan, TakesAll};
+    ghost use Rattle.md_engine.specs.Staying.{SeesAll, SeesColumns, SeesSpan, TakesAll};
     ghost use Rattle.md_engine.specs.declared.stay.Stay.{Stay};
     ghost use Rattle.md_engine.specs.World.{closed, world, looks, after, fresh, line_begun, reads_to, registered};
     ghost use Rattle.md_engine.specs.World.{registered_before, skipping};
@@ -555,10 +569,20 @@ impl<'a> Tokenizer<'a> {
         ensures { SeesSpan class (world self.old) (world self.new) }
     {
         let index = self.point.index;
+        if index >= self.limit || !class.has(self.bytes[index]) {
+            return;
+        }
         self.consume_all(class, self.limit);
         if self.point.index > index {
             self.current = Some(self.bytes[self.point.index - 1]);
         }
+    }
+
+    /// Sees and takes the rest of a word.
+    pub(crate) fn see_word(&mut self)
+        ensures { SeesAll Stay.Word (world self.old) (world self.new) }
+    {
+        self.see_span(Class::Word);
     }
 
     /// Sees and takes spaces and columns of tabs, at most so many, and says how many there were.
@@ -571,7 +595,7 @@ impl<'a> Tokenizer<'a> {
         while count < most && point.index < self.limit && is_white(self.bytes[point.index]) {
             let byte = self.bytes[point.index];
             seen = Some(if point.vs > 0 { b' ' } else { byte });
-            point = step(point, byte, false);
+            point = next_column(point, byte);
             count += 1;
         }
         self.point = point;
@@ -580,17 +604,17 @@ impl<'a> Tokenizer<'a> {
     }
 
     /// Sees, takes and counts whitespace, up to its limit.
-    fn see_white(&mut self)
+    pub(crate) fn see_white(&mut self)
         ensures { SeesAll Stay.White (world self.old) (world self.new) }
     {
         let Whitespace { max, size, .. } = self.scratch.whitespace;
-        if size < max {
+        if size < max && self.point.index < self.limit && is_white(self.bytes[self.point.index]) {
             self.scratch.whitespace.size = size + self.see_columns(max - size);
         }
     }
 
     /// Sees and takes the rest of the line.
-    fn see_line(&mut self)
+    pub(crate) fn see_line(&mut self)
         ensures { SeesAll Stay.Line (world self.old) (world self.new) }
     {
         self.see_span(Class::Text);
@@ -601,7 +625,7 @@ impl<'a> Tokenizer<'a> {
     }
 
     /// Sees, takes and counts what stands here, as long as a state takes it that stays.
-    fn see_each(&mut self, stay: Stay)
+    pub(crate) fn see_each(&mut self, stay: Stay)
         ensures { SeesAll stay (world self.old) (world self.new) }
     {
         while let Some(byte) = self.look() {
@@ -611,37 +635,6 @@ impl<'a> Tokenizer<'a> {
             self.current = Some(byte);
             self.consume();
             stay.count(&mut self.scratch, byte);
-        }
-    }
-
-    /// Whether something stands here that a state takes that stays.
-    fn sees(&self, stay: Stay) -> bool
-        ensures { result ≡ false → ¬ Sees stay (world self.now) }
-    {
-        match self.look() {
-            Some(byte) => stay.takes(&self.scratch, byte),
-            None => false,
-        }
-    }
-
-    /// Sees, takes and counts all of it.
-    fn see_some(&mut self, stay: Stay)
-        ensures { SeesAll stay (world self.old) (world self.new) }
-    {
-        match stay {
-            Stay::Line => self.see_line(),
-            Stay::Word => self.see_span(Class::Word),
-            Stay::White => self.see_white(),
-            _ => self.see_each(stay),
-        }
-    }
-
-    /// Sees, takes and counts all that stands here and that a state takes that stays, as far as the text may be read.
-    pub(crate) fn see_all(&mut self, stay: Stay)
-        ensures { SeesAll stay (world self.old) (world self.new) }
-    {
-        if self.sees(stay) {
-            self.see_some(stay);
         }
     }
 

@@ -23,12 +23,12 @@ loop-count-preserved c =
     ] in
     record {
       some =
-          one-column (world c.args.self.now) c.loop-count.count p c.step-point.result c.loop-count.seen
+          one-column (world c.args.self.now) c.loop-count.count p c.next_column-point.result c.loop-count.seen
           c.if-point-gt0.seen c.loop-count.invariant.some c.if-point-self.true (sym c.if-is_white.ensures) seen
-          c.step-point.ensures;
+          c.next_column-point.ensures;
       within = omega (arith, c.loop-count-test.true);
       placed =
-          placed-column c.args.self.now.bytes.now p c.step-point.result c.loop-count.invariant.placed
+          placed-column c.args.self.now.bytes.now p c.next_column-point.result c.loop-count.invariant.placed
           (omega (arith, c.if-point-self.true, c.args.self.now.sound.readable)) (sym c.if-is_white.ensures)
-          c.step-point.ensures;
+          c.next_column-point.ensures;
     }
