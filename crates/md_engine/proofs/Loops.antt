@@ -6,9 +6,10 @@ use Rattle.md_engine.specs.declared.event.Point.{Point}
 use Rattle.md_engine.specs.declared.state.Name.{Name as StateName}
 use Rattle.md_engine.specs.declared.state.State.{State}
 use Rattle.md_engine.specs.declared.state.State.TheVariants.{Error, Ok, Nok, Next, Retry}
-use Rattle.md_engine.specs.Run.{IsEnd, Remains, Runs, RunsHere, Step, plain, reading}
+use Rattle.md_engine.specs.Run.{IsEnd, IsWaiting, Remains, Runs, RunsFrom, RunsHere, Step, plain, reading}
 use Rattle.md_engine.specs.Run.Runs.{Stays, ThenCalls}
 use Rattle.md_engine.specs.World.{Setting, World, looks, looks_at}
+use Rattle.md_engine.proofs.Keeps.{runs-append}
 
 -- a state that names another, by either way
 pub plain_of : (s : State) (n : StateName) → (s ≡ Next n) ⊎ (s ≡ Retry n) → plain s ≡ Next n
@@ -35,10 +36,13 @@ pub record CameTo (T : Step) (is_end : Bool) (s : State) (v : World) (name : Sta
   pub runs : Runs T is_end s v state at
 
 -- from each state of the first name
-abbrev pub CameHere : Step → StateName → World → StateName → World → Type 0
-CameHere T first old name w =
-    (is_end : Bool) (s : State) (v : World) → plain s ≡ Next first → reading v ≡ old →
+abbrev pub Came : Step → Bool → StateName → World → StateName → World → Type 0
+Came T is_end first old name w =
+    (s : State) (v : World) → plain s ≡ Next first → reading v ≡ old →
     (is_end ≡ true) ⊎ (v.point.index < v.setting.limit) → CameTo T is_end s v name w
+
+abbrev pub CameHere : Step → StateName → World → StateName → World → Type 0
+CameHere T first old name w = (is_end : Bool) → Came T is_end first old name w
 
 pub came-first : (T : Step) (first : StateName) (w : World) → CameHere T first w first w
 came-first T first w is_end s v names sees may = record {
@@ -69,6 +73,33 @@ came-calls T first name old w s' w' came step fine same within is_end s v names 
       within = subst Q (sym h.sees) within;
     })
 
+-- by more that runs from there
+pub came-runs : (T : Step) (is_end : Bool) (first name : StateName) (old w : World) (s' : State) (w' : World) →
+    Came T is_end first old name w → RunsFrom T is_end name w s' w' → RunsFrom T is_end first old s' w'
+came-runs T is_end first name old w s' w' came runs s v names sees may =
+    let h = came s v names sees may in
+    runs-append T is_end s v h.state h.at s' w' h.runs (runs h.state h.at h.names h.sees h.may)
+
+-- and more behind it
+pub runs-then : (T : Step) (is_end : Bool) (first : StateName) (old : World) (t : State) (u : World) (s' : State)
+    (w' : World) →
+    RunsFrom T is_end first old t u → Runs T is_end t u s' w' → RunsFrom T is_end first old s' w'
+runs-then T is_end first old t u s' w' before after s v names sees may =
+    runs-append T is_end s v t u s' w' (before s v names sees may) after
+
+-- one has come to a state that may be called again, where what stands there is seen
+pub came-on : (T : Step) (is_end : Bool) (first next : StateName) (old u w : World) →
+    RunsFrom T is_end first old (Next next) u → (is_end ≡ true) ⊎ (u.point.index < u.setting.limit) → w ≡ reading u →
+    Came T is_end first old next w
+came-on T is_end first next old u w runs may is s v names sees here' = record {
+  state = Next next;
+  at = u;
+  names = refl;
+  sees = sym is;
+  may = may;
+  runs = runs s v names sees here';
+}
+
 -- what stays at what stands here still sees it
 pub still-sees : (next : StateName) (w w' : World) → Remains (Retry next) w w' → w'.setting ≡ w.setting →
     w.current ≡ looks w → w'.current ≡ looks w'
@@ -94,3 +125,11 @@ came-stays T first name next old w w' came runs r same seen is_end s v names see
       may = rw (there, within) h.may;
       runs = runs is_end s v names sees may;
     }
+
+-- one that takes nothing waits for nothing
+pub not_waiting : (is_end : Bool) (s : State) (w : World) → ((n : StateName) → s ≢ Next n) → IsWaiting is_end s w
+not_waiting is_end (Next n) w none = absurd (none n refl)
+not_waiting is_end (Retry n) w none = tt
+not_waiting is_end Ok w none = tt
+not_waiting is_end Nok w none = tt
+not_waiting is_end Error w none = tt

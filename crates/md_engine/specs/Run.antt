@@ -84,11 +84,20 @@ pub data Runs (T : Step) (is_end : Bool) (s : State) (w : World) : State → Wor
   ThenCalls : (t : State) (v : World) (t' : State) (v' : World) → Runs T is_end s w t v → Calls T is_end t v t' v' →
       Runs T is_end s w t' v'
 
--- a state of this name, which has seen what stands here, is called, and then each that stays there: what that comes to
-abbrev pub RunsHere : Step → StateName → World → State → World → Type 0
-RunsHere T name w s' w' =
-    (is_end : Bool) (s : State) (v : World) → plain s ≡ Next name → reading v ≡ w →
+-- what one comes to from a state of this name, which may be called and has seen what stands here
+abbrev pub RunsFrom : Step → Bool → StateName → World → State → World → Type 0
+RunsFrom T is_end name w s' w' =
+    (s : State) (v : World) → plain s ≡ Next name → reading v ≡ w →
     (is_end ≡ true) ⊎ (v.point.index < v.setting.limit) → Runs T is_end s v s' w'
+
+-- the same, at the end or before
+abbrev pub RunsHere : Step → StateName → World → State → World → Type 0
+RunsHere T name w s' w' = (is_end : Bool) → RunsFrom T is_end name w s' w'
+
+-- a state that takes what comes next waits for it
+abbrev pub IsWaiting : Bool → State → World → Type 0
+IsWaiting is_end (Next name) w = (is_end ≡ false) × (w.setting.limit ≤ w.point.index)
+IsWaiting is_end _ w = Unit {0}
 
 -- the loop ends where a state waits for more of the text, or where the construct has ended and no attempt is left
 abbrev pub IsStopped : Bool → State → World → Type 0

@@ -6,7 +6,7 @@ ghost use Rattle.std.specs.Prelude.{Bool, ◌≡◌, ◌≢◌, ◌<◌, ◌≤�
 ghost use Rattle.std.specs.Option.{option_map};
 ghost use Rattle.md_engine.specs.Found.{found_in};
 ghost use Rattle.md_engine.specs.Run.{Flushes, IsEnd, IsStopped, Leaves, Remains, Resolution, ResolvedIf, Runs};
-ghost use Rattle.md_engine.specs.Run.{RunsHere, Step, plain};
+ghost use Rattle.md_engine.specs.Run.{IsWaiting, RunsFrom, RunsHere, Step, plain};
 ghost use Rattle.md_engine.specs.Scheme.{Scheme, stands, work};
 ghost use Rattle.md_engine.specs.Staying.{StaysOn};
 ghost use Rattle.md_engine.specs.World.{looks, reads_to, world};
@@ -121,6 +121,32 @@ fn call_here<T: Table>(tokenizer: &mut Tokenizer, first: StateName) -> State
     }
 }
 
+/// Calls states one after another, from that of this name, which sees what stands here, until one ends or waits.
+fn call_on<T: Table>(tokenizer: &mut Tokenizer, first: StateName, is_end: bool) -> State
+    requires current { (world tokenizer.old).current ≡ looks (world tokenizer.old) }
+    requires stands { stands T.scheme (world tokenizer.old) (State.Next first) }
+    ensures runs { result ≢ State.Error →
+        RunsFrom T.step is_end first (world tokenizer.old) result (world tokenizer.new) }
+    ensures waits { IsWaiting is_end result (world tokenizer.new) }
+    ensures stands { result ≢ State.Error → stands T.scheme (world tokenizer.new) (plain result) }
+    ensures falls { result ≢ State.Error →
+        work T.scheme (world tokenizer.new) (plain result) < work T.scheme (world tokenizer.old) (State.Next first) }
+    ensures setting { result ≢ State.Error → (world tokenizer.new).setting ≡ (world tokenizer.old).setting }
+{
+    let mut name = first;
+    loop {
+        let state = call_here::<T>(tokenizer, name);
+        let State::Next(next) = state else {
+            return state;
+        };
+        stay::<T>(tokenizer, state);
+        if tokenizer.see_or_wait(is_end) {
+            return state;
+        }
+        name = next;
+    }
+}
+
 /// Goes from state to state until one waits for more of the text, or the last has ended.
 fn run<T: Table>(tokenizer: &mut Tokenizer, start: State, is_end: bool) -> State
     requires { stands T.scheme (world tokenizer.old) (plain start) }
@@ -141,12 +167,10 @@ fn run<T: Table>(tokenizer: &mut Tokenizer, start: State, is_end: bool) -> State
                 if tokenizer.see_or_wait(is_end) {
                     return state;
                 }
-                match call_here::<T>(tokenizer, name) {
+                match call_on::<T>(tokenizer, name, is_end) {
                     State::Error => return State::Error,
-                    next => {
-                        stay::<T>(tokenizer, next);
-                        next
-                    }
+                    State::Next(waiting) => return State::Next(waiting),
+                    next => next,
                 }
             }
         };

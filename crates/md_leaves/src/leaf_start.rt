@@ -12,6 +12,7 @@ use md_engine::tokenizer::Tokenizer;
 use md_seam::space_or_tab::{is_space_or_tab, small_indent, space_or_tab_min_max};
 
 /// Begins the leaf of this name, if it is on, takes a small indent, and goes on at this state.
+#[inline(always)]
 pub(crate) fn start_leaf(
     tokenizer: &mut Tokenizer,
     is_on: bool,

@@ -227,6 +227,7 @@ fn ending_name(blank: bool) -> Name
 /// > | > a
 ///        ^
 /// ```
+#[inline(always)]
 pub fn flow_end(tokenizer: &mut Tokenizer) -> State
     requires { IsAt NeedsNothing (StateName.Document DocumentState.FlowEnd) (world tokenizer.old) }
     ensures to { result ≢ State.Error → result ≡ (flow_end_transition (world tokenizer.old)).to }

@@ -1,8 +1,7 @@
-use Rattle.std.proofs.Common.{◌≡◌, ◌<◌, ◌≤◌, arith, ◌∙◌, ap, refl, sym}
+use Rattle.std.proofs.Common.{◌∙◌, ap, refl, sym}
 use Rattle.md_engine.specs.declared.state.State.TheVariants.{Next}
 use Rattle.md_engine.specs.Run.{plain, reading}
 use Rattle.md_engine.specs.Run.Runs.{Stays, ThenLeaves}
-use Rattle.md_engine.specs.Scheme.{work}
 use Rattle.md_engine.specs.World.{World, world}
 use Rattle.md_engine.proofs.Falls.{falls_same, leaves_falls, leaves_stands, stands_same}
 use Rattle.md_engine.proofs.Keeps.{runs-append}
@@ -27,44 +26,40 @@ loop-state-preserved-in-Some g c =
       setting = λ _. c.leave.ensures.setting ∙ c.loop-state.invariant.setting fine;
     }
 
-pub call_here-requires-clause-stands : goal.call_here-requires-clause-stands
-call_here-requires-clause-stands g c =
+pub call_on-requires-clause-stands : goal.call_on-requires-clause-stands
+call_on-requires-clause-stands g c =
     let p = plain_of c.loop-state.state c.in-Next.name c.in-Next.is in
     let st = c.loop-state.invariant.stands (not_error _ _ p) in
     stands_same g.T.Table.scheme (reading (world c.loop-state.tokenizer)) (world c.see_or_wait.new.self)
     (plain c.loop-state.state) (Next c.in-Next.name) (sym (c.if-see_or_wait.ensures.sees refl)) p st
 
-pub stay-requires : goal.stay-requires
-stay-requires g c = c.call_here.ensures.stands c.in_default.not-Error
+pub returns-in-Next-call_on-clause-runs : goal.returns-in-Next-call_on-clause-runs
+returns-in-Next-call_on-clause-runs g c = λ fine.
+    let p = plain_of c.loop-state.state c.in-Next.name c.in-Next.is in
+    runs-append _ _ _ _ _ _ _ _ (c.loop-state.invariant.runs (not_error _ _ p))
+    (c.in-Next-call_on.ensures.runs fine c.loop-state.state (world c.loop-state.tokenizer) p
+    (sym (c.if-see_or_wait.ensures.sees refl)) (c.if-see_or_wait.ensures.goes_on refl))
 
 pub loop-state-smaller : goal.loop-state-smaller
 loop-state-smaller g c =
     let p = plain_of c.loop-state.state c.in-Next.name c.in-Next.is in
-    let S = g.T.Table.scheme in
-    let v : World = world c.loop-state.tokenizer in
-    let before : work S (world c.call_here.new.tokenizer) (plain c.call_here.result) <
-    work S v (plain c.loop-state.state) = falls_same S (world c.call_here.new.tokenizer) (world c.see_or_wait.new.self)
-    (reading (world c.loop-state.tokenizer)) (plain c.call_here.result) (Next c.in-Next.name)
-    (plain c.loop-state.state) (c.if-see_or_wait.ensures.sees refl) (sym p) (c.call_here.ensures.falls c.in_default.not-Error) in
-    let below : work S (world c.stay.new.tokenizer) (plain c.call_here.result) ≤
-    work S (world c.call_here.new.tokenizer) (plain c.call_here.result) = c.stay.ensures.falls in
-    omega (arith, before, below)
+    falls_same g.T.Table.scheme (world c.call_on.new.tokenizer) (world c.see_or_wait.new.self)
+    (reading (world c.loop-state.tokenizer)) (plain c.call_on.result) (Next c.in-Next.name)
+    (plain c.loop-state.state) (c.if-see_or_wait.ensures.sees refl) (sym p)
+    (c.call_on.ensures.falls c.in_default.not-Error)
 
 pub loop-state-preserved : goal.loop-state-preserved
 loop-state-preserved g c =
     let p = plain_of c.loop-state.state c.in-Next.name c.in-Next.is in
     let fine = not_error _ _ p in
-    let same : (world c.call_here.new.tokenizer).setting ≡
-    (world c.loop-state.tokenizer).setting = c.call_here.ensures.setting c.in_default.not-Error
-    ∙ ap (λ (w : World). w.setting) (c.if-see_or_wait.ensures.sees refl) in
     record {
       runs =
-          λ h. runs-append _ _ _ _ _ _ _ _
-          (runs-append _ _ _ _ _ _ _ _ (c.loop-state.invariant.runs fine)
-          (c.call_here.ensures.runs h c.args.is_end c.loop-state.state (world c.loop-state.tokenizer) p
-          (sym (c.if-see_or_wait.ensures.sees refl))
-          (c.if-see_or_wait.ensures.goes_on refl)))
-          (c.stay.ensures.runs c.args.is_end);
-      stands = λ h. c.stay.ensures.stands;
-      setting = λ h. c.stay.ensures.setting ∙ same ∙ c.loop-state.invariant.setting fine;
+          λ h. runs-append _ _ _ _ _ _ _ _ (c.loop-state.invariant.runs fine)
+          (c.call_on.ensures.runs h c.loop-state.state (world c.loop-state.tokenizer) p
+          (sym (c.if-see_or_wait.ensures.sees refl)) (c.if-see_or_wait.ensures.goes_on refl));
+      stands = λ h. c.call_on.ensures.stands h;
+      setting = λ h.
+          c.call_on.ensures.setting h
+          ∙ ap (λ (w : World). w.setting) (c.if-see_or_wait.ensures.sees refl)
+          ∙ c.loop-state.invariant.setting fine;
     }
