@@ -1,81 +1,277 @@
 #!/usr/bin/env python3
-"""Measures the built program `blocks` on 1, 2, 4 and 8 MB of paragraphs and breaks, on 10,000 to 80,000 headings, on 1, 2, 4 and 8
-MB of quotes, and on 500 to 4,000 lines in 1,000 quotes.
+"""Measures the built program `blocks`, and prints the tables of docs/performance.md.
 
-`rt run` in crates/blocks builds it as crates/blocks/out/blocks. Each line of the report has the size of the text, the time
-from the start of the process to its end, the text read in a second, and the most memory that the process held (at least
-some 10 MiB, which this script holds when it starts the process). Another program may be named as the first argument.
+`rt run` in crates/blocks builds it as crates/blocks/out/blocks. Tables are named as arguments; where none is, all are printed:
+
+    cost      instructions and memory by byte of text
+    growth    how many times the instructions twice the text takes
+    times     seconds from the start of the process to its end, each the best of some runs
+
+Instructions are counted by valgrind (callgrind), so they are the same on each run of the same program; where it is missing, the
+times are printed alone. Memory is the most that is resident.
 """
 
+import argparse
 import os
+import re
+import shutil
 import subprocess
 import sys
 import tempfile
 import time
 from collections.abc import Callable
 from pathlib import Path
-from typing import BinaryIO
 
+ROOT = Path(__file__).resolve().parent.parent
 MEGABYTE = 1_000_000
-PARAGRAPH = "Some words of a paragraph, which goes on for a line or two,\nand *ends* here.\n\n"
-BREAK = "* * *\n\n"
-HEADING = "## A heading of a few # words ##\n"
-QUOTE = "> Some words of a quote, which goes on for a line or two,\n> and *ends* here\nor on a lazy line.\n>\n> > # a\n> > b\n\n"
+# Twice a text takes at most so many times the instructions.
+WANTED = 2.05
+
+LINE = "Lorem ipsum dolor sit amet, consectetur adipiscing elit, sed do eiusmod tempor"
 DEEP = ">" * 1_000 + " a\n"
+MIXED = f"""# A tool, and how it is used
+
+{LINE}, which `has` *some*
+[links](https://example.org/a/page) and ends
+on a third line.
+
+## What is new
+
+* {LINE} incididunt ut labore ([a link](https://example.org/1))
+* {LINE} et dolore magna aliqua, in `some::code` and *more*
+* {LINE}, quis nostrud exercitation ullamco laboris nisi ut aliquip ([another](https://example.org/2))
+* A short one
+  - with one in it, which is of ordinary length
+  - and another
+
+1. First, install it:
+
+   ```sh
+   $ tool install --from ./some/folder --with "a value"
+   $ tool run
+   ```
+
+2. Then call it, as told [below][use].
+
+> {LINE}
+
+```rust
+fn main() -> Result<(), Error> {{
+    let options = Options::from_args()?;
+    for name in options.names.iter().filter(|name| !name.is_empty()) {{
+        println!("{{name}}: {{}}", options.values[name]);
+    }}
+
+    run(&options)
+}}
+```
+
+{LINE}
+{LINE}
+{LINE}
+ut enim ad minim veniam.
+
+{LINE}, {LINE.lower()}.
+
+    indented code, on a line
+    and on another
+
+* * *
+
+| Option | What it does |
+|---|---|
+| `--from` | where it reads |
+| `--with` | what it is given |
+
+<p align="center">
+<img src="https://example.org/image.png">
+</p>
+
+### Use
+
+{LINE}:
+see `tool help`, where {LINE.lower()}.
+
+{LINE}, excepteur sint occaecat cupidatat non proident.
+{LINE}, sunt in culpa.
+
+[use]: https://example.org/use "How it is used"
+[links]: <https://example.org/links>
+
+"""
+
+# Texts that are made of one part, again and again.
+PARTS = {
+    "mixed, as real Markdown": MIXED,
+    "paragraphs of long lines": (LINE + "\n") * 6 + "\n",
+    "one long line": LINE + " ",
+    "paragraphs of two bytes": "ab\n\n",
+    "headings of some words": "## A heading of some words ##\n",
+    "quotes of long lines": f"> {LINE}\n",
+    "quotes in quotes in quotes": "> > > a few words\n",
+    "lists": "- one\n- two of them\n  and more\n\n  - within\n\n1. three\n2. four\n\n",
+    "code": "```rust\nlet a = 1;\n    b(a);\n```\n\n    indented\n\n",
+    "HTML": '<div class="a">\n<p>some text</p>\n</div>\n\n<!-- c -->\n\n',
+    "definitions": '[a label]: /destination "title"\n[b]: <c>\n\n',
+    "tables": "| a | b |\n|---|:-:|\n| 1 | 2 \\| 3 |\n\n",
+    "blank lines": "\n",
+    "quotes and blank lines in turn": "> a\n\n",
+    "one line of tabs": "\t",
+    "one line of spaces": " ",
+    "one line of `*`": "*",
+    "one line of `#`": "#",
+    "CR LF": "some words\r\n",
+}
 
 
-def cut(part: str) -> Callable[[BinaryIO, int], None]:
-    """What writes a part again and again, cut to a size in bytes."""
-
-    def write(target: BinaryIO, size: int) -> None:
-        data = part.encode()
-        for _ in range(size // len(data)):
-            target.write(data)
-        target.write(data[: size % len(data)])
-
-    return write
+def deep(quotes: int, behind: str, lines: int, groups: int = 1) -> str:
+    """So many quotes on a line, and lines behind it, in so many groups."""
+    return (">" * quotes + " a\n" + behind * lines) * groups
 
 
-def counted(part: str) -> Callable[[BinaryIO, int], None]:
-    """What writes a part so many times."""
+# Texts that grow in another way, where they are once or twice as large.
+GROWING: dict[str, Callable[[int], str]] = {
+    "4,000 quotes on one line": lambda n: deep(4_000 * n, "", 0),
+    "20 lines in 1,000 quotes, twice the lines": lambda n: deep(1_000, "", 0, 20 * n),
+    "20 lines in 1,000 quotes, twice the quotes": lambda n: deep(1_000 * n, "", 0, 20),
+    "1,000 quotes with 1,000 lazy lines, four times": lambda n: deep(1_000, "b\n", 1_000, 4 * n),
+    "1,000 quotes with 1,000 lazy lines, twice both": lambda n: deep(1_000 * n, "b\n", 1_000 * n),
+    "1,000 quotes with 1,000 blank lines, four times": lambda n: deep(1_000, "\n", 1_000, 4 * n),
+    "1,000 quotes with 1,000 blank lines, twice both": lambda n: deep(1_000 * n, "\n", 1_000 * n),
+    "1,000 quotes with 1,000 lines `> b`, twice both": lambda n: deep(1_000 * n, "> b\n", 1_000 * n),
+}
 
-    def write(target: BinaryIO, count: int) -> None:
-        for _ in range(count):
-            target.write(part.encode())
+# What is timed: a part, and how many times it stands.
+TIMED: list[tuple[str, str, list[int]]] = [
+    ("MB of paragraphs", PARTS["paragraphs of long lines"] * 8 + "* * *\n\n", [1, 2, 4, 8]),
+    ("MB of quotes", f"> {LINE}\n> and *ends* here\nor on a lazy line.\n>\n> > # a\n> > b\n\n", [1, 2, 4, 8]),
+    ("MB of mixed text", MIXED, [1, 2, 4, 8]),
+    ("headings", "## A heading of a few # words ##\n", [10_000, 20_000, 40_000, 80_000]),
+    ("lines in 1,000 quotes", DEEP, [500, 1_000, 2_000, 4_000]),
+]
 
-    return write
+
+def filled(part: str, size: int) -> str:
+    """A part again and again, up to this size."""
+    return part * max(1, size // len(part))
 
 
-def measure(program: Path, write: Callable[[BinaryIO, int], None], size: int) -> tuple[float, int]:
-    """Runs the program on a text of this size, and answers the seconds it took and the most kilobytes it held."""
-    with tempfile.TemporaryFile() as source:
-        write(source, size)
-        source.seek(0)
-        start = time.perf_counter()
-        process = subprocess.Popen([program], stdin=source, stdout=subprocess.DEVNULL)
-        _, status, usage = os.wait4(process.pid, 0)
-        seconds = time.perf_counter() - start
+class Program:
+    """A program that reads a text from its standard input."""
+
+    def __init__(self, path: Path) -> None:
+        if not path.is_file():
+            raise SystemExit(f"{path} is not there: build it by `rt run` in its crate")
+        self.path = path
+        self.counts: dict[int, int] = {}
+
+    def instructions(self, text: str) -> int:
+        """The instructions from the start of the process to its end."""
+        key = hash(text)
+        if key not in self.counts:
+            command = ["valgrind", "--tool=callgrind", "--callgrind-out-file=/dev/null", self.path]
+            done = subprocess.run(command, input=text.encode(), stdout=subprocess.DEVNULL, stderr=subprocess.PIPE)
+            found = re.search(rb"Collected : (\d+)", done.stderr)
+            if done.returncode != 0 or not found:
+                raise SystemExit(f"{self.path}: status {done.returncode}: {done.stderr[-300:]!r}")
+            self.counts[key] = int(found[1])
+        return self.counts[key]
+
+    def by_byte(self, text: str) -> float:
+        """The instructions by byte of text, less those of an empty one."""
+        return (self.instructions(text) - self.instructions("")) / len(text.encode())
+
+    def run(self, part: str, size: int) -> tuple[float, int]:
+        """The seconds that the program takes on a part again and again, up to this size, and the most bytes that it holds.
+
+        What this script holds when it starts the process counts too, so it keeps no text of that size.
+        """
+        block = part.encode() * max(1, 100_000 // len(part))
+        with tempfile.TemporaryFile() as source:
+            for _ in range(size // len(block)):
+                source.write(block)
+            source.write(block[: size % len(block)])
+            source.seek(0)
+            start = time.perf_counter()
+            process = subprocess.Popen([self.path], stdin=source, stdout=subprocess.DEVNULL)
+            _, status, usage = os.wait4(process.pid, 0)
+            seconds = time.perf_counter() - start
         process.returncode = os.waitstatus_to_exitcode(status)
-    if process.returncode != 0:
-        raise SystemExit(f"{program} ended with status {process.returncode}")
-    return seconds, usage.ru_maxrss
+        if process.returncode != 0:
+            raise SystemExit(f"{self.path} ended with status {process.returncode}")
+        return seconds, usage.ru_maxrss * 1024
+
+
+def row(*cells: str) -> None:
+    print("| " + " | ".join(cells) + " |", flush=True)
+
+
+def head(*cells: str) -> None:
+    row(*cells)
+    print("|" + "---|" * len(cells))
+
+
+def print_cost(program: Program, size: int) -> None:
+    """What a byte of text costs, where the text is so long already: of a text less its first half."""
+    head("Text", "Instructions a byte", "Memory a byte")
+    for name, part in PARTS.items():
+        half, whole = filled(part, size // 2), filled(part, size // 2) * 2
+        cost = (program.instructions(whole) - program.instructions(half)) / (len(whole) - len(half))
+        least = 8 * size
+        while program.run(part, least)[1] < 40 * MEGABYTE and least < 60 * MEGABYTE:
+            least *= 2
+        memory = (program.run(part, 2 * least)[1] - program.run(part, least)[1]) / least
+        row(name, f"{cost:.1f}", f"{memory:.1f}")
+
+
+def print_growth(program: Program, size: int) -> None:
+    """How the instructions grow with the text, less those of an empty one.
+
+    Lists that double make steps, so texts of one part grow by two doublings, and the mean of these counts.
+    """
+    head("Text", "Bytes", "Instructions a byte", "Twice the text")
+    texts = {name: (filled(part, size // 4), filled(part, size // 4) * 4, 2) for name, part in PARTS.items()}
+    texts |= {name: (make(1), make(2), 1) for name, make in GROWING.items()}
+    for name, (once, more, doublings) in texts.items():
+        growth = 2 * (program.by_byte(more) / program.by_byte(once)) ** (1 / doublings)
+        mark = "" if growth <= WANTED else " (!)"
+        row(name, f"{len(once):,}", f"{program.by_byte(once):,.1f}", f"{growth:.2f} times{mark}")
+
+
+def print_times(program: Program, runs: int) -> None:
+    """Seconds from the start of the process to its end, and the most memory that it held."""
+    head("Text", "Time", "Speed", "Memory at most")
+    for name, part, counts in TIMED:
+        for count in counts:
+            size = count * (MEGABYTE if name.startswith("MB") else len(part))
+            ran = [program.run(part, size) for _ in range(runs)]
+            seconds, held = min(ran)[0], max(held for _, held in ran)
+            speed = size / MEGABYTE / seconds
+            row(f"{count:,} {name}", f"{seconds:.3f} s", f"{speed:.1f} MB/s", f"{held / 2**20:.0f} MiB")
 
 
 def main() -> None:
-    default = Path(__file__).resolve().parent.parent / "crates/blocks/out/blocks"
-    program = Path(sys.argv[1]) if len(sys.argv) > 1 else default
-    if not program.is_file():
-        raise SystemExit(f"{program} is not there: build it by `rt run` in its crate")
-    for name, part in (("paragraphs", PARAGRAPH * 8 + BREAK), ("quotes", QUOTE)):
-        for megabytes in (1, 2, 4, 8):
-            seconds, kilobytes = measure(program, cut(part), megabytes * MEGABYTE)
-            speed = megabytes / seconds
-            print(f"{megabytes} MB of {name}: {seconds:.2f} s, {speed:.2f} MB/s, {kilobytes / 1024:.0f} MiB at most")
-    for name, part, least in (("headings", HEADING, 10_000), ("lines in 1,000 quotes", DEEP, 500)):
-        for count in (least, 2 * least, 4 * least, 8 * least):
-            seconds, kilobytes = measure(program, counted(part), count)
-            speed = count * len(part) / MEGABYTE / seconds
-            print(f"{count} {name}: {seconds:.3f} s, {speed:.2f} MB/s, {kilobytes / 1024:.0f} MiB at most")
+    parser = argparse.ArgumentParser(description=__doc__, formatter_class=argparse.RawDescriptionHelpFormatter)
+    parser.add_argument("tables", nargs="*", metavar="TABLE", help="cost, growth, times; all of them where none is named")
+    parser.add_argument("--program", type=Path, default=ROOT / "crates/blocks/out/blocks", help="what is measured")
+    parser.add_argument("--size", type=int, default=240_000, help="bytes of a text whose instructions are counted (240000)")
+    parser.add_argument("--runs", type=int, default=4, help="runs of which the best time counts (4)")
+    asked = parser.parse_args()
+    tables = asked.tables or ["cost", "growth", "times"]
+    if unknown := set(tables) - {"cost", "growth", "times"}:
+        parser.error(f"no table: {', '.join(sorted(unknown))}")
+    if not shutil.which("valgrind") and set(tables) != {"times"}:
+        print("valgrind is not there, so no instructions are counted: times alone", file=sys.stderr)
+        tables = ["times"]
+    program = Program(asked.program)
+    for table in tables:
+        if table == "cost":
+            print_cost(program, asked.size)
+        elif table == "growth":
+            print_growth(program, asked.size)
+        else:
+            print_times(program, asked.runs)
+        print()
 
 
 if __name__ == "__main__":
