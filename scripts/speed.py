@@ -1,14 +1,15 @@
 #!/usr/bin/env python3
 """Measures the built program `blocks`, and prints the tables of docs/performance.md.
 
-`rt run` in crates/blocks builds it as crates/blocks/out/blocks. Tables are named as arguments; where none is, all are printed:
+`rt run` in crates/blocks builds it as crates/blocks/out/blocks. Tables are named as arguments; where none is, all are
+printed:
 
     cost      instructions and memory by byte of text
     growth    how many times the instructions twice the text takes
     times     seconds from the start of the process to its end, each the best of some runs
 
-Instructions are counted by valgrind (callgrind), so they are the same on each run of the same program; where it is missing, the
-times are printed alone. Memory is the most that is resident.
+Instructions are counted by valgrind (callgrind), so they are the same on each run of the same program; where it is
+missing, the times are printed alone. Memory is the most that is resident.
 """
 
 import argparse
@@ -182,7 +183,7 @@ class Program:
         return (self.instructions(text) - self.instructions("")) / len(text.encode())
 
     def run(self, part: str, size: int) -> tuple[float, int]:
-        """The seconds that the program takes on a part again and again, up to this size, and the most bytes that it holds.
+        """The seconds and the most bytes that a run takes on a part again and again, up to this size.
 
         What this script holds when it starts the process counts too, so it keeps no text of that size.
         """
@@ -252,9 +253,9 @@ def print_times(program: Program, runs: int) -> None:
 
 def main() -> None:
     parser = argparse.ArgumentParser(description=__doc__, formatter_class=argparse.RawDescriptionHelpFormatter)
-    parser.add_argument("tables", nargs="*", metavar="TABLE", help="cost, growth, times; all of them where none is named")
+    parser.add_argument("tables", nargs="*", metavar="TABLE", help="cost, growth, times; all where none is named")
     parser.add_argument("--program", type=Path, default=ROOT / "crates/blocks/out/blocks", help="what is measured")
-    parser.add_argument("--size", type=int, default=240_000, help="bytes of a text whose instructions are counted (240000)")
+    parser.add_argument("--size", type=int, default=240_000, help="bytes of a text that is counted (240000)")
     parser.add_argument("--runs", type=int, default=4, help="runs of which the best time counts (4)")
     asked = parser.parse_args()
     tables = asked.tables or ["cost", "growth", "times"]

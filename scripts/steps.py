@@ -1,0 +1,84 @@
+#!/usr/bin/env python3
+"""Tries whether a parse has become dearer, in numbers that are the same on each machine, without proof.
+
+`rt try` runs the program `parse_cost` by an interpreter too, which counts steps. Of each text, so many parts must be
+read within STEPS steps, and so many within REQUESTS requests for memory. All stand in one build. With `--measure` it
+prints how many parts there can be now, in steps of a fifth.
+"""
+
+import re
+import subprocess
+import sys
+import tempfile
+from pathlib import Path
+
+sys.dont_write_bytecode = True
+import speed
+
+ROOT = Path(__file__).resolve().parent.parent
+STEPS = 200_000
+REQUESTS = 60
+
+# How many parts of a text must be read within the steps, and how many within the requests.
+MOST: dict[str, tuple[int, int]] = {
+    "one long line": (9, 28),
+    "headings of some words": (4, 25),
+    "quotes of long lines": (4, 28),
+    "quotes in quotes in quotes": (5, 60),
+    "blank lines": (84, 2_236),
+    "one line of tabs": (70, 2_236),
+    "one line of spaces": (251, 2_236),
+    "one line of `*`": (433, 2_236),
+}
+
+
+def tried(counts: dict[str, list[int]]) -> dict[str, dict[int, tuple[bool, bool]]]:
+    """Of so many parts of each text: whether they are read within the steps, and whether within the requests."""
+    names = list(counts)
+    with tempfile.TemporaryDirectory() as folder:
+        for at, name in enumerate(names):
+            for count in counts[name]:
+                Path(folder, f"{at}x{count}").write_text(speed.PARTS[name] * count)
+        limits = ["--steps", str(STEPS), "--fail-alloc", str(REQUESTS + 1)]
+        done = subprocess.run(
+            ["rt", "try", "--cases", folder, *limits],
+            cwd=ROOT / "crates/parse_cost", stdin=subprocess.DEVNULL, capture_output=True, text=True,
+        )
+    found: dict[str, dict[int, tuple[bool, bool]]] = {name: {} for name in names}
+    pattern = r"^case=(\d+)x(\d+) run=ended status=(\d+) runners=(\d)"
+    for at, count, status, runners in re.findall(pattern, done.stdout + done.stderr, re.M):
+        found[names[int(at)]][int(count)] = (runners == "2", status == "0")
+    if any(len(found[name]) != len(set(counts[name])) for name in names):
+        sys.exit(f"not every run ended\n{done.stderr[-2000:]}")
+    return found
+
+
+def measure() -> None:
+    """Prints how many parts there can be, of texts of 70 to 2,236 bytes, each a fifth longer than the one before."""
+    sizes = [70 * 1.2**at for at in range(20)]
+    found = tried({name: sorted({max(1, round(size / len(speed.PARTS[name]))) for size in sizes}) for name in MOST})
+    for name, within in found.items():
+        best = [max((count for count, is_within in within.items() if is_within[at]), default=0) for at in (0, 1)]
+        print(f'    "{name}": ({best[0]:_}, {best[1]:_}),')
+
+
+def main() -> None:
+    if sys.argv[1:] == ["--measure"]:
+        return measure()
+    if sys.argv[1:]:
+        sys.exit(__doc__)
+    found = tried({name: [*most] for name, most in MOST.items()})
+    failed = 0
+    for name, (by_steps, by_requests) in MOST.items():
+        if not found[name][by_steps][0]:
+            print(f"{by_steps} of {name}: more than {STEPS} steps")
+            failed += 1
+        if not found[name][by_requests][1]:
+            print(f"{by_requests} of {name}: more than {REQUESTS} requests for memory")
+            failed += 1
+    print(f"steps and requests: {2 * len(MOST) - failed} passed, {failed} failed")
+    sys.exit(failed > 0)
+
+
+if __name__ == "__main__":
+    main()
