@@ -1,0 +1,5 @@
+use Rattle.std.proofs.Common.{refl}
+use Rattle.markdown_blocks.proofs.construct.flow.blank_line_after.Goals as goal
+
+pub returns-clause-world : goal.returns-clause-world
+returns-clause-world c = refl
