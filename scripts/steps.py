@@ -3,7 +3,7 @@
 
 `rt try` runs the program `parse_cost` by an interpreter too, which counts steps. Of each text, so many parts must be
 read within STEPS steps, and so many within REQUESTS requests for memory. All stand in one build. With `--measure` it
-prints how many parts there can be now, in steps of a fifth.
+prints how many parts there can be now, in steps of a twentieth.
 """
 
 import re
@@ -16,19 +16,20 @@ sys.dont_write_bytecode = True
 import speed
 
 ROOT = Path(__file__).resolve().parent.parent
-STEPS = 200_000
+STEPS = 1_000_000
 REQUESTS = 60
 
 # How many parts of a text must be read within the steps, and how many within the requests.
 MOST: dict[str, tuple[int, int]] = {
-    "one long line": (9, 28),
-    "headings of some words": (4, 25),
-    "quotes of long lines": (4, 28),
-    "quotes in quotes in quotes": (5, 60),
-    "blank lines": (84, 2_236),
-    "one line of tabs": (70, 2_236),
-    "one line of spaces": (251, 2_236),
-    "one line of `*`": (433, 2_236),
+    "paragraphs of long lines": (7, 8),
+    "one long line": (95, 116),
+    "headings of some words": (27, 28),
+    "quotes of long lines": (35, 60),
+    "quotes in quotes in quotes": (31, 88),
+    "blank lines": (648, 4_882),
+    "one line of tabs": (745, 4_882),
+    "one line of spaces": (3_192, 4_882),
+    "one line of `*`": (3_564, 4_882),
 }
 
 
@@ -54,9 +55,8 @@ def tried(counts: dict[str, list[int]]) -> dict[str, dict[int, tuple[bool, bool]
 
 
 def measure() -> None:
-    """Prints how many parts there can be, of texts of 70 to 2,236 bytes, each a fifth longer than the one before."""
-    sizes = [70 * 1.2**at for at in range(20)]
-    found = tried({name: sorted({max(1, round(size / len(speed.PARTS[name]))) for size in sizes}) for name in MOST})
+    """Prints how many parts there can be, from four fifths to one and a half of what must be read now."""
+    found = tried({name: sorted({count * at // 20 for count in most for at in range(16, 31)}) for name, most in MOST.items()})
     for name, within in found.items():
         best = [max((count for count, is_within in within.items() if is_within[at]), default=0) for at in (0, 1)]
         print(f'    "{name}": ({best[0]:_}, {best[1]:_}),')
