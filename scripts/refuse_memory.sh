@@ -4,8 +4,8 @@
 #
 # Each text has a run in which nothing is refused, which must end with status 0 and print what is given, or anything where nothing is;
 # and for each request of that run one in which this request is refused (`scripts/refuse.c`). Such a run must end with status 3, say so
-# on its standard error and print nothing, or end as if nothing had been refused: the parser goes on where memory that is left over
-# cannot be given back. So many runs at least must have ended with status 3.
+# on its standard error and print nothing, or end as if nothing had been refused, as it may where a list is not cut to
+# its size. So many runs at least must have ended with status 3.
 set -euo pipefail
 cd "$(dirname "$0")/.."
 work=$(mktemp -d)
