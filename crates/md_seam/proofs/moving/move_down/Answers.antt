@@ -1,4 +1,5 @@
 use Rattle.std.proofs.Common.{◌∙◌, ap, arith, drop}
+use Rattle.std.proofs.lemmas.Grind.{common_steps}
 use Rattle.md_seam.proofs.MovingLemmas.{behind-copied, behind-moved, unmoved}
 use Rattle.md_seam.proofs.moving.move_down.Goals as goal
 
@@ -14,3 +15,6 @@ returns-then-to-from-clause-behind c =
 
 pub returns-else-to-from-clause-moved : goal.returns-else-to-from-clause-moved
 returns-else-to-from-clause-moved c = unmoved c.args.events.now c.args.to c.args.from c.args.end (omega arith)
+
+pub returns-then-to-end-clause-moved : goal.returns-then-to-end-clause-moved
+returns-then-to-end-clause-moved c = grind (arith, common_steps)

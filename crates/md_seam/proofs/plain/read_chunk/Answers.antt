@@ -1,3 +1,4 @@
+use Rattle.std.proofs.Common.{rules}
 use Rattle.md_engine.specs.World.{world}
 use Rattle.md_seam.proofs.PlainSteps.{chunk-ending, chunk-line}
 use Rattle.md_seam.proofs.plain.read_chunk.Goals as goal
@@ -14,3 +15,6 @@ pub returns-else-tokenizer-end-clause-events : goal.returns-else-tokenizer-end-c
 returns-else-tokenizer-end-clause-events c = λ one whole.
     chunk-line (record (world c.args.tokenizer.now) { point = c.args.chunk.now.first })
     (world c.read_line.new.tokenizer) c.args.chunk.now c.requires.chunk one whole c.in_ok-read_line.ensures c.if-tokenizer-end.false
+
+pub consume-requires : goal.consume-requires
+consume-requires c = search rules
