@@ -1,3 +1,4 @@
+use Rattle.std.proofs.Common.{rules}
 use Rattle.md_engine.proofs.Sound.{sound-moved, sound-skip_if}
 use Rattle.md_engine.proofs.tokenizer.Tokenizer.define_skip.Goals as goal
 
@@ -18,3 +19,9 @@ invariant_of-self-else-self-point c = record {
   sound = sound-skip_if _ _ c.args.point _ _ _ _ _ _ c.args.self.now.sound
       c.requires c.push.ensures.items;
 }
+
+pub returns-then-self-point-2 : goal.returns-then-self-point-2
+returns-then-self-point-2 c = search rules
+
+pub returns-else-self-point : goal.returns-else-self-point
+returns-else-self-point c = search rules
