@@ -1,9 +1,8 @@
-// Worked texts of the grammars of single constructs.
+// The grammars of single constructs that ask for memory. More texts are among the rows of the bench.
 
 use md_engine::configuration::ParseOptions;
 use md_plain::meaning::tree;
 use plain_grammars::definition::{Cut, Defined, cut_definitions};
-use plain_grammars::html::{HtmlKind, html_ends, html_kind};
 use plain_grammars::label::{labels_of, normal_form};
 use plain_grammars::table::{delimiter_columns, is_head, row_cells};
 use std::test::Fail;
@@ -17,52 +16,8 @@ fn are_texts(texts: &[&[u8]], expected: &[&str]) -> bool {
 }
 
 #[test]
-fn html_kinds(rt: HostRuntime) {
-    let rows = [
-        ("<pre", Some(HtmlKind::Raw)),
-        ("<Script>", Some(HtmlKind::Raw)),
-        ("<pre/>", Some(HtmlKind::Complete)),
-        ("</pre >", Some(HtmlKind::Complete)),
-        ("<pre/ >", None),
-        ("<!-->", Some(HtmlKind::Comment)),
-        ("<?>", Some(HtmlKind::Instruction)),
-        ("<!a", Some(HtmlKind::Declaration)),
-        ("<![CDATA[a]]]>", Some(HtmlKind::Cdata)),
-        ("</Div/>", Some(HtmlKind::Basic)),
-        ("<x y=/z>", Some(HtmlKind::Complete)),
-        ("<x  a b = \"c\" d= 'e'  :f-=g />", Some(HtmlKind::Complete)),
-        ("<x a=\"b\"c>", None),
-        ("<x> a", None),
-        ("<aé>", None),
-        ("<a b=é>", Some(HtmlKind::Complete)),
-        ("< a>", None),
-    ];
-    for (line, kind) in rows {
-        assert!(rt; html_kind(line.as_bytes()) == kind, "{line}");
-    }
-}
-
-#[test]
-fn html_ends_where_it_says(rt: HostRuntime) {
-    let rows = [
-        (HtmlKind::Raw, "a</STYLE>b", true),
-        (HtmlKind::Raw, "</pre >", false),
-        (HtmlKind::Comment, "<!-->", true),
-        (HtmlKind::Instruction, "<?>", true),
-        (HtmlKind::Declaration, "<!a", false),
-        (HtmlKind::Cdata, "<![CDATA[a]]]>", true),
-        (HtmlKind::Basic, "</div>", false),
-    ];
-    for (kind, line, ends) in rows {
-        assert!(rt; html_ends(kind, line.as_bytes()) == ends, "{line}");
-    }
-}
-
-#[test]
 fn rows_of_tables(rt: HostRuntime) -> Result<(), Fail> {
     let alloc = rt.alloc();
-    assert!(rt; are_texts(&row_cells(alloc, b"| a | b |")?, &["a", "b"]));
-    assert!(rt; are_texts(&row_cells(alloc, b"|")?, &[""]));
     assert!(rt;
         are_texts(
             &row_cells(alloc, b"a \\| b | c\\\\|d")?,
@@ -70,7 +25,6 @@ fn rows_of_tables(rt: HostRuntime) -> Result<(), Fail> {
         )
     );
     assert!(rt; delimiter_columns(alloc, b"| - | :-: |")? == Some(2));
-    assert!(rt; delimiter_columns(alloc, b"-")?.is_none());
     assert!(rt; delimiter_columns(alloc, b"-||")?.is_none());
     assert!(rt; !is_head(b" |\t") && is_head(b"||"));
     Ok(())

@@ -2,10 +2,6 @@
 #![tactic(auto)]
 
 #[cfg(test)]
-mod blocks_run;
-#[cfg(test)]
-mod events_run;
-#[cfg(test)]
 mod grammars;
 #[cfg(test)]
 mod heading_text;
@@ -14,8 +10,8 @@ mod outlines;
 #[cfg(test)]
 mod plain_outlines;
 #[cfg(test)]
-mod print;
+mod runs;
 #[cfg(test)]
-mod run;
+mod streams;
 #[cfg(test)]
 mod system;

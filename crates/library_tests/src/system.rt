@@ -33,14 +33,12 @@ impl Env for Given<'_> {
 #[test]
 fn leaves_out_the_name(rt: HostRuntime) -> Result<(), Fail> {
     let words: &[&[u8]] = &[b"blocks", b"gfm", b""];
-    for count in 0..4 {
-        let given = &words[..count];
-        let args = arguments(&(Given(given), rt.alloc()))?;
-        assert_eq!(rt; args.len(), count.saturating_sub(1));
-        for (arg, word) in args.iter().zip(given.iter().skip(1)) {
-            assert_eq!(rt; arg.as_bytes(), *word);
-        }
-    }
+    let args = arguments(&(Given(words), rt.alloc()))?;
+    assert!(rt;
+        matches!(args.as_slice(), [first, second] if first.as_str() == "gfm" && second.is_empty())
+    );
+    let none = arguments(&(Given(&[]), rt.alloc()))?;
+    assert!(rt; none.is_empty());
     Ok(())
 }
 
@@ -48,5 +46,5 @@ fn leaves_out_the_name(rt: HostRuntime) -> Result<(), Fail> {
 fn arguments_that_are_no_text_are_unknown(rt: HostRuntime) {
     let given: &[&[u8]] = &[b"blocks", b"\xff"];
     let read = arguments(&(Given(given), rt.alloc()));
-    assert_eq!(rt; read.err(), Some(Failure::UnknownArgument));
+    assert!(rt; read.err() == Some(Failure::UnknownArgument));
 }
