@@ -1,4 +1,4 @@
-use Rattle.std.proofs.Common.{ap}
+use Rattle.std.proofs.Common.{ap, rules}
 use Rattle.md_engine.specs.World.{World}
 use Rattle.md_content.proofs.content.resolve.Goals as goal
 
@@ -12,3 +12,6 @@ set_events-requires-clause-placed c =
       ap (λ (w : World). w.setting.bytes) c.take_spare-spare.ensures.same,
       ap (λ (w : World). w.setting.bytes) c.take_events-events.ensures.rest,
     ) c.in_ok-read.ensures.placed
+
+pub returns : goal.returns
+returns c = search rules
