@@ -1,4 +1,4 @@
-use Rattle.std.proofs.Common.{◌≡◌, ◌∙◌, IfOk, ap, arith, drop, subst, sym, take}
+use Rattle.std.proofs.Common.{◌≡◌, ◌∙◌, IfOk, ap, arith, subst, sym, take}
 use Rattle.std.proofs.lemmas.List.{length-set}
 use Rattle.md_definition.specs.State.{Path, At}
 use Rattle.plain_grammars.specs.Rests.{rest_meaning}
