@@ -1,7 +1,6 @@
 use Rattle.std.proofs.Common.{◌≡◌, true, cond, None, IfOk, sym, ◌∙◌, ap, subst}
 use Rattle.std.specs.Option.{option_map}
 use Rattle.md_definition.specs.Definition as definition
-use Rattle.md_definition.specs.Enclosed.{Lines}
 use Rattle.md_definition.specs.Rest.{is_parted}
 use Rattle.plain_grammars.specs.Definitions as m
 use Rattle.plain_grammars.proofs.definition.title_after.Goals as goal
