@@ -41,18 +41,12 @@ tree-found options text rests found h =
     (h.front
     ∙ ap (p.front_of options) (lines_in-rests (p.first_column text) (lines_of (p.without_mark text)) rests h.lines)))
 
-pub tree-some : (options : ParseOptions) (text : List ℕ) (rests : List Rest) (found : Option Front) (f : Front)
-    (inner bs : t.Blocks) →
+pub tree-some : (options : ParseOptions) (text : List ℕ) (rests : List Rest) (found : Option Front) (f : Front) →
     Reads options text rests found → found ≡ Some f → IsEnd (drop 1 rests) f.after.now →
-    inner ≡ body options (rest_meanings f.after.now) → bs ≡ grouped inner →
-    t.More (meaning f.block) bs ≡ tree options text
-tree-some options text rests found f inner bs h is end read joined =
-    ap (t.More (meaning f.block))
-    (joined
-    ∙ ap grouped
-    (read
-    ∙ ap (body options)
-    (rests_behind (p.first_column text) (lines_of (p.without_mark text)) rests f.after.now h.lines end)))
+    t.More (meaning f.block) (grouped (body options (rest_meanings f.after.now))) ≡ tree options text
+tree-some options text rests found f h is end =
+    ap (λ xs. t.More (meaning f.block) (grouped (body options xs)))
+    (rests_behind (p.first_column text) (lines_of (p.without_mark text)) rests f.after.now h.lines end)
     ∙ sym
     (tree-found options text rests found h
     ∙ ap
@@ -60,12 +54,10 @@ tree-some options text rests found f inner bs h is end read joined =
     tree_by options
     (p.preamble_by (p.first_column text) (lines_of (p.without_mark text)) (option_map front_meaning o))) is)
 
-pub tree-none : (options : ParseOptions) (text : List ℕ) (rests : List Rest) (found : Option Front)
-    (inner bs : t.Blocks) →
-    Reads options text rests found → found ≡ None →
-    inner ≡ body options (rest_meanings rests) → bs ≡ grouped inner → bs ≡ tree options text
-tree-none options text rests found inner bs h is read joined =
-    joined ∙ ap grouped (read ∙ ap (body options) h.lines)
+pub tree-none : (options : ParseOptions) (text : List ℕ) (rests : List Rest) (found : Option Front) →
+    Reads options text rests found → found ≡ None → grouped (body options (rest_meanings rests)) ≡ tree options text
+tree-none options text rests found h is =
+    ap (λ xs. grouped (body options xs)) h.lines
     ∙ sym
     (tree-found options text rests found h
     ∙ ap

@@ -16,13 +16,6 @@ use Rattle.plain_grammars.proofs.MeaningLemmas.{meaning-Break, meaning-Code, mea
 use Rattle.plain_grammars.proofs.MeaningLemmas.{meaning-Definition, meaning-Paragraph, meaning-Table}
 use Rattle.md_plain.specs.Groups.{then_blocks, with_items}
 
-pub eqb-other : (m n : ℕ) → m ≢ n → (n == m) ≡ false
-eqb-other m n h = by (n == m) refl
-  where
-    by : (v : Bool) → (n == m) ≡ v → v ≡ false
-    by true e = absurd (h (sym (eqb-true n m e)))
-    by false e = refl
-
 eqb-same : (n : ℕ) → (n == n) ≡ true
 eqb-same n = grind (arith, nat_tests)
 

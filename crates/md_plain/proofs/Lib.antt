@@ -5,3 +5,4 @@ pub mod GroupLemmas
 pub mod StepLemmas
 pub mod BodyLemmas
 pub mod OutlineLemmas
+pub mod LineLemmas

@@ -1,13 +1,17 @@
 -- Definitions and lines that are added one by one.
-use Rattle.std.proofs.Common.{◌≡◌, ◌-◌, ◌+◌, cond, Bool, List, [], ◌∷◌, ◌++◌, map, take, length, reverse, refl, sym}
-use Rattle.std.proofs.Common.{◌∙◌, ap}
+use Rattle.std.proofs.Common.{◌≡◌, ℕ, ◌-◌, ◌+◌, ◌<◌, cond, Bool, Bor, List, [], ◌∷◌, ◌++◌, map, take, length, reverse, refl, sym}
+use Rattle.std.proofs.Common.{◌∙◌, ap, get_or}
 use Rattle.std.specs.List.{prefix_len, suffix_len}
-use Rattle.std.proofs.lemmas.List.{take-map, length-map, map-append, reverse-append}
+use Rattle.std.proofs.lemmas.List.{take-map, length-map, map-append, map_push, reverse-append, take_more}
 use Rattle.md_definition.specs.Definition as d
 use Rattle.md_definition.specs.Tree as t
-use Rattle.md_definition.specs.State.{then_block, then_definitions}
+use Rattle.md_definition.specs.State as s
+use Rattle.md_definition.specs.State.{texts, then_block, then_definitions}
 use Rattle.plain_grammars.specs.declared.definition.Defined.{Defined}
 use Rattle.plain_grammars.specs.Definitions.{defined_meaning}
+use Rattle.plain_grammars.specs.Trees.{slices}
+use Rattle.md_plain.specs.declared.state.Kept.{Kept}
+use Rattle.md_plain.specs.States.{kept_meaning, kept_meanings}
 use Rattle.md_plain.specs.Paragraphs.{definitions_of}
 
 pub then_definitions_push : (bs : t.Blocks) (ds : List d.Defined) (x : d.Defined) →
@@ -58,3 +62,16 @@ definitions-next bs now next ds x before added =
     ∙ sym
     (ap (then_definitions bs) (map-append defined_meaning ds (x ∷ []))
     ∙ then_definitions_push bs (definitions_of ds) (defined_meaning x))
+
+-- the text of one line more
+pub texts-next : (now next : List (Bor (List ℕ))) (lines : List Kept) (d : Kept) (i : ℕ) → i < length lines →
+    next ≡ now ++ (get_or lines i d).text ∷ [] →
+    slices now ≡ texts (kept_meanings (take i lines)) → slices next ≡ texts (kept_meanings (take (i + 1) lines))
+texts-next now next lines d i below added before =
+    ap (λ xs. slices xs) added
+    ∙ map_push (λ (b : Bor (List ℕ)). b.now) now (get_or lines i d).text
+    ∙ ap (λ ts. ts ++ (get_or lines i d).text.now ∷ []) before
+    ∙ sym
+    (ap (λ ks. texts (kept_meanings ks)) (take_more lines i d below)
+    ∙ ap texts (map_push kept_meaning (take i lines) (get_or lines i d))
+    ∙ map_push (λ (k : s.Kept). k.text) (kept_meanings (take i lines)) (kept_meaning (get_or lines i d)))

@@ -67,6 +67,13 @@ opened-none options (suc n) x e =
       | None ↦ s.At (fresh_line options End x)
     ]) e
 
+-- no more containers open than there are bytes
+pub opened-end : (options : ParseOptions) (n i : ℕ) (x : r.Rest) → n ≤ i →
+    opened options (n - i) x ≡ s.At (fresh_line options End x)
+opened-end options n i x all =
+    let none : n - i ≡ 0 = omega (arith, all) in
+    ap (λ k. opened options k x) none
+
 pushed : {A : Type 0} (old new : List A) (o : Option A) (x : A) → o ≡ Some x → old ≡ new ++ option_to_list o →
     old ≡ new ++ x ∷ []
 pushed old new o x e h = h ∙ ap (λ p. new ++ option_to_list p) e

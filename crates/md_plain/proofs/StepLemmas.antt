@@ -1,16 +1,17 @@
 -- The containers of a line, one after another.
-use Rattle.std.proofs.Common.{◌≡◌, ℕ, ◌+◌, ◌-◌, ◌<◌, Bool, true, false, cond, ◌||◌, List, [], ◌∷◌, ◌++◌, length, take}
+use Rattle.std.proofs.Common.{◌≡◌, ℕ, ◌+◌, ◌-◌, ◌<◌, ◌≤◌, Bool, true, false, cond, ◌||◌, List, [], ◌∷◌, ◌++◌, length, take}
 use Rattle.std.proofs.Common.{drop, set, get_or, is_some, Option, Some, None, refl, sym, ◌∙◌, ap, arith}
 use Rattle.std.proofs.lemmas.Bool.{true≢false, false≢true}
 use Rattle.std.proofs.lemmas.List.{take-append-drop, take_more, take_more_set, drop_more, drop-set-lt, get_or_read}
-use Rattle.std.proofs.lemmas.List.{length-drop, map-append}
+use Rattle.std.proofs.lemmas.List.{length-drop, map-append, take_all, drop_all}
 use Rattle.md_engine.specs.declared.configuration.ParseOptions.{ParseOptions}
 use Rattle.md_definition.specs.Tree.{Blocks}
 use Rattle.md_definition.specs.Rest as r
 use Rattle.md_definition.specs.State as s
 use Rattle.md_definition.specs.Containers.{Taken, opens, continues}
 use Rattle.md_definition.specs.Leaves.{LazyText, starts}
-use Rattle.md_definition.specs.Step.{fresh_line, entered, with_lazy, lazy_by, stopped_by, stopped, step, steps}
+use Rattle.md_definition.specs.Step.{all_continued, fresh_line, entered, with_lazy, lazy_by, stopped_by, stopped, step}
+use Rattle.md_definition.specs.Step.{steps}
 use Rattle.plain_grammars.specs.Trees.{meanings}
 use Rattle.plain_grammars.specs.declared.rest.Rest.{Rest}
 use Rattle.plain_grammars.specs.Rests.{rest_meaning, rest_meanings}
@@ -106,34 +107,28 @@ some-left : (n : ℕ) (fs : List Frame) → n < length fs → 0 < length (drop n
 some-left n fs below = let left : length (drop n fs) ≡ length fs - n = length-drop n fs in omega (arith, left, below)
 
 -- the containers behind so many others are closed, and the line opens one there
-pub stops-opened : (options : ParseOptions) (n : ℕ) (fs outer : List Frame) (y : s.Spot) (here : Blocks) (x : r.Rest)
-    (t : Taken) →
+pub stops-opened : (options : ParseOptions) (n : ℕ) (fs : List Frame) (y : s.Spot) (x : r.Rest) (t : Taken) →
     n < length fs → opens options false x ≡ Some t →
-    outer ≡ take n fs → here ≡ s.closed options (within (drop n fs) (s.At y)) →
-    within outer (entered options here t) ≡ within (take n fs) (stopped_in options (drop n fs) (s.At y) x)
-stops-opened options n fs outer y here x t below e left shut =
-    ap (λ gs. within gs (entered options here t)) left
-    ∙ ap (λ bs. within (take n fs) (entered options bs t)) shut
-    ∙ sym (ap (within (take n fs)) (stopped-opened options (drop n fs) (s.At y) x t (some-left n fs below) e))
+    within (take n fs) (entered options (s.closed options (within (drop n fs) (s.At y))) t) ≡
+    within (take n fs) (stopped_in options (drop n fs) (s.At y) x)
+stops-opened options n fs y x t below e =
+    sym (ap (within (take n fs)) (stopped-opened options (drop n fs) (s.At y) x t (some-left n fs below) e))
 
 -- all containers stay open, and the paragraph takes the line
-pub stops-lazy : (options : ParseOptions) (n : ℕ) (fs : List Frame) (y z : s.Spot) (x : r.Rest) → n < length fs →
-    opens options false x ≡ None → true ≡ is_some (with_lazy options y.leaf x) → z ≡ more_text y x →
-    within fs (s.At z) ≡ within (take n fs) (stopped_in options (drop n fs) (s.At y) x)
-stops-lazy options n fs y z x below e takes more =
-    ap (λ w. within fs (s.At w)) more
-    ∙ within-split n fs (s.At (more_text y x))
+pub stops-lazy : (options : ParseOptions) (n : ℕ) (fs : List Frame) (y : s.Spot) (x : r.Rest) → n < length fs →
+    opens options false x ≡ None → true ≡ is_some (with_lazy options y.leaf x) →
+    within fs (s.At (more_text y x)) ≡ within (take n fs) (stopped_in options (drop n fs) (s.At y) x)
+stops-lazy options n fs y x below e takes =
+    within-split n fs (s.At (more_text y x))
     ∙ sym (ap (within (take n fs)) (stopped-lazy options (drop n fs) y x (some-left n fs below) e takes))
 
 -- the containers behind so many others are closed, and the line is read there
-pub stops-fresh : (options : ParseOptions) (n : ℕ) (fs outer : List Frame) (y z : s.Spot) (here : Blocks) (x : r.Rest) →
+pub stops-fresh : (options : ParseOptions) (n : ℕ) (fs : List Frame) (y : s.Spot) (x : r.Rest) →
     n < length fs → opens options false x ≡ None → false ≡ is_some (with_lazy options y.leaf x) →
-    outer ≡ take n fs → here ≡ s.closed options (within (drop n fs) (s.At y)) → z ≡ fresh_line options here x →
-    within outer (s.At z) ≡ within (take n fs) (stopped_in options (drop n fs) (s.At y) x)
-stops-fresh options n fs outer y z here x below e takes left shut fresh =
-    ap (λ gs. within gs (s.At z)) left
-    ∙ ap (λ w. within (take n fs) (s.At w)) (fresh ∙ ap (λ bs. fresh_line options bs x) shut)
-    ∙ sym (ap (within (take n fs)) (stopped-fresh options (drop n fs) y x (some-left n fs below) e takes))
+    within (take n fs) (s.At (fresh_line options (s.closed options (within (drop n fs) (s.At y))) x)) ≡
+    within (take n fs) (stopped_in options (drop n fs) (s.At y) x)
+stops-fresh options n fs y x below e takes =
+    sym (ap (within (take n fs)) (stopped-fresh options (drop n fs) y x (some-left n fs below) e takes))
 
 abbrev by_continued : ParseOptions → Blocks → s.Container → s.Path → r.Rest → Option Taken → s.Path
 by_continued options before container p x o = elim o as
@@ -169,6 +164,23 @@ continued-next options fs f g c p x y i below reads_f reads_g took =
     ∙ sym (ap (λ gs. within gs (step options (within (drop (i + 1) (set fs i h)) p) y)) (take_more_set fs i h below)
     ∙ within-append (take i fs) (h ∷ []) (step options (within (drop (i + 1) (set fs i h)) p) y)
     ∙ ap (λ gs. within (take i fs) (inside h (step options (within gs p) y))) (drop-set-lt (i + 1) fs i h (omega arith)))
+
+-- the line is read where this container does not continue
+pub continued-not : (options : ParseOptions) (fs : List Frame) (f : Frame) (p : s.Path) (x : r.Rest) (i : ℕ) →
+    i < length fs → f ≡ get_or fs i f → continues options (container_meaning f.container) x ≡ None →
+    step options (within (drop i fs) p) x ≡ stopped_in options (drop i fs) p x
+continued-not options fs f p x i below reads ends =
+    let inner : s.Path = within (drop (i + 1) fs) p in
+    ap (λ gs. step options (within gs p) x) (here-at fs f i below reads)
+    ∙ ap (by_continued options (meanings f.before.items) (container_meaning f.container) inner x) ends
+    ∙ sym (ap (λ gs. stopped_in options gs p x) (here-at fs f i below reads))
+
+-- all containers have continued
+pub continued-all : (options : ParseOptions) (fs : List Frame) (y : s.Spot) (x : r.Rest) (i : ℕ) → length fs ≤ i →
+    within (take i fs) (step options (within (drop i fs) (s.At y)) x) ≡ within fs (all_continued options y x)
+continued-all options fs y x i all =
+    ap (λ gs. within gs (step options (within (drop i fs) (s.At y)) x)) (take_all i fs all)
+    ∙ ap (λ gs. within fs (step options (within gs (s.At y)) x)) (drop_all i fs all)
 
 steps-push : (options : ParseOptions) (p : s.Path) (xs : List r.Rest) (x : r.Rest) →
     steps options p (xs ++ x ∷ []) ≡ step options (steps options p xs) x

@@ -1,12 +1,17 @@
 -- What a line comes to where a container does not continue.
 use Rattle.std.specs.Prelude.{List, [], ◌∷◌, ◌++◌}
 use Rattle.md_engine.specs.declared.configuration.ParseOptions.{ParseOptions}
+use Rattle.md_definition.specs.Tree.{Blocks}
 use Rattle.md_definition.specs.Rest.{Rest}
 use Rattle.md_definition.specs.State.{Leaf, OpenParagraph, Spot, Path, kept}
 use Rattle.md_definition.specs.Step.{stopped}
 use Rattle.plain_grammars.specs.Trees.{meanings}
 use Rattle.md_plain.specs.declared.state.Frame.{Frame}
 use Rattle.md_plain.specs.States.{container_meaning, within}
+
+-- these blocks, and behind them this leaf
+abbrev pub spot_at : Blocks → Leaf → Spot
+spot_at bs x = record { here = bs; leaf = x }
 
 -- a paragraph with this line behind its own; no other leaf takes it
 abbrev pub with_more : Leaf → Rest → Leaf

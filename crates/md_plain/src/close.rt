@@ -8,7 +8,7 @@ ghost use Rattle.plain_grammars.specs.Trees.{meaning, meanings, line_meanings};
 ghost use Rattle.md_plain.specs.States.{container_meaning, spot_meaning, path_meaning, within};
 
 use crate::leaves::fence_block;
-use crate::paragraph::shut_paragraph;
+use crate::paragraph::with_paragraph;
 use crate::state::{Container, Frame, Leaf, Path, Spot};
 use md_engine::configuration::ParseOptions;
 use md_engine::message::Message;
@@ -50,10 +50,7 @@ pub fn shut<'a>(
     let Spot { mut here, leaf } = spot;
     let block = match leaf {
         Leaf::None => return Ok(here),
-        Leaf::Paragraph(lines) => {
-            shut_paragraph(alloc, options, &mut here, &lines)?;
-            return Ok(here);
-        }
+        Leaf::Paragraph(lines) => return with_paragraph(alloc, options, here, lines),
         Leaf::Code(lines) => Block::Code(without_trailing_blank(lines)),
         Leaf::Fence(opening, lines) => fence_block(&opening, lines, false),
         Leaf::Html(_, lines) => Block::Html(lines),

@@ -1,8 +1,9 @@
 // Containers: block quotes, list items and footnote definitions.
 
-ghost use Rattle.std.specs.Prelude.{◌≡◌, ◌+◌, ◌≤◌, false, length, IfSome};
+ghost use Rattle.std.specs.Prelude.{◌≡◌, ◌+◌, ◌≤◌, ◌&&◌, false, length, nat_le, IfSome};
 ghost use Rattle.std.specs.List.{prefix_len};
 ghost use Rattle.md_definition.specs.Containers as containers;
+ghost use Rattle.md_definition.specs.Lines as lines;
 ghost use Rattle.plain_grammars.specs.Rests.{rest_meaning};
 ghost use Rattle.md_plain.specs.States.{container_meaning, taken_option};
 ghost use Rattle.md_plain.specs.Markers.{marker_meaning, marker_option, label_split};
@@ -20,7 +21,7 @@ fn quote_taken<'a>(options: &ParseOptions, rest: &Rest<'a>) -> Option<Taken<'a>>
     ensures { taken_option result ≡ containers.quote_taken options.now (rest_meaning rest.now) }
 {
     let marker = rest.behind_indent();
-    if !rest.has_small_indent(options) || marker.bytes.first() != Some(&b'>') {
+    if !rest.has_small_indent(options) || !begins_with(b'>', marker.bytes) {
         return None;
     }
     Some(Taken {
@@ -248,6 +249,13 @@ fn label_len(bytes: &[u8]) -> Option<usize>
     None
 }
 
+/// Whether this is a label, with a colon behind its bracket.
+fn is_label(label: &[u8], after: &[u8]) -> bool
+    ensures { result ≡ nat_le 1 (length label.now) && nat_le (length label.now) 999 && lines.begins_with 58 after.now }
+{
+    1 <= label.len() && label.len() <= 999 && begins_with(b':', after)
+}
+
 /// A small indent, `[^`, a label of 1 to 999 bytes, `]:`, and all whitespace behind it (own choice, as on GitHub).
 #[tactic(auto, unfolding(md_definition::specs::Containers::opens_footnote))]
 fn opens_footnote<'a>(options: &ParseOptions, rest: &Rest<'a>) -> Option<Taken<'a>>
@@ -264,7 +272,7 @@ fn opens_footnote<'a>(options: &ParseOptions, rest: &Rest<'a>) -> Option<Taken<'
     let len = label_len(bytes)?;
     let label = bytes.split_at(len).0;
     let after = bytes.split_at(len + 1).1;
-    if len < 1 || len > 999 || !begins_with(b':', after) {
+    if !is_label(label, after) {
         return None;
     }
     Some(Taken {

@@ -1,6 +1,6 @@
 // Lists: neighbouring items with the same marker byte (CommonMark 5.3).
 
-ghost use Rattle.std.specs.Prelude.{◌≡◌, ◌++◌, IfOk, OnOk};
+ghost use Rattle.std.specs.Prelude.{◌≡◌, ◌==◌, ◌++◌, IfOk, OnOk};
 ghost use Rattle.md_definition.specs.Tree as tree;
 ghost use Rattle.md_definition.specs.Grouped as grouped;
 ghost use Rattle.plain_grammars.specs.Trees.{meaning, meanings};
@@ -45,6 +45,13 @@ fn flushed<'a>(groups: Groups<'a>) -> Result<Vec<Block<'a>>, Message>
     Ok(done)
 }
 
+/// Whether an item or a list with this marker joins the items.
+fn joins(groups: &Groups, marker: u8) -> bool
+    ensures { result ≡ (groups.now.marker == marker) }
+{
+    groups.marker == marker
+}
+
 /// With one more item.
 fn with_item<'a>(
     alloc: Global,
@@ -54,7 +61,7 @@ fn with_item<'a>(
 ) -> Result<Groups<'a>, Message>
     ensures { IfOk result (AddsItem groups.entry marker (meaning item.entry)) }
 {
-    if marker == groups.marker {
+    if joins(&groups, marker) {
         let Groups {
             done,
             marker,
@@ -87,7 +94,7 @@ fn with_list<'a>(
     ensures { IfOk result (Adds groups.entry (tree.ListOf marker (meanings list.entry.items))) }
 {
     let mut list = list;
-    if marker == groups.marker {
+    if joins(&groups, marker) {
         let Groups {
             mut done,
             marker,

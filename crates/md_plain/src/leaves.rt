@@ -1,13 +1,14 @@
 // Leaf blocks: where they start, and how they go on.
 
-ghost use Rattle.std.specs.Prelude.{◌≡◌, ◌≤◌, ◌==◌, ◌||◌, not, length, reverse, count_by, if◌then◌else◌, IsFalse, IfOk};
+ghost use Rattle.std.specs.Prelude.{◌≡◌, ◌≤◌, ◌==◌, ◌||◌, not, length, map, reverse, count_by, if◌then◌else◌, IsFalse, IfOk};
+ghost use Rattle.std.specs.Prelude.{◌&&◌, is_some, nat_le};
 ghost use Rattle.std.specs.List.{list_all, prefix_len, suffix_len};
-ghost use Rattle.std.specs.Option.{option_copied};
+ghost use Rattle.std.specs.Option.{option_copied, option_or};
 ghost use Rattle.md_definition.specs.Leaves as leaves;
-ghost use Rattle.md_definition.specs.Rest.{is_white, is_parted};
-ghost use Rattle.md_definition.specs.State.{fence_block, OpenCode};
+ghost use Rattle.md_definition.specs.Rest.{is_blank, is_white, is_parted};
+ghost use Rattle.md_definition.specs.State.{fence_block, OpenCode, OpenHtml, OpenTable};
 ghost use Rattle.plain_grammars.specs.Rests.{rest_meaning};
-ghost use Rattle.plain_grammars.specs.Trees.{meaning, line_meanings};
+ghost use Rattle.plain_grammars.specs.Trees.{meaning, line_meanings, slices};
 ghost use Rattle.plain_grammars.specs.Kinds.{kind_meaning};
 ghost use Rattle.md_plain.specs.States.{opening_meaning, came_meaning, came_option, against_meaning, leaf_meaning};
 ghost use Rattle.md_plain.specs.States.{went_option, HandsBack};
@@ -95,6 +96,24 @@ fn heading_text(after: &[u8]) -> &[u8]
     }
 }
 
+/// The lines of a heading: its text, if there is one.
+fn heading_lines<'a>(alloc: Global, text: &'a [u8]) -> Result<Vec<&'a [u8]>, Message>
+    ensures { IfOk result (λ v. slices v.items ≡ leaves.heading_lines text.now) }
+{
+    let mut lines = Vec::new(alloc);
+    if !text.is_empty() {
+        memory::push(&mut lines, text)?;
+    }
+    Ok(lines)
+}
+
+/// Whether so many `#` may open a heading.
+fn is_depth(count: usize) -> bool
+    ensures { result ≡ nat_le 1 count && nat_le count 6 }
+{
+    1 <= count && count <= 6
+}
+
 /// An ATX heading: a small indent, 1 to 6 `#`, and then whitespace or the end of the line (CommonMark 4.2).
 #[tactic(auto, unfolding(md_definition::specs::Leaves::heading_at))]
 fn heading_at<'a>(
@@ -109,17 +128,12 @@ fn heading_at<'a>(
     let after = text.split_at(depth).1;
     if !options.constructs.heading_atx
         || !rest.has_small_indent(options)
-        || depth < 1
-        || depth > 6
+        || !is_depth(depth)
         || !is_parted(after)
     {
         return Ok(None);
     }
-    let mut lines = Vec::new(alloc);
-    let text = heading_text(after);
-    if !text.is_empty() {
-        memory::push(&mut lines, text)?;
-    }
+    let lines = heading_lines(alloc, heading_text(after))?;
     Ok(Some(Came::Finished(Block::Heading(depth as u8, lines))))
 }
 
@@ -313,6 +327,29 @@ fn html_at<'a>(
     Ok(Some(html_line(kind, Vec::new(alloc), rest)?))
 }
 
+/// The first of HTML, a heading and a break that starts at this rest.
+fn marked_starts<'a>(
+    alloc: Global,
+    options: &ParseOptions,
+    against: ParagraphContext,
+    rest: &Rest<'a>,
+) -> Result<Option<Came<'a>>, Message>
+    ensures { IfOk result
+        (λ o.
+        came_option o ≡
+        option_or (leaves.html_at options.now (against_meaning against) (rest_meaning rest.now))
+        (option_or (leaves.heading_at options.now (rest_meaning rest.now))
+        (leaves.break_at options.now (rest_meaning rest.now)))) }
+{
+    if let Some(came) = html_at(alloc, options, against, rest)? {
+        return Ok(Some(came));
+    }
+    if let Some(came) = heading_at(alloc, options, rest)? {
+        return Ok(Some(came));
+    }
+    Ok(break_at(options, rest))
+}
+
 /// The first leaf, other than a paragraph, that starts at this rest.
 #[tactic(auto, unfolding(md_definition::specs::Leaves::starts))]
 pub fn starts<'a>(
@@ -330,13 +367,7 @@ pub fn starts<'a>(
     if let Some(came) = fence_at(alloc, options, rest) {
         return Ok(Some(came));
     }
-    if let Some(came) = html_at(alloc, options, against, rest)? {
-        return Ok(Some(came));
-    }
-    if let Some(came) = heading_at(alloc, options, rest)? {
-        return Ok(Some(came));
-    }
-    Ok(break_at(options, rest))
+    marked_starts(alloc, options, against, rest)
 }
 
 /// What an open leaf that is no paragraph comes to with this line: it has come to something, or ends before the line.
@@ -346,8 +377,66 @@ pub enum Transition<'a> {
     Ends(Leaf<'a>),
 }
 
+/// Whether there is one, which is let go.
+pub fn is_found<T: Drop>(found: Option<T>) -> bool
+    ensures { result ≡ is_some found }
+{
+    found.is_some()
+}
+
+/// A line of HTML, which ends before a blank one if it is of one of the last two kinds.
+#[tactic(auto, unfolding(md_definition::specs::Leaves::html_goes_on))]
+fn html_goes_on<'a>(
+    kind: HtmlKind,
+    lines: Vec<Line<'a>>,
+    rest: &Rest<'a>,
+) -> Result<Transition<'a>, Message>
+    ensures value { IfOk result
+        (λ w.
+        went_option w ≡
+        leaves.html_goes_on (kind_meaning kind) (line_meanings lines.entry.items) (rest_meaning rest.now)) }
+    ensures ends { IfOk result (λ w. HandsBack w (OpenHtml (kind_meaning kind) (line_meanings lines.entry.items))) }
+{
+    if (kind == HtmlKind::Basic || kind == HtmlKind::Complete) && is_blank(rest.bytes) {
+        Ok(Transition::Ends(Leaf::Html(kind, lines)))
+    } else {
+        Ok(Transition::On(html_line(kind, lines, rest)?))
+    }
+}
+
+/// Whether a table ends before this line: it is blank, or another leaf starts there.
+fn ends_table(alloc: Global, options: &ParseOptions, rest: &Rest) -> Result<bool, Message>
+    ensures { IfOk result
+        (λ b.
+        b ≡ (is_blank rest.now.bytes.now || is_some (leaves.starts options.now leaves.NoText (rest_meaning rest.now)))) }
+{
+    Ok(is_blank(rest.bytes) || is_found(starts(alloc, options, ParagraphContext::NoText, rest)?))
+}
+
+/// A row of a table, or the line before which it ends.
+#[tactic(auto, unfolding(md_definition::specs::Leaves::table_goes_on))]
+fn table_goes_on<'a>(
+    alloc: Global,
+    options: &ParseOptions,
+    delimiter: &'a [u8],
+    rows: Vec<Vec<&'a [u8]>>,
+    rest: &Rest<'a>,
+) -> Result<Transition<'a>, Message>
+    ensures value { IfOk result
+        (λ w.
+        went_option w ≡
+        leaves.table_goes_on options.now delimiter.now (map (λ row. slices row.items) rows.entry.items) (rest_meaning rest.now)) }
+    ensures ends { IfOk result (λ w. HandsBack w (OpenTable delimiter.now (map (λ row. slices row.items) rows.entry.items))) }
+{
+    if ends_table(alloc, options, rest)? {
+        return Ok(Transition::Ends(Leaf::Table(delimiter, rows)));
+    }
+    let mut rows = rows;
+    memory::push(&mut rows, row_cells(alloc, rest.bytes)?)?;
+    Ok(Transition::On(Came::Opened(Leaf::Table(delimiter, rows))))
+}
+
 /// How an open leaf goes on.
-#[tactic(auto, unfolding(md_definition::specs::Leaves::html_goes_on, md_definition::specs::Leaves::table_goes_on))]
 pub fn goes_on<'a>(
     alloc: Global,
     options: &ParseOptions,
@@ -369,23 +458,8 @@ pub fn goes_on<'a>(
         Leaf::Fence(opening, lines) => Ok(Transition::On(fence_goes_on(
             options, &opening, lines, rest,
         )?)),
-        Leaf::Html(kind, lines) => {
-            if (kind == HtmlKind::Basic || kind == HtmlKind::Complete) && is_blank(rest.bytes) {
-                Ok(Transition::Ends(Leaf::Html(kind, lines)))
-            } else {
-                Ok(Transition::On(html_line(kind, lines, rest)?))
-            }
-        }
-        Leaf::Table(delimiter, mut rows) => {
-            if is_blank(rest.bytes)
-                || starts(alloc, options, ParagraphContext::NoText, rest)?.is_some()
-            {
-                Ok(Transition::Ends(Leaf::Table(delimiter, rows)))
-            } else {
-                memory::push(&mut rows, row_cells(alloc, rest.bytes)?)?;
-                Ok(Transition::On(Came::Opened(Leaf::Table(delimiter, rows))))
-            }
-        }
+        Leaf::Html(kind, lines) => html_goes_on(kind, lines, rest),
+        Leaf::Table(delimiter, rows) => table_goes_on(alloc, options, delimiter, rows, rest),
         other => Ok(Transition::Ends(other)),
     }
 }

@@ -1,14 +1,15 @@
 // What a text means: its block tree.
 
 ghost use Rattle.std.specs.Prelude.{◌≡◌, ◌^◌, ◌<◌, length, IfOk};
+ghost use Rattle.md_definition.specs.Grouped as lists;
 ghost use Rattle.md_definition.specs.Lines.{lines_of};
-ghost use Rattle.md_definition.specs.Meaning as meaning;
+ghost use Rattle.md_definition.specs.Meaning as spec;
 ghost use Rattle.md_definition.specs.Preamble.{without_mark, first_column, rests_at};
 ghost use Rattle.md_definition.specs.State as state;
 ghost use Rattle.md_definition.specs.Step as definition;
-ghost use Rattle.md_definition.specs.Tree.{End};
+ghost use Rattle.md_definition.specs.Tree.{End, More};
 ghost use Rattle.plain_grammars.specs.Rests.{rest_meanings};
-ghost use Rattle.plain_grammars.specs.Trees.{meanings};
+ghost use Rattle.plain_grammars.specs.Trees.{meaning, meanings};
 ghost use Rattle.plain_grammars.specs.WholeTrees.{tree_meaning};
 
 use crate::close::closed;
@@ -61,26 +62,72 @@ fn blocks_of<'a>(
     closed(alloc, options, path)
 }
 
+/// The blocks of a body, with lists.
+fn body<'a>(
+    alloc: Global,
+    options: &ParseOptions,
+    rests: &[Rest<'a>],
+) -> Result<Vec<Block<'a>>, Message>
+    ensures { IfOk result
+        (λ bs.
+        meanings bs.items ≡
+        lists.grouped
+        (state.closed options.now
+        (definition.steps options.now (state.At (definition.spot_of End)) (rest_meanings rests.now)))) }
+{
+    grouped(alloc, blocks_of(alloc, options, rests)?)
+}
+
+/// A tree with frontmatter, and the lines behind it.
+fn tree_behind<'a>(
+    alloc: Global,
+    options: &ParseOptions,
+    front: Front<'a, '_>,
+) -> Result<Tree<'a>, Message>
+    ensures { IfOk result
+        (λ t.
+        tree_meaning t ≡
+        More (meaning front.entry.block)
+        (lists.grouped
+        (state.closed options.now
+        (definition.steps options.now (state.At (definition.spot_of End)) (rest_meanings front.entry.after.now))))) }
+{
+    let Front { block, after } = front;
+    let blocks = body(alloc, options, after)?;
+    Ok(Tree {
+        frontmatter: Some(block),
+        blocks,
+    })
+}
+
+/// A tree without frontmatter.
+fn tree_without<'a>(
+    alloc: Global,
+    options: &ParseOptions,
+    rests: &[Rest<'a>],
+) -> Result<Tree<'a>, Message>
+    ensures { IfOk result
+        (λ t.
+        tree_meaning t ≡
+        lists.grouped
+        (state.closed options.now
+        (definition.steps options.now (state.At (definition.spot_of End)) (rest_meanings rests.now)))) }
+{
+    let blocks = body(alloc, options, rests)?;
+    Ok(Tree {
+        frontmatter: None,
+        blocks,
+    })
+}
+
 /// The block tree of a text of fewer than 2^61 bytes.
 pub fn tree<'a>(alloc: Global, text: &'a str, options: &ParseOptions) -> Result<Tree<'a>, Message>
     requires { length text.now < 2 ^ 61 }
-    ensures { IfOk result (λ t. tree_meaning t ≡ meaning.tree options.now text.now) }
+    ensures { IfOk result (λ t. tree_meaning t ≡ spec.tree options.now text.now) }
 {
     let rests = rests_behind_mark(alloc, text.as_bytes())?;
     match front_of(alloc, options, &rests)? {
-        Some(Front { block, after }) => {
-            let blocks = grouped(alloc, blocks_of(alloc, options, after)?)?;
-            Ok(Tree {
-                frontmatter: Some(block),
-                blocks,
-            })
-        }
-        None => {
-            let blocks = grouped(alloc, blocks_of(alloc, options, &rests)?)?;
-            Ok(Tree {
-                frontmatter: None,
-                blocks,
-            })
-        }
+        Some(front) => tree_behind(alloc, options, front),
+        None => tree_without(alloc, options, &rests),
     }
 }

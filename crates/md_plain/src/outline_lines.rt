@@ -45,7 +45,10 @@ fn push_line<'a>(
 fn deeper(depth: usize) -> Result<usize, Message>
     ensures { IfOk result (λ n. n ≡ depth + 1) }
 {
-    depth.checked_add(1).ok_or(Message)
+    match depth.checked_add(1) {
+        Some(inner) => Ok(inner),
+        None => Err(Message),
+    }
 }
 
 /// Adds a word without text.
@@ -282,12 +285,7 @@ fn push_block<'a>(
         Block::Quote(blocks) => push_holder(outline, depth, Word::Quote, blocks),
         Block::ListOf(marker, items) => push_holder(outline, depth, Word::List(*marker), items),
         Block::Item(_, _, blocks) => push_holder(outline, depth, Word::Item, blocks),
-        Block::Footnote(label, blocks) => {
-            let inner = deeper(depth)?;
-            push_word(outline, depth, Word::Footnote)?;
-            push_line(outline, inner, Word::Label, 0, label)?;
-            push_blocks(outline, inner, blocks)
-        }
+        Block::Footnote(label, blocks) => push_footnote(outline, depth, label, blocks),
         Block::Heading(level, lines) => push_lined(outline, depth, Word::Heading(*level), lines),
         Block::Break => push_word(outline, depth, Word::Break),
         Block::Code(lines) => push_spaced(outline, depth, Word::Code, lines),
@@ -309,6 +307,25 @@ fn push_block<'a>(
         Block::Paragraph(lines) => push_lined(outline, depth, Word::Paragraph, lines),
         Block::Table(delimiter, rows) => push_table(outline, depth, delimiter, rows),
     }
+}
+
+/// Adds a footnote definition: its label, and its blocks.
+#[cycle(outlining)]
+fn push_footnote<'a>(
+    outline: &mut Vec<OutlineLine<'a>>,
+    depth: usize,
+    label: &'a [u8],
+    blocks: &[Block<'a>],
+) -> Result<(), Message>
+    ensures { OnOk result
+        (entries_of outline.new.items ≡
+        entries_of outline.old.items ++ spec.entry depth words.Footnote
+        ∷ spec.entry_with (depth + 1) words.Label label.now ∷ spec.outline (depth + 1) (meanings blocks.now)) }
+{
+    let inner = deeper(depth)?;
+    push_word(outline, depth, Word::Footnote)?;
+    push_line(outline, inner, Word::Label, 0, label)?;
+    push_blocks(outline, inner, blocks)
 }
 
 /// Adds a block that holds blocks.

@@ -74,7 +74,7 @@ fn push_definitions<'a>(
 
 /// Closes a paragraph: its definitions, and then what remains, if anything does.
 #[tactic(auto, unfolding(md_definition::specs::State::shut_paragraph))]
-pub fn shut_paragraph<'a>(
+fn shut_paragraph<'a>(
     alloc: Global,
     options: &ParseOptions,
     blocks: &mut Vec<Block<'a>>,
@@ -87,6 +87,23 @@ pub fn shut_paragraph<'a>(
     let cut = cut(alloc, options, lines)?;
     push_definitions(blocks, cut.definitions)?;
     push_paragraph(blocks, cut.remaining)
+}
+
+/// These blocks, and behind them the closed paragraph.
+pub fn with_paragraph<'a>(
+    alloc: Global,
+    options: &ParseOptions,
+    here: Vec<Block<'a>>,
+    lines: Vec<Kept<'a>>,
+) -> Result<Vec<Block<'a>>, Message>
+    ensures { IfOk result
+        (λ bs.
+        meanings bs.items ≡
+        state.shut_paragraph options.now (meanings here.entry.items) (state.texts (kept_meanings lines.entry.items))) }
+{
+    let mut here = here;
+    shut_paragraph(alloc, options, &mut here, &lines)?;
+    Ok(here)
 }
 
 /// A line of a paragraph, from the rest that it is.

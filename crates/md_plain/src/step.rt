@@ -3,19 +3,19 @@
 ghost use Rattle.std.specs.Prelude.{◌≡◌, ◌<◌, length, take, drop, is_some, IfOk};
 ghost use Rattle.md_definition.specs.Tree.{End};
 ghost use Rattle.md_definition.specs.State as state;
-ghost use Rattle.md_definition.specs.Leaves.{table_at};
+ghost use Rattle.md_definition.specs.Leaves.{Text, goes_on, starts, table_at};
 ghost use Rattle.md_definition.specs.Step as definition;
 ghost use Rattle.plain_grammars.specs.Rests.{rest_meaning};
 ghost use Rattle.plain_grammars.specs.Trees.{meanings};
 ghost use Rattle.md_plain.specs.States.{kept_meanings, leaf_meaning, spot_meaning, came_meaning, taken_meaning};
 ghost use Rattle.md_plain.specs.States.{path_meaning, within};
-ghost use Rattle.md_plain.specs.Stops.{more_text, stopped_in};
+ghost use Rattle.md_plain.specs.Stops.{more_text, spot_at, stopped_in};
 
 use crate::close::{close_to, shut};
 use crate::containers::{continues, opens};
-use crate::leaves::{Transition, goes_on, starts};
+use crate::leaves::{Transition, goes_on, is_found, starts};
 use crate::paragraph::{
-    head_cells, kept, shut_paragraph, underline_depth, underlined, with_line, with_table,
+    head_cells, kept, underline_depth, underlined, with_line, with_paragraph, with_table,
 };
 use crate::state::{Came, Frame, Kept, Leaf, ParagraphContext, Path, Spot, Taken};
 use md_engine::configuration::ParseOptions;
@@ -91,6 +91,29 @@ fn table_or_text<'a>(
     }
 }
 
+/// A rest that is no underline, where a paragraph is open: another leaf, a delimiter row or a line of the paragraph.
+fn text_or_leaf<'a>(
+    alloc: Global,
+    options: &ParseOptions,
+    here: Vec<Block<'a>>,
+    lines: Vec<Kept<'a>>,
+    rest: &Rest<'a>,
+) -> Result<Spot<'a>, Message>
+    ensures { IfOk result
+        (λ s.
+        spot_meaning s ≡
+        definition.text_by options.now (meanings here.entry.items) (kept_meanings lines.entry.items) (rest_meaning rest.now)
+        (starts options.now Text (rest_meaning rest.now))) }
+{
+    match starts(alloc, options, ParagraphContext::Text, rest)? {
+        Some(started) => {
+            let here = with_paragraph(alloc, options, here, lines)?;
+            came(here, started)
+        }
+        None => table_or_text(alloc, options, here, lines, rest),
+    }
+}
+
 /// A rest where a paragraph is open: a blank one closes it. Otherwise it is an underline, another leaf, a delimiter row
 /// or a line of the paragraph.
 #[tactic(auto, unfolding(md_definition::specs::Step::text_line))]
@@ -107,9 +130,8 @@ fn text_line<'a>(
         definition.text_line options.now (meanings here.entry.items) (kept_meanings lines.entry.items)
         (rest_meaning rest.now)) }
 {
-    let mut here = here;
     if is_blank(rest.bytes) {
-        shut_paragraph(alloc, options, &mut here, &lines)?;
+        let here = with_paragraph(alloc, options, here, lines)?;
         return Ok(Spot {
             here,
             leaf: Leaf::None,
@@ -118,11 +140,31 @@ fn text_line<'a>(
     if let Some(depth) = underline_depth(options, rest) {
         return underlined(alloc, options, here, lines, rest, depth);
     }
-    if let Some(started) = starts(alloc, options, ParagraphContext::Text, rest)? {
-        shut_paragraph(alloc, options, &mut here, &lines)?;
-        return came(here, started);
+    text_or_leaf(alloc, options, here, lines, rest)
+}
+
+/// A rest where a leaf is open that is no paragraph.
+fn held_line<'a>(
+    alloc: Global,
+    options: &ParseOptions,
+    here: Vec<Block<'a>>,
+    leaf: Leaf<'a>,
+    rest: &Rest<'a>,
+) -> Result<Spot<'a>, Message>
+    ensures { IfOk result
+        (λ s.
+        spot_meaning s ≡
+        definition.on_or_fresh options.now
+        (spot_at (meanings here.entry.items) (leaf_meaning leaf.entry))
+        (rest_meaning rest.now) (goes_on options.now (leaf_meaning leaf.entry) (rest_meaning rest.now))) }
+{
+    match goes_on(alloc, options, leaf, rest)? {
+        Transition::On(went) => came(here, went),
+        Transition::Ends(leaf) => {
+            let here = shut(alloc, options, Spot { here, leaf })?;
+            fresh_line(alloc, options, here, rest)
+        }
     }
-    table_or_text(alloc, options, here, lines, rest)
 }
 
 /// A rest in the innermost container, where all containers continued and none opened.
@@ -139,13 +181,7 @@ fn leaf_line<'a>(
     match leaf {
         Leaf::None => fresh_line(alloc, options, here, rest),
         Leaf::Paragraph(lines) => text_line(alloc, options, here, lines, rest),
-        leaf => match goes_on(alloc, options, leaf, rest)? {
-            Transition::On(went) => came(here, went),
-            Transition::Ends(leaf) => {
-                let here = shut(alloc, options, Spot { here, leaf })?;
-                fresh_line(alloc, options, here, rest)
-            }
-        },
+        leaf => held_line(alloc, options, here, leaf, rest),
     }
 }
 
@@ -253,11 +289,78 @@ fn takes_lazy<'a>(
         Leaf::Paragraph(_) => {
             Ok(
                 !is_blank(rest.bytes)
-                    && starts(alloc, options, ParagraphContext::LazyText, rest)?.is_none(),
+                    && !is_found(starts(alloc, options, ParagraphContext::LazyText, rest)?),
             )
         }
         _ => Ok(false),
     }
+}
+
+/// Closes all containers but so many of the outermost, and opens one behind them.
+fn enter_behind<'a>(
+    alloc: Global,
+    options: &ParseOptions,
+    path: Path<'a>,
+    count: usize,
+    taken: Taken<'a>,
+) -> Result<Path<'a>, Message>
+    ensures { IfOk result
+        (λ p.
+        path_meaning p ≡
+        within (take count path.entry.frames.items)
+        (definition.entered options.now
+        (state.closed options.now
+        (within (drop count path.entry.frames.items) (state.At (spot_meaning path.entry.spot))))
+        (taken_meaning taken.entry))) }
+{
+    let (frames, here) = close_to(alloc, options, path, count)?;
+    enter(alloc, options, frames, here, taken)
+}
+
+/// Closes all containers but so many of the outermost, and reads the line behind them.
+fn fresh_behind<'a>(
+    alloc: Global,
+    options: &ParseOptions,
+    path: Path<'a>,
+    count: usize,
+    rest: &Rest<'a>,
+) -> Result<Path<'a>, Message>
+    ensures { IfOk result
+        (λ p.
+        path_meaning p ≡
+        within (take count path.entry.frames.items)
+        (state.At
+        (definition.fresh_line options.now
+        (state.closed options.now
+        (within (drop count path.entry.frames.items) (state.At (spot_meaning path.entry.spot))))
+        (rest_meaning rest.now)))) }
+{
+    let (frames, here) = close_to(alloc, options, path, count)?;
+    let spot = fresh_line(alloc, options, here, rest)?;
+    Ok(Path { frames, spot })
+}
+
+/// A lazy line goes on the open paragraph.
+fn with_lazy<'a>(spot: Spot<'a>, rest: &Rest<'a>) -> Result<Spot<'a>, Message>
+    ensures { IfOk result (λ s. spot_meaning s ≡ more_text (spot_meaning spot.entry) (rest_meaning rest.now)) }
+{
+    let Spot { here, leaf } = spot;
+    match leaf {
+        Leaf::Paragraph(lines) => with_line(here, lines, rest),
+        leaf => Ok(Spot { here, leaf }),
+    }
+}
+
+/// All containers stay open, and a lazy line goes on the paragraph.
+fn stay_open<'a>(path: Path<'a>, rest: &Rest<'a>) -> Result<Path<'a>, Message>
+    ensures { IfOk result
+        (λ p.
+        path_meaning p ≡
+        within path.entry.frames.items (state.At (more_text (spot_meaning path.entry.spot) (rest_meaning rest.now)))) }
+{
+    let Path { frames, spot } = path;
+    let spot = with_lazy(spot, rest)?;
+    Ok(Path { frames, spot })
 }
 
 /// The container behind so many others does not continue.
@@ -277,27 +380,12 @@ fn stopped<'a>(
         (rest_meaning rest.now))) }
 {
     if let Some(taken) = opens(options, false, rest) {
-        let (frames, here) = close_to(alloc, options, path, count)?;
-        return enter(alloc, options, frames, here, taken);
+        return enter_behind(alloc, options, path, count, taken);
     }
     if takes_lazy(alloc, options, &path.spot.leaf, rest)? {
-        let Path { frames, spot } = path;
-        let spot = with_lazy(spot, rest)?;
-        return Ok(Path { frames, spot });
-    }
-    let (frames, here) = close_to(alloc, options, path, count)?;
-    let spot = fresh_line(alloc, options, here, rest)?;
-    Ok(Path { frames, spot })
-}
-
-/// A lazy line goes on the open paragraph.
-fn with_lazy<'a>(spot: Spot<'a>, rest: &Rest<'a>) -> Result<Spot<'a>, Message>
-    ensures { IfOk result (λ s. spot_meaning s ≡ more_text (spot_meaning spot.entry) (rest_meaning rest.now)) }
-{
-    let Spot { here, leaf } = spot;
-    match leaf {
-        Leaf::Paragraph(lines) => with_line(here, lines, rest),
-        leaf => Ok(Spot { here, leaf }),
+        stay_open(path, rest)
+    } else {
+        fresh_behind(alloc, options, path, count, rest)
     }
 }
 

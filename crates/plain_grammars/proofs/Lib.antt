@@ -2,6 +2,7 @@ pub mod DefinitionLemmas
 pub mod PieceLemmas
 pub mod RestLemmas
 pub mod LinesLemmas
+pub mod MapLemmas
 pub mod TreeLemmas
 pub mod LabelLemmas
 pub mod WordLemmas

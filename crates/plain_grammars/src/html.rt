@@ -11,7 +11,7 @@ use crate::ahead::{after_optional, begins_white, begins_with};
 use crate::bytes::{is_blank, is_parted, is_white, trim_start};
 
 /// A kind of HTML block, in the order of the standard.
-#[derive(Clone, Copy, Debug, PartialEq, Eq)]
+#[derive(Clone, Copy, PartialEq, Eq)]
 pub enum HtmlKind {
     /// `pre`, `script`, `style` or `textarea`.
     Raw,

@@ -1,5 +1,5 @@
 // The normal forms of labels (CommonMark 6.3).
-ghost use Rattle.std.specs.Prelude.{◌≡◌, ◌≤◌, not, [], length, string_bytes, IfOk, OnOk};
+ghost use Rattle.std.specs.Prelude.{◌≡◌, ◌≤◌, not, [], ◌∷◌, ◌++◌, length, map, string_bytes, IfOk, OnOk};
 ghost use Rattle.std.specs.List.{prefix_len};
 ghost use Rattle.md_definition.specs.Label as label;
 ghost use Rattle.md_definition.specs.Rest.{is_white};
@@ -87,6 +87,16 @@ pub struct Labels {
     pub footnotes: Vec<String>,
 }
 
+/// Adds the normal form of a label, given its lines, also where it is there already.
+fn push_form(alloc: Global, forms: &mut Vec<String>, lines: &[&[u8]]) -> Result<(), Message>
+    ensures { OnOk result
+        (map string_bytes forms.new.items ≡
+        map string_bytes forms.old.items ++ label.normal_form (texts lines.now) ∷ []) }
+{
+    let form = normal_form(alloc, lines)?;
+    memory::push(forms, form)
+}
+
 /// Adds the labels of a block.
 #[cycle(labelling)]
 fn push_block(alloc: Global, labels: &mut Labels, block: &Block) -> Result<(), Message>
@@ -98,14 +108,10 @@ fn push_block(alloc: Global, labels: &mut Labels, block: &Block) -> Result<(), M
             push_blocks(alloc, labels, blocks)
         }
         Block::Footnote(name, blocks) => {
-            let form = normal_form(alloc, &[*name])?;
-            memory::push(&mut labels.footnotes, form)?;
+            push_form(alloc, &mut labels.footnotes, &[*name])?;
             push_blocks(alloc, labels, blocks)
         }
-        Block::Definition(lines, _, _) => {
-            let form = normal_form(alloc, lines)?;
-            memory::push(&mut labels.definitions, form)
-        }
+        Block::Definition(lines, _, _) => push_form(alloc, &mut labels.definitions, lines),
         _ => Ok(()),
     }
 }

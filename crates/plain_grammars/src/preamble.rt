@@ -83,14 +83,16 @@ fn front_by<'a, 'b>(
     ensures after { IfOk result (λ o. IfSome o (λ f. fronts.IsEnd rests.now f.after.now)) }
 {
     let (inside, behind) = rests.split_at(lines_before_fence(marker, rests));
-    let Some((_, after)) = behind.split_first() else {
-        return Ok(None);
-    };
-    let lines = lines_in(alloc, inside)?;
-    Ok(Some(Front {
-        block: Block::Frontmatter(marker, lines),
-        after,
-    }))
+    match behind.split_first() {
+        None => Ok(None),
+        Some((_, after)) => {
+            let lines = lines_in(alloc, inside)?;
+            Ok(Some(Front {
+                block: Block::Frontmatter(marker, lines),
+                after,
+            }))
+        }
+    }
 }
 
 /// The frontmatter at the front of these lines, if the first is a fence.
@@ -110,8 +112,8 @@ pub fn front_of<'a, 'b>(
     if !options.constructs.frontmatter {
         return Ok(None);
     }
-    match front_marker(first.bytes) {
-        Some(marker) => front_by(alloc, marker, later),
-        None => Ok(None),
-    }
+    let Some(marker) = front_marker(first.bytes) else {
+        return Ok(None);
+    };
+    front_by(alloc, marker, later)
 }

@@ -8,7 +8,7 @@ use crate::tree::Line;
 use md_engine::configuration::ParseOptions;
 
 /// What no prefix of a line has taken.
-#[derive(Clone, Copy, Debug, PartialEq, Eq)]
+#[derive(Clone, Copy)]
 pub struct Rest<'a> {
     /// The column from 0 at which it begins.
     pub column: usize,

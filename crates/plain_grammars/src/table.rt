@@ -1,5 +1,5 @@
 // Tables: the cells of a row, and delimiter rows (GFM 4.10).
-ghost use Rattle.std.specs.Prelude.{◌≡◌, ◌≤◌, false, ◌||◌, ◌==◌, map, length, IfOk};
+ghost use Rattle.std.specs.Prelude.{◌≡◌, ◌≤◌, false, not, ◌&&◌, ◌||◌, ◌==◌, map, length, IfOk};
 ghost use Rattle.std.specs.List.{list_any, list_all};
 ghost use Rattle.md_definition.specs.Table as table;
 ghost use Rattle.plain_grammars.specs.Pieces.{piece_len};
@@ -10,6 +10,13 @@ use crate::memory;
 use md_engine::message::Message;
 use std::alloc::Global;
 
+/// Whether this byte divides a row: a pipe that no backslash takes.
+fn divides(byte: u8, escaped: bool) -> bool
+    ensures { result ≡ not escaped && (byte == 124) }
+{
+    byte == b'|' && !escaped
+}
+
 /// How many bytes of a row stand before its first pipe that no backslash takes.
 fn piece_len(row: &[u8]) -> usize
     ensures value { result ≡ piece_len false row.now }
@@ -18,7 +25,7 @@ fn piece_len(row: &[u8]) -> usize
     let mut rest = row;
     let mut escaped = false;
     while let [first, others @ ..] = rest {
-        if *first == b'|' && !escaped {
+        if divides(*first, escaped) {
             break;
         }
         escaped = *first == b'\\' && !escaped;

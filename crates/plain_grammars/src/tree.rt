@@ -1,7 +1,7 @@
 // The block tree: what a text means, with slices of it.
 
 /// A line of code, HTML or math: columns left of a cut tab, and then bytes.
-#[derive(Clone, Copy, Debug, PartialEq, Eq)]
+#[derive(Clone, Copy)]
 pub struct Line<'a> {
     pub spaces: usize,
     pub text: &'a [u8],

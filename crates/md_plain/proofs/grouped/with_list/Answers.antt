@@ -1,13 +1,13 @@
-use Rattle.std.proofs.Common.{◌≡◌, sym, ◌∙◌, ap, rules}
+use Rattle.std.proofs.Common.{◌≡◌, sym, ◌∙◌, ap, eqb-true}
 use Rattle.md_definition.specs.Tree as t
 use Rattle.plain_grammars.specs.Trees.{meanings}
 use Rattle.plain_grammars.proofs.MeaningLemmas.{meaning-ListOf}
 use Rattle.md_plain.specs.Groups.{then_blocks, with_items, then_groups}
-use Rattle.md_plain.proofs.GroupLemmas.{meanings-append, with_items-list, then_blocks-push, flushed-list, eqb-other}
+use Rattle.md_plain.proofs.GroupLemmas.{meanings-append, with_items-list, then_blocks-push, flushed-list}
 use Rattle.md_plain.proofs.grouped.with_list.Goals as goal
 
-pub returns-then-marker-groups : goal.returns-then-marker-groups
-returns-then-marker-groups c bs =
+pub returns-then-joins : goal.returns-then-joins
+returns-then-joins c bs =
     let g = c.args.groups in
     let joined : meanings c.append.new.blocks.items ≡
     then_blocks (meanings g.items.items) (meanings c.args.list.items) = ap
@@ -19,7 +19,8 @@ returns-then-marker-groups c bs =
     (meaning-ListOf g.marker c.append.new.blocks ∙ ap (t.ListOf g.marker) joined)
     ∙ ap (then_blocks (meanings g.done.items))
     (sym (with_items-list g.marker (meanings g.items.items) (meanings c.args.list.items) bs))
-    ∙ ap (λ m. then_groups g (t.More (t.ListOf m (meanings c.args.list.items)) bs)) (search rules)
+    ∙ ap (λ m. then_groups g (t.More (t.ListOf m (meanings c.args.list.items)) bs))
+    (eqb-true g.marker c.args.marker (sym c.joins.ensures ∙ c.if-joins.true))
 
 pub returns : goal.returns
 returns c bs =
@@ -31,4 +32,4 @@ returns c bs =
     ∙ ap (λ b. then_blocks (meanings c.in_ok-done.done.items) (t.More b bs)) (meaning-ListOf c.args.marker c.args.list)
     ∙ flushed-list g.marker c.args.marker (meanings g.done.items) (meanings g.items.items)
     (meanings c.in_ok-done.done.items) (meanings c.args.list.items) bs c.in_ok-done.ensures
-    (eqb-other c.args.marker g.marker c.if-marker-groups.false)
+    (sym c.joins.ensures ∙ c.if-joins.false)

@@ -1,8 +1,8 @@
-use Rattle.std.proofs.Common.{◌-◌, length, sym, ◌∙◌, ap}
+use Rattle.std.proofs.Common.{◌-◌, length, sym, ◌∙◌, ap, arith}
 use Rattle.plain_grammars.specs.Rests.{rest_meaning}
 use Rattle.plain_grammars.specs.Trees.{meanings}
 use Rattle.md_plain.specs.States.{taken_option, within}
-use Rattle.md_plain.proofs.PathLemmas.{opened-none, opened-next}
+use Rattle.md_plain.proofs.PathLemmas.{opened-none, opened-next, opened-end}
 use Rattle.md_plain.proofs.step.open_all.Goals as goal
 
 pub returns-in_default : goal.returns-in_default
@@ -20,4 +20,12 @@ loop-count-preserved c =
     (length c.args.rest.bytes.now) c.loop-count.count
     (rest_meaning c.loop-count.left) (rest_meaning c.in-Some.next.rest) c.loop-count-test.true c.in_ok-push.ensures
     (ap (λ xs. meanings xs) c.new.ensures.items) (sym c.opens.ensures ∙ ap taken_option c.in-Some.is)
+    ∙ c.loop-count.invariant
+
+pub returns : goal.returns
+returns c =
+    ap (within c.loop-count.frames.items)
+    (sym
+    (opened-end c.args.options.now (length c.args.rest.bytes.now) c.loop-count.count (rest_meaning c.loop-count.left)
+    (omega arith)))
     ∙ c.loop-count.invariant
