@@ -1,7 +1,12 @@
 -- Linked parts, and the events that stand in their places, step by step.
 use Rattle.std.proofs.Common.{◌≡◌, ℕ, zero, suc, ◌+◌, ◌-◌, ◌<◌, ◌≤◌, ◌⊎◌, inl, inr, Bool, true, false, cond, List, []}
 use Rattle.std.proofs.Common.{◌∷◌, ◌++◌, length, get_or, take, drop, refl, ap, sym, ◌∙◌, subst, append_assoc}
-use Rattle.std.proofs.Common.{length-drop, arith}
+use Rattle.std.proofs.Common.{length-drop, arith, ◌&&◌}
+use Rattle.std.specs.Prelude.{is_none}
+use Rattle.std.proofs.lemmas.Bool.{and_parts, true≢false}
+use Rattle.md_engine.specs.declared.event.Kind.{Kind}
+use Rattle.md_engine.specs.declared.event.Kind.TheVariants.{Enter, Exit}
+use Rattle.md_engine.specs.declared.event.Link.{Link}
 use Rattle.std.specs.Prelude.{Option, Some, None}
 use Rattle.std.specs.Option.{is_some}
 use Rattle.std.specs.List.{All, prefix_len}
@@ -12,7 +17,7 @@ use Rattle.md_engine.specs.declared.event.Event.{Event}
 use Rattle.md_engine.specs.Place.{IsPlaced}
 use Rattle.md_seam.specs.Parts.{AreChunks, ArePlaced, IsChunk}
 use Rattle.md_seam.specs.Substituted.{Begun, Readings, Substituted, chunk_of, chunks_behind, chunks_from, share, stays}
-use Rattle.md_seam.specs.Substituted.{wanted}
+use Rattle.md_seam.specs.Substituted.{wanted, wanted_at}
 use Rattle.md_seam.specs.Events.Prefix.{is_prefix}
 
 -- The chunks of a part.
@@ -82,6 +87,31 @@ chunks-stop wants events at d h none other =
         (λ (x : Bool).
         cond x (chunk_of e f ∷ chunks_behind wants es) (cond (is_prefix e.name) (chunks_behind wants (f ∷ es)) [])) none
         ∙ ap (λ (x : Bool). cond x (chunks_behind wants (f ∷ es)) []) other
+
+-- those behind an event of a prefix that begins no chunk
+pub chunks-past : (wants : Content → Bool) (events : List Event) (at : ℕ) (d : Event) → at < length events →
+    (is_prefix (get_or events at d).name && is_none (get_or events at d).link) ≡ true →
+    chunks_behind wants (drop at events) ≡ chunks_behind wants (drop (at + 1) events)
+chunks-past wants events at d h plain =
+    let e : Event = get_or events at d in
+    let parts : (is_prefix e.name ≡ true) × (is_none e.link ≡ true) = and_parts (is_prefix e.name) (is_none e.link)
+    plain in
+    ap (chunks_behind wants) (drop_more events at d h)
+    ∙ go e (drop (at + 1) events) parts.0 (unwanted e.kind e.link parts.1)
+  where
+    unwanted : (k : Kind) (l : Option Link) → is_none l ≡ true → is_some (wanted_at wants k l) ≡ false
+    unwanted Enter None h = refl
+    unwanted Exit None h = refl
+    unwanted k (Some l) h = absurd (true≢false (sym h))
+
+    go : (e : Event) (es : List Event) → is_prefix e.name ≡ true → is_some (wanted wants e) ≡ false →
+        chunks_behind wants (e ∷ es) ≡ chunks_behind wants es
+    go e [] prefix none = refl
+    go e (f ∷ es) prefix none =
+        ap
+        (λ (x : Bool).
+        cond x (chunk_of e f ∷ chunks_behind wants es) (cond (is_prefix e.name) (chunks_behind wants (f ∷ es)) [])) none
+        ∙ ap (λ (x : Bool). cond x (chunks_behind wants (f ∷ es)) []) prefix
 
 -- The events in their places.
 
