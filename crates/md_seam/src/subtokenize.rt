@@ -3,14 +3,13 @@
 // A linked part is a chunk of the text on one line. Chunks between which nothing but container prefixes stands are read
 // as one, and what is found there is put in the places of the chunks.
 
-ghost use Rattle.std.specs.Prelude.{◌≡◌, ℕ, ◌+◌, ◌-◌, ◌<◌, ◌≤◌, ◌∷◌, ◌++◌, ◌&&◌, Bool, IfOk, List, OnOk, [], drop};
-ghost use Rattle.std.specs.Prelude.{is_none, length, take};
+ghost use Rattle.std.specs.Prelude.{◌≡◌, ℕ, ◌+◌, ◌-◌, ◌<◌, ◌≤◌, ◌∷◌, ◌++◌, Bool, IfOk, List, OnOk, [], drop, length};
+ghost use Rattle.std.specs.Prelude.{take};
 ghost use Rattle.std.specs.List.{prefix_len};
 ghost use Rattle.md_engine.specs.declared.event.Content.{Content};
-ghost use Rattle.md_seam.specs.Events.Prefix.{is_prefix};
 ghost use Rattle.md_seam.specs.Parts.{AreChunks, ArePlaced};
-ghost use Rattle.md_seam.specs.Substituted.{Begun, Readings, Substituted, belongs, chunk_of, chunks_from, share, stays};
-ghost use Rattle.md_seam.specs.Substituted.{wanted};
+ghost use Rattle.md_seam.specs.Substituted.{Begun, Readings, Substituted, belongs, chunk_of, chunks_from, is_plain_prefix};
+ghost use Rattle.md_seam.specs.Substituted.{share, stays, wanted};
 
 use crate::inline::Chunk;
 pub use crate::names::is_prefix;
@@ -84,11 +83,18 @@ fn push_chunk(chunks: &mut Vec<Chunk>, first: &Event, after: &Event) -> Result<(
     }
 }
 
-/// Whether an event belongs to a container prefix and begins no chunk: most events between two chunks do.
-fn is_plain_prefix(event: &Event) -> bool
-    ensures { result ≡ is_prefix event.now.name && is_none event.now.link }
+/// How many of the events come before the first that does not belong to a container prefix, or has a link. Most events
+/// between two chunks stand so.
+fn plain_prefixes(events: &[Event]) -> usize
+    ensures value { result ≡ prefix_len is_plain_prefix events.now }
+    ensures within { result ≤ length events.now }
 {
-    is_prefix(event.name) && event.link.is_none()
+    for (at, event) in events.iter().enumerate() {
+        if !is_prefix(event.name) || event.link.is_some() {
+            return at;
+        }
+    }
+    events.len()
 }
 
 /// Lists the chunks of the part that begins with these events, in place of those that are listed.
@@ -102,13 +108,12 @@ fn list_chunks<R: Reader>(
 {
     chunks.clear();
     push_chunk(chunks, &events[0], &events[1])?;
-    let mut at = 2;
+    let mut at = 2 + plain_prefixes(&events[2..]);
     while at + 1 < events.len() {
-        if is_plain_prefix(&events[at]) {
-            at += 1;
-        } else if chunk_content(reader, &events[at]).is_some() {
+        if chunk_content(reader, &events[at]).is_some() {
             push_chunk(chunks, &events[at], &events[at + 1])?;
             at += 2;
+            at += plain_prefixes(&events[at..]);
         } else if is_prefix(events[at].name) {
             at += 1;
         } else {
