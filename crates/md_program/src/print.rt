@@ -107,13 +107,24 @@ fn push_marked(text: &mut String, name: &str, marker: u8) -> Result<(), AllocErr
     text.push(char::from(marker))
 }
 
+/// Puts a number behind the text, which most often has one digit.
+fn push_number(text: &mut String, number: usize) -> Result<(), AllocError>
+    ensures { OnOk result (string_bytes text.new ≡ string_bytes text.old ++ Rattle.std.specs.Fmt.decimal number) }
+{
+    if number < 10 {
+        text.push(char::from(b'0' + number as u8))
+    } else {
+        write!(text, "{number}")
+    }
+}
+
 /// Puts `name` behind the text, and behind it a number.
 pub fn push_counted(text: &mut String, name: &str, count: usize) -> Result<(), AllocError>
     ensures { OnOk result
         (string_bytes text.new ≡ string_bytes text.old ++ (name.now ++ Rattle.std.specs.Fmt.decimal count)) }
 {
     text.push_str(name)?;
-    write!(text, "{count}")
+    push_number(text, count)
 }
 
 fn push_open(text: &mut String, closed: bool) -> Result<(), AllocError>
