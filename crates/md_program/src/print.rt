@@ -47,11 +47,19 @@ fn push_lines(text: &mut String, lines: &[OutlineLine]) -> Result<(), AllocError
 fn push_line(text: &mut String, line: &OutlineLine) -> Result<(), AllocError>
     ensures { OnOk result (string_bytes text.new ≡ string_bytes text.old ++ printed_line (entry_of line.now)) }
 {
-    push_repeated(text, "  ", line.depth)?;
+    push_indent(text, line.depth)?;
     push_head(text, line.word)?;
     push_repeated(text, " ", line.spaces)?;
     text.push_str(line.text)?;
     text.push_str("\n")
+}
+
+/// Puts two spaces a depth behind the text, those of four depths at once.
+fn push_indent(text: &mut String, depth: usize) -> Result<(), AllocError>
+    ensures { OnOk result (string_bytes text.new ≡ string_bytes text.old ++ repeat depth (codes "  ")) }
+{
+    push_repeated(text, "        ", depth / 4)?;
+    push_repeated(text, "  ", depth % 4)
 }
 
 /// Puts `piece` behind the text, so many times.
