@@ -1,16 +1,15 @@
 -- Lines of content are joined one event after another.
 use Rattle.std.proofs.Common.{◌≡◌, ℕ, ◌+◌, ◌<◌, ◌≤◌, Bool, true, false, ◌&&◌, List, [], ◌∷◌, ◌++◌, length, length-drop}
 use Rattle.std.proofs.Common.{get_or, set, take, drop, refl, sym, ◌∙◌, ap, append_assoc, append-nil, arith, ◌-◌}
-use Rattle.std.proofs.Common.{length-set}
-use Rattle.std.proofs.lemmas.List.{drop-drop, drop-set-add, drop-set-lt, drop_all, get_or-drop, take-set-le, take_more}
-use Rattle.std.proofs.lemmas.List.{take_more_set}
+use Rattle.std.proofs.Common.{length-set, subst}
+use Rattle.std.proofs.lemmas.Bool.{true≢false}
+use Rattle.std.proofs.lemmas.List.{drop-drop, drop-set-add, drop-set-lt, drop_all, drop_more, get_or-drop}
+use Rattle.std.proofs.lemmas.List.{take-set-le, take_all, take_more, take_more_set}
 use Rattle.std.proofs.lemmas.List.Elements.{All-cons, All-head, All-tail}
 use Rattle.md_engine.specs.declared.event.Event.{Event}
-use Rattle.md_engine.specs.declared.event.Name.TheVariants as n
-use Rattle.md_engine.specs.declared.event.Point.{Point}
-use Rattle.md_engine.specs.Place.{IsPlaced, first_point}
+use Rattle.md_engine.specs.Place.{IsPlaced}
 use Rattle.md_content.specs.Joined.{goes_on, is_content, joined, joined_with}
-use Rattle.md_seam.specs.Events.Nested.{exit, is_exit}
+use Rattle.md_seam.specs.Events.Nested.{is_exit}
 use Rattle.md_seam.specs.Parts.{ArePlaced}
 
 -- the first of some events, and those that are joined with it
@@ -57,36 +56,95 @@ pub record Joining (first events : List Event) (kept from at : ℕ) : Type 0 whe
 pub joins-none : (first : List Event) → Joining first first 0 0 0
 joins-none first = record { behind = omega arith; before = omega arith; within = omega arith; joined = refl }
 
--- one event more stays
-pub joins-past : (first events : List Event) (kept from at last : ℕ) → at < length events →
-    last ≡ at + joined_with (drop at events) → last ≤ at → Joining first events kept from at →
-    Joining first events kept from (last + 1)
-joins-past first events kept from at last lt is none h =
-    let e : Event = exit n.Data first_point in
-    let same : last ≡ at = omega arith in
-    let here : get_or events last e ≡ get_or events at e = ap (λ (k : ℕ). get_or events k e) same in
-    let k = at - from in
+-- some events more stay
+pub joins-past : (first events : List Event) (kept from n : ℕ) → from + n ≤ length events →
+    joined (drop from events) ≡ take n (drop from events) ++ joined (drop n (drop from events)) →
+    Joining first events kept from from → Joining first events kept from (from + n)
+joins-past first events kept from n low is h =
+    let front = take kept events in
     let rest = drop from events in
-    let stays : joined (drop at events) ≡ get_or events at e ∷ joined (drop (last + 1) events) =
-    joined-at events at last e e lt is ∙ ap (λ (p : Point). record (get_or events at e) { point = p } ∷ joined (drop (last + 1) events)) (ap (λ (x : Event). x.point) here) in
-    let at_rest : get_or rest k e ≡ get_or events at e = get_or-drop from events k e
-    ∙ ap (λ (n : ℕ). get_or events n e) (omega (arith, h.before)) in
-    let front : take (last + 1 - from) rest ≡ take k rest ++ get_or events at e ∷ [] =
-    ap (λ (n : ℕ). take n rest) (omega (arith, h.before))
-    ∙ take_more rest k e (simp length-drop (omega (arith, h.before)))
-    ∙ ap (λ (x : Event). take k rest ++ x ∷ []) at_rest in
+    let none : from - from ≡ 0 = omega arith in
+    let run : from + n - from ≡ n = omega arith in
+    let behind : drop (from + n) events ≡ drop n rest =
+    ap (λ (k : ℕ). drop k events) (omega arith) ∙ sym (drop-drop n from events) in
     record {
       behind = h.behind;
-      before = omega (arith, h.before);
-      within = omega arith;
+      before = omega arith;
+      within = low;
       joined =
-          ap (λ (es : List Event). take kept events ++ es ++ joined (drop (last + 1) events)) front
-          ∙ regroup (take kept events) (take k rest) (get_or events at e ∷ []) (joined (drop (last + 1) events))
-          ∙ ap (λ (es : List Event). take kept events ++ take k rest ++ es) (sym stays) ∙ h.joined;
+          ap (λ (k : ℕ). front ++ take k rest ++ joined (drop (from + n) events)) run
+          ∙ ap (λ (es : List Event). front ++ take n rest ++ joined es) behind
+          ∙ append_assoc front (take n rest) (joined (drop n rest))
+          ∙ ap (λ (es : List Event). front ++ es) (sym is)
+          ∙ sym (ap (λ (es : List Event). es ++ joined rest) (append-nil front))
+          ∙ sym (ap (λ (k : ℕ). front ++ take k rest ++ joined rest) none)
+          ∙ h.joined;
     }
+
+-- all that are left stay
+pub joins-rest : (first events : List Event) (kept from : ℕ) → joined (drop from events) ≡ drop from events →
+    Joining first events kept from from → Joining first events kept from (length events)
+joins-rest first events kept from is h =
+    let rest = drop from events in
+    let n = length events - from in
+    let long : length rest ≡ n = length-drop from events in
+    let all : rest ≡ take n rest ++ joined (drop n rest) =
+    sym (append-nil rest)
+    ∙ sym (ap (λ (es : List Event). es ++ []) (take_all n rest (omega arith)))
+    ∙ sym (ap (λ (es : List Event). take n rest ++ joined es) (drop_all n rest (omega arith))) in
+    subst (Joining first events kept from) (omega (arith, h.before, h.within))
+    (joins-past first events kept from n (omega (arith, h.within)) (is ∙ all) h)
+
+-- a slice to the end
+pub to-end : (events : List Event) (n : ℕ) → take (length events - n) (drop n events) ≡ drop n events
+to-end events n = take_all _ _ (omega (arith, length-drop n events))
+
+-- three tests, the first two of which were made before
+pub ends-then : (a b c x y z : Bool) → x ≡ (a && b) → x ≡ true → y ≡ c → y ≡ z → (a && b && c) ≡ z
+ends-then true true c x y z e t f g = sym f ∙ g
+ends-then true false c x y z e t f g = absurd (true≢false (sym t ∙ e))
+ends-then false b c x y z e t f g = absurd (true≢false (sym t ∙ e))
+
+pub ends-else : (a b c x : Bool) → x ≡ (a && b) → x ≡ false → (a && b && c) ≡ false
+ends-else true true c x e t = absurd (true≢false (sym e ∙ t))
+ends-else true false c x e t = refl
+ends-else false b c x e t = refl
+
+-- an event that is joined with none
+pub joined-past : (events : List Event) (at : ℕ) (d : Event) → at < length events →
+    (is_exit (get_or events at d).kind && is_content (get_or events at d).name && goes_on (drop (at + 1) events)) ≡
+    false →
+    joined events ≡ take at events ++ joined (drop at events) →
+    joined events ≡ take (at + 1) events ++ joined (drop (at + 1) events)
+joined-past events at d lt none is =
+    let e : Event = get_or events at d in
+    let es : List Event = drop (at + 1) events in
+    is
+    ∙ ap (λ (l : List Event). take at events ++ joined l) (drop_more events at d lt)
+    ∙ ap (λ (l : List Event). take at events ++ l) (go e es none)
+    ∙ sym (append_assoc (take at events) (e ∷ []) (joined es))
+    ∙ sym (ap (λ (l : List Event). l ++ joined es) (take_more events at d lt))
   where
-    regroup : (a b c d : List Event) → (a ++ (b ++ c)) ++ d ≡ (a ++ b) ++ (c ++ d)
-    regroup a b c d = simp append_assoc
+    go : (e : Event) (es : List Event) → (is_exit e.kind && is_content e.name && goes_on es) ≡ false →
+        joined (e ∷ es) ≡ e ∷ joined es
+    go e [] none = refl
+    go e (f ∷ []) none = refl
+    go e (f ∷ g ∷ es) none = rw none refl
+
+-- an event that is joined with the two behind it
+pub joined-here : (events : List Event) (at : ℕ) (d : Event) → at + 3 ≤ length events →
+    (is_exit (get_or events at d).kind && is_content (get_or events at d).name && goes_on (drop (at + 1) events)) ≡
+    true →
+    joined_with (drop at events) ≡ 2
+joined-here events at d low two =
+    ap joined_with (drop_more events at d (omega arith))
+    ∙ go (get_or events at d) (drop (at + 1) events) (omega (arith, length-drop (at + 1) events)) two
+  where
+    go : (e : Event) (es : List Event) → 2 ≤ length es →
+        (is_exit e.kind && is_content e.name && goes_on es) ≡ true → joined_with (e ∷ es) ≡ 2
+    go e [] low two = absurd (omega arith)
+    go e (f ∷ []) low two = absurd (omega arith)
+    go e (f ∷ g ∷ es) low two = rw two refl
 
 -- one event more ends a line that goes on: it takes the ending of that line, and stands behind those in front
 pub joins-line : (first events new : List Event) (kept from at last : ℕ) (e f : Event) → last < length events →

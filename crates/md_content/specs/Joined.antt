@@ -1,5 +1,6 @@
 -- Lines of content that follow one another, joined: the ending between two belongs to the first.
-use Rattle.std.specs.Prelude.{ℕ, Bool, true, false, ◌&&◌, if◌then◌else◌, List, [], ◌∷◌}
+use Rattle.std.specs.Prelude.{◌≡◌, ℕ, ◌+◌, ◌<◌, Bool, true, false, ◌&&◌, if◌then◌else◌, List, [], ◌∷◌, ◌++◌, length}
+use Rattle.std.specs.Prelude.{take, drop}
 use Rattle.md_engine.specs.declared.event.Event.{Event}
 use Rattle.md_engine.specs.declared.event.Name.{Name}
 use Rattle.md_engine.specs.declared.event.Name.TheVariants as n
@@ -36,3 +37,9 @@ joined (e ∷ f ∷ g ∷ es) =
     if is_exit e.kind && is_content e.name && goes_on (f ∷ g ∷ es)
     then record e { point = g.point } ∷ joined es
     else e ∷ joined (f ∷ g ∷ es)
+
+-- A line of content ends here that goes on, and none in front of it: what stands in front stays.
+pub record JoinsAt (events : List Event) (at : ℕ) : Type 0 where
+  pub within : at + 2 < length events
+  pub stays : joined events ≡ take at events ++ joined (drop at events)
+  pub joins : joined_with (drop at events) ≡ 2

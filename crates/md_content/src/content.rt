@@ -8,7 +8,7 @@
 // The prefixes of containers in front of a line belong to no line of the content (CommonMark 5.1). So each line begins
 // behind those in front of it, and ends behind its ending, before those of the next line: its end is that of its chunk.
 
-ghost use Rattle.std.specs.Prelude.{◌≡◌, ◌≢◌, ℕ, ◌+◌, ◌<◌, ◌&&◌, Bool, true, IfOk, IfSome, List, [], length, drop};
+ghost use Rattle.std.specs.Prelude.{◌≡◌, ◌≢◌, ℕ, ◌<◌, ◌&&◌, Bool, true, IfNone, IfOk, IfSome, List, [], length};
 ghost use Rattle.std.specs.Option.{option_map};
 ghost use Rattle.md_engine.specs.Found.{found_in};
 ghost use Rattle.md_engine.specs.World.{looks, world};
@@ -18,9 +18,9 @@ ghost use Rattle.md_engine.specs.declared.state.content.State.{State as ContentS
 ghost use Rattle.md_content.specs.States.{content_transition};
 ghost use Rattle.md_content.specs.Chunks.{chunk_inside_code, chunk_start_transition, chunk_transition};
 ghost use Rattle.md_content.specs.ContentReads.{content_events, is_data_end, settled};
-ghost use Rattle.md_content.specs.Joined.{content_behind, goes_on, is_content, joined, joined_with};
+ghost use Rattle.md_content.specs.Joined.{JoinsAt, content_behind, goes_on, is_content, joined};
 ghost use Rattle.md_content.specs.Resolves.{Resolves, is_all_read};
-ghost use Rattle.md_seam.specs.Events.Nested.{is_enter};
+ghost use Rattle.md_seam.specs.Events.Nested.{is_enter, is_exit};
 ghost use Rattle.md_seam.specs.Parts.{AreChunks, ArePlaced};
 ghost use Rattle.md_seam.specs.Spaces.{ends_line};
 ghost use Rattle.md_seam.specs.Stays.{TakesEach};
@@ -292,46 +292,46 @@ fn goes_on(events: &[Event]) -> bool
     events.len() > 2 && matches!(events[0].name, Name::LineEnding) && begins_behind(&events[2..])
 }
 
-/// The last of the events that are joined with the one at `at`: the end of a line of content that goes on takes its
-/// ending.
-fn joined_to(events: &[Event], at: usize) -> usize
-    requires { at < length events.now }
-    ensures value { result ≡ at + joined_with (drop at events.now) }
-    ensures within { result < length events.now }
+/// Whether a line of content ends here.
+fn ends_line(event: &Event) -> bool
+    ensures { result ≡ is_exit event.now.kind && is_content event.now.name }
 {
-    let event = events[at];
-    if matches!(event.kind, Kind::Exit)
-        && matches!(event.name, Name::Content)
-        && goes_on(&events[at + 1..])
-    {
-        at + 2
-    } else {
-        at
+    matches!(event.kind, Kind::Exit) && matches!(event.name, Name::Content)
+}
+
+/// Where the first line of content ends that goes on, if there is one.
+fn next_line(events: &[Event]) -> Option<usize>
+    ensures some { IfSome result (λ at. JoinsAt events.now at) }
+    ensures none { IfNone result (joined events.now ≡ events.now) }
+{
+    for (at, event) in events.iter().enumerate() {
+        if ends_line(event) && goes_on(&events[at + 1..]) {
+            return Some(at);
+        }
     }
+    None
 }
 
 /// Puts the ending of each line of content that goes on into that line.
 ///
-/// The events between two such endings are moved at once.
+/// The end of such a line takes the point behind its ending. The events between two such endings are moved at once.
 fn join(events: &mut Vec<Event>)
     ensures placed { (bytes : List ℕ) → ArePlaced bytes events.old.items → ArePlaced bytes events.new.items }
     ensures joined { events.new.items ≡ joined events.old.items }
 {
     let mut kept = 0;
     let mut from = 0;
-    let mut at = 0;
-    while at < events.len() {
-        let last = joined_to(events, at);
-        if last > at {
-            events[at].point = events[last].point;
-            move_down(events, kept, from, at + 1);
-            kept += at + 1 - from;
-            from = last + 1;
-        }
-        at = last + 1;
+    while let Some(behind) = next_line(&events[from..]) {
+        let at = from + behind;
+        let last = at + 2;
+        events[at].point = events[last].point;
+        move_down(events, kept, from, at + 1);
+        kept += at + 1 - from;
+        from = last + 1;
     }
-    move_down(events, kept, from, at);
-    kept += at - from;
+    let end = events.len();
+    move_down(events, kept, from, end);
+    kept += end - from;
     events.truncate(kept);
 }
 

@@ -528,14 +528,13 @@ block-end bytes part span end text x s lines is same cut epart elines =
     ∙ sym (ap (λ t. told_at bytes x end t s) is ∙ ap (λ y. told_at bytes y end (Some span) s) same)
 
 -- a note for a leaf ends
-pub note-end : (bytes part lent : List ℕ) (span : Span) (end : ℕ) (text : Option Span) (x : Purpose) (y : Note)
+pub note-end : (bytes part : List ℕ) (span : Span) (end : ℕ) (text : Option Span) (x : Purpose) (y : Note)
     (s next : OutlineState) → text ≡ Some span → x ≡ purpose.Note y → IsCutAt bytes text end →
-    part ≡ slice_range bytes span.from end → (IsUtf8 part → lent ≡ part) →
-    next ≡ told_leaf y lent (record s { text = None }) → next ≡ told_at bytes x end text s
-note-end bytes part lent span end text x y s next is same cut epart elent reads =
-    reads
-    ∙ ap (λ t. told_leaf y t (record s { text = None }))
-    (elent (part-is_text bytes part span end text is cut epart) ∙ epart)
+    part ≡ slice_range bytes span.from end → (IsUtf8 part → next ≡ told_leaf y part (record s { text = None })) →
+    next ≡ told_at bytes x end text s
+note-end bytes part span end text x y s next is same cut epart reads =
+    reads (part-is_text bytes part span end text is cut epart)
+    ∙ ap (λ t. told_leaf y t (record s { text = None })) epart
     ∙ sym (ap (λ t. told_at bytes x end t s) is ∙ ap (λ z. told_at bytes z end (Some span) s) same)
 
 -- a prefix has begun in a text
@@ -550,6 +549,12 @@ piece-end bytes part span end text s lines is cut epart elines =
     ∙ sym (ap (λ t. parted_at bytes end t s) is)
 
 -- The loop over the events.
+
+-- an event that means nothing
+pub state-quiet : (bytes : List ℕ) (kind : Kind) (x : Role) (p : Point) (s : OutlineState) → x ≡ role.Quiet →
+    s ≡ state_by bytes kind x p s
+state-quiet bytes Enter x p s is = sym (ap (λ y. state_enter bytes y p s) is)
+state-quiet bytes Exit x p s is = sym (ap (λ y. state_exit bytes y p s) is)
 
 -- a text that begins or goes on at an event does so between characters
 begins-step : (bytes : List ℕ) (kind : Kind) (x : spelled.Role) (p : Point) (span : Option Span) →

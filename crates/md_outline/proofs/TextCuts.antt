@@ -8,7 +8,7 @@ use Rattle.std.specs.Borrow.{Bor}
 use Rattle.std.specs.List.{onto_first, prefix_len}
 use Rattle.std.specs.Str.{IsUtf8, IsCharBoundary}
 use Rattle.std.proofs.Math.Utf8.{encode}
-use Rattle.std.proofs.lemmas.Bool.{and_parts, cases_lt, eqb-true, ltb-true, true≢false}
+use Rattle.std.proofs.lemmas.Bool.{and_parts, cases_lt, eq-eqb, eqb-true, ltb-true, true≢false}
 use Rattle.std.proofs.lemmas.Bool.Decides.{nat_tests}
 use Rattle.std.proofs.lemmas.List.{drop_all, length-drop, take_all}
 use Rattle.std.proofs.lemmas.List.Sums.{prefix_len_stops}
@@ -311,6 +311,17 @@ lines-end depth done left ending k ek eending none =
     take-whole : (n : ℕ) (xs : List ℕ) → drop n xs ≡ [] → take n xs ≡ xs
     take-whole n xs h =
         take_all n xs (let l = length-drop n xs in let z : length (drop n xs) ≡ 0 = ap length h in omega (arith, l, z))
+
+-- a text without an ending and without spaces and tabs in front is the one line of it that is shown
+pub line-trimmed : (text : List ℕ) → line_len text ≡ length text → prefix_len is_white text ≡ 0 →
+    trim_each (split_lines text) ≡ text ∷ []
+line-trimmed text long none =
+    let nothing : (length (drop (line_len text) text) == 0) ≡ true =
+    eq-eqb _ _ (length-drop (line_len text) text ∙ omega (arith, long)) in
+    let one : split_lines text ≡ take (line_len text) text ∷ [] =
+    split-last text (line_len text) (drop (line_len text) text) (splits text) nothing in
+    let whole : take (line_len text) text ≡ text = take_all (line_len text) text (omega (arith, long)) in
+    ap trim_each one ∙ ap (λ l. trim_start l ∷ []) whole ∙ ap (λ n. drop n text ∷ []) none
 
 -- the last line is shown behind those that have an ending
 pub lines-all : (depth : ℕ) (before done next : List Entry) (text rest shown : List ℕ) →

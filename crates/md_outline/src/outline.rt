@@ -1,6 +1,7 @@
 // The outline of a text: its blocks and their lines, from the first to the last.
 
 ghost use Rattle.std.specs.Prelude.{◌≡◌, true, Option, option_map, IfOk, OnOk};
+ghost use Rattle.std.specs.Str.{IsUtf8};
 ghost use Rattle.md_seam.specs.Events.Spelled as spelled;
 ghost use Rattle.md_outline.specs.Outlined.{Outlines};
 ghost use Rattle.md_outline.specs.OutlineSteps.{IsCutAt, leaf_ended, parted_at, state_by, state_enter, state_exit};
@@ -13,9 +14,9 @@ mod lines;
 mod paragraph;
 mod role;
 
-use crate::outline::lines::{next, part, push, text_of};
+use crate::outline::lines::{next, part, push};
 use crate::outline::paragraph::{push_block, push_piece};
-use crate::outline::role::{Leaf, Note, Purpose, Role, push_leaf, role_of};
+use crate::outline::role::{Leaf, Note, Purpose, Role, is_quiet, push_leaf, role_of};
 pub use md_definition::outline::{OutlineLine, Word};
 use md_engine::event::{Event, Kind, Point};
 use md_engine::message::Message;
@@ -55,9 +56,9 @@ fn byte_at(point: Point) -> Result<usize, Message>
 
 impl<'a> Reading<'a> {
     /// Tells an open leaf of a text.
-    fn note(&mut self, note: Note, text: &'a str)
+    fn note(&mut self, note: Note, text: &'a [u8])
         ensures bytes { self.new.bytes ≡ self.old.bytes }
-        ensures read { state_of self.new ≡ told_leaf note text.now (state_of self.old) }
+        ensures read { IsUtf8 text.now → state_of self.new ≡ told_leaf note text.now (state_of self.old) }
     {
         if let Some(leaf) = self.leaf {
             self.leaf = Some(leaf.noted(note, text));
@@ -90,7 +91,7 @@ impl<'a> Reading<'a> {
         match purpose {
             Purpose::Block => push_block(&mut self.lines, self.depth, span.is_parted, text),
             Purpose::Note(note) => {
-                self.note(note, text_of(text));
+                self.note(note, text);
                 Ok(())
             }
         }
@@ -179,6 +180,9 @@ impl<'a> Reading<'a> {
             state_of self.new ≡ state_by self.old.bytes.now event.now.kind (shown_as (spelled.role event.now.name))
             event.now.point (state_of self.old)) }
     {
+        if is_quiet(event.name) {
+            return Ok(());
+        }
         let role = role_of(event.name);
         match event.kind {
             Kind::Enter => self.enter(role, event.point),

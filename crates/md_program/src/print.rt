@@ -47,11 +47,19 @@ fn push_lines(text: &mut String, lines: &[OutlineLine]) -> Result<(), AllocError
 fn push_line(text: &mut String, line: &OutlineLine) -> Result<(), AllocError>
     ensures { OnOk result (string_bytes text.new ≡ string_bytes text.old ++ printed_line (entry_of line.now)) }
 {
-    push_repeated(text, "  ", line.depth)?;
+    push_indent(text, line.depth)?;
     push_head(text, line.word)?;
     push_repeated(text, " ", line.spaces)?;
     text.push_str(line.text)?;
     text.push_str("\n")
+}
+
+/// Puts two spaces a depth behind the text, those of four depths at once.
+fn push_indent(text: &mut String, depth: usize) -> Result<(), AllocError>
+    ensures { OnOk result (string_bytes text.new ≡ string_bytes text.old ++ repeat depth (codes "  ")) }
+{
+    push_repeated(text, "        ", depth / 4)?;
+    push_repeated(text, "  ", depth % 4)
 }
 
 /// Puts `piece` behind the text, so many times.
@@ -107,13 +115,24 @@ fn push_marked(text: &mut String, name: &str, marker: u8) -> Result<(), AllocErr
     text.push(char::from(marker))
 }
 
+/// Puts a number behind the text, which most often has one digit.
+fn push_number(text: &mut String, number: usize) -> Result<(), AllocError>
+    ensures { OnOk result (string_bytes text.new ≡ string_bytes text.old ++ Rattle.std.specs.Fmt.decimal number) }
+{
+    if number < 10 {
+        text.push(char::from(b'0' + number as u8))
+    } else {
+        write!(text, "{number}")
+    }
+}
+
 /// Puts `name` behind the text, and behind it a number.
 pub fn push_counted(text: &mut String, name: &str, count: usize) -> Result<(), AllocError>
     ensures { OnOk result
         (string_bytes text.new ≡ string_bytes text.old ++ (name.now ++ Rattle.std.specs.Fmt.decimal count)) }
 {
     text.push_str(name)?;
-    write!(text, "{count}")
+    push_number(text, count)
 }
 
 fn push_open(text: &mut String, closed: bool) -> Result<(), AllocError>

@@ -381,11 +381,11 @@ last-lines line text h = go line (split_lines text) refl (some-split text) h
     go (b ∷ bs) ((c ∷ cs) ∷ next ∷ lines) e some h = cc
 
 -- an ending, of which no part is left
-data Rests (b : ℕ) (rest : List ℕ) : Type 0 where
+pub data Rests (b : ℕ) (rest : List ℕ) : Type 0 where
   One : rest ≡ [] → Rests b rest
   Two : b ≡ 13 → rest ≡ 10 ∷ [] → Rests b rest
 
-rests-of : (line : List ℕ) (b : ℕ) (rest : List ℕ) → NoEnding line → is_ending b ≡ true →
+pub rests-of : (line : List ℕ) (b : ℕ) (rest : List ℕ) → NoEnding line → is_ending b ≡ true →
     IsTrue (is_one_line (split_lines (line ++ b ∷ rest)) true) → Rests b rest
 rests-of line b rest plain ends h = go (b == 10) refl (b == 13) refl (begins_with 10 rest) refl
   where
@@ -413,7 +413,7 @@ rests-of line b rest plain ends h = go (b == 10) refl (b == 13) refl (begins_wit
     go false f false r z s = let none : is_ending b ≡ false = rw (f, r) refl in cc
 
 -- where a text goes on behind its first line stands an ending
-stops-at : (text : List ℕ) → length (without_ending text) < length text →
+pub stops-at : (text : List ℕ) → length (without_ending text) < length text →
     (b : ℕ) × (rest : List ℕ) × (drop (length (without_ending text)) text ≡ b ∷ rest) × (is_ending b ≡ true)
 stops-at [] h = absurd (omega arith)
 stops-at (c ∷ text) h =
@@ -434,20 +434,20 @@ stops-at (c ∷ text) h =
         (found.0, found.1, ap (λ (k : ℕ). drop k (c ∷ text)) size ∙ found.2, found.3)
 
 -- a text is its first line and what stands behind
-line-and-rest : (text : List ℕ) → without_ending text ++ drop (length (without_ending text)) text ≡ text
+pub line-and-rest : (text : List ℕ) → without_ending text ++ drop (length (without_ending text)) text ≡ text
 line-and-rest text =
     let long : ℕ = prefix_len (λ (b : ℕ). not (is_ending b)) text in
     ap (λ (k : ℕ). without_ending text ++ drop k text) (length-prefix_len (λ (b : ℕ). not (is_ending b)) text)
     ∙ take-append-drop long text
 
-range-drop : (bytes : List ℕ) (i k end : ℕ) → i + k ≤ end →
+pub range-drop : (bytes : List ℕ) (i k end : ℕ) → i + k ≤ end →
     drop k (slice_range bytes i end) ≡ slice_range bytes (i + k) end
 range-drop bytes i k end h =
     let split : end - i ≡ k + (end - (i + k)) = omega arith in
     ap (λ (n : ℕ). drop k (take n (drop i bytes))) split ∙ drop-take k (end - (i + k)) (drop i bytes)
     ∙ ap (take (end - (i + k))) (drop-drop k i bytes)
 
-range-length : (bytes : List ℕ) (i end : ℕ) → end ≤ length bytes → length (slice_range bytes i end) ≡ end - i
+pub range-length : (bytes : List ℕ) (i end : ℕ) → end ≤ length bytes → length (slice_range bytes i end) ≡ end - i
 range-length bytes i end h =
     length-take (end - i) (drop i bytes) ∙ ap (min (end - i)) (length-drop i bytes) ∙ omega arith
 

@@ -2,17 +2,23 @@
 use Rattle.std.proofs.Common.{◌≡◌, ℕ, zero, suc, ◌+◌, ◌-◌, ◌<◌, ◌≤◌, ◌⊎◌, inl, inr, Bool, true, false, cond, List, []}
 use Rattle.std.proofs.Common.{◌∷◌, ◌++◌, length, get_or, take, drop, refl, ap, sym, ◌∙◌, subst, append_assoc}
 use Rattle.std.proofs.Common.{length-drop, arith}
+use Rattle.std.specs.Prelude.{is_none}
+use Rattle.std.proofs.lemmas.Bool.{and_parts, true≢false}
+use Rattle.md_engine.specs.declared.event.Kind.{Kind}
+use Rattle.md_engine.specs.declared.event.Kind.TheVariants.{Enter, Exit}
+use Rattle.md_engine.specs.declared.event.Link.{Link}
 use Rattle.std.specs.Prelude.{Option, Some, None}
 use Rattle.std.specs.Option.{is_some}
 use Rattle.std.specs.List.{All, prefix_len}
-use Rattle.std.proofs.lemmas.List.{append-nil, drop-drop, drop_all, drop_more}
+use Rattle.std.proofs.lemmas.List.{append-nil, drop-drop, drop_all, drop_more, take_all}
 use Rattle.std.proofs.lemmas.List.Elements.{All-nil, All-cons, All-head, All-tail}
 use Rattle.md_engine.specs.declared.event.Content.{Content}
 use Rattle.md_engine.specs.declared.event.Event.{Event}
 use Rattle.md_engine.specs.Place.{IsPlaced}
 use Rattle.md_seam.specs.Parts.{AreChunks, ArePlaced, IsChunk}
+use Rattle.md_seam.specs.declared.inline.Chunk.{Chunk}
 use Rattle.md_seam.specs.Substituted.{Begun, Readings, Substituted, chunk_of, chunks_behind, chunks_from, share, stays}
-use Rattle.md_seam.specs.Substituted.{wanted}
+use Rattle.md_seam.specs.Substituted.{is_plain_prefix, wanted, wanted_at}
 use Rattle.md_seam.specs.Events.Prefix.{is_prefix}
 
 -- The chunks of a part.
@@ -82,6 +88,50 @@ chunks-stop wants events at d h none other =
         (λ (x : Bool).
         cond x (chunk_of e f ∷ chunks_behind wants es) (cond (is_prefix e.name) (chunks_behind wants (f ∷ es)) [])) none
         ∙ ap (λ (x : Bool). cond x (chunks_behind wants (f ∷ es)) []) other
+
+-- those behind events of prefixes that begin no chunk
+pub chunks-past : (wants : Content → Bool) (es : List Event) →
+    chunks_behind wants (drop (prefix_len is_plain_prefix es) es) ≡ chunks_behind wants es
+chunks-past wants [] = refl
+chunks-past wants (e ∷ es) = by (is_plain_prefix e) refl (chunks-past wants es)
+  where
+    run : ℕ
+    run = prefix_len is_plain_prefix es
+
+    unwanted : (k : Kind) (l : Option Link) → is_none l ≡ true → is_some (wanted_at wants k l) ≡ false
+    unwanted Enter None h = refl
+    unwanted Exit None h = refl
+    unwanted k (Some l) h = absurd (true≢false (sym h))
+
+    go : (e : Event) (es : List Event) → is_prefix e.name ≡ true → is_some (wanted wants e) ≡ false →
+        chunks_behind wants (e ∷ es) ≡ chunks_behind wants es
+    go e [] prefix none = refl
+    go e (f ∷ es) prefix none =
+        ap
+        (λ (x : Bool).
+        cond x (chunk_of e f ∷ chunks_behind wants es) (cond (is_prefix e.name) (chunks_behind wants (f ∷ es)) [])) none
+        ∙ ap (λ (x : Bool). cond x (chunks_behind wants (f ∷ es)) []) prefix
+
+    by : (x : Bool) → is_plain_prefix e ≡ x → chunks_behind wants (drop run es) ≡ chunks_behind wants es →
+        chunks_behind wants (drop (cond (is_plain_prefix e) (1 + run) 0) (e ∷ es)) ≡ chunks_behind wants (e ∷ es)
+    by true plain behind =
+        let parts : (is_prefix e.name ≡ true) × (is_none e.link ≡ true) = and_parts (is_prefix e.name)
+        (is_none e.link) plain in
+        let more : 1 + run ≡ suc run = omega arith in
+        ap (λ x. chunks_behind wants (drop (cond x (1 + run) 0) (e ∷ es))) plain
+        ∙ ap (λ n. chunks_behind wants (drop n (e ∷ es))) more
+        ∙ behind ∙ sym (go e es parts.0 (unwanted e.kind e.link parts.1))
+    by false other behind = ap (λ x. chunks_behind wants (drop (cond x (1 + run) 0) (e ∷ es))) other
+
+-- and so at a place
+pub chunks-past-at : (wants : Content → Bool) (events rest : List Event) (at n : ℕ) → rest ≡ drop at events →
+    n ≡ prefix_len is_plain_prefix rest →
+    chunks_behind wants (drop (at + n) events) ≡ chunks_behind wants (drop at events)
+chunks-past-at wants events rest at n is run =
+    sym (ap (chunks_behind wants) (drop-drop n at events))
+    ∙ ap (λ l. chunks_behind wants (drop n l)) (sym is)
+    ∙ ap (λ k. chunks_behind wants (drop k rest)) run
+    ∙ chunks-past wants rest ∙ ap (chunks_behind wants) is
 
 -- The events in their places.
 
@@ -292,3 +342,49 @@ leads-part wants reads events rest left now left_behind all new chunks many chun
     Leads wants reads events (drop (share n now f.point.index) now) chunks_left es
     (all ++ take (share n now f.point.index) now))
     (sym less) leads_on))
+
+-- Chunks are listed.
+
+-- a slice to the end
+pub to-end : (events : List Event) (n : ℕ) → take (length events - n) (drop n events) ≡ drop n events
+to-end events n = take_all _ _ (omega (arith, length-drop n events))
+
+-- the first is, and those behind prefixes are left
+pub lists-first : (wants : Content → Bool) (events : List Event) (d : Event) (none items : List Chunk) (n : ℕ) →
+    1 < length events → none ≡ [] →
+    items ≡ none ++ chunk_of (get_or events 0 d) (get_or events 1 d) ∷ [] →
+    n ≡ prefix_len is_plain_prefix (take (length events - 2) (drop 2 events)) →
+    items ++ chunks_behind wants (drop (2 + n) events) ≡ chunks_from wants events
+lists-first wants events d none items n two empty is run =
+    let past = chunks-past-at wants events _ 2 n (to-end events 2) run in
+    rw (is, empty)
+    (ap (λ l. chunk_of (get_or events 0 d) (get_or events 1 d) ∷ l) past ∙ go events two)
+  where
+    go : (events : List Event) → 1 < length events →
+        ◌≡◌ {A = List Chunk} (chunk_of (get_or events 0 d) (get_or events 1 d) ∷ chunks_behind wants (drop 2 events))
+        (chunks_from wants events)
+    go [] two = absurd (omega arith)
+    go (e ∷ []) two = absurd (omega arith)
+    go (e ∷ f ∷ es) two = refl
+
+-- and so is one more
+pub lists-more : (wants : Content → Bool) (events : List Event) (at : ℕ) (d : Event) (items new all : List Chunk)
+    (n : ℕ) → at + 1 < length events → is_some (wanted wants (get_or events at d)) ≡ true →
+    new ≡ items ++ chunk_of (get_or events at d) (get_or events (at + 1) d) ∷ [] →
+    n ≡ prefix_len is_plain_prefix (take (length events - (at + 2)) (drop (at + 2) events)) →
+    items ++ chunks_behind wants (drop at events) ≡ all → new ++ chunks_behind wants (drop (at + 2 + n) events) ≡ all
+lists-more wants events at d items new all n two some is run listed =
+    let e : Event = get_or events at d in
+    let f : Event = get_or events (at + 1) d in
+    let es : List Event = drop (at + 2) events in
+    let past = chunks-past-at wants events _ (at + 2) n (to-end events (at + 2)) run in
+    let here : chunks_behind wants (drop at events) ≡ chunk_of e f ∷ chunks_behind wants es =
+    ap (chunks_behind wants) (two-left events at d two)
+    ∙ ap
+    (λ (x : Bool).
+    cond x (chunk_of e f ∷ chunks_behind wants es) (cond (is_prefix e.name) (chunks_behind wants (f ∷ es)) []))
+    some in
+    ap (λ l. new ++ l) past
+    ∙ ap (λ l. l ++ chunks_behind wants es) is
+    ∙ append_assoc items (chunk_of e f ∷ []) (chunks_behind wants es)
+    ∙ ap (λ l. items ++ l) (sym here) ∙ listed

@@ -1,6 +1,6 @@
 -- Linked parts, and the events that stand in their places once they are read.
-use Rattle.std.specs.Prelude.{◌≡◌, ℕ, zero, suc, Bool, nat_lt, nat_le, if◌then◌else◌, List, [], ◌∷◌, ◌++◌, length, take}
-use Rattle.std.specs.Prelude.{drop, Option, Some, None, is_none}
+use Rattle.std.specs.Prelude.{◌≡◌, ℕ, zero, suc, Bool, nat_lt, nat_le, ◌&&◌, if◌then◌else◌, List, [], ◌∷◌, ◌++◌, length}
+use Rattle.std.specs.Prelude.{take, drop, Option, Some, None, is_none}
 use Rattle.std.specs.Option.{is_some}
 use Rattle.std.specs.List.{prefix_len}
 use Rattle.md_engine.specs.declared.event.Content.{Content}
@@ -30,6 +30,10 @@ wanted wants e = wanted_at wants e.kind e.link
 -- whether no chunk begins with an event that the reader wants
 abbrev pub stays : (Content → Bool) → Event → Bool
 stays wants e = is_none (wanted wants e)
+
+-- whether an event belongs to a container prefix, and begins no chunk since it has no link
+abbrev pub is_plain_prefix : Event → Bool
+is_plain_prefix e = is_prefix e.name && is_none e.link
 
 -- an event that begins a chunk, and the one behind it
 abbrev pub chunk_of : Event → Event → Chunk

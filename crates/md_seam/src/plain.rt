@@ -1,16 +1,17 @@
 // The plainest inline layer.
 
-ghost use Rattle.std.specs.Prelude.{◌≡◌, ◌≤◌, ◌++◌, IsTrue, OnOk, [], length, slice_range};
+ghost use Rattle.std.specs.Prelude.{◌≡◌, ◌≤◌, ◌∷◌, ◌++◌, IfOk, IsTrue, None, OnOk, [], length, slice_range, true};
 ghost use Rattle.md_engine.specs.World.{world};
 ghost use Rattle.md_engine.specs.declared.event.Name.{Name};
 ghost use Rattle.md_seam.specs.Events.Inline.{PlainReads, ends_whole, is_line, pair_unless_empty, plain_chunk};
 ghost use Rattle.md_definition.specs.Lines.{is_ending, without_ending};
 ghost use Rattle.md_seam.specs.Parts.{IsChunk};
+ghost use Rattle.md_seam.specs.Events.Nested.{pair};
 ghost use Rattle.md_seam.specs.Events.Places.{past_text};
 
 use crate::inline::{Chunk, Inline, PartKind};
 use md_engine::class::Class;
-use md_engine::event::{Event, Name};
+use md_engine::event::{Event, Kind, Name, Point};
 use md_engine::message::Message;
 use md_engine::parse_state::ParseState;
 use md_engine::tokenizer::Tokenizer;
@@ -69,6 +70,45 @@ fn read_chunk(tokenizer: &mut Tokenizer, chunk: &Chunk) -> Result<(), Message>
     Ok(())
 }
 
+/// Whether a chunk has bytes, and no line ending at its end. A chunk of one line then has none, and ends with the line.
+fn is_without_ending(bytes: &[u8], chunk: &Chunk) -> bool
+    requires { IsChunk bytes.now chunk.now }
+    ensures { result ≡ true → IsTrue (is_line bytes.now chunk.now) → IsTrue (ends_whole chunk.now) →
+        plain_chunk bytes.now chunk.now ≡ pair Name.Data chunk.now.first chunk.now.after }
+{
+    let end = chunk.after.index;
+    chunk.first.index < end && !ends_line(bytes[end - 1])
+}
+
+/// Appends an event without a link.
+fn push(events: &mut Vec<Event>, kind: Kind, point: Point) -> Result<(), Message>
+    ensures { OnOk result (events.new.items ≡
+        events.old.items ++ (record { kind = kind; name = Name.Data; link = None; point = point }) ∷ []) }
+{
+    let event = Event {
+        kind,
+        name: Name::Data,
+        link: None,
+        point,
+    };
+    if events.push(event).is_err() {
+        return Err(Message);
+    }
+    Ok(())
+}
+
+/// `Data` over a chunk.
+fn whole_chunk(alloc: Global, chunk: &Chunk) -> Result<Vec<Event>, Message>
+    ensures { IfOk result (λ events. events.items ≡ pair Name.Data chunk.now.first chunk.now.after) }
+{
+    let Ok(mut events) = Vec::with_capacity(alloc, 2) else {
+        return Err(Message);
+    };
+    push(&mut events, Kind::Enter, chunk.first)?;
+    push(&mut events, Kind::Exit, chunk.after)?;
+    Ok(events)
+}
+
 impl Inline for Plain {
     ghost reads = { λ plain. PlainReads };
 
@@ -79,6 +119,9 @@ impl Inline for Plain {
         chunks: &[Chunk],
         state: &ParseState,
     ) -> Result<Vec<Event>, Message> {
+        if chunks.len() == 1 && is_without_ending(state.bytes, &chunks[0]) {
+            return whole_chunk(alloc, &chunks[0]);
+        }
         let mut tokenizer = Tokenizer::new(alloc, chunks[0].first, state.bytes, state.options);
         let Ok(events) = Vec::with_capacity(alloc, chunks.len().saturating_mul(MOST)) else {
             return Err(Message);

@@ -8,8 +8,8 @@ ghost use Rattle.std.specs.Prelude.{take};
 ghost use Rattle.std.specs.List.{prefix_len};
 ghost use Rattle.md_engine.specs.declared.event.Content.{Content};
 ghost use Rattle.md_seam.specs.Parts.{AreChunks, ArePlaced};
-ghost use Rattle.md_seam.specs.Substituted.{Begun, Readings, Substituted, belongs, chunk_of, chunks_from, share, stays};
-ghost use Rattle.md_seam.specs.Substituted.{wanted};
+ghost use Rattle.md_seam.specs.Substituted.{Begun, Readings, Substituted, belongs, chunk_of, chunks_from, is_plain_prefix};
+ghost use Rattle.md_seam.specs.Substituted.{share, stays, wanted};
 
 use crate::inline::Chunk;
 pub use crate::names::is_prefix;
@@ -83,6 +83,20 @@ fn push_chunk(chunks: &mut Vec<Chunk>, first: &Event, after: &Event) -> Result<(
     }
 }
 
+/// How many of the events come before the first that does not belong to a container prefix, or has a link. Most events
+/// between two chunks stand so.
+fn plain_prefixes(events: &[Event]) -> usize
+    ensures value { result ≡ prefix_len is_plain_prefix events.now }
+    ensures within { result ≤ length events.now }
+{
+    for (at, event) in events.iter().enumerate() {
+        if !is_prefix(event.name) || event.link.is_some() {
+            return at;
+        }
+    }
+    events.len()
+}
+
 /// Lists the chunks of the part that begins with these events, in place of those that are listed.
 fn list_chunks<R: Reader>(
     chunks: &mut Vec<Chunk>,
@@ -94,11 +108,12 @@ fn list_chunks<R: Reader>(
 {
     chunks.clear();
     push_chunk(chunks, &events[0], &events[1])?;
-    let mut at = 2;
+    let mut at = 2 + plain_prefixes(&events[2..]);
     while at + 1 < events.len() {
         if chunk_content(reader, &events[at]).is_some() {
             push_chunk(chunks, &events[at], &events[at + 1])?;
             at += 2;
+            at += plain_prefixes(&events[at..]);
         } else if is_prefix(events[at].name) {
             at += 1;
         } else {

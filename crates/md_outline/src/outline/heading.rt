@@ -5,7 +5,7 @@ ghost use Rattle.md_definition.specs.Outline.{entries_of};
 ghost use Rattle.md_seam.specs.Events.Spelled.{with_text};
 ghost use Rattle.md_outline.specs.HeadingState.{heading_entries, heading_of, with_markers};
 
-use crate::outline::lines::{next, push, push_lines};
+use crate::outline::lines::{next, push, push_text};
 use md_definition::outline::{OutlineLine, Word};
 use md_engine::message::Message;
 
@@ -13,7 +13,7 @@ use md_engine::message::Message;
 #[derive(Clone, Copy)]
 pub struct Heading<'a> {
     /// The first run of its markers.
-    pub markers: Option<&'a str>,
+    pub markers: Option<&'a [u8]>,
     pub text: Option<&'a str>,
 }
 
@@ -29,7 +29,7 @@ impl<'a> Heading<'a> {
     }
 
     /// Takes a run of markers: the first gives it its depth.
-    pub fn marked(self, run: &'a str) -> Heading<'a>
+    pub fn marked(self, run: &'a [u8]) -> Heading<'a>
         ensures { heading_of result ≡ with_markers run.now (heading_of self.entry) }
     {
         if self.level() == 0 {
@@ -68,7 +68,7 @@ pub fn push_heading<'a>(
     let level = u8::try_from(heading.level()).unwrap_or(u8::MAX);
     push(lines, depth, Word::Heading(level), "")?;
     match heading.text {
-        Some(text) => push_lines(lines, next(depth)?, text.as_bytes()),
+        Some(text) => push_text(lines, next(depth)?, text),
         None => Ok(()),
     }
 }

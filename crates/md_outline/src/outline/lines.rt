@@ -1,11 +1,11 @@
 // The lines of a text, as an outline shows them.
 
-ghost use Rattle.std.specs.Prelude.{◌≡◌, ◌≤◌, ◌+◌, ◌-◌, ◌∷◌, [], ◌++◌, length, slice_range, IfOk, OnOk};
+ghost use Rattle.std.specs.Prelude.{◌≡◌, ◌≤◌, ◌+◌, ◌-◌, ◌∷◌, [], ◌++◌, true, length, slice_range, IfOk, OnOk};
 ghost use Rattle.std.specs.List.{prefix_len};
 ghost use Rattle.std.specs.Str.{IsUtf8};
 ghost use Rattle.md_definition.specs.Outline.{entries_of, entry_with};
 ghost use Rattle.md_definition.specs.Rest.{is_white, trim_start};
-ghost use Rattle.md_definition.specs.Texts.{split_lines};
+ghost use Rattle.md_definition.specs.Texts.{split_lines, trim_each};
 ghost use Rattle.md_seam.specs.Events.Places.{last_line};
 ghost use Rattle.md_outline.specs.TextLines.{after_ending, full_entries, line_len, text_entries};
 
@@ -139,4 +139,26 @@ pub fn push_lines<'a>(
 {
     let rest = push_full_lines(lines, depth, text)?;
     push(lines, depth, Word::Line, line_text(rest))
+}
+
+/// Whether a text is one line without an ending that begins with neither a space nor a tab.
+fn is_trimmed_line(text: &[u8]) -> bool
+    ensures { result ≡ true → trim_each (split_lines text.now) ≡ text.now ∷ [] }
+{
+    first_line_len(text) == text.len() && white_len(text) == 0
+}
+
+/// Adds the lines of a text, which is most often one that is shown as it is.
+pub fn push_text<'a>(
+    lines: &mut Vec<OutlineLine<'a>>,
+    depth: usize,
+    text: &'a str,
+) -> Result<(), Message>
+    ensures { OnOk result (entries_of lines.new.items ≡ entries_of lines.old.items ++ text_entries depth text.now) }
+{
+    if is_trimmed_line(text.as_bytes()) {
+        push(lines, depth, Word::Line, text)
+    } else {
+        push_lines(lines, depth, text.as_bytes())
+    }
 }

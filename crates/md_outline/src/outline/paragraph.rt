@@ -41,7 +41,7 @@ pub fn push_block<'a>(
     push_lines(lines, next(depth)?, text)
 }
 
-/// Adds what stands in it in front of a prefix.
+/// Adds what stands in it in front of a prefix: nothing where another prefix ends there.
 pub fn push_piece<'a>(
     lines: &mut Vec<OutlineLine<'a>>,
     depth: usize,
@@ -53,6 +53,9 @@ pub fn push_piece<'a>(
         entries_of lines.new.items ≡
         entries_of lines.old.items ++ begin_entries depth is_shown ++ full_entries (depth + 1) text.now) }
 {
+    if is_shown && text.is_empty() {
+        return Ok(());
+    }
     push_begin(lines, depth, is_shown)?;
     push_full_lines(lines, next(depth)?, text)?;
     Ok(())

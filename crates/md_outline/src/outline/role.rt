@@ -1,12 +1,14 @@
 // How an outline meets blocks: what the events of a name mean to it, and what it knows and shows of a leaf block.
 
-ghost use Rattle.std.specs.Prelude.{◌≡◌, ◌++◌, OnOk};
+ghost use Rattle.std.specs.Prelude.{◌≡◌, ◌++◌, true, OnOk};
+ghost use Rattle.std.specs.Str.{IsUtf8};
 ghost use Rattle.md_definition.specs.Outline.{entries_of};
 ghost use Rattle.md_seam.specs.Events.Spelled as spelled;
 ghost use Rattle.md_outline.specs.Roles.{leaf_entries, leaf_of, noted, shown_as};
+ghost use Rattle.md_outline.specs.declared.outline.role.Role.{Role};
 
 use crate::outline::heading::{Heading, push_heading};
-use crate::outline::lines::push;
+use crate::outline::lines::{push, text_of};
 use md_definition::outline::{OutlineLine, Word};
 use md_engine::event::Name;
 use md_engine::message::Message;
@@ -48,6 +50,14 @@ pub enum Role<'a> {
     Quiet,
 }
 
+/// Whether this is one of the names of most events, which mean nothing.
+pub fn is_quiet(name: Name) -> bool
+    ensures { result ≡ true → shown_as (spelled.role name) ≡ Role.Quiet }
+{
+    matches!(name, Name::BlockQuoteMarker | Name::SpaceOrTab)
+        || matches!(name, Name::LineEnding | Name::Data)
+}
+
 /// What the events of this name mean.
 pub fn role_of<'a>(name: Name) -> Role<'a>
     ensures { result ≡ shown_as (spelled.role name) }
@@ -73,12 +83,12 @@ pub fn role_of<'a>(name: Name) -> Role<'a>
 
 impl<'a> Leaf<'a> {
     /// The leaf behind a text that tells it this.
-    pub fn noted(self, note: Note, text: &'a str) -> Leaf<'a>
-        ensures { leaf_of result ≡ noted note text.now (leaf_of self.entry) }
+    pub fn noted(self, note: Note, text: &'a [u8]) -> Leaf<'a>
+        ensures { IsUtf8 text.now → leaf_of result ≡ noted note text.now (leaf_of self.entry) }
     {
         match (self, note) {
             (Leaf::Heading(heading), Note::Markers) => Leaf::Heading(heading.marked(text)),
-            (Leaf::Heading(heading), Note::Title) => Leaf::Heading(heading.titled(text)),
+            (Leaf::Heading(heading), Note::Title) => Leaf::Heading(heading.titled(text_of(text))),
             (Leaf::Break, _) => Leaf::Break,
         }
     }

@@ -15,6 +15,6 @@ returns-in-Block-clause-read c =
 
 pub returns-in-Note-clause-read : goal.returns-in-Note-clause-read
 returns-in-Note-clause-read c = λ cut.
-    note-end c.args.self.now.bytes.now c.part-text.result.now c.text_of.result.now c.in-Some.span c.args.end
+    note-end c.args.self.now.bytes.now c.part-text.result.now c.in-Some.span c.args.end
     c.args.self.now.text c.args.purpose c.in-Note.note (state_of c.args.self.now) (state_of c.note.new.self)
-    c.in-Some.is c.in-Note.is cut c.part-text.ensures c.text_of.ensures c.note.ensures.read
+    c.in-Some.is c.in-Note.is cut c.part-text.ensures c.note.ensures.read

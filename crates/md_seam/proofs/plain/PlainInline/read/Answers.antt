@@ -1,8 +1,9 @@
-use Rattle.std.proofs.Common.{ap, ◌∙◌, arith}
+use Rattle.std.proofs.Common.{ap, ◌∙◌, arith, get_or}
 use Rattle.std.proofs.lemmas.List.Elements.{All-nil}
 use Rattle.md_engine.specs.World.{Setting, World}
 use Rattle.md_seam.specs.declared.inline.Chunk.{Chunk}
 use Rattle.md_seam.proofs.PlainSteps.{chunks-all, chunks-more}
+use Rattle.md_seam.proofs.PlainWhole.{if_ok-map, whole-placed, whole-reads}
 use Rattle.md_seam.proofs.plain.PlainInline.read.Goals as goal
 
 -- what indexing gives past the end of a list
@@ -52,3 +53,19 @@ returns c = record {
       c.loop-chunk.tokenizer.events.items
       (omega arith) c.loop-chunk.invariant.events;
 }
+
+pub returns-then-is_without_ending-clause-placed : goal.returns-then-is_without_ending-clause-placed
+returns-then-is_without_ending-clause-placed c =
+    if_ok-map c.whole_chunk.result
+    (λ events is.
+    whole-placed c.args.state.now.bytes.now (get_or c.args.chunks.now 0 unset) events.items
+    (c.requires.each 0 _ c.requires.some) is)
+    c.whole_chunk.ensures
+
+pub returns-then-is_without_ending-clause-reading : goal.returns-then-is_without_ending-clause-reading
+returns-then-is_without_ending-clause-reading c =
+    if_ok-map c.whole_chunk.result
+    (λ events is.
+    whole-reads c.args.state.now.bytes.now c.args._kind c.args.chunks.now unset events.items c.if-chunks-eq1.true
+    (c.is_without_ending.ensures c.if-is_without_ending.true) is)
+    c.whole_chunk.ensures
