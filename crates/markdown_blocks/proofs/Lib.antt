@@ -1,6 +1,7 @@
 pub mod Goods
 pub mod States
 pub mod FlowStays
+pub mod FlowCalls
 pub mod FromEnding
 pub mod FlowLemmas
 pub mod FlowMeans

@@ -7,6 +7,7 @@ pub mod Closing
 pub mod Loops
 pub mod ClassLemmas
 pub mod StayLemmas
+pub mod Walks
 pub mod Keeps
 pub mod StepOf
 pub mod ResolverNames

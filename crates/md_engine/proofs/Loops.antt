@@ -6,6 +6,7 @@ use Rattle.md_engine.specs.declared.event.Point.{Point}
 use Rattle.md_engine.specs.declared.state.Name.{Name as StateName}
 use Rattle.md_engine.specs.declared.state.State.{State}
 use Rattle.md_engine.specs.declared.state.State.TheVariants.{Error, Ok, Nok, Next, Retry}
+use Rattle.md_engine.specs.Going.{SeesOn}
 use Rattle.md_engine.specs.Run.{IsEnd, IsWaiting, Remains, Runs, RunsFrom, RunsHere, Step, plain, reading}
 use Rattle.md_engine.specs.Run.Runs.{Stays, ThenCalls}
 use Rattle.md_engine.specs.World.{Setting, World, looks, looks_at}
@@ -106,25 +107,45 @@ pub still-sees : (next : StateName) (w w' : World) → Remains (Retry next) w w'
 still-sees next w w' r same seen =
     r.1 ∙ seen ∙ ap₂ (λ (x : Setting) (p : Point). looks_at x p) (sym same) (sym r.0)
 
-reading-same : (w : World) → w.current ≡ looks w → reading w ≡ w
+pub reading-same : (w : World) → w.current ≡ looks w → reading w ≡ w
 reading-same w seen = ap (λ (o : Option ℕ). record w { current = o }) (sym seen)
 
--- and so one has come to it
+-- one call is a run
+pub call-runs : (T : Step) (name : StateName) (w : World) (s' : State) (w' : World) → T name w s' w' → s' ≢ Error →
+    w'.setting ≡ w.setting → All (λ f. f.events_len ≤ length w.events) w.frames → RunsHere T name w s' w'
+call-runs T name w s' w' step fine same within =
+    came-calls T name name w w s' w' (came-first T name w) step fine same within
+
+pub call-sees : (s' : State) (w w' : World) → Remains s' w w' → w'.setting ≡ w.setting → w.current ≡ looks w →
+    SeesOn s' w w'
+call-sees Ok w w' r same seen = tt
+call-sees Nok w w' r same seen = tt
+call-sees Error w w' r same seen = tt
+call-sees (Next n) w w' r same seen = tt
+call-sees (Retry n) w w' r same seen = (still-sees n w w' r same seen, inl r.0)
+
+-- and so one has come to a state that stays
 pub came-stays : (T : Step) (first name next : StateName) (old w w' : World) → CameHere T first old name w →
-    RunsHere T first old (Retry next) w' → Remains (Retry next) w w' → w'.setting ≡ w.setting → w.current ≡ looks w →
+    RunsHere T name w (Retry next) w' → SeesOn (Retry next) w w' → w'.setting ≡ w.setting →
     CameHere T first old next w'
-came-stays T first name next old w w' came runs r same seen is_end s v names sees may =
+came-stays T first name next old w w' came runs r same is_end s v names sees may =
     let h = came is_end s v names sees may in
-    let there : w'.point ≡ h.at.point = r.0 ∙ sym (ap (λ (x : World). x.point) h.sees) in
     let within : w'.setting ≡ h.at.setting = same ∙ sym (ap (λ (x : World). x.setting) h.sees) in
     record {
       state = Retry next;
       at = w';
       names = refl;
-      sees = reading-same w' (still-sees next w w' r same seen);
-      may = rw (there, within) h.may;
-      runs = runs is_end s v names sees may;
+      sees = reading-same w' r.0;
+      may = go h.at h.may within (sym (ap (λ (x : World). x.point) h.sees)) r.1;
+      runs =
+          came-runs T is_end first name old w (Retry next) w' (came is_end) (runs is_end) s v names sees may;
     }
+  where
+    go : (at : World) → (is_end ≡ true) ⊎ (at.point.index < at.setting.limit) → w'.setting ≡ at.setting →
+        w.point ≡ at.point → (w'.point ≡ w.point) ⊎ (w'.point.index < w'.setting.limit) →
+        (is_end ≡ true) ⊎ (w'.point.index < w'.setting.limit)
+    go at h within from (inl there) = rw (there ∙ from, within) h
+    go at h within from (inr lt) = inr lt
 
 -- one that takes nothing waits for nothing
 pub not_waiting : (is_end : Bool) (s : State) (w : World) → ((n : StateName) → s ≢ Next n) → IsWaiting is_end s w

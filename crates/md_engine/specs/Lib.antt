@@ -7,6 +7,7 @@ pub mod ContainerName
 pub mod Ends
 pub mod Found
 pub mod Run
+pub mod Going
 pub mod Scheme
 pub mod Staying
 pub mod Meaning

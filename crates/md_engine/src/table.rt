@@ -5,7 +5,8 @@
 ghost use Rattle.std.specs.Prelude.{Bool, ◌≡◌, ◌≢◌, ◌<◌, ◌≤◌, ◌⊎◌, [], length, IfOk, IfNone, IfSome, OnOk, false, true};
 ghost use Rattle.std.specs.Option.{option_map};
 ghost use Rattle.md_engine.specs.Found.{found_in};
-ghost use Rattle.md_engine.specs.Run.{Flushes, IsEnd, IsStopped, Leaves, Remains, Resolution, ResolvedIf, Runs};
+ghost use Rattle.md_engine.specs.Going.{SeesOn};
+ghost use Rattle.md_engine.specs.Run.{Flushes, IsEnd, IsStopped, Leaves, Resolution, ResolvedIf, Runs};
 ghost use Rattle.md_engine.specs.Run.{IsWaiting, RunsFrom, RunsHere, Step, plain};
 ghost use Rattle.md_engine.specs.Scheme.{Scheme, stands, work};
 ghost use Rattle.md_engine.specs.Staying.{StaysOn};
@@ -30,16 +31,17 @@ pub trait Table {
     /// What each resolver may do.
     ghost resolves: { Resolution };
 
-    /// Calls the state of this name, at what stands at the point.
+    /// Calls the state of this name, at what stands at the point, and maybe some that follow it, one after another.
     fn call(tokenizer: &mut Tokenizer, name: StateName) -> State
         requires current { (world tokenizer.old).current ≡ looks (world tokenizer.old) }
         requires stands { stands scheme (world tokenizer.old) (State.Next name) }
-        ensures step { result ≢ State.Error → step name (world tokenizer.old) result (world tokenizer.new) }
+        ensures runs { result ≢ State.Error →
+            RunsHere step name (world tokenizer.old) result (world tokenizer.new) }
         ensures stands { result ≢ State.Error → stands scheme (world tokenizer.new) (plain result) }
         ensures falls { result ≢ State.Error →
             work scheme (world tokenizer.new) (plain result) < work scheme (world tokenizer.old) (State.Next name) }
         ensures setting { result ≢ State.Error → (world tokenizer.new).setting ≡ (world tokenizer.old).setting }
-        ensures remains { result ≢ State.Error → Remains result (world tokenizer.old) (world tokenizer.new) };
+        ensures sees { result ≢ State.Error → SeesOn result (world tokenizer.old) (world tokenizer.new) };
 
     /// What the state of this name only takes and counts, to stay where it is: much is taken at once.
     fn stays(name: StateName) -> Option<Stay>

@@ -545,7 +545,7 @@ impl<'a> Tokenizer<'a> {
     }
 
     /// Sees what stands at the point, or waits where that is yet to come; whether it waits.
-    pub(crate) fn see_or_wait(&mut self, is_end: bool) -> bool
+    pub fn see_or_wait(&mut self, is_end: bool) -> bool
         ensures waits { result ≡ true →
             (is_end ≡ false) × ((world self.old).setting.limit ≤ (world self.old).point.index) }
         ensures same { result ≡ true → world self.new ≡ world self.old }
@@ -579,7 +579,7 @@ impl<'a> Tokenizer<'a> {
     }
 
     /// Sees and takes the rest of a word.
-    pub(crate) fn see_word(&mut self)
+    pub fn see_word(&mut self)
         ensures { SeesAll Stay.Word (world self.old) (world self.new) }
     {
         self.see_span(Class::Word);

@@ -9,6 +9,7 @@ pub mod BomGoods
 pub mod HeadingLemmas
 pub mod HeadingSteps
 pub mod HeadingWhole
+pub mod HeadingWords
 pub mod BomSteps
 pub mod NonLazyGoods
 pub mod NonLazySteps

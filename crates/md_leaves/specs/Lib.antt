@@ -3,6 +3,7 @@ pub mod Bom
 pub mod Break
 pub mod Heading
 pub mod HeadingText
+pub mod HeadingWords
 pub mod HeadingWalk
 pub mod LeafStart
 pub mod Rewritten

@@ -9,6 +9,8 @@
 ghost use Rattle.std.specs.Prelude.{◌≡◌, ◌≢◌, Bool, [], IfOk, IfSome, None};
 ghost use Rattle.std.specs.Option.{option_map};
 ghost use Rattle.md_engine.specs.Found.{found_in};
+ghost use Rattle.md_engine.specs.Going.{SeesOn};
+ghost use Rattle.md_engine.specs.Run.{RunsHere};
 ghost use Rattle.md_engine.specs.World.{world};
 ghost use Rattle.md_engine.specs.declared.state.Name.{Name as StateName};
 ghost use Rattle.md_engine.specs.declared.state.State.{State};
@@ -17,6 +19,7 @@ ghost use Rattle.md_leaves.specs.Heading.{at_break_transition, before_transition
 ghost use Rattle.md_leaves.specs.Heading.{heading_transition, may_begin, sequence_further_transition};
 ghost use Rattle.md_leaves.specs.Heading.{sequence_open_transition, start_transition};
 ghost use Rattle.md_leaves.specs.HeadingText.{headings_resolved};
+ghost use Rattle.md_leaves.specs.HeadingWords.{HeadingStep, begins_word};
 ghost use Rattle.md_seam.specs.Look.{may_with};
 ghost use Rattle.md_seam.specs.Spaces.{sees_white};
 ghost use Rattle.md_seam.specs.Stays.{TakesEach};
@@ -33,7 +36,9 @@ use md_engine::state::{Name as StateName, State};
 use md_engine::stay::Stay;
 use md_engine::subtokenize::Subresult;
 use md_engine::tokenizer::{HeldLeaf, Tokenizer};
-use md_seam::space_or_tab::{is_space_or_tab, small_indent, space_or_tab, space_or_tab_min_max};
+use md_seam::space_or_tab::{
+    is_one_space, is_space_or_tab, space_or_tab, take_one_space,
+};
 
 /// An opening sequence has at most so many `#`.
 const OPENING: usize = 6;
@@ -217,7 +222,47 @@ pub fn data(tokenizer: &mut Tokenizer) -> State
     }
 }
 
+/// Whether a word begins here: text that is no `#`.
+fn begins_word(current: Option<u8>) -> bool
+    ensures { result ≡ begins_word current }
+{
+    match current {
+        None => false,
+        Some(byte) => !matches!(byte, b'\t' | b'\n' | b' ' | b'#'),
+    }
+}
+
+/// Before a run of the line, or at its end: goes at once over words that one space parts, as `at_break`, `data` and the
+/// states of whitespace do one after another.
+///
+/// ```markdown
+/// > | ## aa bb
+///        ^  ^
+/// ```
+pub fn words(tokenizer: &mut Tokenizer) -> State
+    requires { IsAt NeedsNothing (StateName.HeadingAtx HeadingState.AtBreak) (world tokenizer.old) }
+    ensures runs { result ≢ State.Error →
+        RunsHere (HeadingStep (λ name. ⟦<ResolveName as PartialEq>⟧.eq name ResolveName.HeadingAtx))
+        (StateName.HeadingAtx HeadingState.AtBreak) (world tokenizer.old) result (world tokenizer.new) }
+    ensures sees { result ≢ State.Error → SeesOn result (world tokenizer.old) (world tokenizer.new) }
+{
+    while begins_word(tokenizer.current) {
+        or_error!(tokenizer.enter_link(Name::Data, TEXT_LINK));
+        tokenizer.see_word();
+        if tokenizer.see_or_wait(false) {
+            return State::Next(StateName::HeadingAtx(HeadingState::Data));
+        }
+        if !is_one_space(tokenizer) {
+            return data(tokenizer);
+        }
+        or_error!(tokenizer.exit(Name::Data));
+        or_error!(take_one_space(tokenizer));
+    }
+    at_break(tokenizer)
+}
+
 /// Calls a state of a heading.
+#[inline(always)]
 pub fn call(tokenizer: &mut Tokenizer, state: HeadingState) -> State
     requires { IsAt NeedsNothing (StateName.HeadingAtx state) (world tokenizer.old) }
     ensures to { result ≢ State.Error →

@@ -1,6 +1,7 @@
 pub mod Transition
 pub mod Stays
 pub mod Spaces
+pub mod OneSpace
 pub mod Parts
 pub mod Lent
 pub mod Ahead

@@ -4,18 +4,21 @@
 //
 // It adds one `SpaceOrTab` around them, and nothing where there are none.
 
-ghost use Rattle.std.specs.Prelude.{◌≡◌, ◌≢◌, IfSome};
+ghost use Rattle.std.specs.Prelude.{◌≡◌, ◌≢◌, IfSome, OnOk, true};
 ghost use Rattle.md_engine.specs.World.{world};
 ghost use Rattle.md_engine.specs.declared.state.Name.{Name as StateName};
 ghost use Rattle.md_engine.specs.declared.state.State.{State};
 ghost use Rattle.md_engine.specs.declared.state.space_or_tab.State.{State as WhiteState};
 ghost use Rattle.md_seam.specs.Look.{first_behind, looks_behind};
+ghost use Rattle.md_seam.specs.OneSpace.{IsOneSpace, spaced};
 ghost use Rattle.md_seam.specs.Spaces.{WhiteNeeds, after_transition, any_size, inside_transition, sees_white};
 ghost use Rattle.md_seam.specs.Spaces.{small_indent, start_transition, white_then, white_transition};
 ghost use Rattle.md_seam.specs.Stays.{TakesEach};
 ghost use Rattle.md_seam.specs.Transition.{IsAt};
 
+use md_engine::class::is_white;
 use md_engine::event::Name;
+use md_engine::message::Message;
 use md_engine::or_error;
 use md_engine::state::space_or_tab::State as WhiteState;
 use md_engine::state::{Name as StateName, State};
@@ -101,6 +104,35 @@ pub fn space_or_tab(tokenizer: &mut Tokenizer, ok: State, nok: State) -> State
         world tokenizer.new ≡ (white_then (world tokenizer.old) 1 any_size ok nok).world }
 {
     space_or_tab_min_max(tokenizer, 1, usize::MAX, ok, nok)
+}
+
+/// Whether one space stands here, and behind it something that may be read now and is no whitespace.
+pub fn is_one_space(tokenizer: &Tokenizer) -> bool
+    ensures { result ≡ true → IsOneSpace (world tokenizer.now) }
+{
+    let index = tokenizer.point.index;
+    index < tokenizer.limit
+        && tokenizer.bytes[index] == b' '
+        && index + 1 < tokenizer.limit
+        && !is_white(tokenizer.bytes[index + 1])
+}
+
+/// Takes the one space that stands here, as the states of whitespace do, and sees what stands behind it.
+#[inline(always)]
+pub fn take_one_space(tokenizer: &mut Tokenizer) -> Result<(), Message>
+    requires { IsOneSpace (world tokenizer.old) }
+    ensures { OnOk result (world tokenizer.new ≡ spaced (world tokenizer.old)) }
+{
+    tokenizer.enter(Name::SpaceOrTab)?;
+    tokenizer.consume();
+    tokenizer.exit(Name::SpaceOrTab)?;
+    tokenizer.scratch.whitespace = Whitespace {
+        min: 0,
+        max: 0,
+        size: 0,
+    };
+    tokenizer.current = tokenizer.look();
+    Ok(())
 }
 
 /// Before whitespace.

@@ -6,10 +6,12 @@
 // that stands first behind whitespace is refused at once; else an attempt tells. The line then ends in the document.
 
 ghost use Rattle.std.specs.Prelude.{◌≡◌, ◌≢◌};
+ghost use Rattle.md_engine.specs.Going.{SeesOn};
+ghost use Rattle.md_engine.specs.Run.{RunsHere};
 ghost use Rattle.md_engine.specs.Scheme.{stands};
 ghost use Rattle.md_engine.specs.World.{looks, world};
 ghost use Rattle.md_engine.specs.declared.resolve.name.Name.{Name as ResolveName};
-ghost use Rattle.markdown_blocks.specs.States.{flow_table_scheme, flow_transition};
+ghost use Rattle.markdown_blocks.specs.States.{FlowStep, flow_table_scheme, flow_transition};
 ghost use Rattle.md_engine.specs.declared.state.Name.{Name as StateName};
 ghost use Rattle.md_engine.specs.declared.state.State.{State};
 ghost use Rattle.md_engine.specs.declared.state.flow.State.{State as FlowState};
@@ -188,6 +190,7 @@ pub fn call(tokenizer: &mut Tokenizer, state: FlowState) -> State
 }
 
 /// Calls a state of the table.
+#[inline(always)]
 fn call_state(tokenizer: &mut Tokenizer, name: StateName) -> State
     requires current { (world tokenizer.old).current ≡ looks (world tokenizer.old) }
     requires stands { stands flow_table_scheme (world tokenizer.old) (State.Next name) }
@@ -209,12 +212,27 @@ fn call_state(tokenizer: &mut Tokenizer, name: StateName) -> State
     }
 }
 
+/// Calls a state of a heading; words of it are taken at once.
+#[inline(always)]
+fn call_heading(tokenizer: &mut Tokenizer, state: HeadingState) -> State
+    requires current { (world tokenizer.old).current ≡ looks (world tokenizer.old) }
+    requires stands { stands flow_table_scheme (world tokenizer.old) (State.Next (StateName.HeadingAtx state)) }
+    ensures runs { result ≢ State.Error →
+        RunsHere (FlowStep (λ target other. ⟦<ResolveName as PartialEq>⟧.eq other target)) (StateName.HeadingAtx state)
+        (world tokenizer.old) result (world tokenizer.new) }
+    ensures sees { result ≢ State.Error → SeesOn result (world tokenizer.old) (world tokenizer.new) }
+{
+    match state {
+        HeadingState::AtBreak => heading_atx::words(tokenizer),
+        _ => heading_atx::call(tokenizer, state),
+    }
+}
+
 /// The states of flow.
 pub struct FlowTable;
 
 impl Table for FlowTable {
     ghost use Rattle.markdown_blocks.specs.Resolved.{resolved_as};
-    ghost use Rattle.markdown_blocks.specs.States.{FlowStep};
 
     ghost step = { FlowStep (λ target other. ⟦<ResolveName as PartialEq>⟧.eq other target) };
 
@@ -223,7 +241,10 @@ impl Table for FlowTable {
     ghost resolves = { resolved_as };
 
     fn call(tokenizer: &mut Tokenizer, name: StateName) -> State {
-        call_state(tokenizer, name)
+        match name {
+            StateName::HeadingAtx(state) => call_heading(tokenizer, state),
+            _ => call_state(tokenizer, name),
+        }
     }
 
     fn stays(name: StateName) -> Option<Stay> {

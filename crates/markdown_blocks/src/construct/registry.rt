@@ -68,6 +68,7 @@ pub fn goes_on_with(kind: ContainerKind) -> StateName
 }
 
 /// Calls a state of a construct.
+#[inline(always)]
 pub fn call(tokenizer: &mut Tokenizer, name: StateName) -> State
     requires current { (world tokenizer.old).current ≡ looks (world tokenizer.old) }
     requires stands { stands flow_table_scheme (world tokenizer.old) (State.Next name) }

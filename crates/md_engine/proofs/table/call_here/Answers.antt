@@ -1,11 +1,11 @@
 use Rattle.std.proofs.Common.{◌≡◌, ◌≢◌, ◌<◌, ◌≤◌, ◌∙◌, ap, arith, refl, subst}
 use Rattle.md_engine.specs.declared.state.State.{State}
 use Rattle.md_engine.specs.declared.state.State.TheVariants.{Error, Next, Retry}
-use Rattle.md_engine.specs.Run.{Remains, RunsHere, plain}
+use Rattle.md_engine.specs.Going.{SeesOn}
+use Rattle.md_engine.specs.Run.{RunsHere, plain}
 use Rattle.md_engine.specs.Scheme.{stands, work}
 use Rattle.md_engine.specs.World.{World, world}
-use Rattle.md_engine.proofs.StayLemmas.{within-world}
-use Rattle.md_engine.proofs.Loops.{came-calls, came-first, came-stays, not_error, still-sees}
+use Rattle.md_engine.proofs.Loops.{came-first, came-runs, came-stays, not_error}
 use Rattle.md_engine.proofs.table.call_here.Goals as goal
 
 pub loop-next-init : goal.loop-next-init
@@ -26,26 +26,22 @@ loop-next-preserved g c =
     let S = g.T.Table.scheme in
     let old : World = world c.loop-next.tokenizer in
     let new : World = world c.call.new.tokenizer in
-    let P : State → Type 0 = λ s. Remains s old new in
+    let P : State → Type 0 = λ s. SeesOn s old new in
     let Q : State → Type 0 = λ s. stands S new (plain s) in
     let R : State → Type 0 = λ s. work S new (plain s) < work S old (Next c.loop-next.name) in
-    let V : State → Type 0 = λ s. RunsHere T c.args.first (world c.args.tokenizer.now) s new in
-    let remains : Remains (Retry next) old new = subst P is (c.call.ensures.remains fine) in
+    let V : State → Type 0 = λ s. RunsHere T c.loop-next.name old s new in
+    let sees : SeesOn (Retry next) old new = subst P is (c.call.ensures.sees fine) in
     let same = c.call.ensures.setting fine in
     let less : work S new (Next next) <
     work S old (Next c.loop-next.name) = subst R is (c.call.ensures.falls fine) in
     let before : work S old (Next c.loop-next.name) ≤
     work S (world c.args.tokenizer.now) (Next c.args.first) = c.loop-next.invariant.falls in
     record {
-      current = still-sees next old new remains same c.loop-next.invariant.current;
+      current = sees.0;
       stands = subst Q is (c.call.ensures.stands fine);
       came =
           came-stays T c.args.first c.loop-next.name next (world c.args.tokenizer.now) old new
-          c.loop-next.invariant.came
-          (subst V is
-          (came-calls T c.args.first c.loop-next.name (world c.args.tokenizer.now) old c.call.result new
-          c.loop-next.invariant.came (c.call.ensures.step fine) fine same (within-world c.loop-next.tokenizer))) remains
-          same c.loop-next.invariant.current;
+          c.loop-next.invariant.came (subst V is (c.call.ensures.runs fine)) sees same;
       falls = omega (arith, less, before);
       setting = same ∙ c.loop-next.invariant.setting;
     }
@@ -61,10 +57,10 @@ loop-next-smaller g c =
 
 pub returns-in_default : goal.returns-in_default
 returns-in_default g c = record {
-  runs = λ fine.
-      came-calls g.T.Table.step c.args.first c.loop-next.name (world c.args.tokenizer.now) (world c.loop-next.tokenizer)
-      c.call.result (world c.call.new.tokenizer) c.loop-next.invariant.came (c.call.ensures.step fine) fine
-      (c.call.ensures.setting fine) (within-world c.loop-next.tokenizer);
+  runs = λ fine is_end.
+      came-runs g.T.Table.step is_end c.args.first c.loop-next.name (world c.args.tokenizer.now)
+      (world c.loop-next.tokenizer) c.call.result (world c.call.new.tokenizer) (c.loop-next.invariant.came is_end)
+      (c.call.ensures.runs fine is_end);
   stands = λ fine. c.call.ensures.stands fine;
   falls = λ fine.
       let less = c.call.ensures.falls fine in

@@ -1,14 +1,12 @@
-use Rattle.std.proofs.Common.{◌≡◌, ℕ, Bool, true, false, not, ◌&&◌, nat_lt, Option, ◌||◌, nat_eq, Some, ap, ◌∙◌}
+use Rattle.std.proofs.Common.{ℕ, Bool, ◌&&◌, nat_lt, Option, ap, ◌∙◌}
 use Rattle.md_engine.specs.declared.resolve.name.Name.{Name as ResolveName}
 use Rattle.md_engine.specs.declared.state.heading_atx.State.TheVariants as its
 use Rattle.md_engine.specs.declared.state.Name.TheVariants as n
-use Rattle.md_engine.specs.declared.stay.Stay.TheVariants.{Byte, UpTo, Word}
-use Rattle.md_engine.specs.declared.class.Class.TheVariants as class
-use Rattle.md_engine.proofs.StayLemmas.{in-line}
-use Rattle.md_leaves.specs.Heading.{data_code, heading_transition, sees_text, sequence_further_code, sequence_open_code}
+use Rattle.md_engine.specs.declared.stay.Stay.TheVariants.{Byte, UpTo}
+use Rattle.md_leaves.specs.Heading.{heading_transition, sees_text, sequence_further_code, sequence_open_code}
 use Rattle.md_seam.specs.Spaces.{is_current, sees_white}
 use Rattle.md_seam.specs.Stays.{TakesEach}
-use Rattle.md_seam.proofs.StaysLemmas.{in-word}
+use Rattle.md_leaves.proofs.HeadingWords.{data-takes}
 use Rattle.md_leaves.proofs.heading_atx.stays.Goals as goal
 
 -- an opening sequence is taken and counted,
@@ -18,19 +16,11 @@ open-takes is_name w b e h =
     ap (λ (x : Bool). sequence_open_code w x (sees_text w.current) (sees_white w.current))
     (ap (λ (o : Option ℕ). is_current 35 o && nat_lt w.scratch.size 6) e ∙ h)
 
--- a further one only taken,
+-- and a further one only taken
 further-takes : (is_name : ResolveName → Bool) →
     TakesEach (Byte 35) (n.HeadingAtx its.SequenceFurther) (heading_transition is_name its.SequenceFurther)
 further-takes is_name w b e h =
     ap (λ (x : Bool). sequence_further_code w x (sees_white w.current)) (ap (is_current 35) e ∙ h)
-
--- and text of a heading is taken word by word
-data-takes : (is_name : ResolveName → Bool) →
-    TakesEach Word (n.HeadingAtx its.Data) (heading_transition is_name its.Data)
-data-takes is_name w b e h =
-    let text : sees_text (Some b) ≡ true = ap (λ (x : Bool). not (x || nat_eq b 10)) (in-word b h)
-    ∙ ap (λ (x : Bool). not (false || x)) (in-line class.Word b h) in
-    ap (λ (x : Bool). data_code w x (sees_white w.current)) (ap sees_text e ∙ text)
 
 pub returns-in-SequenceOpen : goal.returns-in-SequenceOpen
 returns-in-SequenceOpen c = rw c.in-SequenceOpen.is open-takes

@@ -1,5 +1,7 @@
 use Rattle.md_engine.specs.World.{world}
-use Rattle.markdown_blocks.specs.Document.{document_table_scheme}
+use Rattle.md_engine.proofs.Loops.{call-runs, call-sees}
+use Rattle.md_engine.proofs.StayLemmas.{within-world}
+use Rattle.markdown_blocks.specs.Document.{DocumentStep, document_table_scheme}
 use Rattle.markdown_blocks.proofs.DocumentStates.{document_does}
 use Rattle.md_seam.proofs.SpacesGoods.{does-fall, does-remain, does-setting, does-stands}
 use Rattle.markdown_blocks.proofs.construct.document.DocumentTableTable.call.Goals as goal
@@ -22,8 +24,20 @@ returns-clause-setting c = λ fine.
     does-setting document_table_scheme c.args.name w _ _ (c.call_state.ensures.world fine)
     (document_does c.args.name w c.requires.current c.requires.stands)
 
-pub returns-clause-remains : goal.returns-clause-remains
-returns-clause-remains c = λ fine.
+pub returns-clause-runs : goal.returns-clause-runs
+returns-clause-runs c = λ fine.
     let w = world c.args.tokenizer.now in
-    does-remain document_table_scheme c.args.name w _ _ _ (c.call_state.ensures.to fine)
-    (c.call_state.ensures.world fine) (document_does c.args.name w c.requires.current c.requires.stands)
+    call-runs DocumentStep c.args.name w _ _ (record { to_is = c.call_state.ensures.to fine; new_is = c.call_state.ensures.world fine }) fine
+    (does-setting document_table_scheme c.args.name w _ _ (c.call_state.ensures.world fine)
+    (document_does c.args.name w c.requires.current c.requires.stands))
+    (within-world c.args.tokenizer.now)
+
+pub returns-clause-sees : goal.returns-clause-sees
+returns-clause-sees c = λ fine.
+    let w = world c.args.tokenizer.now in
+    call-sees _ w _
+    (does-remain document_table_scheme c.args.name w _ _ _ (c.call_state.ensures.to fine)
+    (c.call_state.ensures.world fine) (document_does c.args.name w c.requires.current c.requires.stands))
+    (does-setting document_table_scheme c.args.name w _ _ (c.call_state.ensures.world fine)
+    (document_does c.args.name w c.requires.current c.requires.stands))
+    c.requires.current

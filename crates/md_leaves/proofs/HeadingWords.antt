@@ -1,0 +1,144 @@
+-- Words of a heading that are taken at once are what its states take.
+use Rattle.std.proofs.Common.{◌≡◌, ℕ, ◌<◌, ◌≤◌, Bool, true, false, ◌&&◌, ◌||◌, not, nat_eq, ◌∷◌, []}
+use Rattle.std.proofs.Common.{Option, Some, None, refl, sym, ◌∙◌, ap, ap₂, inl, inr, ◌⊎◌, subst}
+use Rattle.md_engine.specs.declared.class.Class.TheVariants as class
+use Rattle.md_engine.specs.declared.event.Name.TheVariants.{Data}
+use Rattle.md_engine.specs.declared.resolve.name.Name.{Name as ResolveName}
+use Rattle.md_engine.specs.declared.state.Name.TheVariants as n
+use Rattle.md_engine.specs.declared.state.heading_atx.State.TheVariants as its
+use Rattle.md_engine.specs.declared.state.space_or_tab.State.TheVariants as white
+use Rattle.md_engine.specs.declared.state.State.{State}
+use Rattle.md_engine.specs.declared.state.State.TheVariants.{Error, Nok, Next, Ok, Retry}
+use Rattle.md_engine.specs.declared.stay.Stay.TheVariants.{Word}
+use Rattle.md_engine.specs.Going.{SeesOn}
+use Rattle.md_engine.specs.Run.{Remains, Runs, reading}
+use Rattle.md_engine.specs.Staying.{SeesSome, stayed}
+use Rattle.md_engine.specs.World.{World, looks}
+use Rattle.md_engine.proofs.Loops.{CameTo}
+use Rattle.md_engine.proofs.StayLemmas.{in-line, seen-inside}
+use Rattle.md_engine.proofs.Walks.{TakesSo, Within, then-seen, then-stays, then-waits, within-more}
+use Rattle.md_leaves.specs.Heading.{at_break_code, data_code, heading_link, heading_transition, sees_text}
+use Rattle.md_leaves.specs.HeadingWords.{HeadingStep, begins_word}
+use Rattle.md_seam.specs.Events.Nested.{exit}
+use Rattle.md_seam.specs.OneSpace.{IsOneSpace, spaced}
+use Rattle.md_seam.specs.Spaces.{any_size, ends_line, is_current, sees_white, white_then, white_transition}
+use Rattle.md_seam.specs.Stays.{TakesEach}
+use Rattle.md_seam.specs.Transition.{Transition, entered_link, exited}
+use Rattle.md_seam.proofs.OneSpace.{space-run}
+use Rattle.md_seam.proofs.StaysLemmas.{in-word}
+
+-- text of a heading is taken word by word
+pub data-takes : (is_name : ResolveName → Bool) →
+    TakesEach Word (n.HeadingAtx its.Data) (heading_transition is_name its.Data)
+data-takes is_name w b e h =
+    let text : sees_text (Some b) ≡ true = ap (λ (x : Bool). not (x || nat_eq b 10)) (in-word b h)
+    ∙ ap (λ (x : Bool). not (false || x)) (in-line class.Word b h) in
+    ap (λ (x : Bool). data_code w x (sees_white w.current)) (ap sees_text e ∙ text)
+
+-- a transition, as a step
+stepped : (a : Transition) (to : State) (new : World) → a ≡ record { to = to; world = new } →
+    (to ≡ a.to) × (new ≡ a.world)
+stepped a to new e = (sym (ap (λ (x : Transition). x.to) e), sym (ap (λ (x : Transition). x.world) e))
+
+both : (x y : Bool) → x && not y ≡ true → (x ≡ true) × (y ≡ false)
+both true false e = (refl, refl)
+both true true e = cc
+both false y e = cc
+
+-- a word begins,
+pub word-begins : (is_name : ResolveName → Bool) (is_end : Bool) (s : State) (v w : World) →
+    CameTo (HeadingStep is_name) is_end s v (n.HeadingAtx its.AtBreak) w → begins_word w.current ≡ true →
+    w.current ≡ looks w → Within w →
+    CameTo (HeadingStep is_name) is_end s v (n.HeadingAtx its.Data) (entered_link w Data heading_link)
+word-begins is_name is_end s v w came is seen within =
+    let b = both (sees_text w.current) (is_current 35 w.current) is in
+    then-stays (HeadingStep is_name) is_end s v (n.HeadingAtx its.AtBreak) (n.HeadingAtx its.Data) w
+    (entered_link w Data heading_link) came
+    (stepped (heading_transition is_name its.AtBreak w) (Retry (n.HeadingAtx its.Data))
+    (entered_link w Data heading_link)
+    (ap₂ (λ (x y : Bool). at_break_code is_name w x y (ends_line w.current)) b.0 b.1)) refl within refl seen
+
+-- is taken,
+takes-so : (is_name : ResolveName → Bool) → TakesSo (HeadingStep is_name) (n.HeadingAtx its.Data) Word
+takes-so is_name w b e h =
+    stepped (heading_transition is_name its.Data (reading w)) (Next (n.HeadingAtx its.Data)) (stayed Word w)
+    (data-takes is_name (reading w) b e h)
+
+pub word-taken : (is_name : ResolveName → Bool) (is_end : Bool) (s : State) (v w u : World) →
+    CameTo (HeadingStep is_name) is_end s v (n.HeadingAtx its.Data) w → w.current ≡ looks w → Within w →
+    SeesSome Word w u → u.point.index < u.setting.limit →
+    CameTo (HeadingStep is_name) is_end s v (n.HeadingAtx its.Data) (reading u)
+word-taken is_name is_end s v w u came seen within some lt =
+    then-seen (HeadingStep is_name) is_end s v (n.HeadingAtx its.Data) Word w u (takes-so is_name) came seen within some
+    lt
+
+-- and waits for more,
+pub word-waits : (is_name : ResolveName → Bool) (is_end : Bool) (s : State) (v w u : World) →
+    CameTo (HeadingStep is_name) is_end s v (n.HeadingAtx its.Data) w → w.current ≡ looks w → Within w →
+    SeesSome Word w u → w.point.index < w.setting.limit → u.setting.limit ≤ u.point.index →
+    Runs (HeadingStep is_name) is_end s v (Next (n.HeadingAtx its.Data)) u
+word-waits is_name is_end s v w u came seen within some lt le =
+    then-waits (HeadingStep is_name) is_end s v (n.HeadingAtx its.Data) Word w u (takes-so is_name) came seen within
+    some lt le
+
+-- or one space stands behind it, and the next run of the line begins
+pub word-ends : (is_name : ResolveName → Bool) (is_end : Bool) (s : State) (v w : World) →
+    CameTo (HeadingStep is_name) is_end s v (n.HeadingAtx its.Data) w → w.current ≡ looks w → Within w →
+    IsOneSpace w →
+    CameTo (HeadingStep is_name) is_end s v (n.HeadingAtx its.AtBreak) (spaced (exited w Data))
+word-ends is_name is_end s v w came seen within one =
+    let here : w.current ≡ Some 32 = seen ∙ one.here in
+    let x : World = exited w Data in
+    let u : World = (white_then x 1 any_size (Next (n.HeadingAtx its.AtBreak)) Nok).world in
+    space-run (HeadingStep is_name) is_end s v (n.HeadingAtx its.AtBreak) x
+    (λ state y to new e. stepped (white_transition state y) to new e)
+    (then-stays (HeadingStep is_name) is_end s v (n.HeadingAtx its.Data) (n.SpaceOrTab white.Start) w u came
+    (stepped (heading_transition is_name its.Data w) (Retry (n.SpaceOrTab white.Start)) u
+    (ap₂ (λ (p q : Bool). data_code w p q) (ap sees_text here) (ap sees_white here))) refl within refl seen) seen
+    (within-more w.frames w.events (exit Data w.point ∷ []) within)
+    (record { here = one.here; next = one.next; behind = one.behind })
+
+-- What a single call leaves.
+pub data-remains : (w : World) (x y : Bool) → Remains (data_code w x y).to w (data_code w x y).world ×
+    ((data_code w x y).world.setting ≡ w.setting)
+data-remains w true y = (tt, refl)
+data-remains w false true = ((refl, refl), refl)
+data-remains w false false = ((refl, refl), refl)
+
+pub at_break-remains : (is_name : ResolveName → Bool) (w : World) (x y z : Bool) →
+    Remains (at_break_code is_name w x y z).to w (at_break_code is_name w x y z).world ×
+    ((at_break_code is_name w x y z).world.setting ≡ w.setting)
+at_break-remains is_name w true true z = ((refl, refl), refl)
+at_break-remains is_name w true false z = ((refl, refl), refl)
+at_break-remains is_name w false y true = (tt, refl)
+at_break-remains is_name w false y false = (tt, refl)
+
+pub remains-of : (a : Transition) (s : State) (w w' : World) → s ≡ a.to → w' ≡ a.world → Remains a.to w a.world →
+    Remains s w w'
+remains-of a s w w' e k h =
+    let P : World → Type 0 = λ x. Remains s w x in
+    subst P (sym k) (rw e h)
+
+-- what stays here sees what stands here, from wherever one came
+pub sees-from : (s : State) (old w w' : World) → SeesOn s w w' → w'.setting ≡ w.setting →
+    (w.point ≡ old.point) ⊎ (w.point.index < w.setting.limit) → SeesOn s old w'
+sees-from Ok old w w' h same may = tt
+sees-from Nok old w w' h same may = tt
+sees-from Error old w w' h same may = tt
+sees-from (Next n) old w w' h same may = tt
+sees-from (Retry n) old w w' h same may = (h.0, go h.1 may)
+  where
+    go : (w'.point ≡ w.point) ⊎ (w'.point.index < w'.setting.limit) →
+        (w.point ≡ old.point) ⊎ (w.point.index < w.setting.limit) →
+        (w'.point ≡ old.point) ⊎ (w'.point.index < w'.setting.limit)
+    go (inr lt) m = inr lt
+    go (inl e) (inl k) = inl (e ∙ k)
+    go (inl e) (inr lt) = inr (rw (e, same) lt)
+
+-- a word that begins may be read
+pub begins-inside : (w : World) → w.current ≡ looks w → begins_word w.current ≡ true → w.point.index < w.setting.limit
+begins-inside w seen is = go w.current seen is
+  where
+    go : (o : Option ℕ) → o ≡ looks w → begins_word o ≡ true → w.point.index < w.setting.limit
+    go None e k = cc
+    go (Some b) e k = seen-inside w.setting w.point b (sym e)
