@@ -7,6 +7,8 @@ use Rattle.md_engine.specs.declared.tokenizer.container.Container.{Container as 
 use Rattle.md_engine.specs.declared.tokenizer.container.name.ContainerKind.{ContainerKind}
 use Rattle.md_engine.specs.declared.tokenizer.Line.{Line}
 use Rattle.md_engine.specs.Meaning.{Cell, Here, Refuses}
+use Rattle.md_engine.specs.World.{container_of}
+use Rattle.md_containers.specs.Interrupts.{interrupts}
 use Rattle.md_containers.proofs.Shorter.{Shortens}
 use Rattle.md_seam.specs.Look.{seen_behind}
 use Rattle.md_seam.specs.Spaces.{IsRest}
@@ -29,6 +31,7 @@ use Rattle.markdown_blocks.proofs.SimpleBlocks.{AreSimple, IsSimple}
 -- containers
 pub record IsPassed (k : ContainerKind) (cells : List Cell) (t : Passed) : Type 0 where
   pub one : IsOf k t.container
+  pub kind : t.held.kind ≡ k
   pub shorter : length t.cells < length cells
   pub front : AreFront t.events
 
@@ -39,11 +42,14 @@ ByRest P = (line : Line) (text past : List ℕ) (r : Rest) (stop : List Cell) (p
     P line text past r stop p
 
 pub record ContainerLaws (k : ContainerKind) (rules : ContainerRules) : Type 1 where
-  -- What is left at its states is what it takes by the cells of a line, and is shorter.
+  -- What is left at its states is what it takes by the cells of a line, and is shorter: where it is the one that is
+  -- tried, or asked.
   pub begins_is : (options : ParseOptions) (interrupting : Bool) (cells : List Cell) (h : Here) → IsRest h.scratch →
+      h.flags.asked ≡ container_of k → h.flags.asked_column ≡ h.point.column → interrupting ≡ interrupts h.flags →
       rules.begins options cells h ≡ passed_by (rules.opens options interrupting cells h.point) h
   pub continues_is : (options : ParseOptions) (held : Held) (c : Container) (cells : List Cell) (h : Here) →
-      IsRest h.scratch → IsOf k c → rules.holds held c →
+      IsRest h.scratch → h.flags.asked ≡ held → h.flags.asked_column ≡ h.point.column → IsOf k c →
+      rules.holds held c →
       rules.continues options cells h ≡ passed_by (rules.goes options c cells h.point) h
   -- Where what stands first behind whitespace may not begin it, or not its prefix on a further line, it is refused, and
   -- all is left as it was.
@@ -63,9 +69,9 @@ pub record ContainerLaws (k : ContainerKind) (rules : ContainerRules) : Type 1 w
       rules.goes options c cells p ≡ Some t → IsPassed k cells t
   -- The tokenizer holds what it opens as, and goes on to.
   pub held_new : (options : ParseOptions) (interrupting : Bool) (cells : List Cell) (p : Point) (t : Passed) →
-      rules.opens options interrupting cells p ≡ Some t → rules.holds (record { kind = k }) t.container
+      rules.opens options interrupting cells p ≡ Some t → rules.holds t.held t.container
   pub held_on : (options : ParseOptions) (held : Held) (c : Container) (cells : List Cell) (p : Point) (t : Passed) →
-      rules.holds held c → rules.goes options c cells p ≡ Some t → rules.holds held t.container
+      rules.holds held c → rules.goes options c cells p ≡ Some t → rules.holds t.held t.container
   -- It opens and goes on where the line definition says, and leaves what it says.
   pub opens_agrees : (options : ParseOptions) (interrupting : Bool) → ByRest (λ line text past r stop p.
       let cells = rest_cells line r p ++ stop in
