@@ -38,7 +38,7 @@ use Rattle.md_seam.specs.Ahead.{point_after}
 use Rattle.md_seam.specs.Events.Nested.{pair}
 use Rattle.md_definition.specs.Preamble.{has_mark}
 use Rattle.md_seam.specs.Look.{looks_behind, may_with}
-use Rattle.md_seam.specs.Spaces.{is_current}
+use Rattle.md_seam.specs.Spaces.{ends_line, is_current}
 use Rattle.markdown_blocks.specs.Document.{DocumentStep, ReadsMark, body_point, document_table_scheme}
 use Rattle.markdown_blocks.specs.Document.{document_transition, mark_end, mark_events}
 use Rattle.markdown_blocks.specs.DocumentRule.{document_at, document_behaves}
@@ -220,9 +220,11 @@ trial-resolvers : (start ok nok : StateName) (w : World) (b : Bool) →
 trial-resolvers start ok nok w true = refl
 trial-resolvers start ok nok w false = refl
 
-existing-resolvers : (w : World) (o : Option Container) → (existing_before_code w o).world.resolvers ≡ w.resolvers
-existing-resolvers w None = refl
-existing-resolvers w (Some c) = trial-resolvers _ _ _ (asking c w) (may_with (may_go_on c.kind) (looks_behind w))
+existing-resolvers : (w : World) (ends : Bool) (o : Option Container) →
+    (existing_before_code w ends o).world.resolvers ≡ w.resolvers
+existing-resolvers w true o = refl
+existing-resolvers w false None = refl
+existing-resolvers w false (Some c) = trial-resolvers _ _ _ (asking c w) (may_with (may_go_on c.kind) (looks_behind w))
 
 opener-resolvers : (w : World) (o : Option ContainerKind) → (opener_transition o w).world.resolvers ≡ w.resolvers
 opener-resolvers w None = refl
@@ -241,7 +243,8 @@ went-resolvers : (name : StateName) (w : World) → (document_transition name w)
 went-resolvers (s.Bom bom_state.Start) w = bom-start w (is_current 239 w.current)
 went-resolvers (s.Bom bom_state.Inside) w =
     bom-inside w (is_current (mark_at w.scratch.size) w.current) (nat_lt w.scratch.size 2)
-went-resolvers (s.Document document.ContainerExistingBefore) w = existing-resolvers w (next_container w.flags)
+went-resolvers (s.Document document.ContainerExistingBefore) w =
+    existing-resolvers w (ends_line w.current) (next_container w.flags)
 went-resolvers (s.Document document.FlowEnd) w = end-resolvers (closed w (stays w.flags) w.flags.line_end) w.current
 went-resolvers (s.Document document.Start) w = refl
 went-resolvers (s.Document document.BeforeFrontmatter) w = refl

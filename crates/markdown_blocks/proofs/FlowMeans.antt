@@ -46,7 +46,7 @@ use Rattle.markdown_blocks.specs.Flow.{blank_line_after_transition, blank_line_c
 use Rattle.markdown_blocks.specs.Flow.{existing_after_transition, existing_before_code, flow_end_code}
 use Rattle.markdown_blocks.specs.Flow.{flow_end_transition, flow_own_transition, leaf_transition, new_after_transition}
 use Rattle.markdown_blocks.specs.Flow.{new_before_transition, opener_transition, start_transition, trial_code}
-use Rattle.markdown_blocks.specs.FlowRule.{HasFlow, Rule, blank_ended, ended, ended_to, existing_by}
+use Rattle.markdown_blocks.specs.FlowRule.{HasFlow, Rule, blank_ended, ended, ended_to, existing_at, existing_by}
 use Rattle.markdown_blocks.specs.FlowRule.{flow_at, leaves_of, line_ended, line_then, new_of, nonblank_of, opened, openers_of}
 use Rattle.markdown_blocks.specs.FlowRule.{tried}
 use Rattle.markdown_blocks.specs.LineFlags as flags
@@ -121,16 +121,30 @@ opening_left B options next has cells h =
     has.containers (opener_front openers) cells h ∙ left-front options next openers cells h refl
     ∙ sym (new_by_container options next cells h)
 
-existing_before_steps : (B : Behaviour) (feed : Feed) (w : World) (options : ParseOptions) (next : Rule)
-    (o : Option Container) → HasFlow B options next → Sees feed w → IsRest w.scratch → next_container w.flags ≡ o →
-    Steps B feed (Next (n.Document document.ContainerExistingBefore)) w (existing_before_code w o).to
-    (existing_before_code w o).world
-existing_before_steps B feed w options next None has s is e =
+-- by whether the line ends here, and by the container that is asked
+existing_left : (B : Behaviour) (feed : Feed) (w : World) (options : ParseOptions) (next : Rule) (ends : Bool) →
+    HasFlow B options next → Sees feed w → ends_line w.current ≡ ends →
+    B (n.Document document.ContainerExistingBefore) (feed w.point) (here w) ≡
+    existing_at options next (line_then options next) ends (feed w.point) (here w)
+existing_left B feed w options next ends has s e =
+    has.containers document.ContainerExistingBefore _ _ ∙ line_by_container options next (feed w.point) (here w)
+    ∙ ap (λ (x : Bool). existing_at options next (line_then options next) x (feed w.point) (here w))
+    (ap ends_line (first-seen feed w s) ∙ e)
+
+existing_before_steps : (B : Behaviour) (feed : Feed) (w : World) (options : ParseOptions) (next : Rule) (ends : Bool)
+    (o : Option Container) →
+    HasFlow B options next → Sees feed w → IsRest w.scratch → ends_line w.current ≡ ends → next_container w.flags ≡ o →
+    Steps B feed (Next (n.Document document.ContainerExistingBefore)) w (existing_before_code w ends o).to
+    (existing_before_code w ends o).world
+existing_before_steps B feed w options next true o has s is e k =
+    passes B feed _ _ w (existing_before_code w true o).world refl refl
+    (existing_left B feed w options next true has s e ∙ sym (has.containers document.ContainersAfter _ _))
+existing_before_steps B feed w options next false None has s is e k =
     passes B feed _ _ w w refl refl
-    (has.containers document.ContainerExistingBefore _ _ ∙ line_by_container options next (feed w.point) (here w)
-    ∙ ap (λ (o : Option Container). existing_by options next (line_then options next) o (feed w.point) (here w)) e
+    (existing_left B feed w options next false has s e
+    ∙ ap (λ (o : Option Container). existing_by options next (line_then options next) o (feed w.point) (here w)) k
     ∙ sym (opening_left B options next has (feed w.point) (here w)))
-existing_before_steps B feed w options next (Some c) has s is e =
+existing_before_steps B feed w options next false (Some c) has s is e k =
     let onward : Rule = λ rest k. line_then options next rest (record k { flags = went_on k.flags }) in
     let otherwise : Scratch → Flags → Outcome =
     λ s g. new_of options next (feed w.point) (record (here w) { scratch = s; flags = g }) in
@@ -138,8 +152,8 @@ existing_before_steps B feed w options next (Some c) has s is e =
       onward = onward;
       otherwise = otherwise;
       from_is =
-          has.containers document.ContainerExistingBefore _ _ ∙ line_by_container options next (feed w.point) (here w)
-          ∙ ap (λ (o : Option Container). existing_by options next (line_then options next) o (feed w.point) (here w)) e
+          existing_left B feed w options next false has s e
+          ∙ ap (λ (o : Option Container). existing_by options next (line_then options next) o (feed w.point) (here w)) k
           ∙ ap (λ (o : Outcome). tried o onward otherwise) (sym (has.goes_on c.kind _ _));
       ok_is = has.containers document.ContainerExistingAfter;
       nok_is = λ s g. opening_left B options next has _ _;
@@ -368,7 +382,7 @@ containers_steps : (B : Behaviour) (feed : Feed) (next : Rule) (state : Document
     Steps B feed (Next (n.Document state)) w (document_own_transition state w).to
     (document_own_transition state w).world
 containers_steps B feed next document.ContainerExistingBefore w has s at on =
-    existing_before_steps B feed w _ _ _ has s at.0.0 refl
+    existing_before_steps B feed w _ _ _ _ has s at.0.0 refl refl
 containers_steps B feed next document.ContainerExistingAfter w has s at on = existing_after_steps B feed w _ _ has
 containers_steps B feed next document.ContainerNewAfter w has s at on =
     new_after_steps B feed w _ _ has (outermost-frames flow_table_scheme w.frames at.1)

@@ -29,16 +29,18 @@ use Rattle.md_content.specs.Chunks.{content_link}
 use Rattle.md_seam.specs.Ahead.{from_ending, line_bytes, line_end}
 use Rattle.md_seam.specs.Events.Nested.{enter, enter_link, exit, pair}
 use Rattle.md_definition.specs.Rest.{is_blank}
-use Rattle.md_seam.specs.Spaces.{IsRest}
+use Rattle.md_seam.specs.Look.{first_seen}
+use Rattle.md_seam.specs.Spaces.{IsRest, ends_line}
 use Rattle.md_definition.specs.State.{Container}
 use Rattle.markdown_blocks.specs.Change.{Change, change_by, ends_of, interrupts, is_none, open_behind, others_of}
 use Rattle.markdown_blocks.specs.FlowRule.{Rule, asking_here, behind_containers, blank_ended, ended, ended_to, existing_by}
-use Rattle.markdown_blocks.specs.FlowRule.{existing_from, flow_at, flow_lines, leaf_of, leaves_of, line_ended}
+use Rattle.markdown_blocks.specs.FlowRule.{existing_at, existing_from, flow_at, flow_lines, leaf_of, leaves_of, line_ended}
 use Rattle.markdown_blocks.specs.FlowRule.{line_then, new_from, new_of, nonblank_of, opened, opens_of, tried}
-use Rattle.markdown_blocks.specs.LineFlags.{asks, begun_line, ending_name, next_line, stays, went_on}
-use Rattle.markdown_blocks.specs.Passed.{Passed, passed_by, passed_here}
+use Rattle.markdown_blocks.specs.LineFlags.{asks, begun_line, ended_on, ending_name, next_container, next_line, over_end, stays}
+use Rattle.markdown_blocks.specs.LineFlags.{went_on}
+use Rattle.markdown_blocks.specs.Passed.{Passed, passed_by, passed_here, passed_over}
 use Rattle.markdown_blocks.specs.Registry.{container_rules, first_of, goes_at, leaf, LeafName, MatchesContainer, openers}
-use Rattle.markdown_blocks.specs.Registry.{opens_at, opens_by, trials}
+use Rattle.markdown_blocks.specs.Registry.{goes_over, opens_at, opens_by, trials}
 use Rattle.markdown_blocks.specs.Rows.{leaf_behind, BlankRow, Front, Held, LeafRow, Row, RowKind, TextRow, after_ending}
 use Rattle.markdown_blocks.specs.Rows.{closes_before, ending_of, held_at, held_by, held_of, in_front, inside_of}
 use Rattle.markdown_blocks.specs.Rows.{is_lazy, is_text, kind_of, leaf_events, new_front, no_front, row_events}
@@ -48,8 +50,8 @@ use Rattle.markdown_blocks.proofs.ContainedLemmas.{lazy-some}
 use Rattle.markdown_blocks.proofs.FromEnding.{from_ending-shrinks}
 use Rattle.markdown_blocks.proofs.LeafRows.{blank-refused, blank-took, chunk-took}
 use Rattle.markdown_blocks.proofs.Registry.{laws}
-use Rattle.markdown_blocks.proofs.RegistryContainers.{further-is, goes-same, goes-shorter, known-name, opening-is}
-use Rattle.markdown_blocks.proofs.RegistryContainers.{opens-same, opens-shorter}
+use Rattle.markdown_blocks.proofs.RegistryContainers.{further-is, goes-over, goes-same, goes-shorter, goes-within}
+use Rattle.markdown_blocks.proofs.RegistryContainers.{known-name, opening-is, opens-ended, opens-same, opens-shorter}
 
 -- The leaf of a line, by its kind.
 
@@ -243,7 +245,7 @@ went-shorter options (c ∷ cs) cells p =
         ((t : Passed) → length (went_front options cs t.cells t.point).cells ≤ length t.cells) →
         Shorter (elim x [ None ↦ no_front cells p | Some t ↦ in_front t (went_front options cs t.cells t.point) ])
     go None e more = omega arith
-    go (Some t) e more = omega (arith, more t, goes-shorter options c cells p t e)
+    go (Some t) e more = omega (arith, more t, goes-within options c cells p t e)
 
 new-shorter : (options : ParseOptions) (interrupting : Bool) (size : ℕ) (cells : List Cell) (p : Point) →
     length (new_front options interrupting size cells p).cells ≤ length cells
@@ -265,12 +267,17 @@ new-shorter options interrupting (suc size) cells p =
 abbrev asked_at : Known → ℕ → Here → Here
 asked_at c column h = record h { flags = asks c column h.flags }
 
+-- by whether the line ends here: then none opens
+abbrev left_of : ParseOptions → Rule → Bool → Rule
+left_of options next true cells h = behind_containers options next cells h
+left_of options next false cells h = new_of options next cells h
+
 -- what is left behind the containers that went on, of those behind some that did: the tokenizer holds them, and the
 -- others that are open
 record Gone (options : ParseOptions) (next : Rule) (done cs : List Container) (w : Front) (h : Here)
     (o : Outcome) : Type 0 where
   new : Here
-  is : o ≡ new_of options next w.cells new
+  is : o ≡ left_of options next (ends_line (first_seen w.cells)) w.cells new
   rest : IsRest new.scratch
   events : new.events ≡ h.events ++ w.events
   point : new.point ≡ w.point
@@ -284,12 +291,12 @@ record Gone (options : ParseOptions) (next : Rule) (done cs : List Container) (w
 -- none does
 gone-none : (options : ParseOptions) (next : Rule) (done cs : List Container) (cells : List Cell) (h : Here)
     (o : Outcome) (c : Known) (column : ℕ) →
-    o ≡ new_of options next cells (asked_at c column h) → IsRest h.scratch → h.flags.continued ≡ length done →
+    ends_line (first_seen cells) ≡ false → o ≡ new_of options next cells (asked_at c column h) → IsRest h.scratch → h.flags.continued ≡ length done →
     AreOpen h.flags.containers (done ++ cs) →
     Gone options next done cs (no_front cells h.point) h o
-gone-none options next done cs cells h o c column is rest at are = record {
+gone-none options next done cs cells h o c column going is rest at are = record {
   new = asked_at c column h;
-  is = is;
+  is = is ∙ sym (ap (λ (x : Bool). left_of options next x cells (asked_at c column h)) going);
   rest = rest;
   events = sym (append-nil h.events);
   point = refl;
@@ -301,28 +308,123 @@ gone-none options next done cs cells h o c column is rest at are = record {
   line_end = refl;
 }
 
+-- where the line ends, those of these go on that what is held of them tells
+record OverEnd (ks : List Known) (cs : List Container) (cells : List Cell) (p : Point) (f : Front) : Type 0 where
+  events : f.events ≡ []
+  cells_are : f.cells ≡ cells
+  point : f.point ≡ p
+  size : length f.containers ≡ over_end ks
+  containers : AreOpen ks (f.containers ++ others_of cs f.containers)
+
+over-end : (options : ParseOptions) (ks : List Known) (cs : List Container) (cells : List Cell) (p : Point) →
+    AreOpen ks cs → ends_line (first_seen cells) ≡ true →
+    OverEnd ks cs cells p (went_front options cs cells p)
+over-end options [] [] cells p are ends =
+    record { events = refl; cells_are = refl; point = refl; size = refl; containers = tt }
+over-end options [] (c ∷ cs) cells p are ends = absurd are
+over-end options (k ∷ ks) [] cells p are ends = absurd are
+over-end options (k ∷ ks) (c ∷ cs) cells p are ends =
+    subst Result (sym (goes-over options k c cells p are.0 ends))
+    (go (goes_over k) refl (over-end options ks cs cells p are.1 ends))
+  where
+    by : Option Passed → Front
+    by o = elim o [ None ↦ no_front cells p | Some t ↦ in_front t (went_front options cs t.cells t.point) ]
+
+    Result : Option Passed → Type 0
+    Result o =
+        OverEnd (k ∷ ks) (c ∷ cs) cells p
+        (elim o [ None ↦ no_front cells p | Some t ↦ in_front t (went_front options cs t.cells t.point) ])
+
+    go : (x : Bool) → goes_over k ≡ x → OverEnd ks cs cells p (went_front options cs cells p) →
+        Result (cond x (Some (passed_over k c cells p)) None)
+    go true e more = record {
+      events = more.events;
+      cells_are = more.cells_are;
+      point = more.point;
+      size = ap suc more.size ∙ sym (ap (λ (x : Bool). cond x (suc (over_end ks)) 0) e);
+      containers = (are.0, more.containers);
+    }
+    go false e more = record {
+      events = refl;
+      cells_are = refl;
+      point = refl;
+      size = sym (ap (λ (x : Bool). cond x (suc (over_end ks)) 0) e);
+      containers = are;
+    }
+
+gone-ended : (options : ParseOptions) (next : Rule) (done cs : List Container) (cells : List Cell) (h : Here)
+    (o : Outcome) →
+    ends_line (first_seen cells) ≡ true →
+    o ≡ behind_containers options next cells (record h { flags = ended_on h.flags }) → IsRest h.scratch →
+    h.flags.continued ≡ length done → AreOpen h.flags.containers (done ++ cs) →
+    Gone options next done cs (went_front options cs cells h.point) h o
+gone-ended options next done cs cells h o ends is rest at are = record {
+  new = new;
+  is =
+      is ∙ sym (ap (λ (x : Bool). left_of options next x cells new) ends)
+      ∙ sym (ap (λ (l : List Cell). left_of options next (ends_line (first_seen l)) l new) over.cells_are);
+  rest = rest;
+  events = sym (append-nil h.events) ∙ sym (ap (λ (es : List Event). h.events ++ es) over.events);
+  point = sym over.point;
+  containers =
+      let P : List Known → Type 0 = λ l. AreOpen l (done ++ (f.containers ++ others_of cs f.containers)) in
+      subst P (take-append-drop (length done) h.flags.containers)
+      (open-append (take (length done) h.flags.containers) (drop (length done) h.flags.containers) done
+      (f.containers ++ others_of cs f.containers) parts.0 over.containers);
+  size = refl;
+  continued =
+      ap₂ (λ (x y : ℕ). x + y) at
+      (ap (λ (n : ℕ). over_end (drop n h.flags.containers)) at ∙ sym over.size);
+  leaf = refl;
+  blank = refl;
+  line_end = refl;
+}
+  where
+    f : Front
+    f = went_front options cs cells h.point
+
+    new : Here
+    new = record h { flags = ended_on h.flags }
+
+    parts : AreOpen (take (length done) h.flags.containers) done × AreOpen (drop (length done) h.flags.containers) cs
+    parts = open-parts h.flags.containers done cs are
+
+    over : OverEnd (drop (length done) h.flags.containers) cs cells h.point (went_front options cs cells h.point)
+    over =
+        over-end options (drop (length done) h.flags.containers) cs cells h.point
+        (open-parts h.flags.containers done cs are).1 ends
+
 -- behind the prefix of one that goes on
 abbrev further_here : Passed → Known → Here → Here
 further_here t k h =
     let x = passed_here t (asking_here k h) in record x { flags = went_on x.flags }
 
-existing-is : (options : ParseOptions) (next : Rule) (m : ℕ) (done cs : List Container) (cells : List Cell) (h : Here) →
+-- the same of what reads the containers behind the first
+abbrev Reads : ParseOptions → Rule → ℕ → Rule → Type 0
+Reads options next m further =
+    (done cs : List Container) (cells : List Cell) (h : Here) →
     IsRest h.scratch → length cells < m → h.flags.continued ≡ length done →
     AreOpen h.flags.containers (done ++ cs) →
-    Gone options next done cs (went_front options cs cells h.point) h (existing_from options next m cells h)
-unfolding existing_from
-existing-is options next zero done cs cells h is some at are = absurd (omega arith)
-existing-is options next (suc m) done [] cells h is some at are =
+    Gone options next done cs (went_front options cs cells h.point) h (further cells h)
+
+-- where the line does not end here, the next one is asked
+asked-is : (options : ParseOptions) (next : Rule) (m : ℕ) (further : Rule) → Reads options next m further →
+    (done cs : List Container) (cells : List Cell) (h : Here) → ends_line (first_seen cells) ≡ false →
+    IsRest h.scratch → length cells < suc m → h.flags.continued ≡ length done →
+    AreOpen h.flags.containers (done ++ cs) →
+    Gone options next done cs (went_front options cs cells h.point) h
+    (existing_by options next further (next_container h.flags) cells h)
+asked-is options next m further reads done [] cells h going is some at are =
     let all = open-length h.flags.containers (done ++ []) are in
     let same : length (done ++ []) ≡ length done = ap length (append-nil done) in
     let past : slice_get h.flags.containers h.flags.continued ≡
     None = slice_get_past h.flags.containers h.flags.continued (omega (arith, all, same, at)) in
-    gone-none options next done [] cells h (existing_from options next (suc m) cells h) h.flags.asked h.flags.asked_column
-    (ap (λ (o : Option Known). existing_by options next (existing_from options next m) o cells h) past) is at are
-existing-is options next (suc m) done (c ∷ cs) cells h is some at are =
+    gone-none options next done [] cells h _ h.flags.asked h.flags.asked_column going
+    (ap (λ (o : Option Known). existing_by options next further o cells h) past) is at are
+asked-is options next m further reads done (c ∷ cs) cells h going is some at are =
     go
     (λ t lt e.
-    existing-is options next m (done ++ t.container ∷ []) cs t.cells (further_here t first.held h) is lt (counted t)
+    reads (done ++ t.container ∷ []) cs t.cells (further_here t first.held h) is lt (counted t)
     (again t e))
     (goes_at options c cells h.point) refl
   where
@@ -334,15 +436,15 @@ existing-is options next (suc m) done (c ∷ cs) cells h is some at are =
 
     onward : Outcome → Outcome
     onward o =
-        tried o (λ rest x. existing_from options next m rest (record x { flags = went_on x.flags }))
+        tried o (λ rest x. further rest (record x { flags = went_on x.flags }))
         (λ s g. new_of options next cells (record h { scratch = s; flags = g }))
 
     found : slice_get h.flags.containers h.flags.continued ≡ Some first.held
     found = ap (λ (n : ℕ). slice_get h.flags.containers n) at ∙ first.found
 
-    begins : existing_from options next (suc m) cells h ≡ onward (passed_by (goes_at options c cells h.point) asked)
+    begins : existing_by options next further (next_container h.flags) cells h ≡ onward (passed_by (goes_at options c cells h.point) asked)
     begins =
-        ap (λ (o : Option Known). existing_by options next (existing_from options next m) o cells h) found
+        ap (λ (o : Option Known). existing_by options next further o cells h) found
         ∙ ap onward (further-is options first.held c cells asked is refl refl first.is)
 
     fits : nat_lt h.flags.continued (length h.flags.containers) ≡ true
@@ -366,21 +468,21 @@ existing-is options next (suc m) done (c ∷ cs) cells h is some at are =
         (goes-same options first.held c cells h.point t first.is e)))
 
     Result : Front → Type 0
-    Result x = Gone options next done (c ∷ cs) x h (existing_from options next (suc m) cells h)
+    Result x = Gone options next done (c ∷ cs) x h (existing_by options next further (next_container h.flags) cells h)
 
     Further : Type 0
     Further = (t : Passed) → length t.cells < m → goes_at options c cells h.point ≡ Some t →
         Gone options next (done ++ t.container ∷ []) cs (went_front options cs t.cells t.point)
-        (further_here t first.held h) (existing_from options next m t.cells (further_here t first.held h))
+        (further_here t first.held h) (further t.cells (further_here t first.held h))
 
     go : Further → (x : Option Passed) → goes_at options c cells h.point ≡ x →
         Result (elim x [ None ↦ no_front cells h.point | Some t ↦ in_front t (went_front options cs t.cells t.point) ])
     go more None e =
-        gone-none options next done (c ∷ cs) cells h (existing_from options next (suc m) cells h) first.held
-        h.point.column (begins ∙ ap (λ (x : Option Passed). onward (passed_by x asked)) e) is at are
+        gone-none options next done (c ∷ cs) cells h (existing_by options next further (next_container h.flags) cells h) first.held
+        h.point.column going (begins ∙ ap (λ (x : Option Passed). onward (passed_by x asked)) e) is at are
     go more (Some t) e =
         let f : Front = went_front options cs t.cells t.point in
-        let g = more t (omega (arith, goes-shorter options c cells h.point t e)) e in
+        let g = more t (omega (arith, goes-shorter options c cells h.point t e going)) e in
         let P : List Container → Type 0 = λ l. AreOpen g.new.flags.containers l in
         let longer = one_more t in
         record {
@@ -397,6 +499,26 @@ existing-is options next (suc m) done (c ∷ cs) cells h is some at are =
           blank = g.blank;
           line_end = g.line_end;
         }
+
+existing-is : (options : ParseOptions) (next : Rule) (m : ℕ) (done cs : List Container) (cells : List Cell) (h : Here) →
+    IsRest h.scratch → length cells < m → h.flags.continued ≡ length done →
+    AreOpen h.flags.containers (done ++ cs) →
+    Gone options next done cs (went_front options cs cells h.point) h (existing_from options next m cells h)
+unfolding existing_from
+existing-is options next zero done cs cells h is some at are = absurd (omega arith)
+existing-is options next (suc m) done cs cells h is some at are =
+    by
+    (λ more others rest k it lt same they. existing-is options next m more others rest k it lt same they)
+    (ends_line (first_seen cells)) refl
+  where
+    Result : Outcome → Type 0
+    Result o = Gone options next done cs (went_front options cs cells h.point) h o
+
+    by : Reads options next m (existing_from options next m) → (x : Bool) → ends_line (first_seen cells) ≡ x →
+        Result (existing_at options next (existing_from options next m) x cells h)
+    by reads true ends = gone-ended options next done cs cells h _ ends refl is at are
+    by reads false going =
+        asked-is options next m (existing_from options next m) reads done cs cells h going is some at are
 
 -- Containers that open.
 
@@ -841,6 +963,18 @@ new-done options next front tail p cs still interrupting w m (suc size) cells h 
         (new-more options next m size (w.containers ++ t.container ∷ []) t.cells (opened_by t h) b.rest
         (omega (arith, shorter)) (omega (arith, shorter)) begun refl refl))
 
+-- where the line ends none opens
+front-ended : (options : ParseOptions) (interrupting : Bool) (size : ℕ) (cells : List Cell) (p : Point) →
+    ends_line (first_seen cells) ≡ true → new_front options interrupting size cells p ≡ no_front cells p
+front-ended options interrupting zero cells p ends = refl
+front-ended options interrupting (suc size) cells p ends =
+    ap
+    (λ (o : Option Passed).
+    elim o [
+      | None ↦ no_front cells p
+      | Some t ↦ in_front t (new_front options false size t.cells t.point)
+    ]) (opens-ended options interrupting cells p openers ends)
+
 -- at the begin of a line
 pub record Begins (front tail : List Event) (p : Point) (cs : List Container) (still : HeldLeaf)
     (h : Here) : Type 0 where
@@ -859,12 +993,7 @@ pub line-done : (options : ParseOptions) (next : Rule) (front tail : List Event)
     Done next options front tail p (held_at options cs still cells h.point) (line_then options next cells h)
 unfolding line_then new_of held_at
 line-done options next front tail p cs still cells h b =
-    done-same options next front tail p _ _ _ g.is
-    (subst P g.point
-    (new-done options next front tail p cs still (interrupts still (others_of cs w.containers)) w (length w.cells)
-    (length w.cells) w.cells g.new between
-    (interrupts-is still w.containers (others_of cs w.containers) g.new.flags between.leaf between.containers
-    between.continued) (omega arith) (omega arith)))
+    done-same options next front tail p _ _ _ g.is (subst P g.point (by (ends_line (first_seen w.cells)) refl))
   where
     w : Front
     w = went_front options cs cells h.point
@@ -885,12 +1014,29 @@ line-done options next front tail p cs still cells h b =
       ends = let E : ℕ → Type 0 = λ n. Ends n tail p in subst E (sym g.size) b.ends;
     }
 
+    interrupting : Bool
+    interrupting = interrupts still (others_of cs w.containers)
+
     P : Point → Type 0
     P q =
         Done next options front tail p
-        (held_of options cs still w
-        (new_front options (interrupts still (others_of cs w.containers)) (length w.cells) w.cells q))
-        (new_of options next w.cells g.new)
+        (held_of options cs still w (new_front options interrupting (length w.cells) w.cells q))
+        (left_of options next (ends_line (first_seen w.cells)) w.cells g.new)
+
+    by : (x : Bool) → ends_line (first_seen w.cells) ≡ x →
+        Done next options front tail p
+        (held_of options cs still w (new_front options interrupting (length w.cells) w.cells g.new.point))
+        (left_of options next x w.cells g.new)
+    by true ends =
+        let D : Front → Type 0 = λ f.
+        Done next options front tail p (held_of options cs still w f) (behind_containers options next w.cells g.new) in
+        subst D (sym (front-ended options interrupting (length w.cells) w.cells g.new.point ends))
+        (done-none options next front tail p cs still w w.cells g.new between)
+    by false going =
+        new-done options next front tail p cs still interrupting w (length w.cells) (length w.cells) w.cells g.new
+        between
+        (interrupts-is still w.containers (others_of cs w.containers) g.new.flags between.leaf between.containers
+        between.continued) (omega arith) (omega arith)
 
 -- Rows.
 

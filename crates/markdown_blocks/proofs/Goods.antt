@@ -102,14 +102,18 @@ prefix_tries ok nok w K r low_nok same_nok = record {
   nok_rank = λ s t is up. rw (same_nok (spot_at t w.point s)) (omega (arith, low_nok));
 }
 
-pub good_existing_before : (T : Scheme) (w : World) (o : Option Container) → FlowFits T →
+pub good_existing_before : (T : Scheme) (w : World) (ends : Bool) (o : Option Container) → FlowFits T →
     ((k : ContainerKind) → ContainerFits T (goes_on_with k)) → flow_ready (spot w) (after_all T w.frames) →
-    Does T (n.Document document.ContainerExistingBefore) w (existing_before_code w o)
-good_existing_before T w None has inner r = (
+    Does T (n.Document document.ContainerExistingBefore) w (existing_before_code w ends o)
+good_existing_before T w true o has inner r = (
+  turns T flow_scheme _ _ w w.events w.scratch has.existing_before has.containers_after r (omega arith) (omega arith),
+  refl,
+)
+good_existing_before T w false None has inner r = (
   turns T flow_scheme _ _ w w.events w.scratch has.existing_before has.first_opener r (omega arith) (omega arith),
   refl,
 )
-good_existing_before T w (Some c) has inner r =
+good_existing_before T w false (Some c) has inner r =
     let i : ContainerFits T (goes_on_with c.kind) = inner c.kind in
     looked T _ _ _ _ w (asking c w).flags
     (may_with (may_go_on c.kind) (looks_behind w)) has.existing_before has.first_opener r (omega arith) (

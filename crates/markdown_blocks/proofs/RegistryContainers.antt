@@ -1,5 +1,6 @@
 -- The containers that flow reads, by their laws.
-use Rattle.std.proofs.Common.{◌≡◌, ℕ, ◌<◌, Bool, List, [], ◌∷◌, ◌++◌, length, Option, Some, None, refl, sym, ap, ◌∙◌, subst}
+use Rattle.std.proofs.Common.{◌≡◌, ℕ, ◌<◌, ◌≤◌, Bool, true, false, cond, List, [], ◌∷◌, ◌++◌, length, Option, Some, None}
+use Rattle.std.proofs.Common.{refl, sym, ap, ◌∙◌, subst}
 use Rattle.std.specs.Option.{option_or}
 use Rattle.md_engine.specs.declared.configuration.ParseOptions.{ParseOptions}
 use Rattle.md_engine.specs.declared.event.Point.{Point}
@@ -10,7 +11,8 @@ use Rattle.md_engine.specs.Meaning.{Cell, Here}
 use Rattle.md_engine.specs.World.{container_of}
 use Rattle.md_containers.specs.Interrupts.{interrupts}
 use Rattle.md_containers.proofs.Shorter.{Shortens}
-use Rattle.md_seam.specs.Spaces.{IsRest}
+use Rattle.md_seam.specs.Look.{first_seen}
+use Rattle.md_seam.specs.Spaces.{IsRest, ends_line}
 use Rattle.md_definition.specs.Containers.{Taken, continues, opens}
 use Rattle.md_definition.specs.Preamble.{rest_at}
 use Rattle.md_definition.specs.Rest.{Rest}
@@ -18,9 +20,9 @@ use Rattle.md_definition.specs.State.{Container, container_block}
 use Rattle.md_definition.specs.Tree.{Blocks}
 use Rattle.md_seam.proofs.RestCells.{past_rest, rest_cells}
 use Rattle.markdown_blocks.specs.Parsed.{IsBuilt}
-use Rattle.markdown_blocks.specs.Passed.{Passed, passed_by}
+use Rattle.markdown_blocks.specs.Passed.{Passed, passed_by, passed_over}
 use Rattle.markdown_blocks.specs.Registry.{IsOf, MatchesContainer, begins_at, container_name, container_rules}
-use Rattle.markdown_blocks.specs.Registry.{continues_at, goes_at, goes_by, kind_of, openers, opens_at, opens_by, shape_of}
+use Rattle.markdown_blocks.specs.Registry.{continues_at, goes_at, goes_by, goes_over, kind_of, openers, opens_at, opens_by, shape_of}
 use Rattle.markdown_blocks.proofs.ContainerLaws.{ByRest, IsPassed}
 use Rattle.markdown_blocks.proofs.ContainerNames.{container-facts}
 use Rattle.markdown_blocks.proofs.PassedFacts.{Agree, HasFurther, HasOpening}
@@ -37,8 +39,8 @@ pub begins-shortens : (options : ParseOptions) (k : ContainerKind) (cells : List
 begins-shortens options k cells h = (container-laws k).begins_shorter options cells h
 
 pub continues-shortens : (options : ParseOptions) (k : ContainerKind) (cells : List Cell) (h : Here) →
-    Shortens (length cells) (continues_at options k cells h)
-continues-shortens options k cells h = (container-laws k).continues_shorter options cells h
+    ends_line (first_seen cells) ≡ false → Shortens (length cells) (continues_at options k cells h)
+continues-shortens options k cells h ends = (container-laws k).continues_shorter options cells h ends
 
 -- By the cells of a line.
 
@@ -82,8 +84,20 @@ goes-passes options c cells p t e = go (kind_of (shape_of c)) refl e
     go (Some k) is e = (k, (container-laws k).went options c cells p t is e)
 
 pub goes-shorter : (options : ParseOptions) (c : Container) (cells : List Cell) (p : Point) (t : Passed) →
-    goes_at options c cells p ≡ Some t → length t.cells < length cells
-goes-shorter options c cells p t e = (goes-passes options c cells p t e).1.shorter
+    goes_at options c cells p ≡ Some t → ends_line (first_seen cells) ≡ false → length t.cells < length cells
+goes-shorter options c cells p t e ends = (goes-passes options c cells p t e).1.shorter ends
+
+pub goes-within : (options : ParseOptions) (c : Container) (cells : List Cell) (p : Point) (t : Passed) →
+    goes_at options c cells p ≡ Some t → length t.cells ≤ length cells
+goes-within options c cells p t e = (goes-passes options c cells p t e).1.within
+
+-- where the line ends, what is held tells whether it does
+pub goes-over : (options : ParseOptions) (k : Known) (c : Container) (cells : List Cell) (p : Point) →
+    MatchesContainer k c → ends_line (first_seen cells) ≡ true →
+    goes_at options c cells p ≡ cond (goes_over k) (Some (passed_over k c cells p)) None
+goes-over options k c cells p is ends =
+    ap (λ (o : Option ContainerKind). goes_by options c cells p o) is.0
+    ∙ (container-laws k.kind).goes_over options k c cells p is.0 is.1 ends
 
 pub goes-front : (options : ParseOptions) (c : Container) (cells : List Cell) (p : Point) (t : Passed) →
     goes_at options c cells p ≡ Some t → AreFront t.events
@@ -125,6 +139,16 @@ opens-of options interrupting cells p (k ∷ ks) t e =
           holds = rules.held_new options interrupting cells p t (is ∙ e);
         }
 
+-- where the line ends none does
+pub opens-ended : (options : ParseOptions) (interrupting : Bool) (cells : List Cell) (p : Point)
+    (ks : List ContainerKind) →
+    ends_line (first_seen cells) ≡ true → opens_by options interrupting cells p ks ≡ None
+opens-ended options interrupting cells p [] ends = refl
+opens-ended options interrupting cells p (k ∷ ks) ends =
+    ap (λ (o : Option Passed). option_or o (opens_by options interrupting cells p ks))
+    ((container-laws k).opens_not options interrupting cells p ends)
+    ∙ opens-ended options interrupting cells p ks ends
+
 pub opens-same : (options : ParseOptions) (interrupting : Bool) (cells : List Cell) (p : Point) (t : Passed) →
     opens_at options interrupting cells p ≡ Some t → MatchesContainer t.held t.container
 opens-same options interrupting cells p t e =
@@ -133,7 +157,11 @@ opens-same options interrupting cells p t e =
 
 pub opens-shorter : (options : ParseOptions) (interrupting : Bool) (cells : List Cell) (p : Point) (t : Passed) →
     opens_at options interrupting cells p ≡ Some t → length t.cells < length cells
-opens-shorter options interrupting cells p t e = (opens-of options interrupting cells p openers t e).passed.shorter
+opens-shorter options interrupting cells p t e = go (ends_line (first_seen cells)) refl
+  where
+    go : (x : Bool) → ends_line (first_seen cells) ≡ x → length t.cells < length cells
+    go true ends = let none = opens-ended options interrupting cells p openers ends in cc
+    go false going = (opens-of options interrupting cells p openers t e).passed.shorter going
 
 pub opens-front : (options : ParseOptions) (interrupting : Bool) (cells : List Cell) (p : Point) (t : Passed) →
     opens_at options interrupting cells p ≡ Some t → AreFront t.events
@@ -205,15 +233,20 @@ opens-read options interrupting r built =
         go None e more = more
         go (Some t) e more = of-read k t.container ((container-laws k).found_one options interrupting r t e)
 
--- none goes on over an empty line
-pub empty-ends : (options : ParseOptions) (c : Container) (column : ℕ) → IsRead c →
-    continues options c (rest_at column []) ≡ None
-empty-ends options c column h = go (kind_of (shape_of c)) refl h
+-- over an empty line a container goes on as it is, or it does not
+pub over-empty : (options : ParseOptions) (c : Container) (column : ℕ) → IsRead c →
+    (x : Bool)
+    × (continues options c (rest_at column []) ≡ cond x (Some (record { container = c; rest = rest_at column [] })) None)
+over-empty options c column h = go (kind_of (shape_of c)) refl h
   where
     go : (o : Option ContainerKind) → kind_of (shape_of c) ≡ o → HasKind o →
-        continues options c (rest_at column []) ≡ None
+        (x : Bool)
+        × (continues options c (rest_at column []) ≡
+        cond x (Some (record { container = c; rest = rest_at column [] })) None)
     go None e h = absurd h
-    go (Some k) e h = (container-laws k).empty_ends options c column e
+    go (Some k) e h =
+        let held = (container-laws k).may_hold c e in
+        ((container_rules k).over_empty held.0, (container-laws k).over_empty options held.0 c column e held.1)
 
 -- the block of one, with simple blocks in it, is simple
 pub read-simple : (c : Container) (bs : Blocks) → IsRead c → AreSimple bs → IsSimple (container_block c bs)

@@ -65,7 +65,7 @@ containers_do : (state : DocumentState) (w : World) → w.current ≡ looks w �
     stands flow_table_scheme w (Next (n.Document state)) →
     Does flow_table_scheme (n.Document state) w (document_own_transition state w)
 containers_do document.ContainerExistingBefore w c at =
-    goods.good_existing_before flow_table_scheme w _ flow_fits (λ k. (container-states k).goes_on) at
+    goods.good_existing_before flow_table_scheme w _ _ flow_fits (λ k. (container-states k).goes_on) at
 containers_do document.ContainerExistingAfter w c at = goods.good_existing_after flow_table_scheme w flow_fits at
 containers_do document.ContainerNewAfter w c at = goods.good_new_after flow_table_scheme w flow_fits at
 containers_do document.ContainersAfter w c at = goods.good_containers_after flow_table_scheme w flow_fits at

@@ -55,9 +55,11 @@ blank-before : (w : World) (ends may : Bool) → Registers w → Registers (flow
 blank-before w true may h = h
 blank-before w false may h = trial _ _ _ w may h
 
-existing-before : (w : World) (o : Option Container) → Registers w → Registers (flow.existing_before_code w o).world
-existing-before w None h = h
-existing-before w (Some c) h = trial _ _ _ (asking c w) (may_with (may_go_on c.kind) (looks_behind w)) h
+existing-before : (w : World) (ends : Bool) (o : Option Container) → Registers w →
+    Registers (flow.existing_before_code w ends o).world
+existing-before w true o h = h
+existing-before w false None h = h
+existing-before w false (Some c) h = trial _ _ _ (asking c w) (may_with (may_go_on c.kind) (looks_behind w)) h
 
 opener-registers : (o : Option ContainerKind) (w : World) → Registers w → Registers (flow.opener_transition o w).world
 opener-registers None w h = h
@@ -101,7 +103,7 @@ blank-registers blank_line.After w h = blank-after w (ends_line w.current) h
 -- between the containers of a line, and in front of a leaf and behind it
 containers-register : (state : DocumentState) (w : World) → Registers w →
     Registers (document_own_transition state w).world
-containers-register document.ContainerExistingBefore w h = existing-before w (next_container w.flags) h
+containers-register document.ContainerExistingBefore w h = existing-before w (ends_line w.current) (next_container w.flags) h
 containers-register document.ContainerNewAfter w h = closed-registers w w.flags.continued w.flags.line_end h
 containers-register document.FlowEnd w h =
     flow-end (closed w (stays w.flags) w.flags.line_end) w.current

@@ -33,5 +33,7 @@ pub record ContainerRules : Type 1 where
   -- By the rest of a line: the one that opens. Which open one goes on, the line definition says of all containers at
   -- once.
   pub found : ParseOptions → Bool → Rest → Option Taken
+  -- Whether one that is held so goes on where the line ends, and takes nothing: then it is not asked.
+  pub over_empty : Held → Bool
   -- What the tokenizer holds of an open one: beside its kind what the events do not tell.
   pub holds : Held → Container → Type 0

@@ -17,7 +17,7 @@ use Rattle.md_seam.specs.Look.{looks_behind, may_with}
 use Rattle.md_seam.specs.Spaces.{ends_line, rest_ready}
 use Rattle.md_seam.specs.Transition.{Transition, entered, exited, taken, tried}
 use Rattle.markdown_blocks.specs.LineFlags.{asking, begun_line, blanked, ending_name, next_container, next_line, stays}
-use Rattle.markdown_blocks.specs.LineFlags.{went_on, with_container}
+use Rattle.markdown_blocks.specs.LineFlags.{ended_on, went_on, with_container}
 use Rattle.markdown_blocks.specs.Registry.{LeafName, front_of, goes_on_with, leaf, may_go_on, may_open, next_of}
 use Rattle.markdown_blocks.specs.Registry.{next_opener, opener_at, opener_front, opener_rank, opener_tries, openers}
 use Rattle.markdown_blocks.specs.Registry.{opens_with, rank_of, trials, tried_at, tries_of}
@@ -66,15 +66,17 @@ blank_line_after_transition w =
 
 -- Containers.
 
--- by the container that may go on
-abbrev pub existing_before_code : World → Option Container → Transition
-existing_before_code w None = record { to = Retry (s.Document (opener_front openers)); world = w }
-existing_before_code w (Some c) =
+-- by whether the line ends here, where none is asked and none opens, and by the container that may go on
+abbrev pub existing_before_code : World → Bool → Option Container → Transition
+existing_before_code w true o =
+    record { to = Retry (s.Document document.ContainersAfter); world = record w { flags = ended_on w.flags } }
+existing_before_code w false None = record { to = Retry (s.Document (opener_front openers)); world = w }
+existing_before_code w false (Some c) =
     trial_code (goes_on_with c.kind) (s.Document document.ContainerExistingAfter)
     (s.Document (opener_front openers)) (asking c w) (may_with (may_go_on c.kind) (looks_behind w))
 
 abbrev pub existing_before_transition : World → Transition
-existing_before_transition w = existing_before_code w (next_container w.flags)
+existing_before_transition w = existing_before_code w (ends_line w.current) (next_container w.flags)
 
 abbrev pub existing_after_transition : World → Transition
 existing_after_transition w =

@@ -1,6 +1,6 @@
 -- What is left at each state of the lines of a text: the lines that are still to come, each by its containers and the
 -- block that takes the rest of it.
-use Rattle.std.specs.Prelude.{◌≡◌, ℕ, zero, suc, ◌==◌, Option, Some, None, if◌then◌else◌, List, [], ◌∷◌, ◌++◌, length}
+use Rattle.std.specs.Prelude.{◌≡◌, ℕ, zero, suc, Bool, true, false, ◌==◌, Option, Some, None, if◌then◌else◌, List, [], ◌∷◌, ◌++◌, length}
 use Rattle.md_engine.specs.declared.configuration.ParseOptions.{ParseOptions}
 use Rattle.md_engine.specs.declared.state.Name.TheVariants as s
 use Rattle.md_engine.specs.declared.state.document.State.{State as DocumentState}
@@ -15,10 +15,12 @@ use Rattle.md_engine.specs.World.{Flags, closed_events, container_of, kept}
 use Rattle.md_content.specs.ChunkRule.{HasChunk, chunk_at}
 use Rattle.md_leaves.specs.BlankRule.{HasBlank, blank_at}
 use Rattle.md_seam.specs.Events.Nested.{pair}
+use Rattle.md_seam.specs.Look.{first_seen}
+use Rattle.md_seam.specs.Spaces.{ends_line}
 use Rattle.markdown_blocks.specs.Registry.{LeafName, begins_at, behind, continues_at, goes_on_with, leaf, opener_at, openers}
 use Rattle.markdown_blocks.specs.Registry.{openers_behind, opens_with, trials, tried_at}
 use Rattle.markdown_blocks.specs.LineFlags.{asks, begun_line, blanked, ending_name, next_container, next_line, stays}
-use Rattle.markdown_blocks.specs.LineFlags.{went_on, with_container}
+use Rattle.markdown_blocks.specs.LineFlags.{ended_on, went_on, with_container}
 
 -- how the rest of a text ends from a place
 abbrev pub Rule : Type 0
@@ -122,10 +124,17 @@ existing_by options next further (Some c) cells h =
     (λ rest k. further rest (record k { flags = went_on k.flags }))
     (λ s g. new_of options next cells (record h { scratch = s; flags = g }))
 
+-- by whether the line ends here: then none is asked, and none opens
+abbrev pub existing_at : ParseOptions → Rule → Rule → Bool → Rule
+existing_at options next further true cells h =
+    behind_containers options next cells (record h { flags = ended_on h.flags })
+existing_at options next further false cells h =
+    existing_by options next further (next_container h.flags) cells h
+
 unfoldable pub existing_from : ParseOptions → Rule → ℕ → Rule
 existing_from options next zero cells h = new_of options next cells h
 existing_from options next (suc n) cells h =
-    existing_by options next (existing_from options next n) (next_container h.flags) cells h
+    existing_at options next (existing_from options next n) (ends_line (first_seen cells)) cells h
 
 unfoldable pub line_then : ParseOptions → Rule → Rule
 line_then options next cells h = existing_from options next (suc (length cells)) cells h

@@ -1,12 +1,13 @@
 -- What the document knows of its containers, and how each step of a line changes it.
 use Rattle.markdown_blocks.specs.HeldLeaf.{takes_lazy}
-use Rattle.std.specs.Prelude.{ℕ, suc, Bool, true, false, ◌&&◌, nat_lt, if◌then◌else◌, [], ◌∷◌, ◌++◌, length, slice_get, slice_set}
-use Rattle.std.specs.Prelude.{Option}
+use Rattle.std.specs.Prelude.{ℕ, suc, ◌+◌, Bool, true, false, ◌&&◌, nat_lt, if◌then◌else◌, List, [], ◌∷◌, ◌++◌}
+use Rattle.std.specs.Prelude.{drop, length, slice_get, slice_set, Option}
 use Rattle.md_engine.specs.declared.event.Name.{Name}
 use Rattle.md_engine.specs.declared.event.Name.TheVariants.{BlankLineEnding, LineEnding}
 use Rattle.md_engine.specs.declared.tokenizer.container.Container.{Container}
 use Rattle.md_engine.specs.declared.tokenizer.held_leaf.HeldLeaf.TheVariants as held_leaf
 use Rattle.md_engine.specs.World.{Flags, World}
+use Rattle.markdown_blocks.specs.Registry.{goes_over}
 
 -- the outermost container that was not asked yet whether it goes on
 abbrev pub next_container : Flags → Option Container
@@ -25,6 +26,15 @@ went_on g = record g {
   containers = slice_set g.containers g.continued g.asked;
   continued = if nat_lt g.continued (length g.containers) then suc g.continued else g.continued;
 }
+
+-- how many of these go on where the line ends, up to the first that does not
+abbrev pub over_end : List Container → ℕ
+over_end [] = 0
+over_end (c ∷ cs) = if goes_over c then suc (over_end cs) else 0
+
+-- where the line ends none is asked
+abbrev pub ended_on : Flags → Flags
+ended_on g = record g { continued = g.continued + over_end (drop g.continued g.containers) }
 
 -- the one that was tried opens, where those that did not go on have ended: no paragraph is open in it
 abbrev pub with_container : Flags → Flags

@@ -1,5 +1,5 @@
 -- A container on a line, by the cells of the line.
-use Rattle.std.specs.Prelude.{List, ◌++◌, Option, Some, None}
+use Rattle.std.specs.Prelude.{List, [], ◌++◌, Option, Some, None}
 use Rattle.md_engine.specs.declared.event.Event.{Event}
 use Rattle.md_engine.specs.declared.event.Point.{Point}
 use Rattle.md_engine.specs.declared.tokenizer.container.Container.{Container as Held}
@@ -27,3 +27,7 @@ passed_here t h = record h {
 abbrev pub passed_by : Option Passed → Here → Outcome
 passed_by None h = Refuses h.scratch h.flags
 passed_by (Some t) h = Accepts (passed_here t h) t.cells
+
+-- one that goes on where the line ends: it takes nothing, and stays as it is
+abbrev pub passed_over : Held → Container → List Cell → Point → Passed
+passed_over held c cells p = record { container = c; held = held; events = []; cells = cells; point = p }

@@ -243,6 +243,10 @@ goes_by options c cells p (Some k) = (container_rules k).goes options c cells p
 abbrev pub goes_at : ParseOptions → Container → List Cell → Point → Option Passed
 goes_at options c cells p = goes_by options c cells p (kind_of (shape_of c))
 
+-- whether an open one, which is held so, goes on where the line ends
+abbrev pub goes_over : Held → Bool
+goes_over held = (container_rules held.kind).over_empty held
+
 -- States: which construct has each, what each does, and what is left at it; `is_name` finds a resolver among those that
 -- are registered.
 

@@ -1,7 +1,8 @@
 -- What is tried for a block quote: its prefix is taken where its cells say so, and takes a cell at least.
 use Rattle.std.proofs.Common.{◌≡◌, ℕ, Bool, true, false, cond, ◌&&◌, ◌⊎◌, inl, inr, List, [], ◌∷◌, ◌++◌, Some, None, refl, ◌∙◌}
 use Rattle.std.proofs.Common.{sym, subst, ap, arith}
-use Rattle.std.proofs.lemmas.Bool.{and_parts}
+use Rattle.std.proofs.lemmas.Bool.{and_parts, eqb-true}
+use Rattle.std.specs.Prelude.{Option}
 use Rattle.std.proofs.lemmas.Bool.Decides.{nat_tests}
 use Rattle.md_engine.specs.declared.configuration.ParseOptions.{ParseOptions}
 use Rattle.md_engine.specs.declared.event.Point.{Point}
@@ -14,7 +15,7 @@ use Rattle.md_containers.specs.QuoteRule.{has_marker, prefix_at, quote_at, takes
 use Rattle.md_definition.specs.Rest.{is_white}
 use Rattle.md_seam.specs.Ahead.{white_rest}
 use Rattle.md_seam.specs.Look.{first_seen, seen_behind}
-use Rattle.md_seam.specs.Spaces.{IsRest, small_indent}
+use Rattle.md_seam.specs.Spaces.{IsRest, ends_line, small_indent}
 use Rattle.md_seam.proofs.LookLemmas.{rest-begins}
 use Rattle.markdown_blocks.specs.Containers.BlockQuote.{quote_new, quote_on, quote_rules}
 use Rattle.markdown_blocks.specs.Passed.{Passed, passed_by}
@@ -68,6 +69,18 @@ no_prefix options cells b seen e =
     go [] c is other = refl
     go (d ∷ ds) c is other = let same : d.byte ≡ c = cc in rw same other
 
+-- nor where the line ends
+ended_prefix : (options : ParseOptions) (cells : List Cell) → ends_line (first_seen cells) ≡ true →
+    takes_prefix options cells ≡ false
+ended_prefix options [] ends = refl
+ended_prefix options (c ∷ cs) ends =
+    let ten : c.byte ≡ 10 = eqb-true c.byte 10 ends in no_prefix options (c ∷ cs) 10 (rw ten refl) refl
+
+pub prefix-ended : (options : ParseOptions) (cells : List Cell) (p : Point) → ends_line (first_seen cells) ≡ true →
+    cond (takes_prefix options cells) (Some (quote_on options cells p)) None ≡ None
+prefix-ended options cells p ends =
+    ap (λ (x : Bool). cond x (Some (quote_on options cells p)) None) (ended_prefix options cells ends)
+
 pub prefix-looked : (options : ParseOptions) (cells : List Cell) (h : Here) (b : ℕ) → IsRest h.scratch →
     seen_behind cells ≡ Some b → may_begin b ≡ false → prefix_at options cells h ≡ Refuses h.scratch h.flags
 prefix-looked options cells h b is seen e =
@@ -80,7 +93,7 @@ pub prefix-passed : (options : ParseOptions) (cells : List Cell) (p : Point) (t 
 prefix-passed options cells p t e =
     let is = taken-if (takes_prefix options cells) (quote_on options cells p) t e in
     subst (IsPassed kind.BlockQuote cells) is.1
-    (record { one = refl; kind = refl; shorter = prefix-shorter options cells is.0; front = quote-front options cells p })
+    (record { one = refl; kind = refl; shorter = λ ends. prefix-shorter options cells is.0; within = let lt = prefix-shorter options cells is.0 in omega (arith, lt); front = quote-front options cells p })
 
 pub prefix-held : (options : ParseOptions) (cells : List Cell) (p : Point) (t : Passed) →
     cond (takes_prefix options cells) (Some (quote_on options cells p)) None ≡ Some t →
@@ -119,9 +132,21 @@ quote-passed options interrupting cells p t e =
     (record {
       one = refl;
       kind = refl;
-      shorter = prefix-shorter options cells takes;
+      shorter = λ ends. prefix-shorter options cells takes;
+      within = let lt = prefix-shorter options cells takes in omega (arith, lt);
       front = ((refl, refl), quote-front options cells p);
     })
+
+pub quote-ended : (options : ParseOptions) (interrupting : Bool) (cells : List Cell) (p : Point) →
+    ends_line (first_seen cells) ≡ true → quote_rules.opens options interrupting cells p ≡ None
+quote-ended options interrupting cells p ends = go options.constructs.block_quote
+  where
+    new : Option Passed
+    new = Some (quote_new options cells p)
+
+    go : (x : Bool) → cond (x && takes_prefix options cells) new None ≡ None
+    go true = ap (λ (y : Bool). cond y new None) (ended_prefix options cells ends)
+    go false = refl
 
 pub quote-held : (options : ParseOptions) (interrupting : Bool) (cells : List Cell) (p : Point) (t : Passed) →
     quote_rules.opens options interrupting cells p ≡ Some t → t.held ≡ container_of kind.BlockQuote

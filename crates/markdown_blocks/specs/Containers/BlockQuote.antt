@@ -1,5 +1,5 @@
 -- Block quotes (CommonMark 5.1), as containers of a line.
-use Rattle.std.specs.Prelude.{◌≡◌, ◌∷◌, ◌&&◌, if◌then◌else◌, List, Some, None}
+use Rattle.std.specs.Prelude.{◌≡◌, ◌∷◌, ◌&&◌, false, if◌then◌else◌, List, Some, None}
 use Rattle.md_engine.specs.declared.configuration.ParseOptions.{ParseOptions}
 use Rattle.md_engine.specs.declared.event.Name.TheVariants as n
 use Rattle.md_engine.specs.declared.event.Point.{Point}
@@ -51,5 +51,6 @@ quote_rules = record {
       if options.constructs.block_quote && takes_prefix options cells then Some (quote_new options cells p) else None;
   goes = λ options c cells p. if takes_prefix options cells then Some (quote_on options cells p) else None;
   found = λ options interrupting r. opens_quote options r;
+  over_empty = λ held. false;
   holds = λ held c. held ≡ container_of kind.BlockQuote;
 }

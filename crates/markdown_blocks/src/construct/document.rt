@@ -9,7 +9,7 @@
 // paragraph, so that all containers stay open although not all went on (CommonMark 5.1, "laziness"). Else those that
 // did not go on end: their ends are put where the line before ended, in front of its ending.
 
-ghost use Rattle.std.specs.Prelude.{◌≡◌, ◌≢◌};
+ghost use Rattle.std.specs.Prelude.{◌≡◌, ◌≢◌, ◌≤◌, length};
 ghost use Rattle.md_engine.specs.Scheme.{stands};
 ghost use Rattle.md_engine.specs.World.{looks, world};
 ghost use Rattle.md_engine.specs.declared.state.Name.{Name as StateName};
@@ -19,7 +19,7 @@ ghost use Rattle.markdown_blocks.specs.Flow.{containers_after_transition, existi
 ghost use Rattle.markdown_blocks.specs.Flow.{existing_before_transition, flow_end_transition, new_after_transition};
 ghost use Rattle.markdown_blocks.specs.Flow.{new_before_transition};
 ghost use Rattle.md_engine.specs.declared.tokenizer.container.name.ContainerKind.{ContainerKind};
-ghost use Rattle.markdown_blocks.specs.LineFlags.{asking, ending_name, next_container, stays};
+ghost use Rattle.markdown_blocks.specs.LineFlags.{asking, ended_on, ending_name, next_container, over_end, stays};
 ghost use Rattle.markdown_blocks.specs.HeldLeaf.{takes_lazy};
 ghost use Rattle.markdown_blocks.specs.Document.{before_frontmatter_transition, document_own_transition};
 ghost use Rattle.markdown_blocks.specs.Document.{document_table_scheme, document_transition, start_transition};
@@ -39,6 +39,7 @@ use md_engine::stay::Stay;
 use md_engine::subtokenize::Subresult;
 use md_engine::table::Table;
 use md_engine::tokenizer::{Container, ContainerKind, Flags, HeldLeaf, Tokenizer};
+use md_leaves::blank_line::ends_line;
 use md_leaves::partial_bom;
 
 /// At the start of the text: before a byte order mark, if there is one.
@@ -88,6 +89,31 @@ fn ask(tokenizer: &mut Tokenizer, container: Container)
     tokenizer.flags.asked_column = tokenizer.point.column;
 }
 
+/// How many of these go on where the line ends: those that take nothing of it, up to the first that would.
+fn over_end(containers: &[Container]) -> usize
+    ensures over { result ≡ over_end containers.now }
+    ensures within { result ≤ length containers.now }
+{
+    let mut over = 0;
+    for container in containers {
+        if !registry::goes_over(*container) {
+            return over;
+        }
+        over += 1;
+    }
+    over
+}
+
+/// Where the line ends no container is asked: those go on that take nothing of it.
+fn pass_over(tokenizer: &mut Tokenizer)
+    ensures { world tokenizer.new ≡ record (world tokenizer.old) { flags = ended_on (world tokenizer.old).flags } }
+{
+    let continued = tokenizer.flags.continued;
+    if continued < tokenizer.containers.len() {
+        tokenizer.flags.continued = continued + over_end(&tokenizer.containers[continued..]);
+    }
+}
+
 /// At the begin of a line, or behind the prefix of a container that went on: before the next one that is open.
 ///
 /// ```markdown
@@ -101,6 +127,10 @@ pub fn container_existing_before(tokenizer: &mut Tokenizer) -> State
     ensures world { result ≢ State.Error →
         world tokenizer.new ≡ (existing_before_transition (world tokenizer.old)).world }
 {
+    if ends_line(tokenizer.current) {
+        pass_over(tokenizer);
+        return State::Retry(StateName::Document(DocumentState::ContainersAfter));
+    }
     match next_container(tokenizer) {
         None => State::Retry(StateName::Document(registry::first_opener())),
         Some(container) => {

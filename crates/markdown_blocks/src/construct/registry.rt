@@ -13,7 +13,7 @@ ghost use Rattle.md_engine.specs.Scheme.{stands};
 ghost use Rattle.md_engine.specs.World.{looks, world};
 ghost use Rattle.md_engine.specs.declared.resolve.name.Name.{Name as ResolveName};
 ghost use Rattle.md_engine.specs.declared.state.State.{State};
-ghost use Rattle.markdown_blocks.specs.Registry.{construct_transition, goes_on_with, may_go_on, may_open};
+ghost use Rattle.markdown_blocks.specs.Registry.{construct_transition, goes_on_with, goes_over, may_go_on, may_open};
 ghost use Rattle.markdown_blocks.specs.Registry.{next_opener, opener_front, openers, opens_with, resolved_by};
 ghost use Rattle.markdown_blocks.specs.States.{flow_table_scheme};
 ghost use Rattle.md_seam.specs.Look.{looks_behind, may_with};
@@ -25,7 +25,7 @@ use md_engine::state::block_quote::State as QuoteState;
 use md_engine::state::document::State as DocumentState;
 use md_engine::state::{Name as StateName, State};
 use md_engine::subtokenize::Subresult;
-use md_engine::tokenizer::{ContainerKind, Tokenizer};
+use md_engine::tokenizer::{Container, ContainerKind, Tokenizer};
 use md_leaves::{heading_atx, thematic_break};
 use md_seam::space_or_tab::look_behind;
 
@@ -75,6 +75,16 @@ pub fn may_go_on(tokenizer: &Tokenizer, kind: ContainerKind) -> bool
 {
     match kind {
         ContainerKind::BlockQuote => block_quote::may_begin(look_behind(tokenizer)),
+    }
+}
+
+/// Whether an open container goes on where the line ends, and takes nothing.
+#[inline(always)]
+pub fn goes_over(container: Container) -> bool
+    ensures { result ≡ goes_over container }
+{
+    match container.kind {
+        ContainerKind::BlockQuote => false,
     }
 }
 
