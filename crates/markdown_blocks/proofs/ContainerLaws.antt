@@ -1,5 +1,5 @@
 -- The laws of a container: what the frame asks of each (`ContainerRules`).
-use Rattle.std.proofs.Common.{◌≡◌, ℕ, ◌^◌, ◌<◌, Bool, false, List, [], ◌++◌, length}
+use Rattle.std.proofs.Common.{◌≡◌, ℕ, ◌^◌, ◌<◌, ◌≤◌, Bool, true, false, cond, List, [], ◌++◌, length}
 use Rattle.std.specs.Prelude.{None, Some}
 use Rattle.md_engine.specs.declared.configuration.ParseOptions.{ParseOptions}
 use Rattle.md_engine.specs.declared.event.Point.{Point}
@@ -7,9 +7,11 @@ use Rattle.md_engine.specs.declared.tokenizer.container.Container.{Container as 
 use Rattle.md_engine.specs.declared.tokenizer.container.name.ContainerKind.{ContainerKind}
 use Rattle.md_engine.specs.declared.tokenizer.Line.{Line}
 use Rattle.md_engine.specs.Meaning.{Cell, Here, Refuses}
+use Rattle.md_engine.specs.World.{container_of}
+use Rattle.md_containers.specs.Interrupts.{interrupts}
 use Rattle.md_containers.proofs.Shorter.{Shortens}
-use Rattle.md_seam.specs.Look.{seen_behind}
-use Rattle.md_seam.specs.Spaces.{IsRest}
+use Rattle.md_seam.specs.Look.{first_seen, seen_behind}
+use Rattle.md_seam.specs.Spaces.{IsRest, ends_line}
 use Rattle.md_definition.specs.Containers.{Taken, continues}
 use Rattle.md_definition.specs.Preamble.{rest_at}
 use Rattle.md_definition.specs.Rest.{Rest}
@@ -19,17 +21,19 @@ use Rattle.md_seam.proofs.FeedLines.{Stops}
 use Rattle.md_seam.proofs.RestCells.{RestAt, past_rest, rest_cells}
 use Rattle.md_definition.proofs.TextsLemmas.{NoEnding}
 use Rattle.markdown_blocks.specs.ContainerRules.{ContainerRules}
-use Rattle.markdown_blocks.specs.Passed.{Passed, passed_by}
+use Rattle.markdown_blocks.specs.Passed.{Passed, passed_by, passed_over}
 use Rattle.markdown_blocks.specs.Registry.{IsOf}
 use Rattle.markdown_blocks.proofs.PassedFacts.{Agree, HasFurther, HasOpening}
 use Rattle.markdown_blocks.proofs.PrefixNames.{AreFront}
 use Rattle.markdown_blocks.proofs.SimpleBlocks.{AreSimple, IsSimple}
 
--- one that goes on or opens is of its kind, takes a cell at least, and adds events with names of prefixes and of
--- containers
+-- one that goes on or opens is of its kind, takes a cell at least where the line does not end here, and adds events with
+-- names of prefixes and of containers
 pub record IsPassed (k : ContainerKind) (cells : List Cell) (t : Passed) : Type 0 where
   pub one : IsOf k t.container
-  pub shorter : length t.cells < length cells
+  pub kind : t.held.kind ≡ k
+  pub shorter : ends_line (first_seen cells) ≡ false → length t.cells < length cells
+  pub within : length t.cells ≤ length cells
   pub front : AreFront t.events
 
 -- what holds of the rest of a line and its cells, behind which others stand: of any rest at any point
@@ -39,11 +43,14 @@ ByRest P = (line : Line) (text past : List ℕ) (r : Rest) (stop : List Cell) (p
     P line text past r stop p
 
 pub record ContainerLaws (k : ContainerKind) (rules : ContainerRules) : Type 1 where
-  -- What is left at its states is what it takes by the cells of a line, and is shorter.
+  -- What is left at its states is what it takes by the cells of a line, and is shorter: where it is the one that is
+  -- tried, or asked.
   pub begins_is : (options : ParseOptions) (interrupting : Bool) (cells : List Cell) (h : Here) → IsRest h.scratch →
+      h.flags.asked ≡ container_of k → h.flags.asked_column ≡ h.point.column → interrupting ≡ interrupts h.flags →
       rules.begins options cells h ≡ passed_by (rules.opens options interrupting cells h.point) h
   pub continues_is : (options : ParseOptions) (held : Held) (c : Container) (cells : List Cell) (h : Here) →
-      IsRest h.scratch → IsOf k c → rules.holds held c →
+      IsRest h.scratch → h.flags.asked ≡ held → h.flags.asked_column ≡ h.point.column → IsOf k c →
+      rules.holds held c →
       rules.continues options cells h ≡ passed_by (rules.goes options c cells h.point) h
   -- Where what stands first behind whitespace may not begin it, or not its prefix on a further line, it is refused, and
   -- all is left as it was.
@@ -56,16 +63,16 @@ pub record ContainerLaws (k : ContainerKind) (rules : ContainerRules) : Type 1 w
   pub begins_shorter : (options : ParseOptions) (cells : List Cell) (h : Here) →
       Shortens (length cells) (rules.begins options cells h)
   pub continues_shorter : (options : ParseOptions) (cells : List Cell) (h : Here) →
-      Shortens (length cells) (rules.continues options cells h)
+      ends_line (first_seen cells) ≡ false → Shortens (length cells) (rules.continues options cells h)
   pub opened : (options : ParseOptions) (interrupting : Bool) (cells : List Cell) (p : Point) (t : Passed) →
       rules.opens options interrupting cells p ≡ Some t → IsPassed k cells t
   pub went : (options : ParseOptions) (c : Container) (cells : List Cell) (p : Point) (t : Passed) → IsOf k c →
       rules.goes options c cells p ≡ Some t → IsPassed k cells t
   -- The tokenizer holds what it opens as, and goes on to.
   pub held_new : (options : ParseOptions) (interrupting : Bool) (cells : List Cell) (p : Point) (t : Passed) →
-      rules.opens options interrupting cells p ≡ Some t → rules.holds (record { kind = k }) t.container
+      rules.opens options interrupting cells p ≡ Some t → rules.holds t.held t.container
   pub held_on : (options : ParseOptions) (held : Held) (c : Container) (cells : List Cell) (p : Point) (t : Passed) →
-      rules.holds held c → rules.goes options c cells p ≡ Some t → rules.holds held t.container
+      rules.holds held c → rules.goes options c cells p ≡ Some t → rules.holds t.held t.container
   -- It opens and goes on where the line definition says, and leaves what it says.
   pub opens_agrees : (options : ParseOptions) (interrupting : Bool) → ByRest (λ line text past r stop p.
       let cells = rest_cells line r p ++ stop in
@@ -75,10 +82,19 @@ pub record ContainerLaws (k : ContainerKind) (rules : ContainerRules) : Type 1 w
       let cells = rest_cells line r p ++ stop in
       Agree (HasFurther line text past p (past_rest r p) stop cells) (rules.goes options c cells p)
       (continues options c r))
-  -- By the line definition what opens is of its kind; it does not go on over an empty line; and with simple blocks in
-  -- it, its block is simple.
+  -- Where the line ends none opens, and an open one goes on by what is held of it, and takes nothing. So it does by the
+  -- line definition, on an empty line; each of its kind may be held.
+  pub opens_not : (options : ParseOptions) (interrupting : Bool) (cells : List Cell) (p : Point) →
+      ends_line (first_seen cells) ≡ true → rules.opens options interrupting cells p ≡ None
+  pub goes_over : (options : ParseOptions) (held : Held) (c : Container) (cells : List Cell) (p : Point) → IsOf k c →
+      rules.holds held c → ends_line (first_seen cells) ≡ true →
+      rules.goes options c cells p ≡ cond (rules.over_empty held) (Some (passed_over held c cells p)) None
+  pub over_empty : (options : ParseOptions) (held : Held) (c : Container) (column : ℕ) → IsOf k c →
+      rules.holds held c →
+      continues options c (rest_at column []) ≡
+      cond (rules.over_empty held) (Some (record { container = c; rest = rest_at column [] })) None
+  pub may_hold : (c : Container) → IsOf k c → (held : Held) × rules.holds held c
+  -- By the line definition what opens is of its kind; and with simple blocks in it, its block is simple.
   pub found_one : (options : ParseOptions) (interrupting : Bool) (r : Rest) (t : Taken) →
       rules.found options interrupting r ≡ Some t → IsOf k t.container
-  pub empty_ends : (options : ParseOptions) (c : Container) (column : ℕ) → IsOf k c →
-      continues options c (rest_at column []) ≡ None
   pub simple : (c : Container) (bs : Blocks) → IsOf k c → AreSimple bs → IsSimple (container_block c bs)

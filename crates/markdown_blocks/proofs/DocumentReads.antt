@@ -18,6 +18,7 @@ use Rattle.md_engine.specs.declared.state.document.State.TheVariants as document
 use Rattle.md_engine.specs.declared.state.State.{State}
 use Rattle.md_engine.specs.declared.state.State.TheVariants.{Error, Ok, Nok, Next, Retry}
 use Rattle.md_engine.specs.declared.tokenizer.container.Container.{Container}
+use Rattle.md_engine.specs.declared.tokenizer.container.name.ContainerKind.{ContainerKind}
 use Rattle.md_engine.specs.declared.tokenizer.Frame.{Frame}
 use Rattle.md_engine.specs.Found.{Found}
 use Rattle.md_engine.specs.Meaning.{Accepts, Cell, Follows, Here, Outcome, Refuses, comes_to, goes, here}
@@ -26,7 +27,7 @@ use Rattle.md_engine.specs.Run.{Flushes, IsEnd, Resolution, Runs, goes_back, lef
 use Rattle.md_engine.specs.Run.Runs.{Stays, ThenCalls, ThenLeaves}
 use Rattle.md_engine.specs.Scheme.{stands}
 use Rattle.md_engine.specs.TextFeed.{text_feed}
-use Rattle.md_engine.specs.World.{Setting, World, after, closed, fresh, reads_to}
+use Rattle.md_engine.specs.World.{Setting, World, after, closed, container_of, fresh, reads_to}
 use Rattle.md_engine.proofs.Keeps.{runs-setting}
 use Rattle.md_engine.proofs.Standing.{runs-mean}
 use Rattle.md_engine.proofs.TextFeed.{flush-means, text-follows}
@@ -37,15 +38,15 @@ use Rattle.md_seam.specs.Ahead.{point_after}
 use Rattle.md_seam.specs.Events.Nested.{pair}
 use Rattle.md_definition.specs.Preamble.{has_mark}
 use Rattle.md_seam.specs.Look.{looks_behind, may_with}
-use Rattle.md_seam.specs.Spaces.{is_current}
+use Rattle.md_seam.specs.Spaces.{ends_line, is_current}
 use Rattle.markdown_blocks.specs.Document.{DocumentStep, ReadsMark, body_point, document_table_scheme}
 use Rattle.markdown_blocks.specs.Document.{document_transition, mark_end, mark_events}
 use Rattle.markdown_blocks.specs.DocumentRule.{document_at, document_behaves}
-use Rattle.markdown_blocks.specs.Flow.{existing_before_code, flow_end_code, trial_code}
-use Rattle.markdown_blocks.specs.Registry.{may_go_on, may_open}
+use Rattle.markdown_blocks.specs.Flow.{existing_before_code, flow_end_code, opener_transition, trial_code}
+use Rattle.markdown_blocks.specs.Registry.{may_go_on, may_open, opener_at}
 use Rattle.markdown_blocks.specs.FlowReads.{text_cells, text_setting}
 use Rattle.markdown_blocks.specs.FlowRule.{tried}
-use Rattle.markdown_blocks.specs.LineFlags.{next_container, stays}
+use Rattle.markdown_blocks.specs.LineFlags.{asking, next_container, stays}
 use Rattle.markdown_blocks.proofs.DocumentMeans.{document_means, document_stands}
 use Rattle.md_seam.proofs.FeedLines.{feed-next, feed-none, line-feed, past-next}
 use Rattle.md_seam.proofs.PlacesLemmas.{at-next}
@@ -219,9 +220,16 @@ trial-resolvers : (start ok nok : StateName) (w : World) (b : Bool) →
 trial-resolvers start ok nok w true = refl
 trial-resolvers start ok nok w false = refl
 
-existing-resolvers : (w : World) (o : Option Container) → (existing_before_code w o).world.resolvers ≡ w.resolvers
-existing-resolvers w None = refl
-existing-resolvers w (Some c) = trial-resolvers _ _ _ w (may_with (may_go_on c.kind) (looks_behind w))
+existing-resolvers : (w : World) (ends : Bool) (o : Option Container) →
+    (existing_before_code w ends o).world.resolvers ≡ w.resolvers
+existing-resolvers w true o = refl
+existing-resolvers w false None = refl
+existing-resolvers w false (Some c) = trial-resolvers _ _ _ (asking c w) (may_with (may_go_on c.kind) (looks_behind w))
+
+opener-resolvers : (w : World) (o : Option ContainerKind) → (opener_transition o w).world.resolvers ≡ w.resolvers
+opener-resolvers w None = refl
+opener-resolvers w (Some k) =
+    trial-resolvers _ _ _ (asking (container_of k) w) (may_with (may_open k) (looks_behind w))
 
 end-resolvers : (w : World) (o : Option ℕ) → (flow_end_code w o).world.resolvers ≡ w.resolvers
 end-resolvers w None = refl
@@ -235,9 +243,15 @@ went-resolvers : (name : StateName) (w : World) → (document_transition name w)
 went-resolvers (s.Bom bom_state.Start) w = bom-start w (is_current 239 w.current)
 went-resolvers (s.Bom bom_state.Inside) w =
     bom-inside w (is_current (mark_at w.scratch.size) w.current) (nat_lt w.scratch.size 2)
-went-resolvers (s.Document document.ContainerExistingBefore) w = existing-resolvers w (next_container w.flags)
-went-resolvers (s.Document document.ContainerNewBefore) w = trial-resolvers _ _ _ w (may_with may_open (looks_behind w))
+went-resolvers (s.Document document.ContainerExistingBefore) w =
+    existing-resolvers w (ends_line w.current) (next_container w.flags)
 went-resolvers (s.Document document.FlowEnd) w = end-resolvers (closed w (stays w.flags) w.flags.line_end) w.current
+went-resolvers (s.Document document.Start) w = refl
+went-resolvers (s.Document document.BeforeFrontmatter) w = refl
+went-resolvers (s.Document document.ContainerExistingAfter) w = refl
+went-resolvers (s.Document document.ContainerNewAfter) w = refl
+went-resolvers (s.Document document.ContainersAfter) w = refl
+went-resolvers (s.Document state) w = opener-resolvers w (opener_at state)
 went-resolvers _ w = refl
 
 left-resolvers : (w : World) (outer : List Frame) (f : Frame) (b : Bool) → (left w outer f b).resolvers ≡ w.resolvers

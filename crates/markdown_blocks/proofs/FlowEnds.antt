@@ -1,23 +1,27 @@
 -- Flow takes every text to its end.
-use Rattle.std.proofs.Common.{◌≡◌, ℕ, zero, suc, ◌<◌, ◌≤◌, List, [], ◌∷◌, length, Option, Some, None, refl, arith}
+use Rattle.std.proofs.Common.{◌≡◌, ℕ, zero, suc, ◌<◌, ◌≤◌, Bool, true, false, List, [], ◌∷◌, length, Option, Some, None, refl, arith}
 use Rattle.md_engine.specs.declared.configuration.ParseOptions.{ParseOptions}
 use Rattle.md_engine.specs.declared.tokenizer.container.Container.{Container}
 use Rattle.md_engine.specs.declared.tokenizer.Scratch.{Scratch}
 use Rattle.md_engine.specs.Meaning.{Accepts, Cell, Fails, Here, Outcome, Refuses}
-use Rattle.md_engine.specs.World.{Flags}
+use Rattle.md_engine.specs.declared.tokenizer.container.name.ContainerKind.{ContainerKind}
+use Rattle.md_engine.specs.World.{Flags, container_of}
 use Rattle.md_content.specs.ChunkRule.{chunk_at, inside_chunk}
 use Rattle.md_leaves.specs.BlankRule.{blank_at}
+use Rattle.md_seam.specs.Look.{first_seen}
+use Rattle.md_seam.specs.Spaces.{ends_line}
 use Rattle.md_seam.proofs.FeedLines.{Stops}
-use Rattle.markdown_blocks.specs.FlowRule.{Rule, blank_ended, content_of, ended, ended_to, existing_by, existing_from}
+use Rattle.markdown_blocks.specs.FlowRule.{Rule, asking_here, behind_containers, blank_ended, content_of, ended, ended_to}
+use Rattle.markdown_blocks.specs.FlowRule.{existing_at, existing_by, existing_from, opens_of}
 use Rattle.markdown_blocks.specs.FlowRule.{flow_at, flow_lines, leaf_of, leaves_of, line_ended, line_then, new_from}
 use Rattle.markdown_blocks.specs.FlowRule.{new_of, opened, tried}
-use Rattle.markdown_blocks.specs.LineFlags.{begun_line, blanked, next_container, stays, went_on}
-use Rattle.markdown_blocks.specs.Registry.{LeafName, continues_at, leaf, new_container_at, trials}
+use Rattle.markdown_blocks.specs.LineFlags.{begun_line, blanked, ended_on, next_container, stays, went_on}
+use Rattle.markdown_blocks.specs.Registry.{LeafName, begins_at, continues_at, leaf, openers, trials}
 use Rattle.markdown_blocks.proofs.FlowLemmas.{blank_at-shrinks, chunk_at-shrinks}
 use Rattle.markdown_blocks.proofs.FromEnding.{stops-same}
 use Rattle.markdown_blocks.proofs.LeafLaws.{Shrinks}
 use Rattle.markdown_blocks.proofs.Registry.{laws}
-use Rattle.markdown_blocks.proofs.RegistryContainers.{continues-shortens, new-shortens}
+use Rattle.markdown_blocks.proofs.RegistryContainers.{continues-shortens, begins-shortens}
 use Rattle.md_containers.proofs.Shorter.{Shortens}
 
 -- all is taken
@@ -94,16 +98,28 @@ tried-shorter n onward otherwise Fails t a b = absurd t
 shorter : (n m : ℕ) (next : Rule) → m ≤ n → Ends n next → Ends m next
 shorter n m next le ends cells h lt = ends cells h (omega (arith, le, lt))
 
+-- those that are tried one after another
+opens-finish : (options : ParseOptions) (onward otherwise : Rule) (ks : List ContainerKind) (cells : List Cell)
+    (h : Here) →
+    Ends (length cells) onward → ((k : Here) → Finishes (otherwise cells k)) →
+    Finishes (opens_of options onward otherwise ks cells h)
+opens-finish options onward otherwise [] cells h ends last = last h
+opens-finish options onward otherwise (k ∷ ks) cells h ends last =
+    tried-shorter (length cells) onward _ (begins_at options k cells (asking_here (container_of k) h))
+    (begins-shortens options k cells (asking_here (container_of k) h)) ends
+    (λ s g. opens-finish options onward otherwise ks cells (record h { scratch = s; flags = g }) ends last)
+
 new-finishes : (options : ParseOptions) (next : Rule) (n : ℕ) (cells : List Cell) (h : Here) →
     Ends (length cells) next → Finishes (new_from options next n cells h)
 unfolding new_from
 new-finishes options next zero cells h ends =
     leaf-finishes options next cells (record h { flags = begun_line h.flags }) ends
 new-finishes options next (suc n) cells h ends =
-    tried-shorter (length cells) _ _ (new_container_at options cells h) (new-shortens options cells h)
+    opens-finish options (λ rest k. new_from options next n rest (opened k)) (behind_containers options next) openers
+    cells h
     (λ rest k lt.
     new-finishes options next n rest (opened k) (shorter (length cells) (length rest) next (omega (arith, lt)) ends))
-    (λ s g. leaf-finishes options next cells (record h { scratch = s; flags = begun_line g }) ends)
+    (λ k. leaf-finishes options next cells (record k { flags = begun_line k.flags }) ends)
 
 opened-finishes : (options : ParseOptions) (next : Rule) (cells : List Cell) (h : Here) → Ends (length cells) next →
     Finishes (new_of options next cells h)
@@ -111,19 +127,29 @@ unfolding new_of
 opened-finishes options next cells h ends = new-finishes options next (suc (length cells)) cells h ends
 
 asked-finishes : (options : ParseOptions) (next further : Rule) (o : Option Container) (cells : List Cell) (h : Here) →
-    Ends (length cells) next → Ends (length cells) further → Finishes (existing_by options next further o cells h)
-asked-finishes options next further None cells h ends more = opened-finishes options next cells h ends
-asked-finishes options next further (Some c) cells h ends more =
-    tried-shorter (length cells) _ _ (continues_at options c.kind cells h) (continues-shortens options c.kind cells h)
+    ends_line (first_seen cells) ≡ false → Ends (length cells) next → Ends (length cells) further →
+    Finishes (existing_by options next further o cells h)
+asked-finishes options next further None cells h e ends more = opened-finishes options next cells h ends
+asked-finishes options next further (Some c) cells h e ends more =
+    tried-shorter (length cells) _ _ (continues_at options c.kind cells (asking_here c h))
+    (continues-shortens options c.kind cells (asking_here c h) e)
     (λ rest k lt. more rest (record k { flags = went_on k.flags }) lt)
     (λ s g. opened-finishes options next cells (record h { scratch = s; flags = g }) ends)
+
+at-finishes : (options : ParseOptions) (next further : Rule) (x : Bool) (cells : List Cell) (h : Here) →
+    ends_line (first_seen cells) ≡ x → Ends (length cells) next → Ends (length cells) further →
+    Finishes (existing_at options next further x cells h)
+at-finishes options next further true cells h e ends more =
+    leaf-finishes options next cells (record h { flags = begun_line (ended_on h.flags) }) ends
+at-finishes options next further false cells h e ends more =
+    asked-finishes options next further (next_container h.flags) cells h e ends more
 
 existing-finishes : (options : ParseOptions) (next : Rule) (n : ℕ) (cells : List Cell) (h : Here) →
     Ends (length cells) next → Finishes (existing_from options next n cells h)
 unfolding existing_from
 existing-finishes options next zero cells h ends = opened-finishes options next cells h ends
 existing-finishes options next (suc n) cells h ends =
-    asked-finishes options next (existing_from options next n) (next_container h.flags) cells h ends
+    at-finishes options next (existing_from options next n) (ends_line (first_seen cells)) cells h refl ends
     (λ rest k lt.
     existing-finishes options next n rest k (shorter (length cells) (length rest) next (omega (arith, lt)) ends))
 

@@ -1,24 +1,27 @@
 -- Flow goes line by line.
-use Rattle.std.proofs.Common.{◌≡◌, ℕ, zero, suc, ◌<◌, ◌≤◌, cond, nat_eq, List, [], ◌∷◌, length, Option, Some, None}
+use Rattle.std.proofs.Common.{◌≡◌, ℕ, zero, suc, ◌<◌, ◌≤◌, Bool, true, false, cond, nat_eq, List, [], ◌∷◌, length, Option, Some, None}
 use Rattle.std.proofs.Common.{refl, ap, arith}
 use Rattle.md_engine.specs.declared.configuration.ParseOptions.{ParseOptions}
 use Rattle.md_engine.specs.declared.tokenizer.container.Container.{Container}
 use Rattle.md_engine.specs.declared.tokenizer.Scratch.{Scratch}
 use Rattle.md_engine.specs.Meaning.{Accepts, Cell, Fails, Here, Outcome, Refuses}
-use Rattle.md_engine.specs.World.{Flags}
+use Rattle.md_engine.specs.declared.tokenizer.container.name.ContainerKind.{ContainerKind}
+use Rattle.md_engine.specs.World.{Flags, container_of}
 use Rattle.md_content.specs.ChunkRule.{chunk_at, inside_chunk}
 use Rattle.md_leaves.specs.BlankRule.{blank_at}
 use Rattle.md_seam.specs.Ahead.{line_bytes}
+use Rattle.md_seam.specs.Look.{first_seen}
+use Rattle.md_seam.specs.Spaces.{ends_line}
 use Rattle.md_definition.specs.Rest.{is_blank}
-use Rattle.markdown_blocks.specs.FlowRule.{Rule, behind_containers, blank_ended, ended, ended_to, existing_by}
-use Rattle.markdown_blocks.specs.FlowRule.{existing_from, flow_at, flow_lines, leaf_of, leaves_of, line_ended}
-use Rattle.markdown_blocks.specs.FlowRule.{line_then, new_from, new_of, opened, tried}
-use Rattle.markdown_blocks.specs.LineFlags.{begun_line, blanked, next_container, stays, went_on}
-use Rattle.markdown_blocks.specs.Registry.{LeafName, continues_at, leaf, new_container_at, trials}
+use Rattle.markdown_blocks.specs.FlowRule.{Rule, asking_here, behind_containers, blank_ended, ended, ended_to, existing_by}
+use Rattle.markdown_blocks.specs.FlowRule.{existing_at, existing_from, flow_at, flow_lines, leaf_of, leaves_of, line_ended}
+use Rattle.markdown_blocks.specs.FlowRule.{line_then, new_from, new_of, opened, openers_of, opens_of, tried}
+use Rattle.markdown_blocks.specs.LineFlags.{begun_line, blanked, ended_on, next_container, stays, went_on}
+use Rattle.markdown_blocks.specs.Registry.{LeafName, begins_at, continues_at, leaf, openers, trials}
 use Rattle.markdown_blocks.proofs.FromEnding.{from_ending-again, from_ending-shrinks}
 use Rattle.markdown_blocks.proofs.LeafLaws.{Shrinks, cond-shrinks}
 use Rattle.markdown_blocks.proofs.Registry.{laws}
-use Rattle.markdown_blocks.proofs.RegistryContainers.{continues-shortens, new-shortens}
+use Rattle.markdown_blocks.proofs.RegistryContainers.{begins-shortens, continues-shortens}
 use Rattle.md_containers.proofs.Shorter.{Shortens}
 
 -- Blank lines and content: a line is taken or refused.
@@ -87,16 +90,26 @@ leaf_of-same options f g cells h agree =
 
 -- Containers.
 
+-- those that are tried one after another, where it is the same behind one that opens, and where none does
+opens_of-same : (options : ParseOptions) (f g a b : Rule) (ks : List ContainerKind) (cells : List Cell) (h : Here) →
+    Agree (length cells) f g → ((k : Here) → a cells k ≡ b cells k) →
+    opens_of options f a ks cells h ≡ opens_of options g b ks cells h
+opens_of-same options f g a b [] cells h agree same = same h
+opens_of-same options f g a b (k ∷ ks) cells h agree same =
+    tried-shorter (length cells) f g agree (begins_at options k cells (asking_here (container_of k) h)) _ _
+    (begins-shortens options k cells (asking_here (container_of k) h))
+    (λ s t. opens_of-same options f g a b ks cells (record h { scratch = s; flags = t }) agree same)
+
 new_from-same : (options : ParseOptions) (f g : Rule) (n : ℕ) (cells : List Cell) (h : Here) →
     Agree (length cells) f g → new_from options f n cells h ≡ new_from options g n cells h
 unfolding new_from
 new_from-same options f g zero cells h agree =
     leaf_of-same options f g cells (record h { flags = begun_line h.flags }) agree
 new_from-same options f g (suc n) cells h agree =
-    tried-shorter (length cells) _ _
+    opens_of-same options (λ rest k. new_from options f n rest (opened k)) (λ rest k. new_from options g n rest (opened k))
+    (behind_containers options f) (behind_containers options g) openers cells h
     (λ rest k lt. new_from-same options f g n rest (opened k) (λ cs j less. agree cs j (omega (arith, less, lt))))
-    (new_container_at options cells h) _ _ (new-shortens options cells h)
-    (λ s t. leaf_of-same options f g cells (record h { scratch = s; flags = begun_line t }) agree)
+    (λ k. leaf_of-same options f g cells (record k { flags = begun_line k.flags }) agree)
 
 -- more containers than cells change nothing
 new_from-enough : (options : ParseOptions) (next : Rule) (n m : ℕ) (cells : List Cell) (h : Here) → length cells < n →
@@ -105,20 +118,22 @@ unfolding new_from
 new_from-enough options next zero m cells h a b = absurd (omega arith)
 new_from-enough options next (suc n) zero cells h a b = absurd (omega arith)
 new_from-enough options next (suc n) (suc m) cells h a b =
-    tried-shorter (length cells) _ _
+    opens_of-same options (λ rest k. new_from options next n rest (opened k))
+    (λ rest k. new_from options next m rest (opened k)) (behind_containers options next)
+    (behind_containers options next) openers cells h
     (λ rest k lt. new_from-enough options next n m rest (opened k) (omega (arith, lt, a)) (omega (arith, lt, b)))
-    (new_container_at options cells h) _ _ (new-shortens options cells h) (λ s t. refl)
+    (λ k. refl)
 
 -- a container opens, or the leaf of the line follows
 pub new_by_container : (options : ParseOptions) (next : Rule) (cells : List Cell) (h : Here) →
-    new_of options next cells h ≡
-    tried (new_container_at options cells h) (λ rest k. new_of options next rest (opened k))
-    (λ s g. behind_containers options next cells (record h { scratch = s; flags = g }))
+    new_of options next cells h ≡ openers_of options next openers cells h
 unfolding new_of new_from
 new_by_container options next cells h =
-    tried-shorter (length cells) _ _
+    opens_of-same options (λ rest k. new_from options next (length cells) rest (opened k))
+    (λ rest k. new_of options next rest (opened k)) (behind_containers options next) (behind_containers options next)
+    openers cells h
     (λ rest k lt. new_from-enough options next (length cells) (suc (length rest)) rest (opened k) lt (omega arith))
-    (new_container_at options cells h) _ _ (new-shortens options cells h) (λ s t. refl)
+    (λ k. refl)
 
 new_of-same : (options : ParseOptions) (f g : Rule) (cells : List Cell) (h : Here) → Agree (length cells) f g →
     new_of options f cells h ≡ new_of options g cells h
@@ -127,21 +142,30 @@ new_of-same options f g cells h agree = new_from-same options f g (suc (length c
 
 existing_by-same : (options : ParseOptions) (f g further other : Rule) (o : Option Container) (cells : List Cell)
     (h : Here) →
-    Agree (length cells) f g → Agree (length cells) further other →
+    ends_line (first_seen cells) ≡ false → Agree (length cells) f g → Agree (length cells) further other →
     existing_by options f further o cells h ≡ existing_by options g other o cells h
-existing_by-same options f g further other None cells h agree more = new_of-same options f g cells h agree
-existing_by-same options f g further other (Some c) cells h agree more =
+existing_by-same options f g further other None cells h ends agree more = new_of-same options f g cells h agree
+existing_by-same options f g further other (Some c) cells h ends agree more =
     tried-shorter (length cells) _ _ (λ rest k lt. more rest (record k { flags = went_on k.flags }) lt)
-    (continues_at options c.kind cells h) _ _ (continues-shortens options c.kind cells h)
+    (continues_at options c.kind cells (asking_here c h)) _ _ (continues-shortens options c.kind cells (asking_here c h) ends)
     (λ s t. new_of-same options f g cells (record h { scratch = s; flags = t }) agree)
+
+-- whether the line ends here or not
+existing_at-same : (options : ParseOptions) (f g further other : Rule) (x : Bool) (cells : List Cell) (h : Here) →
+    ends_line (first_seen cells) ≡ x → Agree (length cells) f g → Agree (length cells) further other →
+    existing_at options f further x cells h ≡ existing_at options g other x cells h
+existing_at-same options f g further other true cells h e agree more =
+    leaf_of-same options f g cells (record h { flags = begun_line (ended_on h.flags) }) agree
+existing_at-same options f g further other false cells h e agree more =
+    existing_by-same options f g further other (next_container h.flags) cells h e agree more
 
 existing_from-same : (options : ParseOptions) (f g : Rule) (n : ℕ) (cells : List Cell) (h : Here) →
     Agree (length cells) f g → existing_from options f n cells h ≡ existing_from options g n cells h
 unfolding existing_from
 existing_from-same options f g zero cells h agree = new_of-same options f g cells h agree
 existing_from-same options f g (suc n) cells h agree =
-    existing_by-same options f g (existing_from options f n) (existing_from options g n)
-    (next_container h.flags) cells h agree
+    existing_at-same options f g (existing_from options f n) (existing_from options g n)
+    (ends_line (first_seen cells)) cells h refl agree
     (λ rest k lt. existing_from-same options f g n rest k (λ cs j less. agree cs j (omega (arith, less, lt))))
 
 existing_from-enough : (options : ParseOptions) (next : Rule) (n m : ℕ) (cells : List Cell) (h : Here) →
@@ -150,17 +174,18 @@ unfolding existing_from
 existing_from-enough options next zero m cells h a b = absurd (omega arith)
 existing_from-enough options next (suc n) zero cells h a b = absurd (omega arith)
 existing_from-enough options next (suc n) (suc m) cells h a b =
-    existing_by-same options next next (existing_from options next n) (existing_from options next m)
-    (next_container h.flags) cells h (λ rest k lt. refl)
+    existing_at-same options next next (existing_from options next n) (existing_from options next m)
+    (ends_line (first_seen cells)) cells h refl (λ rest k lt. refl)
     (λ rest k lt. existing_from-enough options next n m rest k (omega (arith, lt, a)) (omega (arith, lt, b)))
 
--- the next container is asked whether it goes on, and then the same behind its prefix
+-- the next container is asked whether it goes on, and then the same behind its prefix, unless the line ends here
 pub line_by_container : (options : ParseOptions) (next : Rule) (cells : List Cell) (h : Here) →
-    line_then options next cells h ≡ existing_by options next (line_then options next) (next_container h.flags) cells h
+    line_then options next cells h ≡
+    existing_at options next (line_then options next) (ends_line (first_seen cells)) cells h
 unfolding line_then existing_from
 line_by_container options next cells h =
-    existing_by-same options next next (existing_from options next (length cells)) (line_then options next)
-    (next_container h.flags) cells h (λ rest k lt. refl)
+    existing_at-same options next next (existing_from options next (length cells)) (line_then options next)
+    (ends_line (first_seen cells)) cells h refl (λ rest k lt. refl)
     (λ rest k lt. existing_from-enough options next (length cells) (suc (length rest)) rest k lt (omega arith))
 
 -- Lines.

@@ -24,7 +24,8 @@ use Rattle.md_engine.specs.Meaning.{resume}
 use Rattle.md_engine.specs.Run.{reading}
 use Rattle.md_engine.specs.Scheme.{after_all, spot, stands}
 use Rattle.md_engine.specs.Standing.{MeansAt, StandsOn}
-use Rattle.md_engine.specs.World.{Flags, World, after, closed}
+use Rattle.md_engine.specs.declared.tokenizer.container.name.ContainerKind.{ContainerKind}
+use Rattle.md_engine.specs.World.{Flags, World, after, closed, container_of}
 use Rattle.md_engine.proofs.StepOf.{Sees, ahead, begins_only, changes, outermost-frames, passes, sees, steps-as}
 use Rattle.md_content.specs.ChunkRule.{chunk_at}
 use Rattle.md_content.proofs.ContentSteps.{chunk_steps}
@@ -44,20 +45,22 @@ use Rattle.markdown_blocks.specs.Flow.{after_transition, before_content_transiti
 use Rattle.markdown_blocks.specs.Flow.{blank_line_after_transition, blank_line_code, containers_after_transition}
 use Rattle.markdown_blocks.specs.Flow.{existing_after_transition, existing_before_code, flow_end_code}
 use Rattle.markdown_blocks.specs.Flow.{flow_end_transition, flow_own_transition, leaf_transition, new_after_transition}
-use Rattle.markdown_blocks.specs.Flow.{new_before_transition, start_transition, trial_code}
-use Rattle.markdown_blocks.specs.FlowRule.{HasFlow, Rule, behind_containers, blank_ended, ended, ended_to, existing_by}
-use Rattle.markdown_blocks.specs.FlowRule.{flow_at, leaves_of, line_ended, line_then, new_of, nonblank_of, opened}
+use Rattle.markdown_blocks.specs.Flow.{new_before_transition, opener_transition, start_transition, trial_code}
+use Rattle.markdown_blocks.specs.FlowRule.{HasFlow, Rule, blank_ended, ended, ended_to, existing_at, existing_by}
+use Rattle.markdown_blocks.specs.FlowRule.{flow_at, leaves_of, line_ended, line_then, new_of, nonblank_of, opened, openers_of}
 use Rattle.markdown_blocks.specs.FlowRule.{tried}
 use Rattle.markdown_blocks.specs.LineFlags as flags
-use Rattle.markdown_blocks.specs.LineFlags.{ending_name, next_container, next_line, went_on}
+use Rattle.markdown_blocks.specs.LineFlags.{asking, ending_name, next_container, next_line, went_on}
 use Rattle.markdown_blocks.specs.States.{FlowStep, flow_behaves, flow_behaves_by, flow_table_scheme, flow_transition}
-use Rattle.markdown_blocks.specs.States.{leaf_owner}
-use Rattle.markdown_blocks.specs.Registry.{behind, front_of, leaf, LeafName, may_go_on, may_open, new_kind, next_of}
-use Rattle.markdown_blocks.specs.Registry.{trials, tried_at}
+use Rattle.markdown_blocks.specs.States.{leaf_owner, opener_owner}
+use Rattle.markdown_blocks.specs.Registry.{behind, container_rules, front_of, leaf, LeafName, may_go_on, may_open, next_of}
+use Rattle.markdown_blocks.specs.Registry.{next_opener, opener_at, opener_front, openers, openers_behind, trials, tried_at}
 use Rattle.markdown_blocks.proofs.FlowLemmas.{flow_by_line, line_by_container, new_by_container}
+use Rattle.markdown_blocks.proofs.Openers as opening
+use Rattle.markdown_blocks.proofs.Openers.{left-front}
 use Rattle.markdown_blocks.proofs.States.{flow_does}
 use Rattle.markdown_blocks.proofs.Trials.{left-before, left-next}
-use Rattle.markdown_blocks.proofs.Registry.{construct-steps, container-states, leaf-states, tried-before, white_has}
+use Rattle.markdown_blocks.proofs.Registry.{construct-steps, container-states, leaf-states, opener-before, tried-before, white_has}
 use Rattle.markdown_blocks.proofs.Registry.{container-laws, laws}
 
 -- an attempt that was begun here
@@ -82,51 +85,78 @@ resumed B feed w ok nok (Refuses s g) y z a b =
     ∙ b s g)
 resumed B feed w ok nok Fails y z a b = refl
 
--- What is left at a state where a construct is tried, at the construct's first state, and at those behind it; where it
--- may not begin it is refused.
-record IsTried (B : Behaviour) (feed : Feed) (w : World) (from start ok nok : StateName) (may : Bool) : Type 0 where
+-- What is left at a state where a construct is tried, at the construct's first state, where these flags are set, and at
+-- those behind it; where it may not begin it is refused.
+record IsTried (B : Behaviour) (feed : Feed) (w : World) (g : Flags) (from start ok nok : StateName)
+    (may : Bool) : Type 0 where
   onward : Rule
   otherwise : Scratch → Flags → Outcome
-  from_is : B from (feed w.point) (here w) ≡ tried (B start (feed w.point) (here w)) onward otherwise
+  from_is : B from (feed w.point) (here w) ≡
+      tried (B start (feed w.point) (record (here w) { flags = g })) onward otherwise
   ok_is : (cells : List Cell) (h : Here) → B ok cells h ≡ onward cells h
-  nok_is : (s : Scratch) (g : Flags) → B nok (feed w.point) (record (here w) { scratch = s; flags = g }) ≡ otherwise s g
-  looked : may ≡ false → B start (feed w.point) (here w) ≡ Refuses w.scratch w.flags
+  nok_is : (s : Scratch) (x : Flags) → B nok (feed w.point) (record (here w) { scratch = s; flags = x }) ≡ otherwise s x
+  looked : may ≡ false → B start (feed w.point) (record (here w) { flags = g }) ≡ Refuses w.scratch g
 
-trial_steps : (B : Behaviour) (feed : Feed) (w : World) (from start ok nok : StateName) (may : Bool) →
-    IsTried B feed w from start ok nok may →
-    Steps B feed (Next from) w (trial_code start ok nok w may).to (trial_code start ok nok w may).world
-trial_steps B feed w from start ok nok true t =
-    begins_only B feed _ _ w (trial_code start ok nok w true).world (frame_here (Next ok) (Next nok) w) refl refl
+trial_steps : (B : Behaviour) (feed : Feed) (w : World) (g : Flags) (from start ok nok : StateName) (may : Bool) →
+    IsTried B feed w g from start ok nok may →
+    Steps B feed (Next from) w (trial_code start ok nok (record w { flags = g }) may).to
+    (trial_code start ok nok (record w { flags = g }) may).world
+trial_steps B feed w g from start ok nok true t =
+    begins_only B feed _ _ w (trial_code start ok nok (record w { flags = g }) true).world
+    (frame_here (Next ok) (Next nok) w) refl refl
     (t.from_is
-    ∙ resumed B feed w (Next ok) (Next nok) (B start (feed w.point) (here w)) t.onward t.otherwise t.ok_is t.nok_is)
-trial_steps B feed w from start ok nok false t =
-    passes B feed _ _ w w refl refl
-    (t.from_is ∙ ap (λ (o : Outcome). tried o t.onward t.otherwise) (t.looked refl) ∙ sym (t.nok_is w.scratch w.flags))
+    ∙ resumed B feed w (Next ok) (Next nok) (B start (feed w.point) (record (here w) { flags = g })) t.onward
+    t.otherwise t.ok_is t.nok_is)
+trial_steps B feed w g from start ok nok false t =
+    passes B feed _ _ w (record w { flags = g }) refl refl
+    (t.from_is ∙ ap (λ (o : Outcome). tried o t.onward t.otherwise) (t.looked refl) ∙ sym (t.nok_is w.scratch g))
 
 -- Containers.
 
-existing_before_steps : (B : Behaviour) (feed : Feed) (w : World) (options : ParseOptions) (next : Rule)
-    (o : Option Container) → HasFlow B options next → Sees feed w → IsRest w.scratch → next_container w.flags ≡ o →
-    Steps B feed (Next (n.Document document.ContainerExistingBefore)) w (existing_before_code w o).to
-    (existing_before_code w o).world
-existing_before_steps B feed w options next None has s is e =
+-- in front of the first container that may open, as often as one does
+opening_left : (B : Behaviour) (options : ParseOptions) (next : Rule) → HasFlow B options next → (cells : List Cell)
+    (h : Here) →
+    B (n.Document (opener_front openers)) cells h ≡ new_of options next cells h
+opening_left B options next has cells h =
+    has.containers (opener_front openers) cells h ∙ left-front options next openers cells h refl
+    ∙ sym (new_by_container options next cells h)
+
+-- by whether the line ends here, and by the container that is asked
+existing_left : (B : Behaviour) (feed : Feed) (w : World) (options : ParseOptions) (next : Rule) (ends : Bool) →
+    HasFlow B options next → Sees feed w → ends_line w.current ≡ ends →
+    B (n.Document document.ContainerExistingBefore) (feed w.point) (here w) ≡
+    existing_at options next (line_then options next) ends (feed w.point) (here w)
+existing_left B feed w options next ends has s e =
+    has.containers document.ContainerExistingBefore _ _ ∙ line_by_container options next (feed w.point) (here w)
+    ∙ ap (λ (x : Bool). existing_at options next (line_then options next) x (feed w.point) (here w))
+    (ap ends_line (first-seen feed w s) ∙ e)
+
+existing_before_steps : (B : Behaviour) (feed : Feed) (w : World) (options : ParseOptions) (next : Rule) (ends : Bool)
+    (o : Option Container) →
+    HasFlow B options next → Sees feed w → IsRest w.scratch → ends_line w.current ≡ ends → next_container w.flags ≡ o →
+    Steps B feed (Next (n.Document document.ContainerExistingBefore)) w (existing_before_code w ends o).to
+    (existing_before_code w ends o).world
+existing_before_steps B feed w options next true o has s is e k =
+    passes B feed _ _ w (existing_before_code w true o).world refl refl
+    (existing_left B feed w options next true has s e ∙ sym (has.containers document.ContainersAfter _ _))
+existing_before_steps B feed w options next false None has s is e k =
     passes B feed _ _ w w refl refl
-    (has.containers document.ContainerExistingBefore _ _ ∙ line_by_container options next (feed w.point) (here w)
-    ∙ ap (λ (o : Option Container). existing_by options next (line_then options next) o (feed w.point) (here w)) e
-    ∙ sym (has.containers document.ContainerNewBefore _ _))
-existing_before_steps B feed w options next (Some c) has s is e =
+    (existing_left B feed w options next false has s e
+    ∙ ap (λ (o : Option Container). existing_by options next (line_then options next) o (feed w.point) (here w)) k
+    ∙ sym (opening_left B options next has (feed w.point) (here w)))
+existing_before_steps B feed w options next false (Some c) has s is e k =
     let onward : Rule = λ rest k. line_then options next rest (record k { flags = went_on k.flags }) in
     let otherwise : Scratch → Flags → Outcome =
     λ s g. new_of options next (feed w.point) (record (here w) { scratch = s; flags = g }) in
-    trial_steps B feed w _ _ _ _ (may_with (may_go_on c.kind) (looks_behind w)) (record {
+    trial_steps B feed w (asking c w).flags _ _ _ _ (may_with (may_go_on c.kind) (looks_behind w)) (record {
       onward = onward;
       otherwise = otherwise;
       from_is =
-          has.containers document.ContainerExistingBefore _ _ ∙ line_by_container options next (feed w.point) (here w)
-          ∙ ap (λ (o : Option Container). existing_by options next (line_then options next) o (feed w.point) (here w)) e
+          existing_left B feed w options next false has s e
+          ∙ ap (λ (o : Option Container). existing_by options next (line_then options next) o (feed w.point) (here w)) k
           ∙ ap (λ (o : Outcome). tried o onward otherwise) (sym (has.goes_on c.kind _ _));
       ok_is = has.containers document.ContainerExistingAfter;
-      nok_is = λ s g. has.containers document.ContainerNewBefore _ _;
+      nok_is = λ s g. opening_left B options next has _ _;
       looked = λ no.
           let first = refused-first (may_go_on c.kind) feed w s no in
           has.goes_on c.kind _ _
@@ -141,25 +171,26 @@ existing_after_steps B feed w options next has =
     passes B feed _ _ w (existing_after_transition w).world refl refl
     (has.containers document.ContainerExistingAfter _ _ ∙ sym (has.containers document.ContainerExistingBefore _ _))
 
-new_before_steps : (B : Behaviour) (feed : Feed) (w : World) (options : ParseOptions) (next : Rule) →
+new_before_steps : (k : ContainerKind) (B : Behaviour) (feed : Feed) (w : World) (options : ParseOptions)
+    (next : Rule) →
     HasFlow B options next → Sees feed w → IsRest w.scratch →
-    Steps B feed (Next (n.Document document.ContainerNewBefore)) w (new_before_transition w).to
-    (new_before_transition w).world
-new_before_steps B feed w options next has s is =
-    let onward : Rule = λ rest k. new_of options next rest (opened k) in
+    Steps B feed (Next (n.Document (container_rules k).before)) w (new_before_transition k w).to
+    (new_before_transition k w).world
+new_before_steps k B feed w options next has s is =
+    let onward : Rule = λ rest x. new_of options next rest (opened x) in
     let otherwise : Scratch → Flags → Outcome =
-    λ s g. behind_containers options next (feed w.point) (record (here w) { scratch = s; flags = g }) in
-    trial_steps B feed w _ _ _ _ (may_with may_open (looks_behind w)) (record {
+    λ s g. openers_of options next (openers_behind k) (feed w.point) (record (here w) { scratch = s; flags = g }) in
+    trial_steps B feed w (asking (container_of k) w).flags _ _ _ _ (may_with (may_open k) (looks_behind w)) (record {
       onward = onward;
       otherwise = otherwise;
       from_is =
-          has.containers document.ContainerNewBefore _ _ ∙ new_by_container options next (feed w.point) (here w)
-          ∙ ap (λ (o : Outcome). tried o onward otherwise) (sym (has.opens _ _));
+          has.containers (container_rules k).before _ _ ∙ opening.left-before options next k (feed w.point) (here w)
+          ∙ ap (λ (o : Outcome). tried o onward otherwise) (sym (has.opens k _ _));
       ok_is = has.containers document.ContainerNewAfter;
-      nok_is = λ s g. has.containers document.ContainersAfter _ _;
+      nok_is = λ s g. has.containers (next_opener k) _ _ ∙ opening.left-next options next k _ _;
       looked = λ no.
-          let first = refused-first may_open feed w s no in
-          has.opens _ _ ∙ (container-laws new_kind).begins_looked options _ _ first.0 is first.1 first.2;
+          let first = refused-first (may_open k) feed w s no in
+          has.opens k _ _ ∙ (container-laws k).begins_looked options _ _ first.0 is first.1 first.2;
     })
 
 -- where containers end no attempt is around, so none goes back to events before these ends
@@ -169,7 +200,7 @@ new_after_steps : (B : Behaviour) (feed : Feed) (w : World) (options : ParseOpti
     (new_after_transition w).world
 new_after_steps B feed w options next has none =
     changes B feed _ _ w (new_after_transition w).world none none
-    (has.containers document.ContainerNewAfter _ _ ∙ sym (has.containers document.ContainerNewBefore _ _))
+    (has.containers document.ContainerNewAfter _ _ ∙ sym (opening_left B options next has _ _))
 
 containers_after_steps : (B : Behaviour) (feed : Feed) (w : World) (options : ParseOptions) (next : Rule) →
     HasFlow B options next →
@@ -203,7 +234,7 @@ blank_line_before_steps B feed w options next true has s e =
 blank_line_before_steps B feed w options next false has s e =
     let otherwise : Scratch → Flags → Outcome =
     λ s g. nonblank_of options next (feed w.point) (record (here w) { scratch = s; flags = g }) in
-    trial_steps B feed w _ _ _ _ (may_with blank.may_begin (looks_behind w)) (record {
+    trial_steps B feed w w.flags _ _ _ _ (may_with blank.may_begin (looks_behind w)) (record {
       onward = blank_ended next;
       otherwise = otherwise;
       from_is =
@@ -222,7 +253,7 @@ before_steps : (l : LeafName) (B : Behaviour) (feed : Feed) (w : World) (options
 before_steps l B feed w options next has s is =
     let otherwise : Scratch → Flags → Outcome =
     λ s g. leaves_of options next (behind l) (feed w.point) (record (here w) { scratch = s; flags = g }) in
-    trial_steps B feed w _ _ _ _ (may_with (leaf l).may_begin (looks_behind w)) (record {
+    trial_steps B feed w w.flags _ _ _ _ (may_with (leaf l).may_begin (looks_behind w)) (record {
       onward = line_ended next;
       otherwise = otherwise;
       from_is =
@@ -326,28 +357,41 @@ flow_has options next = record {
   blank = record { white = white_has options next; each = λ _ _ _. refl };
   chunk = record { each = λ _ _ _. refl };
   starts = λ l. (leaf-states l).starts options next;
-  opens = (container-states new_kind).begins_is options next;
+  opens = λ k. (container-states k).begins_is options next;
   goes_on = λ k. (container-states k).goes_on_is options next;
   containers = λ _ _ _. refl;
   leaves = λ _ _ _. refl;
 }
 
--- the states between the containers of a line
+-- the states in front of a container that may open,
+opener_steps : (B : Behaviour) (feed : Feed) (next : Rule) (state : DocumentState) (o : Option ContainerKind) →
+    opener_at state ≡ o → (w : World) →
+    HasFlow B w.setting.options next → Sees feed w →
+    (opener_owner o).ready (n.Document state) (spot w) (after_all flow_table_scheme w.frames) →
+    Steps B feed (Next (n.Document state)) w (opener_transition o w).to (opener_transition o w).world
+opener_steps B feed next state None e w has s at = absurd at
+opener_steps B feed next state (Some k) e w has s at =
+    let P : DocumentState → Type 0 =
+    λ x. Steps B feed (Next (n.Document x)) w (new_before_transition k w).to (new_before_transition k w).world in
+    subst P (opener-before state k e) (new_before_steps k B feed w _ _ has s at.0.0)
+
+-- and the others between the containers of a line
 containers_steps : (B : Behaviour) (feed : Feed) (next : Rule) (state : DocumentState) (w : World) →
     HasFlow B w.setting.options next → Sees feed w →
     stands flow_table_scheme w (Next (n.Document state)) → GoesOn B next (feeds (n.Document state) w.current) →
     Steps B feed (Next (n.Document state)) w (document_own_transition state w).to
     (document_own_transition state w).world
 containers_steps B feed next document.ContainerExistingBefore w has s at on =
-    existing_before_steps B feed w _ _ _ has s at.0.0 refl
+    existing_before_steps B feed w _ _ _ _ has s at.0.0 refl refl
 containers_steps B feed next document.ContainerExistingAfter w has s at on = existing_after_steps B feed w _ _ has
-containers_steps B feed next document.ContainerNewBefore w has s at on = new_before_steps B feed w _ _ has s at.0.0
 containers_steps B feed next document.ContainerNewAfter w has s at on =
     new_after_steps B feed w _ _ has (outermost-frames flow_table_scheme w.frames at.1)
 containers_steps B feed next document.ContainersAfter w has s at on = containers_after_steps B feed w _ _ has
 containers_steps B feed next document.FlowEnd w has s at on =
     flow_end_steps B feed w _ _ has s (outermost-frames flow_table_scheme w.frames at.1) on
-containers_steps B feed next state w has s at on = absurd at
+containers_steps B feed next document.Start w has s at on = absurd at
+containers_steps B feed next document.BeforeFrontmatter w has s at on = absurd at
+containers_steps B feed next state w has s at on = opener_steps B feed next state (opener_at state) refl w has s at
 
 -- the states in front of a leaf,
 leaf_steps : (B : Behaviour) (feed : Feed) (next : Rule) (state : FlowState) (o : Option LeafName) →

@@ -4,11 +4,13 @@ use Rattle.md_engine.specs.declared.tokenizer.held_leaf.HeldLeaf.TheVariants as 
 use Rattle.md_engine.specs.declared.tokenizer.held_leaf.HeldLeaf.{HeldLeaf}
 use Rattle.std.proofs.Common.{◌≡◌, ℕ, zero, suc, ◌+◌, ◌<◌, ◌≤◌, Bool, true, false, cond, ◌&&◌, nat_eq, List, [], ◌∷◌}
 use Rattle.std.proofs.Common.{◌++◌, length, take, drop, Option, Some, None, refl, sym, ◌∙◌, ap, ap₂, subst, arith}
-use Rattle.std.proofs.Common.{append_assoc, append-nil, length-drop}
-use Rattle.std.specs.Prelude.{nat_lt, slice_get}
-use Rattle.std.proofs.Math.ListN.{drop_of_length-le}
+use Rattle.std.proofs.Common.{append_assoc, append-nil, length-append}
+use Rattle.std.specs.Option.{option_or}
+use Rattle.std.specs.Prelude.{◌==◌, nat_lt, slice_get, slice_set}
+use Rattle.std.proofs.Math.ListN.{drop_of_length-le, length-set}
 use Rattle.std.proofs.Math.Seq.{drop-append_seam, drop-length, take-append_seam, take-length}
 use Rattle.std.proofs.lemmas.Bool.{lt-ltb}
+use Rattle.std.proofs.lemmas.Bool.Decides.{nat_tests}
 use Rattle.std.proofs.lemmas.List.{take-append-drop}
 use Rattle.std.proofs.lemmas.Option.{slice_get_past}
 use Rattle.md_engine.specs.declared.configuration.ParseOptions.{ParseOptions}
@@ -17,23 +19,28 @@ use Rattle.md_engine.specs.declared.event.Name.{Name}
 use Rattle.md_engine.specs.declared.event.Name.TheVariants as n
 use Rattle.md_engine.specs.declared.event.Point.{Point}
 use Rattle.md_engine.specs.declared.tokenizer.container.Container.{Container as Known}
+use Rattle.md_engine.specs.declared.tokenizer.container.name.ContainerKind.{ContainerKind}
 use Rattle.md_engine.specs.Ends.{ends_at, point_of, put}
 use Rattle.md_engine.specs.Meaning.{Accepts, Cell, Here, Outcome, Refuses}
-use Rattle.md_engine.specs.World.{closed_events}
+use Rattle.md_engine.specs.World.{Flags, closed_events, container_of}
+use Rattle.md_containers.specs.Interrupts.{is_interrupted}
+use Rattle.md_containers.specs.Interrupts.{interrupts as by_flags}
 use Rattle.md_content.specs.Chunks.{content_link}
 use Rattle.md_seam.specs.Ahead.{from_ending, line_bytes, line_end}
 use Rattle.md_seam.specs.Events.Nested.{enter, enter_link, exit, pair}
 use Rattle.md_definition.specs.Rest.{is_blank}
-use Rattle.md_seam.specs.Spaces.{IsRest}
+use Rattle.md_seam.specs.Look.{first_seen}
+use Rattle.md_seam.specs.Spaces.{IsRest, ends_line}
 use Rattle.md_definition.specs.State.{Container}
-use Rattle.markdown_blocks.specs.Change.{Change, change_by, ends_of, interrupts, open_behind, others_of}
-use Rattle.markdown_blocks.specs.FlowRule.{Rule, behind_containers, blank_ended, ended, ended_to, existing_by}
-use Rattle.markdown_blocks.specs.FlowRule.{existing_from, flow_at, flow_lines, leaf_of, leaves_of, line_ended}
-use Rattle.markdown_blocks.specs.FlowRule.{line_then, new_from, new_of, nonblank_of, opened, tried}
-use Rattle.markdown_blocks.specs.LineFlags.{begun_line, ending_name, next_line, stays, went_on}
-use Rattle.markdown_blocks.specs.Passed.{Passed, passed_by, passed_here}
-use Rattle.markdown_blocks.specs.Registry.{first_of, goes_at, leaf, LeafName, MatchesContainer, new_kind, opens_at}
-use Rattle.markdown_blocks.specs.Registry.{trials}
+use Rattle.markdown_blocks.specs.Change.{Change, change_by, ends_of, interrupts, is_none, open_behind, others_of}
+use Rattle.markdown_blocks.specs.FlowRule.{Rule, asking_here, behind_containers, blank_ended, ended, ended_to, existing_by}
+use Rattle.markdown_blocks.specs.FlowRule.{existing_at, existing_from, flow_at, flow_lines, leaf_of, leaves_of, line_ended}
+use Rattle.markdown_blocks.specs.FlowRule.{line_then, new_from, new_of, nonblank_of, opened, opens_of, tried}
+use Rattle.markdown_blocks.specs.LineFlags.{asks, begun_line, ended_on, ending_name, next_container, next_line, over_end, stays}
+use Rattle.markdown_blocks.specs.LineFlags.{went_on}
+use Rattle.markdown_blocks.specs.Passed.{Passed, passed_by, passed_here, passed_over}
+use Rattle.markdown_blocks.specs.Registry.{container_rules, first_of, goes_at, leaf, LeafName, MatchesContainer, openers}
+use Rattle.markdown_blocks.specs.Registry.{goes_over, opens_at, opens_by, trials}
 use Rattle.markdown_blocks.specs.Rows.{leaf_behind, BlankRow, Front, Held, LeafRow, Row, RowKind, TextRow, after_ending}
 use Rattle.markdown_blocks.specs.Rows.{closes_before, ending_of, held_at, held_by, held_of, in_front, inside_of}
 use Rattle.markdown_blocks.specs.Rows.{is_lazy, is_text, kind_of, leaf_events, new_front, no_front, row_events}
@@ -43,8 +50,8 @@ use Rattle.markdown_blocks.proofs.ContainedLemmas.{lazy-some}
 use Rattle.markdown_blocks.proofs.FromEnding.{from_ending-shrinks}
 use Rattle.markdown_blocks.proofs.LeafRows.{blank-refused, blank-took, chunk-took}
 use Rattle.markdown_blocks.proofs.Registry.{laws}
-use Rattle.markdown_blocks.proofs.RegistryContainers.{further-is, goes-same, goes-shorter, known-name, opening-is}
-use Rattle.markdown_blocks.proofs.RegistryContainers.{opens-same, opens-shorter}
+use Rattle.markdown_blocks.proofs.RegistryContainers.{further-is, goes-over, goes-same, goes-shorter, goes-within}
+use Rattle.markdown_blocks.proofs.RegistryContainers.{known-name, opening-is, opens-ended, opens-same, opens-shorter}
 
 -- The leaf of a line, by its kind.
 
@@ -143,22 +150,36 @@ open-all : (n : ℕ) (ks : List Known) (cs : List Container) → n ≡ length ks
 open-all n ks cs e are =
     let P : List Known → Type 0 = λ l. AreOpen l cs in subst P (sym (ap (λ (m : ℕ). take m ks) e ∙ take-length ks)) are
 
--- the next one, behind so many
-record IsNext (ks : List Known) (n : ℕ) (c : Container) (cs : List Container) : Type 0 where
+-- the next one, behind these: as it is held, and that it may be held as another one
+record IsNext (ks : List Known) (done : List Container) (c : Container) (cs : List Container) : Type 0 where
   held : Known
-  found : slice_get ks n ≡ Some held
+  found : slice_get ks (length done) ≡ Some held
   is : MatchesContainer held c
-  more : AreOpen (drop (suc n) ks) cs
-  inside : n < length ks
+  inside : length done < length ks
+  put_back : (k : Known) (d : Container) → MatchesContainer k d →
+      AreOpen (slice_set ks (length done) k) (done ++ (d ∷ cs))
 
-open-next : (n : ℕ) (ks : List Known) (c : Container) (cs : List Container) → AreOpen (drop n ks) (c ∷ cs) →
-    IsNext ks n c cs
-open-next zero [] c cs are = absurd are
-open-next zero (k ∷ ks) c cs are = record { held = k; found = refl; is = are.0; more = are.1; inside = omega arith }
-open-next (suc n) [] c cs are = absurd are
-open-next (suc n) (k ∷ ks) c cs are =
-    let next = open-next n ks c cs are in
-    record { held = next.held; found = next.found; is = next.is; more = next.more; inside = omega (arith, next.inside) }
+open-next : (ks : List Known) (done : List Container) (c : Container) (cs : List Container) →
+    AreOpen ks (done ++ (c ∷ cs)) → IsNext ks done c cs
+open-next [] [] c cs are = absurd are
+open-next [] (b ∷ done) c cs are = absurd are
+open-next (k ∷ ks) [] c cs are =
+    record {
+      held = k;
+      found = refl;
+      is = are.0;
+      inside = omega arith;
+      put_back = λ j d is. (is, are.1);
+    }
+open-next (k ∷ ks) (b ∷ done) c cs are =
+    let next = open-next ks done c cs are.1 in
+    record {
+      held = next.held;
+      found = next.found;
+      is = next.is;
+      inside = omega (arith, next.inside);
+      put_back = λ j d is. (are.0, next.put_back j d is);
+    }
 
 -- The ends of containers.
 
@@ -169,29 +190,29 @@ ends-are (k ∷ ks) [] p are = absurd are
 ends-are (k ∷ ks) (c ∷ cs) p are =
     ap₂ (λ (es : List Event) (name : Name). es ++ exit name p ∷ []) (ends-are ks cs p are.1) (known-name k c are.0)
 
--- where these events stand behind the line before, and whatever follows them
-abbrev pub Ends : List Known → List Event → Point → Type 0
-Ends ks tail p =
-    (keep : ℕ) (more : List Event) (q : Point) →
+-- where these events stand behind the line before, and whatever follows them, of so many containers
+abbrev pub Ends : ℕ → List Event → Point → Type 0
+Ends size tail p =
+    (ks : List Known) (keep : ℕ) (more : List Event) (q : Point) → length ks ≡ size →
     ends_at (drop keep ks) (point_of (tail ++ more) q) ≡ ends_at (drop keep ks) p
 
-ends-behind : (ks : List Known) (e : Event) (tail : List Event) → Ends ks (e ∷ tail) e.point
-ends-behind ks e tail keep more q = refl
+ends-behind : (size : ℕ) (e : Event) (tail : List Event) → Ends size (e ∷ tail) e.point
+ends-behind size e tail ks keep more q is = refl
 
-ends-none : (ks : List Known) (p : Point) → ks ≡ [] → Ends ks [] p
-ends-none ks p e keep more q =
-    let none : drop keep ks ≡ [] = drop_of_length-le ks (omega (arith, ap length e)) in
+ends-none : (size : ℕ) (p : Point) → size ≡ 0 → Ends size [] p
+ends-none size p e ks keep more q is =
+    let none : drop keep ks ≡ [] = drop_of_length-le ks (omega (arith, e, is)) in
     ap (λ (l : List Known). ends_at l (point_of more q)) none ∙ ap (λ (l : List Known). ends_at l p) (sym none)
 
 closed-ends : (front tail more es : List Event) (p q : Point) (keep at : ℕ) (ks : List Known) (cs : List Container) →
-    Ends ks tail p → AreOpen (drop keep ks) cs → at ≡ length front → es ≡ front ++ (tail ++ more) →
+    Ends (length ks) tail p → AreOpen (drop keep ks) cs → at ≡ length front → es ≡ front ++ (tail ++ more) →
     closed_events keep at ks es q ≡ front ++ (ends_of cs p ++ (tail ++ more))
 closed-ends front tail more es p q keep at ks cs ends are begin same =
     ap₂ (λ (n : ℕ) (xs : List Event). put n (ends_at (drop keep ks) (point_of (drop n xs) q)) xs) begin same
     ∙ ap₂ (λ (a b : List Event). (a ++ ends_at (drop keep ks) (point_of b q)) ++ b)
     (take-append_seam front (tail ++ more)) (drop-append_seam front (tail ++ more))
     ∙ append_assoc front (ends_at (drop keep ks) (point_of (tail ++ more) q)) (tail ++ more)
-    ∙ ap (λ (xs : List Event). front ++ (xs ++ (tail ++ more))) (ends keep more q ∙ ends-are (drop keep ks) cs p are)
+    ∙ ap (λ (xs : List Event). front ++ (xs ++ (tail ++ more))) (ends ks keep more q refl ∙ ends-are (drop keep ks) cs p are)
 
 closed-none : (keep at : ℕ) (ks : List Known) (es : List Event) (q : Point) → length ks ≤ keep →
     closed_events keep at ks es q ≡ es
@@ -224,7 +245,7 @@ went-shorter options (c ∷ cs) cells p =
         ((t : Passed) → length (went_front options cs t.cells t.point).cells ≤ length t.cells) →
         Shorter (elim x [ None ↦ no_front cells p | Some t ↦ in_front t (went_front options cs t.cells t.point) ])
     go None e more = omega arith
-    go (Some t) e more = omega (arith, more t, goes-shorter options c cells p t e)
+    go (Some t) e more = omega (arith, more t, goes-within options c cells p t e)
 
 new-shorter : (options : ParseOptions) (interrupting : Bool) (size : ℕ) (cells : List Cell) (p : Point) →
     length (new_front options interrupting size cells p).cells ≤ length cells
@@ -242,143 +263,356 @@ new-shorter options interrupting (suc size) cells p =
     go None e more = omega arith
     go (Some t) e more = omega (arith, more t, opens-shorter options interrupting cells p t e)
 
--- those that went on, and the others, are still those that the tokenizer holds
-went-open : (options : ParseOptions) (ks : List Known) (cs : List Container) (cells : List Cell) (p : Point) →
-    AreOpen ks cs →
-    AreOpen ks ((went_front options cs cells p).containers ++ others_of cs (went_front options cs cells p).containers)
-went-open options ks [] cells p are = are
-went-open options [] (c ∷ cs) cells p are = absurd are
-went-open options (k ∷ ks) (c ∷ cs) cells p are =
-    go (goes_at options c cells p) refl (λ t. went-open options ks cs t.cells t.point are.1)
-  where
-    Kept : Front → Type 0
-    Kept f = AreOpen (k ∷ ks) (f.containers ++ others_of (c ∷ cs) f.containers)
+-- where this one was asked, or tried, at a column
+abbrev asked_at : Known → ℕ → Here → Here
+asked_at c column h = record h { flags = asks c column h.flags }
 
-    go : (x : Option Passed) → goes_at options c cells p ≡ x →
-        ((t : Passed) →
-        AreOpen ks
-        ((went_front options cs t.cells t.point).containers
-        ++ others_of cs (went_front options cs t.cells t.point).containers)) →
-        Kept (elim x [ None ↦ no_front cells p | Some t ↦ in_front t (went_front options cs t.cells t.point) ])
-    go None e more = are
-    go (Some t) e more = (goes-same options k c cells p t are.0 e, more t)
+-- by whether the line ends here: then none opens
+abbrev left_of : ParseOptions → Rule → Bool → Rule
+left_of options next true cells h = behind_containers options next cells h
+left_of options next false cells h = new_of options next cells h
 
--- so many went on
-abbrev with_continued : ℕ → Here → Here
-with_continued n h = record h { flags = record h.flags { continued = n } }
+-- what is left behind the containers that went on, of those behind some that did: the tokenizer holds them, and the
+-- others that are open
+record Gone (options : ParseOptions) (next : Rule) (done cs : List Container) (w : Front) (h : Here)
+    (o : Outcome) : Type 0 where
+  new : Here
+  is : o ≡ left_of options next (ends_line (first_seen w.cells)) w.cells new
+  rest : IsRest new.scratch
+  events : new.events ≡ h.events ++ w.events
+  point : new.point ≡ w.point
+  containers : AreOpen new.flags.containers (done ++ (w.containers ++ others_of cs w.containers))
+  size : length new.flags.containers ≡ length h.flags.containers
+  continued : new.flags.continued ≡ length done + length w.containers
+  leaf : new.flags.leaf ≡ h.flags.leaf
+  blank : new.flags.blank ≡ h.flags.blank
+  line_end : new.flags.line_end ≡ h.flags.line_end
 
--- and these, with their prefixes
-abbrev gone : ℕ → Front → Here → Here
-gone n f h = record h {
-  events = h.events ++ f.events;
-  point = f.point;
-  flags = record h.flags { continued = n + length f.containers };
+-- none does
+gone-none : (options : ParseOptions) (next : Rule) (done cs : List Container) (cells : List Cell) (h : Here)
+    (o : Outcome) (c : Known) (column : ℕ) →
+    ends_line (first_seen cells) ≡ false → o ≡ new_of options next cells (asked_at c column h) → IsRest h.scratch → h.flags.continued ≡ length done →
+    AreOpen h.flags.containers (done ++ cs) →
+    Gone options next done cs (no_front cells h.point) h o
+gone-none options next done cs cells h o c column going is rest at are = record {
+  new = asked_at c column h;
+  is = is ∙ sym (ap (λ (x : Bool). left_of options next x cells (asked_at c column h)) going);
+  rest = rest;
+  events = sym (append-nil h.events);
+  point = refl;
+  containers = are;
+  size = refl;
+  continued = omega (arith, at);
+  leaf = refl;
+  blank = refl;
+  line_end = refl;
 }
 
-existing-is : (options : ParseOptions) (next : Rule) (m n : ℕ) (cs : List Container) (cells : List Cell) (h : Here) →
-    IsRest h.scratch → length cells < m → AreOpen (drop n h.flags.containers) cs →
-    existing_from options next m cells (with_continued n h) ≡
-    new_of options next (went_front options cs cells h.point).cells (gone n (went_front options cs cells h.point) h)
-unfolding existing_from
-existing-is options next zero n cs cells h is some are = absurd (omega arith)
-existing-is options next (suc m) n [] cells h is some are =
-    let none : length (drop n h.flags.containers) ≡ 0 = open-length (drop n h.flags.containers) [] are in
-    let past : slice_get h.flags.containers n ≡
-    None = slice_get_past h.flags.containers n (omega (arith, none, length-drop n h.flags.containers)) in
-    let same : n + 0 ≡ n = omega arith in
-    ap (λ (o : Option Known). existing_by options next (existing_from options next m) o cells (with_continued n h)) past
-    ∙ ap₂
-    (λ (es : List Event) (x : ℕ).
-    new_of options next cells (record h { events = es; flags = record h.flags { continued = x } }))
-    (sym (append-nil h.events)) (sym same)
-existing-is options next (suc m) n (c ∷ cs) cells h is some are =
+-- where the line ends, those of these go on that what is held of them tells
+record OverEnd (ks : List Known) (cs : List Container) (cells : List Cell) (p : Point) (f : Front) : Type 0 where
+  events : f.events ≡ []
+  cells_are : f.cells ≡ cells
+  point : f.point ≡ p
+  size : length f.containers ≡ over_end ks
+  containers : AreOpen ks (f.containers ++ others_of cs f.containers)
+
+over-end : (options : ParseOptions) (ks : List Known) (cs : List Container) (cells : List Cell) (p : Point) →
+    AreOpen ks cs → ends_line (first_seen cells) ≡ true →
+    OverEnd ks cs cells p (went_front options cs cells p)
+over-end options [] [] cells p are ends =
+    record { events = refl; cells_are = refl; point = refl; size = refl; containers = tt }
+over-end options [] (c ∷ cs) cells p are ends = absurd are
+over-end options (k ∷ ks) [] cells p are ends = absurd are
+over-end options (k ∷ ks) (c ∷ cs) cells p are ends =
+    subst Result (sym (goes-over options k c cells p are.0 ends))
+    (go (goes_over k) refl (over-end options ks cs cells p are.1 ends))
+  where
+    by : Option Passed → Front
+    by o = elim o [ None ↦ no_front cells p | Some t ↦ in_front t (went_front options cs t.cells t.point) ]
+
+    Result : Option Passed → Type 0
+    Result o =
+        OverEnd (k ∷ ks) (c ∷ cs) cells p
+        (elim o [ None ↦ no_front cells p | Some t ↦ in_front t (went_front options cs t.cells t.point) ])
+
+    go : (x : Bool) → goes_over k ≡ x → OverEnd ks cs cells p (went_front options cs cells p) →
+        Result (cond x (Some (passed_over k c cells p)) None)
+    go true e more = record {
+      events = more.events;
+      cells_are = more.cells_are;
+      point = more.point;
+      size = ap suc more.size ∙ sym (ap (λ (x : Bool). cond x (suc (over_end ks)) 0) e);
+      containers = (are.0, more.containers);
+    }
+    go false e more = record {
+      events = refl;
+      cells_are = refl;
+      point = refl;
+      size = sym (ap (λ (x : Bool). cond x (suc (over_end ks)) 0) e);
+      containers = are;
+    }
+
+gone-ended : (options : ParseOptions) (next : Rule) (done cs : List Container) (cells : List Cell) (h : Here)
+    (o : Outcome) →
+    ends_line (first_seen cells) ≡ true →
+    o ≡ behind_containers options next cells (record h { flags = ended_on h.flags }) → IsRest h.scratch →
+    h.flags.continued ≡ length done → AreOpen h.flags.containers (done ++ cs) →
+    Gone options next done cs (went_front options cs cells h.point) h o
+gone-ended options next done cs cells h o ends is rest at are = record {
+  new = new;
+  is =
+      is ∙ sym (ap (λ (x : Bool). left_of options next x cells new) ends)
+      ∙ sym (ap (λ (l : List Cell). left_of options next (ends_line (first_seen l)) l new) over.cells_are);
+  rest = rest;
+  events = sym (append-nil h.events) ∙ sym (ap (λ (es : List Event). h.events ++ es) over.events);
+  point = sym over.point;
+  containers =
+      let P : List Known → Type 0 = λ l. AreOpen l (done ++ (f.containers ++ others_of cs f.containers)) in
+      subst P (take-append-drop (length done) h.flags.containers)
+      (open-append (take (length done) h.flags.containers) (drop (length done) h.flags.containers) done
+      (f.containers ++ others_of cs f.containers) parts.0 over.containers);
+  size = refl;
+  continued =
+      ap₂ (λ (x y : ℕ). x + y) at
+      (ap (λ (n : ℕ). over_end (drop n h.flags.containers)) at ∙ sym over.size);
+  leaf = refl;
+  blank = refl;
+  line_end = refl;
+}
+  where
+    f : Front
+    f = went_front options cs cells h.point
+
+    new : Here
+    new = record h { flags = ended_on h.flags }
+
+    parts : AreOpen (take (length done) h.flags.containers) done × AreOpen (drop (length done) h.flags.containers) cs
+    parts = open-parts h.flags.containers done cs are
+
+    over : OverEnd (drop (length done) h.flags.containers) cs cells h.point (went_front options cs cells h.point)
+    over =
+        over-end options (drop (length done) h.flags.containers) cs cells h.point
+        (open-parts h.flags.containers done cs are).1 ends
+
+-- behind the prefix of one that goes on
+abbrev further_here : Passed → Known → Here → Here
+further_here t k h =
+    let x = passed_here t (asking_here k h) in record x { flags = went_on x.flags }
+
+-- the same of what reads the containers behind the first
+abbrev Reads : ParseOptions → Rule → ℕ → Rule → Type 0
+Reads options next m further =
+    (done cs : List Container) (cells : List Cell) (h : Here) →
+    IsRest h.scratch → length cells < m → h.flags.continued ≡ length done →
+    AreOpen h.flags.containers (done ++ cs) →
+    Gone options next done cs (went_front options cs cells h.point) h (further cells h)
+
+-- where the line does not end here, the next one is asked
+asked-is : (options : ParseOptions) (next : Rule) (m : ℕ) (further : Rule) → Reads options next m further →
+    (done cs : List Container) (cells : List Cell) (h : Here) → ends_line (first_seen cells) ≡ false →
+    IsRest h.scratch → length cells < suc m → h.flags.continued ≡ length done →
+    AreOpen h.flags.containers (done ++ cs) →
+    Gone options next done cs (went_front options cs cells h.point) h
+    (existing_by options next further (next_container h.flags) cells h)
+asked-is options next m further reads done [] cells h going is some at are =
+    let all = open-length h.flags.containers (done ++ []) are in
+    let same : length (done ++ []) ≡ length done = ap length (append-nil done) in
+    let past : slice_get h.flags.containers h.flags.continued ≡
+    None = slice_get_past h.flags.containers h.flags.continued (omega (arith, all, same, at)) in
+    gone-none options next done [] cells h _ h.flags.asked h.flags.asked_column going
+    (ap (λ (o : Option Known). existing_by options next further o cells h) past) is at are
+asked-is options next m further reads done (c ∷ cs) cells h going is some at are =
     go
-    (λ t lt.
-    existing-is options next m (suc n) cs t.cells (passed_here t h) is lt
-    (open-next n h.flags.containers c cs are).more)
+    (λ t lt e.
+    reads (done ++ t.container ∷ []) cs t.cells (further_here t first.held h) is lt (counted t)
+    (again t e))
     (goes_at options c cells h.point) refl
   where
-    first : IsNext h.flags.containers n c cs
-    first = open-next n h.flags.containers c cs are
+    first : IsNext h.flags.containers done c cs
+    first = open-next h.flags.containers done c cs are
 
-    at : Here
-    at = with_continued n h
+    asked : Here
+    asked = asking_here first.held h
 
     onward : Outcome → Outcome
     onward o =
-        tried o (λ rest x. existing_from options next m rest (record x { flags = went_on x.flags }))
-        (λ s g. new_of options next cells (record (with_continued n h) { scratch = s; flags = g }))
+        tried o (λ rest x. further rest (record x { flags = went_on x.flags }))
+        (λ s g. new_of options next cells (record h { scratch = s; flags = g }))
 
-    begins : existing_from options next (suc m) cells at ≡ onward (passed_by (goes_at options c cells h.point) at)
+    found : slice_get h.flags.containers h.flags.continued ≡ Some first.held
+    found = ap (λ (n : ℕ). slice_get h.flags.containers n) at ∙ first.found
+
+    begins : existing_by options next further (next_container h.flags) cells h ≡ onward (passed_by (goes_at options c cells h.point) asked)
     begins =
-        ap
-        (λ (o : Option Known).
-        existing_by options next (existing_from options next m) o cells (with_continued n h)) first.found
-        ∙ ap onward (further-is options first.held c cells (with_continued n h) is first.is)
+        ap (λ (o : Option Known). existing_by options next further o cells h) found
+        ∙ ap onward (further-is options first.held c cells asked is refl refl first.is)
 
-    Done : Front → Type 0
-    Done x = existing_from options next (suc m) cells at ≡ new_of options next x.cells (gone n x h)
+    fits : nat_lt h.flags.continued (length h.flags.containers) ≡ true
+    fits = let lt = first.inside in lt-ltb h.flags.continued (length h.flags.containers) (omega (arith, at, lt))
 
-    fits : nat_lt n (length h.flags.containers) ≡ true
-    fits = lt-ltb n (length h.flags.containers) first.inside
+    one_more : (t : Passed) → length (done ++ t.container ∷ []) ≡ suc (length done)
+    one_more t = length-append done (t.container ∷ []) ∙ omega arith
+
+    counted : (t : Passed) → (further_here t first.held h).flags.continued ≡ length (done ++ t.container ∷ [])
+    counted t =
+        ap (λ (x : Bool). cond x (suc h.flags.continued) h.flags.continued) fits ∙ ap suc at ∙ sym (one_more t)
+
+    again : (t : Passed) → goes_at options c cells h.point ≡ Some t →
+        AreOpen (further_here t first.held h).flags.containers ((done ++ t.container ∷ []) ++ cs)
+    again t e =
+        let P : List Container → Type 0 = λ l. AreOpen (slice_set h.flags.containers h.flags.continued t.held) l in
+        let Q : ℕ → Type 0 = λ n. AreOpen (slice_set h.flags.containers n t.held) (done ++ (t.container ∷ cs)) in
+        subst P (sym (append_assoc done (t.container ∷ []) cs))
+        (subst Q (sym at)
+        (first.put_back t.held t.container
+        (goes-same options first.held c cells h.point t first.is e)))
+
+    Result : Front → Type 0
+    Result x = Gone options next done (c ∷ cs) x h (existing_by options next further (next_container h.flags) cells h)
 
     Further : Type 0
-    Further = (t : Passed) → length t.cells < m →
-        existing_from options next m t.cells (with_continued (suc n) (passed_here t h)) ≡
-        new_of options next (went_front options cs t.cells t.point).cells
-        (gone (suc n) (went_front options cs t.cells t.point) (passed_here t h))
+    Further = (t : Passed) → length t.cells < m → goes_at options c cells h.point ≡ Some t →
+        Gone options next (done ++ t.container ∷ []) cs (went_front options cs t.cells t.point)
+        (further_here t first.held h) (further t.cells (further_here t first.held h))
 
     go : Further → (x : Option Passed) → goes_at options c cells h.point ≡ x →
-        Done (elim x [ None ↦ no_front cells h.point | Some t ↦ in_front t (went_front options cs t.cells t.point) ])
+        Result (elim x [ None ↦ no_front cells h.point | Some t ↦ in_front t (went_front options cs t.cells t.point) ])
     go more None e =
-        let same : n ≡ n + 0 = omega arith in
-        begins
-        ∙ ap (λ (x : Option Passed). onward (passed_by x at)) e
-        ∙ ap₂
-        (λ (es : List Event) (x : ℕ).
-        new_of options next cells (record h { events = es; flags = record h.flags { continued = x } }))
-        (sym (append-nil h.events)) same
+        gone-none options next done (c ∷ cs) cells h (existing_by options next further (next_container h.flags) cells h) first.held
+        h.point.column going (begins ∙ ap (λ (x : Option Passed). onward (passed_by x asked)) e) is at are
     go more (Some t) e =
         let f : Front = went_front options cs t.cells t.point in
-        let same : suc n + length f.containers ≡ n + suc (length f.containers) = omega arith in
-        begins
-        ∙ ap (λ (x : Option Passed). onward (passed_by x at)) e
-        ∙ ap
-        (λ (x : Bool).
-        existing_from options next m t.cells (with_continued (cond x (suc n) n) (passed_here t h))) fits
-        ∙ more t (omega (arith, goes-shorter options c cells h.point t e))
-        ∙ ap₂
-        (λ (es : List Event) (x : ℕ).
-        new_of options next f.cells
-        (record h { events = es; point = f.point; flags = record h.flags { continued = x } }))
-        (append_assoc h.events t.events f.events) same
+        let g = more t (omega (arith, goes-shorter options c cells h.point t e going)) e in
+        let P : List Container → Type 0 = λ l. AreOpen g.new.flags.containers l in
+        let longer = one_more t in
+        record {
+          new = g.new;
+          is = begins ∙ ap (λ (x : Option Passed). onward (passed_by x asked)) e ∙ g.is;
+          rest = g.rest;
+          events = g.events ∙ append_assoc h.events t.events f.events;
+          point = g.point;
+          containers =
+              subst P (append_assoc done (t.container ∷ []) (f.containers ++ others_of cs f.containers)) g.containers;
+          size = g.size ∙ length-set h.flags.containers h.flags.continued t.held;
+          continued = omega (arith, g.continued, longer);
+          leaf = g.leaf;
+          blank = g.blank;
+          line_end = g.line_end;
+        }
+
+existing-is : (options : ParseOptions) (next : Rule) (m : ℕ) (done cs : List Container) (cells : List Cell) (h : Here) →
+    IsRest h.scratch → length cells < m → h.flags.continued ≡ length done →
+    AreOpen h.flags.containers (done ++ cs) →
+    Gone options next done cs (went_front options cs cells h.point) h (existing_from options next m cells h)
+unfolding existing_from
+existing-is options next zero done cs cells h is some at are = absurd (omega arith)
+existing-is options next (suc m) done cs cells h is some at are =
+    by
+    (λ more others rest k it lt same they. existing-is options next m more others rest k it lt same they)
+    (ends_line (first_seen cells)) refl
+  where
+    Result : Outcome → Type 0
+    Result o = Gone options next done cs (went_front options cs cells h.point) h o
+
+    by : Reads options next m (existing_from options next m) → (x : Bool) → ends_line (first_seen cells) ≡ x →
+        Result (existing_at options next (existing_from options next m) x cells h)
+    by reads true ends = gone-ended options next done cs cells h _ ends refl is at are
+    by reads false going =
+        asked-is options next m (existing_from options next m) reads done cs cells h going is some at are
 
 -- Containers that open.
 
-new-by : (options : ParseOptions) (next : Rule) (interrupting : Bool) (m : ℕ) (cells : List Cell) (h : Here)
-    (x : Option Passed) →
-    IsRest h.scratch → opens_at options interrupting cells h.point ≡ x →
-    new_from options next (suc m) cells h ≡
-    tried (passed_by x h) (λ rest k. new_from options next m rest (opened k))
-    (λ s g. behind_containers options next cells (record h { scratch = s; flags = g }))
-unfolding new_from
-new-by options next interrupting m cells h x is e =
-    ap
-    (λ (o : Outcome).
-    tried o (λ rest k. new_from options next m rest (opened k))
-    (λ s g. behind_containers options next cells (record h { scratch = s; flags = g })))
-    (opening-is options interrupting cells h is ∙ ap (λ (y : Option Passed). passed_by y h) e)
+-- where none of these opens, each was tried
+record Refused (options : ParseOptions) (next : Rule) (cells : List Cell) (h : Here) (o : Outcome) : Type 0 where
+  asked : Known
+  column : ℕ
+  is : o ≡ behind_containers options next cells (asked_at asked column h)
+
+-- what is left in front of these, by what the first of them comes to
+abbrev tries_from : ParseOptions → Rule → Rule → List ContainerKind → List Cell → Here → Outcome → Outcome
+tries_from options next onward ks cells h o =
+    tried o onward
+    (λ s g. opens_of options onward (behind_containers options next) ks cells (record h { scratch = s; flags = g }))
+
+first-tried : (options : ParseOptions) (next onward : Rule) (interrupting : Bool) (k : ContainerKind)
+    (ks : List ContainerKind) (cells : List Cell) (h : Here) (o : Option Passed) →
+    IsRest h.scratch → interrupting ≡ by_flags h.flags →
+    (container_rules k).opens options interrupting cells h.point ≡ o →
+    opens_of options onward (behind_containers options next) (k ∷ ks) cells h ≡
+    tries_from options next onward ks cells h (passed_by o (asking_here (container_of k) h))
+first-tried options next onward interrupting k ks cells h o is by e =
+    ap (tries_from options next onward ks cells h)
+    (opening-is options k interrupting cells (asking_here (container_of k) h) is refl refl by
+    ∙ ap (λ (x : Option Passed). passed_by x (asking_here (container_of k) h)) e)
+
+none-tried : (options : ParseOptions) (next onward : Rule) (interrupting : Bool) (ks : List ContainerKind)
+    (cells : List Cell) (h : Here) →
+    IsRest h.scratch → interrupting ≡ by_flags h.flags → opens_by options interrupting cells h.point ks ≡ None →
+    Refused options next cells h (opens_of options onward (behind_containers options next) ks cells h)
+none-tried options next onward interrupting [] cells h is by e =
+    record { asked = h.flags.asked; column = h.flags.asked_column; is = refl }
+none-tried options next onward interrupting (k ∷ ks) cells h is by e =
+    go ((container_rules k).opens options interrupting cells h.point) refl e
+    (none-tried options next onward interrupting ks cells (asking_here (container_of k) h) is by)
+  where
+    go : (o : Option Passed) → (container_rules k).opens options interrupting cells h.point ≡ o →
+        option_or o (opens_by options interrupting cells h.point ks) ≡ None →
+        (opens_by options interrupting cells h.point ks ≡ None →
+        Refused options next cells (asking_here (container_of k) h)
+        (opens_of options onward (behind_containers options next) ks cells (asking_here (container_of k) h))) →
+        Refused options next cells h (opens_of options onward (behind_containers options next) (k ∷ ks) cells h)
+    go (Some t) e none more = cc
+    go None e none more =
+        let r = more none in
+        record {
+          asked = r.asked;
+          column = r.column;
+          is = first-tried options next onward interrupting k ks cells h None is by e ∙ r.is;
+        }
+
+one-tried : (options : ParseOptions) (next onward : Rule) (interrupting : Bool) (ks : List ContainerKind)
+    (cells : List Cell) (h : Here) (t : Passed) →
+    IsRest h.scratch → interrupting ≡ by_flags h.flags → opens_by options interrupting cells h.point ks ≡ Some t →
+    opens_of options onward (behind_containers options next) ks cells h ≡
+    onward t.cells (passed_here t (asking_here t.held h))
+one-tried options next onward interrupting [] cells h t is by e = cc
+one-tried options next onward interrupting (k ∷ ks) cells h t is by e =
+    go ((container_rules k).opens options interrupting cells h.point) refl e
+    (one-tried options next onward interrupting ks cells (asking_here (container_of k) h) t is by)
+  where
+    Opens : Type 0
+    Opens =
+        opens_of options onward (behind_containers options next) (k ∷ ks) cells h ≡
+        onward t.cells (passed_here t (asking_here t.held h))
+
+    go : (o : Option Passed) → (container_rules k).opens options interrupting cells h.point ≡ o →
+        option_or o (opens_by options interrupting cells h.point ks) ≡ Some t →
+        (opens_by options interrupting cells h.point ks ≡ Some t →
+        opens_of options onward (behind_containers options next) ks cells (asking_here (container_of k) h) ≡
+        onward t.cells (passed_here t (asking_here t.held h))) →
+        Opens
+    go (Some u) e some more =
+        first-tried options next onward interrupting k ks cells h (Some t) is by (e ∙ some)
+    go None e some more = first-tried options next onward interrupting k ks cells h None is by e ∙ more some
 
 new-none : (options : ParseOptions) (next : Rule) (interrupting : Bool) (m : ℕ) (cells : List Cell) (h : Here) →
-    IsRest h.scratch → opens_at options interrupting cells h.point ≡ None →
-    new_from options next (suc m) cells h ≡ behind_containers options next cells h
-new-none options next interrupting m cells h is e = new-by options next interrupting m cells h None is e
+    IsRest h.scratch → interrupting ≡ by_flags h.flags → opens_at options interrupting cells h.point ≡ None →
+    Refused options next cells h (new_from options next (suc m) cells h)
+unfolding new_from
+new-none options next interrupting m cells h is by e =
+    none-tried options next (λ rest k. new_from options next m rest (opened k)) interrupting openers cells h is by e
+
+-- behind the first prefix of one that opens
+abbrev opened_by : Passed → Here → Here
+opened_by t h = opened (passed_here t (asking_here t.held h))
 
 new-one : (options : ParseOptions) (next : Rule) (interrupting : Bool) (m : ℕ) (cells : List Cell) (h : Here)
     (t : Passed) →
-    IsRest h.scratch → opens_at options interrupting cells h.point ≡ Some t →
-    new_from options next (suc m) cells h ≡ new_from options next m t.cells (opened (passed_here t h))
-new-one options next interrupting m cells h t is e = new-by options next interrupting m cells h (Some t) is e
+    IsRest h.scratch → interrupting ≡ by_flags h.flags → opens_at options interrupting cells h.point ≡ Some t →
+    new_from options next (suc m) cells h ≡ new_from options next m t.cells (opened_by t h)
+unfolding new_from
+new-one options next interrupting m cells h t is by e =
+    one-tried options next (λ rest k. new_from options next m rest (opened k)) interrupting openers cells h t is by e
 
 -- where these containers went on or are new, more of them open
 record Opened (options : ParseOptions) (next : Rule) (cs : List Container) (h : Here) (f : Front)
@@ -396,12 +630,12 @@ record Opened (options : ParseOptions) (next : Rule) (cs : List Container) (h : 
 -- none does
 opened-none : (options : ParseOptions) (next : Rule) (cs : List Container) (cells : List Cell) (h : Here)
     (o : Outcome) →
-    o ≡ behind_containers options next cells h → IsRest h.scratch → AreOpen h.flags.containers cs →
+    Refused options next cells h o → IsRest h.scratch → AreOpen h.flags.containers cs →
     h.flags.continued ≡ length h.flags.containers → h.flags.leaf ≡ held_leaf.None →
     Opened options next cs h (no_front cells h.point) o
-opened-none options next cs cells h o same is are all shut = record {
-  new = h;
-  is = same;
+opened-none options next cs cells h o refused is are all shut = record {
+  new = asked_at refused.asked refused.column h;
+  is = refused.is;
   rest = is;
   events = sym (append-nil h.events);
   point = refl;
@@ -411,6 +645,11 @@ opened-none options next cs cells h o same is are all shut = record {
   blank = refl;
 }
 
+-- where no leaf is open, what opens interrupts none
+interrupts-none : (g : Flags) → g.leaf ≡ held_leaf.None → false ≡ by_flags g
+interrupts-none g shut =
+    sym (ap (λ (leaf : HeldLeaf). is_interrupted leaf && (g.continued == length g.containers)) shut)
+
 new-more : (options : ParseOptions) (next : Rule) (m size : ℕ) (cs : List Container) (cells : List Cell) (h : Here) →
     IsRest h.scratch → length cells < m → length cells ≤ size → AreOpen h.flags.containers cs →
     h.flags.continued ≡ length h.flags.containers → h.flags.leaf ≡ held_leaf.None →
@@ -418,22 +657,23 @@ new-more : (options : ParseOptions) (next : Rule) (m size : ℕ) (cs : List Cont
 new-more options next zero size cs cells h is some most are all shut = absurd (omega arith)
 new-more options next (suc m) zero cs cells h is some most are all shut =
     opened-none options next cs cells h (new_from options next (suc m) cells h)
-    (new-none options next false m cells h is (opens-none options false cells h.point most)) is are all shut
+    (new-none options next false m cells h is (interrupts-none h.flags shut)
+    (opens-none options false cells h.point most)) is are all shut
 new-more options next (suc m) (suc size) cs cells h is some most are all shut =
     go
     (λ t lt le more.
-    new-more options next m size (cs ++ t.container ∷ []) t.cells (opened (passed_here t h)) is lt le more refl refl)
+    new-more options next m size (cs ++ t.container ∷ []) t.cells (opened_by t h) is lt le more refl refl)
     (opens_at options false cells h.point) refl
   where
-    new : Known
-    new = record { kind = new_kind }
+    by : false ≡ by_flags h.flags
+    by = interrupts-none h.flags shut
 
     Further : Type 0
     Further =
         (t : Passed) → length t.cells < m → length t.cells ≤ size →
-        AreOpen (opened (passed_here t h)).flags.containers (cs ++ t.container ∷ []) →
-        Opened options next (cs ++ t.container ∷ []) (opened (passed_here t h))
-        (new_front options false size t.cells t.point) (new_from options next m t.cells (opened (passed_here t h)))
+        AreOpen (opened_by t h).flags.containers (cs ++ t.container ∷ []) →
+        Opened options next (cs ++ t.container ∷ []) (opened_by t h)
+        (new_front options false size t.cells t.point) (new_from options next m t.cells (opened_by t h))
 
     go : Further → (x : Option Passed) → opens_at options false cells h.point ≡ x →
         Opened options next cs h
@@ -444,23 +684,23 @@ new-more options next (suc m) (suc size) cs cells h is some most are all shut =
         (new_from options next (suc m) cells h)
     go more None e =
         opened-none options next cs cells h (new_from options next (suc m) cells h)
-        (new-none options next false m cells h is e) is are all shut
+        (new-none options next false m cells h is by e) is are all shut
     go more (Some t) e =
         let shorter = opens-shorter options false cells h.point t e in
         let f : Front = new_front options false size t.cells t.point in
-        let begun : AreOpen (opened (passed_here t h)).flags.containers (cs ++ t.container ∷ []) =
-        open-append (take h.flags.continued h.flags.containers) (new ∷ []) cs (t.container ∷ [])
+        let begun : AreOpen (opened_by t h).flags.containers (cs ++ t.container ∷ []) =
+        open-append (take h.flags.continued h.flags.containers) (t.held ∷ []) cs (t.container ∷ [])
         (open-all h.flags.continued h.flags.containers cs all are)
         (opens-same options false cells h.point t e, tt) in
         let o = more t (omega (arith, shorter)) (omega (arith, shorter)) begun in
-        let none : (opened (passed_here t h)).events ≡
+        let none : (opened_by t h).events ≡
         h.events
         ++ t.events = closed-none h.flags.continued h.flags.line_end h.flags.containers
         (h.events ++ t.events) t.point (omega arith) in
         let P : List Container → Type 0 = λ l. AreOpen o.new.flags.containers l in
         record {
           new = o.new;
-          is = new-one options next false m cells h t is e ∙ o.is;
+          is = new-one options next false m cells h t is by e ∙ o.is;
           rest = o.rest;
           events = o.events ∙ ap (λ (es : List Event). es ++ f.events) none ∙ append_assoc h.events t.events f.events;
           point = o.point;
@@ -497,7 +737,22 @@ record Between (front tail : List Event) (p : Point) (cs : List Container) (stil
   leaf : h.flags.leaf ≡ still
   blank : h.flags.blank ≡ false
   line_end : h.flags.line_end ≡ length front
-  ends : Ends h.flags.containers tail p
+  ends : Ends (length h.flags.containers) tail p
+
+-- the same where others were asked, or tried
+between-asked : (front tail : List Event) (p : Point) (cs : List Container) (still : HeldLeaf) (w : Front) (h : Here)
+    (c : Known) (column : ℕ) →
+    Between front tail p cs still w h → Between front tail p cs still w (asked_at c column h)
+between-asked front tail p cs still w h c column b = record {
+  rest = b.rest;
+  events = b.events;
+  containers = b.containers;
+  continued = b.continued;
+  leaf = b.leaf;
+  blank = b.blank;
+  line_end = b.line_end;
+  ends = b.ends;
+}
 
 -- where no container opens, a line of text goes on the open paragraph
 lazy-none : (still : HeldLeaf) (k : RowKind) → is_lazy still [] k ≡ (takes_lazy still && is_text k)
@@ -594,7 +849,7 @@ done-none options next front tail p cs still w cells h b = record {
 done-some : (options : ParseOptions) (next : Rule) (front tail : List Event) (p : Point) (cs : List Container)
     (still : HeldLeaf) (w f : Front) (t : Passed) (h : Here) (o : Outcome) →
     Between front tail p cs still w h →
-    Opened options next (w.containers ++ t.container ∷ []) (opened (passed_here t h)) f o →
+    Opened options next (w.containers ++ t.container ∷ []) (opened_by t h) f o →
     Done next options front tail p (held_of options cs still w (in_front t f)) o
 done-some options next front tail p cs still w f t h out b o =
     subst P (sym (lazy-some still t.container f.containers k)) (record {
@@ -642,7 +897,7 @@ done-some options next front tail p cs still w f t h out b o =
         subst R (sym b.continued)
         (open-parts h.flags.containers w.containers (others_of cs w.containers) b.containers).1
 
-    first : (opened (passed_here t h)).events ≡
+    first : (opened_by t h).events ≡
         front ++ (ends_of (others_of cs w.containers) p ++ (tail ++ (w.events ++ t.events)))
     first =
         closed-ends front tail (w.events ++ t.events)
@@ -656,21 +911,32 @@ done-same : (options : ParseOptions) (next : Rule) (front tail : List Event) (p 
 done-same options next front tail p x a b e d =
     let P : Outcome → Type 0 = λ o. Done next options front tail p x o in subst P (sym e) d
 
+-- what opens where no container ended interrupts what the flags say
+interrupts-is : (still : HeldLeaf) (went others : List Container) (g : Flags) → g.leaf ≡ still →
+    AreOpen g.containers (went ++ others) → g.continued ≡ length went → interrupts still others ≡ by_flags g
+interrupts-is still went others g leaf are continued =
+    ap₂ (λ (x : HeldLeaf) (y : Bool). is_interrupted x && y) (sym leaf)
+    (go others (open-length g.containers (went ++ others) are ∙ length-append went others))
+  where
+    go : (others : List Container) → length g.containers ≡ length went + length others →
+        is_none others ≡ nat_eq g.continued (length g.containers)
+    go [] size = let same : nat_eq g.continued (length g.containers) ≡ true = grind (arith, nat_tests) in sym same
+    go (c ∷ cs) size =
+        let other : nat_eq g.continued (length g.containers) ≡ false = grind (arith, nat_tests) in sym other
+
 new-done : (options : ParseOptions) (next : Rule) (front tail : List Event) (p : Point) (cs : List Container)
     (still : HeldLeaf) (interrupting : Bool) (w : Front) (m size : ℕ) (cells : List Cell) (h : Here) →
-    Between front tail p cs still w h → length cells ≤ m → length cells ≤ size →
+    Between front tail p cs still w h → interrupting ≡ by_flags h.flags → length cells ≤ m → length cells ≤ size →
     Done next options front tail p (held_of options cs still w (new_front options interrupting size cells h.point))
     (new_from options next (suc m) cells h)
-new-done options next front tail p cs still interrupting w m zero cells h b some most =
-    done-same options next front tail p _ _ _
-    (new-none options next interrupting m cells h b.rest (opens-none options interrupting cells h.point most))
-    (done-none options next front tail p cs still w cells h b)
-new-done options next front tail p cs still interrupting w m (suc size) cells h b some most =
+new-done options next front tail p cs still interrupting w m zero cells h b by some most =
+    let r = new-none options next interrupting m cells h b.rest by (opens-none options interrupting cells h.point most) in
+    done-same options next front tail p _ _ _ r.is
+    (done-none options next front tail p cs still w cells (asked_at r.asked r.column h)
+    (between-asked front tail p cs still w h r.asked r.column b))
+new-done options next front tail p cs still interrupting w m (suc size) cells h b by some most =
     go (opens_at options interrupting cells h.point) refl
   where
-    new : Known
-    new = record { kind = new_kind }
-
     go : (x : Option Passed) → opens_at options interrupting cells h.point ≡ x →
         Done next options front tail p
         (held_of options cs still w
@@ -680,20 +946,34 @@ new-done options next front tail p cs still interrupting w m (suc size) cells h 
         ]))
         (new_from options next (suc m) cells h)
     go None e =
-        done-same options next front tail p _ _ _ (new-none options next interrupting m cells h b.rest e)
-        (done-none options next front tail p cs still w cells h b)
+        let r = new-none options next interrupting m cells h b.rest by e in
+        done-same options next front tail p _ _ _ r.is
+        (done-none options next front tail p cs still w cells (asked_at r.asked r.column h)
+        (between-asked front tail p cs still w h r.asked r.column b))
     go (Some t) e =
         let shorter = opens-shorter options interrupting cells h.point t e in
         let R : ℕ → Type 0 = λ n. AreOpen (take n h.flags.containers) w.containers in
         let stayed : AreOpen (take h.flags.continued h.flags.containers) w.containers = subst R (sym b.continued)
         (open-parts h.flags.containers w.containers (others_of cs w.containers) b.containers).0 in
-        let begun : AreOpen (opened (passed_here t h)).flags.containers (w.containers ++ t.container ∷ []) =
-        open-append (take h.flags.continued h.flags.containers) (new ∷ []) w.containers (t.container ∷ []) stayed
+        let begun : AreOpen (opened_by t h).flags.containers (w.containers ++ t.container ∷ []) =
+        open-append (take h.flags.continued h.flags.containers) (t.held ∷ []) w.containers (t.container ∷ []) stayed
         (opens-same options interrupting cells h.point t e, tt) in
-        done-same options next front tail p _ _ _ (new-one options next interrupting m cells h t b.rest e)
+        done-same options next front tail p _ _ _ (new-one options next interrupting m cells h t b.rest by e)
         (done-some options next front tail p cs still w (new_front options false size t.cells t.point) t h _ b
-        (new-more options next m size (w.containers ++ t.container ∷ []) t.cells (opened (passed_here t h)) b.rest
+        (new-more options next m size (w.containers ++ t.container ∷ []) t.cells (opened_by t h) b.rest
         (omega (arith, shorter)) (omega (arith, shorter)) begun refl refl))
+
+-- where the line ends none opens
+front-ended : (options : ParseOptions) (interrupting : Bool) (size : ℕ) (cells : List Cell) (p : Point) →
+    ends_line (first_seen cells) ≡ true → new_front options interrupting size cells p ≡ no_front cells p
+front-ended options interrupting zero cells p ends = refl
+front-ended options interrupting (suc size) cells p ends =
+    ap
+    (λ (o : Option Passed).
+    elim o [
+      | None ↦ no_front cells p
+      | Some t ↦ in_front t (new_front options false size t.cells t.point)
+    ]) (opens-ended options interrupting cells p openers ends)
 
 -- at the begin of a line
 pub record Begins (front tail : List Event) (p : Point) (cs : List Container) (still : HeldLeaf)
@@ -705,7 +985,7 @@ pub record Begins (front tail : List Event) (p : Point) (cs : List Container) (s
   pub leaf : h.flags.leaf ≡ still
   pub blank : h.flags.blank ≡ false
   pub line_end : h.flags.line_end ≡ length front
-  pub ends : Ends h.flags.containers tail p
+  pub ends : Ends (length h.flags.containers) tail p
 
 pub line-done : (options : ParseOptions) (next : Rule) (front tail : List Event) (p : Point) (cs : List Container)
     (still : HeldLeaf) (cells : List Cell) (h : Here) →
@@ -713,26 +993,50 @@ pub line-done : (options : ParseOptions) (next : Rule) (front tail : List Event)
     Done next options front tail p (held_at options cs still cells h.point) (line_then options next cells h)
 unfolding line_then new_of held_at
 line-done options next front tail p cs still cells h b =
-    done-same options next front tail p _ _ _
-    (ap (λ (k : ℕ). existing_from options next (suc (length cells)) cells (with_continued k h)) b.continued
-    ∙ existing-is options next (suc (length cells)) 0 cs cells h b.rest (omega arith) b.containers)
-    (new-done options next front tail p cs still (interrupts still (others_of cs w.containers)) w (length w.cells)
-    (length w.cells) w.cells (gone 0 w h) between (omega arith) (omega arith))
+    done-same options next front tail p _ _ _ g.is (subst P g.point (by (ends_line (first_seen w.cells)) refl))
   where
     w : Front
     w = went_front options cs cells h.point
 
-    between : Between front tail p cs still w (gone 0 w h)
+    g : Gone options next [] cs (went_front options cs cells h.point) h
+        (existing_from options next (suc (length cells)) cells h)
+    g = existing-is options next (suc (length cells)) [] cs cells h b.rest (omega arith) b.continued b.containers
+
+    between : Between front tail p cs still w g.new
     between = record {
-      rest = b.rest;
-      events = ap (λ (es : List Event). es ++ w.events) b.events ∙ append_assoc front tail w.events;
-      containers = went-open options h.flags.containers cs cells h.point b.containers;
-      continued = omega arith;
-      leaf = b.leaf;
-      blank = b.blank;
-      line_end = b.line_end;
-      ends = b.ends;
+      rest = g.rest;
+      events = g.events ∙ ap (λ (es : List Event). es ++ w.events) b.events ∙ append_assoc front tail w.events;
+      containers = g.containers;
+      continued = let n = g.continued in omega (arith, n);
+      leaf = g.leaf ∙ b.leaf;
+      blank = g.blank ∙ b.blank;
+      line_end = g.line_end ∙ b.line_end;
+      ends = let E : ℕ → Type 0 = λ n. Ends n tail p in subst E (sym g.size) b.ends;
     }
+
+    interrupting : Bool
+    interrupting = interrupts still (others_of cs w.containers)
+
+    P : Point → Type 0
+    P q =
+        Done next options front tail p
+        (held_of options cs still w (new_front options interrupting (length w.cells) w.cells q))
+        (left_of options next (ends_line (first_seen w.cells)) w.cells g.new)
+
+    by : (x : Bool) → ends_line (first_seen w.cells) ≡ x →
+        Done next options front tail p
+        (held_of options cs still w (new_front options interrupting (length w.cells) w.cells g.new.point))
+        (left_of options next x w.cells g.new)
+    by true ends =
+        let D : Front → Type 0 = λ f.
+        Done next options front tail p (held_of options cs still w f) (behind_containers options next w.cells g.new) in
+        subst D (sym (front-ended options interrupting (length w.cells) w.cells g.new.point ends))
+        (done-none options next front tail p cs still w w.cells g.new between)
+    by false going =
+        new-done options next front tail p cs still interrupting w (length w.cells) (length w.cells) w.cells g.new
+        between
+        (interrupts-is still w.containers (others_of cs w.containers) g.new.flags between.leaf between.containers
+        between.continued) (omega arith) (omega arith)
 
 -- Rows.
 
@@ -796,7 +1100,7 @@ next-begins cs still c h is held are = record {
   blank = refl;
   line_end = refl;
   ends =
-      ends-behind h.flags.containers (enter (ending_name h.flags.blank) h.point)
+      ends-behind (length h.flags.containers) (enter (ending_name h.flags.blank) h.point)
       (exit (ending_name h.flags.blank) c.after ∷ []);
 }
 
@@ -927,7 +1231,7 @@ text-begins h is none shut continued leaf blank line_end = record {
   leaf = leaf;
   blank = blank;
   line_end = line_end;
-  ends = ends-none h.flags.containers h.point shut;
+  ends = ends-none (length h.flags.containers) h.point (ap length shut);
 }
 
 -- so the rule of all lines adds the events of all rows

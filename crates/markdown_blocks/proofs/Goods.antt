@@ -11,7 +11,7 @@ use Rattle.md_engine.specs.declared.tokenizer.container.Container.{Container}
 use Rattle.md_engine.specs.declared.tokenizer.container.name.ContainerKind.{ContainerKind}
 use Rattle.md_engine.specs.Scheme.{After, EndsLater, Fits, Scheme, Spot, Tries, TriesLater, after_all, seen, spot}
 use Rattle.md_engine.specs.Scheme.{spot_at}
-use Rattle.md_engine.specs.World.{World, closed}
+use Rattle.md_engine.specs.World.{Flags, World, closed, container_of}
 use Rattle.md_engine.proofs.Falls.{later, later_at}
 use Rattle.md_engine.proofs.Local.{accepts, begins_later, begins_try, consumes, refuses, turns}
 use Rattle.md_engine.proofs.Points.{passes-reaches, stays, takes}
@@ -26,8 +26,9 @@ use Rattle.markdown_blocks.specs.Flow.{existing_after_transition, existing_befor
 use Rattle.markdown_blocks.specs.Flow.{flow_ready, flow_scheme, new_after_transition, new_before_transition}
 use Rattle.markdown_blocks.specs.Flow.{start_transition, trial_code}
 use Rattle.markdown_blocks.specs.LineFlags as flags
-use Rattle.markdown_blocks.specs.Registry.{LeafName, first_container, front_of, goes_on_with, leaf, may_go_on, may_open}
-use Rattle.markdown_blocks.specs.Registry.{next_of, trials}
+use Rattle.markdown_blocks.specs.LineFlags.{asking}
+use Rattle.markdown_blocks.specs.Registry.{LeafName, container_rules, front_of, goes_on_with, leaf, may_go_on, may_open}
+use Rattle.markdown_blocks.specs.Registry.{next_of, next_opener, opener_front, openers, opens_with, trials}
 
 -- what a table has of a leaf on one line: the states in front of it and of the next are those of flow, and fall; its
 -- first state is of a lower level, and ready at rest
@@ -42,18 +43,27 @@ pub record LeafFits (T : Scheme) (l : LeafName) : Type 1 where
   pub next_low : (flow_rank (n.Flow (next_of l))).number < (flow_scheme.tries (n.Flow (next_of l))).number
   pub behind_low : (flow_rank (n.Flow flow.After)).number < (flow_scheme.tries (n.Flow (next_of l))).number
 
--- the same of containers: of the first state of one that may open, and of the states in front of the prefixes of those
--- that are open
+-- the same of containers: of the first state of one, where it may open, and of the one in front of its prefix
 pub record ContainerFits (T : Scheme) (start : StateName) : Type 1 where
   pub own : Scheme
   pub starts : Fits T own start
   pub level : own.level start < 3
   pub ready : (x : Spot) (K : After) → IsRest x.scratch → EndsLater IsRest IsRest x K → own.ready start x K
 
+-- and of one that may open: the states in front of it and of the next are those of flow, and fall
+pub record OpenerFits (T : Scheme) (k : ContainerKind) : Type 1 where
+  pub inner : ContainerFits T (opens_with k)
+  pub front : Fits T flow_scheme (n.Document (container_rules k).before)
+  pub next : Fits T flow_scheme (n.Document (next_opener k))
+  pub falls : (flow_scheme.tries (n.Document (next_opener k))).number <
+      (flow_rank (n.Document (container_rules k).before)).number
+  pub next_low : (flow_rank (n.Document (next_opener k))).number <
+      (flow_scheme.tries (n.Document (next_opener k))).number
+
 pub record FlowFits (T : Scheme) : Type 1 where
   pub existing_before : Fits T flow_scheme (n.Document document.ContainerExistingBefore)
   pub existing_after : Fits T flow_scheme (n.Document document.ContainerExistingAfter)
-  pub new_before : Fits T flow_scheme (n.Document document.ContainerNewBefore)
+  pub first_opener : Fits T flow_scheme (n.Document (opener_front openers))
   pub new_after : Fits T flow_scheme (n.Document document.ContainerNewAfter)
   pub containers_after : Fits T flow_scheme (n.Document document.ContainersAfter)
   pub flow_end : Fits T flow_scheme (n.Document document.FlowEnd)
@@ -65,12 +75,13 @@ pub record FlowFits (T : Scheme) : Type 1 where
   pub behind : Fits T flow_scheme (n.Flow flow.After)
 
 -- a trial that is refused at once goes on with a state that ranks below
-looked : (T : Scheme) (n start ok nok : StateName) (w : World) (b : Bool) → Fits T flow_scheme n →
+looked : (T : Scheme) (n start ok nok : StateName) (w : World) (g : Flags) (b : Bool) → Fits T flow_scheme n →
     Fits T flow_scheme nok → flow_ready (spot w) (after_all T w.frames) →
     (flow_rank nok).number < (flow_rank n).number →
-    Does T n w (trial_code start ok nok w true) → Does T n w (trial_code start ok nok w b)
-looked T n start ok nok w true here next r lt tried = tried
-looked T n start ok nok w false here next r lt tried =
+    Does T n w (trial_code start ok nok (record w { flags = g }) true) →
+    Does T n w (trial_code start ok nok (record w { flags = g }) b)
+looked T n start ok nok w g true here next r lt tried = tried
+looked T n start ok nok w g false here next r lt tried =
     (turns T flow_scheme _ _ w w.events w.scratch here next r (omega arith) lt, refl)
 
 -- Containers.
@@ -91,20 +102,24 @@ prefix_tries ok nok w K r low_nok same_nok = record {
   nok_rank = λ s t is up. rw (same_nok (spot_at t w.point s)) (omega (arith, low_nok));
 }
 
-pub good_existing_before : (T : Scheme) (w : World) (o : Option Container) → FlowFits T →
+pub good_existing_before : (T : Scheme) (w : World) (ends : Bool) (o : Option Container) → FlowFits T →
     ((k : ContainerKind) → ContainerFits T (goes_on_with k)) → flow_ready (spot w) (after_all T w.frames) →
-    Does T (n.Document document.ContainerExistingBefore) w (existing_before_code w o)
-good_existing_before T w None has inner r = (
-  turns T flow_scheme _ _ w w.events w.scratch has.existing_before has.new_before r (omega arith) (omega arith),
+    Does T (n.Document document.ContainerExistingBefore) w (existing_before_code w ends o)
+good_existing_before T w true o has inner r = (
+  turns T flow_scheme _ _ w w.events w.scratch has.existing_before has.containers_after r (omega arith) (omega arith),
   refl,
 )
-good_existing_before T w (Some c) has inner r =
+good_existing_before T w false None has inner r = (
+  turns T flow_scheme _ _ w w.events w.scratch has.existing_before has.first_opener r (omega arith) (omega arith),
+  refl,
+)
+good_existing_before T w false (Some c) has inner r =
     let i : ContainerFits T (goes_on_with c.kind) = inner c.kind in
-    looked T _ _ _ _ w
-    (may_with (may_go_on c.kind) (looks_behind w)) has.existing_before has.new_before r (omega arith) (
+    looked T _ _ _ _ w (asking c w).flags
+    (may_with (may_go_on c.kind) (looks_behind w)) has.existing_before has.first_opener r (omega arith) (
       begins_later T flow_scheme i.own (n.Document document.ContainerExistingBefore)
-          (goes_on_with c.kind) w IsRest IsRest w.events w.scratch _ has.existing_before i.starts has.existing_after has.new_before refl
-          (prefix_tries (n.Document document.ContainerExistingAfter) (n.Document document.ContainerNewBefore) w
+          (goes_on_with c.kind) w IsRest IsRest w.events w.scratch _ has.existing_before i.starts has.existing_after has.first_opener refl
+          (prefix_tries (n.Document document.ContainerExistingAfter) (n.Document (opener_front openers)) w
           (after_all T w.frames) r (omega arith) (λ x. refl))
           (λ K e. i.ready _ K r.0.0 e) i.level (omega arith) (omega arith),
       refl,
@@ -117,16 +132,20 @@ good_existing_after T w has r = (
   refl,
 )
 
-pub good_new_before : (T : Scheme) (w : World) → FlowFits T → ContainerFits T first_container →
+pub good_new_before : (T : Scheme) (k : ContainerKind) (w : World) → FlowFits T → OpenerFits T k →
     flow_ready (spot w) (after_all T w.frames) →
-    Does T (n.Document document.ContainerNewBefore) w (new_before_transition w)
-good_new_before T w has inner r =
-    looked T _ _ _ _ w (may_with may_open (looks_behind w)) has.new_before has.containers_after r (omega arith) (
-      begins_later T flow_scheme inner.own (n.Document document.ContainerNewBefore) first_container w IsRest IsRest
-          w.events w.scratch _ has.new_before inner.starts has.new_after has.containers_after refl
-          (prefix_tries (n.Document document.ContainerNewAfter) (n.Document document.ContainersAfter) w
-          (after_all T w.frames) r (omega arith) (λ x. refl))
-          (λ K e. inner.ready _ K r.0.0 e) inner.level (omega arith) (omega arith),
+    Does T (n.Document (container_rules k).before) w (new_before_transition k w)
+good_new_before T k w has fit r =
+    let a = fit.falls in
+    let b = fit.next_low in
+    let inner : ContainerFits T (opens_with k) = fit.inner in
+    looked T _ _ _ _ w (asking (container_of k) w).flags
+    (may_with (may_open k) (looks_behind w)) fit.front fit.next r (omega (arith, a, b)) (
+      begins_later T flow_scheme inner.own (n.Document (container_rules k).before) (opens_with k) w IsRest IsRest
+          w.events w.scratch _ fit.front inner.starts has.new_after fit.next refl
+          (prefix_tries (n.Document document.ContainerNewAfter) (n.Document (next_opener k)) w
+          (after_all T w.frames) r fit.next_low (λ x. refl))
+          (λ K e. inner.ready _ K r.0.0 e) inner.level (omega arith) fit.falls,
       refl,
     )
 
@@ -134,7 +153,7 @@ pub good_new_after : (T : Scheme) (w : World) → FlowFits T → flow_ready (spo
     Does T (n.Document document.ContainerNewAfter) w (new_after_transition w)
 good_new_after T w has r = (
   turns T flow_scheme _ _ w
-      (closed w w.flags.continued w.flags.line_end).events w.scratch has.new_after has.new_before r (omega arith)
+      (closed w w.flags.continued w.flags.line_end).events w.scratch has.new_after has.first_opener r (omega arith)
       (omega arith),
   refl,
 )
@@ -177,7 +196,7 @@ good_blank_line_before T w true has inner r = (
   refl,
 )
 good_blank_line_before T w false has inner r =
-    looked T _ _ _ _ w (may_with may_begin (looks_behind w)) has.blank_line_before has.first_leaf r (omega arith) (
+    looked T _ _ _ _ w w.flags (may_with may_begin (looks_behind w)) has.blank_line_before has.first_leaf r (omega arith) (
       begins_try T flow_scheme blank_scheme (n.Flow flow.BlankLineBefore) (n.BlankLine blank_line.Start) w IsRest IsRest
           w.events w.scratch _ has.blank_line_before inner has.blank_line_after has.first_leaf refl
           (flow_tries (n.Flow flow.BlankLineAfter) (n.Flow (front_of trials)) w
@@ -193,7 +212,7 @@ pub good_before : (T : Scheme) (l : LeafName) (w : World) → FlowFits T → Lea
 good_before T l w has inner r =
     let a = inner.falls in
     let b = inner.next_low in
-    looked T _ _ _ _ w (may_with (leaf l).may_begin (looks_behind w)) inner.front inner.next r (omega (arith, a, b)) (
+    looked T _ _ _ _ w w.flags (may_with (leaf l).may_begin (looks_behind w)) inner.front inner.next r (omega (arith, a, b)) (
       begins_try T flow_scheme inner.own (n.Flow (leaf l).before) (leaf l).start w IsRest IsRest
           w.events w.scratch _ inner.front inner.starts has.behind inner.next refl
           (flow_tries (n.Flow flow.After) (n.Flow (next_of l)) w

@@ -13,6 +13,7 @@ pub mod SpanLemmas
 pub mod ContentFacts
 pub mod LineTexts
 pub mod RowKinds
+pub mod Openers
 pub mod OutsideFacts
 pub mod BetweenFacts
 pub mod PartedFacts

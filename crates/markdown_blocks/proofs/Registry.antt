@@ -12,6 +12,8 @@ use Rattle.md_engine.specs.declared.state.Name.{Name as StateName}
 use Rattle.md_engine.specs.declared.state.Name.TheVariants as n
 use Rattle.md_engine.specs.declared.state.block_quote.State.{State as QuoteState}
 use Rattle.md_engine.specs.declared.state.block_quote.State.TheVariants as its
+use Rattle.md_engine.specs.declared.state.document.State.{State as DocumentState}
+use Rattle.md_engine.specs.declared.state.document.State.TheVariants as document
 use Rattle.md_engine.specs.declared.state.flow.State.{State as FlowState}
 use Rattle.md_engine.specs.declared.state.flow.State.TheVariants as flow
 use Rattle.md_engine.specs.declared.state.State.TheVariants.{Next}
@@ -41,8 +43,8 @@ use Rattle.markdown_blocks.specs.Leaf.HeadingAtx.{heading_leaf}
 use Rattle.markdown_blocks.specs.Leaf.ThematicBreak.{break_leaf}
 use Rattle.markdown_blocks.specs.Parsed.{IsBuilt}
 use Rattle.markdown_blocks.specs.Registry.{HeadingAtx, LeafName, ThematicBreak, behind, construct_owner}
-use Rattle.markdown_blocks.specs.Registry.{construct_transition, container_rules, first_of, is_own, leaf, new_kind}
-use Rattle.markdown_blocks.specs.Registry.{resolved, text_leaf, trials, tried_at}
+use Rattle.markdown_blocks.specs.Registry.{construct_transition, container_rules, first_of, is_own, leaf, opener_at}
+use Rattle.markdown_blocks.specs.Registry.{openers, openers_behind, resolved, text_leaf, trials, tried_at}
 use Rattle.markdown_blocks.specs.States.{flow_behaves_by, flow_owner, flow_table_scheme}
 use Rattle.markdown_blocks.proofs.BlockQuote.Laws.{quote-laws}
 use Rattle.markdown_blocks.proofs.BlockQuote.Registers.{quote-registers}
@@ -157,8 +159,22 @@ front-own name h = front-heading name h
 pub container-laws : (k : ContainerKind) → ContainerLaws k (container_rules k)
 container-laws kind.BlockQuote = quote-laws
 
+-- each is tried at the state in front of it alone
+pub opener-before : (state : DocumentState) (k : ContainerKind) → opener_at state ≡ Some k →
+    (container_rules k).before ≡ state
+opener-before document.ContainerNewBefore kind.BlockQuote e = refl
+opener-before _ _ e = cc
+
+-- those behind a container are tried behind the first of them, but for it
+abbrev pub NextOpener : List ContainerKind → Type 0
+NextOpener [] = Unit {0}
+NextOpener (k ∷ ks) = openers_behind k ≡ ks
+
 -- what the table has of one: its states have their place in it, and what is left at them is what is asked of it
 pub record ContainerStates (k : ContainerKind) : Type 1 where
+  -- where it is tried, and which is tried next
+  pub tried : opener_at (container_rules k).before ≡ Some k
+  pub next : NextOpener (openers_behind k)
   pub begins : ContainerFits flow_table_scheme (container_rules k).start
   pub begins_is : (options : ParseOptions) (next : Rule) (cells : List Cell) (h : Here) →
       flow_behaves_by options next (container_rules k).start cells h ≡ (container_rules k).begins options cells h
@@ -168,6 +184,8 @@ pub record ContainerStates (k : ContainerKind) : Type 1 where
 
 pub container-states : (k : ContainerKind) → ContainerStates k
 container-states kind.BlockQuote = record {
+  tried = refl;
+  next = tt;
   begins = quote_at its.Start (λ x K rest ends. (rest, ends));
   begins_is = λ options next cells h. refl;
   goes_on = quote_at its.ContStart (λ x K rest ends. (rest, ends));
@@ -181,7 +199,12 @@ container-states kind.BlockQuote = record {
     quote_at state ready =
         record { own = quote_scheme; starts = fits flow_owner (n.BlockQuote state); level = omega arith; ready = ready }
 
--- Of the containers of the line definition it alone opens, where the others are off.
+-- Of the containers of the line definition the first of these opens, where the others are off.
+
+abbrev pub found_by : ParseOptions → Bool → Rest → List ContainerKind → Option Taken
+found_by options interrupting r [] = None
+found_by options interrupting r (k ∷ ks) =
+    option_or ((container_rules k).found options interrupting r) (found_by options interrupting r ks)
 
 item-off : (options : ParseOptions) (interrupting : Bool) (r : Rest) → options.constructs.list_item ≡ false →
     opens_item options interrupting r ≡ None
@@ -194,17 +217,12 @@ unfolding opens_footnote
 footnote-off options r off = rw off refl
 
 pub opens-found : (options : ParseOptions) (interrupting : Bool) (r : Rest) → IsBuilt options →
-    opens options interrupting r ≡ (container_rules new_kind).found options interrupting r
+    opens options interrupting r ≡ found_by options interrupting r openers
 opens-found options interrupting r built =
     ap (λ (o : Option Taken). option_or (opens_quote options r) (option_or o (opens_footnote options r)))
     (item-off options interrupting r built.list_item)
     ∙ ap (λ (o : Option Taken). option_or (opens_quote options r) o)
     (footnote-off options r built.gfm_footnote_definition)
-    ∙ go (opens_quote options r)
-  where
-    go : (o : Option Taken) → option_or o None ≡ o
-    go None = refl
-    go (Some t) = refl
 
 -- States.
 

@@ -1,13 +1,18 @@
 -- The containers that flow reads, by their laws.
-use Rattle.std.proofs.Common.{◌≡◌, ℕ, ◌<◌, Bool, List, [], ◌++◌, length, Option, Some, None, refl, sym, ap, ◌∙◌, subst}
+use Rattle.std.proofs.Common.{◌≡◌, ℕ, ◌<◌, ◌≤◌, Bool, true, false, cond, List, [], ◌∷◌, ◌++◌, length, Option, Some, None}
+use Rattle.std.proofs.Common.{refl, sym, ap, ◌∙◌, subst}
+use Rattle.std.specs.Option.{option_or}
 use Rattle.md_engine.specs.declared.configuration.ParseOptions.{ParseOptions}
 use Rattle.md_engine.specs.declared.event.Point.{Point}
 use Rattle.md_engine.specs.declared.tokenizer.container.Container.{Container as Known}
 use Rattle.md_engine.specs.declared.tokenizer.container.name.ContainerKind.{ContainerKind}
 use Rattle.md_engine.specs.ContainerName.{name_of}
 use Rattle.md_engine.specs.Meaning.{Cell, Here}
+use Rattle.md_engine.specs.World.{container_of}
+use Rattle.md_containers.specs.Interrupts.{interrupts}
 use Rattle.md_containers.proofs.Shorter.{Shortens}
-use Rattle.md_seam.specs.Spaces.{IsRest}
+use Rattle.md_seam.specs.Look.{first_seen}
+use Rattle.md_seam.specs.Spaces.{IsRest, ends_line}
 use Rattle.md_definition.specs.Containers.{Taken, continues, opens}
 use Rattle.md_definition.specs.Preamble.{rest_at}
 use Rattle.md_definition.specs.Rest.{Rest}
@@ -15,27 +20,27 @@ use Rattle.md_definition.specs.State.{Container, container_block}
 use Rattle.md_definition.specs.Tree.{Blocks}
 use Rattle.md_seam.proofs.RestCells.{past_rest, rest_cells}
 use Rattle.markdown_blocks.specs.Parsed.{IsBuilt}
-use Rattle.markdown_blocks.specs.Passed.{Passed, passed_by}
-use Rattle.markdown_blocks.specs.Registry.{MatchesContainer, container_name, container_rules, continues_at, goes_at}
-use Rattle.markdown_blocks.specs.Registry.{goes_by, kind_of, new_container_at, new_kind, opens_at, shape_of}
+use Rattle.markdown_blocks.specs.Passed.{Passed, passed_by, passed_over}
+use Rattle.markdown_blocks.specs.Registry.{IsOf, MatchesContainer, begins_at, container_name, container_rules}
+use Rattle.markdown_blocks.specs.Registry.{continues_at, goes_at, goes_by, goes_over, kind_of, openers, opens_at, opens_by, shape_of}
 use Rattle.markdown_blocks.proofs.ContainerLaws.{ByRest, IsPassed}
 use Rattle.markdown_blocks.proofs.ContainerNames.{container-facts}
 use Rattle.markdown_blocks.proofs.PassedFacts.{Agree, HasFurther, HasOpening}
 use Rattle.markdown_blocks.proofs.PrefixNames.{AreFront}
-use Rattle.markdown_blocks.proofs.Registry.{container-laws, opens-found}
+use Rattle.markdown_blocks.proofs.Registry.{container-laws, found_by, opens-found}
 use Rattle.markdown_blocks.proofs.RegistryRead.{HasKind, IsRead, IsReadTaken, of-read}
 use Rattle.markdown_blocks.proofs.SimpleBlocks.{AreSimple, IsSimple}
 
 -- At the states of flow.
 
 -- each takes a cell at least
-pub new-shortens : (options : ParseOptions) (cells : List Cell) (h : Here) →
-    Shortens (length cells) (new_container_at options cells h)
-new-shortens options cells h = (container-laws new_kind).begins_shorter options cells h
+pub begins-shortens : (options : ParseOptions) (k : ContainerKind) (cells : List Cell) (h : Here) →
+    Shortens (length cells) (begins_at options k cells h)
+begins-shortens options k cells h = (container-laws k).begins_shorter options cells h
 
 pub continues-shortens : (options : ParseOptions) (k : ContainerKind) (cells : List Cell) (h : Here) →
-    Shortens (length cells) (continues_at options k cells h)
-continues-shortens options k cells h = (container-laws k).continues_shorter options cells h
+    ends_line (first_seen cells) ≡ false → Shortens (length cells) (continues_at options k cells h)
+continues-shortens options k cells h ends = (container-laws k).continues_shorter options cells h ends
 
 -- By the cells of a line.
 
@@ -45,20 +50,28 @@ known-name k c is = (container-facts c).held k.kind is.0
 
 -- an open container goes on where its cells say so;
 pub further-is : (options : ParseOptions) (k : Known) (c : Container) (cells : List Cell) (h : Here) →
-    IsRest h.scratch → MatchesContainer k c →
+    IsRest h.scratch → h.flags.asked ≡ k → h.flags.asked_column ≡ h.point.column → MatchesContainer k c →
     continues_at options k.kind cells h ≡ passed_by (goes_at options c cells h.point) h
-further-is options k c cells h rest is =
-    (container-laws k.kind).continues_is options k c cells h rest is.0 is.1
+further-is options k c cells h rest asked column is =
+    (container-laws k.kind).continues_is options k c cells h rest asked column is.0 is.1
     ∙ ap (λ (o : Option ContainerKind). passed_by (goes_by options c cells h.point o) h) (sym is.0)
+
+-- what is held of a container that goes on or opens is of its kind, and matches it
+held-matches : (k : ContainerKind) (t : Passed) → t.held.kind ≡ k → IsOf k t.container →
+    (container_rules k).holds t.held t.container → MatchesContainer t.held t.container
+held-matches k t kind one holds =
+    let P : ContainerKind → Type 0 = λ j. IsOf j t.container × (container_rules j).holds t.held t.container in
+    subst P (sym kind) (one, holds)
 
 -- then it is still the same container,
 pub goes-same : (options : ParseOptions) (k : Known) (c : Container) (cells : List Cell) (p : Point) (t : Passed) →
-    MatchesContainer k c → goes_at options c cells p ≡ Some t → MatchesContainer k t.container
+    MatchesContainer k c → goes_at options c cells p ≡ Some t → MatchesContainer t.held t.container
 goes-same options k c cells p t is e =
     let by : (container_rules k.kind).goes options c cells p ≡ Some t =
     sym (ap (λ (o : Option ContainerKind). goes_by options c cells p o) is.0) ∙ e in
     let rules = container-laws k.kind in
-    ((rules.went options c cells p t is.0 by).one, rules.held_on options k c cells p t is.1 by)
+    let passed = rules.went options c cells p t is.0 by in
+    held-matches k.kind t passed.kind passed.one (rules.held_on options k c cells p t is.1 by)
 
 -- takes a cell at least, and adds events with names of prefixes and of containers
 goes-passes : (options : ParseOptions) (c : Container) (cells : List Cell) (p : Point) (t : Passed) →
@@ -71,32 +84,88 @@ goes-passes options c cells p t e = go (kind_of (shape_of c)) refl e
     go (Some k) is e = (k, (container-laws k).went options c cells p t is e)
 
 pub goes-shorter : (options : ParseOptions) (c : Container) (cells : List Cell) (p : Point) (t : Passed) →
-    goes_at options c cells p ≡ Some t → length t.cells < length cells
-goes-shorter options c cells p t e = (goes-passes options c cells p t e).1.shorter
+    goes_at options c cells p ≡ Some t → ends_line (first_seen cells) ≡ false → length t.cells < length cells
+goes-shorter options c cells p t e ends = (goes-passes options c cells p t e).1.shorter ends
+
+pub goes-within : (options : ParseOptions) (c : Container) (cells : List Cell) (p : Point) (t : Passed) →
+    goes_at options c cells p ≡ Some t → length t.cells ≤ length cells
+goes-within options c cells p t e = (goes-passes options c cells p t e).1.within
+
+-- where the line ends, what is held tells whether it does
+pub goes-over : (options : ParseOptions) (k : Known) (c : Container) (cells : List Cell) (p : Point) →
+    MatchesContainer k c → ends_line (first_seen cells) ≡ true →
+    goes_at options c cells p ≡ cond (goes_over k) (Some (passed_over k c cells p)) None
+goes-over options k c cells p is ends =
+    ap (λ (o : Option ContainerKind). goes_by options c cells p o) is.0
+    ∙ (container-laws k.kind).goes_over options k c cells p is.0 is.1 ends
 
 pub goes-front : (options : ParseOptions) (c : Container) (cells : List Cell) (p : Point) (t : Passed) →
     goes_at options c cells p ≡ Some t → AreFront t.events
 goes-front options c cells p t e = (goes-passes options c cells p t e).1.front
 
--- the same of one that opens
-pub opening-is : (options : ParseOptions) (interrupting : Bool) (cells : List Cell) (h : Here) → IsRest h.scratch →
-    new_container_at options cells h ≡ passed_by (opens_at options interrupting cells h.point) h
-opening-is options interrupting cells h is = (container-laws new_kind).begins_is options interrupting cells h is
+-- the same of one that is tried
+pub opening-is : (options : ParseOptions) (k : ContainerKind) (interrupting : Bool) (cells : List Cell) (h : Here) →
+    IsRest h.scratch → h.flags.asked ≡ container_of k → h.flags.asked_column ≡ h.point.column →
+    interrupting ≡ interrupts h.flags →
+    begins_at options k cells h ≡ passed_by ((container_rules k).opens options interrupting cells h.point) h
+opening-is options k interrupting cells h is asked column by_flags =
+    (container-laws k).begins_is options interrupting cells h is asked column by_flags
+
+-- one that opens is of one of the kinds that are tried
+record IsOpening (cells : List Cell) (t : Passed) : Type 0 where
+  kind : ContainerKind
+  passed : IsPassed kind cells t
+  holds : (container_rules kind).holds t.held t.container
+
+opens-of : (options : ParseOptions) (interrupting : Bool) (cells : List Cell) (p : Point) (ks : List ContainerKind)
+    (t : Passed) →
+    opens_by options interrupting cells p ks ≡ Some t → IsOpening cells t
+opens-of options interrupting cells p [] t e = cc
+opens-of options interrupting cells p (k ∷ ks) t e =
+    go ((container_rules k).opens options interrupting cells p) refl e (opens-of options interrupting cells p ks t)
+  where
+    more : Option Passed
+    more = opens_by options interrupting cells p ks
+
+    go : (o : Option Passed) → (container_rules k).opens options interrupting cells p ≡ o → option_or o more ≡ Some t →
+        (opens_by options interrupting cells p ks ≡ Some t → IsOpening cells t) →
+        IsOpening cells t
+    go None is e further = further e
+    go (Some u) is e further =
+        let rules = container-laws k in
+        record {
+          kind = k;
+          passed = rules.opened options interrupting cells p t (is ∙ e);
+          holds = rules.held_new options interrupting cells p t (is ∙ e);
+        }
+
+-- where the line ends none does
+pub opens-ended : (options : ParseOptions) (interrupting : Bool) (cells : List Cell) (p : Point)
+    (ks : List ContainerKind) →
+    ends_line (first_seen cells) ≡ true → opens_by options interrupting cells p ks ≡ None
+opens-ended options interrupting cells p [] ends = refl
+opens-ended options interrupting cells p (k ∷ ks) ends =
+    ap (λ (o : Option Passed). option_or o (opens_by options interrupting cells p ks))
+    ((container-laws k).opens_not options interrupting cells p ends)
+    ∙ opens-ended options interrupting cells p ks ends
 
 pub opens-same : (options : ParseOptions) (interrupting : Bool) (cells : List Cell) (p : Point) (t : Passed) →
-    opens_at options interrupting cells p ≡ Some t → MatchesContainer (record { kind = new_kind }) t.container
+    opens_at options interrupting cells p ≡ Some t → MatchesContainer t.held t.container
 opens-same options interrupting cells p t e =
-    let rules = container-laws new_kind in
-    ((rules.opened options interrupting cells p t e).one, rules.held_new options interrupting cells p t e)
+    let is = opens-of options interrupting cells p openers t e in
+    held-matches is.kind t is.passed.kind is.passed.one is.holds
 
 pub opens-shorter : (options : ParseOptions) (interrupting : Bool) (cells : List Cell) (p : Point) (t : Passed) →
     opens_at options interrupting cells p ≡ Some t → length t.cells < length cells
-opens-shorter options interrupting cells p t e =
-    ((container-laws new_kind).opened options interrupting cells p t e).shorter
+opens-shorter options interrupting cells p t e = go (ends_line (first_seen cells)) refl
+  where
+    go : (x : Bool) → ends_line (first_seen cells) ≡ x → length t.cells < length cells
+    go true ends = let none = opens-ended options interrupting cells p openers ends in cc
+    go false going = (opens-of options interrupting cells p openers t e).passed.shorter going
 
 pub opens-front : (options : ParseOptions) (interrupting : Bool) (cells : List Cell) (p : Point) (t : Passed) →
     opens_at options interrupting cells p ≡ Some t → AreFront t.events
-opens-front options interrupting cells p t e = ((container-laws new_kind).opened options interrupting cells p t e).front
+opens-front options interrupting cells p t e = (opens-of options interrupting cells p openers t e).passed.front
 
 -- By the cells of a line and by its bytes.
 
@@ -121,12 +190,29 @@ pub opens-agrees : (options : ParseOptions) (interrupting : Bool) → IsBuilt op
     Agree (HasOpening line text past p (past_rest r p) stop cells) (opens_at options interrupting cells p)
     (opens options interrupting r))
 opens-agrees options interrupting built line text past r stop p is h k short =
-    subst (Agree (HasOpening line text past p (past_rest r p) stop cells) (opens_at options interrupting cells p))
-    (sym (opens-found options interrupting r built))
-    ((container-laws new_kind).opens_agrees options interrupting line text past r stop p is h k short)
+    subst (Agree Has (opens_at options interrupting cells p)) (sym (opens-found options interrupting r built))
+    (each openers)
   where
     cells : List Cell
     cells = rest_cells line r p ++ stop
+
+    Has : Passed → Taken → Type 0
+    Has = HasOpening line text past p (past_rest r p) stop (rest_cells line r p ++ stop)
+
+    first : (a c : Option Passed) (b d : Option Taken) → Agree Has a b → Agree Has c d →
+        Agree Has (option_or a c) (option_or b d)
+    first None c None d has more = more
+    first None c (Some t) d has more = absurd has
+    first (Some u) c None d has more = absurd has
+    first (Some u) c (Some t) d has more = has
+
+    each : (ks : List ContainerKind) →
+        Agree Has (opens_by options interrupting cells p ks) (found_by options interrupting r ks)
+    each [] = tt
+    each (j ∷ ks) =
+        first ((container_rules j).opens options interrupting cells p) (opens_by options interrupting cells p ks)
+        ((container_rules j).found options interrupting r) (found_by options interrupting r ks)
+        ((container-laws j).opens_agrees options interrupting line text past r stop p is h k short) (each ks)
 
 -- By the bytes of a line alone.
 
@@ -135,21 +221,32 @@ pub opens-read : (options : ParseOptions) (interrupting : Bool) (r : Rest) → I
     IsReadTaken (opens options interrupting r)
 opens-read options interrupting r built =
     subst IsReadTaken (sym (opens-found options interrupting r built))
-    (go ((container_rules new_kind).found options interrupting r) refl)
+    (each openers)
   where
-    go : (o : Option Taken) → (container_rules new_kind).found options interrupting r ≡ o → IsReadTaken o
-    go None e = tt
-    go (Some t) e = of-read new_kind t.container ((container-laws new_kind).found_one options interrupting r t e)
+    each : (ks : List ContainerKind) → IsReadTaken (found_by options interrupting r ks)
+    each [] = tt
+    each (k ∷ ks) = go ((container_rules k).found options interrupting r) refl (each ks)
+      where
+        go : (o : Option Taken) → (container_rules k).found options interrupting r ≡ o →
+            IsReadTaken (found_by options interrupting r ks) →
+            IsReadTaken (option_or o (found_by options interrupting r ks))
+        go None e more = more
+        go (Some t) e more = of-read k t.container ((container-laws k).found_one options interrupting r t e)
 
--- none goes on over an empty line
-pub empty-ends : (options : ParseOptions) (c : Container) (column : ℕ) → IsRead c →
-    continues options c (rest_at column []) ≡ None
-empty-ends options c column h = go (kind_of (shape_of c)) refl h
+-- over an empty line a container goes on as it is, or it does not
+pub over-empty : (options : ParseOptions) (c : Container) (column : ℕ) → IsRead c →
+    (x : Bool)
+    × (continues options c (rest_at column []) ≡ cond x (Some (record { container = c; rest = rest_at column [] })) None)
+over-empty options c column h = go (kind_of (shape_of c)) refl h
   where
     go : (o : Option ContainerKind) → kind_of (shape_of c) ≡ o → HasKind o →
-        continues options c (rest_at column []) ≡ None
+        (x : Bool)
+        × (continues options c (rest_at column []) ≡
+        cond x (Some (record { container = c; rest = rest_at column [] })) None)
     go None e h = absurd h
-    go (Some k) e h = (container-laws k).empty_ends options c column e
+    go (Some k) e h =
+        let held = (container-laws k).may_hold c e in
+        ((container_rules k).over_empty held.0, (container-laws k).over_empty options held.0 c column e held.1)
 
 -- the block of one, with simple blocks in it, is simple
 pub read-simple : (c : Container) (bs : Blocks) → IsRead c → AreSimple bs → IsSimple (container_block c bs)

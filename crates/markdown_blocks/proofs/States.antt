@@ -11,6 +11,7 @@ use Rattle.md_engine.specs.declared.state.document.State.TheVariants as document
 use Rattle.md_engine.specs.declared.state.flow.State.{State as FlowState}
 use Rattle.md_engine.specs.declared.state.flow.State.TheVariants as flow
 use Rattle.md_engine.specs.declared.state.State.TheVariants.{Next}
+use Rattle.md_engine.specs.declared.tokenizer.container.name.ContainerKind.{ContainerKind}
 use Rattle.md_engine.specs.Scheme.{after_all, spot, stands}
 use Rattle.md_engine.specs.World.{World, looks}
 use Rattle.md_engine.proofs.Local.{fits}
@@ -18,13 +19,15 @@ use Rattle.md_content.proofs.Goods.{ChunkFits, chunk_does}
 use Rattle.md_leaves.proofs.BlankGoods.{BlankFits, blank_does}
 use Rattle.md_seam.proofs.SpacesGoods.{Does, white_does}
 use Rattle.markdown_blocks.specs.Document.{document_own_transition}
-use Rattle.markdown_blocks.specs.Flow.{before_transition, flow_own_transition, leaf_transition}
-use Rattle.markdown_blocks.specs.Registry.{LeafName, front_of, new_kind, trials, tried_at}
-use Rattle.markdown_blocks.specs.States.{flow_owner, flow_table_scheme, flow_transition, leaf_owner}
+use Rattle.markdown_blocks.specs.Flow.{before_transition, flow_own_transition, leaf_transition, new_before_transition}
+use Rattle.markdown_blocks.specs.Flow.{opener_transition}
+use Rattle.markdown_blocks.specs.Registry.{LeafName, front_of, opener_at, opener_front, openers, trials, tried_at}
+use Rattle.markdown_blocks.specs.States.{flow_owner, flow_table_scheme, flow_transition, leaf_owner, opener_owner}
 use Rattle.markdown_blocks.proofs.Goods as goods
 use Rattle.markdown_blocks.proofs.Goods.{FlowFits}
+use Rattle.markdown_blocks.proofs.Openers.{opener-fits}
 use Rattle.markdown_blocks.proofs.Trials.{leaf-fits}
-use Rattle.markdown_blocks.proofs.Registry.{construct-does, container-states, tried-before, white_fits}
+use Rattle.markdown_blocks.proofs.Registry.{construct-does, container-states, opener-before, tried-before, white_fits}
 
 blank_fits : BlankFits flow_table_scheme
 blank_fits = record { white = white_fits; each = λ state. fits flow_owner (n.BlankLine state) }
@@ -36,7 +39,7 @@ flow_fits : FlowFits flow_table_scheme
 flow_fits = record {
   existing_before = fits flow_owner (n.Document document.ContainerExistingBefore);
   existing_after = fits flow_owner (n.Document document.ContainerExistingAfter);
-  new_before = fits flow_owner (n.Document document.ContainerNewBefore);
+  first_opener = fits flow_owner (n.Document (opener_front openers));
   new_after = fits flow_owner (n.Document document.ContainerNewAfter);
   containers_after = fits flow_owner (n.Document document.ContainersAfter);
   flow_end = fits flow_owner (n.Document document.FlowEnd);
@@ -48,19 +51,28 @@ flow_fits = record {
   behind = fits flow_owner (n.Flow flow.After);
 }
 
--- the states between the containers of a line
+-- the states in front of a container that may open,
+opener_does : (state : DocumentState) (o : Option ContainerKind) → opener_at state ≡ o → (w : World) →
+    (opener_owner o).ready (n.Document state) (spot w) (after_all flow_table_scheme w.frames) →
+    Does flow_table_scheme (n.Document state) w (opener_transition o w)
+opener_does state None e w at = absurd at
+opener_does state (Some k) e w at =
+    let P : DocumentState → Type 0 = λ x. Does flow_table_scheme (n.Document x) w (new_before_transition k w) in
+    subst P (opener-before state k e) (goods.good_new_before flow_table_scheme k w flow_fits (opener-fits k) at)
+
+-- and the others between the containers of a line
 containers_do : (state : DocumentState) (w : World) → w.current ≡ looks w →
     stands flow_table_scheme w (Next (n.Document state)) →
     Does flow_table_scheme (n.Document state) w (document_own_transition state w)
 containers_do document.ContainerExistingBefore w c at =
-    goods.good_existing_before flow_table_scheme w _ flow_fits (λ k. (container-states k).goes_on) at
+    goods.good_existing_before flow_table_scheme w _ _ flow_fits (λ k. (container-states k).goes_on) at
 containers_do document.ContainerExistingAfter w c at = goods.good_existing_after flow_table_scheme w flow_fits at
-containers_do document.ContainerNewBefore w c at =
-    goods.good_new_before flow_table_scheme w flow_fits (container-states new_kind).begins at
 containers_do document.ContainerNewAfter w c at = goods.good_new_after flow_table_scheme w flow_fits at
 containers_do document.ContainersAfter w c at = goods.good_containers_after flow_table_scheme w flow_fits at
 containers_do document.FlowEnd w c at = goods.good_flow_end flow_table_scheme w w.current flow_fits at (sym c)
-containers_do state w c at = absurd at
+containers_do document.Start w c at = absurd at
+containers_do document.BeforeFrontmatter w c at = absurd at
+containers_do state w c at = opener_does state (opener_at state) refl w at
 
 -- the states in front of a leaf,
 leaf_does : (state : FlowState) (o : Option LeafName) → tried_at state ≡ o → (w : World) →

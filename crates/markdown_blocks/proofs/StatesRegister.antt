@@ -16,7 +16,8 @@ use Rattle.md_engine.specs.declared.state.Name.{Name as StateName}
 use Rattle.md_engine.specs.declared.state.Name.TheVariants as s
 use Rattle.md_engine.specs.declared.tokenizer.container.Container.{Container}
 use Rattle.md_engine.specs.Resolvers.{same_name}
-use Rattle.md_engine.specs.World.{World, closed}
+use Rattle.md_engine.specs.declared.tokenizer.container.name.ContainerKind.{ContainerKind}
+use Rattle.md_engine.specs.World.{World, closed, container_of}
 use Rattle.md_content.specs.Chunks.{chunk_inside_code, chunk_transition, content_link}
 use Rattle.md_leaves.specs.Blank as blank
 use Rattle.md_seam.specs.Events.Nested.{enter_link, exit}
@@ -25,8 +26,8 @@ use Rattle.md_seam.specs.Spaces as spaces
 use Rattle.md_seam.specs.Spaces.{ends_line, sees_white}
 use Rattle.md_seam.specs.Transition.{entered, exited, taken}
 use Rattle.markdown_blocks.specs.Flow as flow
-use Rattle.markdown_blocks.specs.LineFlags.{ending_name, next_container, stays}
-use Rattle.markdown_blocks.specs.Registry.{LeafName, leaf, may_go_on, may_open, tried_at}
+use Rattle.markdown_blocks.specs.LineFlags.{asking, ending_name, next_container, stays}
+use Rattle.markdown_blocks.specs.Registry.{LeafName, leaf, may_go_on, may_open, opener_at, tried_at}
 use Rattle.markdown_blocks.specs.States.{flow_transition}
 use Rattle.markdown_blocks.proofs.Registers.{Registers, adds, adds-content, closed-registers}
 use Rattle.markdown_blocks.proofs.Registry.{construct-registers}
@@ -54,9 +55,16 @@ blank-before : (w : World) (ends may : Bool) → Registers w → Registers (flow
 blank-before w true may h = h
 blank-before w false may h = trial _ _ _ w may h
 
-existing-before : (w : World) (o : Option Container) → Registers w → Registers (flow.existing_before_code w o).world
-existing-before w None h = h
-existing-before w (Some c) h = trial _ _ _ w (may_with (may_go_on c.kind) (looks_behind w)) h
+existing-before : (w : World) (ends : Bool) (o : Option Container) → Registers w →
+    Registers (flow.existing_before_code w ends o).world
+existing-before w true o h = h
+existing-before w false None h = h
+existing-before w false (Some c) h = trial _ _ _ (asking c w) (may_with (may_go_on c.kind) (looks_behind w)) h
+
+opener-registers : (o : Option ContainerKind) (w : World) → Registers w → Registers (flow.opener_transition o w).world
+opener-registers None w h = h
+opener-registers (Some k) w h =
+    trial _ _ _ (asking (container_of k) w) (may_with (may_open k) (looks_behind w)) h
 
 ending : (w : World) (b : Bool) → Registers w → Registers (exited (taken (entered w (ending_name b))) (ending_name b))
 ending w true h = adds _ _ w.resolvers refl refl (adds w.events _ w.resolvers refl refl h)
@@ -95,13 +103,16 @@ blank-registers blank_line.After w h = blank-after w (ends_line w.current) h
 -- between the containers of a line, and in front of a leaf and behind it
 containers-register : (state : DocumentState) (w : World) → Registers w →
     Registers (document_own_transition state w).world
-containers-register document.ContainerExistingBefore w h = existing-before w (next_container w.flags) h
-containers-register document.ContainerNewBefore w h = trial _ _ _ w (may_with may_open (looks_behind w)) h
+containers-register document.ContainerExistingBefore w h = existing-before w (ends_line w.current) (next_container w.flags) h
 containers-register document.ContainerNewAfter w h = closed-registers w w.flags.continued w.flags.line_end h
 containers-register document.FlowEnd w h =
     flow-end (closed w (stays w.flags) w.flags.line_end) w.current
     (closed-registers w (stays w.flags) w.flags.line_end h)
-containers-register _ w h = h
+containers-register document.Start w h = h
+containers-register document.BeforeFrontmatter w h = h
+containers-register document.ContainerExistingAfter w h = h
+containers-register document.ContainersAfter w h = h
+containers-register state w h = opener-registers (opener_at state) w h
 
 leaf-registers : (o : Option LeafName) (w : World) → Registers w → Registers (flow.leaf_transition o w).world
 leaf-registers None w h = h

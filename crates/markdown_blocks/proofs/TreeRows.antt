@@ -2,7 +2,7 @@
 use Rattle.md_engine.specs.declared.tokenizer.held_leaf.HeldLeaf.TheVariants as held_leaf
 use Rattle.md_engine.specs.declared.tokenizer.held_leaf.HeldLeaf.{HeldLeaf}
 use Rattle.std.proofs.Common.{◌≡◌, ℕ, zero, suc, ◌-◌, Bool, true, false, cond, not, ◌==◌, ◌&&◌, ◌||◌, List, [], ◌∷◌}
-use Rattle.std.proofs.Common.{◌++◌, map, length, drop, refl, ap, sym, ◌∙◌, subst, inl, inr, ◌⊎◌}
+use Rattle.std.proofs.Common.{◌++◌, map, length, drop, take, refl, ap, sym, ◌∙◌, subst, inl, inr, ◌⊎◌}
 use Rattle.std.specs.Prelude.{Option, Some, None}
 use Rattle.std.specs.List.{onto_first}
 use Rattle.std.proofs.lemmas.List.{map-append}
@@ -10,7 +10,7 @@ use Rattle.std.proofs.lemmas.List.Sums.{take_while-cons}
 use Rattle.md_engine.specs.declared.configuration.ParseOptions.{ParseOptions}
 use Rattle.md_engine.specs.declared.event.Point.{Point}
 use Rattle.md_engine.specs.Place.{first_point}
-use Rattle.md_definition.specs.Containers.{Taken, opens}
+use Rattle.md_definition.specs.Containers.{Taken, continues, opens}
 use Rattle.md_definition.specs.Grouped.{grouped}
 use Rattle.md_definition.specs.Lines.{begins_with, ends_line, full_lines_of, is_ending, lines_of, without_ending}
 use Rattle.md_definition.specs.Meaning.{tree, with_frontmatter}
@@ -19,7 +19,7 @@ use Rattle.md_definition.specs.Preamble.{rests_at, without_mark}
 use Rattle.md_definition.specs.Rest.{Rest}
 use Rattle.md_seam.specs.Events.Spelled.{spelled}
 use Rattle.md_definition.specs.State.{At, Container, Kept, Leaf, Path, Spot, Within, closed, container_block, kept}
-use Rattle.md_definition.specs.State.{shut, texts, then_leaf}
+use Rattle.md_definition.specs.State.{shut, texts, then_block, then_leaf}
 use Rattle.md_definition.specs.Step.{fresh_line, spot_of, step, steps}
 use Rattle.md_definition.specs.Texts.{split_lines}
 use Rattle.md_definition.specs.Tree.{Blocks, End}
@@ -46,7 +46,7 @@ use Rattle.markdown_blocks.proofs.SpelledRows.{spelled-rows}
 use Rattle.markdown_blocks.proofs.Registry.{leaf-simple, text-laws}
 use Rattle.markdown_blocks.proofs.SimpleBlocks.{AreSimple, grouped-blocks, shallow-blocks, simple-then}
 use Rattle.markdown_blocks.proofs.RegistryRead.{AreRead, IsRead, IsReadTaken, read-front, shapes-read}
-use Rattle.markdown_blocks.proofs.RegistryContainers.{empty-ends, opens-read, read-simple}
+use Rattle.markdown_blocks.proofs.RegistryContainers.{opens-read, over-empty, read-simple}
 use Rattle.md_outline.specs.HeadingDepths.{are_shallow}
 
 -- Containers that flow reads alone are open: those that stay on a line,
@@ -201,10 +201,13 @@ simple-come options rs built =
 
 -- An empty line at the end adds nothing.
 
+-- some of the outermost containers go on over it, and the others end
 on-empty : (options : ParseOptions) (cs : List Container) (column : ℕ) → AreRead cs →
-    prefixes_on options cs (rest_at column []) ≡ no_prefix (rest_at column [])
-on-empty options [] column read = refl
-on-empty options (c ∷ cs) column read = ap by (empty-ends options c column read.0)
+    (n : ℕ)
+    × (prefixes_on options cs (rest_at column []) ≡ record { containers = take n cs; rest = rest_at column [] })
+on-empty options [] column read = (0, refl)
+on-empty options (c ∷ cs) column read =
+    let over = over-empty options c column read.0 in go over.0 over.1 (on-empty options cs column read.1)
   where
     by : Option Taken → Prefixed
     by o = elim o [
@@ -212,22 +215,57 @@ on-empty options (c ∷ cs) column read = ap by (empty-ends options c column rea
       | Some t ↦ one_more t.container (prefixes_on options cs t.rest)
     ]
 
+    go : (x : Bool) →
+        continues options c (rest_at column []) ≡
+        cond x (Some (record { container = c; rest = rest_at column [] })) None →
+        (n : ℕ)
+        × (prefixes_on options cs (rest_at column []) ≡ record { containers = take n cs; rest = rest_at column [] }) →
+        (n : ℕ)
+        × (prefixes_on options (c ∷ cs) (rest_at column []) ≡
+        record { containers = take n (c ∷ cs); rest = rest_at column [] })
+    go true e more = (suc more.0, ap by e ∙ ap (one_more c) more.1)
+    go false e more = (0, ap by e)
+
+-- behind such a line all is as it was, once it is closed
+closed-empty : (options : ParseOptions) (n : ℕ) (p : Path) (column : ℕ) → IsBuilt options →
+    closed options
+    (behind_path (kept_to options (take n (containers_of p)) p)
+    (λ (bs : Blocks). At (fresh_line options bs (rest_at column [])))) ≡
+    closed options p
+closed-empty options zero p column built =
+    ap (λ (s : Spot). closed options (At s)) (fresh-found options (closed options p) (rest_at column []) built)
+closed-empty options (suc n) (At s) column built =
+    ap (λ (x : Spot). closed options (At x)) (fresh-found options (closed options (At s)) (rest_at column []) built)
+closed-empty options (suc n) (Within before c p) column built =
+    ap (λ (bs : Blocks). then_block before (container_block c bs)) (closed-empty options n p column built)
+
 step-empty : (options : ParseOptions) (p : Path) (column : ℕ) → IsBuilt options → IsPlain p →
     AreRead (containers_of p) → closed options (step options p (rest_at column [])) ≡ closed options p
 step-empty options p column built plain read =
     ap (closed options) (step-new options p r built plain)
-    ∙ ap (λ (on : Prefixed). closed options (stepped_on options p on)) (on-empty options (containers_of p) column read)
+    ∙ ap (λ (on : Prefixed). closed options (stepped_on options p on)) on.1
     ∙ go (still_of p)
-    ∙ ap (λ (s : Spot). closed options (At s)) (fresh-found options (closed options p) r built)
+    ∙ closed-empty options on.0 p column built
   where
     r : Rest
     r = rest_at column []
 
+    on : (n : ℕ) × (prefixes_on options (containers_of p) r ≡ record { containers = take n (containers_of p); rest = r })
+    on = on-empty options (containers_of p) column read
+
+    went : List Container
+    went = take on.0 (containers_of p)
+
+    other : Path
+    other =
+        behind_path (kept_to options (take on.0 (containers_of p)) p)
+        (λ (bs : Blocks). At (fresh_line options bs (rest_at column [])))
+
     go : (x : HeldLeaf) →
         closed options
-        (cond (is_lazy x [] BlankRow) (longer (renewed (containers_of p) p) (kept r ∷ []))
-        (At (fresh_line options (closed options p) r))) ≡
-        closed options (At (fresh_line options (closed options p) r))
+        (cond (is_lazy x [] BlankRow)
+        (longer (renewed (went ++ others_of (containers_of p) went) p) (kept r ∷ [])) other) ≡
+        closed options other
     go held_leaf.Text = refl
     go held_leaf.None = refl
 

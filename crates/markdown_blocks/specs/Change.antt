@@ -1,5 +1,5 @@
 -- What a line does to the containers that are open before it.
-use Rattle.markdown_blocks.specs.HeldLeaf.{is_interrupted}
+use Rattle.md_containers.specs.Interrupts.{is_interrupted}
 use Rattle.md_engine.specs.declared.tokenizer.held_leaf.HeldLeaf.{HeldLeaf}
 use Rattle.std.specs.Prelude.{Bool, true, false, ◌&&◌, List, [], ◌∷◌, ◌++◌, length, drop}
 use Rattle.md_engine.specs.declared.event.Event.{Event}

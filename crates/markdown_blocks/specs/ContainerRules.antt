@@ -6,6 +6,7 @@ use Rattle.std.specs.Prelude.{ℕ, Bool, List, Option}
 use Rattle.md_engine.specs.declared.configuration.ParseOptions.{ParseOptions}
 use Rattle.md_engine.specs.declared.event.Point.{Point}
 use Rattle.md_engine.specs.declared.state.Name.{Name as StateName}
+use Rattle.md_engine.specs.declared.state.document.State.{State as DocumentState}
 use Rattle.md_engine.specs.declared.tokenizer.container.Container.{Container as Held}
 use Rattle.md_engine.specs.Meaning.{Cell, Here, Outcome}
 use Rattle.md_definition.specs.Containers.{Taken}
@@ -14,7 +15,9 @@ use Rattle.md_definition.specs.State.{Container}
 use Rattle.markdown_blocks.specs.Passed.{Passed}
 
 pub record ContainerRules : Type 1 where
-  -- The state where it may open, and the one in front of its prefix on a further line, each with what is left there.
+  -- The state of the document in front of it, where it may open; its own first state there, and the one in front of
+  -- its prefix on a further line, each with what is left there.
+  pub before : DocumentState
   pub start : StateName
   pub begins : ParseOptions → List Cell → Here → Outcome
   pub further : StateName
@@ -30,5 +33,7 @@ pub record ContainerRules : Type 1 where
   -- By the rest of a line: the one that opens. Which open one goes on, the line definition says of all containers at
   -- once.
   pub found : ParseOptions → Bool → Rest → Option Taken
-  -- What the tokenizer holds of an open one, beside its kind: what the events do not tell.
+  -- Whether one that is held so goes on where the line ends, and takes nothing: then it is not asked.
+  pub over_empty : Held → Bool
+  -- What the tokenizer holds of an open one: beside its kind what the events do not tell.
   pub holds : Held → Container → Type 0

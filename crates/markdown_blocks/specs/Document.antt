@@ -20,7 +20,8 @@ use Rattle.md_seam.specs.Spaces.{rest_ready}
 use Rattle.md_seam.specs.Transition.{Transition, tried}
 use Rattle.markdown_blocks.specs.Flow.{containers_after_transition, existing_after_transition}
 use Rattle.markdown_blocks.specs.Flow.{existing_before_transition, flow_end_transition, new_after_transition}
-use Rattle.markdown_blocks.specs.Flow.{new_before_transition}
+use Rattle.markdown_blocks.specs.Flow.{opener_transition}
+use Rattle.markdown_blocks.specs.Registry.{opener_at}
 
 -- States.
 
@@ -41,11 +42,10 @@ document_own_transition document.Start w = start_transition w
 document_own_transition document.BeforeFrontmatter w = before_frontmatter_transition w
 document_own_transition document.ContainerExistingBefore w = existing_before_transition w
 document_own_transition document.ContainerExistingAfter w = existing_after_transition w
-document_own_transition document.ContainerNewBefore w = new_before_transition w
 document_own_transition document.ContainerNewAfter w = new_after_transition w
 document_own_transition document.ContainersAfter w = containers_after_transition w
 document_own_transition document.FlowEnd w = flow_end_transition w
-document_own_transition _ w = record { to = Nok; world = w }
+document_own_transition state w = opener_transition (opener_at state) w
 
 abbrev pub document_rank : StateName → Spot → Rank
 document_rank (s.Document document.Start) x = ranked 2 refl

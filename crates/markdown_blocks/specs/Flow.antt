@@ -9,16 +9,18 @@ use Rattle.md_engine.specs.declared.state.content.State.TheVariants as content
 use Rattle.md_engine.specs.declared.state.document.State.TheVariants as document
 use Rattle.md_engine.specs.declared.state.State.TheVariants.{Ok, Nok, Next, Retry}
 use Rattle.md_engine.specs.declared.tokenizer.container.Container.{Container}
+use Rattle.md_engine.specs.declared.tokenizer.container.name.ContainerKind.{ContainerKind}
 use Rattle.md_engine.specs.Scheme.{After, Rank, Scheme, Spot, ranked}
-use Rattle.md_engine.specs.World.{World, closed}
+use Rattle.md_engine.specs.World.{World, closed, container_of}
 use Rattle.md_leaves.specs.Blank as blank
 use Rattle.md_seam.specs.Look.{looks_behind, may_with}
 use Rattle.md_seam.specs.Spaces.{ends_line, rest_ready}
 use Rattle.md_seam.specs.Transition.{Transition, entered, exited, taken, tried}
-use Rattle.markdown_blocks.specs.LineFlags.{begun_line, blanked, ending_name, next_container, next_line, stays, went_on}
-use Rattle.markdown_blocks.specs.LineFlags.{with_container}
-use Rattle.markdown_blocks.specs.Registry.{LeafName, first_container, front_of, goes_on_with, leaf, may_go_on, may_open}
-use Rattle.markdown_blocks.specs.Registry.{new_kind, next_of, rank_of, trials, tried_at, tries_of}
+use Rattle.markdown_blocks.specs.LineFlags.{asking, begun_line, blanked, ending_name, next_container, next_line, stays}
+use Rattle.markdown_blocks.specs.LineFlags.{ended_on, went_on, with_container}
+use Rattle.markdown_blocks.specs.Registry.{LeafName, front_of, goes_on_with, leaf, may_go_on, may_open, next_of}
+use Rattle.markdown_blocks.specs.Registry.{next_opener, opener_at, opener_front, opener_rank, opener_tries, openers}
+use Rattle.markdown_blocks.specs.Registry.{opens_with, rank_of, trials, tried_at, tries_of}
 
 -- What is tried.
 
@@ -64,31 +66,39 @@ blank_line_after_transition w =
 
 -- Containers.
 
--- by the container that may go on
-abbrev pub existing_before_code : World → Option Container → Transition
-existing_before_code w None = record { to = Retry (s.Document document.ContainerNewBefore); world = w }
-existing_before_code w (Some c) =
+-- by whether the line ends here, where none is asked and none opens, and by the container that may go on
+abbrev pub existing_before_code : World → Bool → Option Container → Transition
+existing_before_code w true o =
+    record { to = Retry (s.Document document.ContainersAfter); world = record w { flags = ended_on w.flags } }
+existing_before_code w false None = record { to = Retry (s.Document (opener_front openers)); world = w }
+existing_before_code w false (Some c) =
     trial_code (goes_on_with c.kind) (s.Document document.ContainerExistingAfter)
-    (s.Document document.ContainerNewBefore) w (may_with (may_go_on c.kind) (looks_behind w))
+    (s.Document (opener_front openers)) (asking c w) (may_with (may_go_on c.kind) (looks_behind w))
 
 abbrev pub existing_before_transition : World → Transition
-existing_before_transition w = existing_before_code w (next_container w.flags)
+existing_before_transition w = existing_before_code w (ends_line w.current) (next_container w.flags)
 
 abbrev pub existing_after_transition : World → Transition
 existing_after_transition w =
     record { to = Retry (s.Document document.ContainerExistingBefore); world = record w { flags = went_on w.flags } }
 
-abbrev pub new_before_transition : World → Transition
-new_before_transition w =
-    trial_code first_container (s.Document document.ContainerNewAfter) (s.Document document.ContainersAfter) w
-    (may_with may_open (looks_behind w))
+-- in front of a container that may open
+abbrev pub new_before_transition : ContainerKind → World → Transition
+new_before_transition k w =
+    trial_code (opens_with k) (s.Document document.ContainerNewAfter) (s.Document (next_opener k))
+    (asking (container_of k) w) (may_with (may_open k) (looks_behind w))
+
+-- by the one that is tried at a state; those that are not built refuse
+abbrev pub opener_transition : Option ContainerKind → World → Transition
+opener_transition None w = record { to = Nok; world = w }
+opener_transition (Some k) w = new_before_transition k w
 
 abbrev pub new_after_transition : World → Transition
 new_after_transition w =
     let v = closed w w.flags.continued w.flags.line_end in
     record {
-      to = Retry (s.Document document.ContainerNewBefore);
-      world = record v { flags = with_container new_kind v.flags };
+      to = Retry (s.Document (opener_front openers));
+      world = record v { flags = with_container v.flags };
     }
 
 abbrev pub containers_after_transition : World → Transition
@@ -126,20 +136,23 @@ flow_own_transition flow.BlankLineAfter w = blank_line_after_transition w
 flow_own_transition flow.After w = after_transition w
 flow_own_transition state w = leaf_transition (tried_at state) w
 
--- all leaves count in what stands in front of them
+-- all leaves, and all containers that may open, count in what stands in front of them
 abbrev leaves : ℕ
 leaves = 2 * length trials
+
+abbrev opening : ℕ
+opening = leaves + 2 * length openers
 
 abbrev pub leaf_rank : Option LeafName → Rank
 leaf_rank None = ranked 0 refl
 leaf_rank (Some l) = rank_of l
 
 abbrev pub flow_rank : StateName → Rank
-flow_rank (s.Document document.ContainerExistingAfter) = ranked (14 + leaves) refl
-flow_rank (s.Document document.ContainerExistingBefore) = ranked (13 + leaves) refl
-flow_rank (s.Document document.ContainerNewAfter) = ranked (11 + leaves) refl
-flow_rank (s.Document document.ContainerNewBefore) = ranked (10 + leaves) refl
+flow_rank (s.Document document.ContainerExistingAfter) = ranked (11 + opening) refl
+flow_rank (s.Document document.ContainerExistingBefore) = ranked (10 + opening) refl
+flow_rank (s.Document document.ContainerNewAfter) = ranked (9 + opening) refl
 flow_rank (s.Document document.ContainersAfter) = ranked (8 + leaves) refl
+flow_rank (s.Document state) = opener_rank (opener_at state)
 flow_rank (s.Flow flow.Start) = ranked (7 + leaves) refl
 flow_rank (s.Flow flow.BlankLineBefore) = ranked (6 + leaves) refl
 flow_rank (s.Flow flow.BeforeContent) = ranked 4 refl
@@ -153,8 +166,8 @@ leaf_tries None = ranked 2 refl
 leaf_tries (Some l) = tries_of l
 
 abbrev pub flow_tries : StateName → Rank
-flow_tries (s.Document document.ContainerNewBefore) = ranked (12 + leaves) refl
 flow_tries (s.Document document.ContainersAfter) = ranked (9 + leaves) refl
+flow_tries (s.Document state) = opener_tries (opener_at state)
 flow_tries (s.Flow flow.BeforeContent) = ranked 5 refl
 flow_tries (s.Flow state) = leaf_tries (tried_at state)
 flow_tries _ = ranked 2 refl

@@ -1,6 +1,6 @@
 -- What is left at each state of the lines of a text: the lines that are still to come, each by its containers and the
 -- block that takes the rest of it.
-use Rattle.std.specs.Prelude.{◌≡◌, ℕ, zero, suc, ◌==◌, Option, Some, None, if◌then◌else◌, List, [], ◌∷◌, ◌++◌, length}
+use Rattle.std.specs.Prelude.{◌≡◌, ℕ, zero, suc, Bool, true, false, ◌==◌, Option, Some, None, if◌then◌else◌, List, [], ◌∷◌, ◌++◌, length}
 use Rattle.md_engine.specs.declared.configuration.ParseOptions.{ParseOptions}
 use Rattle.md_engine.specs.declared.state.Name.TheVariants as s
 use Rattle.md_engine.specs.declared.state.document.State.{State as DocumentState}
@@ -11,14 +11,16 @@ use Rattle.md_engine.specs.declared.tokenizer.container.Container.{Container}
 use Rattle.md_engine.specs.declared.tokenizer.container.name.ContainerKind.{ContainerKind}
 use Rattle.md_engine.specs.declared.tokenizer.Scratch.{Scratch}
 use Rattle.md_engine.specs.Meaning.{Accepts, Behaviour, Cell, Fails, Here, Outcome, Refuses}
-use Rattle.md_engine.specs.World.{Flags, closed_events, kept}
+use Rattle.md_engine.specs.World.{Flags, closed_events, container_of, kept}
 use Rattle.md_content.specs.ChunkRule.{HasChunk, chunk_at}
 use Rattle.md_leaves.specs.BlankRule.{HasBlank, blank_at}
 use Rattle.md_seam.specs.Events.Nested.{pair}
-use Rattle.markdown_blocks.specs.Registry.{LeafName, behind, continues_at, first_container, goes_on_with, leaf}
-use Rattle.markdown_blocks.specs.Registry.{new_container_at, new_kind, trials, tried_at}
-use Rattle.markdown_blocks.specs.LineFlags.{begun_line, blanked, ending_name, next_container, next_line, stays, went_on}
-use Rattle.markdown_blocks.specs.LineFlags.{with_container}
+use Rattle.md_seam.specs.Look.{first_seen}
+use Rattle.md_seam.specs.Spaces.{ends_line}
+use Rattle.markdown_blocks.specs.Registry.{LeafName, begins_at, behind, continues_at, goes_on_with, leaf, opener_at, openers}
+use Rattle.markdown_blocks.specs.Registry.{openers_behind, opens_with, trials, tried_at}
+use Rattle.markdown_blocks.specs.LineFlags.{asks, begun_line, blanked, ending_name, next_container, next_line, stays}
+use Rattle.markdown_blocks.specs.LineFlags.{ended_on, went_on, with_container}
 
 -- how the rest of a text ends from a place
 abbrev pub Rule : Type 0
@@ -84,31 +86,55 @@ leaf_of options next cells h =
 abbrev pub behind_containers : ParseOptions → Rule → Rule
 behind_containers options next cells h = leaf_of options next cells (record h { flags = begun_line h.flags })
 
+-- this one is asked whether it goes on, or tried
+abbrev pub asking_here : Container → Here → Here
+asking_here c h = record h { flags = asks c h.point.column h.flags }
+
 -- a container opens, and those that did not go on end
 abbrev pub opened : Here → Here
-opened h = let k = ended_to h.flags.continued h.flags.line_end h in record k { flags = with_container new_kind k.flags }
+opened h = let k = ended_to h.flags.continued h.flags.line_end h in record k { flags = with_container k.flags }
+
+-- these are tried one after another: the first that opens goes on in one way, and where none does the line in another
+abbrev pub opens_of : ParseOptions → Rule → Rule → List ContainerKind → Rule
+opens_of options onward otherwise [] cells h = otherwise cells h
+opens_of options onward otherwise (k ∷ ks) cells h =
+    tried (begins_at options k cells (asking_here (container_of k) h)) onward
+    (λ s g. opens_of options onward otherwise ks cells (record h { scratch = s; flags = g }))
 
 -- containers open as often as they do
 unfoldable pub new_from : ParseOptions → Rule → ℕ → Rule
 new_from options next zero cells h = behind_containers options next cells h
 new_from options next (suc n) cells h =
-    tried (new_container_at options cells h) (λ rest k. new_from options next n rest (opened k))
-    (λ s g. behind_containers options next cells (record h { scratch = s; flags = g }))
+    opens_of options (λ rest k. new_from options next n rest (opened k)) (behind_containers options next) openers
+    cells h
 
 unfoldable pub new_of : ParseOptions → Rule → Rule
 new_of options next cells h = new_from options next (suc (length cells)) cells h
+
+-- what is left in front of these
+abbrev pub openers_of : ParseOptions → Rule → List ContainerKind → Rule
+openers_of options next ks cells h =
+    opens_of options (λ rest k. new_of options next rest (opened k)) (behind_containers options next) ks cells h
 
 -- each container is asked whether it goes on, from the outermost in, until one does not
 abbrev pub existing_by : ParseOptions → Rule → Rule → Option Container → Rule
 existing_by options next further None cells h = new_of options next cells h
 existing_by options next further (Some c) cells h =
-    tried (continues_at options c.kind cells h) (λ rest k. further rest (record k { flags = went_on k.flags }))
+    tried (continues_at options c.kind cells (asking_here c h))
+    (λ rest k. further rest (record k { flags = went_on k.flags }))
     (λ s g. new_of options next cells (record h { scratch = s; flags = g }))
+
+-- by whether the line ends here: then none is asked, and none opens
+abbrev pub existing_at : ParseOptions → Rule → Rule → Bool → Rule
+existing_at options next further true cells h =
+    behind_containers options next cells (record h { flags = ended_on h.flags })
+existing_at options next further false cells h =
+    existing_by options next further (next_container h.flags) cells h
 
 unfoldable pub existing_from : ParseOptions → Rule → ℕ → Rule
 existing_from options next zero cells h = new_of options next cells h
 existing_from options next (suc n) cells h =
-    existing_by options next (existing_from options next n) (next_container h.flags) cells h
+    existing_at options next (existing_from options next n) (ends_line (first_seen cells)) cells h
 
 unfoldable pub line_then : ParseOptions → Rule → Rule
 line_then options next cells h = existing_from options next (suc (length cells)) cells h
@@ -122,16 +148,21 @@ flow_lines options (suc n) cells h = line_then options (flow_lines options n) ce
 unfoldable pub flow_at : ParseOptions → Rule
 flow_at options cells h = flow_lines options (suc (length cells)) cells h
 
--- what is left by a rule for what follows behind the line: at each state between the containers of a line,
+-- what is left by a rule for what follows behind the line: at each state in front of a container that may open, by the
+-- one that is tried there,
+abbrev pub opener_behaves : ParseOptions → Rule → Option ContainerKind → Rule
+opener_behaves options next None cells h = Refuses h.scratch h.flags
+opener_behaves options next (Some k) cells h = openers_of options next (k ∷ openers_behind k) cells h
+
+-- at each other between the containers of a line,
 abbrev pub containers_behave : ParseOptions → Rule → DocumentState → Rule
 containers_behave options next document.ContainerExistingBefore cells h = line_then options next cells h
 containers_behave options next document.ContainerExistingAfter cells h =
     line_then options next cells (record h { flags = went_on h.flags })
-containers_behave options next document.ContainerNewBefore cells h = new_of options next cells h
 containers_behave options next document.ContainerNewAfter cells h = new_of options next cells (opened h)
 containers_behave options next document.ContainersAfter cells h = behind_containers options next cells h
 containers_behave options next document.FlowEnd cells h = line_ended next cells h
-containers_behave options next _ cells h = Refuses h.scratch h.flags
+containers_behave options next state cells h = opener_behaves options next (opener_at state) cells h
 
 -- at each state in front of a leaf, by the leaf that is tried there,
 abbrev pub leaf_behaves : ParseOptions → Rule → Option LeafName → Rule
@@ -151,7 +182,7 @@ pub record HasFlow (B : Behaviour) (options : ParseOptions) (next : Rule) : Type
   pub blank : HasBlank B
   pub chunk : HasChunk B
   pub starts : (l : LeafName) (cells : List Cell) (h : Here) → B (leaf l).start cells h ≡ (leaf l).trial options cells h
-  pub opens : (cells : List Cell) (h : Here) → B first_container cells h ≡ new_container_at options cells h
+  pub opens : (k : ContainerKind) (cells : List Cell) (h : Here) → B (opens_with k) cells h ≡ begins_at options k cells h
   pub goes_on : (k : ContainerKind) (cells : List Cell) (h : Here) →
       B (goes_on_with k) cells h ≡ continues_at options k cells h
   pub containers : (state : DocumentState) (cells : List Cell) (h : Here) →

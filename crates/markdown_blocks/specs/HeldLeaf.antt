@@ -3,7 +3,7 @@
 -- A kind that keeps more than its name between lines (the fence of fenced code, the kind of HTML, where indented code
 -- ends) keeps it in
 -- `HeldLeaf`; what it is by the line definition is said here, and so is whether containers may open in it, once one may
--- not.
+-- not. Whether a container that opens interrupts it, containers ask themselves (`is_interrupted` of `Interrupts`).
 use Rattle.std.specs.Prelude.{◌≡◌, Bool, true, false}
 use Rattle.md_engine.specs.declared.tokenizer.held_leaf.HeldLeaf.{HeldLeaf}
 use Rattle.md_engine.specs.declared.tokenizer.held_leaf.HeldLeaf.TheVariants as held_leaf
@@ -14,11 +14,6 @@ use Rattle.markdown_blocks.specs.Leaf.Paragraph.{IsOpenText}
 abbrev pub takes_lazy : HeldLeaf → Bool
 takes_lazy held_leaf.None = false
 takes_lazy held_leaf.Text = true
-
--- whether a container that opens behind all others interrupts it
-abbrev pub is_interrupted : HeldLeaf → Bool
-is_interrupted held_leaf.None = false
-is_interrupted held_leaf.Text = true
 
 -- the kind of an open leaf of the line definition
 abbrev pub kind_of_leaf : Leaf → HeldLeaf

@@ -1,28 +1,46 @@
 -- What the document knows of its containers, and how each step of a line changes it.
 use Rattle.markdown_blocks.specs.HeldLeaf.{takes_lazy}
-use Rattle.std.specs.Prelude.{ℕ, suc, Bool, true, false, ◌&&◌, nat_lt, if◌then◌else◌, [], ◌∷◌, ◌++◌, length, slice_get}
-use Rattle.std.specs.Prelude.{Option}
+use Rattle.std.specs.Prelude.{ℕ, suc, ◌+◌, Bool, true, false, ◌&&◌, nat_lt, if◌then◌else◌, List, [], ◌∷◌, ◌++◌}
+use Rattle.std.specs.Prelude.{drop, length, slice_get, slice_set, Option}
 use Rattle.md_engine.specs.declared.event.Name.{Name}
 use Rattle.md_engine.specs.declared.event.Name.TheVariants.{BlankLineEnding, LineEnding}
 use Rattle.md_engine.specs.declared.tokenizer.container.Container.{Container}
-use Rattle.md_engine.specs.declared.tokenizer.container.ContainerKind.{ContainerKind}
 use Rattle.md_engine.specs.declared.tokenizer.held_leaf.HeldLeaf.TheVariants as held_leaf
-use Rattle.md_engine.specs.declared.tokenizer.container.name.ContainerKind.{ContainerKind}
-use Rattle.md_engine.specs.World.{Flags}
+use Rattle.md_engine.specs.World.{Flags, World}
+use Rattle.markdown_blocks.specs.Registry.{goes_over}
 
 -- the outermost container that was not asked yet whether it goes on
 abbrev pub next_container : Flags → Option Container
 next_container g = slice_get g.containers g.continued
 
--- one more goes on
-abbrev pub went_on : Flags → Flags
-went_on g = record g { continued = if nat_lt g.continued (length g.containers) then suc g.continued else g.continued }
+-- this container is asked whether it goes on, or tried, where this column is
+abbrev pub asks : Container → ℕ → Flags → Flags
+asks c column g = record g { asked = c; asked_column = column }
 
--- a container of this kind opens, where those that did not go on have ended: no paragraph is open in it
-abbrev pub with_container : ContainerKind → Flags → Flags
-with_container k g = record g {
-  containers = g.containers ++ record { kind = k } ∷ [];
-  continued = length (g.containers ++ record { kind = k } ∷ []);
+abbrev pub asking : Container → World → World
+asking c w = record w { flags = asks c w.point.column w.flags }
+
+-- the one that was asked goes on, and is held as it is behind its prefix
+abbrev pub went_on : Flags → Flags
+went_on g = record g {
+  containers = slice_set g.containers g.continued g.asked;
+  continued = if nat_lt g.continued (length g.containers) then suc g.continued else g.continued;
+}
+
+-- how many of these go on where the line ends, up to the first that does not
+abbrev pub over_end : List Container → ℕ
+over_end [] = 0
+over_end (c ∷ cs) = if goes_over c then suc (over_end cs) else 0
+
+-- where the line ends none is asked
+abbrev pub ended_on : Flags → Flags
+ended_on g = record g { continued = g.continued + over_end (drop g.continued g.containers) }
+
+-- the one that was tried opens, where those that did not go on have ended: no paragraph is open in it
+abbrev pub with_container : Flags → Flags
+with_container g = record g {
+  containers = g.containers ++ g.asked ∷ [];
+  continued = length (g.containers ++ g.asked ∷ []);
   leaf = held_leaf.None;
 }
 

@@ -1,5 +1,6 @@
 -- The constructs that are built, and their order: the one place of the frame's definitions that names them.
 use Rattle.std.specs.Prelude.{◌≡◌, refl, Bool, ℕ, suc, ◌+◌, ◌*◌, nat_lt, true, ◌==◌, if◌then◌else◌, List, [], ◌∷◌}
+use Rattle.std.specs.Option.{option_or}
 use Rattle.std.specs.Prelude.{length, Option, Some, None}
 use Rattle.md_engine.specs.declared.configuration.ParseOptions.{ParseOptions}
 use Rattle.md_engine.specs.declared.event.Event.{Event}
@@ -10,6 +11,8 @@ use Rattle.md_engine.specs.declared.resolve.name.Name.{Name as ResolveName}
 use Rattle.md_engine.specs.declared.resolve.name.Name.TheVariants as r
 use Rattle.md_engine.specs.declared.state.Name.{Name as StateName}
 use Rattle.md_engine.specs.declared.state.Name.TheVariants as s
+use Rattle.md_engine.specs.declared.state.document.State.{State as DocumentState}
+use Rattle.md_engine.specs.declared.state.document.State.TheVariants as document
 use Rattle.md_engine.specs.declared.state.flow.State.{State as FlowState}
 use Rattle.md_engine.specs.declared.state.flow.State.TheVariants as flow
 use Rattle.md_engine.specs.declared.state.State.TheVariants.{Nok}
@@ -149,9 +152,50 @@ kind_of _ = None
 abbrev pub container_rules : ContainerKind → ContainerRules
 container_rules kind.BlockQuote = quote_rules
 
--- the one that may open
-abbrev pub new_kind : ContainerKind
-new_kind = kind.BlockQuote
+-- the order in which they are tried where one may open
+abbrev pub openers : List ContainerKind
+openers = kind.BlockQuote ∷ []
+
+-- the one that is tried at a state of the document; at no other is one
+abbrev pub opener_at : DocumentState → Option ContainerKind
+opener_at document.ContainerNewBefore = Some kind.BlockQuote
+opener_at _ = None
+
+-- a number by which each is known
+abbrev pub kind_number : ContainerKind → ℕ
+kind_number kind.BlockQuote = 0
+
+-- those that are tried behind one, where it does not open
+abbrev pub openers_from : ℕ → List ContainerKind → List ContainerKind
+openers_from n [] = []
+openers_from n (k ∷ ks) = if kind_number k == n then ks else openers_from n ks
+
+abbrev pub openers_behind : ContainerKind → List ContainerKind
+openers_behind k = openers_from (kind_number k) openers
+
+-- the state in front of the first of these, and behind all containers where none is left
+abbrev pub opener_front : List ContainerKind → DocumentState
+opener_front [] = document.ContainersAfter
+opener_front (k ∷ ks) = (container_rules k).before
+
+abbrev pub next_opener : ContainerKind → DocumentState
+next_opener k = opener_front (openers_behind k)
+
+-- how far it is from the next byte: by how many are tried behind it, and by the leaves
+abbrev pub opener_weight : ContainerKind → ℕ
+opener_weight k = 10 + 2 * length trials + 2 * length (openers_behind k)
+
+abbrev pub low_opener : (k : ContainerKind) →
+    (nat_lt (opener_weight k) 64 ≡ true) × (nat_lt (suc (opener_weight k)) 64 ≡ true)
+low_opener kind.BlockQuote = (refl, refl)
+
+abbrev pub opener_rank : Option ContainerKind → Rank
+opener_rank None = ranked 0 refl
+opener_rank (Some k) = ranked (opener_weight k) (low_opener k).0
+
+abbrev pub opener_tries : Option ContainerKind → Rank
+opener_tries None = ranked 2 refl
+opener_tries (Some k) = ranked (suc (opener_weight k)) (low_opener k).1
 
 -- a container of this kind
 abbrev pub IsOf : ContainerKind → Container → Type 0
@@ -161,12 +205,12 @@ IsOf k c = kind_of (shape_of c) ≡ Some k
 abbrev pub MatchesContainer : Held → Container → Type 0
 MatchesContainer held c = IsOf held.kind c × (container_rules held.kind).holds held c
 
--- the first state of the one that may open, and what is left there,
-abbrev pub first_container : StateName
-first_container = (container_rules new_kind).start
+-- the first state of one that may open, and what is left there,
+abbrev pub opens_with : ContainerKind → StateName
+opens_with k = (container_rules k).start
 
-abbrev pub new_container_at : ParseOptions → List Cell → Here → Outcome
-new_container_at options cells h = (container_rules new_kind).begins options cells h
+abbrev pub begins_at : ParseOptions → ContainerKind → List Cell → Here → Outcome
+begins_at options k cells h = (container_rules k).begins options cells h
 
 -- and the same of the state in front of the prefix of one on a further line
 abbrev pub goes_on_with : ContainerKind → StateName
@@ -176,15 +220,20 @@ abbrev pub continues_at : ParseOptions → ContainerKind → List Cell → Here 
 continues_at options k cells h = (container_rules k).continues options cells h
 
 -- what may stand first behind whitespace where one opens, and where the prefix of one on a further line begins
-abbrev pub may_open : ℕ → Bool
-may_open b = (container_rules new_kind).may_open b
+abbrev pub may_open : ContainerKind → ℕ → Bool
+may_open k b = (container_rules k).may_open b
 
 abbrev pub may_go_on : ContainerKind → ℕ → Bool
 may_go_on k b = (container_rules k).may_go_on b
 
--- by the cells of a line, the container that opens, if one does,
+-- by the cells of a line, the container that opens, if one does: the first of these
+abbrev pub opens_by : ParseOptions → Bool → List Cell → Point → List ContainerKind → Option Passed
+opens_by options interrupting cells p [] = None
+opens_by options interrupting cells p (k ∷ ks) =
+    option_or ((container_rules k).opens options interrupting cells p) (opens_by options interrupting cells p ks)
+
 abbrev pub opens_at : ParseOptions → Bool → List Cell → Point → Option Passed
-opens_at options interrupting cells p = (container_rules new_kind).opens options interrupting cells p
+opens_at options interrupting cells p = opens_by options interrupting cells p openers
 
 -- and an open one, if it goes on
 abbrev pub goes_by : ParseOptions → Container → List Cell → Point → Option ContainerKind → Option Passed
@@ -193,6 +242,10 @@ goes_by options c cells p (Some k) = (container_rules k).goes options c cells p
 
 abbrev pub goes_at : ParseOptions → Container → List Cell → Point → Option Passed
 goes_at options c cells p = goes_by options c cells p (kind_of (shape_of c))
+
+-- whether an open one, which is held so, goes on where the line ends
+abbrev pub goes_over : Held → Bool
+goes_over held = (container_rules held.kind).over_empty held
 
 -- States: which construct has each, what each does, and what is left at it; `is_name` finds a resolver among those that
 -- are registered.

@@ -9,6 +9,7 @@ use Rattle.md_engine.specs.declared.state.document.State.TheVariants as document
 use Rattle.md_engine.specs.declared.state.flow.State.{State as FlowState}
 use Rattle.md_engine.specs.declared.state.flow.State.TheVariants as flow
 use Rattle.md_engine.specs.declared.state.State.{State}
+use Rattle.md_engine.specs.declared.tokenizer.container.name.ContainerKind.{ContainerKind}
 use Rattle.md_engine.specs.declared.configuration.ParseOptions.{ParseOptions}
 use Rattle.md_engine.specs.Meaning.{Behaviour}
 use Rattle.md_engine.specs.Scheme.{Scheme, nowhere, of_owners}
@@ -23,17 +24,22 @@ use Rattle.md_seam.specs.Transition.{Transition}
 use Rattle.markdown_blocks.specs.Document.{document_own_transition}
 use Rattle.markdown_blocks.specs.Flow.{flow_own_transition, flow_scheme}
 use Rattle.markdown_blocks.specs.FlowRule.{Rule, containers_behave, flow_at, leaves_behave}
-use Rattle.markdown_blocks.specs.Registry.{LeafName, construct_behaves, construct_owner, construct_transition, tried_at}
+use Rattle.markdown_blocks.specs.Registry.{LeafName, construct_behaves, construct_owner, construct_transition, opener_at}
+use Rattle.markdown_blocks.specs.Registry.{tried_at}
+
+-- a container is tried at this state, or none
+abbrev pub opener_owner : Option ContainerKind → Scheme
+opener_owner None = nowhere
+opener_owner (Some k) = flow_scheme
 
 -- the states in front of the lines stand in the table of the document; no tokenizer stands at those that are not built
 abbrev pub containers_owner : DocumentState → Scheme
 containers_owner document.ContainerExistingBefore = flow_scheme
 containers_owner document.ContainerExistingAfter = flow_scheme
-containers_owner document.ContainerNewBefore = flow_scheme
 containers_owner document.ContainerNewAfter = flow_scheme
 containers_owner document.ContainersAfter = flow_scheme
 containers_owner document.FlowEnd = flow_scheme
-containers_owner _ = nowhere
+containers_owner state = opener_owner (opener_at state)
 
 -- nor at those in front of leaves that are not built
 abbrev pub leaf_owner : Option LeafName → Scheme

@@ -7,6 +7,8 @@ use Rattle.md_engine.specs.declared.event.Point.{Point}
 use Rattle.md_engine.specs.declared.event.Event.{Event}
 use Rattle.md_engine.specs.declared.resolve.name.Name.{Name as ResolveName}
 use Rattle.md_engine.specs.declared.tokenizer.container.Container.{Container}
+use Rattle.md_engine.specs.declared.tokenizer.container.name.ContainerKind.{ContainerKind}
+use Rattle.md_engine.specs.declared.tokenizer.container.name.ContainerKind.TheVariants as kind
 use Rattle.md_engine.specs.declared.tokenizer.held_leaf.HeldLeaf.{HeldLeaf}
 use Rattle.md_engine.specs.declared.tokenizer.held_leaf.HeldLeaf.TheVariants as held_leaf
 use Rattle.md_engine.specs.declared.tokenizer.Frame.{Frame}
@@ -40,6 +42,10 @@ pub record Flags : Type 0 where
   pub containers : List Container
   -- how many of them went on, or opened, on this line
   pub continued : ℕ
+  -- the one that is asked whether it goes on, or that is tried, as it is held if it goes on or opens; and the column
+  -- where it begins
+  pub asked : Container
+  pub asked_column : ℕ
   -- the index of the first event behind the line that was read last
   pub line_end : ℕ
 
@@ -71,6 +77,8 @@ flags_of t = record {
   leaf_before = t.flags.leaf_before;
   containers = t.containers.items;
   continued = t.flags.continued;
+  asked = t.flags.asked;
+  asked_column = t.flags.asked_column;
   line_end = t.flags.line_end;
 }
 
@@ -102,6 +110,10 @@ abbrev pub after : Setting → Point → Point
 after x p =
     if is_ending (slice_index x.bytes p.index) then line_begun x (next_point x.bytes p) else next_point x.bytes p
 
+-- a container of this kind, of which nothing is known yet
+abbrev pub container_of : ContainerKind → Container
+container_of k = record { kind = k; width = 0; starts_blank = false }
+
 -- a tokenizer that has read nothing
 abbrev pub fresh : List ℕ → ParseOptions → Point → World
 fresh bytes options p = record {
@@ -124,6 +136,8 @@ fresh bytes options p = record {
     leaf_before = held_leaf.None;
     containers = [];
     continued = 0;
+    asked = container_of kind.BlockQuote;
+    asked_column = 0;
     line_end = 0;
   };
   resolvers = [];

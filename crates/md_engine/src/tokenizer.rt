@@ -101,6 +101,11 @@ pub struct Flags {
     pub leaf_before: HeldLeaf,
     /// How many containers went on, or opened, on this line.
     pub continued: usize,
+    /// The container that is asked whether it goes on, or that is tried: as it is held if it goes on or opens. Else it
+    /// means nothing.
+    pub asked: Container,
+    /// The column where it begins.
+    pub asked_column: usize,
     /// The index of the first event behind the line that was read last: of its ending, if it has one.
     pub line_end: usize,
 }
@@ -303,6 +308,8 @@ impl<'a> Tokenizer<'a> {
                 blank: false,
                 leaf_before: HeldLeaf::None,
                 continued: 0,
+                asked: Container::new(ContainerKind::BlockQuote),
+                asked_column: 0,
                 line_end: 0,
             },
             containers: Vec::new(alloc),

@@ -13,6 +13,8 @@ use Rattle.md_seam.specs.Events.Nested.{enter}
 use Rattle.md_definition.specs.Rest.{Rest}
 use Rattle.md_definition.specs.State.{InQuote}
 use Rattle.md_seam.proofs.RestCells.{past_rest, rest_cells}
+use Rattle.md_engine.specs.declared.tokenizer.container.name.ContainerKind.TheVariants as kind
+use Rattle.md_engine.specs.World.{container_of}
 use Rattle.md_definition.proofs.TextsLemmas.{NoEnding}
 use Rattle.markdown_blocks.specs.Containers.BlockQuote.{quote_new, quote_on, quote_rules}
 use Rattle.markdown_blocks.specs.Passed.{Passed}
@@ -28,6 +30,7 @@ quote-passes : (options : ParseOptions) (line : Line) (text past : List ℕ) (r 
     HasPassed line text past end stop cells
     (record {
       container = InQuote;
+      held = container_of kind.BlockQuote;
       events = es;
       cells = prefix_rest options cells;
       point = prefix_end options cells p;

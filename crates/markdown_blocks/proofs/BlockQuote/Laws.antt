@@ -1,9 +1,9 @@
 -- The laws of block quotes, as containers.
-use Rattle.std.proofs.Common.{◌≡◌, ap, [], ◌++◌}
+use Rattle.std.proofs.Common.{◌≡◌, refl, ap, ◌∙◌, [], ◌++◌}
 use Rattle.std.specs.Prelude.{None}
 use Rattle.md_engine.specs.declared.configuration.ParseOptions.{ParseOptions}
 use Rattle.md_engine.specs.declared.tokenizer.container.name.ContainerKind.TheVariants as kind
-use Rattle.md_engine.specs.declared.tokenizer.container.ContainerKind.TheVariants as kind
+use Rattle.md_engine.specs.World.{container_of}
 use Rattle.md_containers.proofs.QuoteShorter.{prefix-shortens, quote-shortens}
 use Rattle.md_definition.specs.Containers.{continues}
 use Rattle.md_definition.specs.Preamble.{rest_at}
@@ -13,8 +13,8 @@ use Rattle.markdown_blocks.specs.Containers.BlockQuote.{quote_rules}
 use Rattle.markdown_blocks.specs.Registry.{IsOf, kind_of, shape_of}
 use Rattle.markdown_blocks.proofs.BlockQuote.Fronts.{quote-begins, quote-goes}
 use Rattle.markdown_blocks.proofs.BlockQuote.Tree.{no_quote-empty, opens-quote, simple-quote}
-use Rattle.markdown_blocks.proofs.BlockQuote.Trial.{prefix-passed, prefix-tried, quote-passed, quote-tried}
-use Rattle.markdown_blocks.proofs.BlockQuote.Trial.{prefix-looked, quote-looked}
+use Rattle.markdown_blocks.proofs.BlockQuote.Trial.{prefix-ended, prefix-held, prefix-looked, prefix-passed, prefix-tried}
+use Rattle.markdown_blocks.proofs.BlockQuote.Trial.{quote-ended, quote-held, quote-looked, quote-passed, quote-tried}
 use Rattle.markdown_blocks.proofs.ContainerLaws.{ByRest, ContainerLaws}
 use Rattle.markdown_blocks.proofs.PassedFacts.{Agree, HasFurther}
 use Rattle.markdown_blocks.proofs.SimpleBlocks.{IsSimple}
@@ -27,21 +27,25 @@ each-quote P h (InFootnote label) is = cc
 
 pub quote-laws : ContainerLaws kind.BlockQuote quote_rules
 quote-laws = record {
-  begins_is = λ options interrupting cells h rest. quote-tried options interrupting cells h rest;
-  continues_is = λ options held c cells h rest is holds. prefix-tried options cells h rest;
+  begins_is = λ options interrupting cells h rest asked column by_flags.
+      quote-tried options interrupting cells h rest asked;
+  continues_is = λ options held c cells h rest asked column is holds. prefix-tried options cells h rest (asked ∙ holds);
   begins_looked = quote-looked;
   continues_looked = prefix-looked;
   begins_shorter = λ options cells h. quote-shortens options cells h;
-  continues_shorter = λ options cells h. prefix-shortens options cells h;
+  continues_shorter = λ options cells h ends. prefix-shortens options cells h;
   opened = λ options interrupting cells p t e. quote-passed options interrupting cells p t e;
   went = λ options c cells p t is e. prefix-passed options cells p t e;
-  held_new = λ options interrupting cells p t e. tt;
-  held_on = λ options held c cells p t holds e. tt;
+  held_new = λ options interrupting cells p t e. quote-held options interrupting cells p t e;
+  held_on = λ options held c cells p t holds e. prefix-held options cells p t e;
   opens_agrees = λ options interrupting. quote-begins options interrupting;
   goes_agrees = goes;
   found_one = λ options interrupting r t e. ap (λ (c : Container). kind_of (shape_of c)) (opens-quote options r t e);
-  empty_ends = λ options c column is.
+  opens_not = λ options interrupting cells p ends. quote-ended options interrupting cells p ends;
+  goes_over = λ options held c cells p is holds ends. prefix-ended options cells p ends;
+  over_empty = λ options held c column is holds.
       each-quote (λ d. continues options d (rest_at column []) ≡ None) (no_quote-empty options column) c is;
+  may_hold = λ c is. (container_of kind.BlockQuote, refl);
   simple = λ c bs is simple. each-quote (λ d. IsSimple (container_block d bs)) (simple-quote bs simple) c is;
 }
   where

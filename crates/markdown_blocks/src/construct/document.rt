@@ -9,7 +9,7 @@
 // paragraph, so that all containers stay open although not all went on (CommonMark 5.1, "laziness"). Else those that
 // did not go on end: their ends are put where the line before ended, in front of its ending.
 
-ghost use Rattle.std.specs.Prelude.{◌≡◌, ◌≢◌};
+ghost use Rattle.std.specs.Prelude.{◌≡◌, ◌≢◌, ◌≤◌, length};
 ghost use Rattle.md_engine.specs.Scheme.{stands};
 ghost use Rattle.md_engine.specs.World.{looks, world};
 ghost use Rattle.md_engine.specs.declared.state.Name.{Name as StateName};
@@ -18,7 +18,8 @@ ghost use Rattle.md_engine.specs.declared.state.document.State.{State as Documen
 ghost use Rattle.markdown_blocks.specs.Flow.{containers_after_transition, existing_after_transition};
 ghost use Rattle.markdown_blocks.specs.Flow.{existing_before_transition, flow_end_transition, new_after_transition};
 ghost use Rattle.markdown_blocks.specs.Flow.{new_before_transition};
-ghost use Rattle.markdown_blocks.specs.LineFlags.{ending_name, next_container, stays};
+ghost use Rattle.md_engine.specs.declared.tokenizer.container.name.ContainerKind.{ContainerKind};
+ghost use Rattle.markdown_blocks.specs.LineFlags.{asking, ended_on, ending_name, next_container, over_end, stays};
 ghost use Rattle.markdown_blocks.specs.HeldLeaf.{takes_lazy};
 ghost use Rattle.markdown_blocks.specs.Document.{before_frontmatter_transition, document_own_transition};
 ghost use Rattle.markdown_blocks.specs.Document.{document_table_scheme, document_transition, start_transition};
@@ -37,9 +38,9 @@ use md_engine::state::{Name as StateName, State};
 use md_engine::stay::Stay;
 use md_engine::subtokenize::Subresult;
 use md_engine::table::Table;
-use md_engine::tokenizer::{Container, Flags, HeldLeaf, Tokenizer};
+use md_engine::tokenizer::{Container, ContainerKind, Flags, HeldLeaf, Tokenizer};
+use md_leaves::blank_line::ends_line;
 use md_leaves::partial_bom;
-use md_seam::space_or_tab::look_behind;
 
 /// At the start of the text: before a byte order mark, if there is one.
 ///
@@ -80,6 +81,39 @@ fn next_container(tokenizer: &Tokenizer) -> Option<Container>
     tokenizer.containers.get(tokenizer.flags.continued).copied()
 }
 
+/// A container is asked whether it goes on, or tried, where the tokenizer stands.
+fn ask(tokenizer: &mut Tokenizer, container: Container)
+    ensures { world tokenizer.new ≡ asking container (world tokenizer.old) }
+{
+    tokenizer.flags.asked = container;
+    tokenizer.flags.asked_column = tokenizer.point.column;
+}
+
+/// How many of these go on where the line ends: those that take nothing of it, up to the first that would.
+fn over_end(containers: &[Container]) -> usize
+    ensures over { result ≡ over_end containers.now }
+    ensures within { result ≤ length containers.now }
+{
+    let mut over = 0;
+    for container in containers {
+        if !registry::goes_over(*container) {
+            return over;
+        }
+        over += 1;
+    }
+    over
+}
+
+/// Where the line ends no container is asked: those go on that take nothing of it.
+fn pass_over(tokenizer: &mut Tokenizer)
+    ensures { world tokenizer.new ≡ record (world tokenizer.old) { flags = ended_on (world tokenizer.old).flags } }
+{
+    let continued = tokenizer.flags.continued;
+    if continued < tokenizer.containers.len() {
+        tokenizer.flags.continued = continued + over_end(&tokenizer.containers[continued..]);
+    }
+}
+
 /// At the begin of a line, or behind the prefix of a container that went on: before the next one that is open.
 ///
 /// ```markdown
@@ -93,15 +127,21 @@ pub fn container_existing_before(tokenizer: &mut Tokenizer) -> State
     ensures world { result ≢ State.Error →
         world tokenizer.new ≡ (existing_before_transition (world tokenizer.old)).world }
 {
+    if ends_line(tokenizer.current) {
+        pass_over(tokenizer);
+        return State::Retry(StateName::Document(DocumentState::ContainersAfter));
+    }
     match next_container(tokenizer) {
-        None => State::Retry(StateName::Document(DocumentState::ContainerNewBefore)),
+        None => State::Retry(StateName::Document(registry::first_opener())),
         Some(container) => {
-            if !registry::may_go_on(container.kind, look_behind(tokenizer)) {
-                return State::Retry(StateName::Document(DocumentState::ContainerNewBefore));
+            let may_go_on = registry::may_go_on(tokenizer, container.kind);
+            ask(tokenizer, container);
+            if !may_go_on {
+                return State::Retry(StateName::Document(registry::first_opener()));
             }
             or_error!(tokenizer.attempt(
                 State::Next(StateName::Document(DocumentState::ContainerExistingAfter)),
-                State::Next(StateName::Document(DocumentState::ContainerNewBefore))
+                State::Next(StateName::Document(registry::first_opener()))
             ));
             State::Retry(registry::goes_on_with(container.kind))
         }
@@ -120,13 +160,38 @@ pub fn container_existing_after(tokenizer: &mut Tokenizer) -> State
     ensures to { result ≡ (existing_after_transition (world tokenizer.old)).to }
     ensures world { world tokenizer.new ≡ (existing_after_transition (world tokenizer.old)).world }
 {
-    if tokenizer.flags.continued < tokenizer.containers.len() {
-        tokenizer.flags.continued += 1;
+    let Flags {
+        asked,
+        continued,
+        ..
+    } = tokenizer.flags;
+    if continued < tokenizer.containers.len() {
+        tokenizer.containers[continued] = asked;
+        tokenizer.flags.continued = continued + 1;
     }
     State::Retry(StateName::Document(DocumentState::ContainerExistingBefore))
 }
 
-/// Before a container that may open.
+/// Before a container of a kind that may open: where it does not, the next kind is tried.
+#[inline(always)]
+fn try_new(tokenizer: &mut Tokenizer, kind: ContainerKind) -> State
+    ensures to { result ≢ State.Error → result ≡ (new_before_transition kind (world tokenizer.old)).to }
+    ensures world { result ≢ State.Error →
+        world tokenizer.new ≡ (new_before_transition kind (world tokenizer.old)).world }
+{
+    let may_open = registry::may_open(tokenizer, kind);
+    ask(tokenizer, Container::new(kind));
+    if !may_open {
+        return State::Retry(StateName::Document(registry::next_opener(kind)));
+    }
+    or_error!(tokenizer.attempt(
+        State::Next(StateName::Document(DocumentState::ContainerNewAfter)),
+        State::Next(StateName::Document(registry::next_opener(kind)))
+    ));
+    State::Retry(registry::opens_with(kind))
+}
+
+/// Before a block quote that may open.
 ///
 /// ```markdown
 /// > | > a
@@ -134,17 +199,12 @@ pub fn container_existing_after(tokenizer: &mut Tokenizer) -> State
 /// ```
 pub fn container_new_before(tokenizer: &mut Tokenizer) -> State
     requires { IsAt NeedsNothing (StateName.Document DocumentState.ContainerNewBefore) (world tokenizer.old) }
-    ensures to { result ≢ State.Error → result ≡ (new_before_transition (world tokenizer.old)).to }
-    ensures world { result ≢ State.Error → world tokenizer.new ≡ (new_before_transition (world tokenizer.old)).world }
+    ensures to { result ≢ State.Error →
+        result ≡ (new_before_transition ContainerKind.BlockQuote (world tokenizer.old)).to }
+    ensures world { result ≢ State.Error →
+        world tokenizer.new ≡ (new_before_transition ContainerKind.BlockQuote (world tokenizer.old)).world }
 {
-    if !registry::may_open(look_behind(tokenizer)) {
-        return State::Retry(StateName::Document(DocumentState::ContainersAfter));
-    }
-    or_error!(tokenizer.attempt(
-        State::Next(StateName::Document(DocumentState::ContainerNewAfter)),
-        State::Next(StateName::Document(DocumentState::ContainersAfter))
-    ));
-    State::Retry(registry::first_container())
+    try_new(tokenizer, ContainerKind::BlockQuote)
 }
 
 /// Behind the first prefix of a container that opens: those that did not go on end before it.
@@ -159,17 +219,16 @@ pub fn container_new_after(tokenizer: &mut Tokenizer) -> State
     ensures world { result ≢ State.Error → world tokenizer.new ≡ (new_after_transition (world tokenizer.old)).world }
 {
     let Flags {
+        asked,
         continued,
         line_end,
         ..
     } = tokenizer.flags;
     or_error!(tokenizer.close(continued, line_end));
-    or_error!(tokenizer.open(Container {
-        kind: registry::new_kind()
-    }));
+    or_error!(tokenizer.open(asked));
     tokenizer.flags.continued = tokenizer.containers.len();
     tokenizer.flags.leaf = HeldLeaf::None;
-    State::Retry(StateName::Document(DocumentState::ContainerNewBefore))
+    State::Retry(StateName::Document(registry::first_opener()))
 }
 
 /// Behind all containers of a line.

@@ -13,48 +13,78 @@ ghost use Rattle.md_engine.specs.Scheme.{stands};
 ghost use Rattle.md_engine.specs.World.{looks, world};
 ghost use Rattle.md_engine.specs.declared.resolve.name.Name.{Name as ResolveName};
 ghost use Rattle.md_engine.specs.declared.state.State.{State};
-ghost use Rattle.markdown_blocks.specs.Registry.{construct_transition, first_container, goes_on_with, may_go_on};
-ghost use Rattle.markdown_blocks.specs.Registry.{may_open, new_kind, resolved_by};
+ghost use Rattle.markdown_blocks.specs.Registry.{construct_transition, goes_on_with, goes_over, may_go_on, may_open};
+ghost use Rattle.markdown_blocks.specs.Registry.{next_opener, opener_front, openers, opens_with, resolved_by};
 ghost use Rattle.markdown_blocks.specs.States.{flow_table_scheme};
-ghost use Rattle.md_seam.specs.Look.{may_with};
+ghost use Rattle.md_seam.specs.Look.{looks_behind, may_with};
 
 use md_containers::block_quote;
 use md_engine::message::Message;
 use md_engine::resolve::Name as ResolveName;
 use md_engine::state::block_quote::State as QuoteState;
+use md_engine::state::document::State as DocumentState;
 use md_engine::state::{Name as StateName, State};
 use md_engine::subtokenize::Subresult;
-use md_engine::tokenizer::{ContainerKind, Tokenizer};
+use md_engine::tokenizer::{Container, ContainerKind, Tokenizer};
 use md_leaves::{heading_atx, thematic_break};
+use md_seam::space_or_tab::look_behind;
 
-/// The kind of the container that may open.
-pub fn new_kind() -> ContainerKind
-    ensures { result ≡ new_kind }
+/// The state of the document in front of the first container that may open.
+#[inline(always)]
+pub fn first_opener() -> DocumentState
+    ensures { result ≡ opener_front openers }
 {
-    ContainerKind::BlockQuote
+    DocumentState::ContainerNewBefore
 }
 
-/// The state where it may open.
-pub fn first_container() -> StateName
-    ensures { result ≡ first_container }
-{
-    StateName::BlockQuote(QuoteState::Start)
-}
-
-/// Whether it may open here, by what stands first behind whitespace, if that is known.
-pub fn may_open(first: Option<u8>) -> bool
-    ensures { result ≡ may_with may_open first }
-{
-    block_quote::may_begin(first)
-}
-
-/// Whether the prefix of a container on a further line may begin here, by what stands first behind whitespace, if that
-/// is known.
-pub fn may_go_on(kind: ContainerKind, first: Option<u8>) -> bool
-    ensures { result ≡ may_with (may_go_on kind) first }
+/// The one in front of the next, where one of this kind does not open; behind the last no container is left to try.
+#[inline(always)]
+pub fn next_opener(kind: ContainerKind) -> DocumentState
+    ensures { result ≡ next_opener kind }
 {
     match kind {
-        ContainerKind::BlockQuote => block_quote::may_begin(first),
+        ContainerKind::BlockQuote => DocumentState::ContainersAfter,
+    }
+}
+
+/// The state of a container where it may open.
+#[inline(always)]
+pub fn opens_with(kind: ContainerKind) -> StateName
+    ensures { result ≡ opens_with kind }
+{
+    match kind {
+        ContainerKind::BlockQuote => StateName::BlockQuote(QuoteState::Start),
+    }
+}
+
+/// Whether a container may open here, by what stands first behind whitespace, where its kind looks at that.
+#[inline(always)]
+pub fn may_open(tokenizer: &Tokenizer, kind: ContainerKind) -> bool
+    ensures { result ≡ may_with (may_open kind) (looks_behind (world tokenizer.now)) }
+{
+    match kind {
+        ContainerKind::BlockQuote => block_quote::may_begin(look_behind(tokenizer)),
+    }
+}
+
+/// Whether the prefix of a container on a further line may begin here, by what stands first behind whitespace, where
+/// its kind looks at that.
+#[inline(always)]
+pub fn may_go_on(tokenizer: &Tokenizer, kind: ContainerKind) -> bool
+    ensures { result ≡ may_with (may_go_on kind) (looks_behind (world tokenizer.now)) }
+{
+    match kind {
+        ContainerKind::BlockQuote => block_quote::may_begin(look_behind(tokenizer)),
+    }
+}
+
+/// Whether an open container goes on where the line ends, and takes nothing.
+#[inline(always)]
+pub fn goes_over(container: Container) -> bool
+    ensures { result ≡ goes_over container }
+{
+    match container.kind {
+        ContainerKind::BlockQuote => false,
     }
 }
 

@@ -1,5 +1,8 @@
 // What is kept of a container that is open.
 
+ghost use Rattle.std.specs.Prelude.{◌≡◌};
+ghost use Rattle.md_engine.specs.World.{container_of};
+
 pub mod name;
 
 pub use crate::tokenizer::container::name::ContainerKind;
@@ -8,4 +11,21 @@ pub use crate::tokenizer::container::name::ContainerKind;
 #[derive(Clone, Copy, Debug, PartialEq, Eq)]
 pub struct Container {
     pub kind: ContainerKind,
+    /// The columns that a further line of a list item has to lose (CommonMark 5.2).
+    pub width: usize,
+    /// Whether the first line of a list item was blank behind its marker, and no further one was read yet.
+    pub starts_blank: bool,
+}
+
+impl Container {
+    /// One of this kind, of which nothing is known yet.
+    pub fn new(kind: ContainerKind) -> Container
+        ensures { result ≡ container_of kind }
+    {
+        Container {
+            kind,
+            width: 0,
+            starts_blank: false,
+        }
+    }
 }
