@@ -1,2 +1,3 @@
+pub mod Interrupts
 pub mod Quote
 pub mod QuoteRule

@@ -2,3 +2,4 @@
 #![tactic(auto)]
 
 pub mod block_quote;
+mod interrupts;
