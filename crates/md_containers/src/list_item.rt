@@ -473,7 +473,7 @@ fn go_on_indent(tokenizer: &mut Tokenizer, state: ItemState) -> State
 ///
 /// ```markdown
 ///   | * a
-/// > |   
+/// > |
 ///     ^^
 ///   |   b
 /// ```
