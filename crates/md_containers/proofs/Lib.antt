@@ -6,3 +6,4 @@ pub mod QuoteShorter
 pub mod Shorter
 pub mod ItemGoods
 pub mod ItemSteps
+pub mod ItemShorter
