@@ -7,3 +7,4 @@ pub mod Shorter
 pub mod ItemGoods
 pub mod ItemSteps
 pub mod ItemShorter
+pub mod ItemCells

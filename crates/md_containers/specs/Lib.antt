@@ -3,3 +3,4 @@ pub mod Item
 pub mod ItemRule
 pub mod Quote
 pub mod QuoteRule
+pub mod ItemPrefix
