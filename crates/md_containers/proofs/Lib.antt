@@ -8,3 +8,4 @@ pub mod ItemGoods
 pub mod ItemSteps
 pub mod ItemShorter
 pub mod ItemCells
+pub mod ItemFurther
