@@ -90,11 +90,11 @@ closed-is h digits byte front false cells p e =
 
 -- The padding.
 
-zero-rest : (cells : List Cell) → white_rest 0 cells ≡ cells
+pub zero-rest : (cells : List Cell) → white_rest 0 cells ≡ cells
 zero-rest [] = refl
 zero-rest (c ∷ cs) = refl
 
-zero-end : (cells : List Cell) (p : Point) → white_end 0 cells p ≡ p
+pub zero-end : (cells : List Cell) (p : Point) → white_end 0 cells p ≡ p
 zero-end [] p = refl
 zero-end (c ∷ cs) p = refl
 

@@ -9,3 +9,4 @@ pub mod ItemSteps
 pub mod ItemShorter
 pub mod ItemCells
 pub mod ItemFurther
+pub mod ItemColumns
