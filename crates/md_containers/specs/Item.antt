@@ -141,10 +141,14 @@ prefix_other_code w true =
     record { to = Next (n.ListItem its.After); world = exited (taken (entered w SpaceOrTab)) SpaceOrTab }
 prefix_other_code w false = refused (record w { scratch = unseen w.scratch })
 
+-- an item is a column wide at least
+abbrev pub at_least_one : ℕ → ℕ
+at_least_one columns = if columns == 0 then 1 else columns
+
 -- the columns that a further line has to lose, from the begin of an item to here; where its first line is blank, as if
 -- a column stood behind the marker
 abbrev pub width_here : ℕ → ℕ → Bool → ℕ
-width_here column from blank = column - from + (if blank then 1 else 0)
+width_here column from blank = at_least_one (column - from + (if blank then 1 else 0))
 
 -- the item that opens is held
 abbrev pub item_held : Flags → ℕ → Bool → Flags
@@ -166,9 +170,9 @@ after_code is_name w false blank = record {
 
 -- What has an item go on.
 
--- the columns that a further line has to lose: an item has one at least
+-- the columns that a further line has to lose
 abbrev pub least_width : Container → ℕ
-least_width c = if c.width == 0 then 1 else c.width
+least_width c = at_least_one c.width
 
 -- it does not start blank any more
 abbrev pub item_gone_on : Flags → Flags

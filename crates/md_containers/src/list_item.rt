@@ -17,7 +17,7 @@ ghost use Rattle.md_engine.specs.World.{world};
 ghost use Rattle.md_engine.specs.declared.state.Name.{Name as StateName};
 ghost use Rattle.md_engine.specs.declared.state.State.{State};
 ghost use Rattle.md_engine.specs.declared.state.list_item.State.{State as ItemState};
-ghost use Rattle.md_containers.specs.Item.{after_transition, before_ordered_transition, before_transition};
+ghost use Rattle.md_containers.specs.Item.{after_transition, at_least_one, before_ordered_transition, before_transition};
 ghost use Rattle.md_containers.specs.Item.{before_unordered_transition, blank_code, cont_blank_transition};
 ghost use Rattle.md_containers.specs.Item.{cont_filled_transition, cont_start_transition, ends_value, filled_transition};
 ghost use Rattle.md_containers.specs.Item.{indent_code, inside_transition, is_item_marker, item_transition, least_width};
@@ -355,6 +355,13 @@ pub fn prefix_other(tokenizer: &mut Tokenizer) -> State
     }
 }
 
+/// So many columns, and one at least: no item is less wide.
+fn at_least_one(columns: usize) -> usize
+    ensures { result ≡ at_least_one columns }
+{
+    if columns == 0 { 1 } else { columns }
+}
+
 /// The columns from the begin of the item that is tried to here; where its first line is blank, one more.
 fn width_here(tokenizer: &Tokenizer, blank: bool) -> usize
     ensures { result ≡
@@ -364,7 +371,7 @@ fn width_here(tokenizer: &Tokenizer, blank: bool) -> usize
         .point
         .column
         .saturating_sub(tokenizer.flags.asked_column);
-    if blank { columns + 1 } else { columns }
+    at_least_one(if blank { columns + 1 } else { columns })
 }
 
 /// Behind the prefix: the item opens, unless it is blank and would interrupt text.
@@ -418,12 +425,11 @@ pub fn cont_start(tokenizer: &mut Tokenizer) -> State
     }
 }
 
-/// The columns that a further line has to lose: one at least.
+/// The columns that a further line has to lose.
 fn least_width(tokenizer: &Tokenizer) -> usize
     ensures { result ≡ least_width (world tokenizer.now).flags.asked }
 {
-    let width = tokenizer.flags.asked.width;
-    if width == 0 { 1 } else { width }
+    at_least_one(tokenizer.flags.asked.width)
 }
 
 /// Takes the first column of an indent of at least `min` columns, and at most the width.
