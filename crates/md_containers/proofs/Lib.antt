@@ -10,3 +10,4 @@ pub mod ItemShorter
 pub mod ItemCells
 pub mod ItemFurther
 pub mod ItemColumns
+pub mod ItemLines

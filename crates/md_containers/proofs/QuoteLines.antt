@@ -169,9 +169,9 @@ column-step line text behind r p is lt first = go r.column r.spaces r.bytes is l
             let none : white_columns (column + 0) (b ∷ bs) ≡ 0 = rw (f, g) refl in absurd (omega (arith, lt, none))
 
 -- an indent is whitespace, and a step if there is one
-record HasWhite (text : List ℕ) (cells : List Cell) (p q : Point) : Type 0 where
-  white : White text p q
-  events : cond (begins_white cells) (pair n.SpaceOrTab p q) [] ≡ pair_unless_empty n.SpaceOrTab p q
+pub record HasWhite (text : List ℕ) (cells : List Cell) (p q : Point) : Type 0 where
+  pub white : White text p q
+  pub events : cond (begins_white cells) (pair n.SpaceOrTab p q) [] ≡ pair_unless_empty n.SpaceOrTab p q
 
 white-step : (text : List ℕ) (cells : List Cell) (p q : Point) → begins_white cells ≡ true → Step text p q →
     HasWhite text cells p q
@@ -190,7 +190,7 @@ white-same text cells p e = record {
       ∙ sym (ap (λ (t : Bool). cond t [] (pair n.SpaceOrTab p p)) (same-refl p));
 }
 
-white-walk : (line : Line) (text behind : List ℕ) (n room : ℕ) (r : Rest) (p : Point) (stop : List Cell) →
+pub white-walk : (line : Line) (text behind : List ℕ) (n room : ℕ) (r : Rest) (p : Point) (stop : List Cell) →
     RestAt text behind r p → Stops stop → indent r ≡ n → n ≤ room →
     HasWhite text (rest_cells line r p ++ stop) p (white_end room (rest_cells line r p ++ stop) p)
 white-walk line text behind zero room r p stop is k e le =
