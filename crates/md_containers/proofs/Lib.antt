@@ -4,3 +4,10 @@ pub mod QuoteLines
 pub mod QuoteCells
 pub mod QuoteShorter
 pub mod Shorter
+pub mod ItemGoods
+pub mod ItemSteps
+pub mod ItemShorter
+pub mod ItemCells
+pub mod ItemFurther
+pub mod ItemColumns
+pub mod ItemLines

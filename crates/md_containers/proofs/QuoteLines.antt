@@ -61,13 +61,13 @@ pub record IsPrefix (bytes : List ℕ) (p q : Point) (es : List Event) : Type 0 
 -- Whitespace between two points.
 
 -- only whitespace stands from a point to another one of the line
-record White (text : List ℕ) (p q : Point) : Type 0 where
-  onward : IsTrue (at_or_before p q)
-  index : p.index ≤ q.index
-  line : q.line ≡ p.line
-  blank : is_blank (slice_range text p.index q.index) ≡ true
+pub record White (text : List ℕ) (p q : Point) : Type 0 where
+  pub onward : IsTrue (at_or_before p q)
+  pub index : p.index ≤ q.index
+  pub line : q.line ≡ p.line
+  pub blank : is_blank (slice_range text p.index q.index) ≡ true
 
-white-none : (text : List ℕ) (p : Point) → White text p p
+pub white-none : (text : List ℕ) (p : Point) → White text p p
 white-none text p = record {
   onward = at_or_before-refl p;
   index = omega arith;
@@ -75,7 +75,7 @@ white-none text p = record {
   blank = ap is_blank (range-none text p.index p.index (omega arith));
 }
 
-white-append : (text : List ℕ) (p q r : Point) → White text p q → White text q r → White text p r
+pub white-append : (text : List ℕ) (p q r : Point) → White text p q → White text q r → White text p r
 white-append text p q r a b = record {
   onward = at_or_before-trans p q r a.onward b.onward;
   index = let h = a.index in let k = b.index in omega arith;
@@ -87,9 +87,9 @@ white-append text p q r a b = record {
 }
 
 -- a step further
-record Step (text : List ℕ) (p q : Point) : Type 0 where
-  white : White text p q
-  apart : same_place p q ≡ false
+pub record Step (text : List ℕ) (p q : Point) : Type 0 where
+  pub white : White text p q
+  pub apart : same_place p q ≡ false
 
 step-byte : (text rest : List ℕ) (b : ℕ) (p q : Point) → drop p.index text ≡ b ∷ rest → is_white b ≡ true →
     q.index ≡ p.index + 1 → q.line ≡ p.line → Step text p q
@@ -118,7 +118,7 @@ apart-more : (p q r : Point) → same_place p q ≡ false → IsTrue (at_or_befo
     same_place p r ≡ false
 apart-more p q r a b c = grind (arith, nat_tests)
 
-step-append : (text : List ℕ) (p q r : Point) → Step text p q → White text q r → Step text p r
+pub step-append : (text : List ℕ) (p q r : Point) → Step text p q → White text q r → Step text p r
 step-append text p q r a b = record {
   white = white-append text p q r a.white b;
   apart = apart-more p q r a.apart a.white.onward b.onward;
@@ -133,7 +133,7 @@ abbrev rest : ℕ → ℕ → List ℕ → Rest
 rest column spaces bytes = record { column = column; spaces = spaces; bytes = bytes }
 
 -- one column of whitespace is a step
-column-step : (line : Line) (text behind : List ℕ) (r : Rest) (p : Point) → RestAt text behind r p → 0 < indent r →
+pub column-step : (line : Line) (text behind : List ℕ) (r : Rest) (p : Point) → RestAt text behind r p → 0 < indent r →
     (first : HasColumn line text behind r p) → Step text p first.at
 column-step line text behind r p is lt first = go r.column r.spaces r.bytes is lt (ap (first_after p) first.cells)
   where
@@ -169,9 +169,9 @@ column-step line text behind r p is lt first = go r.column r.spaces r.bytes is l
             let none : white_columns (column + 0) (b ∷ bs) ≡ 0 = rw (f, g) refl in absurd (omega (arith, lt, none))
 
 -- an indent is whitespace, and a step if there is one
-record HasWhite (text : List ℕ) (cells : List Cell) (p q : Point) : Type 0 where
-  white : White text p q
-  events : cond (begins_white cells) (pair n.SpaceOrTab p q) [] ≡ pair_unless_empty n.SpaceOrTab p q
+pub record HasWhite (text : List ℕ) (cells : List Cell) (p q : Point) : Type 0 where
+  pub white : White text p q
+  pub events : cond (begins_white cells) (pair n.SpaceOrTab p q) [] ≡ pair_unless_empty n.SpaceOrTab p q
 
 white-step : (text : List ℕ) (cells : List Cell) (p q : Point) → begins_white cells ≡ true → Step text p q →
     HasWhite text cells p q
@@ -190,7 +190,7 @@ white-same text cells p e = record {
       ∙ sym (ap (λ (t : Bool). cond t [] (pair n.SpaceOrTab p p)) (same-refl p));
 }
 
-white-walk : (line : Line) (text behind : List ℕ) (n room : ℕ) (r : Rest) (p : Point) (stop : List Cell) →
+pub white-walk : (line : Line) (text behind : List ℕ) (n room : ℕ) (r : Rest) (p : Point) (stop : List Cell) →
     RestAt text behind r p → Stops stop → indent r ≡ n → n ≤ room →
     HasWhite text (rest_cells line r p ++ stop) p (white_end room (rest_cells line r p ++ stop) p)
 white-walk line text behind zero room r p stop is k e le =
@@ -307,7 +307,7 @@ abbrev MarkerIs : Line → (text past : List ℕ) → Point → (stop cells : Li
 MarkerIs line text past end stop cells p (Some taken) = HasMarker line text past end stop cells p taken.rest
 MarkerIs line text past end stop cells p None = has_marker cells ≡ false
 
-get-next : (index : ℕ) (bytes : List ℕ) (b : ℕ) (rest : List ℕ) → drop index bytes ≡ b ∷ rest →
+pub get-next : (index : ℕ) (bytes : List ℕ) (b : ℕ) (rest : List ℕ) → drop index bytes ≡ b ∷ rest →
     slice_get bytes index ≡ Some b
 get-next zero [] b rest e = cc
 get-next zero (c ∷ bytes) b rest e = cc

@@ -1,0 +1,866 @@
+-- Each state of a list item takes one step of its rule.
+use Rattle.std.proofs.Common.{◌≡◌, ℕ, zero, suc, ◌+◌, ◌-◌, ◌<◌, ◌≤◌, Bool, true, false, cond, not, ◌&&◌, ◌||◌, nat_eq}
+use Rattle.std.proofs.Common.{nat_lt, List, [], ◌∷◌, ◌++◌, length, take, Option, Some, None, refl, sym, ◌∙◌, ap, ap₂}
+use Rattle.std.proofs.Common.{arith, append_assoc, add-zero}
+use Rattle.std.specs.Prelude.{nat_le}
+use Rattle.std.proofs.lemmas.Bool.{and_parts, eqb-true}
+use Rattle.std.proofs.lemmas.Bool.Decides.{nat_tests}
+use Rattle.std.proofs.lemmas.List.{take_all}
+use Rattle.md_engine.specs.declared.configuration.ParseOptions.{ParseOptions}
+use Rattle.md_engine.specs.declared.event.Event.{Event}
+use Rattle.md_engine.specs.declared.event.Name.TheVariants as parts
+use Rattle.md_engine.specs.declared.resolve.name.Name.{Name as ResolveName}
+use Rattle.md_engine.specs.declared.state.Name.TheVariants as n
+use Rattle.md_engine.specs.declared.state.State.{State}
+use Rattle.md_engine.specs.declared.state.State.TheVariants.{Nok, Next}
+use Rattle.md_engine.specs.declared.state.blank_line.State.TheVariants as blank_line
+use Rattle.md_engine.specs.declared.state.list_item.State.{State as ItemState}
+use Rattle.md_engine.specs.declared.state.list_item.State.TheVariants as its
+use Rattle.md_engine.specs.declared.state.space_or_tab.State.TheVariants as space_or_tab
+use Rattle.md_engine.specs.declared.state.thematic_break.State.TheVariants as thematic_break
+use Rattle.md_engine.specs.declared.tokenizer.Frame.{Frame}
+use Rattle.md_engine.specs.declared.tokenizer.Scratch.{Scratch}
+use Rattle.md_engine.specs.declared.tokenizer.container.Container.{Container}
+use Rattle.md_engine.specs.declared.tokenizer.held_leaf.HeldLeaf.{HeldLeaf}
+use Rattle.md_engine.specs.declared.tokenizer.held_leaf.HeldLeaf.TheVariants as held_leaf
+use Rattle.md_engine.specs.Meaning.{Accepts, Behaviour, Cell, Feed, Here, Outcome, Refuses, Steps, goes, here, resume}
+use Rattle.md_engine.specs.Scheme.{After, spot}
+use Rattle.md_engine.specs.World.{Flags, World, after}
+use Rattle.md_engine.proofs.StepOf.{Sees, ahead, begins_only, cell_here, moves, passes}
+use Rattle.md_containers.specs.Interrupts.{interrupts}
+use Rattle.md_containers.specs.Item.{after_code, before_code, before_ordered_code, behind_break, blank_code, bullet_code}
+use Rattle.md_containers.specs.Item.{cont_blank_code, cont_filled_code, cont_start_code, ends_value, filled_transition}
+use Rattle.md_containers.specs.Item.{indent_code, inside_code, is_item_marker, item_gone_on, item_ready}
+use Rattle.md_containers.specs.Item.{item_transition, least_width, marker_code, prefix_other_code, sees, unseen}
+use Rattle.md_containers.specs.Item.{value_code, whitespace_after_code, without_size}
+use Rattle.md_containers.specs.ItemRule.{HasItem, at_bullet, at_marker, at_value, behind_columns, behind_indent}
+use Rattle.md_containers.specs.ItemRule.{behind_marker, behind_padding, behind_prefix, behind_value, blank_behaves}
+use Rattle.md_containers.specs.ItemRule.{digits_end, digits_rest, digits_size, filled_at, filled_behaves, in_value}
+use Rattle.md_containers.specs.ItemRule.{indent_at, indent_blank, indent_filled, inside_indent, item_on, one_column}
+use Rattle.md_containers.specs.ItemRule.{padding_at}
+use Rattle.md_definition.specs.Ascii.{plus}
+use Rattle.md_definition.specs.Containers.{is_bullet, is_digit}
+use Rattle.md_definition.specs.Leaves.{is_rule}
+use Rattle.md_definition.specs.Rest.{is_blank, is_white}
+use Rattle.md_leaves.specs.BlankRule.{blank_at, blank_events}
+use Rattle.md_leaves.specs.Break.{without_marker}
+use Rattle.md_leaves.specs.BreakRule.{Apart, before_marker, broken}
+use Rattle.md_leaves.specs.LeafStart.{entered_here}
+use Rattle.md_leaves.proofs.LeafStart.{HasStart, at-none, start-steps}
+use Rattle.md_seam.specs.Ahead.{after_white, begins_white, from_ending, line_bytes, line_end, white_at, white_rest, white_size}
+use Rattle.md_seam.specs.Events.Nested.{enter, exit}
+use Rattle.md_seam.specs.Look.{first_seen, looks_behind, seen_behind}
+use Rattle.md_seam.specs.Spaces.{IsRest, asking, calmed, ends_line, sees_white}
+use Rattle.md_seam.proofs.AheadLemmas.{none-end, none-rest, none-size, white-no_ending}
+use Rattle.md_seam.proofs.LookLemmas.{first-seen, seen-first}
+use Rattle.md_seam.proofs.WhiteSteps.{begins-seen, behind_white, white-tried}
+
+-- Attempts that were begun here.
+
+abbrev frame_here : State → State → Bool → World → Frame
+frame_here ok nok check w =
+    record { ok = ok; nok = nok; is_check = check; events_len = length w.events; point = w.point }
+
+-- what they go back to
+pub went-back : (B : Behaviour) (to : State) (feed : Feed) (w : World) (s : Scratch) (g : Flags) →
+    goes B to (feed w.point)
+    (record { events = take (length w.events) w.events; point = w.point; scratch = s; flags = g }) ≡
+    goes B to (feed w.point) (record (here w) { scratch = s; flags = g })
+went-back B to feed w s g =
+    ap
+    (λ (es : List Event).
+    goes B to (feed w.point) (record { events = es; point = w.point; scratch = s; flags = g }))
+    (take_all (length w.events) w.events (omega arith))
+
+-- Behind the indent.
+
+bullet-dark : (b : ℕ) → is_bullet b ≡ true → is_white b ≡ false
+bullet-dark b e = grind (arith, nat_tests)
+
+bullet-on : (b : ℕ) → is_bullet b ≡ true → nat_eq b 10 ≡ false
+bullet-on b e = grind (arith, nat_tests)
+
+bullet-no_digit : (b : ℕ) → is_bullet b ≡ true → is_digit b ≡ false
+bullet-no_digit b e = grind (arith, nat_tests)
+
+indent-none : (options : ParseOptions) (h : Here) → behind_indent options [] h ≡ Refuses h.scratch h.flags
+unfolding behind_indent
+indent-none options h = refl
+
+indent-bullet : (options : ParseOptions) (c : Cell) (cs : List Cell) (h : Here) → is_bullet c.byte ≡ true →
+    behind_indent options (c ∷ cs) h ≡
+    cond (options.constructs.thematic_break && is_rule (line_bytes (c ∷ cs))) (Refuses h.scratch h.flags)
+    (at_bullet (c ∷ cs) h)
+unfolding behind_indent
+indent-bullet options c cs h e = rw e refl
+
+indent-other : (options : ParseOptions) (c : Cell) (cs : List Cell) (h : Here) → is_bullet c.byte ≡ false →
+    behind_indent options (c ∷ cs) h ≡
+    cond (is_digit c.byte && (not (interrupts h.flags) || nat_eq c.byte 49)) (at_value (c ∷ cs) h)
+    (Refuses h.scratch h.flags)
+unfolding behind_indent
+indent-other options c cs h e = rw e refl
+
+-- a plus begins no break
+no-rule : (x : Bool) (c : Cell) (cs : List Cell) → is_bullet c.byte ≡ true → x && not (nat_eq c.byte plus) ≡ false →
+    x && is_rule (line_bytes (c ∷ cs)) ≡ false
+no-rule false c cs e f = refl
+no-rule true c cs e f =
+    let same : nat_eq c.byte plus ≡ true = grind (arith, nat_tests) in
+    let byte : c.byte ≡ 43 = eqb-true c.byte 43 same in rw byte refl
+
+-- a break stands here, or none
+break-outcome : (B : Behaviour) (options : ParseOptions) (c : Cell) (cs : List Cell) (h : Here) → HasItem B options →
+    options.constructs.thematic_break ≡ true → is_bullet c.byte ≡ true →
+    B (n.ThematicBreak thematic_break.Start) (c ∷ cs) h ≡
+    cond (is_rule (line_bytes (c ∷ cs))) (broken Apart c.byte (c ∷ cs) (entered_here parts.ThematicBreak h))
+    (Refuses (without_marker h.scratch) h.flags)
+unfolding before_marker
+break-outcome B options c cs h has on e =
+    has.breaks.each thematic_break.Start _ _
+    ∙ at-none parts.ThematicBreak options.constructs.thematic_break before_marker options (c ∷ cs) h on
+    (bullet-dark c.byte e)
+
+value-other : (c : Cell) (cs : List Cell) (h : Here) → is_digit c.byte ≡ false →
+    at_value (c ∷ cs) h ≡ Refuses h.scratch (record h.flags { leaf = held_leaf.Text })
+unfolding at_value
+value-other c cs h e = rw e refl
+
+-- behind a break the leaf is what it was
+restored-leaf : (B : Behaviour) (options : ParseOptions) (c : Cell) (cs : List Cell) (h : Here) (l : HeldLeaf) →
+    HasItem B options → is_bullet c.byte ≡ true → h.flags.leaf ≡ l →
+    goes B (behind_break l) (c ∷ cs) (record h { flags = record h.flags { leaf = held_leaf.None } }) ≡
+    Refuses h.scratch h.flags
+restored-leaf B options c cs h held_leaf.None has e is =
+    ap (λ (l : HeldLeaf). Refuses h.scratch (record h.flags { leaf = l })) (sym is)
+restored-leaf B options c cs h held_leaf.Text has e is =
+    has.each its.BeforeOrdered _ _ ∙ value-other c cs _ (bullet-no_digit c.byte e)
+    ∙ ap (λ (l : HeldLeaf). Refuses h.scratch (record h.flags { leaf = l })) (sym is)
+
+break-checked : (B : Behaviour) (feed : Feed) (w : World) (c : Cell) (cs : List Cell) (x : Bool) →
+    HasItem B w.setting.options → IsRest w.scratch → feed w.point ≡ c ∷ cs → is_bullet c.byte ≡ true →
+    is_rule (line_bytes (c ∷ cs)) ≡ x →
+    cond x (Refuses w.scratch w.flags) (at_bullet (c ∷ cs) (here w)) ≡
+    resume B feed w.events (frame_here (behind_break w.flags.leaf) (Next (n.ListItem its.BeforeUnordered)) true w)
+    (cond x (broken Apart c.byte (c ∷ cs) (entered_here parts.ThematicBreak (here w)))
+    (Refuses (without_marker w.scratch) w.flags))
+break-checked B feed w c cs true has is next e f =
+    let rest : without_marker w.scratch ≡ w.scratch = ap without_marker is ∙ sym is in
+    sym
+    (went-back B (behind_break w.flags.leaf) feed w (without_marker w.scratch)
+    (record w.flags { leaf = held_leaf.None })
+    ∙ ap₂
+    (λ (cells : List Cell) (s : Scratch).
+    goes B (behind_break w.flags.leaf) cells
+    (record (here w) { scratch = s; flags = record w.flags { leaf = held_leaf.None } }))
+    next rest
+    ∙ restored-leaf B w.setting.options c cs (here w) w.flags.leaf has e refl)
+break-checked B feed w c cs false has is next e f =
+    let rest : without_marker w.scratch ≡ w.scratch = ap without_marker is ∙ sym is in
+    sym
+    (went-back B (Next (n.ListItem its.BeforeUnordered)) feed w (without_marker w.scratch) w.flags
+    ∙ ap₂
+    (λ (cells : List Cell) (s : Scratch). B (n.ListItem its.BeforeUnordered) cells (record (here w) { scratch = s }))
+    next rest
+    ∙ has.each its.BeforeUnordered _ _)
+
+bullet_steps : (B : Behaviour) (feed : Feed) (w : World) (c : Cell) (cs : List Cell) (x : Bool) →
+    HasItem B w.setting.options → IsRest w.scratch → feed w.point ≡ c ∷ cs → is_bullet c.byte ≡ true →
+    w.setting.options.constructs.thematic_break && not (nat_eq c.byte plus) ≡ x →
+    Steps B feed (Next (n.ListItem its.Before)) w (bullet_code w x).to (bullet_code w x).world
+bullet_steps B feed w c cs true has is next e f =
+    let on = (and_parts w.setting.options.constructs.thematic_break (not (nat_eq c.byte plus)) f).0 in
+    let rule : Bool = is_rule (line_bytes (c ∷ cs)) in
+    begins_only B feed _ _ w (bullet_code w true).world
+    (frame_here (behind_break w.flags.leaf) (Next (n.ListItem its.BeforeUnordered)) true w) refl refl
+    (has.each its.Before _ _ ∙ ap (λ (x : List Cell). behind_indent w.setting.options x (here w)) next
+    ∙ indent-bullet w.setting.options c cs (here w) e
+    ∙ ap (λ (x : Bool). cond (x && rule) (Refuses w.scratch w.flags) (at_bullet (c ∷ cs) (here w))) on
+    ∙ break-checked B feed w c cs rule has is next e refl
+    ∙ ap
+    (resume B feed w.events (frame_here (behind_break w.flags.leaf) (Next (n.ListItem its.BeforeUnordered)) true w))
+    (sym
+    (ap (λ (x : List Cell). B (n.ThematicBreak thematic_break.Start) x (here w)) next
+    ∙ break-outcome B w.setting.options c cs (here w) has on e)))
+bullet_steps B feed w c cs false has is next e f =
+    passes B feed _ _ w w refl refl
+    (has.each its.Before _ _ ∙ ap (λ (x : List Cell). behind_indent w.setting.options x (here w)) next
+    ∙ indent-bullet w.setting.options c cs (here w) e
+    ∙ ap (λ (x : Bool). cond x (Refuses w.scratch w.flags) (at_bullet (c ∷ cs) (here w)))
+    (no-rule w.setting.options.constructs.thematic_break c cs e f)
+    ∙ ap (λ (x : List Cell). at_bullet x (here w)) (sym next)
+    ∙ sym (has.each its.BeforeUnordered _ _))
+
+before_steps : (B : Behaviour) (feed : Feed) (w : World) (o : Option ℕ) → HasItem B w.setting.options →
+    IsRest w.scratch → feed w.point ≡ ahead feed w o →
+    Steps B feed (Next (n.ListItem its.Before)) w (before_code w o).to (before_code w o).world
+before_steps B feed w None has is next =
+    passes B feed _ Nok w w refl refl
+    (has.each its.Before _ _ ∙ ap (λ (x : List Cell). behind_indent w.setting.options x (here w)) next
+    ∙ indent-none w.setting.options (here w))
+before_steps B feed w (Some b) has is next =
+    go (is_bullet b) (is_digit b && (not (interrupts w.flags) || nat_eq b 49)) refl refl
+  where
+    c : Cell
+    c = cell_here feed w b
+
+    cs : List Cell
+    cs = feed (after w.setting w.point)
+
+    other : (y : Bool) → is_bullet b ≡ false → is_digit b && (not (interrupts w.flags) || nat_eq b 49) ≡ y →
+        B (n.ListItem its.Before) (feed w.point) (here w) ≡
+        cond y (at_value (feed w.point) (here w)) (Refuses w.scratch w.flags)
+    other y e f =
+        has.each its.Before _ _ ∙ ap (λ (x : List Cell). behind_indent w.setting.options x (here w)) next
+        ∙ indent-other w.setting.options c cs (here w) e
+        ∙ ap (λ (x : Bool). cond x (at_value (c ∷ cs) (here w)) (Refuses w.scratch w.flags)) f
+        ∙ ap (λ (x : List Cell). cond y (at_value x (here w)) (Refuses w.scratch w.flags)) (sym next)
+
+    go : (x y : Bool) → is_bullet b ≡ x → is_digit b && (not (interrupts w.flags) || nat_eq b 49) ≡ y →
+        Steps B feed (Next (n.ListItem its.Before)) w (before_code w (Some b)).to (before_code w (Some b)).world
+    go true y e f =
+        rw e
+        (bullet_steps B feed w c cs (w.setting.options.constructs.thematic_break && not (nat_eq b plus)) has is next e
+        refl)
+    go false true e f =
+        rw (e, f) (passes B feed _ _ w w refl refl (other true e f ∙ sym (has.each its.BeforeOrdered _ _)))
+    go false false e f = rw (e, f) (passes B feed _ Nok w w refl refl (other false e f))
+
+unordered_steps : (B : Behaviour) (options : ParseOptions) (feed : Feed) (w : World) → HasItem B options →
+    Steps B feed (Next (n.ListItem its.BeforeUnordered)) w
+    (item_transition (λ name. true) its.BeforeUnordered w).to
+    (item_transition (λ name. true) its.BeforeUnordered w).world
+unfolding at_bullet
+unordered_steps B options feed w has =
+    moves B feed _ _ w (item_transition (λ name. true) its.BeforeUnordered w).world
+    (enter parts.ListItemPrefix w.point ∷ []) refl refl
+    (has.each its.BeforeUnordered _ _ ∙ sym (has.each its.Marker _ _))
+
+-- The value.
+
+value-taken : (feed : Feed) (w : World) (h : Here) (o : Option ℕ) → sees is_digit o ≡ true →
+    at_value (ahead feed w o) h ≡
+    in_value (ahead feed w o)
+    (record h { events = h.events ++ enter parts.ListItemPrefix h.point ∷ enter parts.ListItemValue h.point ∷ [] })
+unfolding at_value
+value-taken feed w h None e = cc
+value-taken feed w h (Some b) e = rw e refl
+
+value-none : (feed : Feed) (w : World) (h : Here) (o : Option ℕ) → sees is_digit o ≡ false →
+    at_value (ahead feed w o) h ≡ Refuses h.scratch (record h.flags { leaf = held_leaf.Text })
+unfolding at_value
+value-none feed w h None e = refl
+value-none feed w h (Some b) e = rw e refl
+
+ordered_steps : (B : Behaviour) (options : ParseOptions) (feed : Feed) (w : World) (x : Bool) → HasItem B options →
+    Sees feed w → sees is_digit w.current ≡ x →
+    Steps B feed (Next (n.ListItem its.BeforeOrdered)) w (before_ordered_code w x).to (before_ordered_code w x).world
+ordered_steps B options feed w true has s e =
+    let a = enter parts.ListItemPrefix w.point in
+    let b = enter parts.ListItemValue w.point in
+    moves B feed _ _ w (before_ordered_code w true).world (a ∷ b ∷ []) refl (append_assoc w.events (a ∷ []) (b ∷ []))
+    (has.each its.BeforeOrdered _ _ ∙ ap (λ (x : List Cell). at_value x (here w)) s.next
+    ∙ value-taken feed w (here w) w.current e
+    ∙ ap₂ (λ (cells : List Cell) (es : List Event). in_value cells (record (here w) { events = es })) (sym s.next)
+    (sym (append_assoc w.events (a ∷ []) (b ∷ [])))
+    ∙ sym (has.each its.Value _ _))
+ordered_steps B options feed w false has s e =
+    passes B feed _ Nok w (before_ordered_code w false).world refl refl
+    (has.each its.BeforeOrdered _ _ ∙ ap (λ (x : List Cell). at_value x (here w)) s.next
+    ∙ value-none feed w (here w) w.current e)
+
+-- one digit more
+value-more : (c : Cell) (cs : List Cell) (h : Here) → is_digit c.byte ≡ true → h.scratch.size < 9 →
+    in_value (c ∷ cs) h ≡
+    in_value cs (record h { point = c.after; scratch = record h.scratch { size = h.scratch.size + 1 } })
+unfolding in_value
+value-more c cs h e lt =
+    let room : 9 - h.scratch.size ≡ suc (9 - (h.scratch.size + 1)) = omega arith in
+    let m = digits_size (9 - (h.scratch.size + 1)) cs in
+    let sum : h.scratch.size + suc m ≡ h.scratch.size + 1 + m = omega arith in
+    rw (room, e, sum) refl
+
+-- where no digit is taken, the value ends
+value-full : (cells : List Cell) (h : Here) → 9 ≤ h.scratch.size → in_value cells h ≡ behind_value cells h
+unfolding in_value
+value-full [] h le = ap (λ (k : ℕ). behind_value [] (record h { scratch = record h.scratch { size = k } }))
+    (add-zero h.scratch.size)
+value-full (c ∷ cs) h le =
+    let room : 9 - h.scratch.size ≡ 0 = omega arith in rw (room, add-zero) refl
+
+value-stop : (c : Cell) (cs : List Cell) (h : Here) (room : ℕ) → is_digit c.byte ≡ false →
+    behind_value (digits_rest room (c ∷ cs))
+    (record h {
+      point = digits_end room (c ∷ cs) h.point;
+      scratch = record h.scratch { size = h.scratch.size + digits_size room (c ∷ cs) };
+    }) ≡
+    behind_value (c ∷ cs) h
+value-stop c cs h zero e = rw add-zero refl
+value-stop c cs h (suc room) e = rw (e, add-zero) refl
+
+value-ended : (feed : Feed) (w : World) (h : Here) (o : Option ℕ) → sees is_digit o && nat_lt h.scratch.size 9 ≡ false →
+    in_value (ahead feed w o) h ≡ behind_value (ahead feed w o) h
+unfolding in_value
+value-ended feed w h None e =
+    ap (λ (k : ℕ). behind_value [] (record h { scratch = record h.scratch { size = k } }))
+    (add-zero h.scratch.size)
+value-ended feed w h (Some b) e = go (is_digit b) refl e
+  where
+    go : (x : Bool) → is_digit b ≡ x → x && nat_lt h.scratch.size 9 ≡ false →
+        in_value (ahead feed w (Some b)) h ≡ behind_value (ahead feed w (Some b)) h
+    go true k f = value-full (ahead feed w (Some b)) h (grind (arith, nat_tests))
+    go false k f = value-stop (cell_here feed w b) (feed (after w.setting w.point)) h (9 - h.scratch.size) k
+
+value-behind : (feed : Feed) (w : World) (h : Here) (o : Option ℕ) (x : Bool) →
+    sees ends_value o && (not (interrupts h.flags) || nat_lt h.scratch.size 2) ≡ x →
+    behind_value (ahead feed w o) h ≡
+    cond x
+    (at_marker (ahead feed w o)
+    (record h { events = h.events ++ exit parts.ListItemValue h.point ∷ []; scratch = without_size h.scratch }))
+    (Refuses (without_size h.scratch) h.flags)
+unfolding behind_value
+value-behind feed w h None true e = cc
+value-behind feed w h None false e = refl
+value-behind feed w h (Some b) x e = rw e refl
+
+value_steps : (B : Behaviour) (options : ParseOptions) (feed : Feed) (w : World) (x y : Bool) → HasItem B options →
+    Sees feed w → sees is_digit w.current && nat_lt w.scratch.size 9 ≡ x →
+    sees ends_value w.current && (not (interrupts w.flags) || nat_lt w.scratch.size 2) ≡ y →
+    Steps B feed (Next (n.ListItem its.Value)) w (value_code w x y).to (value_code w x y).world
+value_steps B options feed w true y has s e f = go w.current s.next e
+  where
+    go : (o : Option ℕ) → feed w.point ≡ ahead feed w o → sees is_digit o && nat_lt w.scratch.size 9 ≡ true →
+        Steps B feed (Next (n.ListItem its.Value)) w (value_code w true y).to (value_code w true y).world
+    go None next k = cc
+    go (Some b) next k =
+        let both = and_parts (is_digit b) (nat_lt w.scratch.size 9) k in
+        let lt : w.scratch.size < 9 = let less = both.1 in grind (arith, nat_tests) in
+        passes B feed _ _ w (value_code w true y).world refl refl
+        (has.each its.Value _ _ ∙ ap (λ (x : List Cell). in_value x (here w)) next
+        ∙ value-more (cell_here feed w b) (feed (after w.setting w.point)) (here w) both.0 lt
+        ∙ sym (has.each its.Value _ _))
+value_steps B options feed w false true has s e f =
+    moves B feed _ _ w (value_code w false true).world (exit parts.ListItemValue w.point ∷ []) refl refl
+    (has.each its.Value _ _ ∙ ap (λ (x : List Cell). in_value x (here w)) s.next
+    ∙ value-ended feed w (here w) w.current e ∙ value-behind feed w (here w) w.current true f
+    ∙ ap
+    (λ (x : List Cell).
+    at_marker x
+    (record (here w) {
+      events = w.events ++ exit parts.ListItemValue w.point ∷ [];
+      scratch = without_size w.scratch;
+    }))
+    (sym s.next)
+    ∙ sym (has.each its.Marker _ _))
+value_steps B options feed w false false has s e f =
+    passes B feed _ Nok w (value_code w false false).world refl refl
+    (has.each its.Value _ _ ∙ ap (λ (x : List Cell). in_value x (here w)) s.next
+    ∙ value-ended feed w (here w) w.current e ∙ value-behind feed w (here w) w.current false f)
+
+-- The marker.
+
+marker-taken : (feed : Feed) (w : World) (h : Here) (o : Option ℕ) → sees is_item_marker o ≡ true →
+    at_marker (ahead feed w o) h ≡
+    behind_marker (feed (after w.setting w.point))
+    (record h {
+      events =
+          h.events ++ enter parts.ListItemMarker h.point ∷ exit parts.ListItemMarker (after w.setting w.point) ∷ [];
+      point = after w.setting w.point;
+    })
+unfolding at_marker
+marker-taken feed w h None e = cc
+marker-taken feed w h (Some b) e = rw e refl
+
+marker-none : (feed : Feed) (w : World) (h : Here) (o : Option ℕ) → sees is_item_marker o ≡ false →
+    at_marker (ahead feed w o) h ≡ Refuses h.scratch h.flags
+unfolding at_marker
+marker-none feed w h None e = refl
+marker-none feed w h (Some b) e = rw e refl
+
+marker_steps : (B : Behaviour) (options : ParseOptions) (feed : Feed) (w : World) (x : Bool) → HasItem B options →
+    Sees feed w → sees is_item_marker w.current ≡ x →
+    Steps B feed (Next (n.ListItem its.Marker)) w (marker_code w x).to (marker_code w x).world
+marker_steps B options feed w true has s e =
+    let q = after w.setting w.point in
+    let a = enter parts.ListItemMarker w.point in
+    let b = exit parts.ListItemMarker q in
+    moves B feed _ _ w (marker_code w true).world (a ∷ b ∷ []) refl (append_assoc w.events (a ∷ []) (b ∷ []))
+    (has.each its.Marker _ _ ∙ ap (λ (x : List Cell). at_marker x (here w)) s.next
+    ∙ marker-taken feed w (here w) w.current e
+    ∙ ap (λ (es : List Event). behind_marker (feed q) (record (here w) { events = es; point = q }))
+    (sym (append_assoc w.events (a ∷ []) (b ∷ [])))
+    ∙ sym (has.each its.MarkerAfter _ _))
+marker_steps B options feed w false has s e =
+    passes B feed _ Nok w w refl refl
+    (has.each its.Marker _ _ ∙ ap (λ (x : List Cell). at_marker x (here w)) s.next
+    ∙ marker-none feed w (here w) w.current e)
+
+-- The choice between a blank rest and another one.
+
+-- by what stands first behind whitespace a line is blank, or it is not
+blank-behind : (cells : List Cell) (b : ℕ) → seen_behind cells ≡ Some b → is_blank (line_bytes cells) ≡ nat_eq b 10
+blank-behind [] b seen = cc
+blank-behind (c ∷ cs) b seen = go (is_white c.byte) refl seen (blank-behind cs b)
+  where
+    last : (y : Bool) → is_white c.byte ≡ false → nat_eq c.byte 10 ≡ y → is_blank (line_bytes (c ∷ cs)) ≡ y
+    last true k e = rw e refl
+    last false k e = rw (e, k) refl
+
+    go : (x : Bool) → is_white c.byte ≡ x → cond x (seen_behind cs) (Some c.byte) ≡ Some b →
+        (seen_behind cs ≡ Some b → is_blank (line_bytes cs) ≡ nat_eq b 10) →
+        is_blank (line_bytes (c ∷ cs)) ≡ nat_eq b 10
+    go true k is next = rw (white-no_ending c.byte k, k) (next is)
+    go false k is next =
+        let same : c.byte ≡ b = cc in last (nat_eq c.byte 10) k refl ∙ ap (λ (x : ℕ). nat_eq x 10) same
+
+blank-outcome : (cells : List Cell) (h : Here) (x : Bool) → is_blank (line_bytes cells) ≡ x →
+    blank_at cells h ≡
+    cond x
+    (Accepts (record h { events = h.events ++ blank_events cells h.point; point = line_end cells h.point })
+    (from_ending cells))
+    (Refuses h.scratch h.flags)
+unfolding blank_at
+blank-outcome cells h x e = rw e refl
+
+choice_steps : (B : Behaviour) (options : ParseOptions) (feed : Feed) (w : World) (name blank filled : ItemState)
+    (o : Option ℕ) →
+    HasItem B options → Sees feed w → looks_behind w ≡ o →
+    B (n.ListItem name) (feed w.point) (here w) ≡
+    cond (is_blank (line_bytes (feed w.point))) (B (n.ListItem blank) (feed w.point) (here w))
+    (B (n.ListItem filled) (feed w.point) (here w)) →
+    Steps B feed (Next (n.ListItem name)) w (blank_code blank filled w o).to (blank_code blank filled w o).world
+choice_steps B options feed w name blank filled None has s e is =
+    begins_only B feed _ _ w (blank_code blank filled w None).world
+    (frame_here (Next (n.ListItem blank)) (Next (n.ListItem filled)) true w) refl refl
+    (is ∙ go (is_blank (line_bytes (feed w.point))) refl
+    ∙ ap (resume B feed w.events (frame_here (Next (n.ListItem blank)) (Next (n.ListItem filled)) true w))
+    (sym (has.blank.each blank_line.Start _ _)))
+  where
+    go : (x : Bool) → is_blank (line_bytes (feed w.point)) ≡ x →
+        cond x (B (n.ListItem blank) (feed w.point) (here w)) (B (n.ListItem filled) (feed w.point) (here w)) ≡
+        resume B feed w.events (frame_here (Next (n.ListItem blank)) (Next (n.ListItem filled)) true w)
+        (blank_at (feed w.point) (here w))
+    go true k =
+        sym
+        (ap (resume B feed w.events (frame_here (Next (n.ListItem blank)) (Next (n.ListItem filled)) true w))
+        (blank-outcome (feed w.point) (here w) true k)
+        ∙ went-back B (Next (n.ListItem blank)) feed w w.scratch w.flags)
+    go false k =
+        sym
+        (ap (resume B feed w.events (frame_here (Next (n.ListItem blank)) (Next (n.ListItem filled)) true w))
+        (blank-outcome (feed w.point) (here w) false k)
+        ∙ went-back B (Next (n.ListItem filled)) feed w w.scratch w.flags)
+choice_steps B options feed w name blank filled (Some b) has s e is =
+    go (nat_eq b 10) refl
+    (is
+    ∙ ap
+    (λ (x : Bool).
+    cond x (B (n.ListItem blank) (feed w.point) (here w)) (B (n.ListItem filled) (feed w.point) (here w)))
+    (blank-behind (feed w.point) b (seen-first feed w b s e)))
+  where
+    go : (x : Bool) → nat_eq b 10 ≡ x →
+        B (n.ListItem name) (feed w.point) (here w) ≡
+        cond (nat_eq b 10) (B (n.ListItem blank) (feed w.point) (here w))
+        (B (n.ListItem filled) (feed w.point) (here w)) →
+        Steps B feed (Next (n.ListItem name)) w (blank_code blank filled w (Some b)).to
+        (blank_code blank filled w (Some b)).world
+    go true k same = rw k (passes B feed _ _ w w refl refl (rw k at same))
+    go false k same = rw k (passes B feed _ _ w w refl refl (rw k at same))
+
+marker_after_steps : (B : Behaviour) (options : ParseOptions) (feed : Feed) (w : World) → HasItem B options →
+    Sees feed w →
+    Steps B feed (Next (n.ListItem its.MarkerAfter)) w
+    (blank_code its.After its.MarkerAfterFilled w (looks_behind w)).to
+    (blank_code its.After its.MarkerAfterFilled w (looks_behind w)).world
+unfolding behind_marker
+marker_after_steps B options feed w has s =
+    choice_steps B options feed w its.MarkerAfter its.After its.MarkerAfterFilled (looks_behind w) has s refl
+    (has.each its.MarkerAfter _ _
+    ∙ ap₂ (λ (a b : Outcome). cond (is_blank (line_bytes (feed w.point))) a b) (sym (has.each its.After _ _))
+    (sym (has.each its.MarkerAfterFilled _ _)))
+
+-- The padding.
+
+filled-at : (cells : List Cell) (h : Here) (x y : Bool) → begins_white cells ≡ x →
+    begins_white (white_rest 4 cells) ≡ y →
+    filled_at cells h ≡
+    cond (x && not y)
+    (behind_prefix (white_rest 4 cells) (behind_columns 4 cells (record h { scratch = record h.scratch { seen = true } })))
+    (one_column cells (record h { scratch = record h.scratch { seen = true } }))
+unfolding filled_at
+filled-at cells h x y e f = rw (e, f) refl
+
+padding-at : (cells : List Cell) (h : Here) (x y : Bool) → begins_white cells ≡ x →
+    begins_white (white_rest 4 cells) ≡ y →
+    padding_at cells h ≡
+    cond (x && not y) (Accepts (behind_columns 4 cells h) (white_rest 4 cells)) (Refuses (calmed h.scratch) h.flags)
+unfolding padding_at behind_padding
+padding-at cells h true true e f = rw (e, f) refl
+padding-at cells h true false e f = rw (e, f) refl
+padding-at cells h false y e f = rw e refl
+
+filled_steps : (B : Behaviour) (options : ParseOptions) (feed : Feed) (w : World) → HasItem B options →
+    IsRest w.scratch →
+    Steps B feed (Next (n.ListItem its.MarkerAfterFilled)) w (filled_transition w).to (filled_transition w).world
+filled_steps B options feed w has is =
+    begins_only B feed _ _ w (filled_transition w).world f refl refl
+    (has.each its.MarkerAfterFilled _ _ ∙ filled-at cells (here w) white more refl refl
+    ∙ go (white && not more)
+    ∙ ap (resume B feed w.events f) (sym (has.each its.Whitespace _ _ ∙ padding-at cells k white more refl refl)))
+  where
+    f : Frame
+    f = frame_here (Next (n.ListItem its.After)) (Next (n.ListItem its.PrefixOther)) false w
+
+    cells : List Cell
+    cells = feed w.point
+
+    white : Bool
+    white = begins_white cells
+
+    more : Bool
+    more = begins_white (white_rest 4 cells)
+
+    k : Here
+    k = record (here w) { scratch = record w.scratch { seen = true } }
+
+    calm : calmed k.scratch ≡ k.scratch
+    calm = let e : calmed w.scratch ≡ w.scratch = ap calmed is ∙ sym is in ap (λ (s : Scratch). record s { seen = true }) e
+
+    go : (x : Bool) →
+        cond x (behind_prefix (white_rest 4 cells) (behind_columns 4 cells k)) (one_column cells k) ≡
+        resume B feed w.events f
+        (cond x (Accepts (behind_columns 4 cells k) (white_rest 4 cells)) (Refuses (calmed k.scratch) k.flags))
+    go true = sym (has.each its.After _ _)
+    go false =
+        sym
+        (went-back B (Next (n.ListItem its.PrefixOther)) feed w (calmed k.scratch) w.flags
+        ∙ ap (λ (s : Scratch). B (n.ListItem its.PrefixOther) cells (record (here w) { scratch = s })) calm
+        ∙ has.each its.PrefixOther _ _)
+
+-- where no whitespace stands, none is taken
+white-refused : (cells : List Cell) (h : Here) → begins_white cells ≡ false →
+    white_at cells (record h { scratch = asking 1 4 0 h.scratch }) ≡ Refuses (calmed h.scratch) h.flags
+unfolding white_at after_white
+white-refused cells h e = rw e refl
+
+padding-some : (cells : List Cell) (h : Here) → begins_white cells ≡ true →
+    padding_at cells h ≡ behind_padding (white_rest 4 cells) (behind_white 4 cells h)
+unfolding padding_at
+padding-some cells h e = rw e refl
+
+padding-none : (cells : List Cell) (h : Here) → begins_white cells ≡ false →
+    padding_at cells h ≡ Refuses (calmed h.scratch) h.flags
+unfolding padding_at
+padding-none cells h e = rw e refl
+
+whitespace_steps : (B : Behaviour) (options : ParseOptions) (feed : Feed) (w : World) (x : Bool) → HasItem B options →
+    begins_white (feed w.point) ≡ x →
+    Steps B feed (Next (n.ListItem its.Whitespace)) w (item_transition (λ name. true) its.Whitespace w).to
+    (item_transition (λ name. true) its.Whitespace w).world
+whitespace_steps B options feed w true has e =
+    let f : Frame = frame_here (Next (n.ListItem its.WhitespaceAfter)) Nok false w in
+    begins_only B feed _ _ w (item_transition (λ name. true) its.Whitespace w).world f refl refl
+    (has.each its.Whitespace _ _ ∙ padding-some (feed w.point) (here w) e ∙ sym (has.each its.WhitespaceAfter _ _)
+    ∙ white-tried B feed f w.events (feed w.point) (here w) 1 4 has.white e (omega arith) (omega arith) refl)
+whitespace_steps B options feed w false has e =
+    let f : Frame = frame_here (Next (n.ListItem its.WhitespaceAfter)) Nok false w in
+    begins_only B feed _ _ w (item_transition (λ name. true) its.Whitespace w).world f refl refl
+    (has.each its.Whitespace _ _ ∙ padding-none (feed w.point) (here w) e
+    ∙ ap (resume B feed w.events f) (sym (has.white.each space_or_tab.Start _ _ ∙ white-refused (feed w.point) (here w) e)))
+
+padding-ended : (cells : List Cell) (h : Here) (x : Bool) → begins_white cells ≡ x →
+    behind_padding cells h ≡ cond x (Refuses h.scratch h.flags) (Accepts h cells)
+unfolding behind_padding
+padding-ended cells h x e = rw e refl
+
+whitespace_after_steps : (B : Behaviour) (options : ParseOptions) (feed : Feed) (w : World) (x : Bool) →
+    HasItem B options → Sees feed w → sees_white w.current ≡ x →
+    Steps B feed (Next (n.ListItem its.WhitespaceAfter)) w (whitespace_after_code w x).to (whitespace_after_code w x).world
+whitespace_after_steps B options feed w true has s e =
+    passes B feed _ Nok w w refl refl
+    (has.each its.WhitespaceAfter _ _ ∙ padding-ended (feed w.point) (here w) true (begins-seen feed w s ∙ e))
+whitespace_after_steps B options feed w false has s e =
+    passes B feed _ _ w w refl refl
+    (has.each its.WhitespaceAfter _ _ ∙ padding-ended (feed w.point) (here w) false (begins-seen feed w s ∙ e))
+
+column-taken : (feed : Feed) (w : World) (h : Here) (o : Option ℕ) → sees_white o ≡ true →
+    one_column (ahead feed w o) h ≡
+    behind_prefix (feed (after w.setting w.point))
+    (record h {
+      events = h.events ++ enter parts.SpaceOrTab h.point ∷ exit parts.SpaceOrTab (after w.setting w.point) ∷ [];
+      point = after w.setting w.point;
+    })
+unfolding one_column
+column-taken feed w h None e = cc
+column-taken feed w h (Some b) e = rw e refl
+
+column-none : (feed : Feed) (w : World) (h : Here) (o : Option ℕ) → sees_white o ≡ false →
+    one_column (ahead feed w o) h ≡ Refuses (unseen h.scratch) h.flags
+unfolding one_column
+column-none feed w h None e = refl
+column-none feed w h (Some b) e = rw e refl
+
+prefix_other_steps : (B : Behaviour) (options : ParseOptions) (feed : Feed) (w : World) (x : Bool) →
+    HasItem B options → Sees feed w → sees_white w.current ≡ x →
+    Steps B feed (Next (n.ListItem its.PrefixOther)) w (prefix_other_code w x).to (prefix_other_code w x).world
+prefix_other_steps B options feed w true has s e =
+    let q = after w.setting w.point in
+    let a = enter parts.SpaceOrTab w.point in
+    let b = exit parts.SpaceOrTab q in
+    moves B feed _ _ w (prefix_other_code w true).world (a ∷ b ∷ []) refl (append_assoc w.events (a ∷ []) (b ∷ []))
+    (has.each its.PrefixOther _ _ ∙ ap (λ (x : List Cell). one_column x (here w)) s.next
+    ∙ column-taken feed w (here w) w.current e
+    ∙ ap (λ (es : List Event). behind_prefix (feed q) (record (here w) { events = es; point = q }))
+    (sym (append_assoc w.events (a ∷ []) (b ∷ [])))
+    ∙ sym (has.each its.After _ _))
+prefix_other_steps B options feed w false has s e =
+    passes B feed _ Nok w (prefix_other_code w false).world refl refl
+    (has.each its.PrefixOther _ _ ∙ ap (λ (x : List Cell). one_column x (here w)) s.next
+    ∙ column-none feed w (here w) w.current e)
+
+after_steps : (B : Behaviour) (options : ParseOptions) (feed : Feed) (is_name : ResolveName → Bool) (w : World)
+    (x : Bool) →
+    HasItem B options → not w.scratch.seen && interrupts w.flags ≡ x →
+    Steps B feed (Next (n.ListItem its.After)) w (after_code is_name w x (not w.scratch.seen)).to
+    (after_code is_name w x (not w.scratch.seen)).world
+unfolding behind_prefix
+after_steps B options feed is_name w true has e =
+    passes B feed _ Nok w (after_code is_name w true (not w.scratch.seen)).world refl refl
+    (has.each its.After _ _ ∙ rw e refl)
+after_steps B options feed is_name w false has e =
+    moves B feed _ _ w (after_code is_name w false (not w.scratch.seen)).world (exit parts.ListItemPrefix w.point ∷ [])
+    refl refl (has.each its.After _ _ ∙ rw e refl)
+
+-- Further lines.
+
+-- at rest no indent was begun
+rest-blank : (cells : List Cell) (h : Here) → IsRest h.scratch →
+    blank_behaves h.scratch.whitespace.max cells h ≡ indent_blank cells h
+rest-blank cells h is = ap (λ (s : Scratch). blank_behaves s.whitespace.max cells h) is
+
+rest-filled : (cells : List Cell) (h : Here) → IsRest h.scratch →
+    filled_behaves h.scratch.whitespace.max cells h ≡ indent_filled cells h
+rest-filled cells h is = ap (λ (s : Scratch). filled_behaves s.whitespace.max cells h) is
+
+on-ended : (cells : List Cell) (h : Here) (y : Bool) → ends_line (first_seen cells) ≡ true →
+    h.flags.asked.starts_blank ≡ y →
+    item_on cells h ≡ cond y (Refuses h.scratch h.flags) (Accepts h cells)
+unfolding item_on
+on-ended cells h y e f = rw e (ap (λ (x : Bool). cond x (Refuses h.scratch h.flags) (Accepts h cells)) f)
+
+on-further : (cells : List Cell) (h : Here) → ends_line (first_seen cells) ≡ false →
+    item_on cells h ≡ cond (is_blank (line_bytes cells)) (indent_blank cells h) (indent_filled cells h)
+unfolding item_on
+on-further cells h e = rw e refl
+
+cont_start_steps : (B : Behaviour) (options : ParseOptions) (feed : Feed) (w : World) (x y : Bool) →
+    HasItem B options → Sees feed w → IsRest w.scratch → ends_line w.current ≡ x → w.flags.asked.starts_blank ≡ y →
+    Steps B feed (Next (n.ListItem its.ContStart)) w (cont_start_code w x y).to (cont_start_code w x y).world
+cont_start_steps B options feed w true true has s is e f =
+    passes B feed _ Nok w w refl refl
+    (has.each its.ContStart _ _ ∙ on-ended (feed w.point) (here w) true (ap ends_line (first-seen feed w s) ∙ e) f)
+cont_start_steps B options feed w true false has s is e f =
+    passes B feed _ _ w w refl refl
+    (has.each its.ContStart _ _ ∙ on-ended (feed w.point) (here w) false (ap ends_line (first-seen feed w s) ∙ e) f)
+cont_start_steps B options feed w false y has s is e f =
+    choice_steps B options feed w its.ContStart its.ContBlank its.ContFilled (looks_behind w) has s refl
+    (has.each its.ContStart _ _ ∙ on-further (feed w.point) (here w) (ap ends_line (first-seen feed w s) ∙ e)
+    ∙ ap₂ (λ (a b : Outcome). cond (is_blank (line_bytes (feed w.point))) a b)
+    (sym (has.each its.ContBlank _ _ ∙ rest-blank (feed w.point) (here w) is))
+    (sym (has.each its.ContFilled _ _ ∙ rest-filled (feed w.point) (here w) is)))
+
+-- a column is asked for at least
+pub least-some : (c : Container) → (more : ℕ) × (least_width c ≡ suc more)
+least-some c = go c.width
+  where
+    go : (width : ℕ) → (more : ℕ) × (cond (nat_eq width 0) 1 width ≡ suc more)
+    go zero = (0, refl)
+    go (suc more) =
+        let some : nat_eq (suc more) 0 ≡ false = grind (arith, nat_tests) in
+        (more, ap (λ (x : Bool). cond x 1 (suc more)) some)
+
+-- a state in an indent has the rest of it left
+record InIndent (B : Behaviour) (state : ItemState) : Type 0 where
+  inside : (cells : List Cell) (h : Here) (more : ℕ) → h.scratch.whitespace.max ≡ suc more →
+      B (n.ListItem state) cells h ≡ inside_indent cells h
+
+indent-taken : (feed : Feed) (w : World) (min : ℕ) (h : Here) (o : Option ℕ) → sees_white o ≡ true →
+    indent_at min (ahead feed w o) h ≡
+    inside_indent (feed (after w.setting w.point))
+    (record h {
+      events = h.events ++ enter parts.SpaceOrTab h.point ∷ [];
+      point = after w.setting w.point;
+      scratch = asking min (least_width h.flags.asked) 1 h.scratch;
+    })
+unfolding indent_at
+indent-taken feed w min h None e = cc
+indent-taken feed w min h (Some b) e = rw e refl
+
+indent-refused : (feed : Feed) (w : World) (min : ℕ) (h : Here) (o : Option ℕ) → sees_white o ≡ false →
+    indent_at min (ahead feed w o) h ≡ Refuses h.scratch h.flags
+unfolding indent_at
+indent-refused feed w min h None e = refl
+indent-refused feed w min h (Some b) e = rw e refl
+
+indent_steps : (B : Behaviour) (feed : Feed) (w : World) (state : ItemState) (min : ℕ) (x : Bool) → InIndent B state →
+    Sees feed w → sees_white w.current ≡ x →
+    B (n.ListItem state) (feed w.point) (here w) ≡ indent_at min (feed w.point) (here w) →
+    Steps B feed (Next (n.ListItem state)) w (indent_code state min w x).to (indent_code state min w x).world
+indent_steps B feed w state min true at s e is =
+    let some = least-some w.flags.asked in
+    moves B feed _ _ w (indent_code state min w true).world (enter parts.SpaceOrTab w.point ∷ []) refl refl
+    (is ∙ ap (λ (x : List Cell). indent_at min x (here w)) s.next ∙ indent-taken feed w min (here w) w.current e
+    ∙ sym (at.inside _ _ some.0 some.1))
+indent_steps B feed w state min false at s e is =
+    passes B feed _ Nok w w refl refl
+    (is ∙ ap (λ (x : List Cell). indent_at min x (here w)) s.next ∙ indent-refused feed w min (here w) w.current e)
+
+-- one column more
+inside-more : (c : Cell) (cs : List Cell) (h : Here) → is_white c.byte ≡ true →
+    h.scratch.whitespace.size < h.scratch.whitespace.max →
+    inside_indent (c ∷ cs) h ≡
+    inside_indent cs
+    (record h {
+      point = c.after;
+      scratch = asking h.scratch.whitespace.min h.scratch.whitespace.max (h.scratch.whitespace.size + 1) h.scratch;
+    })
+unfolding inside_indent
+inside-more c cs h e lt =
+    let room : h.scratch.whitespace.max - h.scratch.whitespace.size ≡
+    suc (h.scratch.whitespace.max - (h.scratch.whitespace.size + 1)) = omega arith in
+    let m = white_size (h.scratch.whitespace.max - (h.scratch.whitespace.size + 1)) cs in
+    let sum : h.scratch.whitespace.size + suc m ≡ h.scratch.whitespace.size + 1 + m = omega arith in
+    rw (room, e, sum) refl
+
+abbrev inside_ended : List Cell → Here → Outcome
+inside_ended cells h =
+    cond (nat_le h.scratch.whitespace.min h.scratch.whitespace.size)
+    (Accepts
+    (record {
+      events = h.events ++ exit parts.SpaceOrTab h.point ∷ [];
+      point = h.point;
+      scratch = calmed h.scratch;
+      flags = item_gone_on h.flags;
+    })
+    cells)
+    (Refuses (calmed h.scratch) h.flags)
+
+-- where no more is taken
+inside-none : (cells : List Cell) (h : Here) → begins_white cells ≡ false →
+    inside_indent cells h ≡ inside_ended cells h
+unfolding inside_indent
+inside-none cells h e =
+    let room = h.scratch.whitespace.max - h.scratch.whitespace.size in
+    rw (none-end room cells h.point e, none-rest room cells e, none-size room cells e, add-zero) refl
+
+inside-full : (cells : List Cell) (h : Here) → h.scratch.whitespace.max ≤ h.scratch.whitespace.size →
+    inside_indent cells h ≡ inside_ended cells h
+unfolding inside_indent
+inside-full [] h le = rw add-zero refl
+inside-full (c ∷ cs) h le =
+    let room : h.scratch.whitespace.max - h.scratch.whitespace.size ≡ 0 = omega arith in rw (room, add-zero) refl
+
+inside-stop : (feed : Feed) (w : World) → Sees feed w →
+    sees_white w.current && nat_lt w.scratch.whitespace.size w.scratch.whitespace.max ≡ false →
+    inside_indent (feed w.point) (here w) ≡ inside_ended (feed w.point) (here w)
+inside-stop feed w s e = go (sees_white w.current) refl e
+  where
+    go : (x : Bool) → sees_white w.current ≡ x →
+        x && nat_lt w.scratch.whitespace.size w.scratch.whitespace.max ≡ false →
+        inside_indent (feed w.point) (here w) ≡ inside_ended (feed w.point) (here w)
+    go true k f = inside-full (feed w.point) (here w) (grind (arith, nat_tests))
+    go false k f = inside-none (feed w.point) (here w) (begins-seen feed w s ∙ k)
+
+inside_steps : (B : Behaviour) (feed : Feed) (w : World) (state : ItemState) (x y : Bool) (more : ℕ) →
+    InIndent B state → Sees feed w → w.scratch.whitespace.max ≡ suc more →
+    sees_white w.current && nat_lt w.scratch.whitespace.size w.scratch.whitespace.max ≡ x →
+    nat_le w.scratch.whitespace.min w.scratch.whitespace.size ≡ y →
+    Steps B feed (Next (n.ListItem state)) w (inside_code state w x y).to (inside_code state w x y).world
+inside_steps B feed w state true y more at s some e f = go w.current s.next e
+  where
+    go : (o : Option ℕ) → feed w.point ≡ ahead feed w o →
+        sees_white o && nat_lt w.scratch.whitespace.size w.scratch.whitespace.max ≡ true →
+        Steps B feed (Next (n.ListItem state)) w (inside_code state w true y).to (inside_code state w true y).world
+    go None next k = cc
+    go (Some b) next k =
+        let both = and_parts (is_white b) (nat_lt w.scratch.whitespace.size w.scratch.whitespace.max) k in
+        let lt : w.scratch.whitespace.size < w.scratch.whitespace.max = let less = both.1 in grind (arith, nat_tests) in
+        passes B feed _ _ w (inside_code state w true y).world refl refl
+        (at.inside _ _ more some ∙ ap (λ (x : List Cell). inside_indent x (here w)) next
+        ∙ inside-more (cell_here feed w b) (feed (after w.setting w.point)) (here w) both.0 lt
+        ∙ sym (at.inside _ _ more some))
+inside_steps B feed w state false true more at s some e f =
+    moves B feed _ _ w (inside_code state w false true).world (exit parts.SpaceOrTab w.point ∷ []) refl refl
+    (at.inside _ _ more some ∙ inside-stop feed w s e ∙ rw f refl)
+inside_steps B feed w state false false more at s some e f =
+    passes B feed _ Nok w (inside_code state w false false).world refl refl
+    (at.inside _ _ more some ∙ inside-stop feed w s e ∙ rw f refl)
+
+in-blank : (B : Behaviour) (options : ParseOptions) → HasItem B options → InIndent B its.ContBlank
+in-blank B options has = record {
+  inside = λ cells h more e.
+      has.each its.ContBlank _ _ ∙ ap (λ (max : ℕ). blank_behaves max cells h) e;
+}
+
+in-filled : (B : Behaviour) (options : ParseOptions) → HasItem B options → InIndent B its.ContFilled
+in-filled B options has = record {
+  inside = λ cells h more e.
+      has.each its.ContFilled _ _ ∙ ap (λ (max : ℕ). filled_behaves max cells h) e;
+}
+
+cont_blank_steps : (B : Behaviour) (options : ParseOptions) (feed : Feed) (w : World) (max : ℕ) → HasItem B options →
+    Sees feed w → w.scratch.whitespace.max ≡ max →
+    Steps B feed (Next (n.ListItem its.ContBlank)) w (cont_blank_code w max).to (cont_blank_code w max).world
+cont_blank_steps B options feed w (suc more) has s e =
+    inside_steps B feed w its.ContBlank _ _ more (in-blank B options has) s e refl refl
+cont_blank_steps B options feed w zero has s e =
+    go w.flags.asked.starts_blank
+    (has.each its.ContBlank _ _ ∙ ap (λ (max : ℕ). blank_behaves max (feed w.point) (here w)) e)
+  where
+    indent : Outcome
+    indent = indent_at 1 (feed w.point) (here w)
+
+    go : (x : Bool) →
+        B (n.ListItem its.ContBlank) (feed w.point) (here w) ≡ cond x (Refuses w.scratch w.flags) indent →
+        let a = cond x (record { to = Nok; world = w }) (indent_code its.ContBlank 1 w (sees_white w.current)) in
+        Steps B feed (Next (n.ListItem its.ContBlank)) w a.to a.world
+    go true is = passes B feed _ Nok w w refl refl is
+    go false is =
+        indent_steps B feed w its.ContBlank 1 (sees_white w.current) (in-blank B options has) s refl is
+
+cont_filled_steps : (B : Behaviour) (options : ParseOptions) (feed : Feed) (w : World) (max : ℕ) → HasItem B options →
+    Sees feed w → w.scratch.whitespace.max ≡ max →
+    Steps B feed (Next (n.ListItem its.ContFilled)) w (cont_filled_code w max).to (cont_filled_code w max).world
+cont_filled_steps B options feed w (suc more) has s e =
+    inside_steps B feed w its.ContFilled _ _ more (in-filled B options has) s e refl refl
+cont_filled_steps B options feed w zero has s e =
+    indent_steps B feed w its.ContFilled (least_width w.flags.asked) (sees_white w.current) (in-filled B options has) s
+    refl (has.each its.ContFilled _ _ ∙ ap (λ (max : ℕ). filled_behaves max (feed w.point) (here w)) e)
+
+has_start : (B : Behaviour) (options : ParseOptions) → HasItem B options →
+    HasStart B options parts.ListItem options.constructs.list_item (behind_indent options) (n.ListItem its.Start)
+    (n.ListItem its.Before)
+has_start B options has = record { white = has.white; start_is = has.each its.Start; next_is = has.each its.Before }
+
+-- each state of a list item takes one step of what it means
+pub item_steps : (B : Behaviour) (feed : Feed) (is_name : ResolveName → Bool) (state : ItemState) (w : World)
+    (K : After) →
+    HasItem B w.setting.options → Sees feed w → item_ready (n.ListItem state) (spot w) K →
+    Steps B feed (Next (n.ListItem state)) w (item_transition is_name state w).to
+    (item_transition is_name state w).world
+item_steps B feed is_name its.Start w K has s at =
+    start-steps B feed parts.ListItem _ (behind_indent w.setting.options) _ _ w _ _ (has_start B _ has) s refl refl
+item_steps B feed is_name its.Before w K has s at = before_steps B feed w _ has at.0 s.next
+item_steps B feed is_name its.BeforeUnordered w K has s at = unordered_steps B _ feed w has
+item_steps B feed is_name its.BeforeOrdered w K has s at = ordered_steps B _ feed w _ has s refl
+item_steps B feed is_name its.Value w K has s at = value_steps B _ feed w _ _ has s refl refl
+item_steps B feed is_name its.Marker w K has s at = marker_steps B _ feed w _ has s refl
+item_steps B feed is_name its.MarkerAfter w K has s at = marker_after_steps B _ feed w has s
+item_steps B feed is_name its.MarkerAfterFilled w K has s at = filled_steps B _ feed w has at.0
+item_steps B feed is_name its.Whitespace w K has s at = whitespace_steps B _ feed w _ has refl
+item_steps B feed is_name its.WhitespaceAfter w K has s at = whitespace_after_steps B _ feed w _ has s refl
+item_steps B feed is_name its.PrefixOther w K has s at = prefix_other_steps B _ feed w _ has s refl
+item_steps B feed is_name its.After w K has s at = after_steps B _ feed is_name w _ has refl
+item_steps B feed is_name its.ContStart w K has s at = cont_start_steps B _ feed w _ _ has s at.0.0 refl refl
+item_steps B feed is_name its.ContBlank w K has s at = cont_blank_steps B _ feed w _ has s refl
+item_steps B feed is_name its.ContFilled w K has s at = cont_filled_steps B _ feed w _ has s refl

@@ -1,0 +1,560 @@
+// List items (CommonMark 5.2).
+//
+//     list_item ::= small_indent ( '*' | '+' | '-' | 1*9digit ( '.' | ')' ) ) padding
+//
+// The padding is 1 to 4 columns of whitespace in front of something else, one of 5 or more, and none where the rest of
+// the line is blank. What looks like a thematic break is no item; and text is interrupted only by an item that is not
+// blank and whose number, if any, is written `1`. `start` adds the begin of `ListItem` in front of the indent. Then
+// stands the indent, and `ListItemPrefix` around `ListItemValue` (the digits, of ordered items alone),
+// `ListItemMarker` and the padding.
+//
+// An item has a width: the columns from its begin to the end of its padding, and where the rest of its first line is
+// blank, one more. A further line goes on if its indent is as wide, and loses the width; a blank one always, and loses
+// at most the width, unless it follows a first line that was blank.
+
+ghost use Rattle.std.specs.Prelude.{◌≡◌, ◌≢◌, Bool, IfSome};
+ghost use Rattle.md_engine.specs.World.{world};
+ghost use Rattle.md_engine.specs.declared.state.Name.{Name as StateName};
+ghost use Rattle.md_engine.specs.declared.state.State.{State};
+ghost use Rattle.md_engine.specs.declared.state.list_item.State.{State as ItemState};
+ghost use Rattle.md_containers.specs.Item.{after_transition, at_least_one, before_ordered_transition, before_transition};
+ghost use Rattle.md_containers.specs.Item.{before_unordered_transition, blank_code, cont_blank_transition};
+ghost use Rattle.md_containers.specs.Item.{cont_filled_transition, cont_start_transition, ends_value, filled_transition};
+ghost use Rattle.md_containers.specs.Item.{indent_code, inside_transition, is_item_marker, item_transition, least_width};
+ghost use Rattle.md_containers.specs.Item.{marker_after_transition, marker_transition, may_begin};
+ghost use Rattle.md_containers.specs.Item.{prefix_other_transition, start_transition, value_transition};
+ghost use Rattle.md_containers.specs.Item.{whitespace_after_transition, whitespace_transition, width_here};
+ghost use Rattle.md_definition.specs.Containers.{is_bullet, is_digit};
+ghost use Rattle.md_seam.specs.Look.{looks_behind, may_with};
+ghost use Rattle.md_seam.specs.Spaces.{sees_white};
+ghost use Rattle.md_seam.specs.Stays.{TakesEach};
+ghost use Rattle.md_seam.specs.Transition.{IsAt, NeedsNothing};
+
+use crate::interrupts::interrupts;
+use md_engine::event::Name;
+use md_engine::or_error;
+use md_engine::resolve::Name as ResolveName;
+use md_engine::state::blank_line::State as BlankState;
+use md_engine::state::list_item::State as ItemState;
+use md_engine::state::thematic_break::State as BreakState;
+use md_engine::state::{Name as StateName, State};
+use md_engine::stay::Stay;
+use md_engine::tokenizer::{HeldLeaf, Tokenizer, Whitespace};
+use md_leaves::blank_line::ends_line;
+use md_seam::space_or_tab::{is_space_or_tab, look_behind, small_indent, space_or_tab_min_max};
+
+/// A value has at most so many digits.
+const DIGITS: usize = 9;
+
+/// A padding has at most so many columns.
+const PADDING: usize = 4;
+
+/// Whether this is the marker of an item without a number.
+fn is_bullet(byte: u8) -> bool
+    ensures { result ≡ is_bullet byte }
+{
+    byte == b'*' || byte == b'+' || byte == b'-'
+}
+
+/// Whether this ends the value of an item.
+fn ends_value(byte: u8) -> bool
+    ensures { result ≡ ends_value byte }
+{
+    byte == b'.' || byte == b')'
+}
+
+/// Whether this is a digit.
+fn is_digit(byte: u8) -> bool
+    ensures { result ≡ is_digit byte }
+{
+    byte >= b'0' && byte <= b'9'
+}
+
+/// Whether an item may open here, by what stands first behind whitespace: a marker or a digit, if that is known.
+pub fn may_begin(first: Option<u8>) -> bool
+    ensures { result ≡ may_with may_begin first }
+{
+    match first {
+        Some(byte) => is_bullet(byte) || is_digit(byte),
+        None => true,
+    }
+}
+
+/// Before an item.
+///
+/// ```markdown
+/// > | * a
+///     ^
+/// ```
+pub fn start(tokenizer: &mut Tokenizer) -> State
+    requires { IsAt NeedsNothing (StateName.ListItem ItemState.Start) (world tokenizer.old) }
+    ensures to { result ≢ State.Error → result ≡ (start_transition (world tokenizer.old)).to }
+    ensures world { result ≢ State.Error → world tokenizer.new ≡ (start_transition (world tokenizer.old)).world }
+{
+    if !tokenizer.options.constructs.list_item {
+        return State::Nok;
+    }
+    or_error!(tokenizer.enter(Name::ListItem));
+    if is_space_or_tab(tokenizer.current) {
+        let max = small_indent(tokenizer);
+        space_or_tab_min_max(
+            tokenizer,
+            0,
+            max,
+            State::Next(StateName::ListItem(ItemState::Before)),
+            State::Nok,
+        )
+    } else {
+        State::Retry(StateName::ListItem(ItemState::Before))
+    }
+}
+
+/// Behind the indent, at a marker or a value. What looks like a thematic break is no item, where breaks are on.
+///
+/// ```markdown
+/// > | * a
+///     ^
+/// ```
+pub fn before(tokenizer: &mut Tokenizer) -> State
+    requires { IsAt NeedsNothing (StateName.ListItem ItemState.Before) (world tokenizer.old) }
+    ensures to { result ≢ State.Error → result ≡ (before_transition (world tokenizer.old)).to }
+    ensures world { result ≢ State.Error → world tokenizer.new ≡ (before_transition (world tokenizer.old)).world }
+{
+    let Some(byte) = tokenizer.current else {
+        return State::Nok;
+    };
+    if is_bullet(byte) {
+        if !tokenizer.options.constructs.thematic_break || byte == b'+' {
+            return State::Retry(StateName::ListItem(ItemState::BeforeUnordered));
+        }
+        // A break that is found leaves no leaf open.
+        let is_break = match tokenizer.flags.leaf {
+            HeldLeaf::None => State::Nok,
+            HeldLeaf::Text => State::Next(StateName::ListItem(ItemState::BeforeOrdered)),
+        };
+        or_error!(tokenizer.check(
+            is_break,
+            State::Next(StateName::ListItem(ItemState::BeforeUnordered))
+        ));
+        State::Retry(StateName::ThematicBreak(BreakState::Start))
+    } else if is_digit(byte) && (byte == b'1' || !interrupts(tokenizer)) {
+        State::Retry(StateName::ListItem(ItemState::BeforeOrdered))
+    } else {
+        State::Nok
+    }
+}
+
+/// At the marker of an item without a number.
+///
+/// ```markdown
+/// > | * a
+///     ^
+/// ```
+pub fn before_unordered(tokenizer: &mut Tokenizer) -> State
+    requires { IsAt NeedsNothing (StateName.ListItem ItemState.BeforeUnordered) (world tokenizer.old) }
+    ensures to { result ≢ State.Error → result ≡ (before_unordered_transition (world tokenizer.old)).to }
+    ensures world { result ≢ State.Error →
+        world tokenizer.new ≡ (before_unordered_transition (world tokenizer.old)).world }
+{
+    or_error!(tokenizer.enter(Name::ListItemPrefix));
+    State::Retry(StateName::ListItem(ItemState::Marker))
+}
+
+/// At the value of an ordered item. Where no digit stands, a thematic break does, which is no item: the text that it was
+/// found in is open again.
+///
+/// ```markdown
+/// > | 1. a
+///     ^
+/// ```
+pub fn before_ordered(tokenizer: &mut Tokenizer) -> State
+    requires { IsAt NeedsNothing (StateName.ListItem ItemState.BeforeOrdered) (world tokenizer.old) }
+    ensures to { result ≢ State.Error → result ≡ (before_ordered_transition (world tokenizer.old)).to }
+    ensures world { result ≢ State.Error →
+        world tokenizer.new ≡ (before_ordered_transition (world tokenizer.old)).world }
+{
+    match tokenizer.current {
+        Some(byte) if is_digit(byte) => {
+            or_error!(tokenizer.enter(Name::ListItemPrefix));
+            or_error!(tokenizer.enter(Name::ListItemValue));
+            State::Retry(StateName::ListItem(ItemState::Value))
+        }
+        _ => {
+            tokenizer.flags.leaf = HeldLeaf::Text;
+            State::Nok
+        }
+    }
+}
+
+/// In the value of an ordered item. Text is interrupted by one digit alone.
+///
+/// ```markdown
+/// > | 1. a
+///     ^
+/// ```
+pub fn value(tokenizer: &mut Tokenizer) -> State
+    requires { IsAt NeedsNothing (StateName.ListItem ItemState.Value) (world tokenizer.old) }
+    ensures to { result ≢ State.Error → result ≡ (value_transition (world tokenizer.old)).to }
+    ensures world { result ≢ State.Error → world tokenizer.new ≡ (value_transition (world tokenizer.old)).world }
+{
+    let size = tokenizer.scratch.size;
+    match tokenizer.current {
+        Some(byte) if is_digit(byte) && size < DIGITS => {
+            tokenizer.consume();
+            tokenizer.scratch.size += 1;
+            State::Next(StateName::ListItem(ItemState::Value))
+        }
+        Some(byte) if ends_value(byte) && (size < 2 || !interrupts(tokenizer)) => {
+            or_error!(tokenizer.exit(Name::ListItemValue));
+            tokenizer.scratch.size = 0;
+            State::Retry(StateName::ListItem(ItemState::Marker))
+        }
+        _ => {
+            tokenizer.scratch.size = 0;
+            State::Nok
+        }
+    }
+}
+
+/// At the marker.
+///
+/// ```markdown
+/// > | * a
+///     ^
+/// > | 1. b
+///      ^
+/// ```
+pub fn marker(tokenizer: &mut Tokenizer) -> State
+    requires { IsAt NeedsNothing (StateName.ListItem ItemState.Marker) (world tokenizer.old) }
+    ensures to { result ≢ State.Error → result ≡ (marker_transition (world tokenizer.old)).to }
+    ensures world { result ≢ State.Error → world tokenizer.new ≡ (marker_transition (world tokenizer.old)).world }
+{
+    match tokenizer.current {
+        Some(byte) if is_bullet(byte) || ends_value(byte) => {
+            or_error!(tokenizer.enter(Name::ListItemMarker));
+            tokenizer.consume();
+            or_error!(tokenizer.exit(Name::ListItemMarker));
+            State::Next(StateName::ListItem(ItemState::MarkerAfter))
+        }
+        _ => State::Nok,
+    }
+}
+
+/// Goes on at `blank` if the rest of the line is blank, else at `filled`.
+fn by_blank(tokenizer: &mut Tokenizer, blank: ItemState, filled: ItemState) -> State
+    ensures to { result ≢ State.Error →
+        result ≡ (blank_code blank filled (world tokenizer.old) (looks_behind (world tokenizer.old))).to }
+    ensures world { result ≢ State.Error →
+        world tokenizer.new ≡ (blank_code blank filled (world tokenizer.old) (looks_behind (world tokenizer.old))).world }
+{
+    match look_behind(tokenizer) {
+        Some(b'\n') => State::Retry(StateName::ListItem(blank)),
+        Some(_) => State::Retry(StateName::ListItem(filled)),
+        None => {
+            or_error!(tokenizer.check(
+                State::Next(StateName::ListItem(blank)),
+                State::Next(StateName::ListItem(filled))
+            ));
+            State::Retry(StateName::BlankLine(BlankState::Start))
+        }
+    }
+}
+
+/// Behind the marker.
+///
+/// ```markdown
+/// > | * a
+///      ^
+/// > | 1. b
+///       ^
+/// ```
+pub fn marker_after(tokenizer: &mut Tokenizer) -> State
+    requires { IsAt NeedsNothing (StateName.ListItem ItemState.MarkerAfter) (world tokenizer.old) }
+    ensures to { result ≢ State.Error → result ≡ (marker_after_transition (world tokenizer.old)).to }
+    ensures world { result ≢ State.Error → world tokenizer.new ≡ (marker_after_transition (world tokenizer.old)).world }
+{
+    by_blank(tokenizer, ItemState::After, ItemState::MarkerAfterFilled)
+}
+
+/// Behind the marker, where the rest of the line is not blank.
+///
+/// ```markdown
+/// > | * a
+///      ^
+/// ```
+pub fn marker_after_filled(tokenizer: &mut Tokenizer) -> State
+    requires { IsAt NeedsNothing (StateName.ListItem ItemState.MarkerAfterFilled) (world tokenizer.old) }
+    ensures to { result ≢ State.Error → result ≡ (filled_transition (world tokenizer.old)).to }
+    ensures world { result ≢ State.Error → world tokenizer.new ≡ (filled_transition (world tokenizer.old)).world }
+{
+    or_error!(tokenizer.attempt(
+        State::Next(StateName::ListItem(ItemState::After)),
+        State::Next(StateName::ListItem(ItemState::PrefixOther))
+    ));
+    tokenizer.scratch.seen = true;
+    State::Retry(StateName::ListItem(ItemState::Whitespace))
+}
+
+/// At the padding, where that is 1 to 4 columns.
+///
+/// ```markdown
+/// > | * a
+///      ^
+/// ```
+pub fn whitespace(tokenizer: &mut Tokenizer) -> State
+    requires { IsAt NeedsNothing (StateName.ListItem ItemState.Whitespace) (world tokenizer.old) }
+    ensures to { result ≢ State.Error → result ≡ (whitespace_transition (world tokenizer.old)).to }
+    ensures world { result ≢ State.Error → world tokenizer.new ≡ (whitespace_transition (world tokenizer.old)).world }
+{
+    space_or_tab_min_max(
+        tokenizer,
+        1,
+        PADDING,
+        State::Next(StateName::ListItem(ItemState::WhitespaceAfter)),
+        State::Nok,
+    )
+}
+
+/// Behind 1 to 4 columns: there must be no more.
+///
+/// ```markdown
+/// > | * a
+///       ^
+/// ```
+pub fn whitespace_after(tokenizer: &mut Tokenizer) -> State
+    requires { IsAt NeedsNothing (StateName.ListItem ItemState.WhitespaceAfter) (world tokenizer.old) }
+    ensures to { result ≡ (whitespace_after_transition (world tokenizer.old)).to }
+    ensures world { world tokenizer.new ≡ (whitespace_after_transition (world tokenizer.old)).world }
+{
+    if is_space_or_tab(tokenizer.current) {
+        State::Nok
+    } else {
+        State::Ok
+    }
+}
+
+/// Behind the marker, where no whitespace follows or more than a padding may have: of that one column belongs to it.
+///
+/// ```markdown
+/// > | *      a
+///      ^
+/// ```
+pub fn prefix_other(tokenizer: &mut Tokenizer) -> State
+    requires { IsAt NeedsNothing (StateName.ListItem ItemState.PrefixOther) (world tokenizer.old) }
+    ensures to { result ≢ State.Error → result ≡ (prefix_other_transition (world tokenizer.old)).to }
+    ensures world { result ≢ State.Error → world tokenizer.new ≡ (prefix_other_transition (world tokenizer.old)).world }
+{
+    if is_space_or_tab(tokenizer.current) {
+        or_error!(tokenizer.enter(Name::SpaceOrTab));
+        tokenizer.consume();
+        or_error!(tokenizer.exit(Name::SpaceOrTab));
+        State::Next(StateName::ListItem(ItemState::After))
+    } else {
+        tokenizer.scratch.seen = false;
+        State::Nok
+    }
+}
+
+/// So many columns, and one at least: no item is less wide.
+fn at_least_one(columns: usize) -> usize
+    ensures { result ≡ at_least_one columns }
+{
+    if columns == 0 { 1 } else { columns }
+}
+
+/// The columns from the begin of the item that is tried to here; where its first line is blank, one more.
+fn width_here(tokenizer: &Tokenizer, blank: bool) -> usize
+    ensures { result ≡
+        width_here (world tokenizer.now).point.column (world tokenizer.now).flags.asked_column blank }
+{
+    let columns = tokenizer
+        .point
+        .column
+        .saturating_sub(tokenizer.flags.asked_column);
+    at_least_one(if blank { columns + 1 } else { columns })
+}
+
+/// Behind the prefix: the item opens, unless it is blank and would interrupt text.
+///
+/// ```markdown
+/// > | * a
+///       ^
+/// ```
+pub fn after(tokenizer: &mut Tokenizer) -> State
+    requires { IsAt NeedsNothing (StateName.ListItem ItemState.After) (world tokenizer.old) }
+    ensures to { result ≢ State.Error →
+        result ≡
+        (after_transition (λ name. ⟦<ResolveName as PartialEq>⟧.eq name ResolveName.ListItem)
+        (world tokenizer.old)).to }
+    ensures world { result ≢ State.Error →
+        world tokenizer.new ≡
+        (after_transition (λ name. ⟦<ResolveName as PartialEq>⟧.eq name ResolveName.ListItem)
+        (world tokenizer.old)).world }
+{
+    let blank = !tokenizer.scratch.seen;
+    tokenizer.scratch.seen = false;
+    if blank && interrupts(tokenizer) {
+        return State::Nok;
+    }
+    tokenizer.flags.asked.width = width_here(tokenizer, blank);
+    tokenizer.flags.asked.starts_blank = blank;
+    or_error!(tokenizer.exit(Name::ListItemPrefix));
+    or_error!(tokenizer.register_resolver(ResolveName::ListItem));
+    State::Ok
+}
+
+/// Before the indent of a further line. Where nothing is left of the line, an item goes on that did not start blank.
+///
+/// ```markdown
+///   | * a
+/// > |   b
+///     ^
+/// ```
+pub fn cont_start(tokenizer: &mut Tokenizer) -> State
+    requires { IsAt NeedsNothing (StateName.ListItem ItemState.ContStart) (world tokenizer.old) }
+    ensures to { result ≢ State.Error → result ≡ (cont_start_transition (world tokenizer.old)).to }
+    ensures world { result ≢ State.Error → world tokenizer.new ≡ (cont_start_transition (world tokenizer.old)).world }
+{
+    if !ends_line(tokenizer.current) {
+        return by_blank(tokenizer, ItemState::ContBlank, ItemState::ContFilled);
+    }
+    if tokenizer.flags.asked.starts_blank {
+        State::Nok
+    } else {
+        State::Ok
+    }
+}
+
+/// The columns that a further line has to lose.
+fn least_width(tokenizer: &Tokenizer) -> usize
+    ensures { result ≡ least_width (world tokenizer.now).flags.asked }
+{
+    at_least_one(tokenizer.flags.asked.width)
+}
+
+/// Takes the first column of an indent of at least `min` columns, and at most the width.
+fn begin_indent(tokenizer: &mut Tokenizer, state: ItemState, min: usize) -> State
+    requires { IsAt NeedsNothing (StateName.ListItem state) (world tokenizer.old) }
+    ensures to { result ≢ State.Error →
+        result ≡ (indent_code state min (world tokenizer.old) (sees_white tokenizer.old.current)).to }
+    ensures world { result ≢ State.Error →
+        world tokenizer.new ≡ (indent_code state min (world tokenizer.old) (sees_white tokenizer.old.current)).world }
+{
+    if !is_space_or_tab(tokenizer.current) {
+        return State::Nok;
+    }
+    let max = least_width(tokenizer);
+    or_error!(tokenizer.enter(Name::SpaceOrTab));
+    tokenizer.consume();
+    tokenizer.scratch.whitespace = Whitespace { min, max, size: 1 };
+    State::Next(StateName::ListItem(state))
+}
+
+/// Takes one more column of an indent, or ends it.
+fn go_on_indent(tokenizer: &mut Tokenizer, state: ItemState) -> State
+    requires { IsAt NeedsNothing (StateName.ListItem state) (world tokenizer.old) }
+    ensures to { result ≢ State.Error → result ≡ (inside_transition state (world tokenizer.old)).to }
+    ensures world { result ≢ State.Error → world tokenizer.new ≡ (inside_transition state (world tokenizer.old)).world }
+{
+    let Whitespace { min, max, size } = tokenizer.scratch.whitespace;
+    if is_space_or_tab(tokenizer.current) && size < max {
+        tokenizer.consume();
+        tokenizer.scratch.whitespace.size = size + 1;
+        return State::Next(StateName::ListItem(state));
+    }
+    tokenizer.scratch.whitespace = Whitespace {
+        min: 0,
+        max: 0,
+        size: 0,
+    };
+    if size < min {
+        return State::Nok;
+    }
+    or_error!(tokenizer.exit(Name::SpaceOrTab));
+    tokenizer.flags.asked.starts_blank = false;
+    State::Ok
+}
+
+/// In the indent of a further line that is blank: at most the width.
+///
+/// ```markdown
+///   | * a
+/// > |
+///     ^^
+///   |   b
+/// ```
+pub fn cont_blank(tokenizer: &mut Tokenizer) -> State
+    requires { IsAt NeedsNothing (StateName.ListItem ItemState.ContBlank) (world tokenizer.old) }
+    ensures to { result ≢ State.Error → result ≡ (cont_blank_transition (world tokenizer.old)).to }
+    ensures world { result ≢ State.Error → world tokenizer.new ≡ (cont_blank_transition (world tokenizer.old)).world }
+{
+    if tokenizer.scratch.whitespace.max > 0 {
+        go_on_indent(tokenizer, ItemState::ContBlank)
+    } else if tokenizer.flags.asked.starts_blank {
+        State::Nok
+    } else {
+        begin_indent(tokenizer, ItemState::ContBlank, 1)
+    }
+}
+
+/// In the indent of a further line that is not blank: exactly the width.
+///
+/// ```markdown
+///   | * a
+/// > |   b
+///     ^^
+/// ```
+pub fn cont_filled(tokenizer: &mut Tokenizer) -> State
+    requires { IsAt NeedsNothing (StateName.ListItem ItemState.ContFilled) (world tokenizer.old) }
+    ensures to { result ≢ State.Error → result ≡ (cont_filled_transition (world tokenizer.old)).to }
+    ensures world { result ≢ State.Error → world tokenizer.new ≡ (cont_filled_transition (world tokenizer.old)).world }
+{
+    if tokenizer.scratch.whitespace.max > 0 {
+        go_on_indent(tokenizer, ItemState::ContFilled)
+    } else {
+        let min = least_width(tokenizer);
+        begin_indent(tokenizer, ItemState::ContFilled, min)
+    }
+}
+
+/// What a state of an item only takes and counts.
+pub fn stays(state: ItemState) -> Option<Stay>
+    ensures { IfSome result (λ stay. (is_name : ResolveName → Bool) →
+        TakesEach stay (StateName.ListItem state) (item_transition is_name state)) }
+{
+    match state {
+        ItemState::ContBlank | ItemState::ContFilled => Some(Stay::White),
+        _ => None,
+    }
+}
+
+/// Calls a state of an item.
+pub fn call(tokenizer: &mut Tokenizer, state: ItemState) -> State
+    requires { IsAt NeedsNothing (StateName.ListItem state) (world tokenizer.old) }
+    ensures to { result ≢ State.Error →
+        result ≡
+        (item_transition (λ name. ⟦<ResolveName as PartialEq>⟧.eq name ResolveName.ListItem) state
+        (world tokenizer.old)).to }
+    ensures world { result ≢ State.Error →
+        world tokenizer.new ≡
+        (item_transition (λ name. ⟦<ResolveName as PartialEq>⟧.eq name ResolveName.ListItem) state
+        (world tokenizer.old)).world }
+{
+    match state {
+        ItemState::Start => start(tokenizer),
+        ItemState::Before => before(tokenizer),
+        ItemState::BeforeUnordered => before_unordered(tokenizer),
+        ItemState::BeforeOrdered => before_ordered(tokenizer),
+        ItemState::Value => value(tokenizer),
+        ItemState::Marker => marker(tokenizer),
+        ItemState::MarkerAfter => marker_after(tokenizer),
+        ItemState::MarkerAfterFilled => marker_after_filled(tokenizer),
+        ItemState::Whitespace => whitespace(tokenizer),
+        ItemState::WhitespaceAfter => whitespace_after(tokenizer),
+        ItemState::PrefixOther => prefix_other(tokenizer),
+        ItemState::After => after(tokenizer),
+        ItemState::ContStart => cont_start(tokenizer),
+        ItemState::ContBlank => cont_blank(tokenizer),
+        ItemState::ContFilled => cont_filled(tokenizer),
+    }
+}
