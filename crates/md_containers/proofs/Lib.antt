@@ -4,3 +4,5 @@ pub mod QuoteLines
 pub mod QuoteCells
 pub mod QuoteShorter
 pub mod Shorter
+pub mod GroupedLemmas
+pub mod ListedReads

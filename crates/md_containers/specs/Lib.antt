@@ -1,2 +1,4 @@
 pub mod Quote
 pub mod QuoteRule
+pub mod Listed
+pub mod ItemsStand
