@@ -2,3 +2,4 @@ pub mod Quote
 pub mod QuoteRule
 pub mod Listed
 pub mod ItemsStand
+pub mod ListedWalk

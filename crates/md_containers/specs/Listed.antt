@@ -4,7 +4,7 @@
 -- last item ends. What stands between two items of one list (line endings, whitespace, prefixes of quotes) stands in
 -- the list, and what follows the last of them does not. So where an item ends one looks ahead to the next block: the
 -- list goes on if that is an item with the same marker.
-use Rattle.std.specs.Prelude.{ℕ, Bool, true, false, ◌&&◌, ◌==◌, if◌then◌else◌, List, [], ◌∷◌, ◌++◌, get_or, Option, Some}
+use Rattle.std.specs.Prelude.{ℕ, Bool, true, false, ◌&&◌, ◌==◌, not, if◌then◌else◌, List, [], ◌∷◌, ◌++◌, get_or, Option, Some}
 use Rattle.std.specs.Prelude.{None}
 use Rattle.md_engine.specs.declared.event.Event.{Event}
 use Rattle.md_engine.specs.declared.event.Kind.{Kind}
@@ -122,6 +122,10 @@ given bytes place e es =
 abbrev pub place_after : List ℕ → Place → Event → List Event → Place
 place_after bytes place e es =
     place_by (turn e.kind (role e.name)) place (marker_ahead bytes es) (next_item bytes es)
+
+-- whether an event passes as it is: no item begins or ends
+abbrev pub passes : Event → Bool
+passes e = not (is_item (role e.name))
 
 -- what is given for the events from a place on
 abbrev pub listed_from : List ℕ → Place → List Event → List Event

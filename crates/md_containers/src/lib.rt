@@ -1,4 +1,5 @@
-// Containers: block quotes.
+// Containers: block quotes, and lists around items.
 #![tactic(auto)]
 
 pub mod block_quote;
+pub mod lists;
