@@ -6,3 +6,4 @@ pub mod QuoteShorter
 pub mod Shorter
 pub mod GroupedLemmas
 pub mod ListedReads
+pub mod ListedLemmas
