@@ -7,3 +7,5 @@ pub mod Shorter
 pub mod GroupedLemmas
 pub mod ListedReads
 pub mod ListedLemmas
+pub mod ListedRows
+pub mod ListedKept

@@ -20,12 +20,12 @@ use Rattle.md_seam.specs.Parts.{ArePlaced}
 
 -- Events that pass.
 
-turn-stays : (kind : Kind) (x : Role) → is_item x ≡ false → turn kind x ≡ Stays
+pub turn-stays : (kind : Kind) (x : Role) → is_item x ≡ false → turn kind x ≡ Stays
 turn-stays Enter x h = rw h refl
 turn-stays Exit x h = rw h refl
 
 -- an event of no item is given as it is
-passes-given : (bytes : List ℕ) (place : Place) (e : Event) (es : List Event) → is_item (role e.name) ≡ false →
+pub passes-given : (bytes : List ℕ) (place : Place) (e : Event) (es : List Event) → is_item (role e.name) ≡ false →
     listed_from bytes place (e ∷ es) ≡ e ∷ listed_from bytes place es
 passes-given bytes place e es h =
     ap
