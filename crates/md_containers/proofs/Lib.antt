@@ -9,3 +9,4 @@ pub mod ListedReads
 pub mod ListedLemmas
 pub mod ListedRows
 pub mod ListedKept
+pub mod ListedNests

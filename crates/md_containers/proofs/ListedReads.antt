@@ -498,7 +498,7 @@ holder-ends bytes p shape None ls (a ∷ arounds) here leaf text ahead next held
 
 -- An item ends.
 
-goes_on-some : (m : ℕ) (next : Option ℕ) → goes_on m next ≡ true → next ≡ Some m
+pub goes_on-some : (m : ℕ) (next : Option ℕ) → goes_on m next ≡ true → next ≡ Some m
 goes_on-some m None h = absurd (cc)
 goes_on-some m (Some k) h = ap (λ (j : ℕ). Some j) (sym (eqb-true m k h))
 

@@ -3,3 +3,4 @@ pub mod QuoteRule
 pub mod Listed
 pub mod ItemsStand
 pub mod ListedWalk
+pub mod ItemsHeld
