@@ -10,3 +10,4 @@ pub mod ListedLemmas
 pub mod ListedRows
 pub mod ListedKept
 pub mod ListedNests
+pub mod ListedParts

@@ -1,5 +1,5 @@
 -- What lists around items keep of the events: their points, their innermost pairs, and the names of endings.
-use Rattle.std.proofs.Common.{◌≡◌, ℕ, Bool, true, false, cond, ◌&&◌, ◌||◌, List, [], ◌∷◌, ◌++◌, refl, ap, sym, ◌∙◌, subst}
+use Rattle.std.proofs.Common.{◌≡◌, ℕ, Bool, true, false, cond, ◌&&◌, ◌||◌, List, [], ◌∷◌, ◌++◌, refl, ap, sym, ◌∙◌, subst, append_assoc}
 use Rattle.std.specs.Prelude.{Option, Some, None, if◌then◌else◌}
 use Rattle.std.specs.List.{list_all}
 use Rattle.md_engine.specs.declared.event.Event.{Event}
@@ -15,7 +15,7 @@ use Rattle.md_seam.specs.Events.Endings.{Spot, endings_stand, endings_stand_from
 use Rattle.md_seam.specs.Events.Endings.{IsOther, OnLine, spot_behind}
 use Rattle.md_seam.specs.Events.Inline.{Piece, piece_of, pieces, pieces_from}
 use Rattle.md_seam.specs.Events.Nested.{enter, exit}
-use Rattle.md_seam.specs.Events.Places.{are_placed, is_placed}
+use Rattle.md_seam.specs.Events.Places.{are_placed, first_point, is_placed}
 use Rattle.md_seam.specs.Events.Spelled.{is_ordered, role}
 
 item-name : (name : Name) → is_item (role name) ≡ true → name ≡ n.ListItem
@@ -190,6 +190,34 @@ exit-pieces : (f g : Event) (es : List Event) →
 exit-pieces f g [] = refl
 exit-pieces f g (e ∷ es) = refl
 
+-- so the begin and the end of a list make none, and part none
+pub begin-pieces : (f e : Event) (within : Bool) (m : ℕ) (p : Point) (es : List Event) →
+    pieces_from f (list_begin within m p ++ record e { kind = Enter } ∷ es)
+    ≡ pieces_from f (record e { kind = Enter } ∷ es)
+begin-pieces f e true m p es = refl
+begin-pieces f e false m p es =
+    ap (λ (l : List Piece). l ++ pieces_from (record e { kind = Enter }) es)
+    (no-piece f (enter (list_name m) p) f.kind ∙ sym (no-piece f (record e { kind = Enter }) f.kind))
+
+pub end-pieces : (f e : Event) (markers : List ℕ) (next : Option ℕ) (p : Point) (es : List Event) →
+    pieces_from f (record e { kind = Exit } ∷ list_end markers next p ++ es)
+    ≡ pieces_from f (record e { kind = Exit } ∷ es)
+end-pieces f e [] next p es = refl
+end-pieces f e (m ∷ markers) next p es = go (goes_on m next)
+  where
+    go : (x : Bool) →
+        pieces_from f (record e { kind = Exit } ∷ cond x [] (exit (list_name m) p ∷ []) ++ es)
+        ≡ pieces_from f (record e { kind = Exit } ∷ es)
+    go true = refl
+    go false =
+        ap (λ (l : List Piece). piece_of f (record e { kind = Exit }) f.kind Exit ++ l)
+        (exit-pieces (exit (list_name m) p) e es)
+
+-- what an event adds, in front of such pieces
+pub more-pieces : (f e : Event) (xs ys : List Event) → pieces_from e xs ≡ pieces_from e ys →
+    pieces_from f (e ∷ xs) ≡ pieces_from f (e ∷ ys)
+more-pieces f e xs ys h = ap (λ (l : List Piece). piece_of f e f.kind e.kind ++ l) h
+
 pieces-kept : (bytes : List ℕ) (f : Event) (place : Place) (es : List Event) →
     pieces_from f (listed_from bytes place es) ≡ pieces_from f es
 pieces-kept bytes f place [] = refl
@@ -198,69 +226,46 @@ pieces-kept bytes f place (e ∷ es) =
     (λ (kind : Kind) (name : Name).
     pieces_from f (listed_from bytes place (record e { kind = kind; name = name } ∷ es))
     ≡ pieces_from f (record e { kind = kind; name = name } ∷ es))
-    (begins place.within
-    (pieces-kept bytes (record e { kind = Enter; name = n.ListItem })
-    (record { within = false; markers = marker_ahead bytes es ∷ place.markers }) es))
-    (ends place.markers
-    (λ (g : Event). pieces-kept bytes g (place_behind place (next_item bytes es)) es))
+    (begins place.within (pieces-kept bytes (record e { kind = Enter; name = n.ListItem }) inner es))
+    (end-pieces f (record e { name = n.ListItem }) place.markers (next_item bytes es) e.point
+    (listed_from bytes (place_behind place (next_item bytes es)) es)
+    ∙ more-pieces f (record e { kind = Exit; name = n.ListItem })
+    (listed_from bytes (place_behind place (next_item bytes es)) es) es
+    (pieces-kept bytes (record e { kind = Exit; name = n.ListItem }) (place_behind place (next_item bytes es)) es))
     (passed (λ (g : Event). pieces-kept bytes g place es))
     e.kind e.name
   where
-    begins : (within : Bool) →
-        pieces_from (record e { kind = Enter; name = n.ListItem })
-        (listed_from bytes (record { within = false; markers = marker_ahead bytes es ∷ place.markers }) es)
-        ≡ pieces_from (record e { kind = Enter; name = n.ListItem }) es →
-        pieces_from f
-        ((list_begin within (marker_ahead bytes es) e.point ++ record e { kind = Enter; name = n.ListItem } ∷ [])
-        ++ listed_from bytes (record { within = false; markers = marker_ahead bytes es ∷ place.markers }) es)
-        ≡ pieces_from f (record e { kind = Enter; name = n.ListItem } ∷ es)
-    begins true h = ap (λ (l : List Piece). piece_of f (record e { kind = Enter; name = n.ListItem }) f.kind Enter ++ l) h
-    begins false h =
-        ap
-        (λ (l : List Piece).
-        l
-        ++ pieces_from (record e { kind = Enter; name = n.ListItem })
-        (listed_from bytes (record { within = false; markers = marker_ahead bytes es ∷ place.markers }) es))
-        (no-piece f (enter (list_name (marker_ahead bytes es)) e.point) f.kind)
-        ∙ h
-        ∙ ap (λ (l : List Piece). l ++ pieces_from (record e { kind = Enter; name = n.ListItem }) es)
-        (sym (no-piece f (record e { kind = Enter; name = n.ListItem }) f.kind))
+    inner : Place
+    inner = record { within = false; markers = marker_ahead bytes es ∷ place.markers }
     item : Event
-    item = record e { kind = Exit; name = n.ListItem }
-    ends : (markers : List ℕ) →
-        ((g : Event) →
-        pieces_from g (listed_from bytes (place_behind place (next_item bytes es)) es) ≡ pieces_from g es) →
+    item = record e { kind = Enter; name = n.ListItem }
+    begins : (within : Bool) → pieces_from item (listed_from bytes inner es) ≡ pieces_from item es →
         pieces_from f
-        (item ∷ list_end markers (next_item bytes es) e.point
-        ++ listed_from bytes (place_behind place (next_item bytes es)) es)
+        ((list_begin within (marker_ahead bytes es) e.point ++ item ∷ []) ++ listed_from bytes inner es)
         ≡ pieces_from f (item ∷ es)
-    ends [] h = ap (λ (l : List Piece). piece_of f item f.kind Exit ++ l) (h item)
-    ends (m ∷ markers) h = go (goes_on m (next_item bytes es))
-      where
-        go : (x : Bool) →
-            pieces_from f
-            (item ∷ cond x [] (exit (list_name m) e.point ∷ [])
-            ++ listed_from bytes (place_behind place (next_item bytes es)) es)
-            ≡ pieces_from f (item ∷ es)
-        go true = ap (λ (l : List Piece). piece_of f item f.kind Exit ++ l) (h item)
-        go false =
-            ap (λ (l : List Piece). piece_of f item f.kind Exit ++ l)
-            (h (exit (list_name m) e.point) ∙ exit-pieces (exit (list_name m) e.point) item es)
+    begins within h =
+        ap (pieces_from f)
+        (append_assoc (list_begin within (marker_ahead bytes es) e.point) (item ∷ []) (listed_from bytes inner es))
+        ∙ begin-pieces f item within (marker_ahead bytes es) e.point (listed_from bytes inner es)
+        ∙ more-pieces f item (listed_from bytes inner es) es h
     passed : ((g : Event) → pieces_from g (listed_from bytes place es) ≡ pieces_from g es) →
         (kind : Kind) (name : Name) → is_item (role name) ≡ false →
         pieces_from f (listed_from bytes place (record e { kind = kind; name = name } ∷ es))
         ≡ pieces_from f (record e { kind = kind; name = name } ∷ es)
     passed h kind name i =
-        ap (pieces_from f) (passes-given bytes place (record e { kind = kind; name = name }) es i)
-        ∙ ap (λ (l : List Piece). piece_of f (record e { kind = kind; name = name }) f.kind kind ++ l)
-        (h (record e { kind = kind; name = name }))
+        let passing : Event = record e { kind = kind; name = name } in
+        ap (pieces_from f) (passes-given bytes place passing es i)
+        ∙ more-pieces f passing (listed_from bytes place es) es (h passing)
 
--- the end of the text is no event, and any could stand in front of the first
-first-pieces : (es : List Event) → pieces es ≡ pieces_from (exit n.ListItem (record { line = 0; column = 0; index = 0; vs = 0 })) es
-first-pieces [] = refl
-first-pieces (e ∷ es) = refl
+-- any event that ends a part could stand in front of the first
+pub first-pieces : (f : Event) (es : List Event) → pieces es ≡ pieces_from (record f { kind = Exit }) es
+first-pieces f [] = refl
+first-pieces f (e ∷ es) = refl
 
 -- lists are no pieces, and part none
 pub listed-pieces : (bytes : List ℕ) (events : List Event) → pieces (listed bytes events) ≡ pieces events
 listed-pieces bytes events =
-    first-pieces (listed bytes events) ∙ pieces-kept bytes _ outside events ∙ sym (first-pieces events)
+    first-pieces some (listed bytes events) ∙ pieces-kept bytes some outside events ∙ sym (first-pieces some events)
+  where
+    some : Event
+    some = exit n.ListItem first_point
