@@ -11,3 +11,4 @@ pub mod ListedRows
 pub mod ListedKept
 pub mod ListedNests
 pub mod ListedParts
+pub mod ListedFilled

@@ -23,7 +23,7 @@ use Rattle.md_seam.specs.Events.Tiles.{chunks, chunks_stand, inside_part, is_par
 use Rattle.md_seam.specs.Events.Tiles.{part_stands, parts, parts_stand}
 
 -- what holds of both names of lists
-by-list : (P : Name → Type 0) → P n.ListOrdered → P n.ListUnordered → (m : ℕ) → P (list_name m)
+pub by-list : (P : Name → Type 0) → P n.ListOrdered → P n.ListUnordered → (m : ℕ) → P (list_name m)
 by-list P ordered unordered m = go (is_ordered m)
   where
     go : (x : Bool) → P (if x then n.ListOrdered else n.ListUnordered)
