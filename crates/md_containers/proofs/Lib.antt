@@ -11,3 +11,11 @@ pub mod ItemCells
 pub mod ItemFurther
 pub mod ItemColumns
 pub mod ItemLines
+pub mod GroupedLemmas
+pub mod ListedReads
+pub mod ListedLemmas
+pub mod ListedRows
+pub mod ListedKept
+pub mod ListedNests
+pub mod ListedParts
+pub mod ListedFilled

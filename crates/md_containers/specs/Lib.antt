@@ -4,3 +4,7 @@ pub mod ItemRule
 pub mod Quote
 pub mod QuoteRule
 pub mod ItemPrefix
+pub mod Listed
+pub mod ItemsStand
+pub mod ListedWalk
+pub mod ItemsHeld

@@ -1,6 +1,7 @@
-// Containers: block quotes and list items.
+// Containers: block quotes, list items, and lists around items.
 #![tactic(auto)]
 
 pub mod block_quote;
 mod interrupts;
 pub mod list_item;
+pub mod lists;

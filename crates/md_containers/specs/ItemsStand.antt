@@ -1,0 +1,158 @@
+-- Events whose lists can be told: blocks stand in containers alone, each item begins with its marker, and no list
+-- stands yet.
+--
+-- A walk over the events, which knows what is open. What it asks of an event depends on what is innermost.
+use Rattle.std.specs.Prelude.{◌≡◌, ℕ, ◌+◌, Bool, true, false, ◌||◌, List, [], ◌∷◌, drop, get_or}
+use Rattle.md_engine.specs.declared.event.Event.{Event}
+use Rattle.md_engine.specs.declared.event.Kind.{Kind}
+use Rattle.md_engine.specs.declared.event.Kind.TheVariants.{Enter, Exit}
+use Rattle.md_engine.specs.declared.event.Point.{Point}
+use Rattle.md_definition.specs.Containers.{is_bullet}
+use Rattle.md_seam.specs.Events.Spelled.{AsDigits, AsFootnoteLabel, AsItemMarker, AsParagraph, FootnoteShape, Holds}
+use Rattle.md_seam.specs.Events.Spelled.{IsCell, IsEnding, IsFence, IsPrefix, IsQuiet, IsRow, IsTitle, ItemShape, Opens}
+use Rattle.md_seam.specs.Events.Spelled.{OrderedShape, Purpose, QuoteShape, Role, Shape, Tells, UnorderedShape, is_ordered, role}
+
+-- `*`, `+`, `-`, `.` and `)` are markers of items (CommonMark 5.2)
+abbrev pub is_list_marker : ℕ → Bool
+is_list_marker b = is_ordered b || is_bullet b
+
+-- What is innermost.
+pub data Inner : Type 0 where
+  -- a container, between its blocks
+  AmongBlocks : Inner
+  -- an item that has begun, before its marker
+  InFront : Inner
+  -- the marker of an item, which begins at this point
+  InMarker : Point → Inner
+  -- a footnote definition that has begun, up to the end of its label
+  InLabel : Inner
+  -- a leaf block
+  InLeaf : Inner
+  InParagraph : Inner
+
+pub record Site : Type 0 where
+  -- for each container that is open, the innermost first, whether it is an item
+  pub held : List Bool
+  pub inner : Inner
+
+-- before the first event
+abbrev pub root : Site
+root = record { held = []; inner = AmongBlocks }
+
+abbrev pub is_item_shape : Shape → Bool
+is_item_shape (ItemShape marker digits) = true
+is_item_shape _ = false
+
+-- what may stand wherever nothing else is read
+abbrev pub IsBetween : Role → Type 0
+IsBetween IsPrefix = Unit {0}
+IsBetween IsEnding = Unit {0}
+IsBetween IsQuiet = Unit {0}
+IsBetween _ = ⊥
+
+-- a container that may be entered: no list
+abbrev pub IsHolder : Shape → Type 0
+IsHolder QuoteShape = Unit {0}
+IsHolder (ItemShape marker digits) = marker ≡ 0
+IsHolder (FootnoteShape label) = Unit {0}
+IsHolder _ = ⊥
+
+-- a text of a leaf block, and none that is a block or tells something of a container
+abbrev pub IsOfLeaf : Purpose → Type 0
+IsOfLeaf AsParagraph = ⊥
+IsOfLeaf AsDigits = ⊥
+IsOfLeaf AsItemMarker = ⊥
+IsOfLeaf AsFootnoteLabel = ⊥
+IsOfLeaf _ = Unit {0}
+
+-- what may stand in a leaf block
+abbrev pub IsPart : Role → Type 0
+IsPart (Holds shape) = ⊥
+IsPart (Opens kind) = ⊥
+IsPart (Tells purpose) = IsOfLeaf purpose
+IsPart _ = Unit {0}
+
+-- the byte of a marker, which stands at a byte's first column
+pub record IsMarkerAt (bytes : List ℕ) (p : Point) : Type 0 where
+  pub whole : p.vs ≡ 0
+  pub marker : is_list_marker (get_or bytes p.index 0) ≡ true
+
+-- whether a container of this shape is innermost
+abbrev pub Closes : List Bool → Shape → Type 0
+Closes [] shape = ⊥
+Closes (is_item ∷ held) QuoteShape = is_item ≡ false
+Closes (is_item ∷ held) (FootnoteShape label) = is_item ≡ false
+Closes (is_item ∷ held) (ItemShape marker digits) = is_item ≡ true
+Closes (is_item ∷ held) _ = ⊥
+
+-- What may begin at a point.
+abbrev pub MayBegin : List ℕ → Point → Inner → Role → Type 0
+MayBegin bytes p AmongBlocks (Holds shape) = IsHolder shape
+MayBegin bytes p AmongBlocks (Opens kind) = Unit {0}
+MayBegin bytes p AmongBlocks (Tells AsParagraph) = Unit {0}
+MayBegin bytes p AmongBlocks role = IsBetween role
+MayBegin bytes p InFront IsQuiet = Unit {0}
+MayBegin bytes p InFront (Tells AsDigits) = Unit {0}
+MayBegin bytes p InFront (Tells AsItemMarker) = IsMarkerAt bytes p
+MayBegin bytes p InFront _ = ⊥
+MayBegin bytes p (InMarker q) role = ⊥
+MayBegin bytes p InLabel (Tells AsFootnoteLabel) = Unit {0}
+MayBegin bytes p InLabel role = IsBetween role
+MayBegin bytes p InLeaf role = IsPart role
+MayBegin bytes p InParagraph role = IsBetween role
+
+-- What may end at a point.
+abbrev pub MayEnd : List Bool → Point → Inner → Role → Type 0
+MayEnd held p AmongBlocks (Holds shape) = Closes held shape
+MayEnd held p AmongBlocks role = IsBetween role
+MayEnd held p InFront IsQuiet = Unit {0}
+MayEnd held p InFront (Tells AsDigits) = Unit {0}
+MayEnd held p InFront _ = ⊥
+MayEnd held p (InMarker q) (Tells AsItemMarker) = p.index ≡ q.index + 1
+MayEnd held p (InMarker q) _ = ⊥
+MayEnd held p InLabel (Tells AsFootnoteLabel) = Unit {0}
+MayEnd held p InLabel role = IsBetween role
+MayEnd held p InLeaf (Opens kind) = Unit {0}
+MayEnd held p InLeaf role = IsPart role
+MayEnd held p InParagraph (Tells AsParagraph) = Unit {0}
+MayEnd held p InParagraph role = IsBetween role
+
+-- what is innermost behind a begin,
+abbrev pub inner_in : Point → Inner → Role → Inner
+inner_in p AmongBlocks (Holds (ItemShape marker digits)) = InFront
+inner_in p AmongBlocks (Holds (FootnoteShape label)) = InLabel
+inner_in p AmongBlocks (Opens kind) = InLeaf
+inner_in p AmongBlocks (Tells AsParagraph) = InParagraph
+inner_in p InFront (Tells AsItemMarker) = InMarker p
+inner_in p inner role = inner
+
+-- and behind an end
+abbrev pub inner_behind : Inner → Role → Inner
+inner_behind (InMarker q) (Tells AsItemMarker) = AmongBlocks
+inner_behind InLabel (Tells AsFootnoteLabel) = AmongBlocks
+inner_behind InLeaf (Opens kind) = AmongBlocks
+inner_behind InParagraph (Tells AsParagraph) = AmongBlocks
+inner_behind inner role = inner
+
+abbrev pub held_in : List Bool → Role → List Bool
+held_in held (Holds shape) = is_item_shape shape ∷ held
+held_in held _ = held
+
+abbrev pub held_behind : List Bool → Role → List Bool
+held_behind held (Holds shape) = drop 1 held
+held_behind held _ = held
+
+abbrev pub MayStand : List ℕ → Site → Kind → Role → Point → Type 0
+MayStand bytes site Enter role p = MayBegin bytes p site.inner role
+MayStand bytes site Exit role p = MayEnd site.held p site.inner role
+
+abbrev pub site_after : Site → Kind → Role → Point → Site
+site_after site Enter role p = record { held = held_in site.held role; inner = inner_in p site.inner role }
+site_after site Exit role p = record { held = held_behind site.held role; inner = inner_behind site.inner role }
+
+-- Whether these events may stand here.
+abbrev pub ItemsStand : List ℕ → Site → List Event → Type 0
+ItemsStand bytes site [] = Unit {0}
+ItemsStand bytes site (e ∷ es) =
+    MayStand bytes site e.kind (role e.name) e.point
+    × ItemsStand bytes (site_after site e.kind (role e.name) e.point) es
