@@ -1,6 +1,6 @@
 -- Definitions and lines that are added one by one.
-use Rattle.std.proofs.Common.{◌≡◌, ℕ, ◌-◌, ◌+◌, ◌<◌, cond, Bool, Bor, List, [], ◌∷◌, ◌++◌, map, take, length, reverse, refl, sym}
-use Rattle.std.proofs.Common.{◌∙◌, ap, get_or}
+use Rattle.std.proofs.Common.{◌≡◌, ℕ, ◌-◌, ◌+◌, ◌<◌, cond, Bool, Bor, List, [], ◌∷◌, ◌++◌, map, take, length, get_or}
+use Rattle.std.proofs.Common.{reverse, refl, sym, ◌∙◌, ap}
 use Rattle.std.specs.List.{prefix_len, suffix_len}
 use Rattle.std.proofs.lemmas.List.{take-map, length-map, map-append, map_push, reverse-append, take_more}
 use Rattle.md_definition.specs.Definition as d

@@ -1,7 +1,7 @@
 // Leaf blocks: where they start, and how they go on.
 
-ghost use Rattle.std.specs.Prelude.{◌≡◌, ◌≤◌, ◌==◌, ◌||◌, not, length, map, reverse, count_by, if◌then◌else◌, IsFalse, IfOk};
-ghost use Rattle.std.specs.Prelude.{◌&&◌, is_some, nat_le};
+ghost use Rattle.std.specs.Prelude.{◌≡◌, ◌≤◌, ◌==◌, ◌||◌, ◌&&◌, not, length, map, reverse, count_by, nat_le, is_some};
+ghost use Rattle.std.specs.Prelude.{if◌then◌else◌, IsFalse, IfOk};
 ghost use Rattle.std.specs.List.{list_all, prefix_len, suffix_len};
 ghost use Rattle.std.specs.Option.{option_copied, option_or};
 ghost use Rattle.md_definition.specs.Leaves as leaves;
@@ -408,7 +408,8 @@ fn html_goes_on<'a>(
 fn ends_table(alloc: Global, options: &ParseOptions, rest: &Rest) -> Result<bool, Message>
     ensures { IfOk result
         (λ b.
-        b ≡ (is_blank rest.now.bytes.now || is_some (leaves.starts options.now leaves.NoText (rest_meaning rest.now)))) }
+        b ≡
+        (is_blank rest.now.bytes.now || is_some (leaves.starts options.now leaves.NoText (rest_meaning rest.now)))) }
 {
     Ok(is_blank(rest.bytes) || is_found(starts(alloc, options, ParagraphContext::NoText, rest)?))
 }
@@ -425,8 +426,10 @@ fn table_goes_on<'a>(
     ensures value { IfOk result
         (λ w.
         went_option w ≡
-        leaves.table_goes_on options.now delimiter.now (map (λ row. slices row.items) rows.entry.items) (rest_meaning rest.now)) }
-    ensures ends { IfOk result (λ w. HandsBack w (OpenTable delimiter.now (map (λ row. slices row.items) rows.entry.items))) }
+        leaves.table_goes_on options.now delimiter.now (map (λ row. slices row.items) rows.entry.items)
+        (rest_meaning rest.now)) }
+    ensures ends { IfOk result
+        (λ w. HandsBack w (OpenTable delimiter.now (map (λ row. slices row.items) rows.entry.items))) }
 {
     if ends_table(alloc, options, rest)? {
         return Ok(Transition::Ends(Leaf::Table(delimiter, rows)));

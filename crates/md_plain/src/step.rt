@@ -102,8 +102,8 @@ fn text_or_leaf<'a>(
     ensures { IfOk result
         (λ s.
         spot_meaning s ≡
-        definition.text_by options.now (meanings here.entry.items) (kept_meanings lines.entry.items) (rest_meaning rest.now)
-        (starts options.now Text (rest_meaning rest.now))) }
+        definition.text_by options.now (meanings here.entry.items) (kept_meanings lines.entry.items)
+        (rest_meaning rest.now) (starts options.now Text (rest_meaning rest.now))) }
 {
     match starts(alloc, options, ParagraphContext::Text, rest)? {
         Some(started) => {
