@@ -8,7 +8,15 @@ use Rattle.std.proofs.lemmas.List.{take-set-le, take_all, take_more, take_more_s
 use Rattle.std.proofs.lemmas.List.Elements.{All-cons, All-head, All-tail}
 use Rattle.md_engine.specs.declared.event.Event.{Event}
 use Rattle.md_engine.specs.Place.{IsPlaced}
-use Rattle.md_content.specs.Joined.{goes_on, is_content, joined, joined_with}
+use Rattle.md_content.specs.Joined.{content_behind, goes_on, is_content, is_of_prefix, joined, joined_with}
+use Rattle.md_engine.specs.declared.event.Name.{Name}
+use Rattle.md_engine.specs.declared.event.Name.TheVariants as name
+use Rattle.md_seam.specs.Events.Nested.{is_enter}
+use Rattle.md_seam.specs.Events.Prefix.{is_prefix}
+use Rattle.std.proofs.Common.{cond, suc}
+use Rattle.std.proofs.Math.Seq.{take-add}
+use Rattle.std.specs.List.{prefix_len}
+use Rattle.md_seam.specs.Events.Inline.{is_line_ending}
 use Rattle.md_seam.specs.Events.Nested.{is_exit}
 use Rattle.md_seam.specs.Parts.{ArePlaced}
 
@@ -57,43 +65,48 @@ pub joins-none : (first : List Event) → Joining first first 0 0 0
 joins-none first = record { behind = omega arith; before = omega arith; within = omega arith; joined = refl }
 
 -- some events more stay
-pub joins-past : (first events : List Event) (kept from n : ℕ) → from + n ≤ length events →
-    joined (drop from events) ≡ take n (drop from events) ++ joined (drop n (drop from events)) →
-    Joining first events kept from from → Joining first events kept from (from + n)
-joins-past first events kept from n low is h =
+pub joins-past : (first events : List Event) (kept from at n : ℕ) → at + n ≤ length events →
+    joined (drop at events) ≡ take n (drop at events) ++ joined (drop n (drop at events)) →
+    Joining first events kept from at → Joining first events kept from (at + n)
+joins-past first events kept from at n low is h =
     let front = take kept events in
     let rest = drop from events in
-    let none : from - from ≡ 0 = omega arith in
-    let run : from + n - from ≡ n = omega arith in
-    let behind : drop (from + n) events ≡ drop n rest =
-    ap (λ (k : ℕ). drop k events) (omega arith) ∙ sym (drop-drop n from events) in
+    let k = at - from in
+    let run : at + n - from ≡ k + n = omega (arith, h.before) in
+    let here : drop k rest ≡ drop at events =
+    drop-drop k from events ∙ ap (λ (i : ℕ). drop i events) (omega (arith, h.before)) in
+    let split : take (k + n) rest ≡ take k rest ++ take n (drop at events) =
+    take-add k n rest ∙ ap (λ (es : List Event). take k rest ++ take n es) here in
+    let behind : drop (at + n) events ≡ drop n (drop at events) = sym (drop-drop n at events) in
     record {
       behind = h.behind;
-      before = omega arith;
+      before = omega (arith, h.before);
       within = low;
       joined =
-          ap (λ (k : ℕ). front ++ take k rest ++ joined (drop (from + n) events)) run
-          ∙ ap (λ (es : List Event). front ++ take n rest ++ joined es) behind
-          ∙ append_assoc front (take n rest) (joined (drop n rest))
-          ∙ ap (λ (es : List Event). front ++ es) (sym is)
-          ∙ sym (ap (λ (es : List Event). es ++ joined rest) (append-nil front))
-          ∙ sym (ap (λ (k : ℕ). front ++ take k rest ++ joined rest) none)
+          ap (λ (i : ℕ). front ++ take i rest ++ joined (drop (at + n) events)) run
+          ∙ ap (λ (es : List Event). front ++ es ++ joined (drop (at + n) events)) split
+          ∙ ap (λ (es : List Event). front ++ (take k rest ++ take n (drop at events)) ++ joined es) behind
+          ∙ regroup front (take k rest) (take n (drop at events)) (joined (drop n (drop at events)))
+          ∙ ap (λ (es : List Event). front ++ take k rest ++ es) (sym is)
           ∙ h.joined;
     }
+  where
+    regroup : (a b c d : List Event) → (a ++ (b ++ c)) ++ d ≡ (a ++ b) ++ (c ++ d)
+    regroup a b c d = simp append_assoc
 
 -- all that are left stay
-pub joins-rest : (first events : List Event) (kept from : ℕ) → joined (drop from events) ≡ drop from events →
-    Joining first events kept from from → Joining first events kept from (length events)
-joins-rest first events kept from is h =
-    let rest = drop from events in
-    let n = length events - from in
-    let long : length rest ≡ n = length-drop from events in
+pub joins-rest : (first events : List Event) (kept from at : ℕ) → joined (drop at events) ≡ drop at events →
+    Joining first events kept from at → Joining first events kept from (length events)
+joins-rest first events kept from at is h =
+    let rest = drop at events in
+    let n = length events - at in
+    let long : length rest ≡ n = length-drop at events in
     let all : rest ≡ take n rest ++ joined (drop n rest) =
     sym (append-nil rest)
     ∙ sym (ap (λ (es : List Event). es ++ []) (take_all n rest (omega arith)))
     ∙ sym (ap (λ (es : List Event). take n rest ++ joined es) (drop_all n rest (omega arith))) in
     subst (Joining first events kept from) (omega (arith, h.before, h.within))
-    (joins-past first events kept from n (omega (arith, h.within)) (is ∙ all) h)
+    (joins-past first events kept from at n (omega (arith, h.within)) (is ∙ all) h)
 
 -- a slice to the end
 pub to-end : (events : List Event) (n : ℕ) → take (length events - n) (drop n events) ≡ drop n events
@@ -109,6 +122,137 @@ pub ends-else : (a b c x : Bool) → x ≡ (a && b) → x ≡ false → (a && b 
 ends-else true true c x e t = absurd (true≢false (sym e ∙ t))
 ends-else true false c x e t = refl
 ends-else false b c x e t = refl
+
+-- events of prefixes stay
+pub joined-prefixes : (es : List Event) →
+    let n = prefix_len is_of_prefix es in joined es ≡ take n es ++ joined (drop n es)
+joined-prefixes [] = refl
+joined-prefixes (e ∷ es) = by (is_of_prefix e) refl (joined-prefixes es)
+  where
+    run : ℕ
+    run = prefix_len is_of_prefix es
+
+    other : (x : Name) → is_prefix x ≡ true → is_content x ≡ false
+    other name.SpaceOrTab h = refl
+    other name.BlockQuotePrefix h = refl
+    other name.BlockQuoteMarker h = refl
+    other _ h = absurd (true≢false (sym h))
+
+    none : (a b c : Bool) → b ≡ false → (a && b && c) ≡ false
+    none true true c h = absurd (true≢false h)
+    none true false c h = refl
+    none false b c h = refl
+
+    one : (es : List Event) → is_content e.name ≡ false → joined (e ∷ es) ≡ e ∷ joined es
+    one [] h = refl
+    one (f ∷ []) h = refl
+    one (f ∷ g ∷ es) h = rw (none (is_exit e.kind) (is_content e.name) (goes_on (f ∷ g ∷ es)) h) refl
+
+    by : (x : Bool) → is_of_prefix e ≡ x → joined es ≡ take run es ++ joined (drop run es) →
+        let n = cond (is_of_prefix e) (1 + run) 0 in joined (e ∷ es) ≡ take n (e ∷ es) ++ joined (drop n (e ∷ es))
+    by true prefix behind =
+        let more : 1 + run ≡ suc run = omega arith in
+        one es (other e.name prefix)
+        ∙ ap (λ (l : List Event). e ∷ l) behind
+        ∙ sym (ap (λ n. take n (e ∷ es) ++ joined (drop n (e ∷ es))) more)
+        ∙ sym (ap (λ x. let n = cond x (1 + run) 0 in take n (e ∷ es) ++ joined (drop n (e ∷ es))) prefix)
+    by false last behind =
+        sym (ap (λ x. let n = cond x (1 + run) 0 in take n (e ∷ es) ++ joined (drop n (e ∷ es))) last)
+
+-- what stands between an ending and the line behind it stays
+pub passes-at : (events : List Event) (at behind : ℕ) →
+    behind ≡ 2 + prefix_len is_of_prefix (drop 2 (drop (at + 1) events)) →
+    let rest = drop (at + 3) events in let between = at + 1 + behind - (at + 3) in
+    joined rest ≡ take between rest ++ joined (drop between rest)
+passes-at events at behind is =
+    let rest : List Event = drop (at + 3) events in
+    let same : drop 2 (drop (at + 1) events) ≡ rest =
+    drop-drop 2 (at + 1) events ∙ ap (λ (i : ℕ). drop i events) (omega arith) in
+    let run : prefix_len is_of_prefix (drop 2 (drop (at + 1) events)) ≡ prefix_len is_of_prefix rest =
+    ap (prefix_len is_of_prefix) same in
+    let count : prefix_len is_of_prefix rest ≡ at + 1 + behind - (at + 3) = omega (arith, is, run) in
+    subst (λ (k : ℕ). joined rest ≡ take k rest ++ joined (drop k rest)) count (joined-prefixes rest)
+
+abbrev begins_line : Event → Bool
+begins_line e = is_enter e.kind && is_content e.name
+
+-- a line begins behind prefixes if the first other event begins one
+behind-some : (es : List Event) (d : Event) → prefix_len is_of_prefix es < length es →
+    content_behind es ≡ begins_line (get_or es (prefix_len is_of_prefix es) d)
+behind-some [] d lt = absurd (omega arith)
+behind-some (e ∷ es) d lt = by (is_of_prefix e) refl lt (behind-some es d)
+  where
+    run : ℕ
+    run = prefix_len is_of_prefix es
+
+    by : (x : Bool) → is_of_prefix e ≡ x → cond (is_of_prefix e) (1 + run) 0 < length (e ∷ es) →
+        (run < length es → content_behind es ≡ begins_line (get_or es run d)) →
+        cond (is_prefix e.name) (content_behind es) (begins_line e) ≡
+        begins_line (get_or (e ∷ es) (cond (is_of_prefix e) (1 + run) 0) d)
+    by true prefix lt behind =
+        let more : 1 + run ≡ suc run = omega arith in
+        let less : cond true (1 + run) 0 < length (e ∷ es) =
+        subst (λ x. cond x (1 + run) 0 < length (e ∷ es)) prefix lt in
+        ap (λ x. cond x (content_behind es) (begins_line e)) prefix
+        ∙ behind (omega (arith, less))
+        ∙ sym (ap (λ n. begins_line (get_or (e ∷ es) n d)) more)
+        ∙ sym (ap (λ x. begins_line (get_or (e ∷ es) (cond x (1 + run) 0) d)) prefix)
+    by false last lt behind =
+        ap (λ x. cond x (content_behind es) (begins_line e)) last
+        ∙ sym (ap (λ x. begins_line (get_or (e ∷ es) (cond x (1 + run) 0) d)) last)
+
+behind-none : (es : List Event) → length es ≤ prefix_len is_of_prefix es → content_behind es ≡ false
+behind-none [] le = refl
+behind-none (e ∷ es) le = by (is_of_prefix e) refl le (behind-none es)
+  where
+    run : ℕ
+    run = prefix_len is_of_prefix es
+
+    by : (x : Bool) → is_of_prefix e ≡ x → length (e ∷ es) ≤ cond (is_of_prefix e) (1 + run) 0 →
+        (length es ≤ run → content_behind es ≡ false) →
+        cond (is_prefix e.name) (content_behind es) (begins_line e) ≡ false
+    by true prefix le behind =
+        let less : length (e ∷ es) ≤ cond true (1 + run) 0 =
+        subst (λ x. length (e ∷ es) ≤ cond x (1 + run) 0) prefix le in
+        ap (λ x. cond x (content_behind es) (begins_line e)) prefix ∙ behind (omega (arith, less))
+    by false last le behind =
+        let less : length (e ∷ es) ≤ cond false (1 + run) 0 =
+        subst (λ x. length (e ∷ es) ≤ cond x (1 + run) 0) last le in
+        absurd (omega (arith, less))
+
+-- so a line goes on
+pub goes-some : (events : List Event) (d : Event) (n : ℕ) → 2 ≤ length events →
+    is_line_ending (get_or events 0 d).name ≡ true → n ≡ prefix_len is_of_prefix (drop 2 events) →
+    2 + n < length events → goes_on events ≡ (is_enter (get_or events (2 + n) d).kind && is_content (get_or events (2 + n) d).name)
+goes-some [] d n two ends is lt = absurd (omega arith)
+goes-some (e ∷ []) d n two ends is lt = absurd (omega arith)
+goes-some (e ∷ f ∷ es) d n two ends is lt =
+    let more : suc (suc n) ≡ 2 + n = omega arith in
+    ap (λ x. x && content_behind es) ends
+    ∙ behind-some es d (omega (arith, is))
+    ∙ ap (λ k. begins_line (get_or es k d)) (sym is)
+    ∙ ap (λ k. begins_line (get_or (e ∷ f ∷ es) k d)) more
+
+pub goes-none : (events : List Event) (n : ℕ) → n ≡ prefix_len is_of_prefix (drop 2 events) → length events ≤ 2 + n →
+    goes_on events ≡ false
+goes-none [] n is le = refl
+goes-none (e ∷ []) n is le = refl
+goes-none (e ∷ f ∷ es) n is le = go (is_line_ending e.name) (behind-none es (omega (arith, is)))
+  where
+    go : (x : Bool) → content_behind es ≡ false → (x && content_behind es) ≡ false
+    go true h = h
+    go false h = refl
+
+pub goes-not : (events : List Event) (d : Event) → is_line_ending (get_or events 0 d).name ≡ false →
+    goes_on events ≡ false
+goes-not [] d other = refl
+goes-not (e ∷ []) d other = refl
+goes-not (e ∷ f ∷ es) d other = ap (λ x. x && content_behind es) other
+
+pub goes-short : (events : List Event) → length events < 2 → goes_on events ≡ false
+goes-short [] less = refl
+goes-short (e ∷ []) less = refl
+goes-short (e ∷ f ∷ es) less = absurd (omega arith)
 
 -- an event that is joined with none
 pub joined-past : (events : List Event) (at : ℕ) (d : Event) → at < length events →
@@ -146,6 +290,16 @@ joined-here events at d low two =
     go e (f ∷ []) low two = absurd (omega arith)
     go e (f ∷ g ∷ es) low two = rw two refl
 
+-- what stands behind a line that is joined stays
+pub joins-behind : (events new : List Event) (at last : ℕ) (now : Event) → at < last →
+    drop (at + 1) new ≡ drop (at + 1) (set events at now) → drop (last + 1) new ≡ drop (last + 1) events
+joins-behind events new at last now more back =
+    let far = last - at in
+    ap (λ (n : ℕ). drop n new) (omega (arith, more)) ∙ sym (drop-drop far (at + 1) new)
+    ∙ ap (drop far) back ∙ drop-drop far (at + 1) (set events at now)
+    ∙ ap (λ (n : ℕ). drop n (set events at now)) (omega (arith, more))
+    ∙ drop-set-lt (last + 1) events at now (omega (arith, more))
+
 -- one event more ends a line that goes on: it takes the ending of that line, and stands behind those in front
 pub joins-line : (first events new : List Event) (kept from at last : ℕ) (e f : Event) → last < length events →
     last ≡ at + joined_with (drop at events) → at < last → e ≡ get_or events at e → f ≡ get_or events last f →
@@ -160,13 +314,8 @@ joins-line first events new kept from at last e f lt is more here_is there_is lo
     both e (get_or events at e) f (get_or events last f) here_is there_is in
     let k = at - from in
     let rest = drop from events in
-    let far = last - at in
     let behind = drop (last + 1) events in
-    let same : drop (last + 1) new ≡ behind =
-    ap (λ (n : ℕ). drop n new) (omega (arith, more)) ∙ sym (drop-drop far (at + 1) new)
-    ∙ ap (drop far) back ∙ drop-drop far (at + 1) (set events at now)
-    ∙ ap (λ (n : ℕ). drop n (set events at now)) (omega (arith, more))
-    ∙ drop-set-lt (last + 1) events at now (omega (arith, more)) in
+    let same : drop (last + 1) new ≡ behind = joins-behind events new at last now more back in
     let here : set events at now ≡ set events (from + k) now =
     ap (λ (n : ℕ). set events n now) (omega (arith, h.before)) in
     let middle : take (at + 1 - from) (drop from (set events at now)) ≡ take k rest ++ now ∷ [] =

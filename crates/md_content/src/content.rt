@@ -8,7 +8,8 @@
 // The prefixes of containers in front of a line belong to no line of the content (CommonMark 5.1). So each line begins
 // behind those in front of it, and ends behind its ending, before those of the next line: its end is that of its chunk.
 
-ghost use Rattle.std.specs.Prelude.{◌≡◌, ◌≢◌, ℕ, ◌<◌, ◌&&◌, Bool, true, IfNone, IfOk, IfSome, List, [], length};
+ghost use Rattle.std.specs.Prelude.{◌≡◌, ◌≢◌, ℕ, ◌≤◌, ◌&&◌, Bool, false, IfNone, IfOk, IfSome, List, [], length};
+ghost use Rattle.std.specs.List.{prefix_len};
 ghost use Rattle.std.specs.Option.{option_map};
 ghost use Rattle.md_engine.specs.Found.{found_in};
 ghost use Rattle.md_engine.specs.World.{looks, world};
@@ -18,8 +19,9 @@ ghost use Rattle.md_engine.specs.declared.state.content.State.{State as ContentS
 ghost use Rattle.md_content.specs.States.{content_transition};
 ghost use Rattle.md_content.specs.Chunks.{chunk_inside_code, chunk_start_transition, chunk_transition};
 ghost use Rattle.md_content.specs.ContentReads.{content_events, is_data_end, settled};
-ghost use Rattle.md_content.specs.Joined.{JoinsAt, content_behind, goes_on, is_content, joined};
+ghost use Rattle.md_content.specs.Joined.{GoesOnAt, JoinsAt, goes_on, is_content, is_of_prefix, joined};
 ghost use Rattle.md_content.specs.Resolves.{Resolves, is_all_read};
+ghost use Rattle.md_seam.specs.Events.Inline.{is_line_ending};
 ghost use Rattle.md_seam.specs.Events.Nested.{is_enter, is_exit};
 ghost use Rattle.md_seam.specs.Parts.{AreChunks, ArePlaced};
 ghost use Rattle.md_seam.specs.Spaces.{ends_line};
@@ -271,25 +273,47 @@ fn begins_line(event: &Event) -> bool
     matches!(event.kind, Kind::Enter) && matches!(event.name, Name::Content)
 }
 
-/// Whether a line of content begins behind container prefixes.
-fn begins_behind(events: &[Event]) -> bool
-    ensures { result ≡ content_behind events.now }
+/// Whether this is the ending of a line of text.
+fn is_ending(event: &Event) -> bool
+    ensures { result ≡ is_line_ending event.now.name }
 {
-    for event in events {
-        if !is_prefix(event.name) {
-            return begins_line(event);
-        }
-    }
-    false
+    matches!(event.name, Name::LineEnding)
 }
 
-/// Whether a line of content that ends before these events goes on: its ending stands first, and behind it and the
-/// prefixes of the next line a line of content.
-fn goes_on(events: &[Event]) -> bool
-    ensures value { result ≡ goes_on events.now }
-    ensures within { result ≡ true → 2 < length events.now }
+/// How many of the events come before the first that belongs to no container prefix.
+fn prefixes(events: &[Event]) -> usize
+    ensures value { result ≡ prefix_len is_of_prefix events.now }
+    ensures within { result ≤ length events.now }
 {
-    events.len() > 2 && matches!(events[0].name, Name::LineEnding) && begins_behind(&events[2..])
+    for (at, event) in events.iter().enumerate() {
+        if !is_prefix(event.name) {
+            return at;
+        }
+    }
+    events.len()
+}
+
+/// Where a line of content goes on that ends before these events: its ending stands first, and behind it and the
+/// prefixes of the next line a line of content.
+fn goes_on(events: &[Event]) -> Option<usize>
+    ensures some { IfSome result (λ next. GoesOnAt events.now next) }
+    ensures none { IfNone result (goes_on events.now ≡ false) }
+{
+    if events.len() < 2 {
+        return None;
+    }
+    if !is_ending(&events[0]) {
+        return None;
+    }
+    let next = 2 + prefixes(&events[2..]);
+    if next >= events.len() {
+        return None;
+    }
+    if begins_line(&events[next]) {
+        Some(next)
+    } else {
+        None
+    }
 }
 
 /// Whether a line of content ends here.
@@ -299,14 +323,28 @@ fn ends_line(event: &Event) -> bool
     matches!(event.kind, Kind::Exit) && matches!(event.name, Name::Content)
 }
 
-/// Where the first line of content ends that goes on, if there is one.
-fn next_line(events: &[Event]) -> Option<usize>
-    ensures some { IfSome result (λ at. JoinsAt events.now at) }
+/// A line of content that goes on.
+#[derive(Clone, Copy)]
+struct Line {
+    /// Where it ends.
+    end: usize,
+    /// Where it goes on, behind its ending and prefixes.
+    next: usize,
+}
+
+/// The first line of content that goes on, if there is one.
+fn next_line(events: &[Event]) -> Option<Line>
+    ensures some { IfSome result (λ line. JoinsAt events.now line.end line.next) }
     ensures none { IfNone result (joined events.now ≡ events.now) }
 {
     for (at, event) in events.iter().enumerate() {
-        if ends_line(event) && goes_on(&events[at + 1..]) {
-            return Some(at);
+        if ends_line(event) {
+            if let Some(behind) = goes_on(&events[at + 1..]) {
+                return Some(Line {
+                    end: at,
+                    next: at + 1 + behind,
+                });
+            }
         }
     }
     None
@@ -321,13 +359,15 @@ fn join(events: &mut Vec<Event>)
 {
     let mut kept = 0;
     let mut from = 0;
-    while let Some(behind) = next_line(&events[from..]) {
-        let at = from + behind;
-        let last = at + 2;
-        events[at].point = events[last].point;
-        move_down(events, kept, from, at + 1);
-        kept += at + 1 - from;
+    let mut at = 0;
+    while let Some(line) = next_line(&events[at..]) {
+        let end = at + line.end;
+        let last = end + 2;
+        events[end].point = events[last].point;
+        move_down(events, kept, from, end + 1);
+        kept += end + 1 - from;
         from = last + 1;
+        at += line.next;
     }
     let end = events.len();
     move_down(events, kept, from, end);

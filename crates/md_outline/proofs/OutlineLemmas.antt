@@ -550,12 +550,6 @@ piece-end bytes part span end text s lines is cut epart elines =
 
 -- The loop over the events.
 
--- an event that means nothing
-pub state-quiet : (bytes : List ℕ) (kind : Kind) (x : Role) (p : Point) (s : OutlineState) → x ≡ role.Quiet →
-    s ≡ state_by bytes kind x p s
-state-quiet bytes Enter x p s is = sym (ap (λ y. state_enter bytes y p s) is)
-state-quiet bytes Exit x p s is = sym (ap (λ y. state_exit bytes y p s) is)
-
 -- a text that begins or goes on at an event does so between characters
 begins-step : (bytes : List ℕ) (kind : Kind) (x : spelled.Role) (p : Point) (span : Option Span) →
     (not (is_told x) || is_between bytes (byte_at p)) ≡ true → parts_by bytes kind x p span ≡ true →

@@ -16,7 +16,7 @@ mod role;
 
 use crate::outline::lines::{next, part, push};
 use crate::outline::paragraph::{push_block, push_piece};
-use crate::outline::role::{Leaf, Note, Purpose, Role, is_quiet, push_leaf, role_of};
+use crate::outline::role::{Leaf, Note, Purpose, Role, push_leaf, role_of};
 pub use md_definition::outline::{OutlineLine, Word};
 use md_engine::event::{Event, Kind, Point};
 use md_engine::message::Message;
@@ -180,9 +180,6 @@ impl<'a> Reading<'a> {
             state_of self.new ≡ state_by self.old.bytes.now event.now.kind (shown_as (spelled.role event.now.name))
             event.now.point (state_of self.old)) }
     {
-        if is_quiet(event.name) {
-            return Ok(());
-        }
         let role = role_of(event.name);
         match event.kind {
             Kind::Enter => self.enter(role, event.point),

@@ -58,6 +58,9 @@ fn push_line(text: &mut String, line: &OutlineLine) -> Result<(), AllocError>
 fn push_indent(text: &mut String, depth: usize) -> Result<(), AllocError>
     ensures { OnOk result (string_bytes text.new ≡ string_bytes text.old ++ repeat depth (codes "  ")) }
 {
+    if depth < 4 {
+        return push_repeated(text, "  ", depth);
+    }
     push_repeated(text, "        ", depth / 4)?;
     push_repeated(text, "  ", depth % 4)
 }

@@ -3,6 +3,7 @@
 ghost use Rattle.std.specs.Prelude.{◌≡◌, ◌≤◌, ◌+◌, ◌-◌, ◌∷◌, [], ◌++◌, true, length, slice_range, IfOk, OnOk};
 ghost use Rattle.std.specs.List.{prefix_len};
 ghost use Rattle.std.specs.Str.{IsUtf8};
+ghost use Rattle.md_definition.specs.Lines.{is_ending};
 ghost use Rattle.md_definition.specs.Outline.{entries_of, entry_with};
 ghost use Rattle.md_definition.specs.Rest.{is_white, trim_start};
 ghost use Rattle.md_definition.specs.Texts.{split_lines, trim_each};
@@ -141,11 +142,30 @@ pub fn push_lines<'a>(
     push(lines, depth, Word::Line, line_text(rest))
 }
 
+/// Whether a line ends at this byte.
+fn ends_line(byte: u8) -> bool
+    ensures { result ≡ is_ending byte }
+{
+    byte == b'\n' || byte == b'\r'
+}
+
+/// Whether no line ends in a text, which is short.
+fn is_one_line(text: &[u8]) -> bool
+    ensures { result ≡ true → line_len text.now ≡ length text.now }
+{
+    for byte in text {
+        if ends_line(*byte) {
+            return false;
+        }
+    }
+    true
+}
+
 /// Whether a text is one line without an ending that begins with neither a space nor a tab.
 fn is_trimmed_line(text: &[u8]) -> bool
     ensures { result ≡ true → trim_each (split_lines text.now) ≡ text.now ∷ [] }
 {
-    first_line_len(text) == text.len() && white_len(text) == 0
+    is_one_line(text) && white_len(text) == 0
 }
 
 /// Adds the lines of a text, which is most often one that is shown as it is.

@@ -1,11 +1,10 @@
 // How an outline meets blocks: what the events of a name mean to it, and what it knows and shows of a leaf block.
 
-ghost use Rattle.std.specs.Prelude.{◌≡◌, ◌++◌, true, OnOk};
+ghost use Rattle.std.specs.Prelude.{◌≡◌, ◌++◌, OnOk};
 ghost use Rattle.std.specs.Str.{IsUtf8};
 ghost use Rattle.md_definition.specs.Outline.{entries_of};
 ghost use Rattle.md_seam.specs.Events.Spelled as spelled;
 ghost use Rattle.md_outline.specs.Roles.{leaf_entries, leaf_of, noted, shown_as};
-ghost use Rattle.md_outline.specs.declared.outline.role.Role.{Role};
 
 use crate::outline::heading::{Heading, push_heading};
 use crate::outline::lines::{push, text_of};
@@ -48,14 +47,6 @@ pub enum Role<'a> {
     Leaf(Leaf<'a>),
     Text(Purpose),
     Quiet,
-}
-
-/// Whether this is one of the names of most events, which mean nothing.
-pub fn is_quiet(name: Name) -> bool
-    ensures { result ≡ true → shown_as (spelled.role name) ≡ Role.Quiet }
-{
-    matches!(name, Name::BlockQuoteMarker | Name::SpaceOrTab)
-        || matches!(name, Name::LineEnding | Name::Data)
 }
 
 /// What the events of this name mean.
