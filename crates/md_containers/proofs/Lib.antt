@@ -4,3 +4,4 @@ pub mod QuoteLines
 pub mod QuoteCells
 pub mod QuoteShorter
 pub mod Shorter
+pub mod PlainPrefix

@@ -1,2 +1,3 @@
 pub mod Quote
 pub mod QuoteRule
+pub mod PlainPrefix
