@@ -2,6 +2,7 @@ pub mod Goods
 pub mod States
 pub mod FlowStays
 pub mod FlowCalls
+pub mod AtOnce
 pub mod FromEnding
 pub mod FlowLemmas
 pub mod FlowMeans

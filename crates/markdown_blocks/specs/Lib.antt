@@ -25,3 +25,4 @@ pub mod Unread
 pub mod TextReads
 pub mod Document
 pub mod DocumentRule
+pub mod AtOnce

@@ -6,17 +6,19 @@
 // `BlockQuote` in front of the prefix. The prefix is its indent, and `BlockQuotePrefix` around `BlockQuoteMarker` and
 // at most one column of whitespace.
 
-ghost use Rattle.std.specs.Prelude.{◌≡◌, ◌≢◌};
+ghost use Rattle.std.specs.Prelude.{◌≡◌, ◌≢◌, OnOk, true};
 ghost use Rattle.md_engine.specs.World.{world};
 ghost use Rattle.md_engine.specs.declared.state.Name.{Name as StateName};
 ghost use Rattle.md_engine.specs.declared.state.State.{State};
 ghost use Rattle.md_engine.specs.declared.state.block_quote.State.{State as QuoteState};
+ghost use Rattle.md_containers.specs.PlainPrefix.{IsPlainPrefix, prefixed};
 ghost use Rattle.md_containers.specs.Quote.{cont_after_transition, cont_before_transition, cont_start_transition};
 ghost use Rattle.md_containers.specs.Quote.{may_begin, quote_transition, start_transition};
 ghost use Rattle.md_seam.specs.Look.{may_with};
 ghost use Rattle.md_seam.specs.Transition.{IsAt, NeedsNothing};
 
 use md_engine::event::Name;
+use md_engine::message::Message;
 use md_engine::or_error;
 use md_engine::state::block_quote::State as QuoteState;
 use md_engine::state::{Name as StateName, State};
@@ -113,6 +115,36 @@ pub fn cont_after(tokenizer: &mut Tokenizer) -> State
     }
     or_error!(tokenizer.exit(Name::BlockQuotePrefix));
     State::Ok
+}
+
+/// Whether the prefix `> ` stands here, and behind it something that may be read now.
+pub fn is_plain_prefix(tokenizer: &Tokenizer) -> bool
+    ensures { result ≡ true → IsPlainPrefix (world tokenizer.now) }
+{
+    let index = tokenizer.point.index;
+    index < tokenizer.limit
+        && tokenizer.bytes[index] == b'>'
+        && index + 1 < tokenizer.limit
+        && tokenizer.bytes[index + 1] == b' '
+        && index + 2 < tokenizer.limit
+}
+
+/// Takes the prefix `> ` that stands here, as the states do, and sees what stands behind it.
+#[inline(always)]
+pub fn take_plain_prefix(tokenizer: &mut Tokenizer) -> Result<(), Message>
+    requires { IsPlainPrefix (world tokenizer.old) }
+    ensures { OnOk result (world tokenizer.new ≡ prefixed (world tokenizer.old)) }
+{
+    tokenizer.enter(Name::BlockQuotePrefix)?;
+    tokenizer.enter(Name::BlockQuoteMarker)?;
+    tokenizer.consume();
+    tokenizer.exit(Name::BlockQuoteMarker)?;
+    tokenizer.enter(Name::SpaceOrTab)?;
+    tokenizer.consume();
+    tokenizer.exit(Name::SpaceOrTab)?;
+    tokenizer.exit(Name::BlockQuotePrefix)?;
+    tokenizer.current = tokenizer.look();
+    Ok(())
 }
 
 /// Calls a state of a quote.

@@ -10,6 +10,9 @@
 // did not go on end: their ends are put where the line before ended, in front of its ending.
 
 ghost use Rattle.std.specs.Prelude.{◌≡◌, ◌≢◌, ◌≤◌, length};
+ghost use Rattle.std.specs.Prelude.{◌≡◌, ◌≢◌, true};
+ghost use Rattle.md_engine.specs.Going.{SeesOn};
+ghost use Rattle.md_engine.specs.Run.{RunsHere};
 ghost use Rattle.md_engine.specs.Scheme.{stands};
 ghost use Rattle.md_engine.specs.World.{looks, world};
 ghost use Rattle.md_engine.specs.declared.state.Name.{Name as StateName};
@@ -20,6 +23,10 @@ ghost use Rattle.markdown_blocks.specs.Flow.{existing_before_transition, flow_en
 ghost use Rattle.markdown_blocks.specs.Flow.{new_before_transition};
 ghost use Rattle.md_engine.specs.declared.tokenizer.container.name.ContainerKind.{ContainerKind};
 ghost use Rattle.markdown_blocks.specs.LineFlags.{asking, ended_on, ending_name, next_container, over_end, stays};
+ghost use Rattle.markdown_blocks.specs.LineFlags.{ending_name, next_container, stays};
+ghost use Rattle.markdown_blocks.specs.AtOnce.{GoesAtOnce};
+ghost use Rattle.markdown_blocks.specs.States.{FlowStep};
+ghost use Rattle.md_engine.specs.declared.resolve.name.Name.{Name as ResolveName};
 ghost use Rattle.markdown_blocks.specs.HeldLeaf.{takes_lazy};
 ghost use Rattle.markdown_blocks.specs.Document.{before_frontmatter_transition, document_own_transition};
 ghost use Rattle.markdown_blocks.specs.Document.{document_table_scheme, document_transition, start_transition};
@@ -146,6 +153,32 @@ pub fn container_existing_before(tokenizer: &mut Tokenizer) -> State
             State::Retry(registry::goes_on_with(container.kind))
         }
     }
+}
+
+/// Whether the next container goes on, with a prefix that can be taken at once.
+fn goes_on_at_once(tokenizer: &Tokenizer) -> bool
+    ensures { result ≡ true → GoesAtOnce (world tokenizer.now) }
+{
+    match next_container(tokenizer) {
+        None => false,
+        Some(container) => registry::has_plain_prefix(container.kind, tokenizer),
+    }
+}
+
+/// At the same place: goes at once over prefixes of containers that go on, as the states do one after another.
+#[inline(always)]
+pub fn containers_existing(tokenizer: &mut Tokenizer) -> State
+    requires { IsAt NeedsNothing (StateName.Document DocumentState.ContainerExistingBefore) (world tokenizer.old) }
+    ensures runs { result ≢ State.Error →
+        RunsHere (FlowStep (λ target other. ⟦<ResolveName as PartialEq>⟧.eq other target))
+        (StateName.Document DocumentState.ContainerExistingBefore) (world tokenizer.old) result (world tokenizer.new) }
+    ensures sees { result ≢ State.Error → SeesOn result (world tokenizer.old) (world tokenizer.new) }
+{
+    while goes_on_at_once(tokenizer) {
+        or_error!(registry::take_plain_prefix(tokenizer));
+        container_existing_after(tokenizer);
+    }
+    container_existing_before(tokenizer)
 }
 
 /// Behind the prefix of a container that went on.

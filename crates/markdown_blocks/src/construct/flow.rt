@@ -228,6 +228,22 @@ fn call_heading(tokenizer: &mut Tokenizer, state: HeadingState) -> State
     }
 }
 
+/// Calls a state of the containers of a line; prefixes are taken at once.
+#[inline(always)]
+fn call_document(tokenizer: &mut Tokenizer, state: DocumentState) -> State
+    requires current { (world tokenizer.old).current ≡ looks (world tokenizer.old) }
+    requires stands { stands flow_table_scheme (world tokenizer.old) (State.Next (StateName.Document state)) }
+    ensures runs { result ≢ State.Error →
+        RunsHere (FlowStep (λ target other. ⟦<ResolveName as PartialEq>⟧.eq other target)) (StateName.Document state)
+        (world tokenizer.old) result (world tokenizer.new) }
+    ensures sees { result ≢ State.Error → SeesOn result (world tokenizer.old) (world tokenizer.new) }
+{
+    match state {
+        DocumentState::ContainerExistingBefore => document::containers_existing(tokenizer),
+        _ => document::call(tokenizer, state),
+    }
+}
+
 /// The states of flow.
 pub struct FlowTable;
 
@@ -242,6 +258,7 @@ impl Table for FlowTable {
 
     fn call(tokenizer: &mut Tokenizer, name: StateName) -> State {
         match name {
+            StateName::Document(state) => call_document(tokenizer, state),
             StateName::HeadingAtx(state) => call_heading(tokenizer, state),
             _ => call_state(tokenizer, name),
         }

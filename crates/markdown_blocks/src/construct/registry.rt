@@ -6,7 +6,8 @@
 //
 // What flow itself is made of (blank lines, content, whitespace) stands in its own table.
 
-ghost use Rattle.std.specs.Prelude.{◌≡◌, ◌≢◌, [], IfOk, None, OnOk};
+ghost use Rattle.std.specs.Prelude.{◌≡◌, ◌≢◌, [], IfOk, None, OnOk, true};
+ghost use Rattle.md_containers.specs.PlainPrefix.{IsPlainPrefix, prefixed};
 ghost use Rattle.std.specs.Option.{option_map};
 ghost use Rattle.md_engine.specs.Found.{found_in};
 ghost use Rattle.md_engine.specs.Scheme.{stands};
@@ -86,6 +87,24 @@ pub fn goes_over(container: Container) -> bool
     match container.kind {
         ContainerKind::BlockQuote => false,
     }
+}
+
+/// Whether the prefix of a container on a further line stands here, so that it can be taken at once.
+pub fn has_plain_prefix(kind: ContainerKind, tokenizer: &Tokenizer) -> bool
+    ensures { result ≡ true → IsPlainPrefix (world tokenizer.now) }
+{
+    match kind {
+        ContainerKind::BlockQuote => block_quote::is_plain_prefix(tokenizer),
+    }
+}
+
+/// Takes it, as the states of the container do, and sees what stands behind it.
+#[inline(always)]
+pub fn take_plain_prefix(tokenizer: &mut Tokenizer) -> Result<(), Message>
+    requires { IsPlainPrefix (world tokenizer.old) }
+    ensures { OnOk result (world tokenizer.new ≡ prefixed (world tokenizer.old)) }
+{
+    block_quote::take_plain_prefix(tokenizer)
 }
 
 /// The state in front of the prefix of a container on a further line.

@@ -18,6 +18,24 @@ use Rattle.markdown_blocks.proofs.construct.flow.FlowTableTable.call.Goals as go
 abbrev is_name : ResolveName → ResolveName → Bool
 is_name target other = names.ghosts.eq other target
 
+pub returns-in-Document : goal.returns-in-Document
+returns-in-Document c =
+    let w = world c.args.tokenizer.now in
+    let w' = world c.call_document.new.tokenizer in
+    let runs : c.call_document.result ≢ Error → RunsHere (FlowStep is_name) c.args.name w c.call_document.result w' =
+    λ fine. subst (λ (x : StateName). RunsHere (FlowStep is_name) x w c.call_document.result w') (sym c.in-Document.is)
+    (c.call_document.ensures.runs fine) in
+    let kept = λ (fine : c.call_document.result ≢ Error).
+    here-keeps (FlowStep is_name) flow_table_scheme c.args.name w c.call_document.result w' (flow-keeps is_name)
+    c.requires.current c.requires.stands (runs fine) in
+    record {
+      runs = runs;
+      stands = λ fine. (kept fine).0;
+      falls = λ fine. (kept fine).1;
+      setting = λ fine. (kept fine).2;
+      sees = c.call_document.ensures.sees;
+    }
+
 pub returns-in-HeadingAtx : goal.returns-in-HeadingAtx
 returns-in-HeadingAtx c =
     let w = world c.args.tokenizer.now in

@@ -1,0 +1,97 @@
+-- Prefixes that are taken at once are what the states of containers take.
+use Rattle.std.proofs.Common.{◌≡◌, ℕ, Bool, true, false, Option, Some, None, refl, sym, ◌∙◌, ap, subst}
+use Rattle.std.specs.Prelude.{slice_range}
+use Rattle.md_engine.specs.declared.resolve.name.Name.{Name as ResolveName}
+use Rattle.md_engine.specs.declared.state.Name.TheVariants as n
+use Rattle.md_engine.specs.declared.state.block_quote.State.TheVariants as quote
+use Rattle.md_engine.specs.declared.state.document.State.TheVariants as document
+use Rattle.md_engine.specs.declared.state.State.{State}
+use Rattle.md_engine.specs.declared.state.State.TheVariants.{Next, Retry}
+use Rattle.md_engine.specs.declared.tokenizer.container.Container.{Container}
+use Rattle.md_engine.specs.declared.tokenizer.container.name.ContainerKind.{ContainerKind}
+use Rattle.md_engine.specs.declared.tokenizer.container.name.ContainerKind.TheVariants as kind
+use Rattle.md_engine.specs.Run.{Remains}
+use Rattle.md_engine.specs.World.{World, looks}
+use Rattle.md_engine.proofs.Loops.{CameTo}
+use Rattle.md_engine.proofs.Walks.{Within, then-stays}
+use Rattle.md_containers.specs.PlainPrefix.{prefixed}
+use Rattle.md_containers.proofs.PlainPrefix.{HasQuote, prefix-run}
+use Rattle.md_seam.specs.Look.{behind_code, first_behind, looks_behind, may_with}
+use Rattle.md_seam.specs.Transition.{Transition, tried}
+use Rattle.markdown_blocks.specs.AtOnce.{GoesAtOnce}
+use Rattle.markdown_blocks.specs.Flow.{existing_after_transition, existing_before_code, existing_before_transition}
+use Rattle.markdown_blocks.specs.Flow.{trial_code}
+use Rattle.markdown_blocks.specs.LineFlags.{next_container}
+use Rattle.markdown_blocks.specs.Registry.{goes_on_with, may_go_on}
+use Rattle.markdown_blocks.specs.States.{FlowStep}
+
+-- what is seen here stands first behind whitespace, unless it is whitespace
+sees-quote : (w : World) → w.current ≡ Some 62 → looks_behind w ≡ Some 62
+unfolding looks_behind
+sees-quote w e =
+    ap (λ (o : Option ℕ). behind_code o (first_behind (slice_range w.setting.bytes w.point.index w.setting.limit))) e
+
+-- a container that goes on at once is tried
+tries : (w : World) (k : ContainerKind) → w.current ≡ Some 62 →
+    trial_code (goes_on_with k) (n.Document document.ContainerExistingAfter) (n.Document document.ContainerNewBefore) w
+    (may_with (may_go_on k) (looks_behind w)) ≡
+    record {
+      to = Retry (n.BlockQuote quote.ContStart);
+      world = tried w (Next (n.Document document.ContainerExistingAfter))
+          (Next (n.Document document.ContainerNewBefore));
+    }
+tries w kind.BlockQuote e =
+    ap
+    (λ (o : Option ℕ).
+    trial_code (goes_on_with kind.BlockQuote) (n.Document document.ContainerExistingAfter)
+    (n.Document document.ContainerNewBefore) w (may_with (may_go_on kind.BlockQuote) o)) (sees-quote w e)
+
+has-quote : (is_name : ResolveName → ResolveName → Bool) → HasQuote (FlowStep is_name)
+has-quote is_name state w to new e = record {
+  to_is = sym (ap (λ (x : Transition). x.to) e);
+  new_is = sym (ap (λ (x : Transition). x.world) e);
+}
+
+-- one more container goes on
+pub goes-on : (is_name : ResolveName → ResolveName → Bool) (is_end : Bool) (s : State) (v w u : World) →
+    CameTo (FlowStep is_name) is_end s v (n.Document document.ContainerExistingBefore) w → w.current ≡ looks w →
+    Within w → GoesAtOnce w → u ≡ prefixed w → Within u →
+    CameTo (FlowStep is_name) is_end s v (n.Document document.ContainerExistingBefore)
+    (existing_after_transition u).world
+goes-on is_name is_end s v w u came seen within at_once e within_u =
+    let T = FlowStep is_name in
+    let here : w.current ≡ Some 62 = seen ∙ at_once.prefix.here in
+    let nok : State = Next (n.Document document.ContainerNewBefore) in
+    let begun : World = tried w (Next (n.Document document.ContainerExistingAfter)) nok in
+    let is : existing_before_transition w ≡ record { to = Retry (n.BlockQuote quote.ContStart); world = begun } =
+    ap (existing_before_code w) at_once.next ∙ tries w at_once.held.kind here in
+    let first = then-stays T is_end s v (n.Document document.ContainerExistingBefore) (n.BlockQuote quote.ContStart) w
+    begun came
+    (record { to_is = sym (ap (λ (x : Transition). x.to) is); new_is = sym (ap (λ (x : Transition). x.world) is) }) refl
+    within refl seen in
+    let behind = prefix-run T is_end s v (n.Document document.ContainerExistingAfter) nok w (has-quote is_name) first seen
+    within at_once.prefix in
+    let there = subst (λ (x : World). CameTo T is_end s v (n.Document document.ContainerExistingAfter) x) (sym e) behind in
+    let sees : u.current ≡ looks u = subst (λ (x : World). x.current ≡ looks x) (sym e) refl in
+    then-stays T is_end s v (n.Document document.ContainerExistingAfter) (n.Document document.ContainerExistingBefore) u
+    (existing_after_transition u).world there (record { to_is = refl; new_is = refl }) refl within_u refl sees
+
+-- What a single call leaves.
+existing-code-remains : (w : World) (o : Option Container) →
+    Remains (existing_before_code w o).to w (existing_before_code w o).world ×
+    ((existing_before_code w o).world.setting ≡ w.setting)
+existing-code-remains w None = ((refl, refl), refl)
+existing-code-remains w (Some c) = go (may_with (may_go_on c.kind) (looks_behind w))
+  where
+    a : Bool → Transition
+    a x = trial_code (goes_on_with c.kind) (n.Document document.ContainerExistingAfter)
+        (n.Document document.ContainerNewBefore) w x
+
+    go : (x : Bool) → Remains (a x).to w (a x).world × ((a x).world.setting ≡ w.setting)
+    go true = ((refl, refl), refl)
+    go false = ((refl, refl), refl)
+
+pub existing-remains : (w : World) →
+    Remains (existing_before_transition w).to w (existing_before_transition w).world ×
+    ((existing_before_transition w).world.setting ≡ w.setting)
+existing-remains w = existing-code-remains w (next_container w.flags)
