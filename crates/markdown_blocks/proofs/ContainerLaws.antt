@@ -17,6 +17,7 @@ use Rattle.md_definition.specs.Preamble.{rest_at}
 use Rattle.md_definition.specs.Rest.{Rest}
 use Rattle.md_definition.specs.State.{Container, container_block}
 use Rattle.md_definition.specs.Tree.{Blocks}
+use Rattle.md_outline.specs.HeadingDepths.{are_shallow, is_shallow}
 use Rattle.md_seam.proofs.FeedLines.{Stops}
 use Rattle.md_seam.proofs.RestCells.{RestAt, past_rest, rest_cells}
 use Rattle.md_definition.proofs.TextsLemmas.{NoEnding}
@@ -25,7 +26,6 @@ use Rattle.markdown_blocks.specs.Passed.{Passed, passed_by, passed_over}
 use Rattle.markdown_blocks.specs.Registry.{IsOf}
 use Rattle.markdown_blocks.proofs.PassedFacts.{Agree, HasFurther, HasOpening}
 use Rattle.markdown_blocks.proofs.PrefixNames.{AreFront}
-use Rattle.markdown_blocks.proofs.SimpleBlocks.{AreSimple, IsSimple}
 
 -- one that goes on or opens is of its kind, takes a cell at least where the line does not end here, and adds events with
 -- names of prefixes and of containers
@@ -94,7 +94,8 @@ pub record ContainerLaws (k : ContainerKind) (rules : ContainerRules) : Type 1 w
       continues options c (rest_at column []) ≡
       cond (rules.over_empty held) (Some (record { container = c; rest = rest_at column [] })) None
   pub may_hold : (c : Container) → IsOf k c → (held : Held) × rules.holds held c
-  -- By the line definition what opens is of its kind; and with simple blocks in it, its block is simple.
+  -- By the line definition what opens is of its kind; and an outline can show its block, if it can those in it.
   pub found_one : (options : ParseOptions) (interrupting : Bool) (r : Rest) (t : Taken) →
       rules.found options interrupting r ≡ Some t → IsOf k t.container
-  pub simple : (c : Container) (bs : Blocks) → IsOf k c → AreSimple bs → IsSimple (container_block c bs)
+  pub shallow : (c : Container) (bs : Blocks) → IsOf k c → are_shallow bs ≡ true →
+      is_shallow (container_block c bs) ≡ true

@@ -27,9 +27,9 @@ use Rattle.markdown_blocks.proofs.ContainerLaws.{ByRest, IsPassed}
 use Rattle.markdown_blocks.proofs.ContainerNames.{container-facts}
 use Rattle.markdown_blocks.proofs.PassedFacts.{Agree, HasFurther, HasOpening}
 use Rattle.markdown_blocks.proofs.PrefixNames.{AreFront}
-use Rattle.markdown_blocks.proofs.Registry.{container-laws, found_by, opens-found}
+use Rattle.markdown_blocks.proofs.Registry.{container-laws, container-unlisted, found_by, opens-found}
 use Rattle.markdown_blocks.proofs.RegistryRead.{HasKind, IsRead, IsReadTaken, of-read}
-use Rattle.markdown_blocks.proofs.SimpleBlocks.{AreSimple, IsSimple}
+use Rattle.markdown_blocks.proofs.SimpleBlocks.{AreSimple, IsSimple, grouped-blocks, shallow-blocks}
 
 -- At the states of flow.
 
@@ -254,4 +254,10 @@ read-simple c bs h simple = go (kind_of (shape_of c)) refl h
   where
     go : (o : Option ContainerKind) → kind_of (shape_of c) ≡ o → HasKind o → IsSimple (container_block c bs)
     go None e h = absurd h
-    go (Some k) e h = (container-laws k).simple c bs e simple
+    go (Some k) e h =
+        let unlisted = container-unlisted k c bs e (grouped-blocks bs simple) in
+        record {
+          shallow = (container-laws k).shallow c bs e (shallow-blocks bs simple);
+          grouped_same = unlisted.grouped_same;
+          in_front = unlisted.in_front;
+        }

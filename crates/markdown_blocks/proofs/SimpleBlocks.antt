@@ -14,6 +14,11 @@ pub record IsSimple (b : Block) : Type 0 where
   -- and it makes none with what follows
   pub in_front : (bs : Blocks) → with_front b bs ≡ More b bs
 
+-- the second half of it: where all blocks of a text are so, lists are put around none
+pub record IsUnlisted (b : Block) : Type 0 where
+  pub grouped_same : grouped_block b ≡ b
+  pub in_front : (bs : Blocks) → with_front b bs ≡ More b bs
+
 abbrev pub AreSimple : Blocks → Type 0
 AreSimple End = Unit {0}
 AreSimple (More b bs) = IsSimple b × AreSimple bs

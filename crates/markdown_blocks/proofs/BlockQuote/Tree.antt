@@ -6,10 +6,11 @@ use Rattle.md_engine.specs.declared.configuration.ParseOptions.{ParseOptions}
 use Rattle.md_definition.specs.Containers.{Taken, opens_quote, quote_taken}
 use Rattle.md_containers.proofs.QuoteLines.{quote-container}
 use Rattle.md_definition.specs.Rest.{Rest, has_small_indent, lose}
+use Rattle.md_definition.specs.Grouped.{grouped}
 use Rattle.md_definition.specs.State.{InQuote}
 use Rattle.md_definition.specs.Preamble.{rest_at}
 use Rattle.md_definition.specs.Tree.{Blocks, Quote}
-use Rattle.markdown_blocks.proofs.SimpleBlocks.{AreSimple, grouped-blocks, shallow-blocks, IsSimple}
+use Rattle.markdown_blocks.proofs.SimpleBlocks.{IsUnlisted}
 
 -- a quote that opens is one
 pub opens-quote : (options : ParseOptions) (r : Rest) (t : Taken) → opens_quote options r ≡ Some t →
@@ -22,12 +23,8 @@ opens-quote options r t e = go options.constructs.block_quote e
     go false e = cc
 
 -- it makes no list
-pub simple-quote : (bs : Blocks) → AreSimple bs → IsSimple (Quote bs)
-simple-quote bs h = record {
-  shallow = shallow-blocks bs h;
-  grouped_same = ap Quote (grouped-blocks bs h);
-  in_front = λ more. refl;
-}
+pub unlisted-quote : (bs : Blocks) → grouped bs ≡ bs → IsUnlisted (Quote bs)
+unlisted-quote bs h = record { grouped_same = ap Quote h; in_front = λ more. refl }
 
 -- it does not go on over an empty line
 pub no_quote-empty : (options : ParseOptions) (column : ℕ) → quote_taken options (rest_at column []) ≡ None

@@ -128,6 +128,8 @@ fn pass_over(tokenizer: &mut Tokenizer)
 /// > | > b
 ///     ^
 /// ```
+#[inline(always)]
+#[tactic(auto, unfolding(md_seam::specs::Look::looks_behind))]
 pub fn container_existing_before(tokenizer: &mut Tokenizer) -> State
     requires { IsAt NeedsNothing (StateName.Document DocumentState.ContainerExistingBefore) (world tokenizer.old) }
     ensures to { result ≢ State.Error → result ≡ (existing_before_transition (world tokenizer.old)).to }
@@ -141,9 +143,8 @@ pub fn container_existing_before(tokenizer: &mut Tokenizer) -> State
     match next_container(tokenizer) {
         None => State::Retry(StateName::Document(registry::first_opener())),
         Some(container) => {
-            let may_go_on = registry::may_go_on(tokenizer, container.kind);
             ask(tokenizer, container);
-            if !may_go_on {
+            if !registry::may_go_on(tokenizer, container.kind) {
                 return State::Retry(StateName::Document(registry::first_opener()));
             }
             or_error!(tokenizer.attempt(
@@ -207,14 +208,14 @@ pub fn container_existing_after(tokenizer: &mut Tokenizer) -> State
 
 /// Before a container of a kind that may open: where it does not, the next kind is tried.
 #[inline(always)]
+#[tactic(auto, unfolding(md_seam::specs::Look::looks_behind))]
 fn try_new(tokenizer: &mut Tokenizer, kind: ContainerKind) -> State
     ensures to { result ≢ State.Error → result ≡ (new_before_transition kind (world tokenizer.old)).to }
     ensures world { result ≢ State.Error →
         world tokenizer.new ≡ (new_before_transition kind (world tokenizer.old)).world }
 {
-    let may_open = registry::may_open(tokenizer, kind);
     ask(tokenizer, Container::new(kind));
-    if !may_open {
+    if !registry::may_open(tokenizer, kind) {
         return State::Retry(StateName::Document(registry::next_opener(kind)));
     }
     or_error!(tokenizer.attempt(
