@@ -11,3 +11,5 @@ pub mod ItemCells
 pub mod ItemFurther
 pub mod ItemColumns
 pub mod ItemLines
+pub mod ItemDigits
+pub mod ItemMarker
