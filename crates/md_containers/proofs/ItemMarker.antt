@@ -29,10 +29,11 @@ abbrev rest : ℕ → List ℕ → Rest
 rest column bytes = record { column = column; spaces = 0; bytes = bytes }
 
 -- a marker, the padding behind it, and what is left of the line
-pub record HasItemMarker (line : Line) (text past : List ℕ) (byte : ℕ) (bytes : List ℕ) (p : Point)
+pub record HasItemMarker (line : Line) (text past digits : List ℕ) (byte : ℕ) (bytes : List ℕ) (p : Point)
     (stop : List Cell) (front : List Event) (passed : ItemPassed) (taken : Taken) : Type 0 where
   pub leaves :
       LeavesRest line text past (past_text (byte ∷ bytes) p) stop (spread line (byte ∷ bytes) p ++ stop) passed taken
+  pub item : (width : ℕ) × (blank : Bool) × (passed.container ≡ InItem digits byte width blank)
   pub fewer : length passed.cells < length (spread line (byte ∷ bytes) p ++ stop)
   pub events : passed.events ≡
       front
@@ -57,7 +58,7 @@ pub marked-agrees : (options : ParseOptions) (interrupting : Bool) (line : Line)
     (digits : List ℕ) (front : List Event) →
     RestAt text past (rest column (byte ∷ bytes)) q → NoEnding bytes → Stops stop → is_white byte ≡ false →
     q.column ≡ p.column + before + length digits → MayMark options interrupting from digits byte column bytes →
-    ItemAgrees (HasItemMarker line text past byte bytes q stop front)
+    ItemAgrees (HasItemMarker line text past digits byte bytes q stop front)
     (item_marked interrupting p digits front (cell byte (past_byte byte q) line)
     (spread line bytes (past_byte byte q) ++ stop) q)
     (item_with options interrupting before from (behind (length digits + 1) from)
@@ -87,7 +88,7 @@ marked-agrees options interrupting line text past column byte bytes q stop p bef
     stands = byte-behind text past column byte bytes q dark is
 
     Agrees : Option ItemPassed → Option Taken → Type 0
-    Agrees o t = ItemAgrees (HasItemMarker line text past byte bytes q stop front) o t
+    Agrees o t = ItemAgrees (HasItemMarker line text past digits byte bytes q stop front) o t
 
     width : ℕ
     width = before + length digits + 1 + item_padding r + cond (is_blank bytes) 1 0
@@ -131,7 +132,7 @@ marked-agrees options interrupting line text past column byte bytes q stop p bef
         ∙ one-least width (omega arith)
 
     found : (t : Padded) → HasPadding line text past (item_padding r) r q' stop cells t →
-        HasItemMarker line text past byte bytes q stop front (item t) left
+        HasItemMarker line text past digits byte bytes q stop front (item t) left
     found t has =
         let size : length (spread line (byte ∷ bytes) q ++ stop) ≡
         suc (length cells) = ap length (spread-one line byte bytes q stop dark) in
@@ -144,6 +145,7 @@ marked-agrees options interrupting line text past column byte bytes q stop p bef
             no_ending = lose-no_ending (item_padding r) r h;
             shorter = omega (arith, size, has.shorter);
           };
+          item = (width_here t.point.column p.column t.blank, t.blank, refl);
           fewer = omega (arith, size, has.shorter);
           events =
               ap (λ (es : List Event). (events ++ es) ++ exit n.ListItemPrefix t.point ∷ []) has.events

@@ -13,3 +13,4 @@ pub mod ItemColumns
 pub mod ItemLines
 pub mod ItemDigits
 pub mod ItemMarker
+pub mod ItemOpens

@@ -1,0 +1,250 @@
+-- A list item opens by the cells of a line where it does by the definition of lines, and leaves what that says.
+use Rattle.std.proofs.Common.{◌≡◌, ℕ, zero, suc, ◌+◌, ◌-◌, ◌^◌, ◌<◌, ◌≤◌, Bool, true, false, cond, not, ◌&&◌, ◌||◌}
+use Rattle.std.proofs.Common.{List, [], ◌∷◌, ◌++◌, length, drop, Option, Some, None, refl, sym, ap, ap₂, ◌∙◌, subst, arith}
+use Rattle.std.proofs.Common.{append_assoc, nat_eq, nat_lt}
+use Rattle.std.specs.Prelude.{◌==◌, nat_le}
+use Rattle.std.specs.List.{list_all, take_while}
+use Rattle.std.proofs.lemmas.Bool.{eqb-true}
+use Rattle.std.proofs.lemmas.Bool.Decides.{nat_tests}
+use Rattle.std.proofs.lemmas.List.{length-append}
+use Rattle.std.proofs.lemmas.List.Sums.{take_while-cons}
+use Rattle.md_engine.specs.declared.configuration.ParseOptions.{ParseOptions}
+use Rattle.md_engine.specs.declared.event.Event.{Event}
+use Rattle.md_engine.specs.declared.event.Name.TheVariants as n
+use Rattle.md_engine.specs.declared.event.Point.{Point}
+use Rattle.md_engine.specs.declared.tokenizer.Line.{Line}
+use Rattle.md_engine.specs.Meaning.{Cell}
+use Rattle.md_containers.specs.Item.{ends_value}
+use Rattle.md_containers.specs.ItemPrefix.{ItemPassed, digits_of, item_behind, item_marked, item_new, item_numbered}
+use Rattle.md_containers.specs.ItemPrefix.{item_valued}
+use Rattle.md_containers.specs.ItemRule.{digits_end, digits_rest, digits_size}
+use Rattle.md_containers.specs.QuoteRule.{indent_events}
+use Rattle.md_containers.proofs.ItemColumns.{rule-spread}
+use Rattle.md_containers.proofs.ItemDigits.{HasDigits, TakesDigits, digits-walk, spread-one, starts, starts-spread}
+use Rattle.md_containers.proofs.ItemDigits.{starts-stop}
+use Rattle.md_containers.proofs.ItemLines.{ItemAgrees, LeavesRest}
+use Rattle.md_containers.proofs.ItemMarker.{HasItemMarker, MayMark, marked-agrees}
+use Rattle.md_containers.proofs.ItemShorter.{digits-length}
+use Rattle.md_containers.proofs.QuoteLines.{White, large-room, small-room, white-walk}
+use Rattle.md_definition.specs.Containers.{Marker, Taken, is_bullet, is_digit, item_by, item_with, list_marker}
+use Rattle.md_definition.specs.Containers.{marker_behind, may_interrupt, opens_item}
+use Rattle.md_definition.specs.Leaves.{is_rule, is_rule_marker}
+use Rattle.md_definition.specs.Lines.{begins_with}
+use Rattle.md_definition.specs.Rest.{Rest, behind, behind_indent, has_small_indent, indent, is_blank, is_parted, is_white}
+use Rattle.md_definition.specs.State.{InItem}
+use Rattle.md_definition.proofs.TextsLemmas.{NoEnding, no_ending-drop}
+use Rattle.md_seam.specs.Ahead.{begins_white, line_bytes, white_end, white_rest}
+use Rattle.md_seam.specs.Events.Inline.{pair_unless_empty}
+use Rattle.md_seam.specs.Events.Nested.{enter, exit, pair}
+use Rattle.md_seam.specs.Events.Places.{past_byte, past_text}
+use Rattle.md_seam.specs.Spaces.{small_indent}
+use Rattle.md_seam.proofs.FeedLines.{Stops, cell, past-next, spread}
+use Rattle.md_seam.proofs.RestCells.{Bare, RestAt, bare, cells_by, indent-length, indent-over, indent-taken}
+use Rattle.md_seam.proofs.RestCells.{lose-no_ending, past_cut, past_rest, rest_cells, white-length}
+
+abbrev rest : ℕ → List ℕ → Rest
+rest column bytes = record { column = column; spaces = 0; bytes = bytes }
+
+-- a bullet, or 1 to 9 digits and what ends them
+abbrev pub IsMarker : List ℕ → ℕ → Type 0
+IsMarker [] byte = is_bullet byte ≡ true
+IsMarker (d ∷ ds) byte =
+    (list_all is_digit (d ∷ ds) ≡ true) × (length (d ∷ ds) ≤ 9) × (ends_value byte ≡ true)
+
+abbrev pub value_events : List ℕ → Point → List Event
+value_events [] p = []
+value_events (d ∷ ds) p = pair n.ListItemValue p (past_text (d ∷ ds) p)
+
+-- the events of a prefix that begins at a point, behind its indent
+abbrev pub prefix_of : List ℕ → ℕ → Point → Point → List Event
+prefix_of digits byte p q =
+    let marker = past_text digits p in
+    let behind = past_byte byte marker in
+    enter n.ListItemPrefix p
+    ∷ (value_events digits p
+    ++ (pair n.ListItemMarker marker behind
+    ++ (pair_unless_empty n.SpaceOrTab behind q ++ exit n.ListItemPrefix q ∷ [])))
+
+-- behind an indent: a prefix stands at these bytes
+pub record HasItem (line : Line) (text past : List ℕ) (bytes : List ℕ) (p : Point) (stop : List Cell)
+    (front : List Event) (passed : ItemPassed) (taken : Taken) : Type 0 where
+  pub leaves : LeavesRest line text past (past_text bytes p) stop (spread line bytes p ++ stop) passed taken
+  pub fewer : length passed.cells < length (spread line bytes p ++ stop)
+  pub digits : List ℕ
+  pub byte : ℕ
+  pub more : List ℕ
+  pub bytes_are : bytes ≡ digits ++ (byte ∷ more)
+  pub marker : IsMarker digits byte
+  pub item : (width : ℕ) × (blank : Bool) × (passed.container ≡ InItem digits byte width blank)
+  pub events : passed.events ≡ front ++ prefix_of digits byte p passed.point
+  pub white : White text (past_byte byte (past_text digits p)) passed.point
+
+-- Bytes.
+
+bullet-dark : (b : ℕ) → is_bullet b ≡ true → is_white b ≡ false
+bullet-dark b e = grind (arith, nat_tests)
+
+ends-dark : (b : ℕ) → ends_value b ≡ true → is_white b ≡ false
+ends-dark b e = grind (arith, nat_tests)
+
+digit-no_rule : (b : ℕ) → is_digit b ≡ true → is_rule_marker b ≡ false
+digit-no_rule b e = grind (arith, nat_tests)
+
+white-bullet : (b : ℕ) → is_white b ≡ true → is_bullet b ≡ false
+white-bullet b e = grind (arith, nat_tests)
+
+white-digit : (b : ℕ) → is_white b ≡ true → is_digit b ≡ false
+white-digit b e = grind (arith, nat_tests)
+
+digit-no_end : (b : ℕ) → is_digit b ≡ true → ends_value b ≡ false
+digit-no_end b e = grind (arith, nat_tests)
+
+past-append : (xs ys : List ℕ) (p : Point) → past_text (xs ++ ys) p ≡ past_text ys (past_text xs p)
+past-append [] ys p = refl
+past-append (x ∷ xs) ys p = past-append xs ys (past_byte x p)
+
+-- A bullet.
+
+and-true : (i x : Bool) → (not i || (x && true)) ≡ (not i || x)
+and-true true true = refl
+and-true true false = refl
+and-true false x = refl
+
+never : (x y : Bool) (t : Taken) → cond (x && false && y) (Some t) None ≡ None
+never true y t = refl
+never false y t = refl
+
+-- what the definition has where a break stands
+broken : (options : ParseOptions) (interrupting : Bool) (before : ℕ) (from after : Rest) (marker : Marker) →
+    options.constructs.thematic_break && is_rule from.bytes ≡ true →
+    item_with options interrupting before from after marker ≡ None
+broken options interrupting before from after marker e = rw e (never (is_parted after.bytes) _ _)
+
+bullet-agrees : (options : ParseOptions) (interrupting : Bool) (line : Line) (text past : List ℕ) (column b : ℕ)
+    (bs : List ℕ) (q : Point) (stop : List Cell) (p : Point) (before : ℕ) (front : List Event) →
+    RestAt text past (rest column (b ∷ bs)) q → NoEnding (b ∷ bs) → Stops stop → q.column ≡ p.column + before →
+    is_bullet b ≡ true →
+    ItemAgrees (HasItem line text past (b ∷ bs) q stop front)
+    (cond (options.constructs.thematic_break && is_rule (b ∷ bs)) None
+    (item_marked interrupting p [] (front ++ enter n.ListItemPrefix q ∷ []) (cell b (past_byte b q) line)
+    (spread line bs (past_byte b q) ++ stop) q))
+    (item_by options interrupting before (rest column (b ∷ bs)) (Some (record { digits = []; byte = b })))
+bullet-agrees options interrupting line text past column b bs q stop p before front is h k at e =
+    go (options.constructs.thematic_break && is_rule (b ∷ bs)) refl
+  where
+    from : Rest
+    from = rest column (b ∷ bs)
+
+    marker : Marker
+    marker = record { digits = []; byte = b }
+
+    front' : List Event
+    front' = front ++ enter n.ListItemPrefix q ∷ []
+
+    marked : Option ItemPassed
+    marked = item_marked interrupting p [] front' (cell b (past_byte b q) line) (spread line bs (past_byte b q) ++ stop) q
+
+    by : (o : Option ItemPassed) (t : Option Taken) →
+        ItemAgrees (HasItemMarker line text past [] b bs q stop front') o t →
+        ItemAgrees (HasItem line text past (b ∷ bs) q stop front) o t
+    by None None has = tt
+    by None (Some t) has = absurd has
+    by (Some o) None has = absurd has
+    by (Some o) (Some t) has = record {
+      leaves = has.leaves;
+      fewer = has.fewer;
+      digits = [];
+      byte = b;
+      more = bs;
+      bytes_are = refl;
+      marker = e;
+      item = has.item;
+      events = has.events ∙ append_assoc front (enter n.ListItemPrefix q ∷ []) _;
+      white = has.white;
+    }
+
+    go : (x : Bool) → options.constructs.thematic_break && is_rule (b ∷ bs) ≡ x →
+        ItemAgrees (HasItem line text past (b ∷ bs) q stop front) (cond x None marked)
+        (item_by options interrupting before from (Some marker))
+    go true f =
+        subst (ItemAgrees (HasItem line text past (b ∷ bs) q stop front) None)
+        (sym (broken options interrupting before from (behind 1 from) marker f)) tt
+    go false f =
+        by marked (item_by options interrupting before from (Some marker))
+        (marked-agrees options interrupting line text past column b bs q stop p before from [] front' is h.1 k
+        (bullet-dark b e) (omega (arith, at))
+        (record { after = refl; no_break = f; interrupts = and-true interrupting (not (is_blank bs)) }))
+
+-- Digits.
+
+numbered-none : (interrupting : Bool) (p : Point) (digits : List ℕ) (size : ℕ) (front : List Event) (cells : List Cell)
+    (q : Point) →
+    starts ends_value cells ≡ false → item_numbered interrupting p digits size front cells q ≡ None
+numbered-none interrupting p digits size front [] q e = refl
+numbered-none interrupting p digits size front (c ∷ cs) q e = rw e refl
+
+late : (x y : Bool) (t : Taken) → cond (x && true && false) (Some t) None ≡ None
+late true y t = refl
+late false y t = refl
+
+-- what the definition has where text is not interrupted
+refused-by : (options : ParseOptions) (before : ℕ) (from after : Rest) (marker : Marker) →
+    options.constructs.thematic_break && is_rule from.bytes ≡ false → may_interrupt marker after ≡ false →
+    item_with options true before from after marker ≡ None
+refused-by options before from after marker e f = rw (e, f) (late (is_parted after.bytes) true _)
+
+and-false : (x : Bool) → (x && false) ≡ false
+and-false true = refl
+and-false false = refl
+
+-- digits that may interrupt text are `1` alone
+abbrev IsFirst : Bool → List ℕ → Type 0
+IsFirst interrupting digits = (not interrupting || begins_with 49 digits) ≡ true
+
+numbered-agrees : (options : ParseOptions) (interrupting : Bool) (line : Line) (text past : List ℕ)
+    (column m : ℕ) (ms : List ℕ) (q : Point) (stop : List Cell) (p : Point) (before : ℕ) (from : Rest)
+    (digits : List ℕ) (front : List Event) →
+    RestAt text past (rest column (m ∷ ms)) q → NoEnding ms → Stops stop →
+    q.column ≡ p.column + before + length digits → 1 ≤ length digits → IsFirst interrupting digits →
+    behind (length digits + 1) from ≡ rest (column + 1) ms →
+    options.constructs.thematic_break && is_rule from.bytes ≡ false → ends_value m ≡ true →
+    ItemAgrees (HasItemMarker line text past digits m ms q stop front)
+    (item_numbered interrupting p digits (length digits) front
+    (cell m (past_byte m q) line ∷ (spread line ms (past_byte m q) ++ stop)) q)
+    (item_by options interrupting before from (Some (record { digits = digits; byte = m })))
+numbered-agrees options interrupting line text past column m ms q stop p before from digits front is h k at some first
+    after plain e =
+    rw e (go interrupting digits at some first after)
+  where
+    Agrees : Bool → List ℕ → Option ItemPassed → Type 0
+    Agrees i ds o =
+        ItemAgrees (HasItemMarker line text past ds m ms q stop front) o
+        (item_by options i before from (Some (record { digits = ds; byte = m })))
+
+    marked : Bool → List ℕ → Option ItemPassed
+    marked i ds =
+        item_marked i p ds front (cell m (past_byte m q) line) (spread line ms (past_byte m q) ++ stop) q
+
+    marks : (i : Bool) (ds : List ℕ) → q.column ≡ p.column + before + length ds →
+        behind (length ds + 1) from ≡ rest (column + 1) ms →
+        (not i || may_interrupt (record { digits = ds; byte = m }) (rest (column + 1) ms)) ≡
+        (not i || not (is_blank ms)) →
+        Agrees i ds (marked i ds)
+    marks i ds at after speaks =
+        marked-agrees options i line text past column m ms q stop p before from ds front is h k (ends-dark m e) at
+        (record { after = after; no_break = plain; interrupts = speaks })
+
+    go : (i : Bool) (ds : List ℕ) → q.column ≡ p.column + before + length ds → 1 ≤ length ds → IsFirst i ds →
+        behind (length ds + 1) from ≡ rest (column + 1) ms →
+        Agrees i ds (cond (not i || nat_lt (length ds) 2) (marked i ds) None)
+    go i [] at some first after = absurd (omega (arith, some))
+    go false (d ∷ ds) at some first after = marks false (d ∷ ds) at after refl
+    go true (d ∷ []) at some first after =
+        marks true (d ∷ []) at after (ap (λ (x : Bool). not (is_blank ms) && x) first ∙ and-true true (not (is_blank ms)))
+    go true (d ∷ c ∷ ds) at some first after =
+        let two : nat_lt (length (d ∷ c ∷ ds)) 2 ≡ false = grind (arith, nat_tests) in
+        let none = refused-by options before from (behind (length (d ∷ c ∷ ds) + 1) from)
+        (record { digits = d ∷ c ∷ ds; byte = m }) plain
+        (and-false (not (is_blank (behind (length (d ∷ c ∷ ds) + 1) from).bytes))) in
+        subst (λ (x : Bool). Agrees true (d ∷ c ∷ ds) (cond x (marked true (d ∷ c ∷ ds)) None)) (sym two)
+        (subst (ItemAgrees (HasItemMarker line text past (d ∷ c ∷ ds) m ms q stop front) None) (sym none) tt)
