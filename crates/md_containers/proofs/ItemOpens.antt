@@ -248,3 +248,155 @@ numbered-agrees options interrupting line text past column m ms q stop p before 
         (and-false (not (is_blank (behind (length (d ∷ c ∷ ds) + 1) from).bytes))) in
         subst (λ (x : Bool). Agrees true (d ∷ c ∷ ds) (cond x (marked true (d ∷ c ∷ ds)) None)) (sym two)
         (subst (ItemAgrees (HasItemMarker line text past (d ∷ c ∷ ds) m ms q stop front) None) (sym none) tt)
+
+digits-marker : (ds : List ℕ) (m : ℕ) → 1 ≤ length ds → list_all is_digit ds ≡ true → length ds ≤ 9 →
+    ends_value m ≡ true → IsMarker ds m
+digits-marker [] m some all few e = absurd (omega (arith, some))
+digits-marker (d ∷ ds) m some all few e = (all, few, e)
+
+digits-events : (ds : List ℕ) (front xs : List Event) (q : Point) → 1 ≤ length ds →
+    (front ++ enter n.ListItemPrefix q ∷ pair n.ListItemValue q (past_text ds q)) ++ xs ≡
+    front ++ (enter n.ListItemPrefix q ∷ (value_events ds q ++ xs))
+digits-events [] front xs q some = absurd (omega (arith, some))
+digits-events (d ∷ ds) front xs q some =
+    append_assoc front (enter n.ListItemPrefix q ∷ pair n.ListItemValue q (past_text (d ∷ ds) q)) xs
+
+starts-no_end : (cells : List Cell) → starts is_digit cells ≡ true → starts ends_value cells ≡ false
+starts-no_end [] e = refl
+starts-no_end (c ∷ cs) e = digit-no_end c.byte e
+
+-- Digits, of which nine at most are taken: an item opens behind them, by the cells and by the bytes.
+by-digits : (options : ParseOptions) (interrupting : Bool) (line : Line) (text past : List ℕ) (column : ℕ)
+    (bytes : List ℕ) (q : Point) (stop : List Cell) (p : Point) (before : ℕ) (front : List Event) (ds : List ℕ) →
+    RestAt text past (rest column bytes) q → NoEnding bytes → Stops stop → q.column ≡ p.column + before →
+    HasDigits line text past 9 column bytes q stop ds → 1 ≤ length ds → IsFirst interrupting ds →
+    options.constructs.thematic_break && is_rule bytes ≡ false →
+    ItemAgrees (HasItem line text past bytes q stop front)
+    (item_valued interrupting p front (spread line bytes q ++ stop) q)
+    (item_by options interrupting before (rest column bytes)
+    (cond (nat_le 1 (length ds) && nat_le (length ds) 9) (marker_behind ds (drop (length ds) bytes)) None))
+by-digits options interrupting line text past column bytes q stop p before front ds is h k at has some first plain =
+    go (nat_le (length ds) 9) refl
+  where
+    cells : List Cell
+    cells = spread line bytes q ++ stop
+
+    from : Rest
+    from = rest column bytes
+
+    q' : Point
+    q' = past_text ds q
+
+    front' : List Event
+    front' = front ++ enter n.ListItemPrefix q ∷ pair n.ListItemValue q q'
+
+    Agrees : Option ItemPassed → Option Marker → Type 0
+    Agrees o m = ItemAgrees (HasItem line text past bytes q stop front) o (item_by options interrupting before from m)
+
+    -- one digit at least
+    one : (x : Bool) → nat_le (length ds) 9 ≡ x →
+        cond (nat_le 1 (length ds) && nat_le (length ds) 9) (marker_behind ds (drop (length ds) bytes)) None ≡
+        cond x (marker_behind ds (drop (length ds) bytes)) None
+    one x e =
+        let least : nat_le 1 (length ds) ≡ true = grind (arith, nat_tests) in
+        ap (λ (y : Bool). cond (y && nat_le (length ds) 9) (marker_behind ds (drop (length ds) bytes)) None) least
+        ∙ ap (λ (y : Bool). cond y (marker_behind ds (drop (length ds) bytes)) None) e
+
+    -- the item behind the digits
+    numbered : List Cell → Option ItemPassed
+    numbered left = item_numbered interrupting p ds (length ds) front' left q'
+
+    taken-is : TakesDigits line 9 bytes q stop ds →
+        item_valued interrupting p front cells q ≡ numbered (spread line (drop (length ds) bytes) q' ++ stop)
+    taken-is takes =
+        let whole : List ℕ → ℕ → Point → List Cell → Option ItemPassed =
+        λ digits size r left. item_numbered interrupting p digits size
+        (front ++ enter n.ListItemPrefix q ∷ pair n.ListItemValue q r) left r in
+        ap (λ (x : List ℕ). whole x (digits_size 9 cells) (digits_end 9 cells q) (digits_rest 9 cells)) takes.are
+        ∙ ap (λ (x : ℕ). whole ds x (digits_end 9 cells q) (digits_rest 9 cells)) takes.size
+        ∙ ap (λ (x : Point). whole ds (length ds) x (digits_rest 9 cells)) takes.end
+        ∙ ap (λ (x : List Cell). whole ds (length ds) q' x) takes.left
+
+    found : (m : ℕ) (ms : List ℕ) → drop (length ds) bytes ≡ m ∷ ms → ends_value m ≡ true → length ds ≤ 9 →
+        length (spread line (m ∷ ms) q' ++ stop) ≤ length cells →
+        (o : Option ItemPassed) (t : Option Taken) →
+        ItemAgrees (HasItemMarker line text past ds m ms q' stop front') o t →
+        ItemAgrees (HasItem line text past bytes q stop front) o t
+    found m ms e ends few size None None item = tt
+    found m ms e ends few size None (Some t) item = absurd item
+    found m ms e ends few size (Some o) None item = absurd item
+    found m ms e ends few size (Some o) (Some t) item =
+        let are : bytes ≡ ds ++ (m ∷ ms) = has.bytes_are ∙ ap (λ (l : List ℕ). ds ++ l) e in
+        record {
+          leaves = record {
+            container = item.leaves.container;
+            fed = item.leaves.fed;
+            stands = item.leaves.stands;
+            ends =
+                item.leaves.ends ∙ sym (past-append ds (m ∷ ms) q) ∙ ap (λ (l : List ℕ). past_text l q) (sym are);
+            no_ending = item.leaves.no_ending;
+            shorter = omega (arith, size, item.leaves.shorter);
+          };
+          fewer = omega (arith, size, item.fewer);
+          digits = ds;
+          byte = m;
+          more = ms;
+          bytes_are = are;
+          marker = digits-marker ds m some has.all few ends;
+          item = item.item;
+          events = item.events ∙ digits-events ds front _ q some;
+          white = item.white;
+        }
+
+    ended : (left : List Cell) → starts ends_value left ≡ false → Agrees (numbered left) None
+    ended left e = subst (λ (o : Option ItemPassed). Agrees o None)
+        (sym (numbered-none interrupting p ds (length ds) front' left q' e)) tt
+
+    -- by what stands behind them
+    behind-them : (more : List ℕ) → drop (length ds) bytes ≡ more → length ds ≤ 9 →
+        length (spread line more q' ++ stop) ≤ length cells →
+        Agrees (numbered (spread line more q' ++ stop)) (marker_behind ds more)
+    behind-them [] e few size = ended stop (starts-stop ends_value stop refl k)
+    behind-them (m ∷ ms) e few size = by (ends_value m) refl
+      where
+        by : (x : Bool) → ends_value m ≡ x →
+            Agrees (numbered (spread line (m ∷ ms) q' ++ stop))
+            (cond x (Some (record { digits = ds; byte = m })) None)
+        by false f =
+            ended (spread line (m ∷ ms) q' ++ stop) (starts-spread ends_value line m ms q' stop ∙ f)
+        by true f =
+            let stands : RestAt text past (rest (column + length ds) (m ∷ ms)) q' =
+            subst (λ (l : List ℕ). RestAt text past (rest (column + length ds) l) q') e has.stands in
+            let next : drop (length ds + 1) bytes ≡ ms = past-next (length ds) bytes m ms e in
+            let after : behind (length ds + 1) from ≡ rest (column + length ds + 1) ms =
+            ap₂ (λ (c : ℕ) (l : List ℕ). rest c l) (omega arith) next in
+            let place = stands.column in
+            let start = is.column in
+            let none : NoEnding (m ∷ ms) = subst NoEnding e (no_ending-drop (length ds) bytes h) in
+            let item = numbered-agrees options interrupting line text past (column + length ds) m ms q' stop p before
+            from ds front' stands none.1 k (omega (arith, place, start, at)) some first after plain f in
+            subst (λ (l : List Cell). Agrees (numbered l) (Some (record { digits = ds; byte = m })))
+            (sym (spread-one line m ms q' stop (ends-dark m f)))
+            (found m ms e f few size _ _ item)
+
+    go : (x : Bool) → nat_le (length ds) 9 ≡ x →
+        Agrees (item_valued interrupting p front cells q)
+        (cond (nat_le 1 (length ds) && nat_le (length ds) 9) (marker_behind ds (drop (length ds) bytes)) None)
+    go false e =
+        let many : 9 < length ds = grind (arith, nat_tests) in
+        subst (Agrees (item_valued interrupting p front cells q)) (sym (one false e))
+        (subst (λ (o : Option ItemPassed). Agrees o None)
+        (sym
+        (numbered-none interrupting p (digits_of 9 cells) (digits_size 9 cells)
+        (front ++ enter n.ListItemPrefix q ∷ pair n.ListItemValue q (digits_end 9 cells q)) (digits_rest 9 cells)
+        (digits_end 9 cells q) (starts-no_end (digits_rest 9 cells) (has.over many))))
+        tt)
+    go true e =
+        let few : length ds ≤ 9 = grind (arith, nat_tests) in
+        let takes = has.within few in
+        let less = digits-length 9 cells in
+        let size = ap length takes.left in
+        subst (Agrees (item_valued interrupting p front cells q)) (sym (one true e))
+        (subst (λ (o : Option ItemPassed). Agrees o (marker_behind ds (drop (length ds) bytes)))
+        (sym (taken-is takes))
+        (behind-them (drop (length ds) bytes) refl few (omega (arith, less, size))))
