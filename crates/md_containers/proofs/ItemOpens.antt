@@ -400,3 +400,180 @@ by-digits options interrupting line text past column bytes q stop p before front
         (subst (λ (o : Option ItemPassed). Agrees o (marker_behind ds (drop (length ds) bytes)))
         (sym (taken-is takes))
         (behind-them (drop (length ds) bytes) refl few (omega (arith, less, size))))
+
+-- Behind the indent.
+
+behind-none : (options : ParseOptions) (interrupting : Bool) (p : Point) (front : List Event) (cells : List Cell)
+    (q : Point) →
+    starts is_bullet cells ≡ false → starts is_digit cells ≡ false →
+    item_behind options interrupting p front cells q ≡ None
+behind-none options interrupting p front [] q e f = refl
+behind-none options interrupting p front (c ∷ cs) q e f = rw (e, f) refl
+
+-- digits that do not begin with 1 interrupt no text
+late-digits : (options : ParseOptions) (before : ℕ) (from : Rest) (b : ℕ) (ds bytes : List ℕ) → (b == 49) ≡ false →
+    options.constructs.thematic_break && is_rule from.bytes ≡ false →
+    item_by options true before from (marker_behind (b ∷ ds) bytes) ≡ None
+late-digits options before from b ds [] e plain = refl
+late-digits options before from b ds (m ∷ ms) e plain = go (ends_value m)
+  where
+    after : Rest
+    after = behind (length (b ∷ ds) + 1) from
+
+    speaks : (ds : List ℕ) → may_interrupt (record { digits = b ∷ ds; byte = m }) after ≡ false
+    speaks [] = ap (λ (x : Bool). not (is_blank after.bytes) && x) e ∙ and-false (not (is_blank after.bytes))
+    speaks (c ∷ ds) = and-false (not (is_blank after.bytes))
+
+    go : (x : Bool) →
+        item_by options true before from (cond x (Some (record { digits = b ∷ ds; byte = m })) None) ≡ None
+    go true = refused-by options before from after (record { digits = b ∷ ds; byte = m }) plain (speaks ds)
+    go false = refl
+
+and-none : (x y : Bool) → y ≡ false → (x && y) ≡ false
+and-none true y e = e
+and-none false y e = refl
+
+behind-agrees : (options : ParseOptions) (interrupting : Bool) (line : Line) (text past : List ℕ) (column : ℕ)
+    (bytes : List ℕ) (q : Point) (stop : List Cell) (p : Point) (before : ℕ) (front : List Event) →
+    RestAt text past (rest column bytes) q → Bare 0 bytes → NoEnding bytes → Stops stop →
+    q.column ≡ p.column + before →
+    ItemAgrees (HasItem line text past bytes q stop front)
+    (item_behind options interrupting p front (spread line bytes q ++ stop) q)
+    (item_by options interrupting before (rest column bytes) (list_marker bytes))
+behind-agrees options interrupting line text past column [] q stop p before front is dark h k at =
+    subst (λ (o : Option ItemPassed). ItemAgrees (HasItem line text past [] q stop front) o None)
+    (sym
+    (behind-none options interrupting p front stop q (starts-stop is_bullet stop refl k)
+    (starts-stop is_digit stop refl k)))
+    tt
+behind-agrees options interrupting line text past column (b ∷ bs) q stop p before front is dark h k at =
+    go (is_bullet b) (is_digit b) interrupting (b == 49) refl refl refl refl
+  where
+    cells : List Cell
+    cells = spread line (b ∷ bs) q ++ stop
+
+    c : Cell
+    c = cell b (past_byte b q) line
+
+    cs : List Cell
+    cs = spread line bs (past_byte b q) ++ stop
+
+    ds : List ℕ
+    ds = take_while is_digit (b ∷ bs)
+
+    from : Rest
+    from = rest column (b ∷ bs)
+
+    breaks : Bool
+    breaks = options.constructs.thematic_break
+
+    Agrees : Bool → Option ItemPassed → Option Marker → Type 0
+    Agrees i o m = ItemAgrees (HasItem line text past (b ∷ bs) q stop front) o (item_by options i before from m)
+
+    marked : Bool → Option ItemPassed
+    marked i = item_marked i p [] (front ++ enter n.ListItemPrefix q ∷ []) c cs q
+
+    numbers : Option Marker
+    numbers = cond (nat_le 1 (length ds) && nat_le (length ds) 9) (marker_behind ds (drop (length ds) (b ∷ bs))) None
+
+    bullet-is : (i : Bool) → is_bullet b ≡ true →
+        item_behind options i p front cells q ≡ cond (breaks && is_rule (b ∷ bs)) None (marked i)
+    bullet-is i e =
+        ap (λ (l : List Cell). item_behind options i p front l q) (spread-one line b bs q stop dark)
+        ∙ ap
+        (λ (x : Bool).
+        cond x (cond (breaks && is_rule (line_bytes (c ∷ cs))) None (marked i))
+        (cond (is_digit b && (not i || (b == 49))) (item_valued i p front (c ∷ cs) q) None))
+        e
+        ∙ ap (λ (x : Bool). cond (breaks && x) None (marked i))
+        (ap (λ (l : List Cell). is_rule (line_bytes l)) (sym (spread-one line b bs q stop dark))
+        ∙ rule-spread line b bs q stop h k e)
+
+    other-is : (i x y : Bool) → is_bullet b ≡ false → is_digit b ≡ x → (b == 49) ≡ y →
+        item_behind options i p front cells q ≡ cond (x && (not i || y)) (item_valued i p front cells q) None
+    other-is i x y e f g =
+        ap (λ (l : List Cell). item_behind options i p front l q) (spread-one line b bs q stop dark)
+        ∙ ap
+        (λ (t : Bool).
+        cond t (cond (breaks && is_rule (line_bytes (c ∷ cs))) None (marked i))
+        (cond (is_digit b && (not i || (b == 49))) (item_valued i p front (c ∷ cs) q) None))
+        e
+        ∙ ap₂ (λ (s t : Bool). cond (s && (not i || t)) (item_valued i p front (c ∷ cs) q) None) f g
+        ∙ ap (λ (l : List Cell). cond (x && (not i || y)) (item_valued i p front l q) None)
+        (sym (spread-one line b bs q stop dark))
+
+    plain : is_digit b ≡ true → breaks && is_rule (b ∷ bs) ≡ false
+    plain e = and-none breaks (is_rule (b ∷ bs)) (rw (digit-no_rule b e) refl)
+
+    digits-are : (x : Bool) → is_digit b ≡ x → ds ≡ cond x (b ∷ take_while is_digit bs) []
+    digits-are x e =
+        take_while-cons is_digit b bs ∙ ap (λ (t : Bool). cond t (b ∷ take_while is_digit bs) []) e
+
+    -- which marker the definition has
+    bullet-marker : is_bullet b ≡ true → list_marker (b ∷ bs) ≡ Some (record { digits = []; byte = b })
+    bullet-marker e = ap (λ (x : Bool). cond x (Some (record { digits = []; byte = b })) numbers) e
+
+    other-marker : is_bullet b ≡ false → list_marker (b ∷ bs) ≡ numbers
+    other-marker e = ap (λ (x : Bool). cond x (Some (record { digits = []; byte = b })) numbers) e
+
+    none-numbers : is_digit b ≡ false → numbers ≡ None
+    none-numbers e =
+        ap
+        (λ (l : List ℕ).
+        cond (nat_le 1 (length l) && nat_le (length l) 9) (marker_behind l (drop (length l) (b ∷ bs))) None)
+        (digits-are false e)
+
+    late-numbers : is_digit b ≡ true → (b == 49) ≡ false → item_by options true before from numbers ≡ None
+    late-numbers e g =
+        subst
+        (λ (l : List ℕ).
+        item_by options true before from
+        (cond (nat_le 1 (length l) && nat_le (length l) 9) (marker_behind l (drop (length l) (b ∷ bs))) None) ≡
+        None)
+        (sym (digits-are true e)) (by (nat_le 1 (length more) && nat_le (length more) 9))
+      where
+        more : List ℕ
+        more = b ∷ take_while is_digit bs
+
+        by : (x : Bool) →
+            item_by options true before from (cond x (marker_behind more (drop (length more) (b ∷ bs))) None) ≡ None
+        by true =
+            late-digits options before from b (take_while is_digit bs) (drop (length more) (b ∷ bs)) g (plain e)
+        by false = refl
+
+    valued : (i : Bool) → is_digit b ≡ true → (not i || (b == 49)) ≡ true →
+        Agrees i (item_valued i p front cells q) numbers
+    valued i e first =
+        let same = digits-are true e in
+        let size = ap length same in
+        by-digits options i line text past column (b ∷ bs) q stop p before front ds is h k at
+        (digits-walk line text past 9 column (b ∷ bs) q stop is k) (omega (arith, size))
+        (ap (λ (l : List ℕ). not i || begins_with 49 l) same ∙ first) (plain e)
+
+    go : (x y i z : Bool) → is_bullet b ≡ x → is_digit b ≡ y → interrupting ≡ i → (b == 49) ≡ z →
+        Agrees interrupting (item_behind options interrupting p front cells q) (list_marker (b ∷ bs))
+    go true y i z e f g l =
+        subst (Agrees interrupting (item_behind options interrupting p front cells q)) (sym (bullet-marker e))
+        (subst (λ (o : Option ItemPassed). Agrees interrupting o (Some (record { digits = []; byte = b })))
+        (sym (bullet-is interrupting e))
+        (bullet-agrees options interrupting line text past column b bs q stop p before front is h k at e))
+    go false false i z e f g l =
+        subst (Agrees interrupting (item_behind options interrupting p front cells q))
+        (sym (other-marker e ∙ none-numbers f))
+        (subst (λ (o : Option ItemPassed). Agrees interrupting o None)
+        (sym (other-is interrupting false z e f l)) tt)
+    go false true false z e f g l =
+        subst (Agrees interrupting (item_behind options interrupting p front cells q)) (sym (other-marker e))
+        (subst (λ (i : Bool). Agrees i (item_behind options i p front cells q) numbers) (sym g)
+        (subst (λ (o : Option ItemPassed). Agrees false o numbers) (sym (other-is false true z e f l))
+        (valued false f refl)))
+    go false true true true e f g l =
+        subst (Agrees interrupting (item_behind options interrupting p front cells q)) (sym (other-marker e))
+        (subst (λ (i : Bool). Agrees i (item_behind options i p front cells q) numbers) (sym g)
+        (subst (λ (o : Option ItemPassed). Agrees true o numbers) (sym (other-is true true true e f l))
+        (valued true f l)))
+    go false true true false e f g l =
+        subst (Agrees interrupting (item_behind options interrupting p front cells q)) (sym (other-marker e))
+        (subst (λ (i : Bool). Agrees i (item_behind options i p front cells q) numbers) (sym g)
+        (subst (λ (o : Option ItemPassed). Agrees true o numbers) (sym (other-is true true false e f l))
+        (subst (ItemAgrees (HasItem line text past (b ∷ bs) q stop front) None) (sym (late-numbers f l)) tt)))
