@@ -19,7 +19,7 @@ use Rattle.md_containers.specs.ItemPrefix.{ItemPassed, digits_of, item_behind, i
 use Rattle.md_containers.specs.ItemPrefix.{item_valued}
 use Rattle.md_containers.specs.ItemRule.{digits_end, digits_rest, digits_size}
 use Rattle.md_containers.specs.QuoteRule.{indent_events}
-use Rattle.md_containers.proofs.ItemColumns.{rule-spread}
+use Rattle.md_containers.proofs.ItemColumns.{lose-walk, rule-spread}
 use Rattle.md_containers.proofs.ItemDigits.{HasDigits, TakesDigits, digits-walk, spread-one, starts, starts-spread}
 use Rattle.md_containers.proofs.ItemDigits.{starts-stop}
 use Rattle.md_containers.proofs.ItemLines.{ItemAgrees, LeavesRest}
@@ -577,3 +577,158 @@ behind-agrees options interrupting line text past column (b ∷ bs) q stop p bef
         (subst (λ (i : Bool). Agrees i (item_behind options i p front cells q) numbers) (sym g)
         (subst (λ (o : Option ItemPassed). Agrees true o numbers) (sym (other-is true true false e f l))
         (subst (ItemAgrees (HasItem line text past (b ∷ bs) q stop front) None) (sym (late-numbers f l)) tt)))
+
+-- The whole item.
+
+-- a prefix stands here, behind the begin of the item, and so much is left of the line behind it
+pub record OpensItem (line : Line) (text past : List ℕ) (p end : Point) (stop cells : List Cell)
+    (passed : ItemPassed) (taken : Taken) : Type 0 where
+  pub leaves : LeavesRest line text past end stop cells passed taken
+  pub fewer : length passed.cells < length cells
+  -- the digits and the marker, where they begin, and the bytes there
+  pub digits : List ℕ
+  pub byte : ℕ
+  pub value : Point
+  pub more : List ℕ
+  pub text_is : drop value.index text ≡ digits ++ (byte ∷ more)
+  pub whole : value.vs ≡ 0
+  pub marker : IsMarker digits byte
+  pub item : (width : ℕ) × (blank : Bool) × (passed.container ≡ InItem digits byte width blank)
+  pub events : passed.events ≡
+      enter n.ListItem p ∷ (pair_unless_empty n.SpaceOrTab p value ++ prefix_of digits byte value passed.point)
+  -- whitespace stands in front of the prefix and behind the marker
+  pub white_before : White text p value
+  pub white_behind : White text (past_byte byte (past_text digits value)) passed.point
+
+white-no_bullet : (cells : List Cell) → begins_white cells ≡ true → starts is_bullet cells ≡ false
+white-no_bullet [] e = refl
+white-no_bullet (c ∷ cs) e = white-bullet c.byte e
+
+white-no_digit : (cells : List Cell) → begins_white cells ≡ true → starts is_digit cells ≡ false
+white-no_digit [] e = refl
+white-no_digit (c ∷ cs) e = white-digit c.byte e
+
+-- it opens by the cells of a line where it does by the rest of the line
+pub opens-agrees : (options : ParseOptions) (interrupting : Bool) (line : Line) (text past : List ℕ) (r : Rest)
+    (stop : List Cell) (p : Point) →
+    RestAt text past r p → NoEnding r.bytes → Stops stop → length (rest_cells line r p ++ stop) < 2 ^ 63 →
+    let cells = rest_cells line r p ++ stop in
+    ItemAgrees (OpensItem line text past p (past_rest r p) stop cells) (item_new options interrupting cells p)
+    (opens_item options interrupting r)
+unfolding opens_item
+opens-agrees options interrupting line text past r stop p is h k short =
+    go options.constructs.list_item (has_small_indent options r) refl
+  where
+    room : ℕ
+    room = small_indent options
+
+    cells : List Cell
+    cells = rest_cells line r p ++ stop
+
+    left : List Cell
+    left = white_rest room cells
+
+    q : Point
+    q = white_end room cells p
+
+    from : Rest
+    from = behind_indent r
+
+    front : List Event
+    front = enter n.ListItem p ∷ indent_events options cells p
+
+    Agrees : Option ItemPassed → Option Taken → Type 0
+    Agrees o t = ItemAgrees (OpensItem line text past p (past_rest r p) stop cells) o t
+
+    behind-it : Option ItemPassed
+    behind-it = item_behind options interrupting p front left q
+
+    defined : Option Taken
+    defined = item_by options interrupting (indent r) from (list_marker from.bytes)
+
+    large : has_small_indent options r ≡ false → Agrees behind-it None
+    large e =
+        let over = indent-over line text past room r p stop is (large-room options r e) in
+        subst (λ (o : Option ItemPassed). Agrees o None)
+        (sym
+        (behind-none options interrupting p front left q (white-no_bullet left over) (white-no_digit left over)))
+        tt
+
+    found : indent r ≤ room → (bytes : List ℕ) → RestAt text past (rest from.column bytes) q →
+        past_text bytes q ≡ past_rest r p → length (spread line bytes q ++ stop) ≤ length cells →
+        (o : Option ItemPassed) (t : Option Taken) →
+        ItemAgrees (HasItem line text past bytes q stop front) o t → Agrees o t
+    found fits bytes stands ends size None None item = tt
+    found fits bytes stands ends size None (Some t) item = absurd item
+    found fits bytes stands ends size (Some o) None item = absurd item
+    found fits bytes stands ends size (Some o) (Some t) item =
+        let walked = white-walk line text past (indent r) room r p stop is k refl fits in
+        record {
+          leaves = record {
+            container = item.leaves.container;
+            fed = item.leaves.fed;
+            stands = item.leaves.stands;
+            ends = item.leaves.ends ∙ ends;
+            no_ending = item.leaves.no_ending;
+            shorter = omega (arith, size, item.leaves.shorter);
+          };
+          fewer = omega (arith, size, item.fewer);
+          digits = item.digits;
+          byte = item.byte;
+          value = q;
+          more = item.more ++ past;
+          text_is =
+              stands.text_is ∙ ap (λ (l : List ℕ). l ++ past) item.bytes_are
+              ∙ append_assoc item.digits (item.byte ∷ item.more) past;
+          whole = stands.cut;
+          marker = item.marker;
+          item = item.item;
+          events =
+              item.events
+              ∙ ap
+              (λ (es : List Event). enter n.ListItem p ∷ (es ++ prefix_of item.digits item.byte q o.point))
+              walked.events;
+          white_before = walked.white;
+          white_behind = item.white;
+        }
+
+    small : has_small_indent options r ≡ true → Agrees behind-it defined
+    small e =
+        let most = indent-length line text past r p is in
+        let size = length-append (rest_cells line r p) stop in
+        let fits = small-room options r (length cells) e (omega (arith, most, size)) short in
+        let indented = indent-taken line text past room r p stop is k fits in
+        let lost = lose-walk line text past (indent r) r p stop is k in
+        let all = lost.all (omega arith) in
+        let columns = lost.column in
+        let place = indented.stands.column in
+        let start = is.column in
+        let less = white-length room cells in
+        by fits from.spaces from.bytes (bare from indented.none) indented.stands
+        (lose-no_ending (indent r) r h) indented.ends (omega (arith, columns, all, place, start))
+        indented.cells (omega (arith, less))
+      where
+        by : indent r ≤ room → (spaces : ℕ) (bytes : List ℕ) → Bare spaces bytes →
+            RestAt text past (record { column = from.column; spaces = spaces; bytes = bytes }) q → NoEnding bytes →
+            past_text bytes (past_cut spaces q) ≡ past_rest r p → q.column ≡ p.column + indent r →
+            left ≡ cells_by line spaces bytes q ++ stop → length left ≤ length cells →
+            Agrees behind-it
+            (item_by options interrupting (indent r)
+            (record { column = from.column; spaces = spaces; bytes = bytes }) (list_marker bytes))
+        by fits (suc m) bytes dark stands none ends at same less = absurd dark
+        by fits zero bytes dark stands none ends at same less =
+            let size = ap length same in
+            subst
+            (λ (l : List Cell).
+            Agrees (item_behind options interrupting p front l q)
+            (item_by options interrupting (indent r) (rest from.column bytes) (list_marker bytes)))
+            (sym same)
+            (found fits bytes stands ends (omega (arith, size, less)) _ _
+            (behind-agrees options interrupting line text past from.column bytes q stop p (indent r) front stands dark
+            none k at))
+
+    go : (x y : Bool) → has_small_indent options r ≡ y →
+        Agrees (cond x behind-it None) (cond (x && has_small_indent options r) defined None)
+    go false y e = tt
+    go true true e = subst (λ (t : Bool). Agrees behind-it (cond t defined None)) (sym e) (small e)
+    go true false e = subst (λ (t : Bool). Agrees behind-it (cond t defined None)) (sym e) (large e)
