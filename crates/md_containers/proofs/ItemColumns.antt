@@ -29,7 +29,7 @@ rest column spaces bytes = record { column = column; spaces = spaces; bytes = by
 
 -- Columns of whitespace.
 
-lose-bare : (m : ℕ) (r : Rest) → indent r ≡ 0 → lose m r ≡ r
+pub lose-bare : (m : ℕ) (r : Rest) → indent r ≡ 0 → lose m r ≡ r
 lose-bare zero r e = refl
 lose-bare (suc m) r e = ap (lose m) (bare-same r e) ∙ lose-bare m r e
 

@@ -14,3 +14,4 @@ pub mod ItemLines
 pub mod ItemDigits
 pub mod ItemMarker
 pub mod ItemOpens
+pub mod ItemHeld
