@@ -1,5 +1,5 @@
 -- How the tokenizer holds a list item, and where one is refused or goes on at once.
-use Rattle.std.proofs.Common.{◌≡◌, ℕ, zero, suc, ◌-◌, ◌+◌, ◌≤◌, Bool, true, false, cond, not, ◌&&◌, ◌||◌, ◌⊎◌, inl, inr}
+use Rattle.std.proofs.Common.{◌≡◌, ℕ, ◌-◌, ◌+◌, ◌≤◌, Bool, true, false, cond, not, ◌&&◌, ◌||◌, ◌⊎◌, inl, inr}
 use Rattle.std.proofs.Common.{List, [], ◌∷◌, ◌++◌, Option, Some, None, refl, sym, ◌∙◌, ap, arith, nat_eq, nat_lt}
 use Rattle.std.specs.Prelude.{◌==◌, nat_le}
 use Rattle.std.proofs.lemmas.Bool.{or_parts}
@@ -11,8 +11,7 @@ use Rattle.md_engine.specs.declared.event.Point.{Point}
 use Rattle.md_engine.specs.declared.tokenizer.Scratch.{Scratch}
 use Rattle.md_engine.specs.declared.tokenizer.container.Container.{Container as Held}
 use Rattle.md_engine.specs.Meaning.{Cell, Here, Refuses}
-use Rattle.md_containers.specs.Interrupts.{interrupts}
-use Rattle.md_containers.specs.Item.{at_least_one, ends_value, may_begin, width_here}
+use Rattle.md_containers.specs.Item.{at_least_one, ends_value, may_begin}
 use Rattle.md_containers.specs.ItemPrefix.{ItemPassed, Padded, digits_of, held_as, item_behind, item_closed, item_further}
 use Rattle.md_containers.specs.ItemPrefix.{item_holds, item_marked, item_new, item_numbered, item_padded, item_valued}
 use Rattle.md_containers.specs.ItemPrefix.{padding}
@@ -23,7 +22,7 @@ use Rattle.md_definition.specs.Containers.{Taken, is_bullet, is_digit, item_cont
 use Rattle.md_definition.specs.Leaves.{is_rule}
 use Rattle.md_definition.specs.Preamble.{rest_at}
 use Rattle.md_definition.specs.Rest.{is_blank, is_white}
-use Rattle.md_definition.specs.State.{Container, InFootnote, InItem, InQuote}
+use Rattle.md_definition.specs.State.{InItem}
 use Rattle.md_leaves.specs.LeafStart.{entered_here}
 use Rattle.md_leaves.proofs.LeafStart.{at-none, at-off, at-white}
 use Rattle.md_seam.specs.Ahead.{begins_white, line_bytes, white_end, white_rest, white_size}

@@ -1,7 +1,6 @@
 -- A list item from its marker on, by the cells of a line and by the definition of lines.
-use Rattle.std.proofs.Common.{◌≡◌, ℕ, zero, suc, ◌+◌, ◌-◌, ◌<◌, ◌≤◌, Bool, true, false, cond, not, ◌&&◌, ◌||◌, List, []}
+use Rattle.std.proofs.Common.{◌≡◌, ℕ, suc, ◌+◌, ◌-◌, ◌<◌, ◌≤◌, Bool, true, false, cond, not, ◌&&◌, ◌||◌, List, []}
 use Rattle.std.proofs.Common.{◌∷◌, ◌++◌, length, Option, Some, None, refl, sym, ap, ap₂, ◌∙◌, subst, arith, append_assoc, nat_eq}
-use Rattle.std.specs.Prelude.{◌==◌}
 use Rattle.std.proofs.lemmas.Bool.Decides.{nat_tests}
 use Rattle.md_engine.specs.declared.configuration.ParseOptions.{ParseOptions}
 use Rattle.md_engine.specs.declared.event.Event.{Event}
@@ -10,20 +9,20 @@ use Rattle.md_engine.specs.declared.event.Point.{Point}
 use Rattle.md_engine.specs.declared.tokenizer.Line.{Line}
 use Rattle.md_engine.specs.Meaning.{Cell}
 use Rattle.md_containers.specs.Item.{at_least_one, width_here}
-use Rattle.md_containers.specs.ItemPrefix.{ItemPassed, Padded, item_closed, item_marked, item_padded, padding}
+use Rattle.md_containers.specs.ItemPrefix.{ItemPassed, Padded, item_marked, item_padded, padding}
 use Rattle.md_containers.proofs.ItemDigits.{byte-behind, spread-one}
 use Rattle.md_containers.proofs.ItemLines.{HasPadding, ItemAgrees, LeavesRest, PaddingIs, padding-is}
 use Rattle.md_containers.proofs.QuoteLines.{White}
 use Rattle.md_definition.specs.Containers.{Marker, Taken, item_padding, item_with, may_interrupt}
 use Rattle.md_definition.specs.Leaves.{is_rule}
 use Rattle.md_definition.specs.Rest.{Rest, behind, is_blank, is_parted, is_white, lose}
-use Rattle.md_definition.specs.State.{Container, InItem}
+use Rattle.md_definition.specs.State.{InItem}
 use Rattle.md_definition.proofs.TextsLemmas.{NoEnding}
 use Rattle.md_seam.specs.Events.Inline.{pair_unless_empty}
-use Rattle.md_seam.specs.Events.Nested.{enter, exit, pair}
+use Rattle.md_seam.specs.Events.Nested.{exit, pair}
 use Rattle.md_seam.specs.Events.Places.{past_byte, past_text}
 use Rattle.md_seam.proofs.FeedLines.{Stops, cell, spread}
-use Rattle.md_seam.proofs.RestCells.{RestAt, lose-no_ending, past_rest, rest_cells}
+use Rattle.md_seam.proofs.RestCells.{RestAt, lose-no_ending}
 
 abbrev rest : ℕ → List ℕ → Rest
 rest column bytes = record { column = column; spaces = 0; bytes = bytes }

@@ -1,10 +1,9 @@
 -- A list item opens by the cells of a line where it does by the definition of lines, and leaves what that says.
-use Rattle.std.proofs.Common.{◌≡◌, ℕ, zero, suc, ◌+◌, ◌-◌, ◌^◌, ◌<◌, ◌≤◌, Bool, true, false, cond, not, ◌&&◌, ◌||◌}
+use Rattle.std.proofs.Common.{◌≡◌, ℕ, zero, suc, ◌+◌, ◌^◌, ◌<◌, ◌≤◌, Bool, true, false, cond, not, ◌&&◌, ◌||◌}
 use Rattle.std.proofs.Common.{List, [], ◌∷◌, ◌++◌, length, drop, Option, Some, None, refl, sym, ap, ap₂, ◌∙◌, subst, arith}
-use Rattle.std.proofs.Common.{append_assoc, nat_eq, nat_lt}
+use Rattle.std.proofs.Common.{append_assoc, nat_lt}
 use Rattle.std.specs.Prelude.{◌==◌, nat_le}
 use Rattle.std.specs.List.{list_all, take_while}
-use Rattle.std.proofs.lemmas.Bool.{eqb-true}
 use Rattle.std.proofs.lemmas.Bool.Decides.{nat_tests}
 use Rattle.std.proofs.lemmas.List.{length-append}
 use Rattle.std.proofs.lemmas.List.Sums.{take_while-cons}
@@ -23,7 +22,7 @@ use Rattle.md_containers.proofs.ItemColumns.{lose-walk, rule-spread}
 use Rattle.md_containers.proofs.ItemDigits.{HasDigits, TakesDigits, digits-walk, spread-one, starts, starts-spread}
 use Rattle.md_containers.proofs.ItemDigits.{starts-stop}
 use Rattle.md_containers.proofs.ItemLines.{ItemAgrees, LeavesRest}
-use Rattle.md_containers.proofs.ItemMarker.{HasItemMarker, MayMark, marked-agrees}
+use Rattle.md_containers.proofs.ItemMarker.{HasItemMarker, marked-agrees}
 use Rattle.md_containers.proofs.ItemShorter.{digits-length}
 use Rattle.md_containers.proofs.QuoteLines.{White, large-room, small-room, white-walk}
 use Rattle.md_definition.specs.Containers.{Marker, Taken, is_bullet, is_digit, item_by, item_with, list_marker}
