@@ -1,10 +1,10 @@
 -- The cells of the rest of a line: what so many columns of whitespace leave of it, and what does not tell tabs from
 -- spaces.
 use Rattle.std.proofs.Common.{◌≡◌, ℕ, zero, suc, ◌+◌, ◌<◌, ◌≤◌, Bool, true, false, cond, ◌&&◌, ◌||◌, List, [], ◌∷◌, ◌++◌}
-use Rattle.std.proofs.Common.{length, refl, sym, ap, ◌∙◌, subst, arith, append_assoc, append-nil}
+use Rattle.std.proofs.Common.{refl, sym, ap, ◌∙◌, subst, arith, append_assoc, append-nil}
 use Rattle.std.specs.Prelude.{◌==◌, nat_le, count_by}
 use Rattle.std.specs.List.{list_all}
-use Rattle.std.proofs.lemmas.Bool.{or_parts, or_right}
+use Rattle.std.proofs.lemmas.Bool.{or_parts}
 use Rattle.std.proofs.lemmas.Bool.Decides.{nat_tests}
 use Rattle.md_engine.specs.declared.event.Point.{Point}
 use Rattle.md_engine.specs.declared.tokenizer.Line.{Line}
@@ -13,7 +13,7 @@ use Rattle.md_containers.proofs.ItemCells.{zero-end, zero-rest}
 use Rattle.md_containers.proofs.QuoteLines.{Step, White, column-step, step-append, white-none}
 use Rattle.md_definition.specs.Containers.{is_bullet}
 use Rattle.md_definition.specs.Leaves.{is_rule, is_rule_marker}
-use Rattle.md_definition.specs.Rest.{Rest, indent, is_blank, is_white, lose, tab_columns, white_columns, without_column}
+use Rattle.md_definition.specs.Rest.{Rest, indent, is_blank, is_white, lose, white_columns}
 use Rattle.md_definition.proofs.TextsLemmas.{NoEnding}
 use Rattle.md_seam.specs.Ahead.{begins_white, line_bytes, line_cells, white_end, white_rest, white_size}
 use Rattle.md_seam.specs.Events.Places.{past_byte, same_place}
@@ -29,7 +29,7 @@ rest column spaces bytes = record { column = column; spaces = spaces; bytes = by
 
 -- Columns of whitespace.
 
-lose-bare : (m : ℕ) (r : Rest) → indent r ≡ 0 → lose m r ≡ r
+pub lose-bare : (m : ℕ) (r : Rest) → indent r ≡ 0 → lose m r ≡ r
 lose-bare zero r e = refl
 lose-bare (suc m) r e = ap (lose m) (bare-same r e) ∙ lose-bare m r e
 

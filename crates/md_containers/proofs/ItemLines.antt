@@ -1,9 +1,8 @@
 -- What a list item takes of a further line is what the definition of lines takes; and its padding.
-use Rattle.std.proofs.Common.{◌≡◌, ℕ, zero, suc, ◌+◌, ◌-◌, ◌<◌, ◌≤◌, Bool, true, false, cond, not, ◌&&◌, ◌||◌, List, []}
-use Rattle.std.proofs.Common.{◌∷◌, ◌++◌, length, Option, Some, None, refl, sym, ap, ap₂, ◌∙◌, subst, arith}
+use Rattle.std.proofs.Common.{◌≡◌, ℕ, zero, suc, ◌+◌, ◌<◌, ◌≤◌, Bool, true, false, cond, not, ◌&&◌, ◌||◌, List, []}
+use Rattle.std.proofs.Common.{◌∷◌, ◌++◌, length, Option, Some, None, refl, sym, ap, ◌∙◌, subst, arith}
 use Rattle.std.specs.Prelude.{◌==◌, nat_le}
 use Rattle.std.proofs.lemmas.Bool.Decides.{nat_tests}
-use Rattle.md_engine.specs.declared.event.Event.{Event}
 use Rattle.md_engine.specs.declared.event.Name.TheVariants as n
 use Rattle.md_engine.specs.declared.event.Point.{Point}
 use Rattle.md_engine.specs.declared.tokenizer.Line.{Line}
@@ -24,9 +23,9 @@ use Rattle.md_seam.specs.Events.Places.{past_byte, same_place}
 use Rattle.md_seam.specs.Look.{first_seen}
 use Rattle.md_seam.specs.Spaces.{ends_line}
 use Rattle.md_seam.proofs.AheadLemmas.{none-end, none-rest, none-size}
-use Rattle.md_seam.proofs.FeedLines.{Stops, byte_cells, cell, columns_more, spread, tab_cells}
+use Rattle.md_seam.proofs.FeedLines.{Stops, cell, columns_more, spread, tab_cells}
 use Rattle.md_seam.proofs.InlineLemmas.{same-refl}
-use Rattle.md_seam.proofs.RestCells.{RestAt, bare-cells, column-first, indent-over, indent-taken, lose-no_ending}
+use Rattle.md_seam.proofs.RestCells.{RestAt, bare-cells, indent-over, indent-taken, lose-no_ending}
 use Rattle.md_seam.proofs.RestCells.{past_rest, rest_cells, white-length}
 
 -- an item opens or goes on by the cells of a line where it does by its bytes

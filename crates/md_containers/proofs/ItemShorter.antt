@@ -3,7 +3,6 @@ use Rattle.std.proofs.Common.{◌≡◌, ℕ, zero, suc, ◌+◌, ◌-◌, ◌<�
 use Rattle.std.proofs.Common.{List, [], ◌∷◌, length, arith}
 use Rattle.std.specs.Prelude.{nat_le}
 use Rattle.md_engine.specs.declared.configuration.ParseOptions.{ParseOptions}
-use Rattle.md_engine.specs.declared.event.Name.TheVariants.{ListItem}
 use Rattle.md_engine.specs.Meaning.{Cell, Here}
 use Rattle.md_containers.specs.Interrupts.{interrupts}
 use Rattle.md_containers.specs.Item.{ends_value, is_item_marker, least_width}

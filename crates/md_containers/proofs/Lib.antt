@@ -20,3 +20,7 @@ pub mod ListedNests
 pub mod ListedParts
 pub mod ListedFilled
 pub mod PlainPrefix
+pub mod ItemDigits
+pub mod ItemMarker
+pub mod ItemOpens
+pub mod ItemHeld

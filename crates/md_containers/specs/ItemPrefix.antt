@@ -1,5 +1,5 @@
 -- A list item on a line, by the cells of the line: one that opens, and one that goes on (CommonMark 5.2).
-use Rattle.std.specs.Prelude.{ℕ, zero, suc, Bool, true, false, ◌&&◌, ◌||◌, ◌==◌, not, nat_le, nat_lt, if◌then◌else◌}
+use Rattle.std.specs.Prelude.{◌≡◌, ℕ, zero, suc, ◌≤◌, Bool, true, false, ◌&&◌, ◌||◌, ◌==◌, not, nat_le, nat_lt, if◌then◌else◌}
 use Rattle.std.specs.Prelude.{List, [], ◌∷◌, ◌++◌, Option, Some, None}
 use Rattle.md_engine.specs.declared.configuration.ParseOptions.{ParseOptions}
 use Rattle.md_engine.specs.declared.event.Event.{Event}
@@ -140,6 +140,13 @@ abbrev pub held_as : Held → Container → Held
 held_as held (InItem digits marker width blank) = record held { width = width; starts_blank = blank }
 held_as held InQuote = held
 held_as held (InFootnote label) = held
+
+-- What the tokenizer holds of an open one: so much, and an item is a column wide at least.
+abbrev pub item_holds : Held → Container → Type 0
+item_holds held (InItem digits marker width blank) =
+    (held.width ≡ width) × (held.starts_blank ≡ blank) × (1 ≤ width)
+item_holds held InQuote = ⊥
+item_holds held (InFootnote label) = ⊥
 
 -- taken where it opens or goes on, and refused elsewhere
 abbrev pub item_by : Option ItemPassed → Here → Outcome
