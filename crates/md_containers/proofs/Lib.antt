@@ -12,3 +12,4 @@ pub mod ListedKept
 pub mod ListedNests
 pub mod ListedParts
 pub mod ListedFilled
+pub mod ListedChunks
