@@ -13,3 +13,4 @@ pub mod ListedNests
 pub mod ListedParts
 pub mod ListedFilled
 pub mod ListedChunks
+pub mod ListedBlocks
