@@ -5,6 +5,9 @@ pub mod QuoteCells
 pub mod QuoteShorter
 pub mod Shorter
 pub mod GroupedLemmas
+pub mod ListedOpen
+pub mod ListedBlockSteps
+pub mod ListedPartSteps
 pub mod ListedReads
 pub mod ListedLemmas
 pub mod ListedRows
@@ -14,3 +17,5 @@ pub mod ListedParts
 pub mod ListedFilled
 pub mod ListedChunks
 pub mod ListedBlocks
+pub mod TamedLemmas
+pub mod ListedGrammar

@@ -4,3 +4,4 @@ pub mod Listed
 pub mod ItemsStand
 pub mod ListedWalk
 pub mod ItemsHeld
+pub mod Unlisted
