@@ -12,6 +12,9 @@ pub mod ItemFurther
 pub mod ItemColumns
 pub mod ItemLines
 pub mod GroupedLemmas
+pub mod ListedOpen
+pub mod ListedBlockSteps
+pub mod ListedPartSteps
 pub mod ListedReads
 pub mod ListedLemmas
 pub mod ListedRows
@@ -24,3 +27,7 @@ pub mod ItemDigits
 pub mod ItemMarker
 pub mod ItemOpens
 pub mod ItemHeld
+pub mod ListedChunks
+pub mod ListedBlocks
+pub mod TamedLemmas
+pub mod ListedGrammar

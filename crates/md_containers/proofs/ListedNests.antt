@@ -17,7 +17,7 @@ use Rattle.md_containers.specs.Listed.{Place, goes_on, is_block, is_item, list_b
 use Rattle.md_containers.specs.Listed.{marker_ahead, next_by, next_item, outside, place_behind}
 use Rattle.md_containers.proofs.ListedKept.{by-turn}
 use Rattle.md_containers.proofs.ListedLemmas.{passes-given}
-use Rattle.md_containers.proofs.ListedReads.{goes_on-some}
+use Rattle.md_containers.proofs.ListedBlockSteps.{goes_on-some}
 use Rattle.md_seam.specs.Events.Nested.{Balanced, Fits, Forward, Matches, Nested, enter, exit, open_after, open_behind}
 use Rattle.md_seam.specs.Events.Places.{at_or_before, first_point}
 use Rattle.md_seam.specs.Events.Spelled.{role}
@@ -86,7 +86,7 @@ Keeps bytes es =
     (now : Now) → Good now (next_item bytes es) → Matches (names_at now) es → ItemsHeld (names_at now) es →
     Kept bytes now es
 
-abbrev event : Kind → Name → Point → Option Link → Event
+abbrev pub event : Kind → Name → Point → Option Link → Event
 event kind name p link = record { kind = kind; name = name; point = p; link = link }
 
 -- An item begins.
@@ -170,7 +170,7 @@ pass-free bytes Exit name p link es (Part other ∷ entries) i keeps good matche
     let k : Kept bytes (Free entries) es = keeps (Free entries) good.1 matches.1 held.1 in ((matches.0, k.0), k.1)
 
 -- in front of an item that is to come, it is of no block
-pass-next : (kind : Kind) (name : Name) (ahead m : ℕ) (next : Option ℕ) → is_item (role name) ≡ false →
+pub pass-next : (kind : Kind) (name : Name) (ahead m : ℕ) (next : Option ℕ) → is_item (role name) ≡ false →
     next_by kind (role name) ahead next ≡ Some m → (is_block (role name) ≡ false) × (next ≡ Some m)
 pass-next kind name ahead m next i h = go (is_block (role name)) refl kind h
   where

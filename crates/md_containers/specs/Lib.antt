@@ -9,3 +9,4 @@ pub mod ItemsStand
 pub mod ListedWalk
 pub mod ItemsHeld
 pub mod PlainPrefix
+pub mod Unlisted

@@ -1,0 +1,477 @@
+-- In front of an item's marker, in a footnote's label, in a leaf block and in a paragraph: each event keeps what is known
+-- of both readings.
+use Rattle.std.proofs.Common.{◌≡◌, ℕ, suc, ◌+◌, ◌-◌, ◌<◌, Bool, true, false, cond, List, [], ◌∷◌, ◌++◌, map, drop, take, length}
+use Rattle.std.proofs.Common.{slice_range, refl, ap, sym, subst, ◌∙◌, arith}
+use Rattle.std.specs.Prelude.{◌==◌, ◌||◌, if◌then◌else◌, nat_lt, Option, Some, None, option_map, get_or, slice_get}
+use Rattle.std.specs.Option.{is_some}
+use Rattle.std.proofs.lemmas.Bool.{eqb-true}
+use Rattle.std.proofs.lemmas.List.{get_or-drop}
+use Rattle.md_engine.specs.declared.event.Event.{Event}
+use Rattle.md_engine.specs.declared.event.Kind.{Kind}
+use Rattle.md_engine.specs.declared.event.Kind.TheVariants.{Enter, Exit}
+use Rattle.md_engine.specs.declared.event.Name.TheVariants as n
+use Rattle.md_engine.specs.declared.event.Point.{Point}
+use Rattle.md_definition.specs.Containers.{is_bullet}
+use Rattle.md_definition.specs.Grouped.{grouped, grouped_block}
+use Rattle.md_definition.specs.State.{then_block}
+use Rattle.md_definition.specs.Texts.{first_byte, split_lines, trim_each}
+use Rattle.md_definition.specs.Tree.{Block, Blocks, End, Footnote, Item, Line, ListOf, More, Paragraph, Quote}
+use Rattle.md_seam.specs.Events.Spelled.{Around, AsDigits, AsFootnoteLabel, AsItemMarker, AsParagraph, BreakLeaf, Fenced}
+use Rattle.md_seam.specs.Events.Spelled.{FootnoteShape, Holds, IsCell, IsEnding, IsFence, IsPrefix, IsQuiet, IsRow}
+use Rattle.md_seam.specs.Events.Spelled.{IsTitle, ItemShape, LeafKind, OpenLeaf, Opens, OrderedShape, Purpose, QuoteShape}
+use Rattle.md_seam.specs.Events.Spelled.{Reading, Role, Shape, Tells, Text, UnorderedShape, at_ending, begun, block_around}
+use Rattle.md_seam.specs.Events.Spelled.{block_of, finished, first_told, fresh, is_ordered, left, list_marker, named}
+use Rattle.md_seam.specs.Events.Spelled.{next_line, on_leaf, on_shape, read, read_by, role, spelled, text_to, told, told_at}
+use Rattle.md_seam.specs.Events.Spelled.{after_prefix, at_cell, at_fence, at_row, at_title, before_prefix, behind_title, noted, unread}
+use Rattle.md_seam.specs.Events.Nested.{exit}
+use Rattle.md_seam.proofs.SpelledLemmas.{read-append}
+use Rattle.md_containers.specs.ItemsStand.{AmongBlocks, Closes, InFront, InLabel, InLeaf, InMarker, InParagraph, Inner}
+use Rattle.md_containers.specs.ItemsStand.{IsBetween, IsHolder, IsMarkerAt, IsOfLeaf, IsPart, ItemsStand, MayBegin, MayEnd}
+use Rattle.md_containers.specs.ItemsStand.{MayStand, Site, is_item_shape, is_list_marker, root, site_after}
+use Rattle.md_containers.specs.Listed.{Begins, Ends, Place, Stays, Turn, given, given_by, goes_on, list_begin, list_end, list_name, listed}
+use Rattle.md_containers.specs.Listed.{listed_from, marker_ahead, marker_by, next_by, next_item, outside, place_after}
+use Rattle.md_containers.specs.Listed.{place_by, turn}
+use Rattle.md_containers.proofs.GroupedLemmas.{IsNoListOf, IsOther, NoList, NoLists, grouped-item, grouped-other}
+use Rattle.md_containers.proofs.GroupedLemmas.{last-apart, last-same, no-lists-then, other-is-no-list, other-no-list}
+use Rattle.md_containers.proofs.GroupedLemmas.{with_last}
+use Rattle.md_containers.proofs.ListedOpen.{OpenList, list_shape, list_around, outer_by, moved, as_listed, place_of, Heads, Fits, Apart, IsItemOf, IsBegun, IsNoItem, Agree, AgreeFront, AgreeAt, first_marker, Knows, Known, entered_list, begun_list, ended_list, read_turn, role-list, read-turn, Passes, told-moved, told_at-moved, ending-moved, passes-moved, passes-outer, passes-here, passes-listed, passes-turn, Stepped, passed}
+use Rattle.md_containers.proofs.ListedBlockSteps.{between-passes, between-next, know-same, among-between, none-some, holder-begins, apart-end, item-begins, among-begin, other-apart, shape-other, shape-grouped, holder-ends, goes_on-some, heads-then, headed, list-around, fits-on, apart-behind, item-ended, item-ends, among-end}
+
+-- What tells something of a container.
+
+abbrev pub IsOfHolder : Purpose → Type 0
+IsOfHolder AsDigits = Unit {0}
+IsOfHolder AsItemMarker = Unit {0}
+IsOfHolder AsFootnoteLabel = Unit {0}
+IsOfHolder _ = ⊥
+
+pub shape-listed : (f : Shape → Shape) (held : List Bool) (ls : List OpenList) (outer : List Around) →
+    on_shape f (outer_by held ls outer) ≡ outer_by held ls (on_shape f outer)
+shape-listed f [] ls [] = refl
+shape-listed f [] ls (a ∷ arounds) = refl
+shape-listed f (true ∷ held) [] [] = refl
+shape-listed f (true ∷ held) [] (a ∷ arounds) = refl
+shape-listed f (true ∷ held) (l ∷ ls) [] = refl
+shape-listed f (true ∷ held) (l ∷ ls) (a ∷ arounds) = refl
+shape-listed f (false ∷ held) ls [] = refl
+shape-listed f (false ∷ held) ls (a ∷ arounds) = refl
+
+abbrev pub fields : List Around → Blocks → Option OpenLeaf → Option Text → Reading
+fields outer here leaf text = record { outer = outer; here = here; leaf = leaf; text = text }
+
+pub holder-told : (bytes : List ℕ) (purpose : Purpose) → IsOfHolder purpose → (p : Point) (ls : List OpenList)
+    (outer : List Around) (here : Blocks) (leaf : Option OpenLeaf) (text : Option Text) (held : List Bool) →
+    read_by bytes Exit (Tells purpose) p (as_listed None held ls (fields outer here leaf text))
+    ≡ as_listed None held ls (read_by bytes Exit (Tells purpose) p (fields outer here leaf text))
+holder-told bytes purpose h p ls outer here leaf None held = refl
+holder-told bytes AsDigits h p ls outer here leaf (Some text) held =
+    ap (λ (o : List Around). fields o (grouped here) leaf None)
+    (shape-listed (named AsDigits (text_to bytes p.index text)) held ls outer)
+holder-told bytes AsItemMarker h p ls outer here leaf (Some text) held =
+    ap (λ (o : List Around). fields o (grouped here) leaf None)
+    (shape-listed (named AsItemMarker (text_to bytes p.index text)) held ls outer)
+holder-told bytes AsFootnoteLabel h p ls outer here leaf (Some text) held =
+    ap (λ (o : List Around). fields o (grouped here) leaf None)
+    (shape-listed (named AsFootnoteLabel (text_to bytes p.index text)) held ls outer)
+holder-told bytes _ h p ls outer here leaf (Some text) held = absurd h
+
+-- such an end, and what is known behind it
+pub holder-tells : (bytes : List ℕ) (purpose : Purpose) → IsOfHolder purpose → (p : Point) (ls : List OpenList)
+    (r : Reading) (ahead : ℕ) (next : Option ℕ) (held : List Bool) (inner : Inner) →
+    Known bytes (record { held = held; inner = inner }) None ls (read_by bytes Exit (Tells purpose) p r) ahead next →
+    Stepped bytes Exit (Tells purpose) p None ls r ahead next held (record { held = held; inner = inner })
+holder-tells bytes purpose h p ls r ahead next held inner known = record {
+  lists = ls;
+  within = None;
+  place = refl;
+  reads = holder-told bytes purpose h p ls r.outer r.here r.leaf r.text held;
+  known = known;
+}
+
+-- the end of an item's digits leaves it without a marker
+pub begun-digits : (t : List ℕ) (shape : Shape) → IsBegun shape → IsBegun (named AsDigits t shape)
+begun-digits t (ItemShape k d) h = h
+begun-digits t _ h = absurd h
+
+pub front-digits : (t : List ℕ) (held : List Bool) (ls : List OpenList) (outer : List Around) → AgreeFront held ls outer →
+    AgreeFront held ls (on_shape (named AsDigits t) outer)
+front-digits t [] ls outer h = absurd h
+front-digits t (false ∷ held) ls outer h = absurd h
+front-digits t (true ∷ held) [] outer h = absurd h
+front-digits t (true ∷ held) (l ∷ ls) [] h = absurd h
+front-digits t (true ∷ held) (l ∷ ls) (a ∷ arounds) h = (begun-digits t a.shape h.0, h.1, h.2, h.3)
+
+pub digits-known : (bytes : List ℕ) (p : Point) (ls : List OpenList) (outer : List Around) (here : Blocks)
+    (leaf : Option OpenLeaf) (text : Option Text) (ahead : ℕ) (next : Option ℕ) (held : List Bool) →
+    Known bytes (record { held = held; inner = InFront }) None ls (fields outer here leaf text) ahead next →
+    Known bytes (record { held = held; inner = InFront }) None ls
+    (read_by bytes Exit (Tells AsDigits) p (fields outer here leaf text)) ahead next
+digits-known bytes p ls outer here leaf None ahead next held known =
+    record { agree = known.agree; lists = known.lists; inner = known.inner }
+digits-known bytes p ls outer here leaf (Some text) ahead next held known = record {
+  agree = front-digits (text_to bytes p.index text) held ls outer known.agree;
+  lists = known.lists;
+  inner = known.inner;
+}
+
+-- the end of a label leaves what is known
+pub item-label : (t : List ℕ) (m : ℕ) (shape : Shape) → IsItemOf m shape → IsItemOf m (named AsFootnoteLabel t shape)
+item-label t m (ItemShape k d) h = h
+item-label t m _ h = absurd h
+
+pub no-item-label : (t : List ℕ) (shape : Shape) → IsNoItem shape → IsNoItem (named AsFootnoteLabel t shape)
+no-item-label t QuoteShape h = tt
+no-item-label t (FootnoteShape label) h = tt
+no-item-label t _ h = absurd h
+
+pub agree-label : (t : List ℕ) (held : List Bool) (ls : List OpenList) (outer : List Around) → Agree held ls outer →
+    Agree held ls (on_shape (named AsFootnoteLabel t) outer)
+agree-label t [] [] [] h = tt
+agree-label t [] [] (a ∷ arounds) h = absurd h
+agree-label t [] (l ∷ ls) outer h = absurd h
+agree-label t (true ∷ held) [] outer h = absurd h
+agree-label t (true ∷ held) (l ∷ ls) [] h = absurd h
+agree-label t (true ∷ held) (l ∷ ls) (a ∷ arounds) h = (item-label t l.marker a.shape h.0, h.1, h.2, h.3)
+agree-label t (false ∷ held) ls [] h = absurd h
+agree-label t (false ∷ held) ls (a ∷ arounds) h = (no-item-label t a.shape h.0, h.1, h.2)
+
+pub apart-of : (m : ℕ) (b : Blocks) → b ≡ End → Apart m b
+apart-of m b e = subst (Apart m) (sym e) (apart-end m)
+
+pub label-known : (bytes : List ℕ) (p : Point) (ls : List OpenList) (outer : List Around) (here : Blocks)
+    (leaf : Option OpenLeaf) (text : Option Text) (ahead : ℕ) (next : Option ℕ) (held : List Bool) →
+    Agree held ls outer → NoLists here → here ≡ End →
+    Known bytes (record { held = held; inner = AmongBlocks }) None ls
+    (read_by bytes Exit (Tells AsFootnoteLabel) p (fields outer here leaf text)) ahead next
+label-known bytes p ls outer here leaf None ahead next held agree lists e =
+    record { agree = agree; lists = lists; inner = λ m i. apart-of m here e }
+label-known bytes p ls outer here leaf (Some text) ahead next held agree lists e = record {
+  agree = agree-label (text_to bytes p.index text) held ls outer agree;
+  lists = lists;
+  inner = λ m i. apart-of m here e;
+}
+
+-- The marker of an item.
+
+pub first-taken : (xs : List ℕ) → first_byte (take 1 xs) ≡ get_or xs 0 0
+first-taken [] = refl
+first-taken (x ∷ xs) = refl
+
+-- the byte of a marker that begins and ends here
+pub marker-text : (bytes : List ℕ) (p q : Point) → q.vs ≡ 0 → p.index ≡ q.index + 1 →
+    first_byte (text_to bytes p.index (begun q)) ≡ get_or bytes q.index 0
+marker-text bytes p q whole e =
+    ap (λ (v : ℕ). first_byte (slice_range bytes (if v == 0 then q.index else q.index + 1) p.index)) whole
+    ∙ ap (λ (n : ℕ). first_byte (take n (drop q.index bytes))) (let one : p.index - q.index ≡ 1 = omega arith in one)
+    ∙ first-taken (drop q.index bytes) ∙ get_or-drop q.index bytes 0 0
+    ∙ ap (λ (n : ℕ). get_or bytes n 0) (let same : q.index + 0 ≡ q.index = omega arith in same)
+
+pub item-marked : (t : List ℕ) (m : ℕ) (shape : Shape) → IsBegun shape → first_byte t ≡ m → is_list_marker m ≡ true →
+    IsItemOf m (named AsItemMarker t shape)
+item-marked t m (ItemShape k d) h e marker =
+    (ap (λ (j : ℕ). if j == 0 then first_byte t else j) h ∙ e, marker)
+item-marked t m _ h e marker = absurd h
+
+pub front-marked : (t : List ℕ) (held : List Bool) (ls : List OpenList) (outer : List Around) → AgreeFront held ls outer →
+    first_byte t ≡ first_marker ls → is_list_marker (first_marker ls) ≡ true →
+    Agree held ls (on_shape (named AsItemMarker t) outer)
+front-marked t [] ls outer h e marker = absurd h
+front-marked t (false ∷ held) ls outer h e marker = absurd h
+front-marked t (true ∷ held) [] outer h e marker = absurd h
+front-marked t (true ∷ held) (l ∷ ls) [] h e marker = absurd h
+front-marked t (true ∷ held) (l ∷ ls) (a ∷ arounds) h e marker =
+    (item-marked t l.marker a.shape h.0 e marker, h.1, h.2, h.3)
+
+pub marker-known : (bytes : List ℕ) (p q : Point) (ls : List OpenList) (outer : List Around) (here : Blocks)
+    (leaf : Option OpenLeaf) (text : Option Text) (ahead : ℕ) (next : Option ℕ) (held : List Bool) →
+    p.index ≡ q.index + 1 → AgreeFront held ls outer → NoLists here → here ≡ End →
+    get_or bytes q.index 0 ≡ first_marker ls → IsMarkerAt bytes q → text ≡ Some (begun q) →
+    Known bytes (record { held = held; inner = AmongBlocks }) None ls
+    (read_by bytes Exit (Tells AsItemMarker) p (fields outer here leaf text)) ahead next
+marker-known bytes p q ls outer here leaf text ahead next held after agree lists e byte is is_text =
+    subst
+    (λ (t : Option Text). Known bytes (record { held = held; inner = AmongBlocks }) None ls
+    (read_by bytes Exit (Tells AsItemMarker) p (fields outer here leaf t)) ahead next)
+    (sym is_text)
+    (record {
+      agree =
+          front-marked (text_to bytes p.index (begun q)) held ls outer agree
+          (marker-text bytes p q is.whole after ∙ byte)
+          (ap is_list_marker (sym byte) ∙ is.marker);
+      lists = lists;
+      inner = λ m i. apart-of m here e;
+    })
+
+-- In front of a marker, and in it.
+
+pub front-begin : (bytes : List ℕ) (x : Role) (p : Point) (ls : List OpenList) (r : Reading) (ahead : ℕ)
+    (next : Option ℕ) (held : List Bool) → MayBegin bytes p InFront x →
+    Known bytes (record { held = held; inner = InFront }) None ls r
+    (marker_by Enter x (get_or bytes p.index 0) ahead) (next_by Enter x ahead next) →
+    Stepped bytes Enter x p None ls r ahead next held
+    (site_after (record { held = held; inner = InFront }) Enter x p)
+front-begin bytes IsQuiet p ls r ahead next held may known =
+    passed bytes Enter IsQuiet p None ls r ahead next held InFront tt known.agree known.lists known.inner
+front-begin bytes (Tells AsDigits) p ls r ahead next held may known =
+    passed bytes Enter (Tells AsDigits) p None ls r ahead next held InFront tt known.agree known.lists known.inner
+front-begin bytes (Tells AsItemMarker) p ls r ahead next held may known =
+    passed bytes Enter (Tells AsItemMarker) p None ls r ahead next held (InMarker p) tt known.agree known.lists
+    (known.inner.0, known.inner.1, may, refl)
+front-begin bytes _ p ls r ahead next held may known = absurd may
+
+pub front-end : (bytes : List ℕ) (x : Role) (p : Point) (ls : List OpenList) (r : Reading) (ahead : ℕ)
+    (next : Option ℕ) (held : List Bool) → MayEnd held p InFront x →
+    Known bytes (record { held = held; inner = InFront }) None ls r
+    (marker_by Exit x (get_or bytes p.index 0) ahead) (next_by Exit x ahead next) →
+    Stepped bytes Exit x p None ls r ahead next held
+    (site_after (record { held = held; inner = InFront }) Exit x p)
+front-end bytes IsQuiet p ls r ahead next held may known =
+    passed bytes Exit IsQuiet p None ls r ahead next held InFront tt known.agree known.lists known.inner
+front-end bytes (Tells AsDigits) p ls r ahead next held may known =
+    holder-tells bytes AsDigits tt p ls r ahead next held InFront
+    (digits-known bytes p ls r.outer r.here r.leaf r.text ahead next held known)
+front-end bytes _ p ls r ahead next held may known = absurd may
+
+pub marker-end : (bytes : List ℕ) (x : Role) (p q : Point) (ls : List OpenList) (r : Reading) (ahead other : ℕ)
+    (next now : Option ℕ) (held : List Bool) → MayEnd held p (InMarker q) x →
+    Known bytes (record { held = held; inner = InMarker q }) None ls r other now →
+    Stepped bytes Exit x p None ls r ahead next held
+    (site_after (record { held = held; inner = InMarker q }) Exit x p)
+marker-end bytes (Tells AsItemMarker) p q ls r ahead other next now held may known =
+    holder-tells bytes AsItemMarker tt p ls r ahead next held AmongBlocks
+    (marker-known bytes p q ls r.outer r.here r.leaf r.text ahead next held may known.agree known.lists known.inner.0
+    known.inner.1 known.inner.2 known.inner.3)
+marker-end bytes _ p q ls r ahead other next now held may known = absurd may
+
+-- In the label of a footnote definition.
+
+pub label-between : (bytes : List ℕ) (kind : Kind) (x : Role) (p : Point) (ls : List OpenList) (r : Reading)
+    (ahead other : ℕ) (next now : Option ℕ) (held : List Bool) → Passes kind x →
+    Known bytes (record { held = held; inner = InLabel }) None ls r other now →
+    Stepped bytes kind x p None ls r ahead next held (record { held = held; inner = InLabel })
+label-between bytes kind x p ls r ahead other next now held h known =
+    passed bytes kind x p None ls r ahead next held InLabel h known.agree known.lists
+    (passes-here bytes kind x p h r ∙ known.inner)
+
+pub label-begin : (bytes : List ℕ) (x : Role) (p : Point) (ls : List OpenList) (r : Reading) (ahead other : ℕ)
+    (next now : Option ℕ) (held : List Bool) → MayBegin bytes p InLabel x →
+    Known bytes (record { held = held; inner = InLabel }) None ls r other now →
+    Stepped bytes Enter x p None ls r ahead next held
+    (site_after (record { held = held; inner = InLabel }) Enter x p)
+label-begin bytes (Tells AsFootnoteLabel) p ls r ahead other next now held may known =
+    label-between bytes Enter (Tells AsFootnoteLabel) p ls r ahead other next now held tt known
+label-begin bytes IsPrefix p ls r ahead other next now held may known =
+    label-between bytes Enter IsPrefix p ls r ahead other next now held tt known
+label-begin bytes IsEnding p ls r ahead other next now held may known =
+    label-between bytes Enter IsEnding p ls r ahead other next now held tt known
+label-begin bytes IsQuiet p ls r ahead other next now held may known =
+    label-between bytes Enter IsQuiet p ls r ahead other next now held tt known
+label-begin bytes _ p ls r ahead other next now held may known = absurd may
+
+pub label-end : (bytes : List ℕ) (x : Role) (p : Point) (ls : List OpenList) (r : Reading) (ahead other : ℕ)
+    (next now : Option ℕ) (held : List Bool) → MayEnd held p InLabel x →
+    Known bytes (record { held = held; inner = InLabel }) None ls r other now →
+    Stepped bytes Exit x p None ls r ahead next held
+    (site_after (record { held = held; inner = InLabel }) Exit x p)
+label-end bytes (Tells AsFootnoteLabel) p ls r ahead other next now held may known =
+    holder-tells bytes AsFootnoteLabel tt p ls r ahead next held AmongBlocks
+    (label-known bytes p ls r.outer r.here r.leaf r.text ahead next held known.agree known.lists known.inner)
+label-end bytes IsPrefix p ls r ahead other next now held may known =
+    label-between bytes Exit IsPrefix p ls r ahead other next now held tt known
+label-end bytes IsEnding p ls r ahead other next now held may known =
+    label-between bytes Exit IsEnding p ls r ahead other next now held tt known
+label-end bytes IsQuiet p ls r ahead other next now held may known =
+    label-between bytes Exit IsQuiet p ls r ahead other next now held tt known
+label-end bytes _ p ls r ahead other next now held may known = absurd may
+
+-- In a leaf block.
+
+pub part-passes : (kind : Kind) (x : Role) → IsPart x → Passes kind x
+part-passes Enter (Holds shape) h = absurd h
+part-passes Enter _ h = tt
+part-passes Exit (Holds shape) h = absurd h
+part-passes Exit (Opens kind) h = absurd h
+part-passes Exit (Tells purpose) h = h
+part-passes Exit _ h = tt
+
+-- whether a leaf block is open
+abbrev pub HasLeaf : Reading → Type 0
+HasLeaf r = (leaf : OpenLeaf) × (r.leaf ≡ Some leaf)
+
+pub changed-leaf : (f : OpenLeaf → OpenLeaf) (r : Reading) → HasLeaf r → HasLeaf (on_leaf f r)
+changed-leaf f r h = (f h.0, ap (option_map f) h.1)
+
+pub told-leaf : (bytes : List ℕ) (purpose : Purpose) → IsOfLeaf purpose → (p : Point) (text : Option Text) (r : Reading) →
+    HasLeaf r → HasLeaf (told_at bytes purpose p text r)
+told-leaf bytes purpose h p None r leaf = leaf
+told-leaf bytes AsParagraph h p (Some text) r leaf = absurd h
+told-leaf bytes AsDigits h p (Some text) r leaf = absurd h
+told-leaf bytes AsItemMarker h p (Some text) r leaf = absurd h
+told-leaf bytes AsFootnoteLabel h p (Some text) r leaf = absurd h
+told-leaf bytes purpose h p (Some text) r leaf =
+    changed-leaf (noted purpose (record { spaces = text.spaces; text = text_to bytes p.index text }))
+    (record r { text = None }) leaf
+
+pub ending-leaf : (bytes : List ℕ) (p : Point) (text : Option Text) (r : Reading) → HasLeaf r →
+    HasLeaf (at_ending bytes p text r)
+ending-leaf bytes p (Some text) r leaf = leaf
+ending-leaf bytes p None r leaf = go (nat_lt p.index (length bytes))
+  where
+    go : (x : Bool) → HasLeaf (if x then on_leaf next_line r else r)
+    go true = changed-leaf next_line r leaf
+    go false = leaf
+
+-- the parts of a leaf block leave it open
+pub part-leaf : (bytes : List ℕ) (kind : Kind) (x : Role) (p : Point) → IsPart x → (r : Reading) → HasLeaf r →
+    HasLeaf (read_by bytes kind x p r)
+part-leaf bytes kind (Holds shape) p h r leaf = absurd h
+part-leaf bytes kind (Opens k) p h r leaf = absurd h
+part-leaf bytes Enter (Tells purpose) p h r leaf = leaf
+part-leaf bytes Exit (Tells purpose) p h r leaf = told-leaf bytes purpose h p r.text r leaf
+part-leaf bytes Enter IsFence p h r leaf = changed-leaf at_fence r leaf
+part-leaf bytes Exit IsFence p h r leaf = leaf
+part-leaf bytes Enter IsTitle p h r leaf = changed-leaf at_title r leaf
+part-leaf bytes Exit IsTitle p h r leaf = changed-leaf behind_title r leaf
+part-leaf bytes Enter IsRow p h r leaf = changed-leaf at_row r leaf
+part-leaf bytes Exit IsRow p h r leaf = leaf
+part-leaf bytes Enter IsCell p h r leaf = changed-leaf at_cell r leaf
+part-leaf bytes Exit IsCell p h r leaf = leaf
+part-leaf bytes Enter IsPrefix p h r leaf = leaf
+part-leaf bytes Exit IsPrefix p h r leaf = leaf
+part-leaf bytes Enter IsEnding p h r leaf = leaf
+part-leaf bytes Exit IsEnding p h r leaf = ending-leaf bytes p r.text r leaf
+part-leaf bytes Enter IsQuiet p h r leaf = leaf
+part-leaf bytes Exit IsQuiet p h r leaf = leaf
+
+pub leaf-part : (bytes : List ℕ) (kind : Kind) (x : Role) (p : Point) (ls : List OpenList) (r : Reading)
+    (ahead other : ℕ) (next now : Option ℕ) (held : List Bool) → IsPart x →
+    Known bytes (record { held = held; inner = InLeaf }) None ls r other now →
+    Stepped bytes kind x p None ls r ahead next held (record { held = held; inner = InLeaf })
+leaf-part bytes kind x p ls r ahead other next now held h known =
+    passed bytes kind x p None ls r ahead next held InLeaf (part-passes kind x h) known.agree known.lists
+    (part-leaf bytes kind x p h r known.inner)
+
+pub leaf-begin : (bytes : List ℕ) (x : Role) (p : Point) (ls : List OpenList) (r : Reading) (ahead other : ℕ)
+    (next now : Option ℕ) (held : List Bool) → MayBegin bytes p InLeaf x →
+    Known bytes (record { held = held; inner = InLeaf }) None ls r other now →
+    Stepped bytes Enter x p None ls r ahead next held
+    (site_after (record { held = held; inner = InLeaf }) Enter x p)
+leaf-begin bytes (Holds shape) p ls r ahead other next now held may known = absurd may
+leaf-begin bytes x p ls r ahead other next now held may known =
+    leaf-part bytes Enter x p ls r ahead other next now held may known
+
+pub leaf-other : (leaf : OpenLeaf) → IsOther (block_of leaf)
+leaf-other BreakLeaf = tt
+leaf-other _ = tt
+
+pub leaf-grouped : (leaf : OpenLeaf) → grouped_block (block_of leaf) ≡ block_of leaf
+leaf-grouped BreakLeaf = refl
+leaf-grouped _ = refl
+
+-- a block is added that is neither a list nor an item, and holds none
+pub added : (bytes : List ℕ) (x : Role) (p : Point) (ls : List OpenList) (r : Reading) (ahead : ℕ) (next : Option ℕ)
+    (held : List Bool) (block : Block) (leaf : Option OpenLeaf) (text : Option Text) → turn Exit x ≡ Stays →
+    IsOther block → grouped_block block ≡ block → Agree held ls r.outer → NoLists r.here →
+    ((outer : List Around) (here : Blocks) →
+    read_by bytes Exit x p (moved r outer here) ≡ fields outer (then_block here block) leaf text) →
+    Stepped bytes Exit x p None ls r ahead next held (record { held = held; inner = AmongBlocks })
+added bytes x p ls r ahead next held block leaf text stays other same agree lists reads =
+    let there : read_by bytes Exit x p r ≡ fields r.outer (then_block r.here block) leaf text =
+    reads r.outer r.here in
+    record {
+      lists = ls;
+      within = None;
+      place = ap (λ (t : Turn). place_by t (place_of None ls) ahead next) stays;
+      reads =
+          ap
+          (λ (t : Turn).
+          read_turn t (place_of None ls) ahead next (read_by bytes Exit x p) (as_listed None held ls r))
+          stays
+          ∙ reads (outer_by held ls r.outer) (grouped r.here)
+          ∙ ap (λ (b : Block). fields (outer_by held ls r.outer) (then_block (grouped r.here) b) leaf text) (sym same)
+          ∙ ap (λ (b : Blocks). fields (outer_by held ls r.outer) b leaf text)
+          (sym (grouped-other r.here block other))
+          ∙ ap (as_listed None held ls) (sym there);
+      known =
+          subst
+          (λ (s : Reading). Known bytes (record { held = held; inner = AmongBlocks }) None ls s ahead next)
+          (sym there)
+          (record {
+            agree = agree;
+            lists = no-lists-then r.here block lists (other-is-no-list block other);
+            inner = λ m e. other-apart r.here block lists other m;
+          });
+    }
+
+pub leaf-end : (bytes : List ℕ) (x : Role) (p : Point) (ls : List OpenList) (r : Reading) (ahead other : ℕ)
+    (next now : Option ℕ) (held : List Bool) → MayEnd held p InLeaf x →
+    Known bytes (record { held = held; inner = InLeaf }) None ls r other now →
+    Stepped bytes Exit x p None ls r ahead next held
+    (site_after (record { held = held; inner = InLeaf }) Exit x p)
+leaf-end bytes (Holds shape) p ls r ahead other next now held may known = absurd may
+leaf-end bytes (Opens kind) p ls r ahead other next now held may known =
+    added bytes (Opens kind) p ls r ahead next held (block_of known.inner.0) None r.text refl
+    (leaf-other known.inner.0) (leaf-grouped known.inner.0) known.agree known.lists
+    (λ outer here. ap (λ (l : Option OpenLeaf). finished l (moved r outer here)) known.inner.1)
+leaf-end bytes x p ls r ahead other next now held may known =
+    leaf-part bytes Exit x p ls r ahead other next now held may known
+
+-- In a paragraph.
+
+abbrev pub HasText : Reading → Type 0
+HasText r = (text : Text) × (r.text ≡ Some text)
+
+pub ending-text : (bytes : List ℕ) (p : Point) (text : Option Text) (r : Reading) → r.text ≡ text → HasText r →
+    HasText (at_ending bytes p text r)
+ending-text bytes p (Some text) r e h = h
+ending-text bytes p None r e h = absurd (let none : None ≡ Some h.0 = sym e ∙ h.1 in cc)
+
+pub between-text : (bytes : List ℕ) (kind : Kind) (x : Role) (p : Point) → IsBetween x → (r : Reading) → HasText r →
+    HasText (read_by bytes kind x p r)
+between-text bytes Enter IsPrefix p h r text =
+    (before_prefix bytes p text.0, ap (option_map (before_prefix bytes p)) text.1)
+between-text bytes Exit IsPrefix p h r text = (after_prefix p text.0, ap (option_map (after_prefix p)) text.1)
+between-text bytes Enter IsEnding p h r text = text
+between-text bytes Exit IsEnding p h r text = ending-text bytes p r.text r refl text
+between-text bytes Enter IsQuiet p h r text = text
+between-text bytes Exit IsQuiet p h r text = text
+between-text bytes kind _ p h r text = absurd h
+
+pub paragraph-between : (bytes : List ℕ) (kind : Kind) (x : Role) (p : Point) (ls : List OpenList) (r : Reading)
+    (ahead other : ℕ) (next now : Option ℕ) (held : List Bool) → IsBetween x →
+    Known bytes (record { held = held; inner = InParagraph }) None ls r other now →
+    Stepped bytes kind x p None ls r ahead next held (record { held = held; inner = InParagraph })
+paragraph-between bytes kind x p ls r ahead other next now held h known =
+    passed bytes kind x p None ls r ahead next held InParagraph (between-passes kind x h) known.agree known.lists
+    (between-text bytes kind x p h r known.inner)
+
+pub paragraph-begin : (bytes : List ℕ) (x : Role) (p : Point) (ls : List OpenList) (r : Reading) (ahead other : ℕ)
+    (next now : Option ℕ) (held : List Bool) → MayBegin bytes p InParagraph x →
+    Known bytes (record { held = held; inner = InParagraph }) None ls r other now →
+    Stepped bytes Enter x p None ls r ahead next held
+    (site_after (record { held = held; inner = InParagraph }) Enter x p)
+paragraph-begin bytes IsPrefix p ls r ahead other next now held may known =
+    paragraph-between bytes Enter IsPrefix p ls r ahead other next now held tt known
+paragraph-begin bytes IsEnding p ls r ahead other next now held may known =
+    paragraph-between bytes Enter IsEnding p ls r ahead other next now held tt known
+paragraph-begin bytes IsQuiet p ls r ahead other next now held may known =
+    paragraph-between bytes Enter IsQuiet p ls r ahead other next now held tt known
+paragraph-begin bytes _ p ls r ahead other next now held may known = absurd may
+
+pub paragraph-end : (bytes : List ℕ) (x : Role) (p : Point) (ls : List OpenList) (r : Reading) (ahead other : ℕ)
+    (next now : Option ℕ) (held : List Bool) → MayEnd held p InParagraph x →
+    Known bytes (record { held = held; inner = InParagraph }) None ls r other now →
+    Stepped bytes Exit x p None ls r ahead next held
+    (site_after (record { held = held; inner = InParagraph }) Exit x p)
+paragraph-end bytes (Tells AsParagraph) p ls r ahead other next now held may known =
+    added bytes (Tells AsParagraph) p ls r ahead next held
+    (Paragraph (trim_each (split_lines (text_to bytes p.index known.inner.0)))) r.leaf None refl tt refl
+    known.agree known.lists
+    (λ outer here. ap (λ (t : Option Text). told_at bytes AsParagraph p t (moved r outer here)) known.inner.1)
+paragraph-end bytes IsPrefix p ls r ahead other next now held may known =
+    paragraph-between bytes Exit IsPrefix p ls r ahead other next now held tt known
+paragraph-end bytes IsEnding p ls r ahead other next now held may known =
+    paragraph-between bytes Exit IsEnding p ls r ahead other next now held tt known
+paragraph-end bytes IsQuiet p ls r ahead other next now held may known =
+    paragraph-between bytes Exit IsQuiet p ls r ahead other next now held tt known
+paragraph-end bytes _ p ls r ahead other next now held may known = absurd may

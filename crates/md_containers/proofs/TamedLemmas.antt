@@ -1,0 +1,294 @@
+-- What may still come in a part, as far as lists and items matter: in a container, where one is among its blocks; in all
+-- else, no list.
+use Rattle.std.proofs.Common.{◌≡◌, Bool, true, false, cond, ◌&&◌, ◌||◌, not, List, [], ◌∷◌, refl, ap, sym, ◌∙◌, ◌⊎◌, inl, inr}
+use Rattle.std.specs.List.{list_any}
+use Rattle.std.proofs.lemmas.Bool.{and_from, and_parts, not-true}
+use Rattle.md_engine.specs.declared.event.Name.{Name}
+use Rattle.md_engine.specs.declared.event.Name.TheVariants as n
+use Rattle.md_containers.specs.Unlisted.{in_place}
+use Rattle.md_seam.specs.Events.Grammar.{Expression, Many, Never, Nothing, One, Or, Then, and_then, behind, behind_block}
+use Rattle.md_seam.specs.Events.Grammar.{blocks, inside, may_end, one, or_else, white}
+use Rattle.md_seam.specs.Events.Names.{same_name}
+
+-- Containers.
+
+-- Where one is in a container: before its prefix or in front of it, at the begin of a line or behind it; in a text, in
+-- front of a byte order mark, of frontmatter or of both; or where nothing may come.
+pub data Stage : Type 0 where
+  QuoteFront : Stage
+  QuotePrefix : Stage
+  ItemFront : Stage
+  ItemPrefix : Stage
+  NoteFront : Stage
+  NotePrefix : Stage
+  AtLine : Stage
+  BehindBlock : Stage
+  AtMark : Stage
+  AtFrontmatter : Stage
+  AtBoth : Stage
+  Dead : Stage
+
+abbrev pub left_at : Stage → Expression
+left_at QuoteFront = Then white (Then (one n.BlockQuotePrefix) blocks)
+left_at QuotePrefix = Then (one n.BlockQuotePrefix) blocks
+left_at ItemFront = Then white (Then (one n.ListItemPrefix) blocks)
+left_at ItemPrefix = Then (one n.ListItemPrefix) blocks
+left_at NoteFront = Then white (Then (one n.GfmFootnoteDefinitionPrefix) blocks)
+left_at NotePrefix = Then (one n.GfmFootnoteDefinitionPrefix) blocks
+left_at AtLine = blocks
+left_at BehindBlock = behind_block
+left_at AtMark = Then (one n.ByteOrderMark) blocks
+left_at AtFrontmatter = Then (one n.Frontmatter) behind_block
+left_at AtBoth = Then (one n.ByteOrderMark) (Then (one n.Frontmatter) behind_block)
+left_at Dead = Never
+
+stage-behind : (s : Stage) (name : Name) → (t : Stage) × (behind name (left_at s) ≡ left_at t)
+stage-behind QuoteFront n.SpaceOrTab = (QuotePrefix, refl)
+stage-behind QuoteFront n.BlockQuotePrefix = (AtLine, refl)
+stage-behind QuoteFront _ = (Dead, refl)
+stage-behind QuotePrefix n.BlockQuotePrefix = (AtLine, refl)
+stage-behind QuotePrefix _ = (Dead, refl)
+stage-behind ItemFront n.SpaceOrTab = (ItemPrefix, refl)
+stage-behind ItemFront n.ListItemPrefix = (AtLine, refl)
+stage-behind ItemFront _ = (Dead, refl)
+stage-behind ItemPrefix n.ListItemPrefix = (AtLine, refl)
+stage-behind ItemPrefix _ = (Dead, refl)
+stage-behind NoteFront n.SpaceOrTab = (NotePrefix, refl)
+stage-behind NoteFront n.GfmFootnoteDefinitionPrefix = (AtLine, refl)
+stage-behind NoteFront _ = (Dead, refl)
+stage-behind NotePrefix n.GfmFootnoteDefinitionPrefix = (AtLine, refl)
+stage-behind NotePrefix _ = (Dead, refl)
+stage-behind AtLine n.SpaceOrTab = (AtLine, refl)
+stage-behind AtLine n.BlockQuotePrefix = (AtLine, refl)
+stage-behind AtLine n.LineEnding = (AtLine, refl)
+stage-behind AtLine n.BlankLineEnding = (AtLine, refl)
+stage-behind AtLine n.BlockQuote = (BehindBlock, refl)
+stage-behind AtLine n.ListOrdered = (BehindBlock, refl)
+stage-behind AtLine n.ListUnordered = (BehindBlock, refl)
+stage-behind AtLine n.GfmFootnoteDefinition = (BehindBlock, refl)
+stage-behind AtLine n.HeadingAtx = (BehindBlock, refl)
+stage-behind AtLine n.HeadingSetext = (BehindBlock, refl)
+stage-behind AtLine n.ThematicBreak = (BehindBlock, refl)
+stage-behind AtLine n.CodeIndented = (BehindBlock, refl)
+stage-behind AtLine n.CodeFenced = (BehindBlock, refl)
+stage-behind AtLine n.MathFlow = (BehindBlock, refl)
+stage-behind AtLine n.HtmlFlow = (BehindBlock, refl)
+stage-behind AtLine n.Definition = (BehindBlock, refl)
+stage-behind AtLine n.Paragraph = (BehindBlock, refl)
+stage-behind AtLine n.GfmTable = (BehindBlock, refl)
+stage-behind AtLine _ = (Dead, refl)
+stage-behind BehindBlock n.LineEnding = (AtLine, refl)
+stage-behind BehindBlock n.BlankLineEnding = (AtLine, refl)
+stage-behind BehindBlock _ = (Dead, refl)
+stage-behind AtMark n.ByteOrderMark = (AtLine, refl)
+stage-behind AtMark _ = (Dead, refl)
+stage-behind AtFrontmatter n.Frontmatter = (BehindBlock, refl)
+stage-behind AtFrontmatter _ = (Dead, refl)
+stage-behind AtBoth n.ByteOrderMark = (AtFrontmatter, refl)
+stage-behind AtBoth _ = (Dead, refl)
+stage-behind Dead name = (Dead, refl)
+
+-- All else.
+
+abbrev is_listing : Name → Bool
+is_listing n.ListItem = true
+is_listing n.ListOrdered = true
+is_listing n.ListUnordered = true
+is_listing _ = false
+
+-- no list and no item may come
+abbrev pub is_plain : Expression → Bool
+is_plain Never = true
+is_plain Nothing = true
+is_plain (One names) = not (list_any is_listing names)
+is_plain (Then x y) = is_plain x && is_plain y
+is_plain (Or x y) = is_plain x && is_plain y
+is_plain (Many x) = is_plain x
+
+plain-and_then : (x y : Expression) → is_plain x ≡ true → is_plain y ≡ true → is_plain (and_then x y) ≡ true
+plain-and_then Never y h k = refl
+plain-and_then Nothing y h k = k
+plain-and_then (One names) y h k = and_from (is_plain (One names)) (is_plain y) h k
+plain-and_then (Then a b) y h k = and_from (is_plain (Then a b)) (is_plain y) h k
+plain-and_then (Or a b) y h k = and_from (is_plain (Or a b)) (is_plain y) h k
+plain-and_then (Many a) y h k = and_from (is_plain (Many a)) (is_plain y) h k
+
+plain-or : (x y : Expression) → is_plain x ≡ true → is_plain y ≡ true → is_plain (Or x y) ≡ true
+plain-or x y h k = and_from (is_plain x) (is_plain y) h k
+
+plain-or_else : (x y : Expression) → is_plain x ≡ true → is_plain y ≡ true → is_plain (or_else x y) ≡ true
+plain-or_else Never y h k = k
+plain-or_else Nothing Never h k = h
+plain-or_else Nothing Nothing h k = refl
+plain-or_else Nothing (One names) h k = plain-or Nothing (One names) h k
+plain-or_else Nothing (Then a b) h k = plain-or Nothing (Then a b) h k
+plain-or_else Nothing (Or a b) h k = plain-or Nothing (Or a b) h k
+plain-or_else Nothing (Many a) h k = plain-or Nothing (Many a) h k
+plain-or_else (One names) Never h k = h
+plain-or_else (One names) Nothing h k = plain-or (One names) Nothing h k
+plain-or_else (One names) (One more) h k = plain-or (One names) (One more) h k
+plain-or_else (One names) (Then a b) h k = plain-or (One names) (Then a b) h k
+plain-or_else (One names) (Or a b) h k = plain-or (One names) (Or a b) h k
+plain-or_else (One names) (Many a) h k = plain-or (One names) (Many a) h k
+plain-or_else (Then x y) Never h k = h
+plain-or_else (Then x y) Nothing h k = plain-or (Then x y) Nothing h k
+plain-or_else (Then x y) (One names) h k = plain-or (Then x y) (One names) h k
+plain-or_else (Then x y) (Then a b) h k = plain-or (Then x y) (Then a b) h k
+plain-or_else (Then x y) (Or a b) h k = plain-or (Then x y) (Or a b) h k
+plain-or_else (Then x y) (Many a) h k = plain-or (Then x y) (Many a) h k
+plain-or_else (Or x y) Never h k = h
+plain-or_else (Or x y) Nothing h k = plain-or (Or x y) Nothing h k
+plain-or_else (Or x y) (One names) h k = plain-or (Or x y) (One names) h k
+plain-or_else (Or x y) (Then a b) h k = plain-or (Or x y) (Then a b) h k
+plain-or_else (Or x y) (Or a b) h k = plain-or (Or x y) (Or a b) h k
+plain-or_else (Or x y) (Many a) h k = plain-or (Or x y) (Many a) h k
+plain-or_else (Many x) Never h k = h
+plain-or_else (Many x) Nothing h k = plain-or (Many x) Nothing h k
+plain-or_else (Many x) (One names) h k = plain-or (Many x) (One names) h k
+plain-or_else (Many x) (Then a b) h k = plain-or (Many x) (Then a b) h k
+plain-or_else (Many x) (Or a b) h k = plain-or (Many x) (Or a b) h k
+plain-or_else (Many x) (Many a) h k = plain-or (Many x) (Many a) h k
+
+plain-if : (b : Bool) (x : Expression) → is_plain x ≡ true → is_plain (cond b x Never) ≡ true
+plain-if true x h = h
+plain-if false x h = refl
+
+plain-one : (b : Bool) → is_plain (cond b Nothing Never) ≡ true
+plain-one true = refl
+plain-one false = refl
+
+plain-behind : (name : Name) (x : Expression) → is_plain x ≡ true → is_plain (behind name x) ≡ true
+plain-behind name Never h = refl
+plain-behind name Nothing h = refl
+plain-behind name (One names) h = plain-one (list_any (same_name name) names)
+plain-behind name (Then x y) h =
+    let two = and_parts (is_plain x) (is_plain y) h in
+    plain-or_else (and_then (behind name x) y) (cond (may_end x) (behind name y) Never)
+    (plain-and_then (behind name x) y (plain-behind name x two.0) two.1)
+    (plain-if (may_end x) (behind name y) (plain-behind name y two.1))
+plain-behind name (Or x y) h =
+    let two = and_parts (is_plain x) (is_plain y) h in
+    plain-or_else (behind name x) (behind name y) (plain-behind name x two.0) (plain-behind name y two.1)
+plain-behind name (Many x) h = plain-and_then (behind name x) (Many x) (plain-behind name x h) h
+
+-- a name of a list, or of an item
+abbrev pub IsListing : Name → Type 0
+IsListing n.ListItem = Unit {0}
+IsListing n.ListOrdered = Unit {0}
+IsListing n.ListUnordered = Unit {0}
+IsListing _ = ⊥
+
+no-listing : (name : Name) → is_listing name ≡ false →
+    (same_name n.ListItem name ≡ false) × (same_name n.ListOrdered name ≡ false)
+    × (same_name n.ListUnordered name ≡ false)
+no-listing n.ListItem h = cc
+no-listing n.ListOrdered h = cc
+no-listing n.ListUnordered h = cc
+no-listing _ h = (refl, refl, refl)
+
+or-parts : (a b : Bool) → not (a || b) ≡ true → (a ≡ false) × (not b ≡ true)
+or-parts true b h = absurd (cc)
+or-parts false b h = (refl, h)
+
+or-both : (a b : Bool) → a ≡ false → b ≡ false → (a || b) ≡ false
+or-both true b h k = h
+or-both false b h k = k
+
+listing-any : (l : Name) → IsListing l → (names : List Name) → not (list_any is_listing names) ≡ true →
+    list_any (same_name l) names ≡ false
+listing-any l is [] h = refl
+listing-any l is (name ∷ names) h =
+    let two = or-parts (is_listing name) (list_any is_listing names) h in
+    or-both (same_name l name) (list_any (same_name l) names) (go l is (no-listing name two.0))
+    (listing-any l is names two.1)
+  where
+    go : (l : Name) → IsListing l →
+        (same_name n.ListItem name ≡ false) × (same_name n.ListOrdered name ≡ false)
+        × (same_name n.ListUnordered name ≡ false) → same_name l name ≡ false
+    go n.ListItem is k = k.0
+    go n.ListOrdered is k = k.1
+    go n.ListUnordered is k = k.2
+    go _ is k = absurd is
+
+never-then : (x y : Expression) → x ≡ Never → and_then x y ≡ Never
+never-then x y h = ap (λ (z : Expression). and_then z y) h
+
+never-if : (b : Bool) (x : Expression) → x ≡ Never → cond b x Never ≡ Never
+never-if true x h = h
+never-if false x h = refl
+
+never-or : (x y : Expression) → x ≡ Never → y ≡ Never → or_else x y ≡ Never
+never-or x y h k = ap (λ (z : Expression). or_else z y) h ∙ k
+
+-- where no list may come, none does
+plain-never : (l : Name) → IsListing l → (x : Expression) → is_plain x ≡ true → behind l x ≡ Never
+plain-never l is Never h = refl
+plain-never l is Nothing h = refl
+plain-never l is (One names) h = ap (λ (b : Bool). cond b Nothing Never) (listing-any l is names h)
+plain-never l is (Then x y) h =
+    let two = and_parts (is_plain x) (is_plain y) h in
+    never-or (and_then (behind l x) y) (cond (may_end x) (behind l y) Never)
+    (never-then (behind l x) y (plain-never l is x two.0))
+    (never-if (may_end x) (behind l y) (plain-never l is y two.1))
+plain-never l is (Or x y) h =
+    let two = and_parts (is_plain x) (is_plain y) h in
+    never-or (behind l x) (behind l y) (plain-never l is x two.0) (plain-never l is y two.1)
+plain-never l is (Many x) h = never-then (behind l x) (Many x) (plain-never l is x h)
+
+-- Both.
+
+abbrev pub IsTame : Expression → Type 0
+IsTame x = ((s : Stage) × (x ≡ left_at s)) ⊎ (is_plain x ≡ true)
+
+pub tame-behind : (name : Name) (x : Expression) → IsTame x → IsTame (behind name x)
+tame-behind name x (inl h) =
+    let next = stage-behind h.0 name in inl (next.0, ap (behind name) h.1 ∙ next.1)
+tame-behind name x (inr h) = inr (plain-behind name x h)
+
+-- where a list comes, blocks of a container go on behind it; and an item stands in none
+abbrev pub ListsWell : Expression → Type 0
+ListsWell x =
+    ((behind n.ListOrdered x ≡ behind_block) ⊎ (behind n.ListOrdered x ≡ Never))
+    × (behind n.ListUnordered x ≡ behind n.ListOrdered x) × (behind n.ListItem x ≡ Never)
+
+stage-lists : (s : Stage) → ListsWell (left_at s)
+stage-lists AtLine = (inl refl, refl, refl)
+stage-lists _ = (inr refl, refl, refl)
+
+pub tame-lists : (x : Expression) → IsTame x → ListsWell x
+tame-lists x (inl h) =
+    let well : ListsWell (left_at h.0) = stage-lists h.0 in
+    (
+      moved well.0,
+      ap (behind n.ListUnordered) h.1 ∙ well.1 ∙ ap (behind n.ListOrdered) (sym h.1),
+      ap (behind n.ListItem) h.1 ∙ well.2,
+    )
+  where
+    moved : (behind n.ListOrdered (left_at h.0) ≡ behind_block) ⊎ (behind n.ListOrdered (left_at h.0) ≡ Never) →
+        (behind n.ListOrdered x ≡ behind_block) ⊎ (behind n.ListOrdered x ≡ Never)
+    moved (inl k) = inl (ap (behind n.ListOrdered) h.1 ∙ k)
+    moved (inr k) = inr (ap (behind n.ListOrdered) h.1 ∙ k)
+tame-lists x (inr h) =
+    let none : behind n.ListOrdered x ≡ Never = plain-never n.ListOrdered tt x h in
+    (inr none, plain-never n.ListUnordered tt x h ∙ sym none, plain-never n.ListItem tt x h)
+
+-- what stands in a part that is no list is so
+pub tame-inside : (text : Expression) → is_plain text ≡ true → (name : Name) →
+    IsTame (inside text name) ⊎ (in_place name ≡ n.ListItem)
+tame-inside text h n.BlockQuote = inl (inl (QuoteFront, refl))
+tame-inside text h n.ListItem = inl (inl (ItemFront, refl))
+tame-inside text h n.GfmFootnoteDefinition = inl (inl (NoteFront, refl))
+tame-inside text h n.ListOrdered = inr refl
+tame-inside text h n.ListUnordered = inr refl
+tame-inside text h n.GfmFootnoteDefinitionLabelString = inl (inr h)
+tame-inside text h n.HeadingAtxText = inl (inr h)
+tame-inside text h n.HeadingSetextText = inl (inr h)
+tame-inside text h n.CodeFencedFenceInfo = inl (inr h)
+tame-inside text h n.CodeFencedFenceMeta = inl (inr h)
+tame-inside text h n.MathFlowFenceMeta = inl (inr h)
+tame-inside text h n.DefinitionLabelString = inl (inr h)
+tame-inside text h n.DefinitionDestinationString = inl (inr h)
+tame-inside text h n.DefinitionTitleString = inl (inr h)
+tame-inside text h n.Paragraph = inl (inr h)
+tame-inside text h n.GfmTableCellText = inl (inr h)
+tame-inside text h _ = inl (inr refl)
