@@ -1,4 +1,4 @@
-use Rattle.std.proofs.Common.{◌≡◌, ◌+◌, ◌∙◌, List, ap, arith, drop, get_or, sym, true}
+use Rattle.std.proofs.Common.{◌≡◌, ◌∙◌, List, arith, drop, get_or, sym, true}
 use Rattle.std.specs.List.{prefix_len}
 use Rattle.std.specs.Prelude.{None}
 use Rattle.md_engine.specs.declared.event.Event.{Event}

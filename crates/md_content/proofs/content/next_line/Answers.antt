@@ -1,4 +1,4 @@
-use Rattle.std.proofs.Common.{◌≡◌, ◌+◌, ◌-◌, ◌<◌, ◌∙◌, List, ap, arith, drop, false, get_or, length, length-drop, refl, true}
+use Rattle.std.proofs.Common.{◌≡◌, ◌+◌, ◌-◌, List, arith, drop, false, get_or, length, length-drop, refl, true}
 use Rattle.std.specs.Prelude.{None}
 use Rattle.md_engine.specs.declared.event.Event.{Event}
 use Rattle.md_engine.specs.declared.event.Kind.TheVariants.{Enter}
