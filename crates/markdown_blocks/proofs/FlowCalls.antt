@@ -15,9 +15,10 @@ use Rattle.markdown_blocks.proofs.States.{flow_does}
 -- each keeps what the table needs
 pub flow-keeps : (is_name : ResolveName → ResolveName → Bool) → EachKeeps (FlowStep is_name) flow_table_scheme
 flow-keeps is_name name w to new seen at step =
-    let does = flow_does is_name name w seen at in
-    (does-stands flow_table_scheme name w (flow_transition is_name name w) to new step.to_is step.new_is does,
-    does-fall flow_table_scheme name w (flow_transition is_name name w) to new step.to_is step.new_is does)
+    let does = flow_does is_name name w seen at in (
+      does-stands flow_table_scheme name w (flow_transition is_name name w) to new step.to_is step.new_is does,
+      does-fall flow_table_scheme name w (flow_transition is_name name w) to new step.to_is step.new_is does,
+    )
 
 -- those of a heading are calls of the table
 pub heading-flows : (is_name : ResolveName → ResolveName → Bool) (name : StateName) (w : World) (to : State)

@@ -36,9 +36,7 @@ use md_engine::state::{Name as StateName, State};
 use md_engine::stay::Stay;
 use md_engine::subtokenize::Subresult;
 use md_engine::tokenizer::{HeldLeaf, Tokenizer};
-use md_seam::space_or_tab::{
-    is_one_space, is_space_or_tab, space_or_tab, take_one_space,
-};
+use md_seam::space_or_tab::{is_one_space, is_space_or_tab, space_or_tab, take_one_space};
 
 /// An opening sequence has at most so many `#`.
 const OPENING: usize = 6;

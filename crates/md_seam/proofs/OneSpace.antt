@@ -1,8 +1,6 @@
 -- One space that is taken at once is what the states of whitespace take.
-use Rattle.std.proofs.Common.{◌≡◌, ℕ, ◌+◌, ◌<◌, ◌≤◌, Bool, true, false, ◌&&◌, nat_lt, List, ◌∷◌, ◌++◌, [], length, Option}
-use Rattle.std.proofs.Common.{Some, refl, sym, ◌∙◌, ap, arith}
-use Rattle.std.specs.List.{All}
-use Rattle.md_engine.specs.declared.event.Event.{Event}
+use Rattle.std.proofs.Common.{◌≡◌, Bool, true, false, ◌&&◌, nat_lt, ◌∷◌, [], length}
+use Rattle.std.proofs.Common.{refl, ◌∙◌, ap, arith}
 use Rattle.md_engine.specs.declared.event.Name.TheVariants.{SpaceOrTab}
 use Rattle.md_engine.specs.declared.state.Name.{Name as StateName}
 use Rattle.md_engine.specs.declared.state.Name.TheVariants as n
@@ -12,13 +10,12 @@ use Rattle.md_engine.specs.declared.state.State.{State}
 use Rattle.md_engine.specs.declared.state.State.TheVariants.{Nok, Next, Ok, Retry}
 use Rattle.md_engine.specs.declared.tokenizer.Frame.{Frame}
 use Rattle.md_engine.specs.Run.{Step, reading}
-use Rattle.md_engine.specs.World.{World, after, looks, looks_at}
+use Rattle.md_engine.specs.World.{World, looks}
 use Rattle.md_engine.proofs.Loops.{CameTo}
 use Rattle.md_engine.proofs.Walks.{Within, then-holds, then-stays, then-takes, within-more, within-one}
 use Rattle.md_seam.specs.Events.Nested.{enter, exit}
 use Rattle.md_seam.specs.OneSpace.{IsOneSpace, spaced}
 use Rattle.md_seam.specs.Spaces.{after_code, any_size, inside_code, sees_white, start_code, white_then, white_transition}
-use Rattle.md_seam.specs.Transition.{Transition, entered, exited}
 
 -- a table has the states of whitespace
 abbrev pub HasWhite : Step → Type 0

@@ -1,5 +1,5 @@
 -- One space between two parts of a line, taken at once.
-use Rattle.std.specs.Prelude.{◌≡◌, ◌<◌, ℕ, Option, Some, Bool, false}
+use Rattle.std.specs.Prelude.{◌≡◌, ◌<◌, Some, false}
 use Rattle.md_engine.specs.declared.event.Name.TheVariants.{SpaceOrTab}
 use Rattle.md_engine.specs.World.{World, after, looks, looks_at}
 use Rattle.md_seam.specs.Spaces.{calmed, sees_white}

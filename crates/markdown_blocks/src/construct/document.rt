@@ -9,8 +9,7 @@
 // paragraph, so that all containers stay open although not all went on (CommonMark 5.1, "laziness"). Else those that
 // did not go on end: their ends are put where the line before ended, in front of its ending.
 
-ghost use Rattle.std.specs.Prelude.{◌≡◌, ◌≢◌, ◌≤◌, length};
-ghost use Rattle.std.specs.Prelude.{◌≡◌, ◌≢◌, true};
+ghost use Rattle.std.specs.Prelude.{◌≡◌, ◌≢◌, ◌≤◌, length, true};
 ghost use Rattle.md_engine.specs.Going.{SeesOn};
 ghost use Rattle.md_engine.specs.Run.{RunsHere};
 ghost use Rattle.md_engine.specs.Scheme.{stands};
@@ -23,8 +22,7 @@ ghost use Rattle.markdown_blocks.specs.Flow.{existing_before_transition, flow_en
 ghost use Rattle.markdown_blocks.specs.Flow.{new_before_transition};
 ghost use Rattle.md_engine.specs.declared.tokenizer.container.name.ContainerKind.{ContainerKind};
 ghost use Rattle.markdown_blocks.specs.LineFlags.{asking, ended_on, ending_name, next_container, over_end, stays};
-ghost use Rattle.markdown_blocks.specs.LineFlags.{ending_name, next_container, stays};
-ghost use Rattle.markdown_blocks.specs.AtOnce.{GoesAtOnce};
+ghost use Rattle.markdown_blocks.specs.AtOnce.{GoesAtOnce, asking_next};
 ghost use Rattle.markdown_blocks.specs.States.{FlowStep};
 ghost use Rattle.md_engine.specs.declared.resolve.name.Name.{Name as ResolveName};
 ghost use Rattle.markdown_blocks.specs.HeldLeaf.{takes_lazy};
