@@ -31,7 +31,7 @@ use Rattle.md_seam.proofs.AheadLemmas.{none-end, none-rest}
 abbrev at : Here → List Event → Point → Scratch → Here
 at h front p s = record h { events = h.events ++ front; point = p; scratch = s }
 
-abbrev at_rest : Here → Here
+abbrev pub at_rest : Here → Here
 at_rest h = record h { scratch = REST }
 
 abbrev noted : Bool → Scratch

@@ -10,6 +10,7 @@ use Rattle.md_engine.specs.declared.event.Point.{Point}
 use Rattle.md_engine.specs.declared.tokenizer.Line.{Line}
 use Rattle.md_engine.specs.Meaning.{Cell}
 use Rattle.md_containers.proofs.ItemCells.{zero-end, zero-rest}
+use Rattle.md_containers.proofs.ItemSteps.{bullet-dark}
 use Rattle.md_containers.proofs.QuoteLines.{Step, White, column-step, step-append, white-none}
 use Rattle.md_definition.specs.Containers.{is_bullet}
 use Rattle.md_definition.specs.Leaves.{is_rule, is_rule_marker}
@@ -214,9 +215,6 @@ either-white false false = refl
 
 bullet-space : (b : ℕ) → is_bullet b ≡ true → (32 == b) ≡ false
 bullet-space b e = grind (arith, nat_tests)
-
-bullet-dark : (b : ℕ) → is_bullet b ≡ true → is_white b ≡ false
-bullet-dark b e = grind (arith, nat_tests)
 
 -- a bullet begins a break in the cells where it does in the bytes
 pub rule-spread : (line : Line) (b : ℕ) (bs : List ℕ) (p : Point) (stop : List Cell) → NoEnding (b ∷ bs) →

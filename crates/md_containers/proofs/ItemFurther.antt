@@ -13,14 +13,13 @@ use Rattle.md_engine.specs.Meaning.{Accepts, Cell, Here, Outcome, Refuses}
 use Rattle.md_containers.specs.Item.{item_gone_on, least_width}
 use Rattle.md_containers.specs.ItemPrefix.{item_by, item_further, item_indented, item_same}
 use Rattle.md_containers.specs.ItemRule.{indent_at, inside_indent, item_on}
+use Rattle.md_containers.proofs.ItemCells.{at_rest}
+use Rattle.md_seam.proofs.AheadLemmas.{none-size}
 use Rattle.md_definition.specs.Rest.{is_blank, is_white}
 use Rattle.md_seam.specs.Ahead.{begins_white, line_bytes, white_end, white_rest, white_size}
 use Rattle.md_seam.specs.Events.Nested.{enter, exit, pair}
 use Rattle.md_seam.specs.Look.{first_seen}
 use Rattle.md_seam.specs.Spaces.{IsRest, asking, ends_line}
-
-abbrev at_rest : Here → Here
-at_rest h = record h { scratch = REST }
 
 -- behind so many columns of an indent
 abbrev indented : ℕ → List Cell → Here → Outcome
@@ -98,6 +97,14 @@ blank-white [] e b = cc
 blank-white (c ∷ cs) e b =
     let on : is_white c.byte && is_blank (line_bytes cs) ≡ true = rw e at b in
     (and_parts (is_white c.byte) (is_blank (line_bytes cs)) on).0
+
+-- where columns are counted, whitespace comes first
+pub size-white : (m : ℕ) (cells : List Cell) → 1 ≤ white_size m cells → begins_white cells ≡ true
+size-white m cells some = go (begins_white cells) refl
+  where
+    go : (x : Bool) → begins_white cells ≡ x → x ≡ true
+    go true e = refl
+    go false e = let none = none-size m cells e in absurd (omega (arith, some, none))
 
 white-some : (w : ℕ) (cells : List Cell) → begins_white cells ≡ true → nat_le 1 (white_size (suc w) cells) ≡ true
 white-some w [] e = cc

@@ -363,7 +363,7 @@ good_cont_start T w false y has r e =
     })
 
 -- a column is asked for at least
-least-some : (c : Container) → (more : ℕ) × (least_width c ≡ suc more)
+pub least-some : (c : Container) → (more : ℕ) × (least_width c ≡ suc more)
 least-some c = go c.width
   where
     go : (width : ℕ) → (more : ℕ) × (cond (nat_eq width 0) 1 width ≡ suc more)

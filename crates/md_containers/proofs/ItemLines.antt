@@ -10,7 +10,7 @@ use Rattle.md_engine.specs.Meaning.{Cell}
 use Rattle.md_containers.specs.ItemPrefix.{ItemPassed, Padded, item_further, item_indented, item_same, padding}
 use Rattle.md_containers.specs.ItemPrefix.{padding_room}
 use Rattle.md_containers.proofs.ItemColumns.{HasLost, blank-cells, lose-walk}
-use Rattle.md_containers.proofs.ItemFurther.{blank-white}
+use Rattle.md_containers.proofs.ItemFurther.{blank-white, size-white}
 use Rattle.md_containers.proofs.QuoteLines.{White, white-none, white-walk}
 use Rattle.md_definition.specs.Containers.{Taken, item_continues, item_padding}
 use Rattle.md_definition.specs.Rest.{Rest, behind_indent, indent, is_blank, is_parted, is_white, lose}
@@ -22,7 +22,7 @@ use Rattle.md_seam.specs.Events.Nested.{pair}
 use Rattle.md_seam.specs.Events.Places.{past_byte, same_place}
 use Rattle.md_seam.specs.Look.{first_seen}
 use Rattle.md_seam.specs.Spaces.{ends_line}
-use Rattle.md_seam.proofs.AheadLemmas.{none-end, none-rest, none-size}
+use Rattle.md_seam.proofs.AheadLemmas.{none-end, none-rest}
 use Rattle.md_seam.proofs.FeedLines.{Stops, cell, columns_more, spread, tab_cells}
 use Rattle.md_seam.proofs.InlineLemmas.{same-refl}
 use Rattle.md_seam.proofs.RestCells.{RestAt, bare-cells, indent-over, indent-taken, lose-no_ending}
@@ -58,14 +58,6 @@ apart-pair p q e = sym (ap (λ (t : Bool). cond t [] (pair n.SpaceOrTab p q)) e)
 
 pub same-none : (p : Point) → pair_unless_empty n.SpaceOrTab p p ≡ []
 same-none p = ap (λ (t : Bool). cond t [] (pair n.SpaceOrTab p p)) (same-refl p)
-
--- where columns are counted, whitespace comes first
-size-white : (m : ℕ) (cells : List Cell) → 1 ≤ white_size m cells → begins_white cells ≡ true
-size-white m cells some = go (begins_white cells) refl
-  where
-    go : (x : Bool) → begins_white cells ≡ x → x ≡ true
-    go true e = refl
-    go false e = let none = none-size m cells e in absurd (omega (arith, some, none))
 
 -- where the line ends here, nothing but its end is left
 ended-dark : (cells : List Cell) → ends_line (first_seen cells) ≡ true → begins_white cells ≡ false

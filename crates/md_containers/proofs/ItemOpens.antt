@@ -24,6 +24,7 @@ use Rattle.md_containers.proofs.ItemDigits.{starts-stop}
 use Rattle.md_containers.proofs.ItemLines.{ItemAgrees, LeavesRest}
 use Rattle.md_containers.proofs.ItemMarker.{HasItemMarker, marked-agrees}
 use Rattle.md_containers.proofs.ItemShorter.{digits-length}
+use Rattle.md_containers.proofs.ItemSteps.{bullet-dark}
 use Rattle.md_containers.proofs.QuoteLines.{White, large-room, small-room, white-walk}
 use Rattle.md_definition.specs.Containers.{Marker, Taken, is_bullet, is_digit, item_by, item_with, list_marker}
 use Rattle.md_definition.specs.Containers.{marker_behind, may_interrupt, opens_item}
@@ -79,9 +80,6 @@ pub record HasItem (line : Line) (text past : List ℕ) (bytes : List ℕ) (p : 
   pub white : White text (past_byte byte (past_text digits p)) passed.point
 
 -- Bytes.
-
-bullet-dark : (b : ℕ) → is_bullet b ≡ true → is_white b ≡ false
-bullet-dark b e = grind (arith, nat_tests)
 
 ends-dark : (b : ℕ) → ends_value b ≡ true → is_white b ≡ false
 ends-dark b e = grind (arith, nat_tests)
@@ -182,15 +180,15 @@ numbered-none : (interrupting : Bool) (p : Point) (digits : List ℕ) (size : �
 numbered-none interrupting p digits size front [] q e = refl
 numbered-none interrupting p digits size front (c ∷ cs) q e = rw e refl
 
-late : (x y : Bool) (t : Taken) → cond (x && true && false) (Some t) None ≡ None
-late true y t = refl
-late false y t = refl
+late : (x : Bool) (t : Taken) → cond (x && true && false) (Some t) None ≡ None
+late true t = refl
+late false t = refl
 
 -- what the definition has where text is not interrupted
 refused-by : (options : ParseOptions) (before : ℕ) (from after : Rest) (marker : Marker) →
     options.constructs.thematic_break && is_rule from.bytes ≡ false → may_interrupt marker after ≡ false →
     item_with options true before from after marker ≡ None
-refused-by options before from after marker e f = rw (e, f) (late (is_parted after.bytes) true _)
+refused-by options before from after marker e f = rw (e, f) (late (is_parted after.bytes) _)
 
 and-false : (x : Bool) → (x && false) ≡ false
 and-false true = refl

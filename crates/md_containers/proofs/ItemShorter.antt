@@ -1,11 +1,21 @@
 -- A list item is refused, or takes a cell at least; on a further line where that does not end.
 use Rattle.std.proofs.Common.{◌≡◌, ℕ, zero, suc, ◌+◌, ◌-◌, ◌<◌, ◌≤◌, Bool, true, false, cond, not, ◌&&◌, ◌||◌, nat_eq, nat_lt}
-use Rattle.std.proofs.Common.{List, [], ◌∷◌, length, arith}
+use Rattle.std.proofs.Common.{List, [], ◌∷◌, ◌++◌, length, Option, Some, None, ap, arith, refl}
 use Rattle.std.specs.Prelude.{nat_le}
+use Rattle.std.proofs.lemmas.Bool.Decides.{nat_tests}
 use Rattle.md_engine.specs.declared.configuration.ParseOptions.{ParseOptions}
+use Rattle.md_engine.specs.declared.event.Event.{Event}
+use Rattle.md_engine.specs.declared.event.Name.TheVariants.{ListItem, ListItemMarker, ListItemPrefix, ListItemValue}
+use Rattle.md_engine.specs.declared.event.Point.{Point}
 use Rattle.md_engine.specs.Meaning.{Cell, Here}
 use Rattle.md_containers.specs.Interrupts.{interrupts}
 use Rattle.md_containers.specs.Item.{ends_value, is_item_marker, least_width}
+use Rattle.md_containers.specs.ItemPrefix.{ItemPassed, Padded, digits_of, item_behind, item_closed, item_further}
+use Rattle.md_containers.specs.ItemPrefix.{item_indented, item_marked, item_new, item_numbered, item_padded}
+use Rattle.md_containers.specs.ItemPrefix.{item_valued, padding, padding_room}
+use Rattle.md_containers.specs.QuoteRule.{indent_events}
+use Rattle.md_containers.specs.ItemRule.{digits_end, digits_size}
+use Rattle.md_containers.proofs.ItemFurther.{blank-white, size-white}
 use Rattle.md_containers.specs.ItemRule.{at_bullet, at_marker, at_value, behind_indent, behind_marker, behind_prefix}
 use Rattle.md_containers.specs.ItemRule.{behind_value, digits_rest, filled_at, in_value, indent_at, inside_indent}
 use Rattle.md_containers.specs.ItemRule.{item_at, item_on, one_column}
@@ -14,7 +24,8 @@ use Rattle.md_definition.specs.Containers.{is_bullet, is_digit}
 use Rattle.md_definition.specs.Leaves.{is_rule}
 use Rattle.md_definition.specs.Rest.{is_blank, is_white}
 use Rattle.md_leaves.specs.LeafStart.{start_at}
-use Rattle.md_seam.specs.Ahead.{begins_white, line_bytes, white_rest, white_size}
+use Rattle.md_seam.specs.Ahead.{begins_white, line_bytes, white_end, white_rest, white_size}
+use Rattle.md_seam.specs.Events.Nested.{enter, pair}
 use Rattle.md_seam.specs.Look.{first_seen}
 use Rattle.md_seam.specs.Spaces.{ends_line, small_indent}
 use Rattle.md_seam.proofs.RestCells.{white-length}
@@ -127,3 +138,101 @@ further-shortens cells h e =
     (cond-shortens _ (is_blank (line_bytes cells)) _ _
     (cond-shortens _ h.flags.asked.starts_blank _ _ tt (indent_at-shortens _ 1 cells h (omega arith)))
     (indent_at-shortens _ (least_width h.flags.asked) cells h (omega arith)))
+
+-- The same by the cells of a line: what is left is shorter.
+
+abbrev pub IsShorter : ℕ → Option ItemPassed → Type 0
+IsShorter n None = Unit {0}
+IsShorter n (Some t) = length t.cells < n
+
+abbrev PaddingFits : ℕ → Option Padded → Type 0
+PaddingFits n None = Unit {0}
+PaddingFits n (Some t) = length t.cells < n
+
+pub shorter-if : (n : ℕ) (x : Bool) (a b : Option ItemPassed) → IsShorter n a → IsShorter n b →
+    IsShorter n (cond x a b)
+shorter-if n true a b h k = h
+shorter-if n false a b h k = k
+
+fits-if : (n : ℕ) (x : Bool) (a b : Option Padded) → PaddingFits n a → PaddingFits n b → PaddingFits n (cond x a b)
+fits-if n true a b h k = h
+fits-if n false a b h k = k
+
+padding-fits : (n : ℕ) (cells : List Cell) (p : Point) → length cells < n → PaddingFits n (padding cells p)
+padding-fits n cells p lt =
+    fits-if n (is_blank (line_bytes cells)) _ _ lt
+    (fits-if n (begins_white cells) _ _ (omega (arith, lt, white-length (padding_room cells) cells)) tt)
+
+marked-shorter : (n : ℕ) (interrupting : Bool) (from : Point) (digits : List ℕ) (front : List Event) (c : Cell)
+    (cs : List Cell) (p : Point) →
+    length (c ∷ cs) ≤ n → IsShorter n (item_marked interrupting from digits front c cs p)
+marked-shorter n interrupting from digits front c cs p le =
+    go (padding cs c.after) (padding-fits n cs c.after (omega (arith, le)))
+  where
+    front' : List Event
+    front' = front ++ pair ListItemMarker p c.after
+
+    go : (o : Option Padded) → PaddingFits n o → IsShorter n (item_padded interrupting from digits c.byte front' o)
+    go None fits = tt
+    go (Some t) fits = shorter-if n (t.blank && interrupting) _ _ tt fits
+
+numbered-shorter : (n : ℕ) (interrupting : Bool) (from : Point) (digits : List ℕ) (size : ℕ) (front : List Event)
+    (cells : List Cell) (p : Point) →
+    length cells ≤ n → IsShorter n (item_numbered interrupting from digits size front cells p)
+numbered-shorter n interrupting from digits size front [] p le = tt
+numbered-shorter n interrupting from digits size front (c ∷ cs) p le =
+    shorter-if n (ends_value c.byte && (not interrupting || nat_lt size 2)) _ _
+    (marked-shorter n interrupting from digits front c cs p le) tt
+
+behind-shorter : (n : ℕ) (options : ParseOptions) (interrupting : Bool) (from : Point) (front : List Event)
+    (cells : List Cell) (p : Point) →
+    length cells ≤ n → IsShorter n (item_behind options interrupting from front cells p)
+behind-shorter n options interrupting from front [] p le = tt
+behind-shorter n options interrupting from front (c ∷ cs) p le =
+    shorter-if n (is_bullet c.byte) _ _
+    (shorter-if n (options.constructs.thematic_break && is_rule (line_bytes (c ∷ cs))) _ _ tt
+    (marked-shorter n interrupting from [] _ c cs p le))
+    (shorter-if n (is_digit c.byte && (not interrupting || nat_eq c.byte 49)) _ _ (valued (c ∷ cs) le) tt)
+  where
+    valued : (cells : List Cell) → length cells ≤ n → IsShorter n (item_valued interrupting from front cells p)
+    valued cells le =
+        numbered-shorter n interrupting from (digits_of 9 cells) (digits_size 9 cells)
+        (front ++ enter ListItemPrefix p ∷ pair ListItemValue p (digits_end 9 cells p)) (digits_rest 9 cells)
+        (digits_end 9 cells p) (omega (arith, le, digits-length 9 cells))
+
+-- an item that opens
+pub new-shorter : (options : ParseOptions) (interrupting : Bool) (cells : List Cell) (p : Point) →
+    IsShorter (length cells) (item_new options interrupting cells p)
+new-shorter options interrupting cells p =
+    shorter-if _ options.constructs.list_item _ _
+    (behind-shorter _ options interrupting p (enter ListItem p ∷ indent_events options cells p)
+    (white_rest (small_indent options) cells) (white_end (small_indent options) cells p)
+    (white-length (small_indent options) cells))
+    tt
+
+-- whitespace that is taken is a cell at least
+white-shorter : (m : ℕ) (cells : List Cell) → begins_white cells ≡ true → 1 ≤ m →
+    length (white_rest m cells) < length cells
+white-shorter m [] e some = cc
+white-shorter zero (c ∷ cs) e some = absurd (omega (arith, some))
+white-shorter (suc m) (c ∷ cs) e some =
+    let size = ap (λ (x : Bool). length (cond x (white_rest m cs) (c ∷ cs))) e in
+    omega (arith, size, white-length m cs)
+
+-- and one that goes on, where the line does
+pub further-shorter : (digits : List ℕ) (marker width : ℕ) (blank : Bool) (cells : List Cell) (p : Point) →
+    1 ≤ width → ends_line (first_seen cells) ≡ false →
+    IsShorter (length cells) (item_further digits marker width blank cells p)
+further-shorter digits marker width blank cells p some e =
+    rw e (go (is_blank (line_bytes cells)) blank (nat_le width (white_size width cells)) refl refl)
+  where
+    taken : Option ItemPassed
+    taken = Some (item_indented digits marker width cells p)
+
+    go : (y b z : Bool) → is_blank (line_bytes cells) ≡ y → nat_le width (white_size width cells) ≡ z →
+        IsShorter (length cells) (cond (cond y (not b) z) taken None)
+    go true b z f g = shorter-if _ (not b) taken None (white-shorter width cells (blank-white cells e f) some) tt
+    go false b true f g =
+        let le : width ≤ white_size width cells = grind (arith, nat_tests) in
+        white-shorter width cells (size-white width cells (omega (arith, le, some))) some
+    go false b false f g = tt

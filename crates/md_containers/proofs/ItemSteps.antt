@@ -39,6 +39,7 @@ use Rattle.md_containers.specs.ItemRule.{digits_end, digits_rest, digits_size, f
 use Rattle.md_containers.specs.ItemRule.{indent_at, indent_blank, indent_filled, inside_indent, item_on, one_column}
 use Rattle.md_containers.specs.ItemRule.{padding_at}
 use Rattle.md_definition.specs.Ascii.{plus}
+use Rattle.md_containers.proofs.ItemGoods.{least-some}
 use Rattle.md_definition.specs.Containers.{is_bullet, is_digit}
 use Rattle.md_definition.specs.Leaves.{is_rule}
 use Rattle.md_definition.specs.Rest.{is_blank, is_white}
@@ -74,7 +75,7 @@ went-back B to feed w s g =
 
 -- Behind the indent.
 
-bullet-dark : (b : ℕ) → is_bullet b ≡ true → is_white b ≡ false
+pub bullet-dark : (b : ℕ) → is_bullet b ≡ true → is_white b ≡ false
 bullet-dark b e = grind (arith, nat_tests)
 
 bullet-on : (b : ℕ) → is_bullet b ≡ true → nat_eq b 10 ≡ false
@@ -668,16 +669,6 @@ cont_start_steps B options feed w false y has s is e f =
     ∙ ap₂ (λ (a b : Outcome). cond (is_blank (line_bytes (feed w.point))) a b)
     (sym (has.each its.ContBlank _ _ ∙ rest-blank (feed w.point) (here w) is))
     (sym (has.each its.ContFilled _ _ ∙ rest-filled (feed w.point) (here w) is)))
-
--- a column is asked for at least
-pub least-some : (c : Container) → (more : ℕ) × (least_width c ≡ suc more)
-least-some c = go c.width
-  where
-    go : (width : ℕ) → (more : ℕ) × (cond (nat_eq width 0) 1 width ≡ suc more)
-    go zero = (0, refl)
-    go (suc more) =
-        let some : nat_eq (suc more) 0 ≡ false = grind (arith, nat_tests) in
-        (more, ap (λ (x : Bool). cond x 1 (suc more)) some)
 
 -- a state in an indent has the rest of it left
 record InIndent (B : Behaviour) (state : ItemState) : Type 0 where
