@@ -1,10 +1,13 @@
--- Events with lists around their items are a block list, and cover the text, if they did but for their grammar.
-use Rattle.std.proofs.Common.{◌≡◌, ℕ, List, [], sym, subst, ◌∙◌}
+-- Events with lists around their items are a block list, and cover the text, if they did with items in the places of
+-- lists.
+use Rattle.std.proofs.Common.{◌≡◌, ℕ, List, [], refl, sym, subst, ◌∙◌}
 use Rattle.std.specs.Prelude.{IsTrue}
 use Rattle.md_engine.specs.declared.event.Event.{Event}
 use Rattle.md_containers.specs.ItemsHeld.{ItemsHeld}
 use Rattle.md_containers.specs.Listed.{listed}
+use Rattle.md_containers.specs.Unlisted.{keeps_unlisted}
 use Rattle.md_containers.proofs.ListedChunks.{listed-chunks}
+use Rattle.md_containers.proofs.ListedGrammar.{listed-grammar}
 use Rattle.md_containers.proofs.ListedKept.{listed-endings, listed-pieces, listed-placed}
 use Rattle.md_containers.proofs.ListedNests.{listed-nested}
 use Rattle.md_containers.proofs.ListedParts.{listed-stands}
@@ -16,25 +19,25 @@ use Rattle.md_seam.specs.Events.Pieces.{pieces_stand}
 use Rattle.md_seam.specs.Events.Places.{are_placed, first_point}
 use Rattle.md_seam.specs.Events.Tiles.{IsBlockList, chunks_stand, end_point, parts_stand}
 
--- What a block list is before lists are put around its items: it has no grammar of its own yet, but items begin directly
--- in blocks.
+-- What a block list is before lists are put around its items: items stand where lists may, directly in blocks.
 pub record IsUnlisted (bytes : List ℕ) (events : List Event) : Type 0 where
   pub nested : Nested events
   pub items : ItemsHeld [] events
   pub placed : IsTrue (are_placed bytes events)
   pub lines : IsTrue (parts_stand bytes events)
   pub chunks : IsTrue (chunks_stand 0 events)
+  pub grammar : IsTrue (keeps_unlisted unread_text events)
   pub pieces_are : IsTrue (pieces_stand bytes (pieces events))
   pub endings : IsTrue (endings_stand events)
 
 pub listed-blocks : (bytes : List ℕ) (events : List Event) → IsUnlisted bytes events →
-    IsTrue (keeps_grammar unread_text (listed bytes events)) → IsBlockList bytes (listed bytes events)
-listed-blocks bytes events is grammar = record {
+    IsBlockList bytes (listed bytes events)
+listed-blocks bytes events is = record {
   nested = listed-nested bytes events is.nested is.items;
   placed = listed-placed bytes bytes events ∙ is.placed;
   lines = listed-stands bytes bytes events ∙ is.lines;
   chunks = listed-chunks bytes events ∙ is.chunks;
-  grammar = grammar;
+  grammar = listed-grammar unread_text refl bytes events is.nested is.items is.grammar;
   pieces_are = subst (λ (ps : List Piece). IsTrue (pieces_stand bytes ps)) (sym (listed-pieces bytes events)) is.pieces_are;
   endings = listed-endings bytes events ∙ is.endings;
 }

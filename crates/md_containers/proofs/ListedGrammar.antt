@@ -274,3 +274,224 @@ module _ (text : Expression) (bytes : List ℕ) where
       let well : ListsWell x = tame-lists x tame in
       dead-fails text es (inside text name ∷ behind (in_place name) x ∷ xs)
       (inr (inr (inl (ap (λ (y : Name). behind y x) e ∙ well.2)))) whole
+
+  pass-enter : (plain : is_plain text ≡ true) (name : Name) (p : Point) (link : Option Link) (es : List Event)
+      (x : Expression) (fs : List Frame) → is_item (role name) ≡ false → Keeps es → IsTame x → AreFrames fs →
+      Matches (names_in fs) (event Enter name p link ∷ es) → ItemsHeld (names_in fs) (event Enter name p link ∷ es) →
+      Whole (Free x fs) (event Enter name p link ∷ es) →
+      WholeWith (Free x fs) (event Enter name p link ∷ listed_from bytes (place_at (Free x fs)) es)
+  pass-enter plain name p link es x fs i keeps tame frames matches held whole =
+      go (tame-inside text plain name) (placed name i)
+    where
+      placed : (name : Name) → is_item (role name) ≡ false →
+          (in_place name ≡ name) ⊎ (in_place name ≡ n.ListItem)
+      placed n.ListItem i = absurd (cc)
+      placed n.ListOrdered i = inr refl
+      placed n.ListUnordered i = inr refl
+      placed _ i = inl refl
+      go : IsTame (inside text name) ⊎ (in_place name ≡ n.ListItem) →
+          (in_place name ≡ name) ⊎ (in_place name ≡ n.ListItem) →
+          WholeWith (Free x fs) (event Enter name p link ∷ listed_from bytes (place_at (Free x fs)) es)
+      go (inr e) same = pass-dead es name x (around_without fs) tame e whole
+      go (inl inner) (inr e) = pass-dead es name x (around_without fs) tame e whole
+      go (inl inner) (inl e) =
+          keeps (Free (inside text name) (InPart name (behind name x) ∷ fs))
+          (inner, (tame-behind name x tame, i, frames)) matches.1 held.1
+          (subst
+          (λ (y : Name).
+          is_whole (unlisted_left text (inside text name ∷ behind y x ∷ around_without fs) es) ≡ true) e whole)
+
+  pass-exit : (name : Name) (p : Point) (link : Option Link) (es : List Event) (x : Expression) (fs : List Frame) →
+      is_item (role name) ≡ false → Keeps es → AreFrames fs →
+      Matches (names_in fs) (event Exit name p link ∷ es) → ItemsHeld (names_in fs) (event Exit name p link ∷ es) →
+      Whole (Free x fs) (event Exit name p link ∷ es) →
+      WholeWith (Free x fs) (event Exit name p link ∷ listed_from bytes (place_at (Free x fs)) es)
+  pass-exit name p link es x [] i keeps frames matches held whole = absurd matches.0
+  pass-exit name p link es x (InItem m ∷ fs) i keeps frames matches held whole =
+      absurd (let no : true ≡ false = ap (λ (x : Name). is_item (role x)) matches.0 ∙ i in cc)
+  pass-exit name p link es x (InPart other y ∷ fs) i keeps frames matches held whole = go (may_end x) whole
+    where
+      go : (b : Bool) → is_whole (unlisted_left text (cond b (y ∷ around_without fs) []) es) ≡ true →
+          is_whole
+          (left_of text (cond b (y ∷ around_with fs) [])
+          (listed_from bytes (place_at (Free x (InPart other y ∷ fs))) es)) ≡ true
+      go true whole = keeps (Free y fs) (frames.0, frames.2) matches.1 held.1 whole
+      go false whole = dead-fails text es [] (inl refl) whole
+
+  -- behind an item of a list that goes on
+  later-enter : (name : Name) (p : Point) (link : Option Link) (es : List Event) (m : ℕ) (after : Bool)
+      (ls : List Later) (fs : List Frame) → is_block (role name) ≡ false → Keeps es →
+      Good (Within m after ls fs) (next_item bytes es) →
+      Matches (names_at (Within m after ls fs)) (event Enter name p link ∷ es) →
+      ItemsHeld (names_at (Within m after ls fs)) (event Enter name p link ∷ es) →
+      Whole (Within m after ls fs) (event Enter name p link ∷ es) →
+      WholeWith (Within m after ls fs)
+      (event Enter name p link ∷ listed_from bytes (place_at (Within m after ls fs)) es)
+  later-enter name p link es m after (l ∷ ls) fs b keeps good matches held whole =
+      keeps
+      (Within m after
+      ((record { name = name; left = inside text name }) ∷ (record { name = l.name; left = behind name l.left }) ∷ ls)
+      fs)
+      (good.0, good.1, (b, good.2), good.3) matches.1 held.1
+      (subst
+      (λ (y : Name).
+      is_whole
+      (unlisted_left text
+      (inside text name ∷ behind y l.left ∷ later_left ls ++ in_container after ∷ around_without fs) es) ≡ true)
+      (free-place name b) whole)
+    where
+      free-place : (name : Name) → is_block (role name) ≡ false → in_place name ≡ name
+      free-place n.ListItem b = absurd (cc)
+      free-place n.ListOrdered b = absurd (cc)
+      free-place n.ListUnordered b = absurd (cc)
+      free-place _ b = refl
+  later-enter name p link es m after [] fs b keeps good matches held whole = go (goes name after b)
+    where
+      -- where this may come behind an item, it may come in its list and around it
+      Goes : Name → Bool → Type 0
+      Goes name after =
+          (behind (in_place name) (in_container after) ≡ Never)
+          ⊎ ((t : Bool) × (behind (in_place name) (in_container after) ≡ in_container t)
+          × (behind name (in_list after) ≡ in_list t))
+      goes : (name : Name) (after : Bool) → is_block (role name) ≡ false → Goes name after
+      goes n.LineEnding false b = inr (true, refl, refl)
+      goes n.BlankLineEnding false b = inr (true, refl, refl)
+      goes n.SpaceOrTab true b = inr (true, refl, refl)
+      goes n.BlockQuotePrefix true b = inr (true, refl, refl)
+      goes n.LineEnding true b = inr (true, refl, refl)
+      goes n.BlankLineEnding true b = inr (true, refl, refl)
+      goes n.BlockQuote after b = absurd (cc)
+      goes n.ListItem after b = absurd (cc)
+      goes n.ListOrdered after b = absurd (cc)
+      goes n.ListUnordered after b = absurd (cc)
+      goes n.GfmFootnoteDefinition after b = absurd (cc)
+      goes n.HeadingAtx after b = absurd (cc)
+      goes n.HeadingSetext after b = absurd (cc)
+      goes n.ThematicBreak after b = absurd (cc)
+      goes n.CodeIndented after b = absurd (cc)
+      goes n.CodeFenced after b = absurd (cc)
+      goes n.MathFlow after b = absurd (cc)
+      goes n.HtmlFlow after b = absurd (cc)
+      goes n.Definition after b = absurd (cc)
+      goes n.Paragraph after b = absurd (cc)
+      goes n.GfmTable after b = absurd (cc)
+      goes _ false b = inl refl
+      goes _ true b = inl refl
+      rest : List Event
+      rest = listed_from bytes (place_at (Within m after [] fs)) es
+      go : Goes name after → WholeWith (Within m after [] fs) (event Enter name p link ∷ rest)
+      go (inl e) =
+          dead-fails text es (inside text name ∷ behind (in_place name) (in_container after) ∷ around_without fs)
+          (inr (inr (inl e))) whole
+      go (inr h) =
+          subst
+          (λ (y : Expression).
+          is_whole (left_of text (inside text name ∷ y ∷ behind_block ∷ around_with fs) rest) ≡ true) (sym h.2)
+          (keeps (Within m h.0 ((record { name = name; left = inside text name }) ∷ []) fs)
+          (good.0, good.1, (b, tt), good.3) matches.1 held.1
+          (subst
+          (λ (y : Expression).
+          is_whole (unlisted_left text (inside text name ∷ y ∷ around_without fs) es) ≡ true) h.1 whole))
+
+  later-exit : (name : Name) (p : Point) (link : Option Link) (es : List Event) (m : ℕ) (after : Bool)
+      (ls : List Later) (fs : List Frame) → is_block (role name) ≡ false → Keeps es →
+      Good (Within m after ls fs) (next_item bytes es) →
+      Matches (names_at (Within m after ls fs)) (event Exit name p link ∷ es) →
+      ItemsHeld (names_at (Within m after ls fs)) (event Exit name p link ∷ es) →
+      Whole (Within m after ls fs) (event Exit name p link ∷ es) →
+      WholeWith (Within m after ls fs)
+      (event Exit name p link ∷ listed_from bytes (place_at (Within m after ls fs)) es)
+  later-exit name p link es m after (l ∷ ls) fs b keeps good matches held whole = go (may_end l.left) whole
+    where
+      go : (x : Bool) →
+          is_whole (unlisted_left text (cond x (left_without (Within m after ls fs)) []) es) ≡ true →
+          is_whole
+          (left_of text (cond x (left_with (Within m after ls fs)) [])
+          (listed_from bytes (place_at (Within m after ls fs)) es)) ≡ true
+      go true whole =
+          keeps (Within m after ls fs) (good.0, good.1, good.2.1, good.3) matches.1 held.1 whole
+      go false whole = dead-fails text es [] (inl refl) whole
+  later-exit name p link es m after [] [] b keeps good matches held whole = absurd matches.0
+  later-exit name p link es m after [] (InItem k ∷ fs) b keeps good matches held whole =
+      absurd (let no : true ≡ false = ap (λ (x : Name). is_block (role x)) matches.0 ∙ b in cc)
+  later-exit name p link es m after [] (InPart other x ∷ fs) b keeps good matches held whole =
+      absurd
+      (let no : true ≡ false = sym good.1 ∙ ap (λ (x : Name). is_block (role x)) matches.0 ∙ b in cc)
+
+  -- All events.
+
+  begins : (es : List Event) (p : Point) (link : Option Link) → Keeps es → Keeps (event Enter n.ListItem p link ∷ es)
+  begins es p link keeps (Free x fs) good matches held whole =
+      begin-free p link es x fs keeps good.0 good.1 matches held whole
+  begins es p link keeps (Within m after ls fs) good matches held whole =
+      begin-within p link es m after ls fs keeps good matches held whole
+
+  ends : (es : List Event) (p : Point) (link : Option Link) → Keeps es → Keeps (event Exit n.ListItem p link ∷ es)
+  ends es p link keeps (Free x fs) good matches held whole =
+      end-free p link es x fs keeps good.1 matches held whole
+  ends es p link keeps (Within m after ls fs) good matches held whole = absurd (let no = good.3 in cc)
+
+  passes : is_plain text ≡ true → (es : List Event) (p : Point) (link : Option Link) → Keeps es →
+      (kind : Kind) (name : Name) → is_item (role name) ≡ false → Keeps (event kind name p link ∷ es)
+  passes plain es p link keeps kind name i now good matches held whole =
+      subst (WholeWith now) (sym (passes-given bytes (place_at now) (event kind name p link) es i))
+      (go kind now good matches held whole)
+    where
+      go : (kind : Kind) (now : Now) →
+          Good now (next_by kind (role name) (marker_ahead bytes es) (next_item bytes es)) →
+          Matches (names_at now) (event kind name p link ∷ es) →
+          ItemsHeld (names_at now) (event kind name p link ∷ es) →
+          Whole now (event kind name p link ∷ es) →
+          WholeWith now (event kind name p link ∷ listed_from bytes (place_at now) es)
+      go Enter (Free x fs) good matches held whole =
+          pass-enter plain name p link es x fs i keeps good.0 good.1 matches held whole
+      go Exit (Free x fs) good matches held whole =
+          pass-exit name p link es x fs i keeps good.1 matches held whole
+      go Enter (Within m after ls fs) good matches held whole =
+          let next = pass-next Enter name (marker_ahead bytes es) m (next_item bytes es) i good.3 in
+          later-enter name p link es m after ls fs next.0 keeps (good.0, good.1, good.2, next.1) matches held whole
+      go Exit (Within m after ls fs) good matches held whole =
+          let next = pass-next Exit name (marker_ahead bytes es) m (next_item bytes es) i good.3 in
+          later-exit name p link es m after ls fs next.0 keeps (good.0, good.1, good.2, next.1) matches held whole
+
+  keeps-all : is_plain text ≡ true → (es : List Event) → Keeps es
+  keeps-all plain [] (Free x []) good matches held whole = whole
+  keeps-all plain [] (Free x (InPart name y ∷ fs)) good matches held whole = absurd (cc)
+  keeps-all plain [] (Free x (InItem m ∷ fs)) good matches held whole = absurd (cc)
+  keeps-all plain [] (Within m after ls fs) good matches held whole = absurd (let no = good.3 in cc)
+  keeps-all plain (e ∷ es) now good matches held whole =
+      by-turn (λ (kind : Kind) (name : Name). Keeps (event kind name e.point e.link ∷ es))
+      (begins es e.point e.link (keeps-all plain es)) (ends es e.point e.link (keeps-all plain es))
+      (passes plain es e.point e.link (keeps-all plain es)) e.kind e.name now good matches held whole
+
+abbrev AreTame : List Expression → Type 0
+AreTame [] = Unit {0}
+AreTame (x ∷ xs) = IsTame x × AreTame xs
+
+any-tame : (P Q : Expression → Bool) → ((x : Expression) → IsTame x → P x ≡ true → Q x ≡ true) →
+    (xs : List Expression) → AreTame xs → list_any P xs ≡ true → list_any Q xs ≡ true
+any-tame P Q so [] tame h = h
+any-tame P Q so (x ∷ xs) tame h = go (P x) (so x tame.0) (any-tame P Q so xs tame.1) h
+  where
+    go : (b : Bool) → (b ≡ true → Q x ≡ true) → (list_any P xs ≡ true → list_any Q xs ≡ true) →
+        (b || list_any P xs) ≡ true → (Q x || list_any Q xs) ≡ true
+    go true k l h = ap (λ (c : Bool). c || list_any Q xs) (k refl)
+    go false k l h = ap (λ (c : Bool). Q x || c) (l h) ∙ or-true (Q x)
+      where
+        or-true : (c : Bool) → (c || true) ≡ true
+        or-true true = refl
+        or-true false = refl
+
+-- Events with lists around their items keep the grammar, if they kept it with items in the places of lists, they nest,
+-- and items begin directly in blocks.
+pub listed-grammar : (text : Expression) → is_plain text ≡ true → (bytes : List ℕ) (events : List Event) →
+    Nested events → ItemsHeld [] events → keeps_unlisted text events ≡ true →
+    keeps_grammar text (listed bytes events) ≡ true
+unfolding keeps_unlisted keeps_grammar
+listed-grammar text plain bytes events nested held keeps =
+    any-tame (λ (x : Expression). is_whole (unlisted_left text (x ∷ []) events))
+    (λ (x : Expression). is_whole (left_of text (x ∷ []) (listed bytes events)))
+    (λ x tame whole.
+    keeps-all text bytes plain events (Free x []) (tame, tt) nested.balanced.matches held whole)
+    texts
+    (inl (AtLine, refl), (inl (AtMark, refl), (inl (AtFrontmatter, refl), (inl (AtBoth, refl), tt)))) keeps

@@ -4,8 +4,11 @@ use Rattle.md_engine.specs.declared.event.Event.{Event}
 use Rattle.md_engine.specs.declared.event.Name.{Name}
 use Rattle.md_engine.specs.declared.event.Name.TheVariants as n
 use Rattle.md_engine.specs.declared.event.Point.{Point}
+use Rattle.md_containers.specs.ItemsHeld.{ItemsHeld}
 use Rattle.md_containers.specs.ItemsStand.{ItemsStand, root}
 use Rattle.md_containers.specs.Listed.{listed}
+use Rattle.md_containers.specs.Unlisted.{keeps_unlisted}
+use Rattle.md_seam.specs.Events.Grammar.{plain_text}
 use Rattle.md_seam.specs.Events.Nested.{around, pair}
 
 -- Points are told by their bytes alone.
@@ -56,56 +59,66 @@ prefix i =
     around n.BlockQuotePrefix (at i) (at (i + 2))
     (pair n.BlockQuoteMarker (at i) (at (i + 1)) ++ pair n.SpaceOrTab (at (i + 1)) (at (i + 2)))
 
--- the events of a text with its lists are those without, listed; and those without are as `ItemsStand` asks
+-- The events of a text with its lists are those without, listed; and those without are as it is asked of them.
 abbrev IsRow : List ℕ → List Event → Type 0
 IsRow text events =
     (listed text (without_lists events) ≡ events) × ItemsStand text root (without_lists events)
+    × ItemsHeld [] (without_lists events) × (keeps_unlisted plain_text (without_lists events) ≡ true)
 
 -- one list
 row-same : IsRow (codes "- a" ++ 10 ∷ codes "- b") (list 0 7 (bullet 0 3 (line 2) ++ ending 3 ++ bullet 4 7 (line 6)))
-row-same = (refl, search rules)
+unfolding keeps_unlisted
+row-same = (refl, search rules, search rules, refl)
 
 -- two lists, by their markers (CommonMark 5.3)
 row-markers : IsRow (codes "- a" ++ 10 ∷ codes "+ b")
     (list 0 3 (bullet 0 3 (line 2)) ++ ending 3 ++ list 4 7 (bullet 4 7 (line 6)))
-row-markers = (refl, search rules)
+unfolding keeps_unlisted
+row-markers = (refl, search rules, search rules, refl)
 
 row-ordered : IsRow (codes "1. a" ++ 10 ∷ codes "2) b")
     (around n.ListOrdered (at 0) (at 4) (ordered 0 4 (line 3)) ++ ending 4
     ++ around n.ListOrdered (at 5) (at 9) (ordered 5 9 (line 8)))
-row-ordered = (refl, search rules)
+unfolding keeps_unlisted
+row-ordered = (refl, search rules, search rules, refl)
 
 -- a list goes on over blank lines, and ends in front of those behind its last item
 row-blank : IsRow (codes "- a" ++ 10 ∷ 10 ∷ codes "- b" ++ 10 ∷ 10 ∷ codes "c")
     (list 0 8 (bullet 0 3 (line 2) ++ ending 3 ++ blank 4 ++ bullet 5 8 (line 7)) ++ ending 8 ++ blank 9 ++ line 10)
-row-blank = (refl, search rules)
+unfolding keeps_unlisted
+row-blank = (refl, search rules, search rules, refl)
 
 -- prefixes of quotes stand in the list
 row-quote : IsRow (codes "> - a" ++ 10 ∷ codes "> - b")
     (around n.BlockQuote (at 0) (at 11)
     (prefix 0 ++ list 2 11 (bullet 2 5 (line 4) ++ ending 5 ++ prefix 6 ++ bullet 8 11 (line 10))))
-row-quote = (refl, search rules)
+unfolding keeps_unlisted
+row-quote = (refl, search rules, search rules, refl)
 
 -- a quote parts lists
 row-parted : IsRow (codes "- a" ++ 10 ∷ codes "> b" ++ 10 ∷ codes "- c")
     (list 0 3 (bullet 0 3 (line 2)) ++ ending 3 ++ around n.BlockQuote (at 4) (at 7) (prefix 4 ++ line 6) ++ ending 7
     ++ list 8 11 (bullet 8 11 (line 10)))
-row-parted = (refl, search rules)
+unfolding keeps_unlisted
+row-parted = (refl, search rules, search rules, refl)
 
 -- and so does a break
 row-break : IsRow (codes "- a" ++ 10 ∷ codes "***" ++ 10 ∷ codes "- b")
     (list 0 3 (bullet 0 3 (line 2)) ++ ending 3
     ++ around n.ThematicBreak (at 4) (at 7) (pair n.ThematicBreakSequence (at 4) (at 7)) ++ ending 7
     ++ list 8 11 (bullet 8 11 (line 10)))
-row-break = (refl, search rules)
+unfolding keeps_unlisted
+row-break = (refl, search rules, search rules, refl)
 
 -- items in items have lists of their own
 row-nested : IsRow (codes "- - a" ++ 10 ∷ codes "- - b")
     (list 0 11
     (bullet 0 5 (list 2 5 (bullet 2 5 (line 4))) ++ ending 5 ++ bullet 6 11 (list 8 11 (bullet 8 11 (line 10)))))
-row-nested = (refl, search rules)
+unfolding keeps_unlisted
+row-nested = (refl, search rules, search rules, refl)
 
 -- a list in an item is another than the one behind that item
 row-behind : IsRow (codes "+ - a" ++ 10 ∷ codes "- b")
     (list 0 5 (bullet 0 5 (list 2 5 (bullet 2 5 (line 4)))) ++ ending 5 ++ list 6 9 (bullet 6 9 (line 8)))
-row-behind = (refl, search rules)
+unfolding keeps_unlisted
+row-behind = (refl, search rules, search rules, refl)
