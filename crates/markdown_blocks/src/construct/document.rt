@@ -164,6 +164,16 @@ fn goes_on_at_once(tokenizer: &Tokenizer) -> bool
     }
 }
 
+/// The next container is asked, if there is one.
+fn ask_next(tokenizer: &mut Tokenizer)
+    ensures { world tokenizer.new ≡ asking_next (world tokenizer.old) }
+{
+    match next_container(tokenizer) {
+        None => {}
+        Some(container) => ask(tokenizer, container),
+    }
+}
+
 /// At the same place: goes at once over prefixes of containers that go on, as the states do one after another.
 #[inline(always)]
 pub fn containers_existing(tokenizer: &mut Tokenizer) -> State
@@ -174,6 +184,7 @@ pub fn containers_existing(tokenizer: &mut Tokenizer) -> State
     ensures sees { result ≢ State.Error → SeesOn result (world tokenizer.old) (world tokenizer.new) }
 {
     while goes_on_at_once(tokenizer) {
+        ask_next(tokenizer);
         or_error!(registry::take_plain_prefix(tokenizer));
         container_existing_after(tokenizer);
     }
