@@ -10,7 +10,7 @@ use Rattle.md_engine.specs.declared.event.Point.{Point}
 use Rattle.md_engine.specs.Meaning.{Cell, Here}
 use Rattle.md_containers.specs.Interrupts.{interrupts}
 use Rattle.md_containers.specs.Item.{ends_value, is_item_marker, least_width}
-use Rattle.md_containers.specs.ItemPrefix.{ItemPassed, Padded, digits_of, item_behind, item_closed, item_further}
+use Rattle.md_containers.specs.ItemPrefix.{ItemPassed, Padded, digits_of, item_behind, item_further}
 use Rattle.md_containers.specs.ItemPrefix.{item_indented, item_marked, item_new, item_numbered, item_padded}
 use Rattle.md_containers.specs.ItemPrefix.{item_valued, padding, padding_room}
 use Rattle.md_containers.specs.QuoteRule.{indent_events}

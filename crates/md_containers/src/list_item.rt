@@ -127,7 +127,7 @@ pub fn before(tokenizer: &mut Tokenizer) -> State
         if !tokenizer.options.constructs.thematic_break || byte == b'+' {
             return State::Retry(StateName::ListItem(ItemState::BeforeUnordered));
         }
-        // A break that is found leaves no leaf open.
+        // A break that is found has ended the leaf in front of it: text is opened again, since the line is read anew.
         let is_break = match tokenizer.flags.leaf {
             HeldLeaf::None => State::Nok,
             HeldLeaf::Text => State::Next(StateName::ListItem(ItemState::BeforeOrdered)),
