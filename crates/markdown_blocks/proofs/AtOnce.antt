@@ -33,10 +33,10 @@ sees-quote w e =
     ap (λ (o : Option ℕ). behind_code o (first_behind (slice_range w.setting.bytes w.point.index w.setting.limit))) e
 
 -- the states where it goes on, and where it does not
-after-it : State
+abbrev after-it : State
 after-it = Next (n.Document document.ContainerExistingAfter)
 
-others : State
+abbrev others : State
 others = Next (n.Document (opener_front openers))
 
 -- a container that goes on at once is tried
