@@ -7,7 +7,8 @@
 // of containers too. On each line the containers that are open are asked from the outermost in whether they go on, then
 // others may open, and flow reads the rest of the line. Only then is it known whether the line goes on the open
 // paragraph, so that all containers stay open although not all went on (CommonMark 5.1, "laziness"). Else those that
-// did not go on end: their ends are put where the line before ended, in front of its ending.
+// did not go on end: their ends are put where the line before ended, in front of its ending. Where nothing is left of
+// a line no container is asked, and none opens: what is held of each tells whether it goes on there.
 
 ghost use Rattle.std.specs.Prelude.{◌≡◌, ◌≢◌, ◌≤◌, length, true};
 ghost use Rattle.md_engine.specs.Going.{SeesOn};
