@@ -64,11 +64,7 @@ fn begins_marker(event: &Event) -> bool
 fn byte_at(bytes: &[u8], index: usize) -> u8
     ensures { result ≡ get_or bytes.now index 0 }
 {
-    if index < bytes.len() {
-        bytes[index]
-    } else {
-        0
-    }
+    if index < bytes.len() { bytes[index] } else { 0 }
 }
 
 /// The marker of the item behind whose begin these events stand: 0 if a block stands in front of it, or there is none.
@@ -242,7 +238,12 @@ impl Walk {
 }
 
 /// The events with the lists around their items, written into `spare`.
-fn put_lists(alloc: Global, bytes: &[u8], events: &[Event], spare: Vec<Event>) -> Result<Vec<Event>, Message>
+fn put_lists(
+    alloc: Global,
+    bytes: &[u8],
+    events: &[Event],
+    spare: Vec<Event>,
+) -> Result<Vec<Event>, Message>
     requires { spare.items ≡ [] }
     ensures events { IfOk result (λ all. all.items ≡ listed bytes.now events.now) }
     ensures placed { IfOk result
