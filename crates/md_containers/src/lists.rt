@@ -237,8 +237,8 @@ impl Walk {
     }
 }
 
-/// The events with the lists around their items, written into `spare`.
-fn put_lists(
+/// The events with the lists around their items, written into `spare`, which is empty.
+pub fn put_lists(
     alloc: Global,
     bytes: &[u8],
     events: &[Event],
