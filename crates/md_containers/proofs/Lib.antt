@@ -19,3 +19,4 @@ pub mod ListedChunks
 pub mod ListedBlocks
 pub mod TamedLemmas
 pub mod ListedGrammar
+pub mod UnlistedLemmas

@@ -1,8 +1,8 @@
 // Lists around items, in one walk over the events.
 //
-// Neighbouring items with the same marker are one list, also where blank lines stand between them. Each event is looked
-// at once as it is passed, and at most once from an item in front of it that asks for its marker and once from one that
-// asks for the next block: so the walk is linear, however items are nested and whatever stands between them.
+// Neighbouring items with the same marker are one list, also where blank lines stand between them. The walk looks at each
+// event as it passes it, and else at most once from an item in front of it that asks for its marker, and once from one
+// that asks for the next block. So it is linear, however items are nested and whatever stands between them.
 
 ghost use Rattle.std.specs.Prelude.{◌≡◌, ℕ, ◌≤◌, ◌++◌, ◌∷◌, ◌&&◌, [], IfOk, List, None, OnOk, get_or, length};
 ghost use Rattle.std.specs.List.{prefix_len};
