@@ -6,6 +6,8 @@ mod grammars;
 #[cfg(test)]
 mod heading_text;
 #[cfg(test)]
+mod lists;
+#[cfg(test)]
 mod outlines;
 #[cfg(test)]
 mod plain_outlines;

@@ -31,3 +31,4 @@ pub mod ListedChunks
 pub mod ListedBlocks
 pub mod TamedLemmas
 pub mod ListedGrammar
+pub mod UnlistedLemmas

@@ -1,6 +1,6 @@
 -- Events with lists around their items are a block list, and cover the text, if they did with items in the places of
 -- lists.
-use Rattle.std.proofs.Common.{◌≡◌, ℕ, List, [], refl, sym, subst, ◌∙◌}
+use Rattle.std.proofs.Common.{ℕ, List, [], refl, sym, subst, ◌∙◌}
 use Rattle.std.specs.Prelude.{IsTrue}
 use Rattle.md_engine.specs.declared.event.Event.{Event}
 use Rattle.md_containers.specs.ItemsHeld.{ItemsHeld}
@@ -12,7 +12,7 @@ use Rattle.md_containers.proofs.ListedKept.{listed-endings, listed-pieces, liste
 use Rattle.md_containers.proofs.ListedNests.{listed-nested}
 use Rattle.md_containers.proofs.ListedParts.{listed-stands}
 use Rattle.md_seam.specs.Events.Endings.{endings_stand}
-use Rattle.md_seam.specs.Events.Grammar.{keeps_grammar, unread_text}
+use Rattle.md_seam.specs.Events.Grammar.{unread_text}
 use Rattle.md_seam.specs.Events.Inline.{Covers, Piece, pieces}
 use Rattle.md_seam.specs.Events.Nested.{Nested}
 use Rattle.md_seam.specs.Events.Pieces.{pieces_stand}

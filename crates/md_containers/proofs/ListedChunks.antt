@@ -8,14 +8,13 @@ use Rattle.md_engine.specs.declared.event.Kind.TheVariants.{Enter, Exit}
 use Rattle.md_engine.specs.declared.event.Name.{Name}
 use Rattle.md_engine.specs.declared.event.Name.TheVariants as n
 use Rattle.md_engine.specs.declared.event.Point.{Point}
-use Rattle.md_containers.specs.Listed.{Place, goes_on, is_item, list_begin, list_end, list_name, listed, listed_from}
+use Rattle.md_containers.specs.Listed.{Place, goes_on, list_begin, list_end, list_name, listed, listed_from}
 use Rattle.md_containers.specs.Listed.{marker_ahead, next_item, outside, place_behind}
 use Rattle.md_containers.proofs.ListedKept.{by-turn}
 use Rattle.md_containers.proofs.ListedLemmas.{passes-given}
 use Rattle.md_containers.proofs.ListedParts.{by-list}
 use Rattle.md_seam.specs.Events.Inline.{is_linked}
 use Rattle.md_seam.specs.Events.Nested.{enter, exit, is_exit}
-use Rattle.md_seam.specs.Events.Spelled.{role}
 use Rattle.md_seam.specs.Events.Tiles.{chunks_stand, depth_behind, is_chunk, is_data, is_part, stands_in_part}
 
 and-false : (a : Bool) → (a && false) ≡ false
@@ -53,12 +52,14 @@ item-inside e kind depth es = go (is_linked e)
   where
     item : Event
     item = record e { kind = kind; name = n.ListItem }
+
     stands : stands_in_part kind n.ListItem ≡ false
     stands = by kind
       where
         by : (kind : Kind) → stands_in_part kind n.ListItem ≡ false
         by Enter = refl
         by Exit = refl
+
     go : (x : Bool) →
         (cond x ((depth == 0) && is_chunk item es) (stands_in_part kind n.ListItem)
         && chunks_stand (depth_behind kind (suc depth)) es) ≡ false
@@ -95,8 +96,10 @@ chunk-kept e bytes place (f ∷ es) =
   where
     inner : Place
     inner = record { within = false; markers = marker_ahead bytes es ∷ place.markers }
+
     item : Event
     item = record f { kind = Enter; name = n.ListItem }
+
     begins : (within : Bool) →
         is_chunk e ((list_begin within (marker_ahead bytes es) f.point ++ item ∷ []) ++ listed_from bytes inner es)
         ≡ is_chunk e (item ∷ es)
@@ -126,10 +129,13 @@ chunks-kept bytes depth place (e ∷ es) =
   where
     inner : Place
     inner = record { within = false; markers = marker_ahead bytes es ∷ place.markers }
+
     behind : Place
     behind = place_behind place (next_item bytes es)
+
     item : Kind → Event
     item kind = record e { kind = kind; name = n.ListItem }
+
     begins : (depth : ℕ) → chunks_stand 0 (listed_from bytes inner es) ≡ chunks_stand 0 es →
         chunks_stand depth
         (list_begin place.within (marker_ahead bytes es) e.point ++ item Enter ∷ listed_from bytes inner es)
@@ -140,6 +146,7 @@ chunks-kept bytes depth place (e ∷ es) =
     begins (suc depth) h =
         begin-inside e place.within (marker_ahead bytes es) e.point depth (listed_from bytes inner es)
         ∙ sym (item-inside e Enter depth es)
+
     ends : (depth : ℕ) → chunks_stand 0 (listed_from bytes behind es) ≡ chunks_stand 0 es →
         chunks_stand depth
         (item Exit ∷ list_end place.markers (next_item bytes es) e.point ++ listed_from bytes behind es)
@@ -151,6 +158,7 @@ chunks-kept bytes depth place (e ∷ es) =
         item-inside e Exit depth
         (list_end place.markers (next_item bytes es) e.point ++ listed_from bytes behind es)
         ∙ sym (item-inside e Exit depth es)
+
     passed : (depth : ℕ) (kind : Kind) (name : Name) →
         ((k : ℕ) → chunks_stand k (listed_from bytes place es) ≡ chunks_stand k es) →
         chunks_stand depth (record e { kind = kind; name = name } ∷ listed_from bytes place es)

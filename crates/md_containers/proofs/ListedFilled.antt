@@ -1,7 +1,7 @@
 -- Lists around items, and what a layer reads in the place of chunks: either may be done first.
-use Rattle.std.proofs.Common.{◌≡◌, ℕ, zero, suc, Bool, true, false, cond, ◌&&◌, List, [], ◌∷◌, ◌++◌, map, refl, ap, sym, ◌∙◌}
+use Rattle.std.proofs.Common.{◌≡◌, ℕ, zero, suc, Bool, true, false, cond, ◌&&◌, List, [], ◌∷◌, ◌++◌, refl, ap, sym, ◌∙◌}
 use Rattle.std.proofs.Common.{subst, append_assoc}
-use Rattle.std.specs.Prelude.{Option, Some, None, ◌==◌, not, if◌then◌else◌, get_or}
+use Rattle.std.specs.Prelude.{Option, ◌==◌, not, if◌then◌else◌, get_or}
 use Rattle.std.proofs.lemmas.Bool.{and_parts, not-true}
 use Rattle.md_engine.specs.declared.event.Event.{Event}
 use Rattle.md_engine.specs.declared.event.Kind.{Kind}
@@ -11,13 +11,12 @@ use Rattle.md_engine.specs.declared.event.Name.TheVariants as n
 use Rattle.md_engine.specs.declared.event.Point.{Point}
 use Rattle.md_containers.specs.Listed.{Begins, Ends, Place, Stays, Turn, given_by, goes_on, is_item, list_begin, list_end}
 use Rattle.md_containers.specs.Listed.{list_name, listed, listed_from, marker_ahead, marker_by, next_by, next_item, outside}
-use Rattle.md_containers.specs.Listed.{place_behind, place_by, turn}
-use Rattle.md_containers.proofs.ListedKept.{by-turn}
+use Rattle.md_containers.specs.Listed.{place_by, turn}
 use Rattle.md_containers.proofs.ListedLemmas.{passes-given}
-use Rattle.md_containers.proofs.ListedParts.{by-list, listed-parts}
+use Rattle.md_containers.proofs.ListedParts.{listed-parts}
 use Rattle.md_seam.specs.declared.inline.Chunk.{Chunk}
-use Rattle.md_seam.specs.Events.Inline.{Part, is_linked, line_end, pair_unless_empty, plain_chunk, plain_chunks, together}
-use Rattle.md_seam.specs.Events.Nested.{enter, exit, is_exit, pair}
+use Rattle.md_seam.specs.Events.Inline.{Part, is_linked, line_end, pair_unless_empty, plain_chunks, together}
+use Rattle.md_seam.specs.Events.Nested.{exit, is_exit, pair}
 use Rattle.md_seam.specs.Events.Places.{same_place}
 use Rattle.md_seam.specs.Events.Spelled.{IsEnding, IsQuiet, Role, role}
 use Rattle.md_seam.specs.Events.Tiles.{chunks_stand, depth_behind, filled, filled_from, first_list, further_lists, is_chunk}
@@ -87,8 +86,7 @@ stand-chunked : (depth : ℕ) (es : List Event) → chunks_stand depth es ≡ tr
 stand-chunked depth [] h = tt
 stand-chunked zero (e ∷ es) h =
     let two = and_parts (not (is_linked e))
-    (chunks_stand (if is_part e.name && not (is_exit e.kind) then 1 else 0) es) h in
-    (
+    (chunks_stand (if is_part e.name && not (is_exit e.kind) then 1 else 0) es) h in (
       (λ l. absurd (let no : true ≡ false = sym l ∙ not-true (is_linked e) two.0 in cc)),
       stand-chunked (if is_part e.name && not (is_exit e.kind) then 1 else 0) es two.1,
     )
@@ -108,12 +106,11 @@ stand-chunked (suc depth) (e ∷ es) h =
         ((λ i. absurd (let no : true ≡ false = sym i ∙ not-true (is_linked e) one.1 in cc)), k two.1)
     go false h k l =
         let two = and_parts (cond (is_linked e) ((depth == 0) && is_chunk e es) (stands_in_part e.kind e.name))
-        (chunks_stand (depth_behind e.kind (suc depth)) es) h in
-        (
+        (chunks_stand (depth_behind e.kind (suc depth)) es) h in (
           (λ i.
-          (and_parts (depth == 0) (is_chunk e es)
-          (subst
-          (λ (x : Bool). cond x ((depth == 0) && is_chunk e es) (stands_in_part e.kind e.name) ≡ true) i two.0)).1),
+              (and_parts (depth == 0) (is_chunk e es)
+              (subst
+              (λ (x : Bool). cond x ((depth == 0) && is_chunk e es) (stands_in_part e.kind e.name) ≡ true) i two.0)).1),
           l two.1,
         )
 

@@ -3,7 +3,7 @@
 -- What may still come in each open part is followed side by side. With lists it is the same, but for the lists that are
 -- open: behind an item more endings and items of its list may come.
 use Rattle.std.proofs.Common.{◌≡◌, ℕ, Bool, true, false, cond, List, [], ◌∷◌, ◌++◌, refl, ap, sym, ◌∙◌, subst, ◌⊎◌, inl, inr}
-use Rattle.std.specs.Prelude.{Option, Some, None, ◌||◌, if◌then◌else◌}
+use Rattle.std.specs.Prelude.{Option, Some, ◌||◌, if◌then◌else◌}
 use Rattle.std.specs.List.{list_any}
 use Rattle.md_engine.specs.declared.event.Event.{Event}
 use Rattle.md_engine.specs.declared.event.Kind.{Kind}
@@ -13,8 +13,8 @@ use Rattle.md_engine.specs.declared.event.Name.{Name}
 use Rattle.md_engine.specs.declared.event.Name.TheVariants as n
 use Rattle.md_engine.specs.declared.event.Point.{Point}
 use Rattle.md_containers.specs.ItemsHeld.{HoldsItems, ItemsHeld}
-use Rattle.md_containers.specs.Listed.{Place, goes_on, is_block, is_item, list_begin, list_end, list_name, listed, listed_from}
-use Rattle.md_containers.specs.Listed.{marker_ahead, next_by, next_item, outside, place_behind}
+use Rattle.md_containers.specs.Listed.{Place, goes_on, is_block, is_item, list_end, list_name, listed, listed_from}
+use Rattle.md_containers.specs.Listed.{marker_ahead, next_by, next_item}
 use Rattle.md_containers.specs.Unlisted.{in_place, keeps_unlisted, unlisted_behind, unlisted_left}
 use Rattle.md_containers.proofs.ListedBlockSteps.{goes_on-some}
 use Rattle.md_containers.proofs.ListedKept.{by-turn}
@@ -23,8 +23,8 @@ use Rattle.md_containers.proofs.ListedNests.{event, pass-next}
 use Rattle.md_containers.proofs.ListedParts.{by-list}
 use Rattle.md_containers.proofs.TamedLemmas.{AtBoth, AtFrontmatter, AtLine, AtMark, BehindBlock, IsTame, ItemFront, ListsWell}
 use Rattle.md_containers.proofs.TamedLemmas.{is_plain, tame-behind, tame-inside, tame-lists}
-use Rattle.md_seam.specs.Events.Grammar.{Expression, Many, Never, One, Then, behind, behind_block, blocks, inside, is_whole}
-use Rattle.md_seam.specs.Events.Grammar.{keeps_grammar, left_behind, left_of, line_break, may_end, one, prefixes, some, texts}
+use Rattle.md_seam.specs.Events.Grammar.{Expression, Many, Never, Then, behind, behind_block, blocks, inside, is_whole}
+use Rattle.md_seam.specs.Events.Grammar.{keeps_grammar, left_of, line_break, may_end, one, prefixes, some, texts}
 use Rattle.md_seam.specs.Events.Nested.{Matches, Nested, enter, exit}
 use Rattle.md_seam.specs.Events.Spelled.{role}
 
@@ -185,8 +185,10 @@ module _ (text : Expression) (bytes : List ℕ) where
     where
       a : ℕ
       a = marker_ahead bytes es
+
       inner : List Event
       inner = listed_from bytes (record { within = false; markers = a ∷ markers_in fs }) es
+
       go : (behind n.ListOrdered x ≡ behind_block) ⊎ (behind n.ListOrdered x ≡ Never) →
           behind n.ListUnordered x ≡ behind n.ListOrdered x →
           WholeWith (Free x fs) (enter (list_name a) p ∷ event Enter n.ListItem p link ∷ inner)
@@ -239,11 +241,13 @@ module _ (text : Expression) (bytes : List ℕ) where
           (left_of text (more_items ∷ behind_block ∷ around_with fs)
           ((if on then [] else exit (list_name m) p ∷ [])
           ++ listed_from bytes (record { within = on; markers = markers_in fs }) es)) ≡ true
+
       by : is_whole (unlisted_left text (behind_block ∷ around_without fs) es) ≡ true → (on : Bool) →
           goes_on m (next_item bytes es) ≡ on → Of on
       by whole true h =
           keeps (Within m false [] fs) (frames, holds, tt, goes_on-some m (next_item bytes es) h) matches held whole
       by whole false h = keeps (Free behind_block fs) (inl (BehindBlock, refl), frames) matches held whole
+
       go : (b : Bool) → is_whole (unlisted_left text (cond b (behind_block ∷ around_without fs) []) es) ≡ true →
           is_whole
           (left_of text (cond b (more_items ∷ behind_block ∷ around_with fs) [])
@@ -289,6 +293,7 @@ module _ (text : Expression) (bytes : List ℕ) where
       placed n.ListOrdered i = inr refl
       placed n.ListUnordered i = inr refl
       placed _ i = inl refl
+
       go : IsTame (inside text name) ⊎ (in_place name ≡ n.ListItem) →
           (in_place name ≡ name) ⊎ (in_place name ≡ n.ListItem) →
           WholeWith (Free x fs) (event Enter name p link ∷ listed_from bytes (place_at (Free x fs)) es)
@@ -353,6 +358,7 @@ module _ (text : Expression) (bytes : List ℕ) where
           (behind (in_place name) (in_container after) ≡ Never)
           ⊎ ((t : Bool) × (behind (in_place name) (in_container after) ≡ in_container t)
           × (behind name (in_list after) ≡ in_list t))
+
       goes : (name : Name) (after : Bool) → is_block (role name) ≡ false → Goes name after
       goes n.LineEnding false b = inr (true, refl, refl)
       goes n.BlankLineEnding false b = inr (true, refl, refl)
@@ -377,8 +383,10 @@ module _ (text : Expression) (bytes : List ℕ) where
       goes n.GfmTable after b = absurd (cc)
       goes _ false b = inl refl
       goes _ true b = inl refl
+
       rest : List Event
       rest = listed_from bytes (place_at (Within m after [] fs)) es
+
       go : Goes name after → WholeWith (Within m after [] fs) (event Enter name p link ∷ rest)
       go (inl e) =
           dead-fails text es (inside text name ∷ behind (in_place name) (in_container after) ∷ around_without fs)

@@ -1,6 +1,6 @@
 -- What lists around items keep of the events: their points, their innermost pairs, and the names of endings.
 use Rattle.std.proofs.Common.{◌≡◌, ℕ, Bool, true, false, cond, ◌&&◌, ◌||◌, List, [], ◌∷◌, ◌++◌, refl, ap, sym, ◌∙◌, subst, append_assoc}
-use Rattle.std.specs.Prelude.{Option, Some, None, if◌then◌else◌}
+use Rattle.std.specs.Prelude.{Option, if◌then◌else◌}
 use Rattle.std.specs.List.{list_all}
 use Rattle.md_engine.specs.declared.event.Event.{Event}
 use Rattle.md_engine.specs.declared.event.Kind.{Kind}
@@ -84,6 +84,7 @@ points-kept p bytes place (e ∷ es) =
     begin-points false h =
         ap (λ (b : Bool). p e.point && (p e.point && b)) h
         ∙ and-twice (p e.point) (list_all (λ (e : Event). p e.point) es)
+
     pass-points : list_all (λ (e : Event). p e.point) (listed_from bytes place es)
         ≡ list_all (λ (e : Event). p e.point) es → (kind : Kind) (name : Name) → is_item (role name) ≡ false →
         list_all (λ (e : Event). p e.point) (listed_from bytes place (record e { kind = kind; name = name } ∷ es))
@@ -164,6 +165,7 @@ endings-kept bytes s place (e ∷ es) =
         (listed_from bytes (record { within = false; markers = marker_ahead bytes es ∷ place.markers }) es))
         (filled-twice s.in_leaf s.after_leaf)
         ∙ h
+
     passed : ((spot : Spot) → endings_stand_from spot (listed_from bytes place es) ≡ endings_stand_from spot es) →
         (kind : Kind) (name : Name) → is_item (role name) ≡ false →
         endings_stand_from s (listed_from bytes place (record e { kind = kind; name = name } ∷ es))
@@ -237,8 +239,10 @@ pieces-kept bytes f place (e ∷ es) =
   where
     inner : Place
     inner = record { within = false; markers = marker_ahead bytes es ∷ place.markers }
+
     item : Event
     item = record e { kind = Enter; name = n.ListItem }
+
     begins : (within : Bool) → pieces_from item (listed_from bytes inner es) ≡ pieces_from item es →
         pieces_from f
         ((list_begin within (marker_ahead bytes es) e.point ++ item ∷ []) ++ listed_from bytes inner es)
@@ -248,6 +252,7 @@ pieces-kept bytes f place (e ∷ es) =
         (append_assoc (list_begin within (marker_ahead bytes es) e.point) (item ∷ []) (listed_from bytes inner es))
         ∙ begin-pieces f item within (marker_ahead bytes es) e.point (listed_from bytes inner es)
         ∙ more-pieces f item (listed_from bytes inner es) es h
+
     passed : ((g : Event) → pieces_from g (listed_from bytes place es) ≡ pieces_from g es) →
         (kind : Kind) (name : Name) → is_item (role name) ≡ false →
         pieces_from f (listed_from bytes place (record e { kind = kind; name = name } ∷ es))

@@ -4,7 +4,6 @@
 -- one does: it is open around what was entered since its last item.
 use Rattle.std.proofs.Common.{◌≡◌, ℕ, Bool, true, false, cond, List, [], ◌∷◌, ◌++◌, refl, ap, sym, ◌∙◌, subst}
 use Rattle.std.specs.Prelude.{IsTrue, Option, Some, None, if◌then◌else◌}
-use Rattle.std.proofs.lemmas.Bool.{eqb-true}
 use Rattle.md_engine.specs.declared.event.Event.{Event}
 use Rattle.md_engine.specs.declared.event.Kind.{Kind}
 use Rattle.md_engine.specs.declared.event.Kind.TheVariants.{Enter, Exit}
@@ -18,7 +17,7 @@ use Rattle.md_containers.specs.Listed.{marker_ahead, next_by, next_item, outside
 use Rattle.md_containers.proofs.ListedKept.{by-turn}
 use Rattle.md_containers.proofs.ListedLemmas.{passes-given}
 use Rattle.md_containers.proofs.ListedBlockSteps.{goes_on-some}
-use Rattle.md_seam.specs.Events.Nested.{Balanced, Fits, Forward, Matches, Nested, enter, exit, open_after, open_behind}
+use Rattle.md_seam.specs.Events.Nested.{Forward, Matches, Nested, exit, open_after}
 use Rattle.md_seam.specs.Events.Places.{at_or_before, first_point}
 use Rattle.md_seam.specs.Events.Spelled.{role}
 use Rattle.md_seam.proofs.NestedLemmas.{at_or_before-refl}
@@ -130,6 +129,7 @@ end-item bytes p link es m entries keeps holds good matches held = go (goes_on m
         open_after (lists_of (ItemOf m ∷ entries))
         (event Exit n.ListItem p link ∷ (if x then [] else exit (list_name m) p ∷ [])
         ++ listed_from bytes (record { within = x; markers = markers_of entries }) es) ≡ [])
+
     go : (x : Bool) → goes_on m (next_item bytes es) ≡ x → Of (goes_on m (next_item bytes es))
     go true h =
         subst Of (sym h)
@@ -176,6 +176,7 @@ pass-next kind name ahead m next i h = go (is_block (role name)) refl kind h
   where
     none : Option ℕ
     none = None
+
     go : (x : Bool) → is_block (role name) ≡ x → (kind : Kind) → next_by kind (role name) ahead next ≡ Some m →
         (is_block (role name) ≡ false) × (next ≡ Some m)
     go true b Enter h = absurd (let no : none ≡ Some m = sym (rw (b, i) refl) ∙ h in cc)
@@ -288,8 +289,7 @@ forward-kept bytes p place (e ∷ es) h =
     by-turn
     (λ (kind : Kind) (name : Name). Forward p (listed_from bytes place (event kind name e.point e.link ∷ es)))
     (begin-forward bytes p e.point e.link place es h.0
-    (forward-kept bytes e.point (record { within = false; markers = marker_ahead bytes es ∷ place.markers }) es h.1))
-    (
+    (forward-kept bytes e.point (record { within = false; markers = marker_ahead bytes es ∷ place.markers }) es h.1)) (
       h.0,
       end-forward place.markers (next_item bytes es) e.point
           (listed_from bytes (place_behind place (next_item bytes es)) es)

@@ -3,40 +3,31 @@
 -- Both are read side by side. What is read of the one follows from what is read of the other and from the lists that are
 -- open (`as_listed`): for each open item, its list with the items so far; and the list whose next item is to come, if
 -- one goes on. `Stepped` says that an event keeps this.
-use Rattle.std.proofs.Common.{◌≡◌, ℕ, suc, ◌+◌, ◌-◌, ◌<◌, Bool, true, false, cond, List, [], ◌∷◌, ◌++◌, map, drop, take, length}
-use Rattle.std.proofs.Common.{slice_range, refl, ap, sym, subst, ◌∙◌, arith}
-use Rattle.std.specs.Prelude.{◌==◌, ◌||◌, if◌then◌else◌, nat_lt, Option, Some, None, option_map, get_or, slice_get}
+use Rattle.std.proofs.Common.{◌≡◌, ℕ, Bool, true, false, List, [], ◌∷◌, ◌++◌, map, length}
+use Rattle.std.proofs.Common.{refl, ap, sym, subst, ◌∙◌}
+use Rattle.std.specs.Prelude.{if◌then◌else◌, nat_lt, Option, Some, None, get_or}
 use Rattle.std.specs.Option.{is_some}
-use Rattle.std.proofs.lemmas.Bool.{eqb-true}
-use Rattle.std.proofs.lemmas.List.{get_or-drop}
 use Rattle.md_engine.specs.declared.event.Event.{Event}
 use Rattle.md_engine.specs.declared.event.Kind.{Kind}
 use Rattle.md_engine.specs.declared.event.Kind.TheVariants.{Enter, Exit}
 use Rattle.md_engine.specs.declared.event.Name.TheVariants as n
 use Rattle.md_engine.specs.declared.event.Point.{Point}
-use Rattle.md_definition.specs.Containers.{is_bullet}
-use Rattle.md_definition.specs.Grouped.{grouped, grouped_block}
+use Rattle.md_definition.specs.Grouped.{grouped}
 use Rattle.md_definition.specs.State.{then_block}
-use Rattle.md_definition.specs.Texts.{first_byte, split_lines, trim_each}
-use Rattle.md_definition.specs.Tree.{Block, Blocks, End, Footnote, Item, Line, ListOf, More, Paragraph, Quote}
-use Rattle.md_seam.specs.Events.Spelled.{Around, AsDigits, AsFootnoteLabel, AsItemMarker, AsParagraph, BreakLeaf, Fenced}
-use Rattle.md_seam.specs.Events.Spelled.{FootnoteShape, Holds, IsCell, IsEnding, IsFence, IsPrefix, IsQuiet, IsRow}
-use Rattle.md_seam.specs.Events.Spelled.{IsTitle, ItemShape, LeafKind, OpenLeaf, Opens, OrderedShape, Purpose, QuoteShape}
-use Rattle.md_seam.specs.Events.Spelled.{Reading, Role, Shape, Tells, Text, UnorderedShape, at_ending, begun, block_around}
-use Rattle.md_seam.specs.Events.Spelled.{block_of, finished, first_told, fresh, is_ordered, left, list_marker, named}
-use Rattle.md_seam.specs.Events.Spelled.{next_line, on_leaf, on_shape, read, read_by, role, spelled, text_to, told, told_at}
-use Rattle.md_seam.specs.Events.Spelled.{after_prefix, at_cell, at_fence, at_row, at_title, before_prefix, behind_title, noted, unread}
+use Rattle.md_definition.specs.Tree.{Blocks, End, Item, Line, ListOf, More}
+use Rattle.md_seam.specs.Events.Spelled.{Around, AsDigits, AsFootnoteLabel, AsItemMarker, AsParagraph}
+use Rattle.md_seam.specs.Events.Spelled.{FootnoteShape, Holds, IsEnding}
+use Rattle.md_seam.specs.Events.Spelled.{ItemShape, OpenLeaf, Opens, OrderedShape, Purpose, QuoteShape}
+use Rattle.md_seam.specs.Events.Spelled.{Reading, Role, Shape, Tells, Text, UnorderedShape, at_ending, begun}
+use Rattle.md_seam.specs.Events.Spelled.{is_ordered, left}
+use Rattle.md_seam.specs.Events.Spelled.{next_line, on_leaf, read, read_by, role, text_to, told, told_at}
 use Rattle.md_seam.specs.Events.Nested.{exit}
-use Rattle.md_seam.proofs.SpelledLemmas.{read-append}
-use Rattle.md_containers.specs.ItemsStand.{AmongBlocks, Closes, InFront, InLabel, InLeaf, InMarker, InParagraph, Inner}
-use Rattle.md_containers.specs.ItemsStand.{IsBetween, IsHolder, IsMarkerAt, IsOfLeaf, IsPart, ItemsStand, MayBegin, MayEnd}
-use Rattle.md_containers.specs.ItemsStand.{MayStand, Site, is_item_shape, is_list_marker, root, site_after}
-use Rattle.md_containers.specs.Listed.{Begins, Ends, Place, Stays, Turn, given, given_by, goes_on, list_begin, list_end, list_name, listed}
-use Rattle.md_containers.specs.Listed.{listed_from, marker_ahead, marker_by, next_by, next_item, outside, place_after}
+use Rattle.md_containers.specs.ItemsStand.{AmongBlocks, InFront, InLabel, InLeaf, InMarker, InParagraph, Inner}
+use Rattle.md_containers.specs.ItemsStand.{IsMarkerAt, IsOfLeaf}
+use Rattle.md_containers.specs.ItemsStand.{Site, is_list_marker}
+use Rattle.md_containers.specs.Listed.{Begins, Ends, Place, Stays, Turn, given_by, goes_on, list_begin, list_end, list_name}
 use Rattle.md_containers.specs.Listed.{place_by, turn}
-use Rattle.md_containers.proofs.GroupedLemmas.{IsNoListOf, IsOther, NoList, NoLists, grouped-item, grouped-other}
-use Rattle.md_containers.proofs.GroupedLemmas.{last-apart, last-same, no-lists-then, other-is-no-list, other-no-list}
-use Rattle.md_containers.proofs.GroupedLemmas.{with_last}
+use Rattle.md_containers.proofs.GroupedLemmas.{NoLists}
 
 -- Lists that are open.
 
@@ -187,6 +178,7 @@ read-turn bytes Ends place ahead next e r = go place.markers
   where
     s : Reading
     s = read_by bytes e.kind (role e.name) e.point r
+
     go : (markers : List ℕ) → read bytes s (list_end markers next e.point) ≡ ended_list markers next s
     go [] = refl
     go (m ∷ markers) = by (goes_on m next)

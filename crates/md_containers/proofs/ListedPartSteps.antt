@@ -1,41 +1,33 @@
 -- In front of an item's marker, in a footnote's label, in a leaf block and in a paragraph: each event keeps what is known
 -- of both readings.
-use Rattle.std.proofs.Common.{◌≡◌, ℕ, suc, ◌+◌, ◌-◌, ◌<◌, Bool, true, false, cond, List, [], ◌∷◌, ◌++◌, map, drop, take, length}
+use Rattle.std.proofs.Common.{◌≡◌, ℕ, ◌+◌, ◌-◌, Bool, true, false, List, [], ◌∷◌, drop, take, length}
 use Rattle.std.proofs.Common.{slice_range, refl, ap, sym, subst, ◌∙◌, arith}
-use Rattle.std.specs.Prelude.{◌==◌, ◌||◌, if◌then◌else◌, nat_lt, Option, Some, None, option_map, get_or, slice_get}
-use Rattle.std.specs.Option.{is_some}
-use Rattle.std.proofs.lemmas.Bool.{eqb-true}
+use Rattle.std.specs.Prelude.{◌==◌, if◌then◌else◌, nat_lt, Option, Some, None, option_map, get_or}
 use Rattle.std.proofs.lemmas.List.{get_or-drop}
-use Rattle.md_engine.specs.declared.event.Event.{Event}
 use Rattle.md_engine.specs.declared.event.Kind.{Kind}
 use Rattle.md_engine.specs.declared.event.Kind.TheVariants.{Enter, Exit}
-use Rattle.md_engine.specs.declared.event.Name.TheVariants as n
 use Rattle.md_engine.specs.declared.event.Point.{Point}
-use Rattle.md_definition.specs.Containers.{is_bullet}
 use Rattle.md_definition.specs.Grouped.{grouped, grouped_block}
 use Rattle.md_definition.specs.State.{then_block}
 use Rattle.md_definition.specs.Texts.{first_byte, split_lines, trim_each}
-use Rattle.md_definition.specs.Tree.{Block, Blocks, End, Footnote, Item, Line, ListOf, More, Paragraph, Quote}
-use Rattle.md_seam.specs.Events.Spelled.{Around, AsDigits, AsFootnoteLabel, AsItemMarker, AsParagraph, BreakLeaf, Fenced}
+use Rattle.md_definition.specs.Tree.{Block, Blocks, End, Paragraph}
+use Rattle.md_seam.specs.Events.Spelled.{Around, AsDigits, AsFootnoteLabel, AsItemMarker, AsParagraph, BreakLeaf}
 use Rattle.md_seam.specs.Events.Spelled.{FootnoteShape, Holds, IsCell, IsEnding, IsFence, IsPrefix, IsQuiet, IsRow}
-use Rattle.md_seam.specs.Events.Spelled.{IsTitle, ItemShape, LeafKind, OpenLeaf, Opens, OrderedShape, Purpose, QuoteShape}
-use Rattle.md_seam.specs.Events.Spelled.{Reading, Role, Shape, Tells, Text, UnorderedShape, at_ending, begun, block_around}
-use Rattle.md_seam.specs.Events.Spelled.{block_of, finished, first_told, fresh, is_ordered, left, list_marker, named}
-use Rattle.md_seam.specs.Events.Spelled.{next_line, on_leaf, on_shape, read, read_by, role, spelled, text_to, told, told_at}
-use Rattle.md_seam.specs.Events.Spelled.{after_prefix, at_cell, at_fence, at_row, at_title, before_prefix, behind_title, noted, unread}
-use Rattle.md_seam.specs.Events.Nested.{exit}
-use Rattle.md_seam.proofs.SpelledLemmas.{read-append}
-use Rattle.md_containers.specs.ItemsStand.{AmongBlocks, Closes, InFront, InLabel, InLeaf, InMarker, InParagraph, Inner}
-use Rattle.md_containers.specs.ItemsStand.{IsBetween, IsHolder, IsMarkerAt, IsOfLeaf, IsPart, ItemsStand, MayBegin, MayEnd}
-use Rattle.md_containers.specs.ItemsStand.{MayStand, Site, is_item_shape, is_list_marker, root, site_after}
-use Rattle.md_containers.specs.Listed.{Begins, Ends, Place, Stays, Turn, given, given_by, goes_on, list_begin, list_end, list_name, listed}
-use Rattle.md_containers.specs.Listed.{listed_from, marker_ahead, marker_by, next_by, next_item, outside, place_after}
+use Rattle.md_seam.specs.Events.Spelled.{IsTitle, ItemShape, OpenLeaf, Opens, Purpose, QuoteShape}
+use Rattle.md_seam.specs.Events.Spelled.{Reading, Role, Shape, Tells, Text, at_ending, begun}
+use Rattle.md_seam.specs.Events.Spelled.{block_of, finished, named}
+use Rattle.md_seam.specs.Events.Spelled.{next_line, on_leaf, on_shape, read_by, text_to, told_at}
+use Rattle.md_seam.specs.Events.Spelled.{after_prefix, at_cell, at_fence, at_row, at_title, before_prefix, behind_title, noted}
+use Rattle.md_containers.specs.ItemsStand.{AmongBlocks, InFront, InLabel, InLeaf, InMarker, InParagraph, Inner}
+use Rattle.md_containers.specs.ItemsStand.{IsBetween, IsMarkerAt, IsOfLeaf, IsPart, MayBegin, MayEnd}
+use Rattle.md_containers.specs.ItemsStand.{is_list_marker, site_after}
+use Rattle.md_containers.specs.Listed.{Stays, Turn}
+use Rattle.md_containers.specs.Listed.{marker_by, next_by}
 use Rattle.md_containers.specs.Listed.{place_by, turn}
-use Rattle.md_containers.proofs.GroupedLemmas.{IsNoListOf, IsOther, NoList, NoLists, grouped-item, grouped-other}
-use Rattle.md_containers.proofs.GroupedLemmas.{last-apart, last-same, no-lists-then, other-is-no-list, other-no-list}
-use Rattle.md_containers.proofs.GroupedLemmas.{with_last}
-use Rattle.md_containers.proofs.ListedOpen.{OpenList, list_shape, list_around, outer_by, moved, as_listed, place_of, Heads, Fits, Apart, IsItemOf, IsBegun, IsNoItem, Agree, AgreeFront, AgreeAt, first_marker, Knows, Known, entered_list, begun_list, ended_list, read_turn, role-list, read-turn, Passes, told-moved, told_at-moved, ending-moved, passes-moved, passes-outer, passes-here, passes-listed, passes-turn, Stepped, passed}
-use Rattle.md_containers.proofs.ListedBlockSteps.{between-passes, between-next, know-same, among-between, none-some, holder-begins, apart-end, item-begins, among-begin, other-apart, shape-other, shape-grouped, holder-ends, goes_on-some, heads-then, headed, list-around, fits-on, apart-behind, item-ended, item-ends, among-end}
+use Rattle.md_containers.proofs.GroupedLemmas.{IsOther, NoLists, grouped-other}
+use Rattle.md_containers.proofs.GroupedLemmas.{no-lists-then, other-is-no-list}
+use Rattle.md_containers.proofs.ListedOpen.{OpenList, outer_by, moved, as_listed, place_of, Apart, IsItemOf, IsBegun, IsNoItem, Agree, AgreeFront, first_marker, Known, read_turn, Passes, passes-here, Stepped, passed}
+use Rattle.md_containers.proofs.ListedBlockSteps.{between-passes, apart-end, other-apart}
 
 -- What tells something of a container.
 

@@ -1,9 +1,8 @@
 -- Lists around items, and text parts: the parts of events stay as they were, and lists may be put around items before
 -- text parts are read or behind.
-use Rattle.std.proofs.Common.{◌≡◌, ℕ, zero, suc, Bool, true, false, cond, ◌&&◌, List, [], ◌∷◌, ◌++◌, refl, ap, sym, ◌∙◌, subst}
+use Rattle.std.proofs.Common.{◌≡◌, ℕ, Bool, true, false, cond, ◌&&◌, List, [], ◌∷◌, ◌++◌, refl, ap, sym, ◌∙◌}
 use Rattle.std.proofs.Common.{append_assoc}
-use Rattle.std.specs.Prelude.{Option, Some, None, ◌==◌, not, if◌then◌else◌}
-use Rattle.std.specs.List.{list_all}
+use Rattle.std.specs.Prelude.{Option, Some, None, if◌then◌else◌}
 use Rattle.md_engine.specs.declared.event.Event.{Event}
 use Rattle.md_engine.specs.declared.event.Kind.{Kind}
 use Rattle.md_engine.specs.declared.event.Kind.TheVariants.{Enter, Exit}
@@ -15,11 +14,11 @@ use Rattle.md_containers.specs.Listed.{marker_ahead, next_item, outside, place_b
 use Rattle.md_containers.proofs.ListedKept.{begin-pieces, by-turn, end-pieces, first-pieces, more-pieces}
 use Rattle.md_containers.proofs.ListedLemmas.{passes-given}
 use Rattle.md_seam.specs.declared.inline.PartKind.{PartKind}
-use Rattle.md_seam.specs.Events.Inline.{Part, Piece, is_linked, pieces, pieces_from}
+use Rattle.md_seam.specs.Events.Inline.{Part, Piece, pieces, pieces_from}
 use Rattle.md_seam.specs.Events.Nested.{enter, exit, is_exit}
 use Rattle.md_seam.specs.Events.Places.{first_point}
 use Rattle.md_seam.specs.Events.Spelled.{is_ordered, role}
-use Rattle.md_seam.specs.Events.Tiles.{chunks, chunks_stand, inside_part, is_part, part_at, part_end, part_kind, part_of}
+use Rattle.md_seam.specs.Events.Tiles.{chunks, inside_part, is_part, part_at, part_end, part_kind, part_of}
 use Rattle.md_seam.specs.Events.Tiles.{part_stands, parts, parts_stand}
 
 -- what holds of both names of lists
@@ -68,10 +67,13 @@ inside-kept bytes f place (e ∷ es) =
   where
     inner : Place
     inner = record { within = false; markers = marker_ahead bytes es ∷ place.markers }
+
     behind : Place
     behind = place_behind place (next_item bytes es)
+
     item : Event
     item = record e { kind = Enter; name = n.ListItem }
+
     begins : (within : Bool) →
         pieces_from item (inside_part (listed_from bytes inner es)) ≡ pieces_from item (inside_part es) →
         pieces_from f
@@ -84,6 +86,7 @@ inside-kept bytes f place (e ∷ es) =
         (inside-begin within (marker_ahead bytes es) e.point (item ∷ listed_from bytes inner es))
         ∙ begin-pieces f item within (marker_ahead bytes es) e.point (inside_part (listed_from bytes inner es))
         ∙ more-pieces f item (inside_part (listed_from bytes inner es)) (inside_part es) h
+
     passed : ((g : Event) →
         pieces_from g (inside_part (listed_from bytes place es)) ≡ pieces_from g (inside_part es)) →
         (kind : Kind) (name : Name) → is_item (role name) ≡ false →
@@ -96,6 +99,7 @@ inside-kept bytes f place (e ∷ es) =
       where
         passing : Event
         passing = record e { kind = kind; name = name }
+
         go : (x : Bool) →
             pieces_from f (cond x [] (passing ∷ inside_part (listed_from bytes place es)))
             ≡ pieces_from f (cond x [] (passing ∷ inside_part es))
@@ -145,10 +149,13 @@ end-kept bytes place (e ∷ es) =
   where
     inner : Place
     inner = record { within = false; markers = marker_ahead bytes es ∷ place.markers }
+
     behind : Place
     behind = place_behind place (next_item bytes es)
+
     item : Event
     item = record e { kind = Enter; name = n.ListItem }
+
     passed : part_end (listed_from bytes place es) ≡ part_end es → (kind : Kind) (name : Name) →
         is_item (role name) ≡ false →
         part_end (listed_from bytes place (record e { kind = kind; name = name } ∷ es))
@@ -187,10 +194,13 @@ joins-kept A F joins bytes place (e ∷ es) =
   where
     inner : Place
     inner = record { within = false; markers = marker_ahead bytes es ∷ place.markers }
+
     behind : Place
     behind = place_behind place (next_item bytes es)
+
     item : Event
     item = record e { kind = Enter; name = n.ListItem }
+
     passed : F (listed_from bytes place es) ≡ F es → (kind : Kind) (name : Name) → is_item (role name) ≡ false →
         F (listed_from bytes place (record e { kind = kind; name = name } ∷ es))
         ≡ F (record e { kind = kind; name = name } ∷ es)
@@ -222,6 +232,7 @@ parts-join = record {
     begins : (within : Bool) (m : ℕ) (p : Point) (es : List Event) → parts (list_begin within m p ++ es) ≡ parts es
     begins true m p es = refl
     begins false m p es = by-list (λ (name : Name). parts (enter name p ∷ es) ≡ parts es) refl refl m
+
     ends : (markers : List ℕ) (next : Option ℕ) (p : Point) (es : List Event) →
         parts (list_end markers next p ++ es) ≡ parts es
     ends [] next p es = refl
@@ -260,6 +271,7 @@ stand-join text = record {
         parts_stand text (list_begin within m p ++ es) ≡ parts_stand text es
     begins true m p es = refl
     begins false m p es = by-list (λ (name : Name). parts_stand text (enter name p ∷ es) ≡ parts_stand text es) refl refl m
+
     ends : (markers : List ℕ) (next : Option ℕ) (p : Point) (es : List Event) →
         parts_stand text (list_end markers next p ++ es) ≡ parts_stand text es
     ends [] next p es = refl

@@ -2,7 +2,7 @@
 -- else, no list.
 use Rattle.std.proofs.Common.{◌≡◌, Bool, true, false, cond, ◌&&◌, ◌||◌, not, List, [], ◌∷◌, refl, ap, sym, ◌∙◌, ◌⊎◌, inl, inr}
 use Rattle.std.specs.List.{list_any}
-use Rattle.std.proofs.lemmas.Bool.{and_from, and_parts, not-true}
+use Rattle.std.proofs.lemmas.Bool.{and_from, and_parts}
 use Rattle.md_engine.specs.declared.event.Name.{Name}
 use Rattle.md_engine.specs.declared.event.Name.TheVariants as n
 use Rattle.md_containers.specs.Unlisted.{in_place}
@@ -257,8 +257,7 @@ stage-lists _ = (inr refl, refl, refl)
 
 pub tame-lists : (x : Expression) → IsTame x → ListsWell x
 tame-lists x (inl h) =
-    let well : ListsWell (left_at h.0) = stage-lists h.0 in
-    (
+    let well : ListsWell (left_at h.0) = stage-lists h.0 in (
       moved well.0,
       ap (behind n.ListUnordered) h.1 ∙ well.1 ∙ ap (behind n.ListOrdered) (sym h.1),
       ap (behind n.ListItem) h.1 ∙ well.2,

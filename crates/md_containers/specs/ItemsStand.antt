@@ -9,8 +9,8 @@ use Rattle.md_engine.specs.declared.event.Kind.TheVariants.{Enter, Exit}
 use Rattle.md_engine.specs.declared.event.Point.{Point}
 use Rattle.md_definition.specs.Containers.{is_bullet}
 use Rattle.md_seam.specs.Events.Spelled.{AsDigits, AsFootnoteLabel, AsItemMarker, AsParagraph, FootnoteShape, Holds}
-use Rattle.md_seam.specs.Events.Spelled.{IsCell, IsEnding, IsFence, IsPrefix, IsQuiet, IsRow, IsTitle, ItemShape, Opens}
-use Rattle.md_seam.specs.Events.Spelled.{OrderedShape, Purpose, QuoteShape, Role, Shape, Tells, UnorderedShape, is_ordered, role}
+use Rattle.md_seam.specs.Events.Spelled.{IsEnding, IsPrefix, IsQuiet, ItemShape, Opens}
+use Rattle.md_seam.specs.Events.Spelled.{Purpose, QuoteShape, Role, Shape, Tells, is_ordered, role}
 
 -- `*`, `+`, `-`, `.` and `)` are markers of items (CommonMark 5.2)
 abbrev pub is_list_marker : ℕ → Bool

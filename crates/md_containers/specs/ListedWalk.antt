@@ -1,5 +1,5 @@
 -- Where the walk that puts lists around items stands.
-use Rattle.std.specs.Prelude.{List, reverse}
+use Rattle.std.specs.Prelude.{reverse}
 use Rattle.md_containers.specs.declared.lists.Walk.{Walk}
 use Rattle.md_containers.specs.Listed.{Place}
 

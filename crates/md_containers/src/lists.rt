@@ -1,8 +1,8 @@
 // Lists around items, in one walk over the events.
 //
-// Neighbouring items with the same marker are one list, also where blank lines stand between them. Each event is looked
-// at once as it is passed, and at most once from an item in front of it that asks for its marker and once from one that
-// asks for the next block: so the walk is linear, however items are nested and whatever stands between them.
+// Neighbouring items with the same marker are one list, also where blank lines stand between them. The walk looks at each
+// event as it passes it, and else at most once from an item in front of it that asks for its marker, and once from one
+// that asks for the next block. So it is linear, however items are nested and whatever stands between them.
 
 ghost use Rattle.std.specs.Prelude.{◌≡◌, ℕ, ◌≤◌, ◌++◌, ◌∷◌, ◌&&◌, [], IfOk, List, None, OnOk, get_or, length};
 ghost use Rattle.std.specs.List.{prefix_len};
@@ -64,11 +64,7 @@ fn begins_marker(event: &Event) -> bool
 fn byte_at(bytes: &[u8], index: usize) -> u8
     ensures { result ≡ get_or bytes.now index 0 }
 {
-    if index < bytes.len() {
-        bytes[index]
-    } else {
-        0
-    }
+    if index < bytes.len() { bytes[index] } else { 0 }
 }
 
 /// The marker of the item behind whose begin these events stand: 0 if a block stands in front of it, or there is none.
@@ -241,8 +237,13 @@ impl Walk {
     }
 }
 
-/// The events with the lists around their items, written into `spare`.
-fn put_lists(alloc: Global, bytes: &[u8], events: &[Event], spare: Vec<Event>) -> Result<Vec<Event>, Message>
+/// The events with the lists around their items, written into `spare`, which is empty.
+pub fn put_lists(
+    alloc: Global,
+    bytes: &[u8],
+    events: &[Event],
+    spare: Vec<Event>,
+) -> Result<Vec<Event>, Message>
     requires { spare.items ≡ [] }
     ensures events { IfOk result (λ all. all.items ≡ listed bytes.now events.now) }
     ensures placed { IfOk result
