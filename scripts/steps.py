@@ -23,9 +23,9 @@ REQUESTS = 60
 MOST: dict[str, tuple[int, int]] = {
     "paragraphs of long lines": (7, 8),
     "one long line": (95, 116),
-    "headings of some words": (27, 28),
+    "headings of some words": (41, 28),
     "quotes of long lines": (35, 60),
-    "quotes in quotes in quotes": (31, 88),
+    "quotes in quotes in quotes": (36, 88),
     "blank lines": (648, 4_882),
     "one line of tabs": (745, 4_882),
     "one line of spaces": (3_192, 4_882),
