@@ -7,3 +7,4 @@ use Rattle.md_engine.specs.declared.tokenizer.container.name.ContainerKind.TheVa
 -- the name of a container's events
 abbrev pub name_of : ContainerKind → Name
 name_of kind.BlockQuote = n.BlockQuote
+name_of kind.ListItem = n.ListItem

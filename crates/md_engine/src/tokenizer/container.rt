@@ -10,9 +10,9 @@ pub use crate::tokenizer::container::name::ContainerKind;
 /// A container that is open.
 #[derive(Clone, Copy, Debug, PartialEq, Eq)]
 pub struct Container {
-    pub kind: ContainerKind,
     /// The columns that a further line of a list item has to lose (CommonMark 5.2).
     pub width: usize,
+    pub kind: ContainerKind,
     /// Whether the first line of a list item was blank behind its marker, and no further one was read yet.
     pub starts_blank: bool,
 }
@@ -23,8 +23,8 @@ impl Container {
         ensures { result ≡ container_of kind }
     {
         Container {
-            kind,
             width: 0,
+            kind,
             starts_blank: false,
         }
     }

@@ -9,6 +9,7 @@ use crate::event::Name;
 #[derive(Clone, Copy, Debug, PartialEq, Eq)]
 pub enum ContainerKind {
     BlockQuote,
+    ListItem,
 }
 
 /// The name of a container's events.
@@ -17,5 +18,6 @@ pub(crate) fn name_of(kind: ContainerKind) -> Name
 {
     match kind {
         ContainerKind::BlockQuote => Name::BlockQuote,
+        ContainerKind::ListItem => Name::ListItem,
     }
 }
