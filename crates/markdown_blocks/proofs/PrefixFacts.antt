@@ -1,8 +1,10 @@
 -- What is known of the events that stand in front of the content of a container on a line, from the point where they
 -- begin to the one where its content does: the frame needs no more of a container.
-use Rattle.std.proofs.Common.{◌≡◌, ◌≢◌, ℕ, true, List, [], ◌∷◌, ◌++◌}
+use Rattle.std.proofs.Common.{◌≡◌, ◌≢◌, ℕ, Bool, true, List, [], ◌∷◌, ◌++◌}
 use Rattle.md_engine.specs.declared.event.Event.{Event}
 use Rattle.md_engine.specs.declared.event.Point.{Point}
+use Rattle.md_containers.specs.ItemsStand.{is_item_shape}
+use Rattle.md_containers.proofs.UnlistedLemmas.{StandsTo, Unlists, among}
 use Rattle.md_definition.specs.State.{Container}
 use Rattle.md_seam.specs.Events.Grammar.{Expression, behind_block, blocks}
 use Rattle.md_seam.specs.Events.Nested.{enter}
@@ -68,9 +70,12 @@ pub record Opens (bytes : List ℕ) (c : Container) (p q : Point) (es : List Eve
   pub names : AreFront es
   -- the tree shows none of them
   pub roles : Roles QuietOrPrefix es
-  -- with the begin of the container, they keep the grammar
+  -- with the begin of the container, they keep the grammar of events without lists
   pub leads : (text : Expression) →
-      grammar.Leads text (blocks ∷ []) (blocks ∷ behind_block ∷ []) (enter (container_name c) p ∷ es)
+      Unlists text (blocks ∷ []) (blocks ∷ behind_block ∷ []) (enter (container_name c) p ∷ es)
+  -- blocks may stand in it behind them, and an item tells its marker
+  pub stands : (held : List Bool) →
+      StandsTo bytes (among held) (among (is_item_shape (shape_of c) ∷ held)) (enter (container_name c) p ∷ es)
   -- the container is read, and they are not
   pub read : (r : Reading) → r.text ≡ None → read bytes r (enter (container_name c) p ∷ es) ≡ begins c r
   -- an outline shows the container

@@ -161,6 +161,7 @@ front-own name h = front-heading name h
 
 pub container-laws : (k : ContainerKind) → ContainerLaws k (container_rules k)
 container-laws kind.BlockQuote = quote-laws
+container-laws kind.ListItem = ?
 
 -- the block of each makes no list, where those in it make none: so the tree is what the lines come to, ungrouped
 pub container-unlisted : (k : ContainerKind) (c : Container) (bs : Blocks) → IsOf k c → grouped bs ≡ bs →
@@ -171,6 +172,7 @@ container-unlisted kind.BlockQuote c bs is h = quote-unlisted c bs is h
 pub opener-before : (state : DocumentState) (k : ContainerKind) → opener_at state ≡ Some k →
     (container_rules k).before ≡ state
 opener-before document.ContainerNewBefore kind.BlockQuote e = refl
+opener-before document.ContainerNewBeforeNotBlockQuote kind.ListItem e = refl
 opener-before _ _ e = cc
 
 -- those behind a container are tried behind the first of them, but for it
@@ -214,11 +216,6 @@ found_by options interrupting r [] = None
 found_by options interrupting r (k ∷ ks) =
     option_or ((container_rules k).found options interrupting r) (found_by options interrupting r ks)
 
-item-off : (options : ParseOptions) (interrupting : Bool) (r : Rest) → options.constructs.list_item ≡ false →
-    opens_item options interrupting r ≡ None
-unfolding opens_item
-item-off options interrupting r off = rw off refl
-
 footnote-off : (options : ParseOptions) (r : Rest) → options.constructs.gfm_footnote_definition ≡ false →
     opens_footnote options r ≡ None
 unfolding opens_footnote
@@ -227,9 +224,7 @@ footnote-off options r off = rw off refl
 pub opens-found : (options : ParseOptions) (interrupting : Bool) (r : Rest) → IsBuilt options →
     opens options interrupting r ≡ found_by options interrupting r openers
 opens-found options interrupting r built =
-    ap (λ (o : Option Taken). option_or (opens_quote options r) (option_or o (opens_footnote options r)))
-    (item-off options interrupting r built.list_item)
-    ∙ ap (λ (o : Option Taken). option_or (opens_quote options r) o)
+    ap (λ (o : Option Taken). option_or (opens_quote options r) (option_or (opens_item options interrupting r) o))
     (footnote-off options r built.gfm_footnote_definition)
 
 -- States.

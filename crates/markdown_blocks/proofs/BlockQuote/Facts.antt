@@ -226,7 +226,8 @@ quote-opens bytes p q es is = record {
   common = prefix-facts bytes p q es is;
   names = prefixes-front es (prefix-are bytes p q es is);
   roles = prefixes-roles QuietOrPrefix es tt tt (prefix-are bytes p q es is);
-  leads = prefix-begins bytes p q es is;
+  leads = ?;
+  stands = ?;
   read =
       λ r none. read-prefixes bytes (begins InQuote r) es none
       (prefixes-roles QuietOrPrefix es tt tt (prefix-are bytes p q es is));

@@ -13,7 +13,7 @@ use Rattle.md_outline.specs.HeadingDepths.{is_shallow}
 use Rattle.md_definition.specs.State.{Container, InFootnote, InItem, InQuote, container_block}
 use Rattle.md_seam.proofs.RestCells.{past_rest, rest_cells}
 use Rattle.markdown_blocks.specs.Containers.BlockQuote.{quote_rules}
-use Rattle.markdown_blocks.specs.Registry.{IsOf, kind_of, shape_of}
+use Rattle.markdown_blocks.specs.Registry.{IsOf, container_kind}
 use Rattle.markdown_blocks.proofs.BlockQuote.Fronts.{quote-begins, quote-goes}
 use Rattle.markdown_blocks.proofs.BlockQuote.Tree.{no_quote-empty, opens-quote, unlisted-quote}
 use Rattle.markdown_blocks.proofs.BlockQuote.Trial.{prefix-ended, prefix-held, prefix-looked, prefix-passed, prefix-tried}
@@ -48,7 +48,7 @@ quote-laws = record {
   held_on = λ options held c cells p t holds e. prefix-held options cells p t e;
   opens_agrees = λ options interrupting. quote-begins options interrupting;
   goes_agrees = goes;
-  found_one = λ options interrupting r t e. ap (λ (c : Container). kind_of (shape_of c)) (opens-quote options r t e);
+  found_one = λ options interrupting r t e. ap container_kind (opens-quote options r t e);
   opens_not = λ options interrupting cells p ends. quote-ended options interrupting cells p ends;
   goes_over = λ options held c cells p is holds ends. prefix-ended options cells p ends;
   over_empty = λ options held c column is holds.
