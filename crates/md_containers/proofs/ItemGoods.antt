@@ -3,7 +3,6 @@ use Rattle.std.proofs.Common.{◌≡◌, ℕ, zero, suc, ◌+◌, ◌<◌, ◌�
 use Rattle.std.proofs.Common.{Option, Some, None, length, refl, arith, ap, sym, subst, ◌∙◌}
 use Rattle.std.proofs.lemmas.Bool.Decides.{nat_tests}
 use Rattle.md_engine.specs.declared.event.Name.TheVariants as parts
-use Rattle.md_engine.specs.declared.resolve.name.Name.{Name as ResolveName}
 use Rattle.md_engine.specs.declared.state.Name.TheVariants as n
 use Rattle.md_engine.specs.declared.state.State.TheVariants.{Next}
 use Rattle.md_engine.specs.declared.state.blank_line.State.TheVariants as blank_line
@@ -306,7 +305,7 @@ good_filled T w has r = (
 
 good_whitespace : (T : Scheme) (w : World) → ItemFits T →
     item_ready (n.ListItem its.Whitespace) (spot w) (after_all T w.frames) →
-    Does T (n.ListItem its.Whitespace) w (item_transition (λ name. true) its.Whitespace w)
+    Does T (n.ListItem its.Whitespace) w (item_transition its.Whitespace w)
 good_whitespace T w has r =
     white_try T item_scheme _ (n.ListItem its.WhitespaceAfter) w w.events w.scratch 1 4 IsFilled IsFilled has.white
     (has.each its.Whitespace) (has.each its.WhitespaceAfter) (ap (λ (s : Scratch). s.whitespace.size) r.0)
@@ -332,11 +331,11 @@ good_prefix_other T w true has r e =
     )
 good_prefix_other T w false has r e = (refuses T _ w IsRest IsRest w.events (unseen w.scratch) r.1 r.0, refl)
 
-good_after : (T : Scheme) (is_name : ResolveName → Bool) (w : World) (x y : Bool) → ItemFits T →
+good_after : (T : Scheme) (w : World) (x y : Bool) → ItemFits T →
     item_ready (n.ListItem its.After) (spot w) (after_all T w.frames) →
-    Does T (n.ListItem its.After) w (after_code is_name w x y)
-good_after T is_name w true y has r = (refuses T _ w IsRest IsRest w.events (unseen w.scratch) r.1 r.0, refl)
-good_after T is_name w false y has r =
+    Does T (n.ListItem its.After) w (after_code w x y)
+good_after T w true y has r = (refuses T _ w IsRest IsRest w.events (unseen w.scratch) r.1 r.0, refl)
+good_after T w false y has r =
     (accepts T _ w IsRest IsRest (exited w parts.ListItemPrefix).events (unseen w.scratch) r.1 r.0, refl)
 
 -- Further lines.
@@ -443,25 +442,25 @@ good_cont_filled T w (suc more) has c e r =
     (record { fits = has.each its.ContFilled; ready = λ x K h. h }) e r (ap sees_white (sym c))
 
 -- each state of a list item
-pub item_does : (T : Scheme) (is_name : ResolveName → Bool) (state : ItemState) (w : World) → ItemFits T →
+pub item_does : (T : Scheme) (state : ItemState) (w : World) → ItemFits T →
     w.current ≡ looks w → item_ready (n.ListItem state) (spot w) (after_all T w.frames) →
-    Does T (n.ListItem state) w (item_transition is_name state w)
-item_does T is_name its.Start w has c r = good_start T w _ _ has r
-item_does T is_name its.Before w has c r = good_before T w w.current has r
-item_does T is_name its.BeforeUnordered w has c r = (
+    Does T (n.ListItem state) w (item_transition state w)
+item_does T its.Start w has c r = good_start T w _ _ has r
+item_does T its.Before w has c r = good_before T w w.current has r
+item_does T its.BeforeUnordered w has c r = (
   turns T item_scheme _ _ w (entered w parts.ListItemPrefix).events w.scratch (has.each its.BeforeUnordered)
       (has.each its.Marker) r (omega arith) (omega arith),
   refl,
 )
-item_does T is_name its.BeforeOrdered w has c r = good_before_ordered T w _ has r
-item_does T is_name its.Value w has c r = good_value T w _ _ _ has r (ap (sees is_digit) (sym c))
-item_does T is_name its.Marker w has c r = good_marker T w _ has r (ap (sees is_item_marker) (sym c))
-item_does T is_name its.MarkerAfter w has c r = good_marker_after T w (looks_behind w) has r
-item_does T is_name its.MarkerAfterFilled w has c r = good_filled T w has r
-item_does T is_name its.Whitespace w has c r = good_whitespace T w has r
-item_does T is_name its.WhitespaceAfter w has c r = good_whitespace_after T w _ has r
-item_does T is_name its.PrefixOther w has c r = good_prefix_other T w _ has r (ap sees_white (sym c))
-item_does T is_name its.After w has c r = good_after T is_name w _ _ has r
-item_does T is_name its.ContStart w has c r = good_cont_start T w _ _ has r (ap ends_line (sym c))
-item_does T is_name its.ContBlank w has c r = good_cont_blank T w _ has c refl r
-item_does T is_name its.ContFilled w has c r = good_cont_filled T w _ has c refl r
+item_does T its.BeforeOrdered w has c r = good_before_ordered T w _ has r
+item_does T its.Value w has c r = good_value T w _ _ _ has r (ap (sees is_digit) (sym c))
+item_does T its.Marker w has c r = good_marker T w _ has r (ap (sees is_item_marker) (sym c))
+item_does T its.MarkerAfter w has c r = good_marker_after T w (looks_behind w) has r
+item_does T its.MarkerAfterFilled w has c r = good_filled T w has r
+item_does T its.Whitespace w has c r = good_whitespace T w has r
+item_does T its.WhitespaceAfter w has c r = good_whitespace_after T w _ has r
+item_does T its.PrefixOther w has c r = good_prefix_other T w _ has r (ap sees_white (sym c))
+item_does T its.After w has c r = good_after T w _ _ has r
+item_does T its.ContStart w has c r = good_cont_start T w _ _ has r (ap ends_line (sym c))
+item_does T its.ContBlank w has c r = good_cont_blank T w _ has c refl r
+item_does T its.ContFilled w has c r = good_cont_filled T w _ has c refl r

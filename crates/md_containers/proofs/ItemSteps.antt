@@ -9,7 +9,6 @@ use Rattle.std.proofs.lemmas.List.{take_all}
 use Rattle.md_engine.specs.declared.configuration.ParseOptions.{ParseOptions}
 use Rattle.md_engine.specs.declared.event.Event.{Event}
 use Rattle.md_engine.specs.declared.event.Name.TheVariants as parts
-use Rattle.md_engine.specs.declared.resolve.name.Name.{Name as ResolveName}
 use Rattle.md_engine.specs.declared.state.Name.TheVariants as n
 use Rattle.md_engine.specs.declared.state.State.{State}
 use Rattle.md_engine.specs.declared.state.State.TheVariants.{Nok, Next}
@@ -228,11 +227,10 @@ before_steps B feed w (Some b) has is next =
 
 unordered_steps : (B : Behaviour) (options : ParseOptions) (feed : Feed) (w : World) → HasItem B options →
     Steps B feed (Next (n.ListItem its.BeforeUnordered)) w
-    (item_transition (λ name. true) its.BeforeUnordered w).to
-    (item_transition (λ name. true) its.BeforeUnordered w).world
+    (item_transition its.BeforeUnordered w).to (item_transition its.BeforeUnordered w).world
 unfolding at_bullet
 unordered_steps B options feed w has =
-    moves B feed _ _ w (item_transition (λ name. true) its.BeforeUnordered w).world
+    moves B feed _ _ w (item_transition its.BeforeUnordered w).world
     (enter parts.ListItemPrefix w.point ∷ []) refl refl
     (has.each its.BeforeUnordered _ _ ∙ sym (has.each its.Marker _ _))
 
@@ -555,16 +553,16 @@ padding-none cells h e = rw e refl
 
 whitespace_steps : (B : Behaviour) (options : ParseOptions) (feed : Feed) (w : World) (x : Bool) → HasItem B options →
     begins_white (feed w.point) ≡ x →
-    Steps B feed (Next (n.ListItem its.Whitespace)) w (item_transition (λ name. true) its.Whitespace w).to
-    (item_transition (λ name. true) its.Whitespace w).world
+    Steps B feed (Next (n.ListItem its.Whitespace)) w (item_transition its.Whitespace w).to
+    (item_transition its.Whitespace w).world
 whitespace_steps B options feed w true has e =
     let f : Frame = frame_here (Next (n.ListItem its.WhitespaceAfter)) Nok false w in
-    begins_only B feed _ _ w (item_transition (λ name. true) its.Whitespace w).world f refl refl
+    begins_only B feed _ _ w (item_transition its.Whitespace w).world f refl refl
     (has.each its.Whitespace _ _ ∙ padding-some (feed w.point) (here w) e ∙ sym (has.each its.WhitespaceAfter _ _)
     ∙ white-tried B feed f w.events (feed w.point) (here w) 1 4 has.white e (omega arith) (omega arith) refl)
 whitespace_steps B options feed w false has e =
     let f : Frame = frame_here (Next (n.ListItem its.WhitespaceAfter)) Nok false w in
-    begins_only B feed _ _ w (item_transition (λ name. true) its.Whitespace w).world f refl refl
+    begins_only B feed _ _ w (item_transition its.Whitespace w).world f refl refl
     (has.each its.Whitespace _ _ ∙ padding-none (feed w.point) (here w) e
     ∙ ap (resume B feed w.events f) (sym (has.white.each space_or_tab.Start _ _ ∙ white-refused (feed w.point) (here w) e)))
 
@@ -618,17 +616,16 @@ prefix_other_steps B options feed w false has s e =
     (has.each its.PrefixOther _ _ ∙ ap (λ (x : List Cell). one_column x (here w)) s.next
     ∙ column-none feed w (here w) w.current e)
 
-after_steps : (B : Behaviour) (options : ParseOptions) (feed : Feed) (is_name : ResolveName → Bool) (w : World)
-    (x : Bool) →
+after_steps : (B : Behaviour) (options : ParseOptions) (feed : Feed) (w : World) (x : Bool) →
     HasItem B options → not w.scratch.seen && interrupts w.flags ≡ x →
-    Steps B feed (Next (n.ListItem its.After)) w (after_code is_name w x (not w.scratch.seen)).to
-    (after_code is_name w x (not w.scratch.seen)).world
+    Steps B feed (Next (n.ListItem its.After)) w (after_code w x (not w.scratch.seen)).to
+    (after_code w x (not w.scratch.seen)).world
 unfolding behind_prefix
-after_steps B options feed is_name w true has e =
-    passes B feed _ Nok w (after_code is_name w true (not w.scratch.seen)).world refl refl
+after_steps B options feed w true has e =
+    passes B feed _ Nok w (after_code w true (not w.scratch.seen)).world refl refl
     (has.each its.After _ _ ∙ rw e refl)
-after_steps B options feed is_name w false has e =
-    moves B feed _ _ w (after_code is_name w false (not w.scratch.seen)).world (exit parts.ListItemPrefix w.point ∷ [])
+after_steps B options feed w false has e =
+    moves B feed _ _ w (after_code w false (not w.scratch.seen)).world (exit parts.ListItemPrefix w.point ∷ [])
     refl refl (has.each its.After _ _ ∙ rw e refl)
 
 -- Further lines.
@@ -833,24 +830,22 @@ has_start : (B : Behaviour) (options : ParseOptions) → HasItem B options →
 has_start B options has = record { white = has.white; start_is = has.each its.Start; next_is = has.each its.Before }
 
 -- each state of a list item takes one step of what it means
-pub item_steps : (B : Behaviour) (feed : Feed) (is_name : ResolveName → Bool) (state : ItemState) (w : World)
-    (K : After) →
+pub item_steps : (B : Behaviour) (feed : Feed) (state : ItemState) (w : World) (K : After) →
     HasItem B w.setting.options → Sees feed w → item_ready (n.ListItem state) (spot w) K →
-    Steps B feed (Next (n.ListItem state)) w (item_transition is_name state w).to
-    (item_transition is_name state w).world
-item_steps B feed is_name its.Start w K has s at =
+    Steps B feed (Next (n.ListItem state)) w (item_transition state w).to (item_transition state w).world
+item_steps B feed its.Start w K has s at =
     start-steps B feed parts.ListItem _ (behind_indent w.setting.options) _ _ w _ _ (has_start B _ has) s refl refl
-item_steps B feed is_name its.Before w K has s at = before_steps B feed w _ has at.0 s.next
-item_steps B feed is_name its.BeforeUnordered w K has s at = unordered_steps B _ feed w has
-item_steps B feed is_name its.BeforeOrdered w K has s at = ordered_steps B _ feed w _ has s refl
-item_steps B feed is_name its.Value w K has s at = value_steps B _ feed w _ _ has s refl refl
-item_steps B feed is_name its.Marker w K has s at = marker_steps B _ feed w _ has s refl
-item_steps B feed is_name its.MarkerAfter w K has s at = marker_after_steps B _ feed w has s
-item_steps B feed is_name its.MarkerAfterFilled w K has s at = filled_steps B _ feed w has at.0
-item_steps B feed is_name its.Whitespace w K has s at = whitespace_steps B _ feed w _ has refl
-item_steps B feed is_name its.WhitespaceAfter w K has s at = whitespace_after_steps B _ feed w _ has s refl
-item_steps B feed is_name its.PrefixOther w K has s at = prefix_other_steps B _ feed w _ has s refl
-item_steps B feed is_name its.After w K has s at = after_steps B _ feed is_name w _ has refl
-item_steps B feed is_name its.ContStart w K has s at = cont_start_steps B _ feed w _ _ has s at.0.0 refl refl
-item_steps B feed is_name its.ContBlank w K has s at = cont_blank_steps B _ feed w _ has s refl
-item_steps B feed is_name its.ContFilled w K has s at = cont_filled_steps B _ feed w _ has s refl
+item_steps B feed its.Before w K has s at = before_steps B feed w _ has at.0 s.next
+item_steps B feed its.BeforeUnordered w K has s at = unordered_steps B _ feed w has
+item_steps B feed its.BeforeOrdered w K has s at = ordered_steps B _ feed w _ has s refl
+item_steps B feed its.Value w K has s at = value_steps B _ feed w _ _ has s refl refl
+item_steps B feed its.Marker w K has s at = marker_steps B _ feed w _ has s refl
+item_steps B feed its.MarkerAfter w K has s at = marker_after_steps B _ feed w has s
+item_steps B feed its.MarkerAfterFilled w K has s at = filled_steps B _ feed w has at.0
+item_steps B feed its.Whitespace w K has s at = whitespace_steps B _ feed w _ has refl
+item_steps B feed its.WhitespaceAfter w K has s at = whitespace_after_steps B _ feed w _ has s refl
+item_steps B feed its.PrefixOther w K has s at = prefix_other_steps B _ feed w _ has s refl
+item_steps B feed its.After w K has s at = after_steps B _ feed w _ has refl
+item_steps B feed its.ContStart w K has s at = cont_start_steps B _ feed w _ _ has s at.0.0 refl refl
+item_steps B feed its.ContBlank w K has s at = cont_blank_steps B _ feed w _ has s refl
+item_steps B feed its.ContFilled w K has s at = cont_filled_steps B _ feed w _ has s refl

@@ -3,8 +3,6 @@ use Rattle.std.specs.Prelude.{◌≡◌, refl, ℕ, zero, suc, ◌+◌, ◌-◌,
 use Rattle.std.specs.Prelude.{if◌then◌else◌, nat_le, nat_lt, ◌∷◌, length, Option, Some, None}
 use Rattle.md_engine.specs.declared.event.Name.TheVariants.{ListItem, ListItemMarker, ListItemPrefix, ListItemValue}
 use Rattle.md_engine.specs.declared.event.Name.TheVariants.{SpaceOrTab}
-use Rattle.md_engine.specs.declared.resolve.name.Name.{Name as ResolveName}
-use Rattle.md_engine.specs.declared.resolve.name.Name.TheVariants.{ListItem as ListResolver}
 use Rattle.md_engine.specs.declared.state.Name.{Name as StateName}
 use Rattle.md_engine.specs.declared.state.Name.TheVariants as n
 use Rattle.md_engine.specs.declared.state.State.{State}
@@ -19,7 +17,7 @@ use Rattle.md_engine.specs.declared.tokenizer.container.Container.{Container}
 use Rattle.md_engine.specs.declared.tokenizer.held_leaf.HeldLeaf.{HeldLeaf}
 use Rattle.md_engine.specs.declared.tokenizer.held_leaf.HeldLeaf.TheVariants as held_leaf
 use Rattle.md_engine.specs.Scheme.{After, Ends, EndsLater, Rank, Scheme, Spot, ranked, seen}
-use Rattle.md_engine.specs.World.{Flags, World, registered}
+use Rattle.md_engine.specs.World.{Flags, World}
 use Rattle.md_containers.specs.Interrupts.{interrupts}
 use Rattle.md_definition.specs.Ascii.{dot, plus, right_parenthesis}
 use Rattle.md_definition.specs.Containers.{is_bullet, is_digit}
@@ -156,15 +154,14 @@ item_held g column blank = record g {
   asked = record g.asked { width = width_here column g.asked_column blank; starts_blank = blank };
 }
 
--- by whether it may not open, and whether its first line is blank; `is_name` finds the resolver of lists
-abbrev pub after_code : (ResolveName → Bool) → World → Bool → Bool → Transition
-after_code is_name w true blank = refused (record w { scratch = unseen w.scratch })
-after_code is_name w false blank = record {
+-- by whether it may not open, and whether its first line is blank
+abbrev pub after_code : World → Bool → Bool → Transition
+after_code w true blank = refused (record w { scratch = unseen w.scratch })
+after_code w false blank = record {
   to = Ok;
   world = record (exited w ListItemPrefix) {
     scratch = unseen w.scratch;
     flags = item_held w.flags w.point.column blank;
-    resolvers = registered is_name w.resolvers ListResolver;
   };
 }
 
@@ -256,9 +253,8 @@ whitespace_after_transition w = whitespace_after_code w (sees_white w.current)
 abbrev pub prefix_other_transition : World → Transition
 prefix_other_transition w = prefix_other_code w (sees_white w.current)
 
-abbrev pub after_transition : (ResolveName → Bool) → World → Transition
-after_transition is_name w =
-    let blank = not w.scratch.seen in after_code is_name w (blank && interrupts w.flags) blank
+abbrev pub after_transition : World → Transition
+after_transition w = let blank = not w.scratch.seen in after_code w (blank && interrupts w.flags) blank
 
 abbrev pub cont_start_transition : World → Transition
 cont_start_transition w = cont_start_code w (ends_line w.current) w.flags.asked.starts_blank
@@ -270,22 +266,22 @@ abbrev pub cont_filled_transition : World → Transition
 cont_filled_transition w = cont_filled_code w w.scratch.whitespace.max
 
 -- all of them
-abbrev pub item_transition : (ResolveName → Bool) → ItemState → World → Transition
-item_transition is_name its.Start w = start_transition w
-item_transition is_name its.Before w = before_transition w
-item_transition is_name its.BeforeUnordered w = before_unordered_transition w
-item_transition is_name its.BeforeOrdered w = before_ordered_transition w
-item_transition is_name its.Value w = value_transition w
-item_transition is_name its.Marker w = marker_transition w
-item_transition is_name its.MarkerAfter w = marker_after_transition w
-item_transition is_name its.MarkerAfterFilled w = filled_transition w
-item_transition is_name its.Whitespace w = whitespace_transition w
-item_transition is_name its.WhitespaceAfter w = whitespace_after_transition w
-item_transition is_name its.PrefixOther w = prefix_other_transition w
-item_transition is_name its.After w = after_transition is_name w
-item_transition is_name its.ContStart w = cont_start_transition w
-item_transition is_name its.ContBlank w = cont_blank_transition w
-item_transition is_name its.ContFilled w = cont_filled_transition w
+abbrev pub item_transition : ItemState → World → Transition
+item_transition its.Start w = start_transition w
+item_transition its.Before w = before_transition w
+item_transition its.BeforeUnordered w = before_unordered_transition w
+item_transition its.BeforeOrdered w = before_ordered_transition w
+item_transition its.Value w = value_transition w
+item_transition its.Marker w = marker_transition w
+item_transition its.MarkerAfter w = marker_after_transition w
+item_transition its.MarkerAfterFilled w = filled_transition w
+item_transition its.Whitespace w = whitespace_transition w
+item_transition its.WhitespaceAfter w = whitespace_after_transition w
+item_transition its.PrefixOther w = prefix_other_transition w
+item_transition its.After w = after_transition w
+item_transition its.ContStart w = cont_start_transition w
+item_transition its.ContBlank w = cont_blank_transition w
+item_transition its.ContFilled w = cont_filled_transition w
 
 -- Readiness. An item accepts only behind the point where it begins, behind its marker everywhere.
 

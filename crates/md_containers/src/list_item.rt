@@ -33,7 +33,6 @@ ghost use Rattle.md_seam.specs.Transition.{IsAt, NeedsNothing};
 use crate::interrupts::interrupts;
 use md_engine::event::Name;
 use md_engine::or_error;
-use md_engine::resolve::Name as ResolveName;
 use md_engine::state::blank_line::State as BlankState;
 use md_engine::state::list_item::State as ItemState;
 use md_engine::state::thematic_break::State as BreakState;
@@ -384,12 +383,10 @@ pub fn after(tokenizer: &mut Tokenizer) -> State
     requires { IsAt NeedsNothing (StateName.ListItem ItemState.After) (world tokenizer.old) }
     ensures to { result ≢ State.Error →
         result ≡
-        (after_transition (λ name. ⟦<ResolveName as PartialEq>⟧.eq name ResolveName.ListItem)
-        (world tokenizer.old)).to }
+        (after_transition (world tokenizer.old)).to }
     ensures world { result ≢ State.Error →
         world tokenizer.new ≡
-        (after_transition (λ name. ⟦<ResolveName as PartialEq>⟧.eq name ResolveName.ListItem)
-        (world tokenizer.old)).world }
+        (after_transition (world tokenizer.old)).world }
 {
     let blank = !tokenizer.scratch.seen;
     tokenizer.scratch.seen = false;
@@ -399,7 +396,6 @@ pub fn after(tokenizer: &mut Tokenizer) -> State
     tokenizer.flags.asked.width = width_here(tokenizer, blank);
     tokenizer.flags.asked.starts_blank = blank;
     or_error!(tokenizer.exit(Name::ListItemPrefix));
-    or_error!(tokenizer.register_resolver(ResolveName::ListItem));
     State::Ok
 }
 
@@ -519,8 +515,7 @@ pub fn cont_filled(tokenizer: &mut Tokenizer) -> State
 
 /// What a state of an item only takes and counts.
 pub fn stays(state: ItemState) -> Option<Stay>
-    ensures { IfSome result (λ stay. (is_name : ResolveName → Bool) →
-        TakesEach stay (StateName.ListItem state) (item_transition is_name state)) }
+    ensures { IfSome result (λ stay. TakesEach stay (StateName.ListItem state) (item_transition state)) }
 {
     match state {
         ItemState::ContBlank | ItemState::ContFilled => Some(Stay::White),
@@ -533,12 +528,10 @@ pub fn call(tokenizer: &mut Tokenizer, state: ItemState) -> State
     requires { IsAt NeedsNothing (StateName.ListItem state) (world tokenizer.old) }
     ensures to { result ≢ State.Error →
         result ≡
-        (item_transition (λ name. ⟦<ResolveName as PartialEq>⟧.eq name ResolveName.ListItem) state
-        (world tokenizer.old)).to }
+        (item_transition state (world tokenizer.old)).to }
     ensures world { result ≢ State.Error →
         world tokenizer.new ≡
-        (item_transition (λ name. ⟦<ResolveName as PartialEq>⟧.eq name ResolveName.ListItem) state
-        (world tokenizer.old)).world }
+        (item_transition state (world tokenizer.old)).world }
 {
     match state {
         ItemState::Start => start(tokenizer),
