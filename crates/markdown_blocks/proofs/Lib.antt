@@ -76,6 +76,7 @@ pub mod GrammarFronts
 pub mod GrammarRows
 pub mod BetweenRows
 pub mod TreeRows
+pub mod TextItemised
 pub mod TextQuoted
 pub mod PieceRows
 pub mod EndingRows

@@ -14,6 +14,7 @@ use Rattle.md_seam.proofs.ReachedLemmas.{events-placed}
 use Rattle.markdown_blocks.proofs.FlowReads.{reads-labels, map-nil}
 use Rattle.markdown_blocks.proofs.MarkLemmas.{body-placed}
 use Rattle.markdown_blocks.proofs.Parses.{Reads, parsed-reads}
+use Rattle.markdown_blocks.proofs.TextItemised.{text-itemised}
 use Rattle.markdown_blocks.proofs.TextQuoted.{text-quoted}
 use Rattle.markdown_blocks.specs.TextReads.{text_kind, wants_text}
 use Rattle.markdown_blocks.proofs.parser.parse.Goals as goal
@@ -78,6 +79,9 @@ returns c =
       on = ap (are_on c.args.options.now) read.tree ∙ tree-on c.args.options.now c.args.value.now;
       in_quote =
           λ on may. text-quoted c.args.options.now c.args.value.now c.in_ok-events.events.items c.requires.built
+          read.tree on may;
+      in_item =
+          λ on may. text-itemised c.args.options.now c.args.value.now c.in_ok-events.events.items c.requires.built
           read.tree on may;
       events_are = read.events_are;
       tiles = tiled.0;
