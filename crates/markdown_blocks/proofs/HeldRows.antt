@@ -10,7 +10,8 @@ use Rattle.md_engine.specs.declared.event.Name.{Name}
 use Rattle.md_engine.specs.declared.event.Name.TheVariants as n
 use Rattle.md_engine.specs.declared.event.Point.{Point}
 use Rattle.md_containers.specs.ItemsHeld.{HoldsItems, IsHeld, ItemsHeld}
-use Rattle.md_containers.specs.Listed.{Begins as TurnBegins, Ends as TurnEnds, Stays as TurnStays, is_block, is_item, turn}
+use Rattle.md_containers.specs.Listed.{Begins as TurnBegins, Ends as TurnEnds, Stays as TurnStays, is_block, is_item}
+use Rattle.md_containers.specs.Listed.{turn}
 use Rattle.md_containers.specs.Unlisted.{in_place}
 use Rattle.md_containers.proofs.UnlistedLemmas.{NoListing, held-append}
 use Rattle.md_engine.specs.Place.{first_point}
@@ -19,12 +20,12 @@ use Rattle.md_definition.specs.State.{Container}
 use Rattle.md_seam.specs.Events.Nested.{exit, open_after, open_behind, pair}
 use Rattle.md_seam.specs.Events.Spelled.{Role, role}
 use Rattle.md_seam.proofs.NestedLemmas.{balanced-open}
-use Rattle.md_seam.proofs.SpelledLemmas.{Between, Roles}
+use Rattle.md_seam.proofs.SpelledLemmas.{Between}
 use Rattle.markdown_blocks.specs.Change.{ends_of}
 use Rattle.markdown_blocks.specs.Document.{body_point, mark_end, mark_events}
 use Rattle.markdown_blocks.specs.Registry.{container_name}
-use Rattle.markdown_blocks.specs.Rows.{Group, Row, ending_events, ending_of, final_row, first_row, group_done, group_kind}
-use Rattle.markdown_blocks.specs.Rows.{groups, groups_events, tail_events}
+use Rattle.markdown_blocks.specs.Rows.{Group, Row, ending_events, ending_of, final_row, first_row, group_done}
+use Rattle.markdown_blocks.specs.Rows.{group_kind, groups, groups_events, tail_events}
 use Rattle.markdown_blocks.specs.Unread.{group_unread, listed_groups}
 use Rattle.markdown_blocks.proofs.ContainerNames.{container-facts, open_names}
 use Rattle.markdown_blocks.proofs.FrontFacts.{Begins, Behind, Goes, LinePrefix}

@@ -16,8 +16,8 @@ use Rattle.md_seam.proofs.SpelledLemmas.{Between}
 use Rattle.markdown_blocks.specs.Change.{ends_of}
 use Rattle.markdown_blocks.specs.Document.{body_point, mark_events}
 use Rattle.markdown_blocks.specs.Registry.{container_name, shape_of}
-use Rattle.markdown_blocks.specs.Rows.{Group, Row, ending_events, ending_of, final_row, first_row, group_done, group_kind}
-use Rattle.markdown_blocks.specs.Rows.{groups, groups_events}
+use Rattle.markdown_blocks.specs.Rows.{Group, Row, ending_events, ending_of, final_row, first_row, group_done}
+use Rattle.markdown_blocks.specs.Rows.{group_kind, groups, groups_events}
 use Rattle.markdown_blocks.proofs.ContainerNames.{container-facts, open_names}
 use Rattle.markdown_blocks.proofs.FrontFacts.{Begins, Behind, Goes, LinePrefix}
 use Rattle.markdown_blocks.proofs.LeafStands.{between-stand, ending-between, mark-between, moves-stand}

@@ -337,7 +337,8 @@ break-facts options bytes r p q starts at =
       ending = ends;
       unread_unlisted = unlisted;
       unlisted = unlisted;
-      stands = λ held. leaf-stands bytes held n.ThematicBreak OfBreak p q inside_of refl (quiets-parts inside_of quiet);
+      stands =
+          λ held. leaf-stands bytes held n.ThematicBreak OfBreak p q inside_of refl (quiets-parts inside_of quiet);
       parts = stands-around bytes n.ThematicBreak p q inside_of refl (stands-outside bytes inside_of outside unlinked);
       filled =
           fill-around bytes n.ThematicBreak p q inside_of inside_of refl (fill-same bytes inside_of unlinked outside);
