@@ -4,12 +4,16 @@ use Rattle.std.proofs.Common.{◌≡◌, Bool, true, false, cond, List, [], ◌�
 use Rattle.std.specs.Prelude.{None, Some}
 use Rattle.md_engine.specs.declared.configuration.ParseOptions.{ParseOptions}
 use Rattle.md_engine.specs.declared.event.Event.{Event}
+use Rattle.md_engine.specs.declared.event.Kind.TheVariants.{Exit}
 use Rattle.md_engine.specs.declared.event.Name.{Name}
 use Rattle.md_engine.specs.declared.event.Name.TheVariants as n
 use Rattle.md_engine.specs.declared.event.Point.{Point}
 use Rattle.md_engine.specs.declared.tokenizer.container.name.ContainerKind.{ContainerKind}
 use Rattle.md_engine.specs.declared.tokenizer.container.name.ContainerKind.TheVariants as kind
 use Rattle.md_engine.specs.ContainerName.{name_of}
+use Rattle.md_containers.specs.ItemsStand.{is_item_shape}
+use Rattle.md_containers.specs.Listed.{is_block, is_item}
+use Rattle.md_containers.proofs.UnlistedLemmas.{among}
 use Rattle.md_content.specs.Joined.{content_behind}
 use Rattle.md_outline.specs.Roles.{is_plain}
 use Rattle.md_seam.specs.Events.Endings.{on_line}
@@ -24,6 +28,7 @@ use Rattle.md_definition.specs.State.{Container, InFootnote, InItem, InQuote, co
 use Rattle.md_definition.specs.Tree.{Blocks}
 use Rattle.md_seam.proofs.EndingsLemmas.{is_other}
 use Rattle.markdown_blocks.specs.Registry.{IsOf, container_name, shape_name, shape_of}
+use Rattle.markdown_blocks.proofs.LeafStands.{Moves}
 use Rattle.markdown_blocks.proofs.PartedFacts.{Still}
 use Rattle.markdown_blocks.proofs.PlainFacts.{Untold}
 
@@ -49,6 +54,11 @@ pub record ContainerFacts (c : Container) : Type 0 where
   -- it is no leaf and no ending
   pub other : is_other (on_line (container_name c)) ≡ true
   pub no_ending : is_line_ending (container_name c) ≡ false
+  -- it is a block, and an item or none; where it is innermost it ends between blocks
+  pub block_role : is_block (role (container_name c)) ≡ true
+  pub item_role : is_item (role (container_name c)) ≡ is_item_shape (shape_of c)
+  pub ends : (bytes : List ℕ) (items : List Bool) (p : Point) →
+      Moves bytes (among (is_item_shape (shape_of c) ∷ items)) (among items) Exit (role (container_name c)) p
   -- no text begins or ends with it, and it has a plain name, if an outline shows it
   pub still : Still (role (container_name c))
   pub untold : is_plain (Holds (shape_of c)) ≡ true → Untold (role (container_name c))
@@ -66,6 +76,9 @@ container-facts InQuote = record {
   begin_stops = λ p ys. refl;
   other = refl;
   no_ending = refl;
+  block_role = refl;
+  item_role = refl;
+  ends = λ bytes items p. record { may = refl; behind = refl };
   still = tt;
   untold = λ h. (refl, refl);
   block = λ bs. refl;
@@ -81,6 +94,9 @@ container-facts (InItem digits marker width starts_blank) = record {
   begin_stops = λ p ys. refl;
   other = refl;
   no_ending = refl;
+  block_role = refl;
+  item_role = refl;
+  ends = λ bytes items p. record { may = refl; behind = refl };
   still = tt;
   untold = λ h. (h, refl);
   block = λ bs. refl;
@@ -93,6 +109,9 @@ container-facts (InFootnote label) = record {
   begin_stops = λ p ys. refl;
   other = refl;
   no_ending = refl;
+  block_role = refl;
+  item_role = refl;
+  ends = λ bytes items p. record { may = refl; behind = refl };
   still = tt;
   untold = λ h. (h, refl);
   block = λ bs. refl;

@@ -23,6 +23,7 @@ pub mod PartsStand
 pub mod FillFacts
 pub mod RestFacts
 pub mod ChunkFacts
+pub mod LeafStands
 pub mod LeafFacts
 pub mod LeafLaws
 pub mod LeafStarts
@@ -76,6 +77,8 @@ pub mod EachRow
 pub mod NestedRows
 pub mod GrammarFronts
 pub mod GrammarRows
+pub mod HeldRows
+pub mod StandRows
 pub mod BetweenRows
 pub mod TreeRows
 pub mod TextItemised

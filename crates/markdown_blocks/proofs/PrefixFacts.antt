@@ -4,7 +4,7 @@ use Rattle.std.proofs.Common.{◌≡◌, ◌≢◌, ℕ, Bool, true, List, [], �
 use Rattle.md_engine.specs.declared.event.Event.{Event}
 use Rattle.md_engine.specs.declared.event.Point.{Point}
 use Rattle.md_containers.specs.ItemsStand.{is_item_shape}
-use Rattle.md_containers.proofs.UnlistedLemmas.{StandsTo, Unlists, among}
+use Rattle.md_containers.proofs.UnlistedLemmas.{NoListing, StandsTo, Unlists, among}
 use Rattle.md_definition.specs.State.{Container}
 use Rattle.md_seam.specs.Events.Grammar.{Expression, behind_block, blocks}
 use Rattle.md_seam.specs.Events.Nested.{enter}
@@ -76,6 +76,8 @@ pub record Opens (bytes : List ℕ) (c : Container) (p q : Point) (es : List Eve
   -- blocks may stand in it behind them, and an item tells its marker
   pub stands : (held : List Bool) →
       StandsTo bytes (among held) (among (is_item_shape (shape_of c) ∷ held)) (enter (container_name c) p ∷ es)
+  -- no item and no list is among them
+  pub unlisted : NoListing es
   -- the container is read, and they are not
   pub read : (r : Reading) → r.text ≡ None → read bytes r (enter (container_name c) p ∷ es) ≡ begins c r
   -- an outline shows the container

@@ -18,7 +18,10 @@ use Rattle.md_seam.specs.Events.Nested.{Balanced, enter, exit, pair, around}
 use Rattle.md_seam.specs.Events.Places.{at_or_before, same_place}
 use Rattle.md_definition.specs.State.{InQuote}
 use Rattle.md_seam.proofs.NestedLemmas.{at_or_before-refl}
-use Rattle.md_seam.proofs.SpelledLemmas.{QuietOrPrefix, read-prefixes}
+use Rattle.md_seam.proofs.SpelledLemmas.{Between, QuietOrPrefix, read-prefixes}
+use Rattle.md_seam.specs.Events.Grammar.{behind_block, blocks}
+use Rattle.md_containers.proofs.UnlistedLemmas.{NoListing, among, stands-append, unlists-same}
+use Rattle.markdown_blocks.proofs.LeafStands.{between-stand, between-unlisted}
 use Rattle.md_containers.proofs.QuoteLines.{IsPrefix}
 use Rattle.markdown_blocks.proofs.SpanLemmas.{Spans, order-grows}
 use Rattle.markdown_blocks.proofs.PartsStand.{Inside}
@@ -226,11 +229,21 @@ quote-opens bytes p q es is = record {
   common = prefix-facts bytes p q es is;
   names = prefixes-front es (prefix-are bytes p q es is);
   roles = prefixes-roles QuietOrPrefix es tt tt (prefix-are bytes p q es is);
-  leads = ?;
-  stands = ?;
+  leads =
+      λ text. unlists-same text (blocks ∷ []) (blocks ∷ behind_block ∷ []) (enter n.BlockQuote p ∷ es) (refl, none)
+      (prefix-begins bytes p q es is text);
+  stands =
+      λ held. stands-append bytes (among held) (among (false ∷ held)) (among (false ∷ held)) (enter n.BlockQuote p ∷ [])
+      es (record { stand = (tt, tt); behind = refl })
+      (between-stand bytes (false ∷ held) es (prefixes-roles Between es tt tt (prefix-are bytes p q es is)));
+  unlisted = none;
   read =
       λ r none. read-prefixes bytes (begins InQuote r) es none
       (prefixes-roles QuietOrPrefix es tt tt (prefix-are bytes p q es is));
   shown = refl;
   some = prefix-some bytes p q es is;
 }
+  where
+    -- no item and no list stands in it
+    none : NoListing es
+    none = between-unlisted es (prefixes-roles Between es tt tt (prefix-are bytes p q es is))
