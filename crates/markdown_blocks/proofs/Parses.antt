@@ -14,7 +14,6 @@ use Rattle.md_engine.specs.World.{World}
 use Rattle.md_containers.specs.ItemsHeld.{ItemsHeld}
 use Rattle.md_containers.specs.ItemsStand.{ItemsStand, root}
 use Rattle.md_containers.specs.Listed.{listed}
-use Rattle.md_containers.specs.Unlisted.{keeps_unlisted}
 use Rattle.md_containers.proofs.ListedBlocks.{IsUnlisted, listed-blocks, listed-covers}
 use Rattle.md_containers.proofs.ListedFilled.{listed-plain}
 use Rattle.md_containers.proofs.ListedGrammar.{listed-grammar}
@@ -36,6 +35,7 @@ use Rattle.md_seam.specs.Substituted.{Readings, Substituted}
 use Rattle.md_definition.specs.Texts.{split_lines}
 use Rattle.md_seam.specs.Events.Tiles.{EachRead, Tiles, parts, plain_lists, plain_read}
 use Rattle.md_outline.specs.HeadingDepths.{are_shallow}
+use Rattle.md_outline.specs.Outlined as outlined
 use Rattle.md_outline.specs.Outlined.{IsOutlined}
 use Rattle.markdown_blocks.specs.BlockList.{block_list}
 use Rattle.markdown_blocks.specs.Document.{body_point, mark_events}
@@ -46,14 +46,17 @@ use Rattle.markdown_blocks.specs.Rows.{Row, groups, groups_events}
 use Rattle.markdown_blocks.specs.Unread.{listed_groups, unread_groups}
 use Rattle.markdown_blocks.proofs.BetweenRows.{rows-between}
 use Rattle.markdown_blocks.proofs.EndingRows.{blocks-endings, events-endings}
+use Rattle.markdown_blocks.proofs.GrammarRows.{blocks-grammar, events-grammar}
+use Rattle.markdown_blocks.proofs.HeldRows.{blocks-held, events-held}
+use Rattle.markdown_blocks.proofs.StandRows.{events-stand}
 use Rattle.markdown_blocks.proofs.GroupLemmas.{content-read, leaves-set, text-read}
 use Rattle.markdown_blocks.proofs.JoinedLemmas.{EachNoContent, rows_at-no_content}
 use Rattle.markdown_blocks.proofs.MarkLemmas.{body-between, body-column, body-index, body-vs, mark-nested}
-use Rattle.markdown_blocks.proofs.MarkLemmas.{mark-outlined, mark-spelled}
+use Rattle.markdown_blocks.proofs.MarkLemmas.{mark-spelled, mark-unlisted}
 use Rattle.markdown_blocks.proofs.NestedRows.{Nests, rows-nest}
 use Rattle.markdown_blocks.proofs.ParagraphReads.{content-reads}
 use Rattle.markdown_blocks.proofs.PieceRows.{blocks-pieces, events-pieces}
-use Rattle.markdown_blocks.proofs.PlainEvents.{groups-outlined}
+use Rattle.markdown_blocks.proofs.PlainEvents.{groups-unlisted}
 use Rattle.markdown_blocks.proofs.RowFacts.{AreRows}
 use Rattle.markdown_blocks.proofs.RowLemmas.{fresh-rows}
 use Rattle.markdown_blocks.proofs.TileCovers.{blocks-cover}
@@ -81,31 +84,11 @@ text-are : (options : ParseOptions) (bytes : List ℕ) → IsBuilt options → l
 text-are options bytes built small =
     fresh-rows options bytes (body_point bytes) built small (body-index bytes) (body-vs bytes) (body-column bytes)
 
--- Until they stand.
-blocks-held : (options : ParseOptions) (bytes : List ℕ) (lines : List (List ℕ)) (rows : List Row) →
-    AreRows options bytes [] held_leaf.None (body_point bytes) lines rows →
-    ItemsHeld [] (mark_events bytes ++ listed_groups bytes (groups rows))
-blocks-held = ?
-
-events-held : (options : ParseOptions) (bytes : List ℕ) (lines : List (List ℕ)) (rows : List Row) →
-    AreRows options bytes [] held_leaf.None (body_point bytes) lines rows →
-    ItemsHeld [] (mark_events bytes ++ groups_events bytes (groups rows))
-events-held = ?
-
-events-stand : (options : ParseOptions) (bytes : List ℕ) (lines : List (List ℕ)) (rows : List Row) →
-    AreRows options bytes [] held_leaf.None (body_point bytes) lines rows →
-    ItemsStand bytes root (mark_events bytes ++ groups_events bytes (groups rows))
-events-stand = ?
-
-blocks-grammar : (options : ParseOptions) (bytes : List ℕ) (lines : List (List ℕ)) (rows : List Row) →
-    AreRows options bytes [] held_leaf.None (body_point bytes) lines rows → EachNoContent rows →
-    keeps_unlisted unread_text (mark_events bytes ++ listed_groups bytes (groups rows)) ≡ true
-blocks-grammar = ?
-
-events-grammar : (options : ParseOptions) (bytes : List ℕ) (lines : List (List ℕ)) (rows : List Row) →
-    AreRows options bytes [] held_leaf.None (body_point bytes) lines rows → EachNoContent rows →
-    keeps_unlisted plain_text (mark_events bytes ++ groups_events bytes (groups rows)) ≡ true
-events-grammar = ?
+-- Until it stands.
+listed-outlined : (bytes : List ℕ) (events : List Event) → outlined.IsUnlisted events bytes →
+    ItemsStand bytes root events → Nested events → ItemsHeld [] events → are_shallow (spelled events bytes) ≡ true →
+    IsOutlined (listed bytes events) bytes
+listed-outlined = ?
 
 -- The events of a text, once flow and content were read.
 content-are : (options : ParseOptions) (bytes : List ℕ) → IsBuilt options → length bytes < 2 ^ 61 →
@@ -250,7 +233,12 @@ listed-reads options bytes built utf8 small =
     let spells : spelled events bytes ≡ body_of options bytes = mark-spelled bytes body ∙ shows in
     record {
       nested = listed-nested bytes events nested held;
-      outlined = ?;
+      outlined =
+          listed-outlined bytes events
+          (mark-unlisted bytes body
+          (groups-unlisted options bytes p lines rows are utf8
+          (rows-between options bytes p lines rows (body-between bytes) are)))
+          stand nested held (ap are_shallow spells ∙ body-shallow options bytes built);
       tree = listed-spelled bytes events stand ∙ ap grouped spells ∙ sym (tree-body options bytes built);
       blocks_are = block_list-is options bytes;
       events_are = read-listed options bytes built small ∙ ap (plain_read bytes) (block_list-is options bytes);
