@@ -36,7 +36,7 @@ use Rattle.markdown_blocks.specs.Rows.{BlankRow, LeafRow, Row, RowKind, TextRow,
 use Rattle.markdown_blocks.specs.Rows.{line_kind}
 use Rattle.markdown_blocks.specs.HeldLeaf.{IsBuiltLeaf}
 use Rattle.markdown_blocks.specs.Stands.{IsPlain, containers_of, still_of}
-use Rattle.markdown_blocks.proofs.ContainedLemmas.{contained-shapes}
+use Rattle.markdown_blocks.proofs.ContainedLemmas.{contained-kinds}
 use Rattle.markdown_blocks.proofs.KindLemmas.{kind-starts}
 use Rattle.markdown_blocks.proofs.LineSteps.{behind_path, contained_at, fresh-found, goes_lazy, kept_to, longer}
 use Rattle.markdown_blocks.proofs.LineSteps.{new_line, new_path, plain-step, renewed, spot_by, step-contained, step-new}
@@ -46,7 +46,7 @@ use Rattle.markdown_blocks.proofs.RowFacts as f
 use Rattle.markdown_blocks.proofs.SpelledRows.{spelled-rows}
 use Rattle.markdown_blocks.proofs.Registry.{leaf-shallow, text-laws}
 use Rattle.markdown_blocks.proofs.ShallowBlocks.{shallow-then}
-use Rattle.markdown_blocks.proofs.RegistryRead.{AreRead, IsRead, IsReadTaken, read-front, shapes-read}
+use Rattle.markdown_blocks.proofs.RegistryRead.{AreRead, IsRead, IsReadTaken, kinds-read, read-front}
 use Rattle.markdown_blocks.proofs.RegistryContainers.{opens-read, over-empty, read-shallow}
 use Rattle.md_outline.specs.HeadingDepths.{are_shallow}
 
@@ -56,8 +56,8 @@ read-stay : (options : ParseOptions) (p : Path) (r : Rest) → AreRead (containe
 read-stay options p r h =
     let change = (contained_at options p r).change in
     read-front change.stays change.closes
-    (shapes-read (change.stays ++ change.closes) (containers_of p)
-    (contained-shapes options (containers_of p) (still_of p) r) h)
+    (kinds-read (change.stays ++ change.closes) (containers_of p)
+    (contained-kinds options (containers_of p) (still_of p) r) h)
 
 read-new : (options : ParseOptions) (interrupting : Bool) (n : ℕ) (r : Rest) → IsBuilt options →
     AreRead (prefixes_new options interrupting n r).containers
