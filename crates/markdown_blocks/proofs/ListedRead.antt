@@ -319,9 +319,9 @@ chunk-step wants reads bytes place left more chunks many e f es now rest out chu
 -- what stands behind a chunk, by the further chunks of its part
 abbrev ChunkBy : (Content → Bool) → Readings → List Event → ℕ → Event → Event → List Event → List Event → Content →
     List Chunk → Type 0
-ChunkBy wants reads left chunks e f tail out content behind = elim chunks [
+ChunkBy wants reads left chunks e f tail out x behind = elim chunks [
   | zero ↦
-      (answer rest : List Event) × (read : reads content (chunk_of e f ∷ behind) answer)
+      (answer rest : List Event) × (read : reads x (chunk_of e f ∷ behind) answer)
       × (is : out ≡ take (share (length behind) answer f.point.index) answer ++ rest)
       × Substituted wants reads (drop (share (length behind) answer f.point.index) answer) (length behind) tail rest
   | suc more ↦
