@@ -128,21 +128,3 @@ pub around-sits : (bytes : List ℕ) (name : Name) (p q : Point) (inside : List 
 around-sits bytes name p q inside h k =
     sits-append bytes (enter name p ∷ []) (inside ++ exit name q ∷ []) (sits-still bytes (enter name p ∷ []) (h, tt))
     (sits-append bytes inside (exit name q ∷ []) k (sits-still bytes (exit name q ∷ []) (h, tt)))
-
--- Texts that go on behind a prefix.
-
--- a prefix may stand behind whitespace from a point on
-abbrev pub Marks : List ℕ → Point → Span → Type 0
-Marks bytes p span = (j : ℕ) → byte_at p ≤ j → is_blank (slice_range bytes p.index j) ≡ true →
-    (begins_line span (slice_range bytes span.from j) ≡ true) ×
-    (is_blank (last_line (split_lines (slice_range bytes span.from j))) ≡ true)
-
--- behind a prefix
-abbrev pub behind_prefix : Point → Span
-behind_prefix q = record { from = byte_at q; is_parted = true }
-
--- what may part a text where it stands, and leaves its next piece behind it
-abbrev pub PartsText : List ℕ → Point → Point → List Event → Type 0
-PartsText bytes p q es =
-    (span : Span) (rest : List Event) → Marks bytes p span → is_between bytes (byte_at q) ≡ true →
-    are_parted bytes (Some (behind_prefix q)) rest ≡ true → are_parted bytes (Some span) (es ++ rest) ≡ true
