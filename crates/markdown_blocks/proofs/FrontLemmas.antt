@@ -48,7 +48,7 @@ fronts-balanced bytes opens p r _ (Goes _ _ q _ es fs is more) e =
     balanced-append es fs is.common.nested.0 (fronts-balanced bytes opens q r fs more e)
 fronts-balanced bytes _ p r _ (Begins c opens _ q _ es fs is more) e = cc
 
--- What is read of the ends of containers are containers.
+-- The ends of containers are read as containers.
 pub ends-roles : (P : Role → Type 0) (cs : List Container) (p : Point) →
     ((c : Container) → P (role (container_name c))) → Roles P (ends_of cs p)
 ends-roles P [] p holds = tt

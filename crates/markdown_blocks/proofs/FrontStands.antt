@@ -1,45 +1,33 @@
 -- What is known of all that stands in front of a line: the prefixes of its containers, and the begins of those that
 -- open on it.
-use Rattle.std.proofs.Common.{◌≡◌, ◌≢◌, ℕ, Bool, true, false, cond, List, [], ◌∷◌, ◌++◌, refl, sym, subst, ◌+◌, ap, ◌∙◌}
-use Rattle.std.proofs.Common.{append_assoc, ◌-◌, slice_range, arith, ◌||◌, ◌⊎◌, inl, inr, zero, suc, ◌≤◌, get_or, take}
-use Rattle.std.proofs.Common.{drop}
-use Rattle.std.specs.Prelude.{Some, ◌==◌, not, slice_index}
-use Rattle.std.proofs.lemmas.Bool.{and_from, and_parts, true≢false}
+use Rattle.std.proofs.Common.{◌≡◌, ◌≢◌, ℕ, true, List, [], ◌∷◌, ◌++◌, refl, ◌+◌, ap, ◌∙◌}
+use Rattle.std.proofs.Common.{append_assoc, ◌-◌}
+use Rattle.std.specs.Prelude.{Some}
+use Rattle.std.proofs.lemmas.Bool.{and_from}
 use Rattle.md_engine.specs.declared.event.Event.{Event}
 use Rattle.md_engine.specs.declared.event.Name.{Name}
 use Rattle.md_engine.specs.declared.event.Point.{Point}
 use Rattle.md_seam.specs.Events.Nested.{enter}
-use Rattle.md_seam.specs.Events.Places.{last_line}
 use Rattle.md_definition.specs.State.{Container}
 use Rattle.md_seam.proofs.InlineLemmas.{same-refl}
 use Rattle.markdown_blocks.proofs.PiecesLemmas.{Tiled, tiled-append, tiled-none, tiled-within, pieces-before}
 use Rattle.markdown_blocks.proofs.FrontFacts.{Behind, Begins, LinePrefix, Goes}
-use Rattle.markdown_blocks.proofs.RowFacts.{slice-split}
 use Rattle.markdown_blocks.specs.Registry.{container_name}
 use Rattle.markdown_blocks.proofs.PartsStand.{Inside, inside-append}
 use Rattle.markdown_blocks.proofs.ContainerNames.{container-facts}
 use Rattle.md_seam.specs.Events.Pieces.{pieces_stand}
-use Rattle.md_definition.proofs.TextsLemmas.{Both, Ending, LineFeed, Return, ending_bytes, EndsBefore, NoEnding}
-use Rattle.md_definition.proofs.TextsLemmas.{split-line, split-next}
 use Rattle.markdown_blocks.proofs.PieceFacts.{Stood, stood-append, stood-none}
 use Rattle.markdown_blocks.proofs.PrefixFacts.{Opens, Continues}
 use Rattle.md_outline.specs.Between.{is_between}
 use Rattle.markdown_blocks.proofs.BetweenFacts.{AreBetween, between-append, between-more}
-use Rattle.std.specs.List.{onto_first}
-use Rattle.md_seam.specs.Events.Spelled.{byte_at, role}
-use Rattle.md_outline.specs.Outlined.{TextSpan as Span, are_parted, begins_line}
+use Rattle.md_seam.specs.Events.Spelled.{role}
+use Rattle.md_outline.specs.Outlined.{TextSpan as Span, are_parted}
 use Rattle.markdown_blocks.proofs.PlainFacts.{ArePlain, Untold, plain-append, plain-nil, plain-untold}
 use Rattle.markdown_blocks.proofs.PartedFacts.{Sits, Still, clear, clear-between, sits-append, sits-still}
 use Rattle.markdown_blocks.proofs.Reached.{Reaches}
 use Rattle.markdown_blocks.proofs.PrefixNames.{prefixes-roles}
-use Rattle.std.proofs.lemmas.Bool.Decides.{nat_tests}
 use Rattle.md_seam.specs.Events.Endings.{on_line}
-use Rattle.md_definition.specs.Rest.{is_blank, is_white}
 use Rattle.md_seam.proofs.EndingsLemmas.{AreOthers, others-append, is_other}
-use Rattle.std.proofs.lemmas.List.{get_or-drop}
-use Rattle.std.proofs.lemmas.List.Folds.{list_all-append}
-use Rattle.md_definition.specs.Lines.{begins_with, ends_line, is_ending}
-use Rattle.md_definition.specs.Texts.{split_lines}
 
 -- the begin of a container in front of events
 pub begun-tiled : (name : Name) (p q : Point) (xs ys : List Event) → xs ≢ [] → Tiled p q (xs ++ ys) →

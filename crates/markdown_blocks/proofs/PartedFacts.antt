@@ -1,6 +1,6 @@
 -- Events that part no text, and points that cut no tab of a character.
 use Rattle.std.proofs.Common.{◌≡◌, ℕ, ◌+◌, ◌-◌, ◌≤◌, Bool, true, false, cond, ◌&&◌, ◌||◌, List, [], ◌∷◌, ◌++◌, refl, ap}
-use Rattle.std.proofs.Common.{sym, ◌∙◌, subst, append_assoc, arith, slice_range}
+use Rattle.std.proofs.Common.{sym, ◌∙◌, subst, append_assoc, arith}
 use Rattle.std.specs.Prelude.{◌==◌, slice_index, Option, Some, None}
 use Rattle.md_engine.specs.declared.event.Event.{Event}
 use Rattle.md_engine.specs.declared.event.Kind.{Kind}
@@ -12,12 +12,9 @@ use Rattle.md_seam.specs.Events.Inline.{plain_chunk}
 use Rattle.md_seam.specs.Events.Nested.{around, enter, exit}
 use Rattle.md_seam.specs.Events.Spelled.{IsEnding as EndingRole, IsPrefix as PrefixRole, IsQuiet, Role, Tells, byte_at}
 use Rattle.md_seam.specs.Events.Spelled.{role}
-use Rattle.md_definition.specs.Rest.{is_blank}
-use Rattle.md_seam.specs.Events.Places.{last_line}
-use Rattle.md_definition.specs.Texts.{split_lines}
 use Rattle.md_seam.proofs.SpelledLemmas.{Quiet, QuietOrEnding, Roles}
 use Rattle.md_outline.specs.Between.{is_between}
-use Rattle.md_outline.specs.Outlined.{TextSpan as Span, are_parted, parts_by, span_by, begins_line}
+use Rattle.md_outline.specs.Outlined.{TextSpan as Span, are_parted, parts_by, span_by}
 use Rattle.markdown_blocks.proofs.PlainRoles.{chunk-roles}
 use Rattle.markdown_blocks.proofs.BetweenFacts.{between-behind, is_low}
 

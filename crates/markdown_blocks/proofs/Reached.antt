@@ -16,7 +16,7 @@ use Rattle.md_definition.specs.Rest.{is_blank, is_white}
 use Rattle.md_definition.specs.Texts.{split_lines}
 use Rattle.md_definition.proofs.TextsLemmas.{Both, Ending, EndsBefore, LineFeed, NoEnding, Return, ending_bytes}
 use Rattle.md_definition.proofs.TextsLemmas.{split-line, split-next}
-use Rattle.md_seam.specs.Events.Places.{at_or_before, last_line}
+use Rattle.md_seam.specs.Events.Places.{last_line}
 use Rattle.md_seam.specs.Events.Spelled.{byte_at}
 use Rattle.md_seam.proofs.FeedLines.{IsEnding, slice-split}
 use Rattle.md_outline.specs.Between.{is_between}

@@ -1,5 +1,5 @@
 -- Whitespace of a list item in a text that goes on behind it.
-use Rattle.std.proofs.Common.{◌≡◌, ℕ, ◌+◌, ◌<◌, ◌≤◌, Bool, true, false, cond, ◌||◌, List, [], ◌∷◌, ◌++◌, slice_range}
+use Rattle.std.proofs.Common.{◌≡◌, ℕ, ◌+◌, ◌<◌, ◌≤◌, Bool, true, false, cond, ◌||◌, List, ◌++◌, slice_range}
 use Rattle.std.proofs.Common.{refl, ap, sym, ◌∙◌, subst, arith}
 use Rattle.std.specs.Prelude.{◌==◌, IsTrue, Some, nat_lt}
 use Rattle.std.proofs.lemmas.Bool.Decides.{nat_tests}
@@ -9,16 +9,16 @@ use Rattle.md_engine.specs.declared.event.Point.{Point}
 use Rattle.md_containers.proofs.QuoteLines.{White}
 use Rattle.md_definition.specs.Rest.{is_blank}
 use Rattle.md_seam.specs.Events.Inline.{pair_unless_empty}
-use Rattle.md_seam.specs.Events.Nested.{pair}
-use Rattle.md_seam.specs.Events.Places.{at_or_before, same_place}
+use Rattle.md_seam.specs.Events.Places.{at_or_before}
 use Rattle.md_seam.specs.Events.Spelled.{byte_at}
 use Rattle.md_seam.proofs.FeedLines.{slice-split}
-use Rattle.md_seam.proofs.SpelledLemmas.{QuietOrEnding, Roles}
+use Rattle.md_seam.proofs.SpelledLemmas.{QuietOrEnding}
 use Rattle.md_outline.specs.Between.{is_between}
 use Rattle.md_outline.specs.Outlined.{TextSpan as Span, are_parted}
 use Rattle.markdown_blocks.proofs.BetweenFacts.{white-at}
 use Rattle.markdown_blocks.proofs.CollectFacts.{blank-append}
 use Rattle.markdown_blocks.proofs.PartedFacts.{byte-from, clear, low-clear, passes}
+use Rattle.markdown_blocks.proofs.PlainRoles.{pair-roles}
 use Rattle.markdown_blocks.proofs.Reached.{PartsText, Reaches}
 
 -- a byte of an earlier point stands no later
@@ -42,19 +42,13 @@ reaches-white bytes p q span white reaches = record {
     grows : byte_at p ≤ byte_at q
     grows = byte-grows p q white.onward
 
-white-quiet : (p q : Point) → Roles QuietOrEnding (pair_unless_empty n.SpaceOrTab p q)
-white-quiet p q = go (same_place p q)
-  where
-    go : (x : Bool) → Roles QuietOrEnding (cond x [] (pair n.SpaceOrTab p q))
-    go true = tt
-    go false = (tt, (tt, tt))
-
 -- a text goes on behind it
 pub white-parted : (bytes : List ℕ) (p q : Point) (es : List Event) → es ≡ pair_unless_empty n.SpaceOrTab p q →
     White bytes p q → PartsText bytes p q es
 white-parted bytes p q es are white span rest reaches between more =
     ap (λ (l : List Event). are_parted bytes (Some span) (l ++ rest)) are
-    ∙ passes bytes (Some span) (pair_unless_empty n.SpaceOrTab p q) rest (white-quiet p q)
+    ∙ passes bytes (Some span) (pair_unless_empty n.SpaceOrTab p q) rest
+    (pair-roles QuietOrEnding n.SpaceOrTab p q tt)
     ∙ more span (reaches-white bytes p q span white reaches)
 
 -- it begins where no tab of a character is cut, if it ends so

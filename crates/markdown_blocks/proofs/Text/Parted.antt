@@ -2,7 +2,7 @@
 use Rattle.markdown_blocks.proofs.FrontStands.{fronts-parted}
 use Rattle.markdown_blocks.proofs.Reached.{Fine, Reaches, begins-fine, cut-white, reaches-ended, reaches-fine}
 use Rattle.markdown_blocks.proofs.Text.Order.{first-text}
-use Rattle.std.proofs.Common.{◌≡◌, ◌⊎◌, inl, inr, ℕ, zero, suc, ◌+◌, ◌-◌, ◌<◌, ◌≤◌, Bool, true, false, cond, ◌||◌, List}
+use Rattle.std.proofs.Common.{◌≡◌, ℕ, zero, suc, ◌+◌, ◌-◌, ◌<◌, ◌≤◌, Bool, true, false, cond, List}
 use Rattle.std.proofs.Common.{[], ◌∷◌, ◌++◌, length, get_or, drop, slice_range, refl, ap, sym, ◌∙◌, subst, append_assoc}
 use Rattle.std.proofs.Common.{arith}
 use Rattle.std.specs.Prelude.{◌==◌, not, slice_index, Some, None}
@@ -16,19 +16,16 @@ use Rattle.md_seam.specs.declared.inline.Chunk.{Chunk}
 use Rattle.md_seam.specs.Events.Inline.{plain_chunk}
 use Rattle.md_definition.specs.Lines.{is_ending}
 use Rattle.md_seam.specs.Events.Nested.{enter, exit}
-use Rattle.md_seam.specs.Events.Places.{last_line}
 use Rattle.md_definition.specs.Rest.{Rest, is_blank, is_white}
 use Rattle.md_seam.specs.Events.Spelled.{byte_at}
-use Rattle.md_definition.specs.Texts.{split_lines}
 use Rattle.md_seam.proofs.RestCells.{Cut}
-use Rattle.md_definition.proofs.TextsLemmas.{NoEnding, ending_bytes}
-use Rattle.md_outline.specs.Between.{is_between}
+use Rattle.md_definition.proofs.TextsLemmas.{NoEnding}
 use Rattle.md_outline.specs.Outlined.{TextSpan as Span, are_parted, begins_line}
 use Rattle.markdown_blocks.specs.Fronted.{cut_tab}
 use Rattle.markdown_blocks.specs.Rows.{BlankRow, Row, TextRow, behind_row, last_row, line_kind, read_lines, kind_of}
 use Rattle.markdown_blocks.specs.Rows.{text_done}
 use Rattle.markdown_blocks.specs.Registry.{first_of, leaf, trials, text_leaf}
-use Rattle.markdown_blocks.proofs.RowFacts.{IsEnding, slice-split, IsRow}
+use Rattle.markdown_blocks.proofs.RowFacts.{IsRow}
 use Rattle.markdown_blocks.proofs.PartedFacts.{Sits, clear, low-clear, passes-chunk}
 use Rattle.markdown_blocks.proofs.BetweenFacts.{ending-behind, is_low}
 use Rattle.markdown_blocks.proofs.GroupLemmas.{AreLines}
