@@ -1,0 +1,5 @@
+-- List items.
+pub mod Registers
+pub mod Cells
+pub mod Trial
+pub mod Laws
