@@ -33,6 +33,7 @@ pub mod CollectFacts
 pub mod PrefixNames
 pub mod PrefixFacts
 pub mod BlockQuote
+pub mod ListItem
 pub mod FrontLemmas
 pub mod FrontStands
 pub mod FrontPlaces
