@@ -1,6 +1,6 @@
 -- The containers of the line definition, built or not: what is known of the names of their events, and of what these
 -- tell. It is the one place of the frame's proofs that goes through them.
-use Rattle.std.proofs.Common.{◌≡◌, Bool, true, false, cond, List, [], ◌∷◌, ◌++◌, refl, ap, map, sym, ℕ}
+use Rattle.std.proofs.Common.{◌≡◌, Bool, true, false, cond, List, [], ◌∷◌, ◌++◌, refl, ap, map, sym, ℕ, zero, suc}
 use Rattle.std.specs.Prelude.{None, Some}
 use Rattle.md_engine.specs.declared.configuration.ParseOptions.{ParseOptions}
 use Rattle.md_engine.specs.declared.event.Event.{Event}
@@ -27,7 +27,7 @@ use Rattle.md_definition.specs.Rest.{Rest}
 use Rattle.md_definition.specs.State.{Container, InFootnote, InItem, InQuote, container_block}
 use Rattle.md_definition.specs.Tree.{Blocks}
 use Rattle.md_seam.proofs.EndingsLemmas.{is_other}
-use Rattle.markdown_blocks.specs.Registry.{IsOf, container_name, shape_name, shape_of}
+use Rattle.markdown_blocks.specs.Registry.{IsOf, container_kind, container_name, shape_name, shape_of}
 use Rattle.markdown_blocks.proofs.LeafStands.{Moves}
 use Rattle.markdown_blocks.proofs.PartedFacts.{Still}
 use Rattle.markdown_blocks.proofs.PlainFacts.{Untold}
@@ -88,6 +88,7 @@ container-facts InQuote = record {
   where
     held-is : (k : ContainerKind) → IsOf k InQuote → name_of k ≡ n.BlockQuote
     held-is kind.BlockQuote e = refl
+    held-is kind.ListItem e = cc
 container-facts (InItem digits marker width starts_blank) = record {
   front = refl;
   no_prefix = refl;
@@ -101,8 +102,13 @@ container-facts (InItem digits marker width starts_blank) = record {
   untold = λ h. (h, refl);
   block = λ bs. refl;
   read_end = λ bytes p r. refl;
-  held = λ k e. cc;
+  held = held-is width;
 }
+  where
+    held-is : (w : ℕ) (k : ContainerKind) → IsOf k (InItem digits marker w starts_blank) → name_of k ≡ n.ListItem
+    held-is zero k e = cc
+    held-is (suc more) kind.BlockQuote e = cc
+    held-is (suc more) kind.ListItem e = refl
 container-facts (InFootnote label) = record {
   front = refl;
   no_prefix = refl;
@@ -142,22 +148,31 @@ names-shapes (c ∷ cs) = ap (λ (l : List Name). l ++ container_name c ∷ []) 
 
 -- What the events tell of a container does not change while it is open.
 
--- what is taken, if anything is, is of this shape
-when-shape : (x : Bool) (u t : Taken) → cond x (Some u) None ≡ Some t → shape_of t.container ≡ shape_of u.container
-when-shape true u t e = let same : u ≡ t = cc in sym (ap (λ (x : Taken). shape_of x.container) same)
-when-shape false u t e = cc
+-- what is taken, if anything is, is in this container
+when-container : (x : Bool) (u t : Taken) → cond x (Some u) None ≡ Some t → t.container ≡ u.container
+when-container true u t e = let same : u ≡ t = cc in sym (ap (λ (x : Taken). x.container) same)
+when-container false u t e = cc
 
--- so a container that goes on has the shape that it had
+-- so a container that goes on has the shape that it had,
 pub continues-shape : (options : ParseOptions) (c : Container) (r : Rest) (t : Taken) →
     continues options c r ≡ Some t → shape_of t.container ≡ shape_of c
 unfolding quote_taken item_continues footnote_continues
-continues-shape options InQuote r t e = when-shape _ _ t e
-continues-shape options (InItem digits marker width starts_blank) r t e = when-shape _ _ t e
-continues-shape options (InFootnote label) r t e = when-shape _ _ t e
+continues-shape options InQuote r t e = ap shape_of (when-container _ _ t e)
+continues-shape options (InItem digits marker width starts_blank) r t e = ap shape_of (when-container _ _ t e)
+continues-shape options (InFootnote label) r t e = ap shape_of (when-container _ _ t e)
+
+-- and the kind
+pub continues-kind : (options : ParseOptions) (c : Container) (r : Rest) (t : Taken) →
+    continues options c r ≡ Some t → container_kind t.container ≡ container_kind c
+unfolding quote_taken item_continues footnote_continues
+continues-kind options InQuote r t e = ap container_kind (when-container _ _ t e)
+continues-kind options (InItem digits marker width starts_blank) r t e = ap container_kind (when-container _ _ t e)
+continues-kind options (InFootnote label) r t e = ap container_kind (when-container _ _ t e)
 
 -- What holds of the name of each kind of container that the tokenizer holds.
-pub held-names : (P : Name → Type 0) → P n.BlockQuote → (k : ContainerKind) → P (name_of k)
-held-names P h kind.BlockQuote = h
+pub held-names : (P : Name → Type 0) → P n.BlockQuote → P n.ListItem → (k : ContainerKind) → P (name_of k)
+held-names P quote item kind.BlockQuote = quote
+held-names P quote item kind.ListItem = item
 
 -- In the grammar of events.
 

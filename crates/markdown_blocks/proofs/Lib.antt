@@ -57,6 +57,8 @@ pub mod LinesFed
 pub mod EachEvent
 pub mod FlowSteps
 pub mod FlowReads
+pub mod ListedRead
+pub mod ListedMark
 pub mod SubstitutedLemmas
 pub mod OutsideLemmas
 pub mod Registers
@@ -64,7 +66,7 @@ pub mod StatesRegister
 pub mod JoinedLemmas
 pub mod GroupLemmas
 pub mod Text
-pub mod SimpleBlocks
+pub mod ShallowBlocks
 pub mod RegistryFound
 pub mod Paragraph
 pub mod LineSteps

@@ -14,8 +14,8 @@ ghost use Rattle.md_engine.specs.Scheme.{stands};
 ghost use Rattle.md_engine.specs.World.{looks, world};
 ghost use Rattle.md_engine.specs.declared.resolve.name.Name.{Name as ResolveName};
 ghost use Rattle.md_engine.specs.declared.state.State.{State};
-ghost use Rattle.markdown_blocks.specs.Registry.{construct_transition, goes_on_with, goes_over, may_go_on, may_open};
-ghost use Rattle.markdown_blocks.specs.Registry.{next_opener, opener_front, openers, opens_with, resolved_by};
+ghost use Rattle.markdown_blocks.specs.Registry.{construct_transition, goes_at_once, goes_on_with, goes_over};
+ghost use Rattle.markdown_blocks.specs.Registry.{may_go_on, may_open, next_opener, opener_front, openers, opens_with, resolved_by};
 ghost use Rattle.markdown_blocks.specs.States.{flow_table_scheme};
 ghost use Rattle.md_seam.specs.Look.{looks_behind, may_with};
 
@@ -97,7 +97,8 @@ pub fn goes_over(container: Container) -> bool
 
 /// Whether the prefix of a container on a further line stands here, so that it can be taken at once.
 pub fn has_plain_prefix(kind: ContainerKind, tokenizer: &Tokenizer) -> bool
-    ensures { result ≡ true → IsPlainPrefix (world tokenizer.now) }
+    ensures kind { result ≡ true → goes_at_once kind ≡ true }
+    ensures here { result ≡ true → IsPlainPrefix (world tokenizer.now) }
 {
     match kind {
         ContainerKind::BlockQuote => block_quote::is_plain_prefix(tokenizer),
