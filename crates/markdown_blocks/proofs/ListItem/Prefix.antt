@@ -9,7 +9,7 @@ use Rattle.md_engine.specs.declared.event.Name.TheVariants as n
 use Rattle.md_engine.specs.declared.event.Point.{Point}
 use Rattle.md_containers.proofs.ItemOpens.{IsMarker}
 use Rattle.md_containers.proofs.QuoteLines.{White}
-use Rattle.md_definition.specs.Rest.{is_white}
+use Rattle.md_definition.specs.Rest.{is_blank}
 use Rattle.md_seam.specs.Events.Inline.{pair_unless_empty}
 use Rattle.md_seam.specs.Events.Nested.{around, pair}
 use Rattle.md_seam.specs.Events.Places.{past_byte, past_text, same_place}
@@ -17,11 +17,11 @@ use Rattle.md_seam.proofs.FeedLines.{drop-past, past_text-whole}
 use Rattle.md_seam.proofs.InlineLemmas.{past-index}
 use Rattle.markdown_blocks.proofs.LineTexts.{past_text-line}
 
--- on a further line: from a point to a point, which cuts a tab at most
+-- on a further line: from a point to a point, which cuts no byte but a tab
 pub record IsIndent (bytes : List ℕ) (p q : Point) (es : List Event) : Type 0 where
   pub events : es ≡ pair_unless_empty n.SpaceOrTab p q
   pub white : White bytes p q
-  pub cut : (q.vs == 0) ≡ false → is_white (slice_index bytes q.index) ≡ true
+  pub cut : (q.vs == 0) ≡ false → is_blank (slice_range bytes q.index (q.index + 1)) ≡ true
 
 -- where an item has no digits
 abbrev pub no_digits : List ℕ → Bool
