@@ -18,6 +18,7 @@ pub mod Openers
 pub mod OutsideFacts
 pub mod BetweenFacts
 pub mod PartedFacts
+pub mod Reached
 pub mod PlainFacts
 pub mod PartsStand
 pub mod FillFacts
@@ -33,6 +34,7 @@ pub mod CollectFacts
 pub mod PrefixNames
 pub mod PrefixFacts
 pub mod BlockQuote
+pub mod ListItem
 pub mod FrontLemmas
 pub mod FrontStands
 pub mod FrontPlaces
@@ -56,6 +58,8 @@ pub mod LinesFed
 pub mod EachEvent
 pub mod FlowSteps
 pub mod FlowReads
+pub mod ListedRead
+pub mod ListedMark
 pub mod SubstitutedLemmas
 pub mod OutsideLemmas
 pub mod Registers
@@ -63,7 +67,7 @@ pub mod StatesRegister
 pub mod JoinedLemmas
 pub mod GroupLemmas
 pub mod Text
-pub mod SimpleBlocks
+pub mod ShallowBlocks
 pub mod RegistryFound
 pub mod Paragraph
 pub mod LineSteps

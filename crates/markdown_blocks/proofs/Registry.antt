@@ -40,10 +40,9 @@ use Rattle.md_seam.specs.Ahead.{HasWhite}
 use Rattle.md_seam.specs.Spaces.{rest_ready}
 use Rattle.md_definition.specs.Containers.{Taken, opens, opens_footnote, opens_item, opens_quote}
 use Rattle.md_definition.specs.Leaves.{Came, Finished, break_at, heading_at}
-use Rattle.md_definition.specs.Grouped.{grouped}
 use Rattle.md_definition.specs.Rest.{Rest}
-use Rattle.md_definition.specs.State.{Container, container_block}
-use Rattle.md_definition.specs.Tree.{Blocks}
+use Rattle.md_definition.specs.State.{Container}
+use Rattle.md_outline.specs.HeadingDepths.{is_shallow}
 use Rattle.md_seam.proofs.SpacesGoods.{Does, WhiteFits}
 use Rattle.markdown_blocks.specs.FlowRule.{Rule}
 use Rattle.markdown_blocks.specs.Leaf.HeadingAtx.{heading_leaf}
@@ -53,22 +52,23 @@ use Rattle.markdown_blocks.specs.Registry.{HeadingAtx, IsOf, LeafName, ThematicB
 use Rattle.markdown_blocks.specs.Registry.{construct_transition, container_rules, first_of, is_own, leaf, opener_at}
 use Rattle.markdown_blocks.specs.Registry.{openers, openers_behind, resolved, text_leaf, trials, tried_at}
 use Rattle.markdown_blocks.specs.States.{flow_behaves_by, flow_owner, flow_table_scheme}
-use Rattle.markdown_blocks.proofs.BlockQuote.Laws.{quote-laws, quote-unlisted}
+use Rattle.markdown_blocks.proofs.BlockQuote.Laws.{quote-laws}
 use Rattle.markdown_blocks.proofs.BlockQuote.Registers.{quote-registers}
 use Rattle.markdown_blocks.proofs.ContainerLaws.{ContainerLaws}
 use Rattle.markdown_blocks.proofs.ContainerNames.{is_front}
 use Rattle.markdown_blocks.proofs.Goods.{Anywhere, ContainerFits, IsWithin}
-use Rattle.markdown_blocks.proofs.HeadingAtx.Found.{heading-found, heading-simple}
+use Rattle.markdown_blocks.proofs.HeadingAtx.Found.{heading-found, heading-shallow}
 use Rattle.markdown_blocks.proofs.HeadingAtx.Laws.{heading-laws}
 use Rattle.markdown_blocks.proofs.HeadingAtx.Outside.{front-heading, heading-passes}
 use Rattle.markdown_blocks.proofs.HeadingAtx.Registers.{heading-registers}
 use Rattle.markdown_blocks.proofs.LeafLaws.{LeafLaws}
+use Rattle.markdown_blocks.proofs.ListItem.Laws.{item-laws}
+use Rattle.markdown_blocks.proofs.ListItem.Registers.{item-registers}
 use Rattle.markdown_blocks.proofs.OutsideFacts.{AreOutside}
 use Rattle.markdown_blocks.proofs.Paragraph.Laws.{paragraph-laws}
 use Rattle.markdown_blocks.proofs.Registers.{Registers}
-use Rattle.markdown_blocks.proofs.SimpleBlocks.{IsSimple, IsUnlisted}
 use Rattle.markdown_blocks.proofs.TextLaws.{TextLaws}
-use Rattle.markdown_blocks.proofs.ThematicBreak.Found.{break-found, break-simple}
+use Rattle.markdown_blocks.proofs.ThematicBreak.Found.{break-found}
 use Rattle.markdown_blocks.proofs.ThematicBreak.Laws.{break-laws}
 use Rattle.markdown_blocks.proofs.ThematicBreak.Registers.{break-registers}
 
@@ -105,11 +105,11 @@ leaves-found options r =
     go false true = refl
     go false false = refl
 
--- the block of each is simple
-pub leaf-simple : (l : LeafName) (options : ParseOptions) (r : Rest) → (leaf l).starts options r ≡ true →
-    IsSimple ((leaf l).block r)
-leaf-simple HeadingAtx options r h = heading-simple options r h
-leaf-simple ThematicBreak options r h = break-simple
+-- an outline can show the block of each
+pub leaf-shallow : (l : LeafName) (options : ParseOptions) (r : Rest) → (leaf l).starts options r ≡ true →
+    is_shallow ((leaf l).block r) ≡ true
+leaf-shallow HeadingAtx options r h = heading-shallow options r h
+leaf-shallow ThematicBreak options r h = refl
 
 -- In the table of flow.
 
@@ -165,12 +165,7 @@ front-own name h = front-heading name h
 
 pub container-laws : (k : ContainerKind) → ContainerLaws k (container_rules k)
 container-laws kind.BlockQuote = quote-laws
-container-laws kind.ListItem = ?
-
--- the block of each makes no list, where those in it make none: so the tree is what the lines come to, ungrouped
-pub container-unlisted : (k : ContainerKind) (c : Container) (bs : Blocks) → IsOf k c → grouped bs ≡ bs →
-    IsUnlisted (container_block c bs)
-container-unlisted kind.BlockQuote c bs is h = quote-unlisted c bs is h
+container-laws kind.ListItem = item-laws
 
 -- each is tried at the state in front of it alone
 pub opener-before : (state : DocumentState) (k : ContainerKind) → opener_at state ≡ Some k →
@@ -319,6 +314,6 @@ pub construct-registers : (name : StateName) (w : World) → Registers w →
     Registers (construct_transition same_name name w).world
 construct-registers (n.BlockQuote state) w h = quote-registers state w h
 construct-registers (n.HeadingAtx state) w h = heading-registers state w h
-construct-registers (n.ListItem state) w h = ?
+construct-registers (n.ListItem state) w h = item-registers state w h
 construct-registers (n.ThematicBreak state) w h = break-registers state w h
 construct-registers _ w h = h

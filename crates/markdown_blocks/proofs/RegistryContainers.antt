@@ -18,6 +18,7 @@ use Rattle.md_definition.specs.Preamble.{rest_at}
 use Rattle.md_definition.specs.Rest.{Rest}
 use Rattle.md_definition.specs.State.{Container, container_block}
 use Rattle.md_definition.specs.Tree.{Blocks}
+use Rattle.md_outline.specs.HeadingDepths.{are_shallow, is_shallow}
 use Rattle.md_seam.proofs.RestCells.{past_rest, rest_cells}
 use Rattle.markdown_blocks.specs.Parsed.{IsBuilt}
 use Rattle.markdown_blocks.specs.Passed.{Passed, passed_by, passed_over}
@@ -27,9 +28,8 @@ use Rattle.markdown_blocks.proofs.ContainerLaws.{ByRest, IsPassed}
 use Rattle.markdown_blocks.proofs.ContainerNames.{container-facts}
 use Rattle.markdown_blocks.proofs.PassedFacts.{Agree, HasFurther, HasOpening}
 use Rattle.markdown_blocks.proofs.PrefixNames.{AreFront}
-use Rattle.markdown_blocks.proofs.Registry.{container-laws, container-unlisted, found_by, opens-found}
+use Rattle.markdown_blocks.proofs.Registry.{container-laws, found_by, opens-found}
 use Rattle.markdown_blocks.proofs.RegistryRead.{HasKind, IsRead, IsReadTaken, of-read}
-use Rattle.markdown_blocks.proofs.SimpleBlocks.{AreSimple, IsSimple, grouped-blocks, shallow-blocks}
 
 -- At the states of flow.
 
@@ -248,16 +248,11 @@ over-empty options c column h = go (container_kind c) refl h
         let held = (container-laws k).may_hold c e in
         ((container_rules k).over_empty held.0, (container-laws k).over_empty options held.0 c column e held.1)
 
--- the block of one, with simple blocks in it, is simple
-pub read-simple : (c : Container) (bs : Blocks) → IsRead c → AreSimple bs → IsSimple (container_block c bs)
-read-simple c bs h simple = go (container_kind c) refl h
+-- an outline can show the block of one with such blocks in it
+pub read-shallow : (c : Container) (bs : Blocks) → IsRead c → are_shallow bs ≡ true →
+    is_shallow (container_block c bs) ≡ true
+read-shallow c bs h shallow = go (container_kind c) refl h
   where
-    go : (o : Option ContainerKind) → container_kind c ≡ o → HasKind o → IsSimple (container_block c bs)
+    go : (o : Option ContainerKind) → container_kind c ≡ o → HasKind o → is_shallow (container_block c bs) ≡ true
     go None e h = absurd h
-    go (Some k) e h =
-        let unlisted = container-unlisted k c bs e (grouped-blocks bs simple) in
-        record {
-          shallow = (container-laws k).shallow c bs e (shallow-blocks bs simple);
-          grouped_same = unlisted.grouped_same;
-          in_front = unlisted.in_front;
-        }
+    go (Some k) e h = (container-laws k).shallow c bs e shallow
