@@ -18,6 +18,7 @@ pub mod Openers
 pub mod OutsideFacts
 pub mod BetweenFacts
 pub mod PartedFacts
+pub mod Reached
 pub mod PlainFacts
 pub mod PartsStand
 pub mod FillFacts

@@ -117,11 +117,11 @@ filled-loud (e ∷ f ∷ es) h lists each =
 -- Chunks.
 
 -- an event that the reader wants is linked
-wanted-linked : (wants : Content → Bool) (e : Event) (content : Content) → wanted wants e ≡ Some content →
+wanted-linked : (wants : Content → Bool) (e : Event) (x : Content) → wanted wants e ≡ Some x →
     is_linked e ≡ true
-wanted-linked wants e content h = go e.kind e.link h
+wanted-linked wants e x h = go e.kind e.link h
   where
-    go : (kind : Kind) (link : Option Link) → wanted_at wants kind link ≡ Some content →
+    go : (kind : Kind) (link : Option Link) → wanted_at wants kind link ≡ Some x →
         is_linked (record e { link = link }) ≡ true
     go Enter None h = cc
     go Enter (Some link) h = refl
@@ -132,7 +132,10 @@ behind-other : (wants : Content → Bool) (e : Event) → wanted wants e ≡ Non
     chunks_behind wants (e ∷ es) ≡ cond (is_prefix e.name) (chunks_behind wants es) []
 behind-other wants e h [] = go (is_prefix e.name)
   where
-    go : (x : Bool) → [] ≡ cond x [] []
+    none : List Chunk
+    none = []
+
+    go : (x : Bool) → none ≡ cond x none []
     go true = refl
     go false = refl
 behind-other wants e h (f ∷ es) =
@@ -143,11 +146,11 @@ behind-other wants e h (f ∷ es) =
 
 behind-none : (wants : Content → Bool) (e : Event) → wanted wants e ≡ None → is_prefix e.name ≡ false →
     (es : List Event) → chunks_behind wants (e ∷ es) ≡ []
-behind-none wants e h no es = behind-other wants e h es ∙ ap (λ (x : Bool). cond x (chunks_behind wants es) []) no
+behind-none wants e h plain es = behind-other wants e h es ∙ ap (λ (x : Bool). cond x (chunks_behind wants es) []) plain
 
-behind-chunk : (wants : Content → Bool) (e f : Event) (content : Content) → wanted wants e ≡ Some content →
+behind-chunk : (wants : Content → Bool) (e f : Event) (x : Content) → wanted wants e ≡ Some x →
     (es : List Event) → chunks_behind wants (e ∷ f ∷ es) ≡ chunk_of e f ∷ chunks_behind wants es
-behind-chunk wants e f content h es =
+behind-chunk wants e f x h es =
     ap
     (λ (o : Option Content).
     cond (is_some o) (chunk_of e f ∷ chunks_behind wants es)
@@ -164,13 +167,13 @@ list-no_prefix m = go (is_ordered m)
 behind-given : (wants : Content → Bool) (t : Turn) (place : Place) (m : ℕ) (next : Option ℕ) (e : Event) →
     wanted wants e ≡ None → is_prefix e.name ≡ false → (es : List Event) →
     chunks_behind wants (given_by t place m next e ++ es) ≡ []
-behind-given wants Begins place m next e h no es = go place.within
+behind-given wants Begins place m next e h plain es = go place.within
   where
     go : (x : Bool) → chunks_behind wants ((list_begin x m e.point ++ e ∷ []) ++ es) ≡ []
-    go true = behind-none wants e h no es
+    go true = behind-none wants e h plain es
     go false = behind-none wants (enter (list_name m) e.point) refl (list-no_prefix m) (e ∷ es)
-behind-given wants Ends place m next e h no es = behind-none wants e h no (list_end place.markers next e.point ++ es)
-behind-given wants Stays place m next e h no es = behind-none wants e h no es
+behind-given wants Ends place m next e h plain es = behind-none wants e h plain (list_end place.markers next e.point ++ es)
+behind-given wants Stays place m next e h plain es = behind-none wants e h plain es
 
 -- with lists the same chunks go on a part
 behind-listed : (wants : Content → Bool) (bytes : List ℕ) (place : Place) (es : List Event) → Chunked es →
@@ -316,9 +319,9 @@ chunk-step wants reads bytes place left more chunks many e f es now rest out chu
 -- what stands behind a chunk, by the further chunks of its part
 abbrev ChunkBy : (Content → Bool) → Readings → List Event → ℕ → Event → Event → List Event → List Event → Content →
     List Chunk → Type 0
-ChunkBy wants reads left chunks e f tail out content behind = elim chunks [
+ChunkBy wants reads left chunks e f tail out x behind = elim chunks [
   | zero ↦
-      (answer rest : List Event) × (read : reads content (chunk_of e f ∷ behind) answer)
+      (answer rest : List Event) × (read : reads x (chunk_of e f ∷ behind) answer)
       × (is : out ≡ take (share (length behind) answer f.point.index) answer ++ rest)
       × Substituted wants reads (drop (share (length behind) answer f.point.index) answer) (length behind) tail rest
   | suc more ↦

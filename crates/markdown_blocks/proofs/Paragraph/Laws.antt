@@ -71,6 +71,6 @@ pub paragraph-laws : TextLaws paragraph_leaf
 paragraph-laws = record {
   cases = λ P none text leaf plain. open-cases P none text leaf plain;
   shut = λ options bs ks off. shut-lines options bs ks off;
-  simple = λ bs lines h. shallow-behind bs lines h;
+  shallow = λ bs lines h. shallow-behind bs lines h;
   outside = λ bytes options chunks. content-outside bytes options chunks;
 }
