@@ -178,8 +178,7 @@ group-held bytes names kept p group inside events o keeps blocks nested none on 
         (subst AreBlocks keeps (blocks-append (open_names row.change.opens) names
         (containers-blocks row.change.opens) blocks))
 
-    apart : (row.front ++ inside ++ (ends ++ ending)) ++ events ≡
-    row.front ++ (inside ++ (ends ++ (ending ++ events)))
+    apart : (row.front ++ inside ++ (ends ++ ending)) ++ events ≡ row.front ++ (inside ++ (ends ++ (ending ++ events)))
     apart = simp append_assoc
 
 -- before text parts are read

@@ -1,5 +1,5 @@
 -- The laws of block quotes, as containers.
-use Rattle.std.proofs.Common.{◌≡◌, true, refl, ap, ◌∙◌, [], ◌++◌}
+use Rattle.std.proofs.Common.{◌≡◌, zero, suc, true, refl, ap, ◌∙◌, [], ◌++◌}
 use Rattle.std.specs.Prelude.{None}
 use Rattle.md_engine.specs.declared.configuration.ParseOptions.{ParseOptions}
 use Rattle.md_engine.specs.declared.tokenizer.container.name.ContainerKind.TheVariants as kind
@@ -22,7 +22,8 @@ use Rattle.markdown_blocks.proofs.PassedFacts.{Agree, HasFurther}
 -- what holds of a quote holds of each container of its kind
 each-quote : (P : Container → Type 0) → P InQuote → (c : Container) → IsOf kind.BlockQuote c → P c
 each-quote P h InQuote is = h
-each-quote P h (InItem digits marker width starts_blank) is = cc
+each-quote P h (InItem digits marker zero starts_blank) is = cc
+each-quote P h (InItem digits marker (suc more) starts_blank) is = cc
 each-quote P h (InFootnote label) is = cc
 
 pub quote-laws : ContainerLaws kind.BlockQuote quote_rules
