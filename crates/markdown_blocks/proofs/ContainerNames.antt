@@ -36,6 +36,9 @@ use Rattle.markdown_blocks.proofs.PlainFacts.{Untold}
 abbrev pub is_front : Name → Bool
 is_front n.BlockQuote = true
 is_front n.ListItem = true
+is_front n.ListItemPrefix = true
+is_front n.ListItemValue = true
+is_front n.ListItemMarker = true
 is_front n.GfmFootnoteDefinition = true
 is_front name = is_prefix name
 

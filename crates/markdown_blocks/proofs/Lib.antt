@@ -18,6 +18,7 @@ pub mod Openers
 pub mod OutsideFacts
 pub mod BetweenFacts
 pub mod PartedFacts
+pub mod Reached
 pub mod PlainFacts
 pub mod PartsStand
 pub mod FillFacts
@@ -33,6 +34,7 @@ pub mod CollectFacts
 pub mod PrefixNames
 pub mod PrefixFacts
 pub mod BlockQuote
+pub mod ListItem
 pub mod FrontLemmas
 pub mod FrontStands
 pub mod FrontPlaces

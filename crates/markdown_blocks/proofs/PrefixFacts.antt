@@ -14,7 +14,6 @@ use Rattle.md_definition.specs.Tree.{End}
 use Rattle.std.specs.Prelude.{None}
 use Rattle.markdown_blocks.specs.Stands.{around_of}
 use Rattle.markdown_blocks.proofs.CollectFacts.{Collects}
-use Rattle.md_seam.proofs.SpelledLemmas.{QuietOrPrefix, Roles}
 use Rattle.md_seam.proofs.EndingsLemmas.{AreOthers}
 use Rattle.md_seam.proofs.GrammarLemmas as grammar
 use Rattle.md_outline.specs.Between.{is_between}
@@ -25,7 +24,9 @@ use Rattle.markdown_blocks.proofs.PiecesLemmas.{Tiled}
 use Rattle.markdown_blocks.proofs.PrefixNames.{AreFront, ArePrefixes}
 use Rattle.markdown_blocks.proofs.SpanLemmas.{Nested_in}
 use Rattle.markdown_blocks.proofs.PieceFacts.{Stood}
-use Rattle.markdown_blocks.proofs.PartedFacts.{clear, PartsText}
+use Rattle.markdown_blocks.proofs.PartedFacts.{Sits, clear}
+use Rattle.markdown_blocks.proofs.PlainFacts.{ArePlain}
+use Rattle.markdown_blocks.proofs.Reached.{PartsText}
 use Rattle.markdown_blocks.proofs.ContainerNames.{TakesPrefixes}
 use Rattle.md_outline.specs.Roles.{is_plain}
 
@@ -44,8 +45,8 @@ pub record PrefixFacts (bytes : List ℕ) (p q : Point) (es : List Event) : Type
   pub stood : Stood bytes es
   -- no ending stands in them, and no begin or end of a leaf
   pub others : AreOthers es
-  -- they begin where no tab of a character is cut
-  pub clear : clear bytes p ≡ true
+  -- they begin where no tab of a character is cut, if they end so
+  pub clear : clear bytes q ≡ true → clear bytes p ≡ true
   -- they stand between characters, if they begin so
   pub between : is_between bytes p.index ≡ true → AreBetween bytes es × (is_between bytes q.index ≡ true)
 
@@ -68,8 +69,9 @@ pub record Continues (bytes : List ℕ) (p q : Point) (es : List Event) : Type 0
 pub record Opens (bytes : List ℕ) (c : Container) (p q : Point) (es : List Event) : Type 0 where
   pub common : PrefixFacts bytes p q es
   pub names : AreFront es
-  -- the tree shows none of them
-  pub roles : Roles QuietOrPrefix es
+  -- an outline knows them, and a text that begins in them ends in them
+  pub plain : ArePlain bytes es
+  pub sits : Sits bytes es
   -- with the begin of the container, they keep the grammar of events without lists
   pub leads : (text : Expression) →
       Unlists text (blocks ∷ []) (blocks ∷ behind_block ∷ []) (enter (container_name c) p ∷ es)

@@ -62,6 +62,8 @@ use Rattle.markdown_blocks.proofs.HeadingAtx.Laws.{heading-laws}
 use Rattle.markdown_blocks.proofs.HeadingAtx.Outside.{front-heading, heading-passes}
 use Rattle.markdown_blocks.proofs.HeadingAtx.Registers.{heading-registers}
 use Rattle.markdown_blocks.proofs.LeafLaws.{LeafLaws}
+use Rattle.markdown_blocks.proofs.ListItem.Laws.{item-laws}
+use Rattle.markdown_blocks.proofs.ListItem.Registers.{item-registers}
 use Rattle.markdown_blocks.proofs.OutsideFacts.{AreOutside}
 use Rattle.markdown_blocks.proofs.Paragraph.Laws.{paragraph-laws}
 use Rattle.markdown_blocks.proofs.Registers.{Registers}
@@ -163,7 +165,7 @@ front-own name h = front-heading name h
 
 pub container-laws : (k : ContainerKind) → ContainerLaws k (container_rules k)
 container-laws kind.BlockQuote = quote-laws
-container-laws kind.ListItem = ?
+container-laws kind.ListItem = item-laws
 
 -- each is tried at the state in front of it alone
 pub opener-before : (state : DocumentState) (k : ContainerKind) → opener_at state ≡ Some k →
@@ -312,6 +314,6 @@ pub construct-registers : (name : StateName) (w : World) → Registers w →
     Registers (construct_transition same_name name w).world
 construct-registers (n.BlockQuote state) w h = quote-registers state w h
 construct-registers (n.HeadingAtx state) w h = heading-registers state w h
-construct-registers (n.ListItem state) w h = ?
+construct-registers (n.ListItem state) w h = item-registers state w h
 construct-registers (n.ThematicBreak state) w h = break-registers state w h
 construct-registers _ w h = h

@@ -25,6 +25,8 @@ use Rattle.markdown_blocks.proofs.LeafStands.{between-stand, between-unlisted}
 use Rattle.md_containers.proofs.QuoteLines.{IsPrefix}
 use Rattle.markdown_blocks.proofs.SpanLemmas.{Spans, order-grows}
 use Rattle.markdown_blocks.proofs.PartsStand.{Inside}
+use Rattle.markdown_blocks.proofs.PartedFacts.{Still, sits-still}
+use Rattle.markdown_blocks.proofs.PlainFacts.{Untold, plain-untold}
 use Rattle.md_outline.specs.Between.{is_between}
 use Rattle.markdown_blocks.proofs.PiecesLemmas.{Tiled, tiled-append, tiled-unless_empty, tiled-around, tiled-pair}
 use Rattle.markdown_blocks.proofs.BlockQuote.Pieces.{prefix-stood}
@@ -209,7 +211,7 @@ prefix-facts bytes p q es is = record {
   tiled = prefix-tiled bytes p q es is;
   stood = prefix-stood bytes p q es is;
   others = prefix-others bytes p q es is;
-  clear = prefix-clear bytes p q es is;
+  clear = λ behind. prefix-clear bytes p q es is;
   between = λ from. prefix-between bytes p q es from is;
 }
 
@@ -228,7 +230,8 @@ pub quote-opens : (bytes : List ℕ) (p q : Point) (es : List Event) → IsPrefi
 quote-opens bytes p q es is = record {
   common = prefix-facts bytes p q es is;
   names = prefixes-front es (prefix-are bytes p q es is);
-  roles = prefixes-roles QuietOrPrefix es tt tt (prefix-are bytes p q es is);
+  plain = plain-untold bytes es (prefixes-roles Untold es (refl, refl) (refl, refl) (prefix-are bytes p q es is));
+  sits = sits-still bytes es (prefixes-roles Still es tt tt (prefix-are bytes p q es is));
   leads =
       λ text. unlists-same text (blocks ∷ []) (blocks ∷ behind_block ∷ []) (enter n.BlockQuote p ∷ es) (refl, none)
       (prefix-begins bytes p q es is text);
