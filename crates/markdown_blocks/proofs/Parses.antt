@@ -51,6 +51,7 @@ use Rattle.markdown_blocks.proofs.HeldRows.{blocks-held, events-held}
 use Rattle.markdown_blocks.proofs.StandRows.{events-stand}
 use Rattle.markdown_blocks.proofs.GroupLemmas.{content-read, leaves-set, text-read}
 use Rattle.markdown_blocks.proofs.JoinedLemmas.{EachNoContent, rows_at-no_content}
+use Rattle.markdown_blocks.proofs.ListedOutlined.{listed-outlined}
 use Rattle.markdown_blocks.proofs.MarkLemmas.{body-between, body-column, body-index, body-vs, mark-nested}
 use Rattle.markdown_blocks.proofs.MarkLemmas.{mark-spelled, mark-unlisted}
 use Rattle.markdown_blocks.proofs.NestedRows.{Nests, rows-nest}
@@ -83,12 +84,6 @@ text-are : (options : ParseOptions) (bytes : List ℕ) → IsBuilt options → l
     AreRows options bytes [] held_leaf.None (body_point bytes) (lines_of bytes) (rows_of options bytes)
 text-are options bytes built small =
     fresh-rows options bytes (body_point bytes) built small (body-index bytes) (body-vs bytes) (body-column bytes)
-
--- Until it stands.
-listed-outlined : (bytes : List ℕ) (events : List Event) → outlined.IsUnlisted events bytes →
-    ItemsStand bytes root events → Nested events → ItemsHeld [] events → are_shallow (spelled events bytes) ≡ true →
-    IsOutlined (listed bytes events) bytes
-listed-outlined = ?
 
 -- The events of a text, once flow and content were read.
 content-are : (options : ParseOptions) (bytes : List ℕ) → IsBuilt options → length bytes < 2 ^ 61 →
