@@ -90,6 +90,8 @@ pub mod EndingRows
 pub mod Parses
 pub mod PartedRows
 pub mod PlainEvents
+pub mod GroupedDepths
+pub mod ListedOutlined
 pub mod ParagraphReads
 pub mod PartFacts
 pub mod TileParts

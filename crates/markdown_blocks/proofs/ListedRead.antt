@@ -250,6 +250,19 @@ keeps-one wants reads left chunks e [] out h s = ap (λ (l : List Event). e ∷ 
 keeps-one wants reads left chunks e (f ∷ es) out h s =
     subst (SubstitutedBy wants reads left chunks e f es (e ∷ out)) (sym h) (out, refl, s)
 
+-- an event is given the same in front of events with the same ahead
+given-same : (bytes : List ℕ) (place : Place) (e : Event) (es read : List Event) → SameAhead bytes read es →
+    given bytes place e es ++ listed_from bytes (place_after bytes place e es) read ≡ listed_from bytes place (e ∷ read)
+given-same bytes place e es read same =
+    let t : Turn = turn e.kind (role e.name) in
+    ap (λ (m : ℕ). given_by t place m (next_item bytes es) e ++ listed_from bytes (place_by t place m (next_item bytes es)) read)
+    (sym same.0)
+    ∙ ap
+    (λ (o : Option ℕ).
+    given_by t place (marker_ahead bytes read) o e
+    ++ listed_from bytes (place_by t place (marker_ahead bytes read) o) read)
+    (sym same.1)
+
 -- an event that no chunk begins with
 other-step : (wants : Content → Bool) (reads : Readings) (bytes : List ℕ) (place : Place) (left : List Event)
     (chunks : ℕ) (e : Event) (es out : List Event) → wanted wants e ≡ None →
@@ -274,14 +287,7 @@ other-step wants reads bytes place left chunks e es out h rec s =
       least = omega (arith, least);
       same = λ few.
           let k = w.same (omega (arith, few)) in (
-            one.1 ∙ ap (λ (l : List Event). given bytes place e es ++ l) k.0
-                ∙ ap (λ (k : ℕ). given_by t place k next e ++ listed_from bytes (place_by t place k next) w.plain)
-                (sym k.1.0)
-                ∙ ap
-                (λ (o : Option ℕ).
-                given_by t place (marker_ahead bytes w.plain) o e
-                ++ listed_from bytes (place_by t place (marker_ahead bytes w.plain) o) w.plain)
-                (sym k.1.1),
+            one.1 ∙ ap (λ (l : List Event). given bytes place e es ++ l) k.0 ∙ given-same bytes place e es w.plain k.1,
             ahead-more bytes e w.plain es k.1,
           );
     }

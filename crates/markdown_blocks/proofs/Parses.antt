@@ -51,6 +51,7 @@ use Rattle.markdown_blocks.proofs.HeldRows.{blocks-held, events-held}
 use Rattle.markdown_blocks.proofs.StandRows.{events-stand}
 use Rattle.markdown_blocks.proofs.GroupLemmas.{content-read, leaves-set, text-read}
 use Rattle.markdown_blocks.proofs.JoinedLemmas.{EachNoContent, rows_at-no_content}
+use Rattle.markdown_blocks.proofs.ListedOutlined.{listed-outlined}
 use Rattle.markdown_blocks.proofs.MarkLemmas.{body-between, body-column, body-index, body-vs, mark-nested}
 use Rattle.markdown_blocks.proofs.MarkLemmas.{mark-spelled, mark-unlisted}
 use Rattle.markdown_blocks.proofs.NestedRows.{Nests, rows-nest}
@@ -83,12 +84,6 @@ text-are : (options : ParseOptions) (bytes : List ℕ) → IsBuilt options → l
     AreRows options bytes [] held_leaf.None (body_point bytes) (lines_of bytes) (rows_of options bytes)
 text-are options bytes built small =
     fresh-rows options bytes (body_point bytes) built small (body-index bytes) (body-vs bytes) (body-column bytes)
-
--- Until it stands.
-listed-outlined : (bytes : List ℕ) (events : List Event) → outlined.IsUnlisted events bytes →
-    ItemsStand bytes root events → Nested events → ItemsHeld [] events → are_shallow (spelled events bytes) ≡ true →
-    IsOutlined (listed bytes events) bytes
-listed-outlined = ?
 
 -- The events of a text, once flow and content were read.
 content-are : (options : ParseOptions) (bytes : List ℕ) → IsBuilt options → length bytes < 2 ^ 61 →
@@ -170,11 +165,17 @@ blocks-unlisted options bytes built small placed =
       endings = blocks-endings options bytes lines rows are (text-quiet options bytes p);
     }
 
+-- The block list has the lists around these items.
+block_list-is : (options : ParseOptions) (bytes : List ℕ) →
+    listed bytes (blocks_of options bytes) ≡ block_list options bytes
+unfolding block_list
+block_list-is options bytes = refl
+
 -- With what was read in the place of its chunks, the block list of a text tiles it.
 tiles-are : (options : ParseOptions) (bytes : List ℕ) → IsBuilt options → length bytes < 2 ^ 61 →
     IsTrue (are_placed bytes (listed bytes (blocks_of options bytes))) →
     (tiles : Tiles (reads_plain bytes) bytes (listed bytes (read_of options bytes))) ×
-    (tiles.blocks ≡ listed bytes (blocks_of options bytes))
+    (tiles.blocks ≡ block_list options bytes)
 tiles-are options bytes built small placed =
     let p : Point = body_point bytes in
     let lines : List (List ℕ) = lines_of bytes in
@@ -194,24 +195,17 @@ tiles-are options bytes built small placed =
         read = read-listed options bytes built small;
         empty = λ none. ap (listed bytes) (groups-empty options bytes none);
       },
-      refl,
+      block_list-is options bytes,
     )
-
--- The block list is made of the events of the mark and of the lines.
-block_list-is : (options : ParseOptions) (bytes : List ℕ) →
-    listed bytes (blocks_of options bytes) ≡ block_list options bytes
-unfolding block_list
-block_list-is options bytes = refl
 
 -- What is known of all events of a text, by those that stood there before its text parts were read.
 pub record Reads (options : ParseOptions) (bytes : List ℕ) (blocks events : List Event) : Type 0 where
   pub nested : Nested events
   pub outlined : IsOutlined events bytes
   pub tree : spelled events bytes ≡ tree options bytes
-  pub blocks_are : blocks ≡ block_list options bytes
   pub events_are : events ≡ plain_read bytes (block_list options bytes)
   pub tiles : IsTrue (are_placed bytes blocks) →
-      (tiles : Tiles (reads_plain bytes) bytes events) × (tiles.blocks ≡ blocks)
+      (tiles : Tiles (reads_plain bytes) bytes events) × (tiles.blocks ≡ block_list options bytes)
   pub grammar : keeps_grammar plain_text events ≡ true
   pub pieces_are : pieces_stand bytes (pieces events) ≡ true
   pub endings : endings_stand events ≡ true
@@ -240,7 +234,6 @@ listed-reads options bytes built utf8 small =
           (rows-between options bytes p lines rows (body-between bytes) are)))
           stand nested held (ap are_shallow spells ∙ body-shallow options bytes built);
       tree = listed-spelled bytes events stand ∙ ap grouped spells ∙ sym (tree-body options bytes built);
-      blocks_are = block_list-is options bytes;
       events_are = read-listed options bytes built small ∙ ap (plain_read bytes) (block_list-is options bytes);
       tiles = tiles-are options bytes built small;
       grammar =

@@ -4,7 +4,8 @@
 -- shows of it stands in files of its own (as `HeadingState`).
 --
 -- - A container that is shown by a word: `is_plain` and `shown_as` here, `role_of` in code, `by-role` in the lemmas.
---   A list is shown by the marker of its first item, too: so `is_shown` here, and files of its own (`ListsBegin`).
+--   A list is shown with the marker of its first item, which its line is told later: so it is `is_shown` alone, and has
+--   `mark` in code, and `ListsBegin` and `ListLemmas`.
 -- - A leaf block: the same three, and what is known of it: `leaf_of` here, `Leaf` with `noted` and `push_leaf` in code,
 --   `Knows` with its two laws in the lemmas.
 -- - A text that tells a leaf block something: the same three, and `told_as` here, `Note` in code, `knows-noted` in the

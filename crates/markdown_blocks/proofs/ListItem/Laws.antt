@@ -1,5 +1,5 @@
 -- The laws of list items, as containers.
-use Rattle.std.proofs.Common.{◌≡◌, ◌+◌, ◌≤◌, ℕ, Bool, true, cond, not, ◌&&◌, ◌||◌, refl, sym, ap, subst, ◌∙◌, List}
+use Rattle.std.proofs.Common.{◌≡◌, ◌+◌, ◌≤◌, ℕ, Bool, true, false, cond, not, ◌&&◌, ◌||◌, refl, sym, ap, subst, ◌∙◌, List}
 use Rattle.std.proofs.Common.{[], length, arith}
 use Rattle.std.specs.Prelude.{Option, Some, None}
 use Rattle.md_engine.specs.declared.configuration.ParseOptions.{ParseOptions}

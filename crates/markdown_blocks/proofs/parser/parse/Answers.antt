@@ -85,7 +85,7 @@ returns c =
           read.tree on may;
       events_are = read.events_are;
       tiles = tiled.0;
-      blocks_are = tiled.1 ∙ read.blocks_are;
+      blocks_are = tiled.1;
       held =
           blocks-held c.args.value.now tiled.0.blocks tiled.0.covers tiled.0.block_list.pieces_are
           tiled.0.block_list.chunks;
