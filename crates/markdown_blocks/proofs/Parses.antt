@@ -35,7 +35,6 @@ use Rattle.md_seam.specs.Substituted.{Readings, Substituted}
 use Rattle.md_definition.specs.Texts.{split_lines}
 use Rattle.md_seam.specs.Events.Tiles.{EachRead, Tiles, parts, plain_lists, plain_read}
 use Rattle.md_outline.specs.HeadingDepths.{are_shallow}
-use Rattle.md_outline.specs.Outlined as outlined
 use Rattle.md_outline.specs.Outlined.{IsOutlined}
 use Rattle.markdown_blocks.specs.BlockList.{block_list}
 use Rattle.markdown_blocks.specs.Document.{body_point, mark_events}
@@ -63,6 +62,7 @@ use Rattle.markdown_blocks.proofs.TileCovers.{blocks-cover}
 use Rattle.markdown_blocks.proofs.TileParts.{blocks-chunks, blocks-nested, blocks-stand}
 use Rattle.markdown_blocks.proofs.TileReads.{groups-empty, text-filled}
 use Rattle.markdown_blocks.proofs.ListedMark.{listed-mark}
+use Rattle.markdown_blocks.proofs.ListedOutlined.{listed-outlined}
 use Rattle.markdown_blocks.proofs.ListedRead.{listed-read}
 use Rattle.markdown_blocks.proofs.TreeRows.{body-rows, body-shallow, body_of, tree-body}
 use Rattle.markdown_blocks.proofs.LeafFacts.{ReadsText}
@@ -83,12 +83,6 @@ text-are : (options : ParseOptions) (bytes : List ℕ) → IsBuilt options → l
     AreRows options bytes [] held_leaf.None (body_point bytes) (lines_of bytes) (rows_of options bytes)
 text-are options bytes built small =
     fresh-rows options bytes (body_point bytes) built small (body-index bytes) (body-vs bytes) (body-column bytes)
-
--- Until it stands.
-listed-outlined : (bytes : List ℕ) (events : List Event) → outlined.IsUnlisted events bytes →
-    ItemsStand bytes root events → Nested events → ItemsHeld [] events → are_shallow (spelled events bytes) ≡ true →
-    IsOutlined (listed bytes events) bytes
-listed-outlined = ?
 
 -- The events of a text, once flow and content were read.
 content-are : (options : ParseOptions) (bytes : List ℕ) → IsBuilt options → length bytes < 2 ^ 61 →
