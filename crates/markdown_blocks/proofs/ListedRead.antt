@@ -12,9 +12,7 @@ use Rattle.md_engine.specs.declared.event.Event.{Event}
 use Rattle.md_engine.specs.declared.event.Kind.{Kind}
 use Rattle.md_engine.specs.declared.event.Kind.TheVariants.{Enter, Exit}
 use Rattle.md_engine.specs.declared.event.Link.{Link}
-use Rattle.md_engine.specs.declared.event.Name.{Name}
 use Rattle.md_engine.specs.declared.event.Name.TheVariants as n
-use Rattle.md_engine.specs.declared.event.Point.{Point}
 use Rattle.md_containers.specs.Listed.{Begins, Ends, Place, Stays, Turn, given, given_by, goes_on, is_item, list_begin}
 use Rattle.md_containers.specs.Listed.{list_end, list_name, listed, listed_from, marker_ahead, next_item, outside}
 use Rattle.md_containers.specs.Listed.{place_after, place_by, turn}
@@ -33,7 +31,7 @@ use Rattle.md_seam.specs.Substituted.{Readings, Substituted, chunk_of, chunks_be
 use Rattle.md_seam.proofs.FilledLemmas.{EachInline}
 use Rattle.md_seam.proofs.SpelledLemmas.{QuietOrEnding, Roles}
 use Rattle.md_seam.proofs.SubstitutedLemmas.{SubstitutedBy}
-use Rattle.markdown_blocks.proofs.SubstitutedLemmas.{Unwanted, no_link-unwanted, passes}
+use Rattle.markdown_blocks.proofs.SubstitutedLemmas.{Unwanted, passes}
 
 -- Loud events.
 

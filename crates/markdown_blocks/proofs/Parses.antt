@@ -24,7 +24,7 @@ use Rattle.md_containers.proofs.ListedReads.{listed-spelled}
 use Rattle.md_content.specs.ContentReads.{content_readings, wants_content}
 use Rattle.md_definition.specs.Grouped.{grouped}
 use Rattle.md_seam.specs.Events.Endings.{endings_stand}
-use Rattle.md_seam.specs.Events.Grammar.{keeps_grammar, plain_text, unread_text}
+use Rattle.md_seam.specs.Events.Grammar.{keeps_grammar, plain_text}
 use Rattle.md_seam.specs.Events.Inline.{Part, Piece, pieces}
 use Rattle.md_definition.specs.Meaning.{tree}
 use Rattle.md_seam.specs.Events.Nested.{Nested}
