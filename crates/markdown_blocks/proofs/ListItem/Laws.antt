@@ -1,6 +1,6 @@
 -- The laws of list items, as containers.
-use Rattle.std.proofs.Common.{◌≡◌, ◌+◌, ◌≤◌, ℕ, Bool, true, false, cond, not, ◌&&◌, ◌||◌, refl, sym, ap, subst, ◌∙◌}
-use Rattle.std.proofs.Common.{List, [], length, arith}
+use Rattle.std.proofs.Common.{◌≡◌, ◌+◌, ◌≤◌, ℕ, Bool, true, false, cond, not, ◌&&◌, ◌||◌, refl, sym, ap, subst, ◌∙◌, List}
+use Rattle.std.proofs.Common.{[], length, arith}
 use Rattle.std.specs.Prelude.{Option, Some, None}
 use Rattle.md_engine.specs.declared.configuration.ParseOptions.{ParseOptions}
 use Rattle.md_engine.specs.declared.tokenizer.container.Container.{Container as Held}
@@ -8,7 +8,8 @@ use Rattle.md_engine.specs.declared.tokenizer.container.name.ContainerKind.TheVa
 use Rattle.md_containers.specs.ItemPrefix.{item_holds}
 use Rattle.md_containers.proofs.ItemHeld.{item-empty, item-looked}
 use Rattle.md_containers.proofs.ItemShorter.{further-shortens, item-shortens}
-use Rattle.md_definition.specs.Containers.{Marker, Taken, continues, item_by, list_marker, may_interrupt, opens_item}
+use Rattle.md_definition.specs.Containers.{Marker, Taken, continues, item_by, list_marker, may_interrupt}
+use Rattle.md_definition.specs.Containers.{opens_item}
 use Rattle.md_definition.specs.Leaves.{is_rule}
 use Rattle.md_definition.specs.Preamble.{rest_at}
 use Rattle.md_definition.specs.Rest.{Rest, behind, behind_indent, has_small_indent, indent, is_blank, is_parted}
