@@ -5,11 +5,12 @@
 // It adds one `SpaceOrTab` around them, and nothing where there are none.
 
 ghost use Rattle.std.specs.Prelude.{◌≡◌, ◌≢◌, IfSome, OnOk, true};
+ghost use Rattle.md_engine.specs.Place.{is_ending};
 ghost use Rattle.md_engine.specs.World.{world};
 ghost use Rattle.md_engine.specs.declared.state.Name.{Name as StateName};
 ghost use Rattle.md_engine.specs.declared.state.State.{State};
 ghost use Rattle.md_engine.specs.declared.state.space_or_tab.State.{State as WhiteState};
-ghost use Rattle.md_seam.specs.Look.{first_behind, looks_behind};
+ghost use Rattle.md_seam.specs.Look.{first_behind, looks_behind, sees_other};
 ghost use Rattle.md_seam.specs.OneSpace.{IsOneSpace, spaced};
 ghost use Rattle.md_seam.specs.Spaces.{WhiteNeeds, after_transition, any_size, inside_transition, sees_white};
 ghost use Rattle.md_seam.specs.Spaces.{small_indent, start_transition, white_then, white_transition};
@@ -36,6 +37,13 @@ pub fn is_space_or_tab(current: Option<u8>) -> bool
         Some(byte) => byte == b' ' || byte == b'\t',
         None => false,
     }
+}
+
+/// Whether this byte ends a line.
+fn is_ending(byte: u8) -> bool
+    ensures { result ≡ is_ending byte }
+{
+    byte == b'\n' || byte == b'\r'
 }
 
 /// The first of these bytes behind whitespace, as a state sees it: a line ending as `\n`.
@@ -66,6 +74,16 @@ pub fn look_behind(tokenizer: &Tokenizer) -> Option<u8>
         return None;
     }
     first_behind(&tokenizer.bytes[index..tokenizer.limit])
+}
+
+/// Whether something else than this marker and whitespace is known to stand on the rest of the line. Then it is no line
+/// of such markers alone.
+pub fn sees_other(tokenizer: &mut Tokenizer, marker: u8) -> bool
+    ensures sees { result ≡ sees_other (world tokenizer.old) marker }
+    ensures same { world tokenizer.new ≡ world tokenizer.old }
+{
+    let end = tokenizer.spread_end(marker);
+    end < tokenizer.limit && !is_ending(tokenizer.bytes[end])
 }
 
 /// The greatest small indent, in columns: 3, or any where there is no indented code.
