@@ -1,6 +1,6 @@
 -- What is known of a line by the first byte that is neither a marker nor whitespace.
 use Rattle.std.proofs.Common.{◌≡◌, ℕ, zero, suc, ◌+◌, ◌-◌, ◌<◌, ◌≤◌, ◌⊎◌, inl, inr, Bool, true, false, cond, not, ◌&&◌, ◌||◌}
-use Rattle.std.proofs.Common.{List, ◌∷◌, length, nat_eq, nat_lt, Option, Some, None, refl, sym, ◌∙◌, ap, arith}
+use Rattle.std.proofs.Common.{List, [], ◌∷◌, length, nat_eq, nat_lt, Option, Some, None, refl, sym, ◌∙◌, ap, arith}
 use Rattle.std.specs.Prelude.{slice_index, slice_range}
 use Rattle.std.specs.List.{list_all}
 use Rattle.std.proofs.lemmas.Bool.{eqb-true, or_parts}
@@ -15,7 +15,8 @@ use Rattle.md_engine.proofs.Points.{cells-fall}
 use Rattle.md_engine.proofs.StepOf.{Sees}
 use Rattle.md_definition.specs.Rest.{is_white}
 use Rattle.md_seam.specs.Ahead.{line_bytes}
-use Rattle.md_seam.specs.Look.{first_other, is_other, sees_other}
+use Rattle.md_seam.specs.Look.{as_seen, behind_code, first_behind, first_other, is_other, looks_behind, sees_other}
+use Rattle.md_seam.specs.Spaces.{sees_white}
 use Rattle.md_seam.proofs.LookLemmas.{Along, IsWhiteAt, dark-at, left_at, none-left, white-at}
 use Rattle.md_seam.proofs.PlainSteps.{range-next, range-none}
 
@@ -85,6 +86,66 @@ other-unknown w marker n b low h le is =
     is ∙ ap (λ (y : Bool). is_other (cond y (Some (slice_index w.setting.bytes n)) None)) (sym past)
     ∙ ap is_other
     (sym (first-other w.setting.bytes marker (n - w.point.index) w.point.index w.setting.limit n low (omega (arith, behind)) h))
+
+-- A run with a space for its marker is whitespace alone.
+
+white-alone : (b : ℕ) → spreads 32 b ≡ is_white b
+white-alone b = twice (nat_eq b 32) (nat_eq b 9)
+  where
+    twice : (x y : Bool) → x || (x || y) ≡ x || y
+    twice true y = refl
+    twice false y = refl
+
+abbrev seen_first : Option ℕ → Option ℕ
+seen_first None = None
+seen_first (Some b) = Some (as_seen b)
+
+behind-white : (bytes : List ℕ) → first_behind bytes ≡ seen_first (first_other 32 bytes)
+behind-white [] = refl
+behind-white (b ∷ bytes) =
+    go (is_white b) (behind-white bytes)
+    ∙ ap (λ (x : Bool). seen_first (cond x (first_other 32 bytes) (Some b))) (sym (white-alone b))
+  where
+    go : (x : Bool) → first_behind bytes ≡ seen_first (first_other 32 bytes) →
+        cond x (first_behind bytes) (Some (as_seen b)) ≡ seen_first (cond x (first_other 32 bytes) (Some b))
+    go true h = h
+    go false h = refl
+
+-- where whitespace stands here, the first byte behind it stands where its run ends
+behind-first : (w : World) (n : ℕ) → w.setting.limit ≤ length w.setting.bytes →
+    EndsSpread w.setting.bytes 32 w.point.index w.setting.limit n → sees_white w.current ≡ true →
+    seen_first (cond (nat_lt n w.setting.limit) (Some (slice_index w.setting.bytes n)) None) ≡ looks_behind w
+unfolding looks_behind
+behind-first w n low h white =
+    let behind = h.behind in
+    ap seen_first
+    (sym
+    (first-other w.setting.bytes 32 (n - w.point.index) w.point.index w.setting.limit n low (omega (arith, behind)) h))
+    ∙ sym (behind-white (slice_range w.setting.bytes w.point.index w.setting.limit)) ∙ go w.current white
+  where
+    found : Option ℕ
+    found = first_behind (slice_range w.setting.bytes w.point.index w.setting.limit)
+
+    go : (o : Option ℕ) → sees_white o ≡ true → found ≡ behind_code o found
+    go None e = cc
+    go (Some b) e = ap (λ (x : Bool). cond x found (Some b)) (sym e)
+
+pub behind-seen : (w : World) (n b : ℕ) → w.setting.limit ≤ length w.setting.bytes →
+    EndsSpread w.setting.bytes 32 w.point.index w.setting.limit n → sees_white w.current ≡ true →
+    n < w.setting.limit → b ≡ as_seen (slice_index w.setting.bytes n) → Some b ≡ looks_behind w
+behind-seen w n b low h white lt is =
+    let here : nat_lt n w.setting.limit ≡ true = grind (arith, nat_tests) in
+    ap Some is
+    ∙ ap (λ (x : Bool). seen_first (cond x (Some (slice_index w.setting.bytes n)) None)) (sym here)
+    ∙ behind-first w n low h white
+
+pub behind-unknown : (w : World) (n : ℕ) → w.setting.limit ≤ length w.setting.bytes →
+    EndsSpread w.setting.bytes 32 w.point.index w.setting.limit n → sees_white w.current ≡ true →
+    w.setting.limit ≤ n → None ≡ looks_behind w
+behind-unknown w n low h white le =
+    let past : nat_lt n w.setting.limit ≡ false = grind (arith, nat_tests) in
+    ap (λ (x : Bool). seen_first (cond x (Some (slice_index w.setting.bytes n)) None)) (sym past)
+    ∙ behind-first w n low h white
 
 -- What is known of the cells.
 

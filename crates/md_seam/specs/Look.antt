@@ -16,10 +16,14 @@ abbrev pub seen_behind : List Cell → Option ℕ
 seen_behind [] = None
 seen_behind (c ∷ cs) = if is_white c.byte then seen_behind cs else Some c.byte
 
+-- a byte as a state sees it
+abbrev pub as_seen : ℕ → ℕ
+as_seen b = if is_ending b then 10 else b
+
 -- the first byte behind whitespace, as a state sees it
 abbrev pub first_behind : List ℕ → Option ℕ
 first_behind [] = None
-first_behind (b ∷ bytes) = if is_white b then first_behind bytes else Some (if is_ending b then 10 else b)
+first_behind (b ∷ bytes) = if is_white b then first_behind bytes else Some (as_seen b)
 
 -- by what stands here, and by what stands first behind whitespace
 abbrev pub behind_code : Option ℕ → Option ℕ → Option ℕ

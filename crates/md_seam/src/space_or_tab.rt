@@ -10,7 +10,7 @@ ghost use Rattle.md_engine.specs.World.{world};
 ghost use Rattle.md_engine.specs.declared.state.Name.{Name as StateName};
 ghost use Rattle.md_engine.specs.declared.state.State.{State};
 ghost use Rattle.md_engine.specs.declared.state.space_or_tab.State.{State as WhiteState};
-ghost use Rattle.md_seam.specs.Look.{first_behind, looks_behind, sees_other};
+ghost use Rattle.md_seam.specs.Look.{as_seen, looks_behind, sees_other};
 ghost use Rattle.md_seam.specs.OneSpace.{IsOneSpace, spaced};
 ghost use Rattle.md_seam.specs.Spaces.{WhiteNeeds, after_transition, any_size, inside_transition, sees_white};
 ghost use Rattle.md_seam.specs.Spaces.{small_indent, start_transition, white_then, white_transition};
@@ -46,34 +46,29 @@ fn is_ending(byte: u8) -> bool
     byte == b'\n' || byte == b'\r'
 }
 
-/// The first of these bytes behind whitespace, as a state sees it: a line ending as `\n`.
-fn first_behind(bytes: &[u8]) -> Option<u8>
-    ensures { result ≡ first_behind bytes.now }
+/// A byte as a state sees it: a line ending as `\n`.
+fn as_seen(byte: u8) -> u8
+    ensures { result ≡ as_seen byte }
 {
-    for byte in bytes {
-        match *byte {
-            b' ' | b'\t' => {}
-            b'\r' => return Some(b'\n'),
-            first => return Some(first),
-        }
-    }
-    None
+    if is_ending(byte) { b'\n' } else { byte }
 }
 
 /// What stands here or, where that is whitespace, what stands first behind it, as far as the text may be read now; none
 /// where that is not known, or where nothing stands.
 #[tactic(auto, unfolding(crate::specs::Look::looks_behind))]
-pub fn look_behind(tokenizer: &Tokenizer) -> Option<u8>
-    ensures { result ≡ looks_behind (world tokenizer.now) }
+pub fn look_behind(tokenizer: &mut Tokenizer) -> Option<u8>
+    ensures behind { result ≡ looks_behind (world tokenizer.old) }
+    ensures same { world tokenizer.new ≡ world tokenizer.old }
 {
     if !is_space_or_tab(tokenizer.current) {
         return tokenizer.current;
     }
-    let index = tokenizer.point.index;
-    if index >= tokenizer.limit {
-        return None;
+    let end = tokenizer.spread_end(b' ');
+    if end < tokenizer.limit {
+        Some(as_seen(tokenizer.bytes[end]))
+    } else {
+        None
     }
-    first_behind(&tokenizer.bytes[index..tokenizer.limit])
 }
 
 /// Whether something else than this marker and whitespace is known to stand on the rest of the line. Then it is no line
