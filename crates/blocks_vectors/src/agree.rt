@@ -9,11 +9,25 @@ use md_program::body::Body;
 use std::alloc::Global;
 
 /// Letters that begin quotes, headings and breaks, or lines.
-const LETTERS: [&str; 6] = ["a", ">", "#", "*", " ", "\n"];
+const LEAVES: [&str; 6] = ["a", ">", "#", "*", " ", "\n"];
 
-/// Tries two bodies on all texts of at most so many of the letters, with all constructs of the first.
+/// Letters that begin items, quotes and breaks, or lines.
+const ITEMS: [&str; 7] = ["a", "-", "1", ".", ">", " ", "\n"];
+
+/// Tries two bodies on all texts of at most so many letters of each alphabet, with all constructs of the first.
 pub fn try_agree<A: Body, B: Body>(
     alloc: Global,
+    most: usize,
+    report: &mut Report,
+) -> Result<(), CaseError> {
+    try_letters::<A, B>(alloc, &LEAVES, most, report)?;
+    try_letters::<A, B>(alloc, &ITEMS, most, report)
+}
+
+/// Tries them on all texts of at most so many of these letters.
+fn try_letters<A: Body, B: Body>(
+    alloc: Global,
+    letters: &[&str],
     most: usize,
     report: &mut Report,
 ) -> Result<(), CaseError> {
@@ -21,12 +35,12 @@ pub fn try_agree<A: Body, B: Body>(
     let mut count: usize = 1;
     for length in 0..=most {
         for number in 0..count {
-            let text = numbered(alloc, &LETTERS, length, number)?;
+            let text = numbered(alloc, letters, length, number)?;
             let got = printed::<A>(alloc, text.as_str(), &constructs)?;
             let wanted = printed::<B>(alloc, text.as_str(), &constructs)?;
             report.add("two bodies", text.as_str(), wanted.as_str(), got.as_str())?;
         }
-        count = count.wrapping_mul(LETTERS.len());
+        count = count.wrapping_mul(letters.len());
     }
     Ok(())
 }

@@ -1,8 +1,12 @@
-// Lists around items, on events as the states of items add them.
+// Lists around items, on events as the states of items add them, and their outlines.
 
+use markdown_blocks::outline::outline;
 use md_containers::lists::put_lists;
+use md_definition::outline::Word;
+use md_engine::configuration::ParseOptions;
 use md_engine::event::{Event, Kind, Name, Point};
 use md_engine::message::Message;
+use md_engine::parse_state::ParseState;
 use std::alloc::{AllocError, Global};
 use std::process::Abort;
 
@@ -119,5 +123,75 @@ fn puts_lists(rt: HostRuntime) {
         ("-", "I0i1", "U0I0i1u1"),
     ] {
         check(&rt, rt.alloc(), text, list, want);
+    }
+}
+
+// The outline of such events with their lists: a list as its marker, an item as `i`, a quote as `q`, a paragraph as `p`,
+// and each line of text between bars.
+fn shown(alloc: Global, text: &str, list: &str) -> Result<String, Message> {
+    let Ok(events) = all(alloc, list) else {
+        return Err(Message);
+    };
+    let events = put_lists(alloc, text.as_bytes(), &events, Vec::new(alloc))?;
+    let state = ParseState {
+        options: &ParseOptions::NONE,
+        bytes: text.as_bytes(),
+        definitions: Vec::new(alloc),
+        gfm_footnote_definitions: Vec::new(alloc),
+    };
+    let lines = outline(alloc, &events, &state)?;
+    let mut shown = String::new(alloc);
+    for line in lines.iter() {
+        if add(&mut shown, line.word, line.text).is_err() {
+            return Err(Message);
+        }
+    }
+    Ok(shown)
+}
+
+fn add(shown: &mut String, word: Word, text: &str) -> Result<(), AllocError> {
+    match word {
+        Word::List(marker) => shown.push(char::from(marker)),
+        Word::Item => shown.push_str("i"),
+        Word::Quote => shown.push_str("q"),
+        Word::Paragraph => shown.push_str("p"),
+        _ => {
+            shown.push_str("|")?;
+            shown.push_str(text)?;
+            shown.push_str("|")
+        }
+    }
+}
+
+#[test]
+fn shows_lists(rt: HostRuntime) {
+    for (text, list, want) in [
+        // Two items of one list
+        ("-a\n-b", "I0M0m1P1p2i2L2l3I3M3m4P4p5i5", "-ip|a|ip|b|"),
+        // Two lists
+        ("-a\n+b", "I0M0m1P1p2i2L2l3I3M3m4P4p5i5", "-ip|a|+ip|b|"),
+        // Digits and `)`
+        ("1)a", "I0M1m2P2p3i3", ")ip|a|"),
+        // An item in an item, and one behind it
+        (
+            "*-a\n*b",
+            "I0M0m1I1M1m2P2p3i3i3L3l4I4M4m5P5p6i6",
+            "*i-ip|a|ip|b|",
+        ),
+        // An item in a quote, and a quote in an item
+        (
+            ">-a\n->b",
+            "Q0I1M1m2P2p3i3q3L3l4I4M4m5Q5P6p7q7i7",
+            "q-ip|a|-iqp|b|",
+        ),
+    ] {
+        let all = match shown(rt.alloc(), text, list) {
+            Ok(all) => Ok(all),
+            Err(Message) => shown(rt.alloc(), text, list),
+        };
+        assert!(rt;
+            matches!(all, Ok(ref all) if all.as_str() == want),
+            "of {list:?}"
+        );
     }
 }

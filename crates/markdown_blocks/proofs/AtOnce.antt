@@ -23,7 +23,7 @@ use Rattle.markdown_blocks.specs.AtOnce.{GoesAtOnce, asking_by, asking_next}
 use Rattle.markdown_blocks.specs.Flow.{existing_after_transition, existing_before_code, existing_before_transition}
 use Rattle.markdown_blocks.specs.Flow.{trial_code}
 use Rattle.markdown_blocks.specs.LineFlags.{asking, next_container}
-use Rattle.markdown_blocks.specs.Registry.{goes_on_with, may_go_on, opener_front, openers}
+use Rattle.markdown_blocks.specs.Registry.{goes_at_once, goes_on_with, may_go_on, opener_front, openers}
 use Rattle.markdown_blocks.specs.States.{FlowStep}
 
 -- what is seen here stands first behind whitespace, unless it is whitespace
@@ -40,11 +40,12 @@ abbrev others : State
 others = Next (n.Document (opener_front openers))
 
 -- a container that goes on at once is tried
-tries : (w : World) (c : Container) (k : ContainerKind) → w.current ≡ Some 62 →
+tries : (w : World) (c : Container) (k : ContainerKind) → goes_at_once k ≡ true → w.current ≡ Some 62 →
     trial_code (goes_on_with k) (n.Document document.ContainerExistingAfter) (n.Document (opener_front openers))
     (asking c w) (may_with (may_go_on k) (looks_behind w)) ≡
     record { to = Retry (n.BlockQuote quote.ContStart); world = tried (asking c w) after-it others }
-tries w c kind.BlockQuote e =
+tries w c kind.ListItem quick e = cc
+tries w c kind.BlockQuote quick e =
     ap
     (λ (o : Option ℕ).
     trial_code (goes_on_with kind.BlockQuote) (n.Document document.ContainerExistingAfter)
@@ -60,7 +61,7 @@ begins : (w : World) → w.current ≡ Some 62 → (at_once : GoesAtOnce w) →
 begins w here at_once =
     ap (λ (o : Option ℕ). existing_before_code w (ends_line o) (next_container w.flags)) here
     ∙ ap (existing_before_code w false) at_once.next
-    ∙ tries w at_once.held at_once.held.kind here
+    ∙ tries w at_once.held at_once.held.kind at_once.kind here
 
 -- what stands here does not depend on who is asked
 pub asked-prefix : (w : World) → (at_once : GoesAtOnce w) → IsPlainPrefix (asking_next w)

@@ -16,6 +16,7 @@ use Rattle.markdown_blocks.specs.Rows.{blank_line}
 use Rattle.markdown_blocks.proofs.BetweenFacts.{between-pair}
 use Rattle.markdown_blocks.proofs.FillFacts.{fill-same}
 use Rattle.markdown_blocks.proofs.LeafFacts.{LeafFacts, LineAt}
+use Rattle.markdown_blocks.proofs.LeafStands.{between-stand, between-unlisted}
 use Rattle.markdown_blocks.proofs.LineTexts.{line-stands}
 use Rattle.markdown_blocks.proofs.PartFacts.{NoLinks}
 use Rattle.markdown_blocks.proofs.PartedFacts.{sits-still}
@@ -38,6 +39,9 @@ empty-facts bytes p = record {
   word = λ outer. refl;
   unread_ending = λ ys. refl;
   ending = λ ys. refl;
+  unread_unlisted = tt;
+  unlisted = tt;
+  stands = λ held. between-stand bytes held [] tt;
   parts = stands-outside bytes [] tt tt;
   filled = fill-same bytes [] tt tt;
   between = λ begin end. refl;
@@ -60,6 +64,9 @@ white-facts bytes line rest b p blank text = record {
   word = λ outer. refl;
   unread_ending = others-lead line_start white refl refl;
   ending = others-lead line_start white refl refl;
+  unread_unlisted = between-unlisted white (tt, (tt, tt));
+  unlisted = between-unlisted white (tt, (tt, tt));
+  stands = λ held. between-stand bytes held white (tt, (tt, tt));
   parts = stands-outside bytes white (refl, (refl, tt)) (refl, (refl, tt));
   filled = fill-same bytes white (refl, (refl, tt)) (refl, (refl, tt));
   between = between-pair bytes n.SpaceOrTab p q;

@@ -1,55 +1,52 @@
 -- The containers of a line by its bytes: those that go on are those that were open.
 use Rattle.md_engine.specs.declared.tokenizer.held_leaf.HeldLeaf.TheVariants as held_leaf
 use Rattle.md_engine.specs.declared.tokenizer.held_leaf.HeldLeaf.{HeldLeaf}
-use Rattle.std.proofs.Common.{◌≡◌, ◌+◌, Bool, true, false, List, [], ◌∷◌, ◌++◌, length, map, refl, ap, sym, ◌∙◌}
+use Rattle.std.proofs.Common.{◌≡◌, ◌+◌, Bool, true, false, cond, List, [], ◌∷◌, ◌++◌, length, map, refl, ap, sym, ◌∙◌}
 use Rattle.std.proofs.Common.{append-nil}
 use Rattle.std.specs.Prelude.{Option, Some, None}
 use Rattle.std.proofs.lemmas.List.{length-append, length-map}
 use Rattle.md_engine.specs.declared.configuration.ParseOptions.{ParseOptions}
-use Rattle.md_definition.specs.Containers.{Taken, continues, opens}
+use Rattle.md_definition.specs.Containers.{Taken, continues, footnote_continues, item_continues, opens, quote_taken}
 use Rattle.md_definition.specs.Rest.{Rest}
-use Rattle.md_seam.specs.Events.Spelled.{Shape}
-use Rattle.md_definition.specs.State.{Container}
+use Rattle.md_definition.specs.State.{Container, InFootnote, InItem, InQuote}
 use Rattle.markdown_blocks.specs.Change.{change_by, interrupts, is_none, others_of}
-use Rattle.markdown_blocks.specs.Registry.{shape_of}
+use Rattle.markdown_blocks.specs.Registry.{container_kind, shape_of}
 use Rattle.markdown_blocks.specs.Fronted.{Prefixed, contained, no_prefix, one_more, prefixes_new, prefixes_on}
 use Rattle.markdown_blocks.specs.Rows.{RowKind, is_lazy, line_kind}
 use Rattle.markdown_blocks.proofs.ContainerNames.{continues-shape}
 
--- What the events tell of a container does not change while it is open.
+-- What a container keeps while it is open: what its events tell of it, and its kind.
 
 -- those that went on, and the others behind them
-on-shapes : (options : ParseOptions) (cs : List Container) (r : Rest) →
-    map shape_of ((prefixes_on options cs r).containers ++ others_of cs (prefixes_on options cs r).containers) ≡
-    map shape_of cs
-on-shapes options [] r = refl
-on-shapes options (c ∷ cs) r = go (on-shapes options cs) (continues options c r) (continues-shape options c r)
+on-same : {A : Type 0} (f : Container → A) (options : ParseOptions) →
+    ((c : Container) (r : Rest) (t : Taken) → continues options c r ≡ Some t → f t.container ≡ f c) →
+    (cs : List Container) (r : Rest) →
+    map f ((prefixes_on options cs r).containers ++ others_of cs (prefixes_on options cs r).containers) ≡ map f cs
+on-same f options keeps [] r = refl
+on-same {A = A} f options keeps (c ∷ cs) r = go (on-same f options keeps cs) (continues options c r) (keeps c r)
   where
     by : Option Taken → Prefixed
     by o = elim o [ None ↦ no_prefix r | Some t ↦ one_more t.container (prefixes_on options cs t.rest) ]
 
     go : ((s : Rest) →
-        map shape_of ((prefixes_on options cs s).containers ++ others_of cs (prefixes_on options cs s).containers) ≡
-        map shape_of cs) →
-        (o : Option Taken) →
-        ((t : Taken) → o ≡ Some t → shape_of t.container ≡ shape_of c) →
-        map shape_of ((by o).containers ++ others_of (c ∷ cs) (by o).containers) ≡ map shape_of (c ∷ cs)
+        map f ((prefixes_on options cs s).containers ++ others_of cs (prefixes_on options cs s).containers) ≡ map f cs) →
+        (o : Option Taken) → ((t : Taken) → o ≡ Some t → f t.container ≡ f c) →
+        map f ((by o).containers ++ others_of (c ∷ cs) (by o).containers) ≡ map f (c ∷ cs)
     go below None same = refl
     go below (Some t) same =
         ap
-        (λ (s : Shape).
-        s
-        ∷ map shape_of
-        ((prefixes_on options cs t.rest).containers ++ others_of cs (prefixes_on options cs t.rest).containers))
+        (λ (x : A).
+        x ∷ map f ((prefixes_on options cs t.rest).containers ++ others_of cs (prefixes_on options cs t.rest).containers))
         (same t refl)
-        ∙ ap (λ (ss : List Shape). shape_of c ∷ ss) (below t.rest)
+        ∙ ap (λ (xs : List A). f c ∷ xs) (below t.rest)
 
 -- What stays and what ends are the containers that were open.
-pub contained-shapes : (options : ParseOptions) (cs : List Container) (still : HeldLeaf) (r : Rest) →
-    map shape_of ((contained options cs still r).change.stays ++ (contained options cs still r).change.closes) ≡
-    map shape_of cs
+contained-same : {A : Type 0} (f : Container → A) (options : ParseOptions) →
+    ((c : Container) (r : Rest) (t : Taken) → continues options c r ≡ Some t → f t.container ≡ f c) →
+    (cs : List Container) (still : HeldLeaf) (r : Rest) →
+    map f ((contained options cs still r).change.stays ++ (contained options cs still r).change.closes) ≡ map f cs
 unfolding contained
-contained-shapes options cs still r = go (is_lazy still new.containers (line_kind options new.rest))
+contained-same f options keeps cs still r = go (is_lazy still new.containers (line_kind options new.rest))
   where
     on : Prefixed
     on = prefixes_on options cs r
@@ -58,12 +55,35 @@ contained-shapes options cs still r = go (is_lazy still new.containers (line_kin
     new = prefixes_new options (interrupts still (others_of cs on.containers)) (length on.rest.bytes) on.rest
 
     go : (x : Bool) →
-        map shape_of
+        map f
         ((change_by x on.containers (others_of cs on.containers) new.containers).stays
         ++ (change_by x on.containers (others_of cs on.containers) new.containers).closes) ≡
-        map shape_of cs
-    go true = ap (map shape_of) (append-nil (on.containers ++ others_of cs on.containers)) ∙ on-shapes options cs r
-    go false = on-shapes options cs r
+        map f cs
+    go true = ap (map f) (append-nil (on.containers ++ others_of cs on.containers)) ∙ on-same f options keeps cs r
+    go false = on-same f options keeps cs r
+
+pub contained-shapes : (options : ParseOptions) (cs : List Container) (still : HeldLeaf) (r : Rest) →
+    map shape_of ((contained options cs still r).change.stays ++ (contained options cs still r).change.closes) ≡
+    map shape_of cs
+contained-shapes options = contained-same shape_of options (continues-shape options)
+
+-- a container that goes on is held as it was
+when-kind : (x : Bool) (u t : Taken) → cond x (Some u) None ≡ Some t →
+    container_kind t.container ≡ container_kind u.container
+when-kind true u t e = let same : u ≡ t = cc in sym (ap (λ (x : Taken). container_kind x.container) same)
+when-kind false u t e = cc
+
+continues-kind : (options : ParseOptions) (c : Container) (r : Rest) (t : Taken) →
+    continues options c r ≡ Some t → container_kind t.container ≡ container_kind c
+unfolding quote_taken item_continues footnote_continues
+continues-kind options InQuote r t e = when-kind _ _ t e
+continues-kind options (InItem digits marker width starts_blank) r t e = when-kind _ _ t e
+continues-kind options (InFootnote label) r t e = when-kind _ _ t e
+
+pub contained-kinds : (options : ParseOptions) (cs : List Container) (still : HeldLeaf) (r : Rest) →
+    map container_kind ((contained options cs still r).change.stays ++ (contained options cs still r).change.closes) ≡
+    map container_kind cs
+contained-kinds options = contained-same container_kind options (continues-kind options)
 
 -- so many stay, and so many end
 pub contained-size : (options : ParseOptions) (cs : List Container) (still : HeldLeaf) (r : Rest) →

@@ -1,15 +1,19 @@
 -- The containers of the line definition, built or not: what is known of the names of their events, and of what these
 -- tell. It is the one place of the frame's proofs that goes through them.
-use Rattle.std.proofs.Common.{◌≡◌, Bool, true, false, cond, List, [], ◌∷◌, ◌++◌, refl, ap, map, sym, ℕ}
+use Rattle.std.proofs.Common.{◌≡◌, Bool, true, false, cond, List, [], ◌∷◌, ◌++◌, refl, ap, map, sym, ℕ, zero, suc}
 use Rattle.std.specs.Prelude.{None, Some}
 use Rattle.md_engine.specs.declared.configuration.ParseOptions.{ParseOptions}
 use Rattle.md_engine.specs.declared.event.Event.{Event}
+use Rattle.md_engine.specs.declared.event.Kind.TheVariants.{Exit}
 use Rattle.md_engine.specs.declared.event.Name.{Name}
 use Rattle.md_engine.specs.declared.event.Name.TheVariants as n
 use Rattle.md_engine.specs.declared.event.Point.{Point}
 use Rattle.md_engine.specs.declared.tokenizer.container.name.ContainerKind.{ContainerKind}
 use Rattle.md_engine.specs.declared.tokenizer.container.name.ContainerKind.TheVariants as kind
 use Rattle.md_engine.specs.ContainerName.{name_of}
+use Rattle.md_containers.specs.ItemsStand.{is_item_shape}
+use Rattle.md_containers.specs.Listed.{is_block, is_item}
+use Rattle.md_containers.proofs.UnlistedLemmas.{among}
 use Rattle.md_content.specs.Joined.{content_behind}
 use Rattle.md_outline.specs.Roles.{is_plain}
 use Rattle.md_seam.specs.Events.Endings.{on_line}
@@ -23,7 +27,8 @@ use Rattle.md_definition.specs.Rest.{Rest}
 use Rattle.md_definition.specs.State.{Container, InFootnote, InItem, InQuote, container_block}
 use Rattle.md_definition.specs.Tree.{Blocks}
 use Rattle.md_seam.proofs.EndingsLemmas.{is_other}
-use Rattle.markdown_blocks.specs.Registry.{IsOf, container_name, shape_name, shape_of}
+use Rattle.markdown_blocks.specs.Registry.{IsOf, container_kind, container_name, shape_name, shape_of}
+use Rattle.markdown_blocks.proofs.LeafStands.{Moves}
 use Rattle.markdown_blocks.proofs.PartedFacts.{Still}
 use Rattle.markdown_blocks.proofs.PlainFacts.{Untold}
 
@@ -31,6 +36,9 @@ use Rattle.markdown_blocks.proofs.PlainFacts.{Untold}
 abbrev pub is_front : Name → Bool
 is_front n.BlockQuote = true
 is_front n.ListItem = true
+is_front n.ListItemPrefix = true
+is_front n.ListItemValue = true
+is_front n.ListItemMarker = true
 is_front n.GfmFootnoteDefinition = true
 is_front name = is_prefix name
 
@@ -49,6 +57,11 @@ pub record ContainerFacts (c : Container) : Type 0 where
   -- it is no leaf and no ending
   pub other : is_other (on_line (container_name c)) ≡ true
   pub no_ending : is_line_ending (container_name c) ≡ false
+  -- it is a block, and an item or none; where it is innermost it ends between blocks
+  pub block_role : is_block (role (container_name c)) ≡ true
+  pub item_role : is_item (role (container_name c)) ≡ is_item_shape (shape_of c)
+  pub ends : (bytes : List ℕ) (items : List Bool) (p : Point) →
+      Moves bytes (among (is_item_shape (shape_of c) ∷ items)) (among items) Exit (role (container_name c)) p
   -- no text begins or ends with it, and it has a plain name, if an outline shows it
   pub still : Still (role (container_name c))
   pub untold : is_plain (Holds (shape_of c)) ≡ true → Untold (role (container_name c))
@@ -66,6 +79,9 @@ container-facts InQuote = record {
   begin_stops = λ p ys. refl;
   other = refl;
   no_ending = refl;
+  block_role = refl;
+  item_role = refl;
+  ends = λ bytes items p. record { may = refl; behind = refl };
   still = tt;
   untold = λ h. (refl, refl);
   block = λ bs. refl;
@@ -75,24 +91,36 @@ container-facts InQuote = record {
   where
     held-is : (k : ContainerKind) → IsOf k InQuote → name_of k ≡ n.BlockQuote
     held-is kind.BlockQuote e = refl
+    held-is kind.ListItem e = cc
 container-facts (InItem digits marker width starts_blank) = record {
   front = refl;
   no_prefix = refl;
   begin_stops = λ p ys. refl;
   other = refl;
   no_ending = refl;
+  block_role = refl;
+  item_role = refl;
+  ends = λ bytes items p. record { may = refl; behind = refl };
   still = tt;
   untold = λ h. (h, refl);
   block = λ bs. refl;
   read_end = λ bytes p r. refl;
-  held = λ k e. cc;
+  held = held-is width;
 }
+  where
+    held-is : (w : ℕ) (k : ContainerKind) → IsOf k (InItem digits marker w starts_blank) → name_of k ≡ n.ListItem
+    held-is zero k e = cc
+    held-is (suc more) kind.BlockQuote e = cc
+    held-is (suc more) kind.ListItem e = refl
 container-facts (InFootnote label) = record {
   front = refl;
   no_prefix = refl;
   begin_stops = λ p ys. refl;
   other = refl;
   no_ending = refl;
+  block_role = refl;
+  item_role = refl;
+  ends = λ bytes items p. record { may = refl; behind = refl };
   still = tt;
   untold = λ h. (h, refl);
   block = λ bs. refl;
@@ -123,22 +151,31 @@ names-shapes (c ∷ cs) = ap (λ (l : List Name). l ++ container_name c ∷ []) 
 
 -- What the events tell of a container does not change while it is open.
 
--- what is taken, if anything is, is of this shape
-when-shape : (x : Bool) (u t : Taken) → cond x (Some u) None ≡ Some t → shape_of t.container ≡ shape_of u.container
-when-shape true u t e = let same : u ≡ t = cc in sym (ap (λ (x : Taken). shape_of x.container) same)
-when-shape false u t e = cc
+-- what is taken, if anything is, is in this container
+when-container : (x : Bool) (u t : Taken) → cond x (Some u) None ≡ Some t → t.container ≡ u.container
+when-container true u t e = let same : u ≡ t = cc in sym (ap (λ (x : Taken). x.container) same)
+when-container false u t e = cc
 
--- so a container that goes on has the shape that it had
+-- so a container that goes on has the shape that it had,
 pub continues-shape : (options : ParseOptions) (c : Container) (r : Rest) (t : Taken) →
     continues options c r ≡ Some t → shape_of t.container ≡ shape_of c
 unfolding quote_taken item_continues footnote_continues
-continues-shape options InQuote r t e = when-shape _ _ t e
-continues-shape options (InItem digits marker width starts_blank) r t e = when-shape _ _ t e
-continues-shape options (InFootnote label) r t e = when-shape _ _ t e
+continues-shape options InQuote r t e = ap shape_of (when-container _ _ t e)
+continues-shape options (InItem digits marker width starts_blank) r t e = ap shape_of (when-container _ _ t e)
+continues-shape options (InFootnote label) r t e = ap shape_of (when-container _ _ t e)
+
+-- and the kind
+pub continues-kind : (options : ParseOptions) (c : Container) (r : Rest) (t : Taken) →
+    continues options c r ≡ Some t → container_kind t.container ≡ container_kind c
+unfolding quote_taken item_continues footnote_continues
+continues-kind options InQuote r t e = ap container_kind (when-container _ _ t e)
+continues-kind options (InItem digits marker width starts_blank) r t e = ap container_kind (when-container _ _ t e)
+continues-kind options (InFootnote label) r t e = ap container_kind (when-container _ _ t e)
 
 -- What holds of the name of each kind of container that the tokenizer holds.
-pub held-names : (P : Name → Type 0) → P n.BlockQuote → (k : ContainerKind) → P (name_of k)
-held-names P h kind.BlockQuote = h
+pub held-names : (P : Name → Type 0) → P n.BlockQuote → P n.ListItem → (k : ContainerKind) → P (name_of k)
+held-names P quote item kind.BlockQuote = quote
+held-names P quote item kind.ListItem = item
 
 -- In the grammar of events.
 

@@ -17,13 +17,14 @@ use Rattle.md_engine.specs.declared.tokenizer.Frame.{Frame}
 use Rattle.md_engine.specs.Found.{Found, nothing, with_found}
 use Rattle.md_engine.specs.Meaning.{Accepts, comes_to, goes, here}
 use Rattle.md_engine.specs.Resolvers.{same_name}
-use Rattle.md_engine.specs.Run.{Flushes, IsEnd, Resolution, Resolved, Runs, goes_back, left, plain, reading}
+use Rattle.md_engine.specs.Run.{Flushes, IsEnd, Resolution, Resolved, Runs, Step, goes_back, left, plain, reading}
 use Rattle.md_engine.specs.Run.Resolved.{More, NoneYet}
 use Rattle.md_engine.specs.Run.Runs.{Stays, ThenCalls, ThenLeaves}
 use Rattle.md_engine.specs.Scheme.{stands}
 use Rattle.md_engine.specs.TextFeed.{text_feed}
 use Rattle.md_engine.specs.World.{Setting, World, fresh, reads_to}
 use Rattle.md_engine.proofs.Keeps.{runs-append, runs-at_end, runs-setting}
+use Rattle.md_containers.specs.Listed.{listed}
 use Rattle.md_content.specs.ContentReads.{content_readings, wants_content}
 use Rattle.md_content.specs.Joined.{is_content, joined}
 use Rattle.md_content.specs.Resolves.{Resolves, found_in_content}
@@ -231,15 +232,32 @@ own-step true at was found new outside h = (h.found_is ∙ ap (with_found was) h
 own-step false at was found new outside h =
     (h.0, h.1 ∙ ap (λ (l : List Event). record at { events = l }) (sym (outside-same at.events (outside refl))))
 
--- what flow has read of a text from a point on, once all of it was pushed and flushed
+-- no resolver begins or leaves an attempt
+step-frames : (name : ResolveName) (old : World) (found : Option Found) (new : World) →
+    resolved_as name old found new → new.frames ≡ old.frames
+step-frames r.Content old found new h = ap (λ (w : World). w.frames) h.rest
+step-frames _ old found new h = ap (λ (w : World). w.frames) h.1
+
+resolved-frames : (w : World) (names : List ResolveName) (found : Found) (new : World) →
+    Resolved resolved_as w names found new → new.frames ≡ w.frames
+resolved-frames w names found new NoneYet = refl
+resolved-frames w names found new (More ns name f more v v' h step) =
+    step-frames name v more v' step ∙ resolved-frames w ns f v h
+
+pub flushed-frames : (T : Step) (end : State) (at : World) (found : Found) (new : World) →
+    Flushes T resolved_as end at true found new → new.frames ≡ []
+flushed-frames T end at found new f =
+    resolved-frames (record f.at { resolvers = [] }) f.at.resolvers found new f.resolved ∙ f.none_left
+
+-- what flow has read of a text from a point on, once all of it was pushed and flushed, and lists were put around items
 pub flow-reads : (bytes : List ℕ) (options : ParseOptions) (p : Point) (end : State) (at : World) (found : Found)
-    (new : World) →
+    (items : World) (more : Option Found) (new : World) →
     length bytes < 2 ^ 61 →
     Runs (FlowStep same_name) false (Next (s.Document document.ContainerExistingBefore))
     (reads_to (fresh bytes options p) (length bytes)) end at →
-    Flushes (FlowStep same_name) resolved_as end at true found new →
+    Flushes (FlowStep same_name) resolved_as end at true found items → resolved_as r.ListItem items more new →
     FlowReads bytes options p found new
-flow-reads bytes options p end at found new small run f =
+flow-reads bytes options p end at found items more new small run f listing =
     go
     (runs-register true end at
     (runs-register false (Next (s.Document document.ContainerExistingBefore))
@@ -283,7 +301,7 @@ flow-reads bytes options p end at found new small run f =
         Type 0 = λ y. flow_at y.options (text_cells bytes options p) (here (fresh bytes options p)) ≡
         Accepts (here f.at) [] in
         subst P kept
-        (flow_outcome same_name resolved_as end at true found new (text_cells bytes options p)
+        (flow_outcome same_name resolved_as end at true found items (text_cells bytes options p)
         (here (fresh bytes options p)) limit pushed.1 means f)
 
     -- the run of a push and a flush, which ends with the text
@@ -301,11 +319,11 @@ flow-reads bytes options p end at found new small run f =
     ran_so =
         let same : flow_at at.setting.options (text_cells bytes options p) (here (fresh bytes options p)) ≡
         goes (flow_behaves at.setting.options) f.end (text_feed at.setting f.at.point) (here f.at) =
-        sym means ∙ flow_flush same_name resolved_as end at true found new limit pushed.1 f in
+        sym means ∙ flow_flush same_name resolved_as end at true found items limit pushed.1 f in
         let comes : goes (flow_behaves at.setting.options) f.end (text_feed at.setting f.at.point) (here f.at) ≡
         Accepts (here f.at) [] =
         sym same
-        ∙ flow_outcome same_name resolved_as end at true found new (text_cells bytes options p)
+        ∙ flow_outcome same_name resolved_as end at true found items (text_cells bytes options p)
         (here (fresh bytes options p)) limit pushed.1 means f in
         let done = ends f.end f.ends comes in
         flow-ran bytes options p f.end f.at small
@@ -339,7 +357,7 @@ flow-reads bytes options p end at found new small run f =
     go : Registers f.at → FlowReads bytes options p found new
     go registers =
         let w : World = record f.at { resolvers = [] } in
-        let ran = resolved-named resolved_as w registers.content registers.own f.at.resolvers found new f.resolved
+        let ran = resolved-named resolved_as w registers.content registers.own f.at.resolvers found items f.resolved
         registers.names_are in
         let P : List Event → Type 0 = λ es. NoEnds is_content es in
         let Q : List Event → Type 0 = λ es. NoEnds is_own es in
@@ -347,14 +365,19 @@ flow-reads bytes options p end at found new small run f =
         content-step bytes options rows registers.content w ran.mid_found ran.mid framed quiet events
         (ap (λ (x : Setting). x.bytes) setting) (ap (λ (x : Setting). x.options) setting)
         (λ e. subst P events (registers.no_content e)) ran.reads in
-        let set : (found ≡ ran.mid_found) × (new ≡ record ran.mid { events = resolved ran.mid.events }) =
-        own-step registers.own ran.mid ran.mid_found found new
+        let set : (found ≡ ran.mid_found) × (items ≡ record ran.mid { events = resolved ran.mid.events }) =
+        own-step registers.own ran.mid ran.mid_found found items
         (λ e.
         reading-outside bytes options (rows_events rows) ran.mid.events
         (rows-outside rows framed (subst Q events (registers.no_own e))) read.read) ran.sets in
-        let all : new ≡ record w { events = resolved ran.mid.events } = set.1
+        let before : items ≡ record w { events = resolved ran.mid.events } = set.1
         ∙ ap (λ (x : World). record x { events = resolved ran.mid.events }) read.rest in
-        let is : new.events ≡ resolved ran.mid.events = ap (λ (x : World). x.events) all in
+        let text : items.setting.bytes ≡ bytes = ap (λ (x : World). x.setting.bytes) before
+        ∙ ap (λ (x : Setting). x.bytes) setting in
+        let all : new ≡ record w { events = listed bytes (resolved ran.mid.events) } = listing.1
+        ∙ ap (λ (x : World). record x { events = listed items.setting.bytes x.events }) before
+        ∙ ap (λ (l : List ℕ). record w { events = listed l (resolved ran.mid.events) }) text in
+        let is : new.events ≡ listed bytes (resolved ran.mid.events) = ap (λ (x : World). x.events) all in
         let F : Found →
         Type 0 = λ x. ((has_text rows ≡ false) × (x ≡ nothing)) ⊎ (x ≡ found_in_content ran.mid.events) in
         record {
@@ -373,12 +396,14 @@ flow-reads bytes options p end at found new small run f =
 
 -- the same for a tokenizer that is known to be fresh, whose test of names is known to be that one
 pub flow-reads-from : (is_name : ResolveName → ResolveName → Bool) (bytes : List ℕ) (options : ParseOptions) (p : Point)
-    (start : World) (to : ℕ) (end : State) (at : World) (found : Found) (new : World) →
+    (start : World) (to : ℕ) (end : State) (at : World) (found : Found) (items : World) (more : Option Found)
+    (new : World) →
     ((a b : ResolveName) → is_name a b ≡ same_name a b) → start ≡ fresh bytes options p → to ≡ length bytes →
     length bytes < 2 ^ 61 →
     Runs (FlowStep is_name) false (Next (s.Document document.ContainerExistingBefore)) (reads_to start to) end at →
-    Flushes (FlowStep is_name) resolved_as end at true found new → FlowReads bytes options p found new
-flow-reads-from is_name bytes options p start to end at found new names same all small run f =
+    Flushes (FlowStep is_name) resolved_as end at true found items → resolved_as r.ListItem items more new →
+    FlowReads bytes options p found new
+flow-reads-from is_name bytes options p start to end at found items more new names same all small run f listing =
     let named : is_name ≡ same_name = λ i a b. names a b i in
     let P : World →
     Type 0 = λ w. Runs (FlowStep same_name) false (Next (s.Document document.ContainerExistingBefore))
@@ -389,8 +414,9 @@ flow-reads-from is_name bytes options p start to end at found new names same all
     let S : (ResolveName → ResolveName → Bool) →
     Type 0 = λ t. Runs (FlowStep t) false (Next (s.Document document.ContainerExistingBefore))
     (reads_to start to) end at in
-    let F : (ResolveName → ResolveName → Bool) → Type 0 = λ t. Flushes (FlowStep t) resolved_as end at true found new in
-    flow-reads bytes options p end at found new small (subst P same (subst Q all (subst S named run))) (subst F named f)
+    let F : (ResolveName → ResolveName → Bool) → Type 0 = λ t. Flushes (FlowStep t) resolved_as end at true found items in
+    flow-reads bytes options p end at found items more new small (subst P same (subst Q all (subst S named run)))
+    (subst F named f) listing
 
 -- What is known behind the resolvers of flow.
 

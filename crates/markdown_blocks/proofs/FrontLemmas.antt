@@ -6,8 +6,7 @@ use Rattle.md_engine.specs.declared.event.Name.{Name}
 use Rattle.md_engine.specs.declared.event.Point.{Point}
 use Rattle.md_seam.specs.Events.Nested.{Balanced, Matches, enter, exit, last_point, open_after}
 use Rattle.md_seam.specs.Events.Places.{at_or_before}
-use Rattle.md_seam.specs.Events.Spelled.{IsQuiet, Role, role}
-use Rattle.md_seam.specs.Events.Spelled as spelled
+use Rattle.md_seam.specs.Events.Spelled.{Role, role}
 use Rattle.md_definition.specs.State.{Container}
 use Rattle.md_seam.proofs.NestedLemmas.{at_or_before-refl, at_or_before-trans, balanced-append, balanced-matches}
 use Rattle.md_seam.proofs.NestedLemmas.{balanced-none, balanced-open, forward-last, matches-append, open_after-append}
@@ -16,7 +15,6 @@ use Rattle.markdown_blocks.specs.Change.{ends_of}
 use Rattle.markdown_blocks.proofs.FrontFacts.{Begins, Behind, LinePrefix, Goes}
 use Rattle.markdown_blocks.proofs.SpanLemmas.{Spans, spans-append}
 use Rattle.markdown_blocks.proofs.ContainerNames.{names-shapes, open_names, shape_names}
-use Rattle.markdown_blocks.proofs.PrefixNames.{prefixes-roles, quiets-roles}
 use Rattle.markdown_blocks.specs.Registry.{container_name, shape_of}
 
 -- Prefixes.
@@ -50,21 +48,7 @@ fronts-balanced bytes opens p r _ (Goes _ _ q _ es fs is more) e =
     balanced-append es fs is.common.nested.0 (fronts-balanced bytes opens q r fs more e)
 fronts-balanced bytes _ p r _ (Begins c opens _ q _ es fs is more) e = cc
 
--- What is read of what stands in front of a line is quiet, a prefix or a container, and so are the ends of containers.
-
-pub fronts-roles : (P : Role → Type 0) (bytes : List ℕ) (opens : List Container) (p q : Point) (front : List Event) →
-    P IsQuiet → P spelled.IsPrefix → ((c : Container) → P (role (container_name c))) →
-    LinePrefix bytes opens p q front → Roles P front
-fronts-roles P bytes _ p _ _ quiet prefix holds (Behind _) = tt
-fronts-roles P bytes opens p r _ quiet prefix holds (Goes _ _ q _ es fs is more) =
-    roles-append P es fs (prefixes-roles P es quiet prefix is.names)
-    (fronts-roles P bytes opens q r fs quiet prefix holds more)
-fronts-roles P bytes _ p r _ quiet prefix holds (Begins c opens _ q _ es fs is more) = (
-  holds c,
-  roles-append P es fs (quiets-roles P es quiet prefix is.roles)
-      (fronts-roles P bytes opens q r fs quiet prefix holds more),
-)
-
+-- The ends of containers are read as containers.
 pub ends-roles : (P : Role → Type 0) (cs : List Container) (p : Point) →
     ((c : Container) → P (role (container_name c))) → Roles P (ends_of cs p)
 ends-roles P [] p holds = tt

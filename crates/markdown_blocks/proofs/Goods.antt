@@ -18,7 +18,7 @@ use Rattle.md_engine.proofs.Points.{passes-reaches, stays, takes}
 use Rattle.md_content.specs.Chunks.{chunk_scheme}
 use Rattle.md_leaves.specs.Blank.{blank_scheme, may_begin}
 use Rattle.md_seam.specs.Look.{looks_behind, may_with}
-use Rattle.md_seam.specs.Spaces.{IsRest, rest_ready}
+use Rattle.md_seam.specs.Spaces.{IsRest, ends_line, rest_ready}
 use Rattle.md_seam.proofs.SpacesGoods.{Does, seen-some}
 use Rattle.markdown_blocks.specs.Flow.{after_transition, before_content_transition, before_transition}
 use Rattle.markdown_blocks.specs.Flow.{blank_line_after_transition, blank_line_code, containers_after_transition}
@@ -43,16 +43,24 @@ pub record LeafFits (T : Scheme) (l : LeafName) : Type 1 where
   pub next_low : (flow_rank (n.Flow (next_of l))).number < (flow_scheme.tries (n.Flow (next_of l))).number
   pub behind_low : (flow_rank (n.Flow flow.After)).number < (flow_scheme.tries (n.Flow (next_of l))).number
 
+-- what is known of the spot where a container is tried, and of the one where an open one is asked: there the line does
+-- not end
+abbrev pub Anywhere : Spot → Type 0
+Anywhere x = Unit {0}
+
+abbrev pub IsWithin : Spot → Type 0
+IsWithin x = ends_line (seen x) ≡ false
+
 -- the same of containers: of the first state of one, where it may open, and of the one in front of its prefix
-pub record ContainerFits (T : Scheme) (start : StateName) : Type 1 where
+pub record ContainerFits (T : Scheme) (Where : Spot → Type 0) (start : StateName) : Type 1 where
   pub own : Scheme
   pub starts : Fits T own start
   pub level : own.level start < 3
-  pub ready : (x : Spot) (K : After) → IsRest x.scratch → EndsLater IsRest IsRest x K → own.ready start x K
+  pub ready : (x : Spot) (K : After) → IsRest x.scratch → Where x → EndsLater IsRest IsRest x K → own.ready start x K
 
 -- and of one that may open: the states in front of it and of the next are those of flow, and fall
 pub record OpenerFits (T : Scheme) (k : ContainerKind) : Type 1 where
-  pub inner : ContainerFits T (opens_with k)
+  pub inner : ContainerFits T Anywhere (opens_with k)
   pub front : Fits T flow_scheme (n.Document (container_rules k).before)
   pub next : Fits T flow_scheme (n.Document (next_opener k))
   pub falls : (flow_scheme.tries (n.Document (next_opener k))).number <
@@ -103,25 +111,26 @@ prefix_tries ok nok w K r low_nok same_nok = record {
 }
 
 pub good_existing_before : (T : Scheme) (w : World) (ends : Bool) (o : Option Container) → FlowFits T →
-    ((k : ContainerKind) → ContainerFits T (goes_on_with k)) → flow_ready (spot w) (after_all T w.frames) →
+    ((k : ContainerKind) → ContainerFits T IsWithin (goes_on_with k)) → flow_ready (spot w) (after_all T w.frames) →
+    ends_line (seen (spot w)) ≡ ends →
     Does T (n.Document document.ContainerExistingBefore) w (existing_before_code w ends o)
-good_existing_before T w true o has inner r = (
+good_existing_before T w true o has inner r is = (
   turns T flow_scheme _ _ w w.events w.scratch has.existing_before has.containers_after r (omega arith) (omega arith),
   refl,
 )
-good_existing_before T w false None has inner r = (
+good_existing_before T w false None has inner r is = (
   turns T flow_scheme _ _ w w.events w.scratch has.existing_before has.first_opener r (omega arith) (omega arith),
   refl,
 )
-good_existing_before T w false (Some c) has inner r =
-    let i : ContainerFits T (goes_on_with c.kind) = inner c.kind in
+good_existing_before T w false (Some c) has inner r is =
+    let i : ContainerFits T IsWithin (goes_on_with c.kind) = inner c.kind in
     looked T _ _ _ _ w (asking c w).flags
     (may_with (may_go_on c.kind) (looks_behind w)) has.existing_before has.first_opener r (omega arith) (
       begins_later T flow_scheme i.own (n.Document document.ContainerExistingBefore)
           (goes_on_with c.kind) w IsRest IsRest w.events w.scratch _ has.existing_before i.starts has.existing_after has.first_opener refl
           (prefix_tries (n.Document document.ContainerExistingAfter) (n.Document (opener_front openers)) w
           (after_all T w.frames) r (omega arith) (λ x. refl))
-          (λ K e. i.ready _ K r.0.0 e) i.level (omega arith) (omega arith),
+          (λ K e. i.ready _ K r.0.0 is e) i.level (omega arith) (omega arith),
       refl,
     )
 
@@ -138,14 +147,14 @@ pub good_new_before : (T : Scheme) (k : ContainerKind) (w : World) → FlowFits 
 good_new_before T k w has fit r =
     let a = fit.falls in
     let b = fit.next_low in
-    let inner : ContainerFits T (opens_with k) = fit.inner in
+    let inner : ContainerFits T Anywhere (opens_with k) = fit.inner in
     looked T _ _ _ _ w (asking (container_of k) w).flags
     (may_with (may_open k) (looks_behind w)) fit.front fit.next r (omega (arith, a, b)) (
       begins_later T flow_scheme inner.own (n.Document (container_rules k).before) (opens_with k) w IsRest IsRest
           w.events w.scratch _ fit.front inner.starts has.new_after fit.next refl
           (prefix_tries (n.Document document.ContainerNewAfter) (n.Document (next_opener k)) w
           (after_all T w.frames) r fit.next_low (λ x. refl))
-          (λ K e. inner.ready _ K r.0.0 e) inner.level (omega arith) fit.falls,
+          (λ K e. inner.ready _ K r.0.0 tt e) inner.level (omega arith) fit.falls,
       refl,
     )
 

@@ -1,17 +1,22 @@
--- What stands in front of a line and behind it keeps the grammar of events.
+-- What stands in front of a line and behind it keeps the grammar of events without lists.
 use Rattle.std.proofs.Common.{◌≡◌, Bool, true, false, cond, ℕ, List, [], ◌∷◌, ◌++◌, refl, ap, sym, ◌∙◌, append_assoc}
 use Rattle.md_engine.specs.declared.event.Event.{Event}
 use Rattle.md_engine.specs.declared.event.Name.{Name}
 use Rattle.md_engine.specs.declared.event.Point.{Point}
-use Rattle.md_seam.specs.Events.Grammar.{Expression, behind_block, blocks, left_of, may_end}
+use Rattle.md_seam.specs.Events.Grammar.{Expression, behind_block, blocks, may_end}
 use Rattle.md_seam.specs.Events.Nested.{enter, exit, pair}
 use Rattle.md_definition.specs.State.{Container}
-use Rattle.md_seam.proofs.GrammarLemmas.{Leads, leads-append, leads-rest}
+use Rattle.md_containers.specs.ItemsStand.{IsPart}
+use Rattle.md_containers.specs.Unlisted.{unlisted_left}
+use Rattle.md_containers.proofs.UnlistedLemmas.{Unlists, unlists-append, unlists-rest, unlists-same}
+use Rattle.md_seam.proofs.GrammarLemmas.{Leads, leads-append}
 use Rattle.markdown_blocks.specs.Registry.{container_name}
 use Rattle.markdown_blocks.specs.Change.{ends_of}
 use Rattle.markdown_blocks.specs.Rows.{BlankRow, LeafRow, RowKind, TextRow, ending_of}
 use Rattle.markdown_blocks.proofs.FrontFacts.{Begins, Behind, LinePrefix, Goes}
 use Rattle.markdown_blocks.proofs.ContainerNames.{open_names, TakesPrefixes}
+use Rattle.markdown_blocks.proofs.LeafStands.{parts-unlisted}
+use Rattle.markdown_blocks.proofs.PrefixNames.{prefixes-roles}
 
 -- Open containers.
 
@@ -37,17 +42,18 @@ behinds-around xs name outer =
 -- in front of blocks, what stands there opens the containers that begin in it
 pub front-leads : (text : Expression) (bytes : List ℕ) (opens : List Container) (p q : Point) (front : List Event) →
     LinePrefix bytes opens p q front →
-    Leads text (blocks ∷ []) (blocks ∷ behinds (open_names opens)) front
+    Unlists text (blocks ∷ []) (blocks ∷ behinds (open_names opens)) front
 front-leads text bytes _ p _ _ (Behind _) = λ outer. refl
 front-leads text bytes opens p r _ (Goes _ _ q _ es fs is more) =
-    leads-append text (blocks ∷ []) (blocks ∷ []) (blocks ∷ behinds (open_names opens)) es fs
-    (is.stays text blocks (refl, refl)) (front-leads text bytes opens q r fs more)
+    unlists-append text (blocks ∷ []) (blocks ∷ []) (blocks ∷ behinds (open_names opens)) es fs
+    (unlists-same text (blocks ∷ []) (blocks ∷ []) es (parts-unlisted es (prefixes-roles IsPart es tt tt is.names))
+    (is.stays text blocks (refl, refl))) (front-leads text bytes opens q r fs more)
 front-leads text bytes _ p r _ (Begins c opens _ q _ es fs is more) =
-    let further : Leads text (blocks ∷ behind_block ∷ [])
+    let further : Unlists text (blocks ∷ behind_block ∷ [])
     (blocks ∷ behinds (open_names opens ++ container_name c ∷ [])) fs =
     λ outer. front-leads text bytes opens q r fs more (behind_block ∷ outer)
     ∙ ap (λ (l : List Expression). blocks ∷ l) (sym (behinds-around (open_names opens) (container_name c) outer)) in
-    leads-append text (blocks ∷ []) (blocks ∷ behind_block ∷ [])
+    unlists-append text (blocks ∷ []) (blocks ∷ behind_block ∷ [])
     (blocks ∷ behinds (open_names opens ++ container_name c ∷ [])) (enter (container_name c) p ∷ es) fs
     (is.leads text) further
 
@@ -76,25 +82,25 @@ behind-ends false = refl
 -- containers end
 pub ends-lead : (text : Expression) (cs : List Container) (p : Point) (block : Bool) →
     (after : Bool) ×
-    Leads text (blocks_behind block ∷ behinds (open_names cs)) (blocks_behind after ∷ []) (ends_of cs p)
+    Unlists text (blocks_behind block ∷ behinds (open_names cs)) (blocks_behind after ∷ []) (ends_of cs p)
 ends-lead text [] p block = (block, λ outer. refl)
 ends-lead text (c ∷ cs) p block =
     let inner : (after : Bool) ×
-    Leads text (blocks_behind block ∷ behinds (open_names cs)) (blocks_behind after ∷ [])
+    Unlists text (blocks_behind block ∷ behinds (open_names cs)) (blocks_behind after ∷ [])
     (ends_of cs p) = ends-lead text cs p block in
     let name : Name = container_name c in (
       true,
       λ outer.
-          ap (λ (l : List Expression). left_of text (blocks_behind block ∷ l) (ends_of cs p ++ exit name p ∷ []))
+          ap (λ (l : List Expression). unlisted_left text (blocks_behind block ∷ l) (ends_of cs p ++ exit name p ∷ []))
           (behinds-around (open_names cs) name outer)
-          ∙ leads-rest text (blocks_behind block ∷ behinds (open_names cs)) (blocks_behind inner.0 ∷ [])
+          ∙ unlists-rest text (blocks_behind block ∷ behinds (open_names cs)) (blocks_behind inner.0 ∷ [])
           (behind_block ∷ outer) (ends_of cs p) (exit name p ∷ []) inner.1
           ∙ ap (λ (b : Bool). cond b (behind_block ∷ outer) []) (behind-ends inner.0),
     )
 
 -- and the line does
 pub ending-leads : (text : Expression) (kind : RowKind) (p q : Point) (block : Bool) →
-    Leads text (blocks_behind block ∷ []) (blocks ∷ []) (pair (ending_of kind) p q)
+    Unlists text (blocks_behind block ∷ []) (blocks ∷ []) (pair (ending_of kind) p q)
 ending-leads text BlankRow p q true outer = refl
 ending-leads text BlankRow p q false outer = refl
 ending-leads text (LeafRow l) p q true outer = refl

@@ -1,18 +1,21 @@
--- The events of a text keep the grammar of events, before its text parts are read and once they are.
+-- The events of a text keep the grammar of events without lists, before its text parts are read and once they are.
 use Rattle.md_engine.specs.declared.tokenizer.held_leaf.HeldLeaf.TheVariants as held_leaf
 use Rattle.std.proofs.Common.{◌≡◌, ℕ, Bool, true, false, cond, List, [], ◌∷◌, ◌++◌, refl, ap, sym, ◌∙◌, append_assoc}
 use Rattle.std.specs.Prelude.{Option, Some, None}
+use Rattle.std.specs.List.{list_any}
 use Rattle.std.specs.Option.{is_some}
+use Rattle.std.proofs.lemmas.Bool.{or_left, or_right}
 use Rattle.md_engine.specs.declared.configuration.ParseOptions.{ParseOptions}
 use Rattle.md_engine.specs.declared.event.Event.{Event}
 use Rattle.md_engine.specs.declared.event.Name.{Name}
 use Rattle.md_engine.specs.declared.event.Name.TheVariants as n
 use Rattle.md_engine.specs.declared.event.Point.{Point}
 use Rattle.md_engine.specs.Place.{first_point}
-use Rattle.md_seam.specs.Events.Grammar.{Expression, blocks, is_whole, keeps_grammar, left_of, plain_text, unread_text}
+use Rattle.md_seam.specs.Events.Grammar.{Expression, Then, behind_block, blocks, is_whole, one, plain_text, unread_text}
 use Rattle.md_seam.specs.Events.Nested.{pair}
 use Rattle.md_definition.specs.Preamble.{has_mark}
-use Rattle.md_seam.proofs.GrammarLemmas.{Leads, keeps-blocks, leads-rest}
+use Rattle.md_containers.specs.Unlisted.{keeps_unlisted, unlisted_left}
+use Rattle.md_containers.proofs.UnlistedLemmas.{Unlists, unlists-rest, unlists-same}
 use Rattle.markdown_blocks.specs.Change.{ends_of}
 use Rattle.markdown_blocks.specs.Document.{body_point, mark_end, mark_events}
 use Rattle.markdown_blocks.specs.Rows.{final_row, first_row, group_done, group_kind, BlankRow, Group, Lines, Row}
@@ -27,7 +30,6 @@ use Rattle.markdown_blocks.proofs.JoinedLemmas.{EachEnds, EachNoContent, ending-
 use Rattle.markdown_blocks.proofs.NestedRows.{ByGroups, Ordered, rows-hold}
 use Rattle.markdown_blocks.proofs.RowFacts.{AreRows}
 use Rattle.markdown_blocks.proofs.GroupFacts.{IsGroupLeaf}
-use Rattle.md_seam.proofs.MarkGrammar.{keeps-marked}
 
 -- Behind each group stands an ending if more follows.
 
@@ -65,7 +67,7 @@ groups-ended (row ∷ below ∷ rows) h =
 -- blocks are left as they are behind a block or not
 record Stands (text : Expression) (block : Bool) (group : Group) (events : List Event) : Type 0 where
   leaf : List Event
-  leads : Leads text (blocks ∷ []) (blocks_behind block ∷ []) leaf
+  leads : Unlists text (blocks ∷ []) (blocks_behind block ∷ []) leaf
   is : events ≡ (first_row group).front ++ leaf ++ tail_events (ending_of (group_kind group)) (final_row group)
 
 -- the events of groups, by those of each
@@ -80,26 +82,26 @@ Reads bytes text each =
 
 -- the text is whole behind events
 abbrev Whole : Expression → List Expression → List Event → Type 0
-Whole text stack events = is_whole (left_of text stack events) ≡ true
+Whole text stack events = is_whole (unlisted_left text stack events) ≡ true
 
 -- what is left behind the leaf of lines
 leaf-left : (text : Expression) (bytes : List ℕ) (block : Bool) (names : List Name) (p : Point) (group : Group)
     (events more : List Event) →
     Ordered bytes p group → Stands text block group events →
-    left_of text (blocks ∷ behinds names) (events ++ more) ≡
-    left_of text (blocks_behind block ∷ behinds (open_names (first_row group).change.opens ++ names))
+    unlisted_left text (blocks ∷ behinds names) (events ++ more) ≡
+    unlisted_left text (blocks_behind block ∷ behinds (open_names (first_row group).change.opens ++ names))
     (tail_events (ending_of (group_kind group)) (final_row group) ++ more)
 leaf-left text bytes block names p group events more o s =
     let row : Row = first_row group in
     let opens : List Expression = behinds (open_names row.change.opens) in
     let tail : List Event = tail_events (ending_of (group_kind group)) (final_row group) in
     let apart : (row.front ++ s.leaf ++ tail) ++ more ≡ row.front ++ (s.leaf ++ (tail ++ more)) = simp append_assoc in
-    ap (λ (es : List Event). left_of text (blocks ∷ behinds names) (es ++ more)) s.is
-    ∙ ap (left_of text (blocks ∷ behinds names)) apart
-    ∙ leads-rest text (blocks ∷ []) (blocks ∷ opens) (behinds names) row.front (s.leaf ++ (tail ++ more))
+    ap (λ (es : List Event). unlisted_left text (blocks ∷ behinds names) (es ++ more)) s.is
+    ∙ ap (unlisted_left text (blocks ∷ behinds names)) apart
+    ∙ unlists-rest text (blocks ∷ []) (blocks ∷ opens) (behinds names) row.front (s.leaf ++ (tail ++ more))
     (front-leads text bytes row.change.opens p row.first row.front o.front)
-    ∙ leads-rest text (blocks ∷ []) (blocks_behind block ∷ []) (opens ++ behinds names) s.leaf (tail ++ more) s.leads
-    ∙ ap (λ (l : List Expression). left_of text (blocks_behind block ∷ l) (tail ++ more))
+    ∙ unlists-rest text (blocks ∷ []) (blocks_behind block ∷ []) (opens ++ behinds names) s.leaf (tail ++ more) s.leads
+    ∙ ap (λ (l : List Expression). unlisted_left text (blocks_behind block ∷ l) (tail ++ more))
     (sym (behinds-append (open_names row.change.opens) names))
 
 -- where nothing follows, nothing is open
@@ -118,10 +120,10 @@ ending-whole text each block kept row kind gs ends h = go row.after refl gs ends
     some : (q : Point) (more : List Event) → row.after ≡ Some q → Whole text (blocks ∷ behinds kept) more →
         Whole text (blocks_behind block ∷ behinds kept) (ending_events (ending_of kind) row ++ more)
     some q more after k =
-        ap (λ (es : List Event). is_whole (left_of text (blocks_behind block ∷ behinds kept) (es ++ more)))
+        ap (λ (es : List Event). is_whole (unlisted_left text (blocks_behind block ∷ behinds kept) (es ++ more)))
         (ending-is (ending_of kind) row q after)
         ∙ ap is_whole
-        (leads-rest text (blocks_behind block ∷ []) (blocks ∷ []) (behinds kept)
+        (unlists-rest text (blocks_behind block ∷ []) (blocks ∷ []) (behinds kept)
         (pair (ending_of kind) row.end q) more (ending-leads text kind row.end q block))
         ∙ k
 
@@ -133,7 +135,7 @@ ending-whole text each block kept row kind gs ends h = go row.after refl gs ends
         ap
         (λ (x : Option Point).
         is_whole
-        (left_of text (blocks_behind block ∷ behinds kept)
+        (unlisted_left text (blocks_behind block ∷ behinds kept)
         (elim x [ None ↦ [] | Some q ↦ pair (ending_of kind) row.end q ] ++ []))) after
         ∙ none-whole block kept h
     go None after (g ∷ gs) ends h = let bad : None ≡ Some ends.0 = sym after ∙ ends.1 in cc
@@ -146,19 +148,19 @@ tail-whole : (text : Expression) (each : Group → List Event) (block : Bool) (a
     Whole text (blocks_behind block ∷ behinds all) (tail_events (ending_of kind) row ++ all_of each gs)
 tail-whole text each block all kept row kind gs keeps ends h =
     let ended : (after : Bool) ×
-    Leads text (blocks_behind block ∷ behinds (open_names row.leaves)) (blocks_behind after ∷ [])
+    Unlists text (blocks_behind block ∷ behinds (open_names row.leaves)) (blocks_behind after ∷ [])
     (ends_of row.leaves row.end) = ends-lead text row.leaves row.end block in
     let ending : List Event = ending_events (ending_of kind) row ++ all_of each gs in
     ap
     (λ (l : List Expression).
-    is_whole (left_of text (blocks_behind block ∷ l) (tail_events (ending_of kind) row ++ all_of each gs)))
+    is_whole (unlisted_left text (blocks_behind block ∷ l) (tail_events (ending_of kind) row ++ all_of each gs)))
     (ap behinds keeps ∙ behinds-append (open_names row.leaves) kept)
     ∙ ap
     (λ (es : List Event).
-    is_whole (left_of text (blocks_behind block ∷ behinds (open_names row.leaves) ++ behinds kept) es))
+    is_whole (unlisted_left text (blocks_behind block ∷ behinds (open_names row.leaves) ++ behinds kept) es))
     (append_assoc (ends_of row.leaves row.end) (ending_events (ending_of kind) row) (all_of each gs))
     ∙ ap is_whole
-    (leads-rest text (blocks_behind block ∷ behinds (open_names row.leaves)) (blocks_behind ended.0 ∷ [])
+    (unlists-rest text (blocks_behind block ∷ behinds (open_names row.leaves)) (blocks_behind ended.0 ∷ [])
     (behinds kept) (ends_of row.leaves row.end) ending ended.1)
     ∙ ending-whole text each ended.0 kept row kind gs ends h
 
@@ -179,10 +181,27 @@ whole-by_groups bytes text each reads = record {
 }
 
 -- The mark in front of a text, and its groups.
+
+-- blocks are a text,
+keeps-blocks : (text : Expression) (es : List Event) → Whole text (blocks ∷ []) es → keeps_unlisted text es ≡ true
+unfolding keeps_unlisted
+keeps-blocks text es h = rw h refl
+
+-- and so are a byte order mark and blocks
+keeps-marked : (text : Expression) (p q : Point) (es : List Event) → Whole text (blocks ∷ []) es →
+    keeps_unlisted text (pair n.ByteOrderMark p q ++ es) ≡ true
+unfolding keeps_unlisted
+keeps-marked text p q es h =
+    let whole : Expression → Bool = λ x. is_whole (unlisted_left text (x ∷ []) (pair n.ByteOrderMark p q ++ es)) in
+    let others : List Expression = Then (one n.Frontmatter) behind_block
+    ∷ Then (one n.ByteOrderMark) (Then (one n.Frontmatter) behind_block) ∷ [] in
+    or_right (whole blocks) (list_any whole (Then (one n.ByteOrderMark) blocks ∷ others))
+    (or_left (whole (Then (one n.ByteOrderMark) blocks)) (list_any whole others) h)
+
 rows-keep : (options : ParseOptions) (bytes : List ℕ) (text : Expression) (each : Group → List Event)
     (lines : List (List ℕ)) (rows : List Row) →
     Reads bytes text each → AreRows options bytes [] held_leaf.None (body_point bytes) lines rows → EachNoContent rows →
-    keeps_grammar text (mark_events bytes ++ all_of each (groups rows)) ≡ true
+    keeps_unlisted text (mark_events bytes ++ all_of each (groups rows)) ≡ true
 rows-keep options bytes text each lines rows reads are quiet = go (has_mark bytes)
   where
     p : Point
@@ -194,7 +213,7 @@ rows-keep options bytes text each lines rows reads are quiet = go (has_mark byte
         (groups-ended rows (rows-end options bytes [] held_leaf.None p lines rows are))
 
     go : (mark : Bool) →
-        keeps_grammar text (cond mark (pair n.ByteOrderMark first_point mark_end) [] ++ all_of each (groups rows)) ≡
+        keeps_unlisted text (cond mark (pair n.ByteOrderMark first_point mark_end) [] ++ all_of each (groups rows)) ≡
         true
     go true = keeps-marked text first_point mark_end (all_of each (groups rows)) whole
     go false = keeps-blocks text (all_of each (groups rows)) whole
@@ -204,7 +223,16 @@ rows-keep options bytes text each lines rows reads are quiet = go (has_mark byte
 -- each group
 unread-reads : (bytes : List ℕ) → Reads bytes unread_text (listed_group bytes)
 unread-reads bytes group is =
-    (is_some is.0, record { leaf = group_unread bytes group; leads = is.1.unread_word; is = refl })
+    let leaf : List Event = group_unread bytes group in (
+      is_some is.0,
+      record {
+        leaf = leaf;
+        leads =
+            unlists-same unread_text (blocks ∷ []) (blocks_behind (is_some is.0) ∷ []) leaf is.1.unread_unlisted
+            is.1.unread_word;
+        is = refl;
+      },
+    )
 
 -- all of them
 unread-all : (bytes : List ℕ) (gs : List Group) → listed_groups bytes gs ≡ all_of (listed_group bytes) gs
@@ -214,16 +242,25 @@ unread-all bytes (g ∷ gs) = ap (λ (es : List Event). listed_group bytes g ++ 
 -- The events of a text keep the grammar before its text parts are read.
 pub blocks-grammar : (options : ParseOptions) (bytes : List ℕ) (lines : List (List ℕ)) (rows : List Row) →
     AreRows options bytes [] held_leaf.None (body_point bytes) lines rows → EachNoContent rows →
-    keeps_grammar unread_text (mark_events bytes ++ listed_groups bytes (groups rows)) ≡ true
+    keeps_unlisted unread_text (mark_events bytes ++ listed_groups bytes (groups rows)) ≡ true
 blocks-grammar options bytes lines rows are quiet =
-    ap (λ (es : List Event). keeps_grammar unread_text (mark_events bytes ++ es)) (unread-all bytes (groups rows))
+    ap (λ (es : List Event). keeps_unlisted unread_text (mark_events bytes ++ es)) (unread-all bytes (groups rows))
     ∙ rows-keep options bytes unread_text (listed_group bytes) lines rows (unread-reads bytes) are quiet
 
 -- Once they are read.
 
 -- each group
 group-reads : (bytes : List ℕ) → Reads bytes plain_text (group_events bytes)
-group-reads bytes group is = (is_some is.0, record { leaf = group_done bytes group; leads = is.1.word; is = refl })
+group-reads bytes group is =
+    let leaf : List Event = group_done bytes group in (
+      is_some is.0,
+      record {
+        leaf = leaf;
+        leads =
+            unlists-same plain_text (blocks ∷ []) (blocks_behind (is_some is.0) ∷ []) leaf is.1.unlisted is.1.word;
+        is = refl;
+      },
+    )
 
 -- all of them
 groups-all : (bytes : List ℕ) (gs : List Group) → groups_events bytes gs ≡ all_of (group_events bytes) gs
@@ -233,7 +270,7 @@ groups-all bytes (g ∷ gs) = ap (λ (es : List Event). group_events bytes g ++ 
 -- The events of a text keep the grammar, as the plain layer reads its text parts.
 pub events-grammar : (options : ParseOptions) (bytes : List ℕ) (lines : List (List ℕ)) (rows : List Row) →
     AreRows options bytes [] held_leaf.None (body_point bytes) lines rows → EachNoContent rows →
-    keeps_grammar plain_text (mark_events bytes ++ groups_events bytes (groups rows)) ≡ true
+    keeps_unlisted plain_text (mark_events bytes ++ groups_events bytes (groups rows)) ≡ true
 events-grammar options bytes lines rows are quiet =
-    ap (λ (es : List Event). keeps_grammar plain_text (mark_events bytes ++ es)) (groups-all bytes (groups rows))
+    ap (λ (es : List Event). keeps_unlisted plain_text (mark_events bytes ++ es)) (groups-all bytes (groups rows))
     ∙ rows-keep options bytes plain_text (group_events bytes) lines rows (group-reads bytes) are quiet

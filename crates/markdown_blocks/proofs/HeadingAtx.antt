@@ -15,6 +15,7 @@ pub mod Plain
 pub mod Registers
 pub mod Runs
 pub mod Spelled
+pub mod Stands
 pub mod Texts
 pub mod Tiled
 pub mod Trial

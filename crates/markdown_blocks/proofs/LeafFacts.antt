@@ -2,13 +2,14 @@
 --
 -- The frame joins what stands in front of a line, its leaf and what stands behind it, and needs no more of a leaf than
 -- stands here. A blank line is such a leaf too, without a block.
-use Rattle.std.proofs.Common.{◌≡◌, ℕ, true, List, [], ◌∷◌, ◌+◌, length, ◌≤◌}
+use Rattle.std.proofs.Common.{◌≡◌, ℕ, Bool, true, List, [], ◌∷◌, ◌+◌, length, ◌≤◌}
 use Rattle.std.specs.Prelude.{◌==◌, IsTrue, Option, Some, None, slice_range}
 use Rattle.std.specs.List.{list_all}
 use Rattle.std.specs.Option.{is_some}
 use Rattle.md_engine.specs.declared.event.Content.TheVariants as content
 use Rattle.md_engine.specs.declared.event.Event.{Event}
 use Rattle.md_engine.specs.declared.event.Point.{Point}
+use Rattle.md_containers.proofs.UnlistedLemmas.{NoListing, StandsTo, among}
 use Rattle.md_seam.specs.declared.inline.Chunk.{Chunk}
 use Rattle.md_seam.specs.declared.inline.PartKind.TheVariants.{Text}
 use Rattle.md_seam.specs.Events.Endings.{Spot, line_start}
@@ -83,6 +84,10 @@ pub record LeafFacts (bytes : List ℕ) (block : Option Block) (p q : Point) (un
   -- and where their line ends
   pub unread_ending : ending.Leads line_start (spot_behind block) unread
   pub ending : ending.Leads line_start (spot_behind block) done
+  -- no item and no list is among them, and they stand where blocks may
+  pub unread_unlisted : NoListing unread
+  pub unlisted : NoListing done
+  pub stands : (held : List Bool) → StandsTo bytes (among held) (among held) done
   -- their text parts are whole, and are read in the places of their chunks
   pub parts : Stands bytes unread
   pub filled : Fill bytes unread done

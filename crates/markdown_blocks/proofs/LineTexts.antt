@@ -88,3 +88,8 @@ line-stands bytes r line p q is =
 pub past-whole : (line : List ℕ) (p : Point) → 0 < length line → (past_text line p).vs ≡ 0
 past-whole [] p h = absurd (omega arith)
 past-whole (b ∷ bs) p h = past_text-whole bs (past_byte b p) refl
+
+-- and the line is the same
+pub past_text-line : (line : List ℕ) (p : Point) → (past_text line p).line ≡ p.line
+past_text-line [] p = refl
+past_text-line (b ∷ bs) p = past_text-line bs (past_byte b p)

@@ -15,8 +15,7 @@ use Rattle.md_seam.proofs.PlacesLemmas.{all-append}
 use Rattle.md_definition.proofs.PreambleLemmas.{mark-bytes, mark-length}
 use Rattle.md_seam.proofs.SpelledLemmas.{read-from, read-quiet}
 use Rattle.md_outline.specs.Between.{is_between}
-use Rattle.md_outline.specs.HeadingDepths.{are_shallow}
-use Rattle.md_outline.specs.Outlined.{IsOutlined, are_parted, has_plain_name, tells_between}
+use Rattle.md_outline.specs.Outlined.{IsUnlisted, are_parted, has_plain_name, tells_between}
 use Rattle.markdown_blocks.specs.Document.{body_point, mark_end, mark_events}
 
 -- The text.
@@ -183,10 +182,9 @@ mark-parted bytes events h = go (has_mark bytes)
     go true = h
     go false = h
 
-pub mark-outlined : (bytes : List ℕ) (events : List Event) → IsOutlined events bytes →
-    IsOutlined (mark_events bytes ++ events) bytes
-mark-outlined bytes events is = record {
-  balanced = mark-balanced bytes events is.balanced;
+pub mark-unlisted : (bytes : List ℕ) (events : List Event) → IsUnlisted events bytes →
+    IsUnlisted (mark_events bytes ++ events) bytes
+mark-unlisted bytes events is = record {
   names = all-append has_plain_name (mark_events bytes) events (mark-names bytes) is.names;
   text = is.text;
   between =
@@ -194,5 +192,4 @@ mark-outlined bytes events is = record {
       (mark-between bytes) is.between;
   texts = all-append (tells_between bytes) (mark_events bytes) events (mark-texts bytes) is.texts;
   parted = mark-parted bytes events is.parted;
-  depths = ap are_shallow (mark-spelled bytes events) ∙ is.depths;
 }

@@ -34,7 +34,7 @@ use Rattle.markdown_blocks.specs.Rows.{Row, TextRow, behind_row, chunks_of, last
 use Rattle.markdown_blocks.specs.Unread.{linked}
 use Rattle.markdown_blocks.proofs.FrontPlaces.{fronts-grow, fronts-line}
 use Rattle.markdown_blocks.proofs.GroupLemmas.{AreLines, ReadsContent, row-line, text-some}
-use Rattle.markdown_blocks.proofs.LineTexts.{piece}
+use Rattle.markdown_blocks.proofs.LineTexts.{past_text-line, piece}
 use Rattle.markdown_blocks.proofs.RowFacts.{IsRow}
 
 -- Where the lines stand.
@@ -213,10 +213,6 @@ get-at (suc k) (q ∷ l) p rest e = get-at k l p rest e
 
 drop-next : (k : ℕ) (l : List Point) (p : Point) (rest : List Point) → drop k l ≡ p ∷ rest → drop (k + 1) l ≡ rest
 drop-next k l p rest e = sym (drop-drop 1 k l) ∙ ap (drop 1) e
-
-past_text-line : (line : List ℕ) (p : Point) → (past_text line p).line ≡ p.line
-past_text-line [] p = refl
-past_text-line (b ∷ bs) p = past_text-line bs (past_byte b p)
 
 -- the next line is the one behind it
 next-line : (options : ParseOptions) (bytes : List ℕ) (row next : Row) (rows : List Row) →

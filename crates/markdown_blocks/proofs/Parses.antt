@@ -11,10 +11,21 @@ use Rattle.md_engine.specs.declared.event.Event.{Event}
 use Rattle.md_engine.specs.declared.event.Point.{Point}
 use Rattle.md_engine.specs.Found.{Found}
 use Rattle.md_engine.specs.World.{World}
+use Rattle.md_containers.specs.ItemsHeld.{ItemsHeld}
+use Rattle.md_containers.specs.ItemsStand.{ItemsStand, root}
+use Rattle.md_containers.specs.Listed.{listed}
+use Rattle.md_containers.proofs.ListedBlocks.{IsUnlisted, listed-blocks, listed-covers}
+use Rattle.md_containers.proofs.ListedFilled.{listed-plain}
+use Rattle.md_containers.proofs.ListedGrammar.{listed-grammar}
+use Rattle.md_containers.proofs.ListedKept.{listed-endings, listed-pieces, listed-placed}
+use Rattle.md_containers.proofs.ListedNests.{listed-nested}
+use Rattle.md_containers.proofs.ListedParts.{listed-parts}
+use Rattle.md_containers.proofs.ListedReads.{listed-spelled}
 use Rattle.md_content.specs.ContentReads.{content_readings, wants_content}
+use Rattle.md_definition.specs.Grouped.{grouped}
 use Rattle.md_seam.specs.Events.Endings.{endings_stand}
-use Rattle.md_seam.specs.Events.Grammar.{keeps_grammar, plain_text}
-use Rattle.md_seam.specs.Events.Inline.{pieces}
+use Rattle.md_seam.specs.Events.Grammar.{keeps_grammar, plain_text, unread_text}
+use Rattle.md_seam.specs.Events.Inline.{Part, Piece, pieces}
 use Rattle.md_definition.specs.Meaning.{tree}
 use Rattle.md_seam.specs.Events.Nested.{Nested}
 use Rattle.md_seam.specs.Events.Pieces.{pieces_stand}
@@ -22,8 +33,9 @@ use Rattle.md_seam.specs.Events.Places.{are_placed}
 use Rattle.md_seam.specs.Events.Spelled.{spelled}
 use Rattle.md_seam.specs.Substituted.{Readings, Substituted}
 use Rattle.md_definition.specs.Texts.{split_lines}
-use Rattle.md_seam.specs.Events.Tiles.{Tiles, parts, plain_lists, plain_read}
+use Rattle.md_seam.specs.Events.Tiles.{EachRead, Tiles, parts, plain_lists, plain_read}
 use Rattle.md_outline.specs.HeadingDepths.{are_shallow}
+use Rattle.md_outline.specs.Outlined as outlined
 use Rattle.md_outline.specs.Outlined.{IsOutlined}
 use Rattle.markdown_blocks.specs.BlockList.{block_list}
 use Rattle.markdown_blocks.specs.Document.{body_point, mark_events}
@@ -35,20 +47,25 @@ use Rattle.markdown_blocks.specs.Unread.{listed_groups, unread_groups}
 use Rattle.markdown_blocks.proofs.BetweenRows.{rows-between}
 use Rattle.markdown_blocks.proofs.EndingRows.{blocks-endings, events-endings}
 use Rattle.markdown_blocks.proofs.GrammarRows.{blocks-grammar, events-grammar}
+use Rattle.markdown_blocks.proofs.HeldRows.{blocks-held, events-held}
+use Rattle.markdown_blocks.proofs.StandRows.{events-stand}
 use Rattle.markdown_blocks.proofs.GroupLemmas.{content-read, leaves-set, text-read}
 use Rattle.markdown_blocks.proofs.JoinedLemmas.{EachNoContent, rows_at-no_content}
+use Rattle.markdown_blocks.proofs.ListedOutlined.{listed-outlined}
 use Rattle.markdown_blocks.proofs.MarkLemmas.{body-between, body-column, body-index, body-vs, mark-nested}
-use Rattle.markdown_blocks.proofs.MarkLemmas.{mark-outlined, mark-spelled}
+use Rattle.markdown_blocks.proofs.MarkLemmas.{mark-spelled, mark-unlisted}
 use Rattle.markdown_blocks.proofs.NestedRows.{Nests, rows-nest}
 use Rattle.markdown_blocks.proofs.ParagraphReads.{content-reads}
 use Rattle.markdown_blocks.proofs.PieceRows.{blocks-pieces, events-pieces}
-use Rattle.markdown_blocks.proofs.PlainEvents.{groups-outlined}
+use Rattle.markdown_blocks.proofs.PlainEvents.{groups-unlisted}
 use Rattle.markdown_blocks.proofs.RowFacts.{AreRows}
 use Rattle.markdown_blocks.proofs.RowLemmas.{fresh-rows}
 use Rattle.markdown_blocks.proofs.TileCovers.{blocks-cover}
 use Rattle.markdown_blocks.proofs.TileParts.{blocks-chunks, blocks-nested, blocks-stand}
 use Rattle.markdown_blocks.proofs.TileReads.{groups-empty, text-filled}
-use Rattle.markdown_blocks.proofs.TreeRows.{tree-rows, tree-shallow}
+use Rattle.markdown_blocks.proofs.ListedMark.{listed-mark}
+use Rattle.markdown_blocks.proofs.ListedRead.{listed-read}
+use Rattle.markdown_blocks.proofs.TreeRows.{body-rows, body-shallow, body_of, tree-body}
 use Rattle.markdown_blocks.proofs.LeafFacts.{ReadsText}
 
 -- the lines of a text, behind its mark
@@ -78,110 +95,172 @@ content-are options bytes built small found new flow =
     wants_content (content_readings bytes options) refl refl
     (content-reads options options bytes small) flow.content flow.content_read
 
--- Then the other resolvers ran.
+-- Then the other resolvers ran, that of lists last.
 resolved-are : (options : ParseOptions) (bytes : List ℕ) → IsBuilt options → length bytes < 2 ^ 61 →
     (found : Found) (new : World) → (flow : FlowReads bytes options (body_point bytes) found new) →
-    new.events ≡ listed_groups bytes (groups (rows_of options bytes))
+    new.events ≡ listed bytes (listed_groups bytes (groups (rows_of options bytes)))
 resolved-are options bytes built small found new flow =
     flow.events_are
-    ∙ ap resolved (content-are options bytes built small found new flow)
-    ∙ leaves-set options bytes [] held_leaf.None (body_point bytes) (lines_of bytes) (rows_of options bytes)
-    (text-are options bytes built small) (text-quiet options bytes (body_point bytes))
+    ∙ ap (λ (l : List Event). listed bytes (resolved l)) (content-are options bytes built small found new flow)
+    ∙ ap (listed bytes)
+    (leaves-set options bytes [] held_leaf.None (body_point bytes) (lines_of bytes) (rows_of options bytes)
+    (text-are options bytes built small) (text-quiet options bytes (body_point bytes)))
 
 -- And then texts were read.
 pub events-are : (options : ParseOptions) (bytes : List ℕ) → IsBuilt options → length bytes < 2 ^ 61 →
     (found : Found) (new : World) → FlowReads bytes options (body_point bytes) found new →
     (wants : Content → Bool) (reads : Readings) → wants content.Text ≡ true → ReadsText bytes reads →
     (events : List Event) → Substituted wants reads [] 0 new.events events →
-    events ≡ groups_events bytes (groups (text_rows options bytes (body_point bytes)))
+    events ≡ listed bytes (groups_events bytes (groups (text_rows options bytes (body_point bytes))))
 events-are options bytes built small found new flow wants reads wanted text events substituted =
-    let before : new.events ≡
-    listed_groups bytes (groups (rows_of options bytes)) = resolved-are options bytes built small found new flow in
-    text-read options bytes [] held_leaf.None (body_point bytes) (lines_of bytes) (rows_of options bytes)
-    (text-are options bytes built small)
-    (text-quiet options bytes (body_point bytes)) wants reads wanted text events
-    (subst (λ (l : List Event). Substituted wants reads [] 0 l events) before substituted)
+    let p : Point = body_point bytes in
+    let lines : List (List ℕ) = lines_of bytes in
+    let rows : List Row = rows_of options bytes in
+    let are : AreRows options bytes [] held_leaf.None p lines rows = text-are options bytes built small in
+    let quiet : EachNoContent rows = text-quiet options bytes p in
+    listed-read wants reads bytes (mark_events bytes) (listed_groups bytes (groups rows))
+    (groups_events bytes (groups rows)) events (blocks-chunks options bytes [] held_leaf.None p lines rows are quiet)
+    (text-filled options bytes p lines are).read
+    (λ read s.
+    text-read options bytes [] held_leaf.None p lines rows are quiet wants reads wanted text read s)
+    (subst (λ (l : List Event). Substituted wants reads [] 0 l events)
+    (resolved-are options bytes built small found new flow) substituted)
+
+-- What stands in a text before lists are put around its items: its blocks, and its events.
+abbrev blocks_of : ParseOptions → List ℕ → List Event
+blocks_of options bytes = mark_events bytes ++ listed_groups bytes (groups (rows_of options bytes))
+
+abbrev read_of : ParseOptions → List ℕ → List Event
+read_of options bytes = mark_events bytes ++ groups_events bytes (groups (rows_of options bytes))
+
+-- the lists may be put around items before texts are read or behind
+read-listed : (options : ParseOptions) (bytes : List ℕ) → IsBuilt options → length bytes < 2 ^ 61 →
+    listed bytes (read_of options bytes) ≡ plain_read bytes (listed bytes (blocks_of options bytes))
+read-listed options bytes built small =
+    let p : Point = body_point bytes in
+    let lines : List (List ℕ) = lines_of bytes in
+    let rows : List Row = rows_of options bytes in
+    let are : AreRows options bytes [] held_leaf.None p lines rows = text-are options bytes built small in
+    ap (listed bytes) (text-filled options bytes p lines are).read
+    ∙ sym
+    (listed-plain bytes bytes (blocks_of options bytes)
+    (blocks-chunks options bytes [] held_leaf.None p lines rows are (text-quiet options bytes p)))
+
+-- The blocks of a text, in front of the resolver of lists.
+blocks-unlisted : (options : ParseOptions) (bytes : List ℕ) → IsBuilt options → length bytes < 2 ^ 61 →
+    IsTrue (are_placed bytes (blocks_of options bytes)) → IsUnlisted bytes (blocks_of options bytes)
+blocks-unlisted options bytes built small placed =
+    let p : Point = body_point bytes in
+    let lines : List (List ℕ) = lines_of bytes in
+    let rows : List Row = rows_of options bytes in
+    let are : AreRows options bytes [] held_leaf.None p lines rows = text-are options bytes built small in
+    record {
+      nested = blocks-nested options bytes lines rows are;
+      items = blocks-held options bytes lines rows are;
+      placed = placed;
+      lines = blocks-stand options bytes [] held_leaf.None p lines rows are (text-quiet options bytes p);
+      chunks = blocks-chunks options bytes [] held_leaf.None p lines rows are (text-quiet options bytes p);
+      grammar = blocks-grammar options bytes lines rows are (text-quiet options bytes p);
+      pieces_are = blocks-pieces options bytes lines rows are;
+      endings = blocks-endings options bytes lines rows are (text-quiet options bytes p);
+    }
+
+-- The block list has the lists around these items.
+block_list-is : (options : ParseOptions) (bytes : List ℕ) →
+    listed bytes (blocks_of options bytes) ≡ block_list options bytes
+unfolding block_list
+block_list-is options bytes = refl
 
 -- With what was read in the place of its chunks, the block list of a text tiles it.
 tiles-are : (options : ParseOptions) (bytes : List ℕ) → IsBuilt options → length bytes < 2 ^ 61 →
-    IsTrue (are_placed bytes (mark_events bytes ++ listed_groups bytes (groups (rows_of options bytes)))) →
-    (tiles : Tiles (reads_plain bytes) bytes (mark_events bytes ++ groups_events bytes (groups (rows_of options bytes)))) ×
-    (tiles.blocks ≡ mark_events bytes ++ listed_groups bytes (groups (rows_of options bytes)))
+    IsTrue (are_placed bytes (listed bytes (blocks_of options bytes))) →
+    (tiles : Tiles (reads_plain bytes) bytes (listed bytes (read_of options bytes))) ×
+    (tiles.blocks ≡ block_list options bytes)
 tiles-are options bytes built small placed =
     let p : Point = body_point bytes in
     let lines : List (List ℕ) = lines_of bytes in
     let rows : List Row = rows_of options bytes in
     let are : AreRows options bytes [] held_leaf.None p lines rows = text-are options bytes built small in
-    let fills = text-filled options bytes p lines are in (
+    let blocks : List Event = blocks_of options bytes in (
       record {
-        blocks = mark_events bytes ++ listed_groups bytes (groups rows);
-        block_list = record {
-          nested = blocks-nested options bytes lines rows are;
-          placed = placed;
-          lines = blocks-stand options bytes [] held_leaf.None p lines rows are (text-quiet options bytes p);
-          chunks = blocks-chunks options bytes [] held_leaf.None p lines rows are (text-quiet options bytes p);
-          grammar = blocks-grammar options bytes lines rows are (text-quiet options bytes p);
-          pieces_are = blocks-pieces options bytes lines rows are;
-          endings = blocks-endings options bytes lines rows are (text-quiet options bytes p);
-        };
-        covers = blocks-cover options bytes lines rows are;
-        lists = plain_lists bytes (parts (mark_events bytes ++ listed_groups bytes (groups rows)));
-        each = fills.each;
-        read = fills.read;
-        empty = groups-empty options bytes;
+        blocks = listed bytes blocks;
+        block_list =
+            listed-blocks bytes blocks
+            (blocks-unlisted options bytes built small (sym (listed-placed bytes bytes blocks) ∙ placed));
+        covers = listed-covers bytes blocks (blocks-cover options bytes lines rows are);
+        lists = plain_lists bytes (parts (listed bytes blocks));
+        each =
+            subst (λ (ps : List Part). EachRead (reads_plain bytes) ps (plain_lists bytes ps))
+            (sym (listed-parts bytes blocks)) (text-filled options bytes p lines are).each;
+        read = read-listed options bytes built small;
+        empty = λ none. ap (listed bytes) (groups-empty options bytes none);
       },
-      refl,
+      block_list-is options bytes,
     )
-
--- The block list is made of the events of the mark and of the lines.
-block_list-is : (options : ParseOptions) (bytes : List ℕ) →
-    mark_events bytes ++ listed_groups bytes (groups (rows_of options bytes)) ≡ block_list options bytes
-unfolding block_list
-block_list-is options bytes = refl
 
 -- What is known of all events of a text, by those that stood there before its text parts were read.
 pub record Reads (options : ParseOptions) (bytes : List ℕ) (blocks events : List Event) : Type 0 where
   pub nested : Nested events
   pub outlined : IsOutlined events bytes
   pub tree : spelled events bytes ≡ tree options bytes
-  pub blocks_are : blocks ≡ block_list options bytes
   pub events_are : events ≡ plain_read bytes (block_list options bytes)
   pub tiles : IsTrue (are_placed bytes blocks) →
-      (tiles : Tiles (reads_plain bytes) bytes events) × (tiles.blocks ≡ blocks)
+      (tiles : Tiles (reads_plain bytes) bytes events) × (tiles.blocks ≡ block_list options bytes)
   pub grammar : keeps_grammar plain_text events ≡ true
   pub pieces_are : pieces_stand bytes (pieces events) ≡ true
   pub endings : endings_stand events ≡ true
 
-pub text-reads : (options : ParseOptions) (bytes : List ℕ) → IsBuilt options → IsUtf8 bytes → length bytes < 2 ^ 61 →
-    (events : List Event) → events ≡ groups_events bytes (groups (text_rows options bytes (body_point bytes))) →
-    Reads options bytes (mark_events bytes ++ listed_groups bytes (groups (text_rows options bytes (body_point bytes))))
-    (mark_events bytes ++ events)
-text-reads options bytes built utf8 small events is =
+listed-reads : (options : ParseOptions) (bytes : List ℕ) → IsBuilt options → IsUtf8 bytes → length bytes < 2 ^ 61 →
+    Reads options bytes (listed bytes (blocks_of options bytes)) (listed bytes (read_of options bytes))
+listed-reads options bytes built utf8 small =
     let p : Point = body_point bytes in
     let lines : List (List ℕ) = lines_of bytes in
     let rows : List Row = rows_of options bytes in
     let body : List Event = groups_events bytes (groups rows) in
+    let events : List Event = read_of options bytes in
     let are : AreRows options bytes [] held_leaf.None p lines rows = text-are options bytes built small in
     let nests : Nests bytes p (groups rows) = rows-nest options bytes p lines rows are in
-    let spells : spelled body bytes ≡ tree options bytes = tree-rows options built bytes rows are in
-    subst
-    (λ (l : List Event).
-    Reads options bytes (mark_events bytes ++ listed_groups bytes (groups rows)) (mark_events bytes ++ l))
-    (sym is) (record {
-      nested = mark-nested bytes body nests.balanced nests.forward;
+    let nested : Nested events = mark-nested bytes body nests.balanced nests.forward in
+    let stand : ItemsStand bytes root events = events-stand options bytes lines rows are in
+    let held : ItemsHeld [] events = events-held options bytes lines rows are in
+    let shows : spelled body bytes ≡ body_of options bytes = body-rows options built bytes rows are in
+    let spells : spelled events bytes ≡ body_of options bytes = mark-spelled bytes body ∙ shows in
+    record {
+      nested = listed-nested bytes events nested held;
       outlined =
-          mark-outlined bytes body
-          (groups-outlined options bytes p lines rows are utf8 nests.balanced
-          (rows-between options bytes p lines rows (body-between bytes) are)
-          (ap are_shallow spells ∙ tree-shallow options bytes built));
-      tree = mark-spelled bytes body ∙ spells;
-      blocks_are = block_list-is options bytes;
-      events_are = (text-filled options bytes p lines are).read ∙ ap (plain_read bytes) (block_list-is options bytes);
+          listed-outlined bytes events
+          (mark-unlisted bytes body
+          (groups-unlisted options bytes p lines rows are utf8
+          (rows-between options bytes p lines rows (body-between bytes) are)))
+          stand nested held (ap are_shallow spells ∙ body-shallow options bytes built);
+      tree = listed-spelled bytes events stand ∙ ap grouped spells ∙ sym (tree-body options bytes built);
+      events_are = read-listed options bytes built small ∙ ap (plain_read bytes) (block_list-is options bytes);
       tiles = tiles-are options bytes built small;
-      grammar = events-grammar options bytes lines rows are (text-quiet options bytes p);
-      pieces_are = events-pieces options bytes lines rows are;
-      endings = events-endings options bytes lines rows are (text-quiet options bytes p);
-    })
+      grammar =
+          listed-grammar plain_text refl bytes events nested held
+          (events-grammar options bytes lines rows are (text-quiet options bytes p));
+      pieces_are =
+          subst (λ (ps : List Piece). pieces_stand bytes ps ≡ true) (sym (listed-pieces bytes events))
+          (events-pieces options bytes lines rows are);
+      endings =
+          listed-endings bytes events ∙ events-endings options bytes lines rows are (text-quiet options bytes p);
+    }
+
+-- The lists stand behind the mark.
+pub text-reads : (options : ParseOptions) (bytes : List ℕ) → IsBuilt options → IsUtf8 bytes → length bytes < 2 ^ 61 →
+    (items events : List Event) → items ≡ listed bytes (listed_groups bytes (groups (rows_of options bytes))) →
+    events ≡ listed bytes (groups_events bytes (groups (rows_of options bytes))) →
+    Reads options bytes (mark_events bytes ++ items) (mark_events bytes ++ events)
+text-reads options bytes built utf8 small items events before is =
+    let mark : List Event = mark_events bytes in
+    let rows : List Row = rows_of options bytes in
+    let blocks : listed bytes (blocks_of options bytes) ≡ mark ++ items =
+    listed-mark bytes (listed_groups bytes (groups rows)) ∙ ap (λ (l : List Event). mark ++ l) (sym before) in
+    let read : listed bytes (read_of options bytes) ≡ mark ++ events =
+    listed-mark bytes (groups_events bytes (groups rows)) ∙ ap (λ (l : List Event). mark ++ l) (sym is) in
+    subst (λ (l : List Event). Reads options bytes l (mark ++ events)) blocks
+    (subst (Reads options bytes (listed bytes (blocks_of options bytes))) read
+    (listed-reads options bytes built utf8 small))
 
 -- The same in the words of the calls that `parse` makes.
 pub parsed-reads : (options : ParseOptions) (bytes text : List ℕ) (start : Point) (found : Found) (new : World)
@@ -197,18 +276,14 @@ parsed-reads options bytes text start found new mark items body events same buil
     let here : length bytes < 2 ^ 61 = subst (λ (l : List ℕ). length l < 2 ^ 61) (sym same) small in
     let from : FlowReads bytes options (body_point bytes) found new = subst
     (λ (p : Point). FlowReads bytes options p found new) starts flow in
-    let body-is : body ≡ groups_events bytes (groups (rows_of options bytes)) =
+    let before : items ≡ listed bytes (listed_groups bytes (groups (rows_of options bytes))) = are
+    ∙ resolved-are options bytes built here found new from in
+    let body-is : body ≡ listed bytes (groups_events bytes (groups (rows_of options bytes))) =
     events-are options bytes built here found new from wants reads wanted plain body
     (subst (λ (l : List Event). Substituted wants reads [] 0 l body) are substituted) in
-    let before : items ≡ listed_groups bytes (groups (rows_of options bytes)) = are
-    ∙ resolved-are options bytes built here found new from in
     let front : mark ≡ mark_events text = marks ∙ ap mark_events same in
-    let blocks : mark ++ items ≡ mark_events text ++ listed_groups text (groups (rows_of options text)) =
-    ap (λ (l : List Event). l ++ items) front
-    ∙ ap (λ (l : List Event). mark_events text ++ l)
-    (before ∙ ap (λ (l : List ℕ). listed_groups l (groups (rows_of options l))) same) in
-    subst (λ (l : List Event). Reads options text l events) (sym blocks)
-    (subst (Reads options text (mark_events text ++ listed_groups text (groups (rows_of options text))))
-    (sym (is ∙ ap (λ (l : List Event). l ++ body) front))
-    (text-reads options text built utf8 small body
-    (subst (λ (l : List ℕ). body ≡ groups_events l (groups (rows_of options l))) same body-is)))
+    subst (Reads options text (mark ++ items)) (sym is)
+    (subst (λ (l : List Event). Reads options text (l ++ items) (l ++ body)) (sym front)
+    (text-reads options text built utf8 small items body
+    (before ∙ ap (λ (l : List ℕ). listed l (listed_groups l (groups (rows_of options l)))) same)
+    (body-is ∙ ap (λ (l : List ℕ). listed l (groups_events l (groups (rows_of options l)))) same)))

@@ -1,6 +1,6 @@
 -- Events that part no text, and points that cut no tab of a character.
 use Rattle.std.proofs.Common.{◌≡◌, ℕ, ◌+◌, ◌-◌, ◌≤◌, Bool, true, false, cond, ◌&&◌, ◌||◌, List, [], ◌∷◌, ◌++◌, refl, ap}
-use Rattle.std.proofs.Common.{sym, ◌∙◌, subst, append_assoc, arith, slice_range}
+use Rattle.std.proofs.Common.{sym, ◌∙◌, subst, append_assoc, arith}
 use Rattle.std.specs.Prelude.{◌==◌, slice_index, Option, Some, None}
 use Rattle.md_engine.specs.declared.event.Event.{Event}
 use Rattle.md_engine.specs.declared.event.Kind.{Kind}
@@ -12,12 +12,9 @@ use Rattle.md_seam.specs.Events.Inline.{plain_chunk}
 use Rattle.md_seam.specs.Events.Nested.{around, enter, exit}
 use Rattle.md_seam.specs.Events.Spelled.{IsEnding as EndingRole, IsPrefix as PrefixRole, IsQuiet, Role, Tells, byte_at}
 use Rattle.md_seam.specs.Events.Spelled.{role}
-use Rattle.md_definition.specs.Rest.{is_blank}
-use Rattle.md_seam.specs.Events.Places.{last_line}
-use Rattle.md_definition.specs.Texts.{split_lines}
 use Rattle.md_seam.proofs.SpelledLemmas.{Quiet, QuietOrEnding, Roles}
 use Rattle.md_outline.specs.Between.{is_between}
-use Rattle.md_outline.specs.Outlined.{TextSpan as Span, are_parted, parts_by, span_by, begins_line}
+use Rattle.md_outline.specs.Outlined.{TextSpan as Span, are_parted, parts_by, span_by}
 use Rattle.markdown_blocks.proofs.PlainRoles.{chunk-roles}
 use Rattle.markdown_blocks.proofs.BetweenFacts.{between-behind, is_low}
 
@@ -128,21 +125,3 @@ pub around-sits : (bytes : List ℕ) (name : Name) (p q : Point) (inside : List 
 around-sits bytes name p q inside h k =
     sits-append bytes (enter name p ∷ []) (inside ++ exit name q ∷ []) (sits-still bytes (enter name p ∷ []) (h, tt))
     (sits-append bytes inside (exit name q ∷ []) k (sits-still bytes (exit name q ∷ []) (h, tt)))
-
--- Texts that go on behind a prefix.
-
--- a prefix may stand behind whitespace from a point on
-abbrev pub Marks : List ℕ → Point → Span → Type 0
-Marks bytes p span = (j : ℕ) → byte_at p ≤ j → is_blank (slice_range bytes p.index j) ≡ true →
-    (begins_line span (slice_range bytes span.from j) ≡ true) ×
-    (is_blank (last_line (split_lines (slice_range bytes span.from j))) ≡ true)
-
--- behind a prefix
-abbrev pub behind_prefix : Point → Span
-behind_prefix q = record { from = byte_at q; is_parted = true }
-
--- what may part a text where it stands, and leaves its next piece behind it
-abbrev pub PartsText : List ℕ → Point → Point → List Event → Type 0
-PartsText bytes p q es =
-    (span : Span) (rest : List Event) → Marks bytes p span → is_between bytes (byte_at q) ≡ true →
-    are_parted bytes (Some (behind_prefix q)) rest ≡ true → are_parted bytes (Some span) (es ++ rest) ≡ true

@@ -13,7 +13,8 @@ use Rattle.md_outline.specs.Outlined.{are_parted}
 use Rattle.markdown_blocks.specs.Change.{ends_of}
 use Rattle.markdown_blocks.specs.Rows.{final_row, first_row, group_done, group_kind, BlankRow, Group, Row, RowKind}
 use Rattle.markdown_blocks.specs.Rows.{TextRow, ending_events, groups, groups_events, tail_events, LeafRow, ending_of}
-use Rattle.markdown_blocks.proofs.FrontLemmas.{ends-roles, fronts-roles}
+use Rattle.markdown_blocks.proofs.FrontLemmas.{ends-roles}
+use Rattle.markdown_blocks.proofs.FrontStands.{fronts-sit}
 use Rattle.markdown_blocks.proofs.RowFacts.{AreRows}
 use Rattle.markdown_blocks.proofs.PartedFacts.{Sits, Still, sits-append, sits-still}
 use Rattle.markdown_blocks.proofs.NestedRows.{ByGroups, rows-hold}
@@ -42,10 +43,10 @@ ending-still TextRow = tt
 
 -- what stands in front of it, its leaf, and what stands behind it
 line-sits : (bytes : List ℕ) (name : Name) (front inside : List Event) (row : Row) → Still (role name) →
-    Roles Still front → Sits bytes inside → Sits bytes (front ++ inside ++ tail_events name row)
+    Sits bytes front → Sits bytes inside → Sits bytes (front ++ inside ++ tail_events name row)
 line-sits bytes name front inside row u h k =
-    sits-append bytes (front ++ inside) (tail_events name row)
-    (sits-append bytes front inside (sits-still bytes front h) k) (sits-tail bytes name row u)
+    sits-append bytes (front ++ inside) (tail_events name row) (sits-append bytes front inside h k)
+    (sits-tail bytes name row u)
 
 -- Groups.
 
@@ -57,8 +58,7 @@ parted-by_groups bytes = record {
   none = λ p. refl;
   group = λ names kept p group gs o keeps on.
       let row : Row = first_row group in
-      let front : Roles Still row.front = fronts-roles Still bytes row.change.opens p row.first row.front tt tt
-      (λ c. (container-facts c).still) o.front in
+      let front : Sits bytes row.front = fronts-sit bytes row.change.opens p row.first row.front o.front in
       line-sits bytes (ending_of (group_kind group)) row.front (group_done bytes group) (final_row group)
       (ending-still (group_kind group)) front o.leaf.1.parted (groups_events bytes gs) on;
 }

@@ -17,7 +17,7 @@ use Rattle.md_seam.specs.Events.Spelled.{Holds, Shape, byte_at, role, spelled}
 use Rattle.md_definition.specs.State.{Container}
 use Rattle.md_seam.proofs.SpelledLemmas.{Roles, roles-append}
 use Rattle.md_outline.specs.Between.{is_between}
-use Rattle.md_outline.specs.Outlined.{IsOutlined, tells_between}
+use Rattle.md_outline.specs.Outlined.{IsUnlisted, tells_between}
 use Rattle.markdown_blocks.specs.Change.{Change, ends_of}
 use Rattle.markdown_blocks.specs.Fronted.{contained, rest_from, rest_line}
 use Rattle.markdown_blocks.specs.Rows.{leaf_behind, final_row, first_row, group_done, group_kind, BlankRow, Group}
@@ -193,23 +193,19 @@ all-tell bytes (e ∷ events) h k =
     (tells-clear bytes (is_told (role e.name)) e.point clears.0 betweens.0)
     (all-tell bytes events clears.1 betweens.1)
 
--- the events of a text are outlined, if they nest and stand between its characters, and none is too deep
-pub groups-outlined : (options : ParseOptions) (bytes : List ℕ) (p : Point) (lines : List (List ℕ)) (rows : List Row) →
+-- an outline can show the events of a text, if they stand between its characters
+pub groups-unlisted : (options : ParseOptions) (bytes : List ℕ) (p : Point) (lines : List (List ℕ)) (rows : List Row) →
     AreRows options bytes [] held_leaf.None p lines rows → IsUtf8 bytes →
-    Balanced (groups_events bytes (groups rows)) →
     list_all (λ (e : Event). is_between bytes e.point.index) (groups_events bytes (groups rows)) ≡ true →
-    are_shallow (spelled (groups_events bytes (groups rows)) bytes) ≡ true →
-    IsOutlined (groups_events bytes (groups rows)) bytes
-groups-outlined options bytes p lines rows are utf8 balanced between depths =
+    IsUnlisted (groups_events bytes (groups rows)) bytes
+groups-unlisted options bytes p lines rows are utf8 between =
     let plain : ArePlain bytes (groups_events bytes (groups rows)) = rows-hold bytes (PlainGroups bytes)
     (plain-by_groups bytes) options p lines rows are
     (groups-each (IsPlainRow bytes) rows (plain-rows options bytes [] held_leaf.None p lines rows are tt)) in
     record {
-      balanced = balanced;
       names = plain.names;
       text = utf8;
       between = between;
       texts = all-tell bytes (groups_events bytes (groups rows)) plain.texts between;
       parted = rows-parted options bytes p lines rows are;
-      depths = depths;
     }

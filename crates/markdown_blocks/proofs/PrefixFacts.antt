@@ -1,8 +1,10 @@
 -- What is known of the events that stand in front of the content of a container on a line, from the point where they
 -- begin to the one where its content does: the frame needs no more of a container.
-use Rattle.std.proofs.Common.{◌≡◌, ◌≢◌, ℕ, true, List, [], ◌∷◌, ◌++◌}
+use Rattle.std.proofs.Common.{◌≡◌, ◌≢◌, ℕ, Bool, true, List, [], ◌∷◌, ◌++◌}
 use Rattle.md_engine.specs.declared.event.Event.{Event}
 use Rattle.md_engine.specs.declared.event.Point.{Point}
+use Rattle.md_containers.specs.ItemsStand.{is_item_shape}
+use Rattle.md_containers.proofs.UnlistedLemmas.{NoListing, StandsTo, Unlists, among}
 use Rattle.md_definition.specs.State.{Container}
 use Rattle.md_seam.specs.Events.Grammar.{Expression, behind_block, blocks}
 use Rattle.md_seam.specs.Events.Nested.{enter}
@@ -12,7 +14,6 @@ use Rattle.md_definition.specs.Tree.{End}
 use Rattle.std.specs.Prelude.{None}
 use Rattle.markdown_blocks.specs.Stands.{around_of}
 use Rattle.markdown_blocks.proofs.CollectFacts.{Collects}
-use Rattle.md_seam.proofs.SpelledLemmas.{QuietOrPrefix, Roles}
 use Rattle.md_seam.proofs.EndingsLemmas.{AreOthers}
 use Rattle.md_seam.proofs.GrammarLemmas as grammar
 use Rattle.md_outline.specs.Between.{is_between}
@@ -23,7 +24,9 @@ use Rattle.markdown_blocks.proofs.PiecesLemmas.{Tiled}
 use Rattle.markdown_blocks.proofs.PrefixNames.{AreFront, ArePrefixes}
 use Rattle.markdown_blocks.proofs.SpanLemmas.{Nested_in}
 use Rattle.markdown_blocks.proofs.PieceFacts.{Stood}
-use Rattle.markdown_blocks.proofs.PartedFacts.{clear, PartsText}
+use Rattle.markdown_blocks.proofs.PartedFacts.{Sits, clear}
+use Rattle.markdown_blocks.proofs.PlainFacts.{ArePlain}
+use Rattle.markdown_blocks.proofs.Reached.{PartsText}
 use Rattle.markdown_blocks.proofs.ContainerNames.{TakesPrefixes}
 use Rattle.md_outline.specs.Roles.{is_plain}
 
@@ -42,8 +45,8 @@ pub record PrefixFacts (bytes : List ℕ) (p q : Point) (es : List Event) : Type
   pub stood : Stood bytes es
   -- no ending stands in them, and no begin or end of a leaf
   pub others : AreOthers es
-  -- they begin where no tab of a character is cut
-  pub clear : clear bytes p ≡ true
+  -- they begin where no tab of a character is cut, if they end so
+  pub clear : clear bytes q ≡ true → clear bytes p ≡ true
   -- they stand between characters, if they begin so
   pub between : is_between bytes p.index ≡ true → AreBetween bytes es × (is_between bytes q.index ≡ true)
 
@@ -66,11 +69,17 @@ pub record Continues (bytes : List ℕ) (p q : Point) (es : List Event) : Type 0
 pub record Opens (bytes : List ℕ) (c : Container) (p q : Point) (es : List Event) : Type 0 where
   pub common : PrefixFacts bytes p q es
   pub names : AreFront es
-  -- the tree shows none of them
-  pub roles : Roles QuietOrPrefix es
-  -- with the begin of the container, they keep the grammar
+  -- an outline knows them, and a text that begins in them ends in them
+  pub plain : ArePlain bytes es
+  pub sits : Sits bytes es
+  -- with the begin of the container, they keep the grammar of events without lists
   pub leads : (text : Expression) →
-      grammar.Leads text (blocks ∷ []) (blocks ∷ behind_block ∷ []) (enter (container_name c) p ∷ es)
+      Unlists text (blocks ∷ []) (blocks ∷ behind_block ∷ []) (enter (container_name c) p ∷ es)
+  -- blocks may stand in it behind them, and an item tells its marker
+  pub stands : (held : List Bool) →
+      StandsTo bytes (among held) (among (is_item_shape (shape_of c) ∷ held)) (enter (container_name c) p ∷ es)
+  -- no item and no list is among them
+  pub unlisted : NoListing es
   -- the container is read, and they are not
   pub read : (r : Reading) → r.text ≡ None → read bytes r (enter (container_name c) p ∷ es) ≡ begins c r
   -- an outline shows the container

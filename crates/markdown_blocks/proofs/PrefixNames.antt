@@ -8,7 +8,7 @@ use Rattle.md_seam.specs.Events.Spelled as spelled
 use Rattle.md_seam.specs.Events.Spelled.{IsQuiet, Role, role}
 use Rattle.md_seam.specs.Events.Tiles.{part_kind}
 use Rattle.md_seam.specs.Events.Prefix.{is_prefix}
-use Rattle.md_seam.proofs.SpelledLemmas.{QuietOrPrefix, Roles}
+use Rattle.md_seam.proofs.SpelledLemmas.{Roles}
 use Rattle.markdown_blocks.proofs.EachEvent.{Each, each-as}
 use Rattle.markdown_blocks.proofs.PartFacts.{NoLinks, NoParts, IsUnlinked, IsNoPart}
 use Rattle.markdown_blocks.proofs.ContainerNames.{is_front, front-name}
@@ -65,15 +65,3 @@ pub prefixes-roles : (P : Role → Type 0) (es : List Event) → P IsQuiet → P
 prefixes-roles P [] quiet prefix h = tt
 prefixes-roles P (e ∷ es) quiet prefix h =
     (prefix-role P (role e.name) quiet prefix (prefix-is e.name h.0.0), prefixes-roles P es quiet prefix h.1)
-
--- so it is of each role that both have
-quiet-role : (P : Role → Type 0) (x : Role) → P IsQuiet → P spelled.IsPrefix → QuietOrPrefix x → P x
-quiet-role P IsQuiet quiet prefix h = quiet
-quiet-role P spelled.IsPrefix quiet prefix h = prefix
-quiet-role P _ quiet prefix h = absurd h
-
-pub quiets-roles : (P : Role → Type 0) (es : List Event) → P IsQuiet → P spelled.IsPrefix → Roles QuietOrPrefix es →
-    Roles P es
-quiets-roles P [] quiet prefix h = tt
-quiets-roles P (e ∷ es) quiet prefix h =
-    (quiet-role P (role e.name) quiet prefix h.0, quiets-roles P es quiet prefix h.1)

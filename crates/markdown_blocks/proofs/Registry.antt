@@ -10,36 +10,39 @@ use Rattle.md_engine.specs.declared.resolve.name.Name.{Name as ResolveName}
 use Rattle.md_engine.specs.declared.resolve.name.Name.TheVariants as r
 use Rattle.md_engine.specs.declared.state.Name.{Name as StateName}
 use Rattle.md_engine.specs.declared.state.Name.TheVariants as n
-use Rattle.md_engine.specs.declared.state.block_quote.State.{State as QuoteState}
 use Rattle.md_engine.specs.declared.state.block_quote.State.TheVariants as its
 use Rattle.md_engine.specs.declared.state.document.State.{State as DocumentState}
 use Rattle.md_engine.specs.declared.state.document.State.TheVariants as document
 use Rattle.md_engine.specs.declared.state.flow.State.{State as FlowState}
 use Rattle.md_engine.specs.declared.state.flow.State.TheVariants as flow
+use Rattle.md_engine.specs.declared.state.list_item.State.TheVariants as item
 use Rattle.md_engine.specs.declared.state.State.TheVariants.{Next}
 use Rattle.md_engine.specs.declared.tokenizer.container.name.ContainerKind.{ContainerKind}
 use Rattle.md_engine.specs.declared.tokenizer.container.name.ContainerKind.TheVariants as kind
 use Rattle.md_engine.specs.Meaning.{Cell, Feed, Here, Steps}
 use Rattle.md_engine.specs.Resolvers.{same_name}
-use Rattle.md_engine.specs.Scheme.{After, EndsLater, Spot, after_all, spot}
+use Rattle.md_engine.specs.Scheme.{After, Spot, after_all, spot}
 use Rattle.md_engine.specs.World.{World, looks}
 use Rattle.md_engine.proofs.Local.{fits}
 use Rattle.md_engine.proofs.StepOf.{Sees}
+use Rattle.md_containers.specs.Item.{item_scheme}
 use Rattle.md_containers.specs.Quote.{quote_scheme}
+use Rattle.md_containers.proofs.ItemGoods.{ItemFits, item_does}
+use Rattle.md_containers.proofs.ItemSteps.{item_steps}
 use Rattle.md_containers.proofs.QuoteGoods.{QuoteFits, quote_does}
 use Rattle.md_containers.proofs.QuoteSteps.{quote_steps}
+use Rattle.md_leaves.proofs.BlankGoods.{BlankFits}
 use Rattle.md_leaves.proofs.BreakGoods.{BreakFits, break_does}
 use Rattle.md_leaves.proofs.BreakSteps.{break_steps}
 use Rattle.md_leaves.proofs.HeadingGoods.{HeadingFits, heading_does}
 use Rattle.md_leaves.proofs.HeadingSteps.{heading_steps}
 use Rattle.md_seam.specs.Ahead.{HasWhite}
-use Rattle.md_seam.specs.Spaces.{IsRest, rest_ready}
+use Rattle.md_seam.specs.Spaces.{rest_ready}
 use Rattle.md_definition.specs.Containers.{Taken, opens, opens_footnote, opens_item, opens_quote}
 use Rattle.md_definition.specs.Leaves.{Came, Finished, break_at, heading_at}
-use Rattle.md_definition.specs.Grouped.{grouped}
 use Rattle.md_definition.specs.Rest.{Rest}
-use Rattle.md_definition.specs.State.{Container, container_block}
-use Rattle.md_definition.specs.Tree.{Blocks}
+use Rattle.md_definition.specs.State.{Container}
+use Rattle.md_outline.specs.HeadingDepths.{is_shallow}
 use Rattle.md_seam.proofs.SpacesGoods.{Does, WhiteFits}
 use Rattle.markdown_blocks.specs.FlowRule.{Rule}
 use Rattle.markdown_blocks.specs.Leaf.HeadingAtx.{heading_leaf}
@@ -49,22 +52,23 @@ use Rattle.markdown_blocks.specs.Registry.{HeadingAtx, IsOf, LeafName, ThematicB
 use Rattle.markdown_blocks.specs.Registry.{construct_transition, container_rules, first_of, is_own, leaf, opener_at}
 use Rattle.markdown_blocks.specs.Registry.{openers, openers_behind, resolved, text_leaf, trials, tried_at}
 use Rattle.markdown_blocks.specs.States.{flow_behaves_by, flow_owner, flow_table_scheme}
-use Rattle.markdown_blocks.proofs.BlockQuote.Laws.{quote-laws, quote-unlisted}
+use Rattle.markdown_blocks.proofs.BlockQuote.Laws.{quote-laws}
 use Rattle.markdown_blocks.proofs.BlockQuote.Registers.{quote-registers}
 use Rattle.markdown_blocks.proofs.ContainerLaws.{ContainerLaws}
 use Rattle.markdown_blocks.proofs.ContainerNames.{is_front}
-use Rattle.markdown_blocks.proofs.Goods.{ContainerFits}
-use Rattle.markdown_blocks.proofs.HeadingAtx.Found.{heading-found, heading-simple}
+use Rattle.markdown_blocks.proofs.Goods.{Anywhere, ContainerFits, IsWithin}
+use Rattle.markdown_blocks.proofs.HeadingAtx.Found.{heading-found, heading-shallow}
 use Rattle.markdown_blocks.proofs.HeadingAtx.Laws.{heading-laws}
 use Rattle.markdown_blocks.proofs.HeadingAtx.Outside.{front-heading, heading-passes}
 use Rattle.markdown_blocks.proofs.HeadingAtx.Registers.{heading-registers}
 use Rattle.markdown_blocks.proofs.LeafLaws.{LeafLaws}
+use Rattle.markdown_blocks.proofs.ListItem.Laws.{item-laws}
+use Rattle.markdown_blocks.proofs.ListItem.Registers.{item-registers}
 use Rattle.markdown_blocks.proofs.OutsideFacts.{AreOutside}
 use Rattle.markdown_blocks.proofs.Paragraph.Laws.{paragraph-laws}
 use Rattle.markdown_blocks.proofs.Registers.{Registers}
-use Rattle.markdown_blocks.proofs.SimpleBlocks.{IsSimple, IsUnlisted}
 use Rattle.markdown_blocks.proofs.TextLaws.{TextLaws}
-use Rattle.markdown_blocks.proofs.ThematicBreak.Found.{break-found, break-simple}
+use Rattle.markdown_blocks.proofs.ThematicBreak.Found.{break-found}
 use Rattle.markdown_blocks.proofs.ThematicBreak.Laws.{break-laws}
 use Rattle.markdown_blocks.proofs.ThematicBreak.Registers.{break-registers}
 
@@ -101,11 +105,11 @@ leaves-found options r =
     go false true = refl
     go false false = refl
 
--- the block of each is simple
-pub leaf-simple : (l : LeafName) (options : ParseOptions) (r : Rest) → (leaf l).starts options r ≡ true →
-    IsSimple ((leaf l).block r)
-leaf-simple HeadingAtx options r h = heading-simple options r h
-leaf-simple ThematicBreak options r h = break-simple
+-- an outline can show the block of each
+pub leaf-shallow : (l : LeafName) (options : ParseOptions) (r : Rest) → (leaf l).starts options r ≡ true →
+    is_shallow ((leaf l).block r) ≡ true
+leaf-shallow HeadingAtx options r h = heading-shallow options r h
+leaf-shallow ThematicBreak options r h = refl
 
 -- In the table of flow.
 
@@ -161,16 +165,13 @@ front-own name h = front-heading name h
 
 pub container-laws : (k : ContainerKind) → ContainerLaws k (container_rules k)
 container-laws kind.BlockQuote = quote-laws
-
--- the block of each makes no list, where those in it make none: so the tree is what the lines come to, ungrouped
-pub container-unlisted : (k : ContainerKind) (c : Container) (bs : Blocks) → IsOf k c → grouped bs ≡ bs →
-    IsUnlisted (container_block c bs)
-container-unlisted kind.BlockQuote c bs is h = quote-unlisted c bs is h
+container-laws kind.ListItem = item-laws
 
 -- each is tried at the state in front of it alone
 pub opener-before : (state : DocumentState) (k : ContainerKind) → opener_at state ≡ Some k →
     (container_rules k).before ≡ state
 opener-before document.ContainerNewBefore kind.BlockQuote e = refl
+opener-before document.ContainerNewBeforeNotBlockQuote kind.ListItem e = refl
 opener-before _ _ e = cc
 
 -- those behind a container are tried behind the first of them, but for it
@@ -183,29 +184,50 @@ pub record ContainerStates (k : ContainerKind) : Type 1 where
   -- where it is tried, and which is tried next
   pub tried : opener_at (container_rules k).before ≡ Some k
   pub next : NextOpener (openers_behind k)
-  pub begins : ContainerFits flow_table_scheme (container_rules k).start
+  pub begins : ContainerFits flow_table_scheme Anywhere (container_rules k).start
   pub begins_is : (options : ParseOptions) (next : Rule) (cells : List Cell) (h : Here) →
       flow_behaves_by options next (container_rules k).start cells h ≡ (container_rules k).begins options cells h
-  pub goes_on : ContainerFits flow_table_scheme (container_rules k).further
+  pub goes_on : ContainerFits flow_table_scheme IsWithin (container_rules k).further
   pub goes_on_is : (options : ParseOptions) (next : Rule) (cells : List Cell) (h : Here) →
       flow_behaves_by options next (container_rules k).further cells h ≡ (container_rules k).continues options cells h
 
 pub container-states : (k : ContainerKind) → ContainerStates k
 container-states kind.BlockQuote = record {
   tried = refl;
-  next = tt;
-  begins = quote_at its.Start (λ x K rest ends. (rest, ends));
+  next = refl;
+  begins = record {
+    own = quote_scheme;
+    starts = fits flow_owner (n.BlockQuote its.Start);
+    level = omega arith;
+    ready = λ x K rest here ends. (rest, ends);
+  };
   begins_is = λ options next cells h. refl;
-  goes_on = quote_at its.ContStart (λ x K rest ends. (rest, ends));
+  goes_on = record {
+    own = quote_scheme;
+    starts = fits flow_owner (n.BlockQuote its.ContStart);
+    level = omega arith;
+    ready = λ x K rest here ends. (rest, ends);
+  };
   goes_on_is = λ options next cells h. refl;
 }
-  where
-    quote_at : (state : QuoteState) →
-        ((x : Spot) (K : After) → IsRest x.scratch → EndsLater IsRest IsRest x K →
-        quote_scheme.ready (n.BlockQuote state) x K) →
-        ContainerFits flow_table_scheme (n.BlockQuote state)
-    quote_at state ready =
-        record { own = quote_scheme; starts = fits flow_owner (n.BlockQuote state); level = omega arith; ready = ready }
+container-states kind.ListItem = record {
+  tried = refl;
+  next = tt;
+  begins = record {
+    own = item_scheme;
+    starts = fits flow_owner (n.ListItem item.Start);
+    level = omega arith;
+    ready = λ x K rest here ends. (rest, ends);
+  };
+  begins_is = λ options next cells h. refl;
+  goes_on = record {
+    own = item_scheme;
+    starts = fits flow_owner (n.ListItem item.ContStart);
+    level = omega arith;
+    ready = λ x K rest here ends. ((rest, ends), here);
+  };
+  goes_on_is = λ options next cells h. refl;
+}
 
 -- Of the containers of the line definition the first of these opens, where the others are off.
 
@@ -213,11 +235,6 @@ abbrev pub found_by : ParseOptions → Bool → Rest → List ContainerKind → 
 found_by options interrupting r [] = None
 found_by options interrupting r (k ∷ ks) =
     option_or ((container_rules k).found options interrupting r) (found_by options interrupting r ks)
-
-item-off : (options : ParseOptions) (interrupting : Bool) (r : Rest) → options.constructs.list_item ≡ false →
-    opens_item options interrupting r ≡ None
-unfolding opens_item
-item-off options interrupting r off = rw off refl
 
 footnote-off : (options : ParseOptions) (r : Rest) → options.constructs.gfm_footnote_definition ≡ false →
     opens_footnote options r ≡ None
@@ -227,15 +244,16 @@ footnote-off options r off = rw off refl
 pub opens-found : (options : ParseOptions) (interrupting : Bool) (r : Rest) → IsBuilt options →
     opens options interrupting r ≡ found_by options interrupting r openers
 opens-found options interrupting r built =
-    ap (λ (o : Option Taken). option_or (opens_quote options r) (option_or o (opens_footnote options r)))
-    (item-off options interrupting r built.list_item)
-    ∙ ap (λ (o : Option Taken). option_or (opens_quote options r) o)
+    ap (λ (o : Option Taken). option_or (opens_quote options r) (option_or (opens_item options interrupting r) o))
     (footnote-off options r built.gfm_footnote_definition)
 
 -- States.
 
 pub white_fits : WhiteFits flow_table_scheme
 white_fits = record { each = λ state. fits flow_owner (n.SpaceOrTab state) }
+
+pub blank_fits : BlankFits flow_table_scheme
+blank_fits = record { white = white_fits; each = λ state. fits flow_owner (n.BlankLine state) }
 
 break_fits : BreakFits flow_table_scheme
 break_fits = record { white = white_fits; each = λ state. fits flow_owner (n.ThematicBreak state) }
@@ -245,6 +263,14 @@ heading_fits = record { white = white_fits; each = λ state. fits flow_owner (n.
 
 quote_fits : QuoteFits flow_table_scheme
 quote_fits = record { white = white_fits; each = λ state. fits flow_owner (n.BlockQuote state) }
+
+item_fits : ItemFits flow_table_scheme
+item_fits = record {
+  white = white_fits;
+  blank = blank_fits;
+  breaks = break_fits;
+  each = λ state. fits flow_owner (n.ListItem state);
+}
 
 pub white_has : (options : ParseOptions) (next : Rule) → HasWhite (flow_behaves_by options next)
 white_has options next = record { each = λ _ _ _. refl }
@@ -256,6 +282,7 @@ pub construct-does : (is_name : ResolveName → ResolveName → Bool) (name : St
 construct-does is_name (n.BlockQuote state) w c at = quote_does flow_table_scheme state w quote_fits c at
 construct-does is_name (n.HeadingAtx state) w c at =
     heading_does flow_table_scheme (is_name r.HeadingAtx) state w heading_fits c at
+construct-does is_name (n.ListItem state) w c at = item_does flow_table_scheme state w item_fits c at
 construct-does is_name (n.ThematicBreak state) w c at = break_does flow_table_scheme state w break_fits c at
 construct-does is_name name w c at = absurd at
 
@@ -270,6 +297,14 @@ construct-steps is_name feed next (n.BlockQuote state) w s at =
 construct-steps is_name feed next (n.HeadingAtx state) w s at =
     heading_steps _ feed (is_name r.HeadingAtx) state w _
     (record { white = white_has w.setting.options next; each = λ _ _ _. refl }) s at
+construct-steps is_name feed next (n.ListItem state) w s at =
+    item_steps _ feed state w _
+    (record {
+      white = white_has w.setting.options next;
+      blank = record { white = white_has w.setting.options next; each = λ _ _ _. refl };
+      breaks = record { white = white_has w.setting.options next; each = λ _ _ _. refl };
+      each = λ _ _ _. refl;
+    }) s at
 construct-steps is_name feed next (n.ThematicBreak state) w s at =
     break_steps _ feed state w _ (record { white = white_has w.setting.options next; each = λ _ _ _. refl }) s at
 construct-steps is_name feed next name w s at = absurd at
@@ -279,5 +314,6 @@ pub construct-registers : (name : StateName) (w : World) → Registers w →
     Registers (construct_transition same_name name w).world
 construct-registers (n.BlockQuote state) w h = quote-registers state w h
 construct-registers (n.HeadingAtx state) w h = heading-registers state w h
+construct-registers (n.ListItem state) w h = item-registers state w h
 construct-registers (n.ThematicBreak state) w h = break-registers state w h
 construct-registers _ w h = h

@@ -18,18 +18,18 @@ use Rattle.md_definition.specs.Preamble.{rest_at}
 use Rattle.md_definition.specs.Rest.{Rest}
 use Rattle.md_definition.specs.State.{Container, container_block}
 use Rattle.md_definition.specs.Tree.{Blocks}
+use Rattle.md_outline.specs.HeadingDepths.{are_shallow, is_shallow}
 use Rattle.md_seam.proofs.RestCells.{past_rest, rest_cells}
 use Rattle.markdown_blocks.specs.Parsed.{IsBuilt}
 use Rattle.markdown_blocks.specs.Passed.{Passed, passed_by, passed_over}
 use Rattle.markdown_blocks.specs.Registry.{IsOf, MatchesContainer, begins_at, container_name, container_rules}
-use Rattle.markdown_blocks.specs.Registry.{continues_at, goes_at, goes_by, goes_over, kind_of, openers, opens_at, opens_by, shape_of}
+use Rattle.markdown_blocks.specs.Registry.{continues_at, goes_at, goes_by, goes_over, container_kind, openers, opens_at, opens_by}
 use Rattle.markdown_blocks.proofs.ContainerLaws.{ByRest, IsPassed}
 use Rattle.markdown_blocks.proofs.ContainerNames.{container-facts}
 use Rattle.markdown_blocks.proofs.PassedFacts.{Agree, HasFurther, HasOpening}
 use Rattle.markdown_blocks.proofs.PrefixNames.{AreFront}
-use Rattle.markdown_blocks.proofs.Registry.{container-laws, container-unlisted, found_by, opens-found}
+use Rattle.markdown_blocks.proofs.Registry.{container-laws, found_by, opens-found}
 use Rattle.markdown_blocks.proofs.RegistryRead.{HasKind, IsRead, IsReadTaken, of-read}
-use Rattle.markdown_blocks.proofs.SimpleBlocks.{AreSimple, IsSimple, grouped-blocks, shallow-blocks}
 
 -- At the states of flow.
 
@@ -76,9 +76,9 @@ goes-same options k c cells p t is e =
 -- takes a cell at least, and adds events with names of prefixes and of containers
 goes-passes : (options : ParseOptions) (c : Container) (cells : List Cell) (p : Point) (t : Passed) →
     goes_at options c cells p ≡ Some t → (k : ContainerKind) × IsPassed k cells t
-goes-passes options c cells p t e = go (kind_of (shape_of c)) refl e
+goes-passes options c cells p t e = go (container_kind c) refl e
   where
-    go : (o : Option ContainerKind) → kind_of (shape_of c) ≡ o → goes_by options c cells p o ≡ Some t →
+    go : (o : Option ContainerKind) → container_kind c ≡ o → goes_by options c cells p o ≡ Some t →
         (k : ContainerKind) × IsPassed k cells t
     go None is e = cc
     go (Some k) is e = (k, (container-laws k).went options c cells p t is e)
@@ -173,12 +173,12 @@ opens-front options interrupting cells p t e = (opens-of options interrupting ce
 pub goes-agrees : (options : ParseOptions) (c : Container) → IsRead c → ByRest (λ line text past r stop p.
     let cells = rest_cells line r p ++ stop in
     Agree (HasFurther line text past p (past_rest r p) stop cells) (goes_at options c cells p) (continues options c r))
-goes-agrees options c read line text past r stop p is h k short = go (kind_of (shape_of c)) refl read
+goes-agrees options c read line text past r stop p is h k short = go (container_kind c) refl read
   where
     cells : List Cell
     cells = rest_cells line r p ++ stop
 
-    go : (o : Option ContainerKind) → kind_of (shape_of c) ≡ o → HasKind o →
+    go : (o : Option ContainerKind) → container_kind c ≡ o → HasKind o →
         Agree (HasFurther line text past p (past_rest r p) stop cells) (goes_by options c cells p o)
         (continues options c r)
     go None e read = absurd read
@@ -237,9 +237,9 @@ opens-read options interrupting r built =
 pub over-empty : (options : ParseOptions) (c : Container) (column : ℕ) → IsRead c →
     (x : Bool)
     × (continues options c (rest_at column []) ≡ cond x (Some (record { container = c; rest = rest_at column [] })) None)
-over-empty options c column h = go (kind_of (shape_of c)) refl h
+over-empty options c column h = go (container_kind c) refl h
   where
-    go : (o : Option ContainerKind) → kind_of (shape_of c) ≡ o → HasKind o →
+    go : (o : Option ContainerKind) → container_kind c ≡ o → HasKind o →
         (x : Bool)
         × (continues options c (rest_at column []) ≡
         cond x (Some (record { container = c; rest = rest_at column [] })) None)
@@ -248,16 +248,11 @@ over-empty options c column h = go (kind_of (shape_of c)) refl h
         let held = (container-laws k).may_hold c e in
         ((container_rules k).over_empty held.0, (container-laws k).over_empty options held.0 c column e held.1)
 
--- the block of one, with simple blocks in it, is simple
-pub read-simple : (c : Container) (bs : Blocks) → IsRead c → AreSimple bs → IsSimple (container_block c bs)
-read-simple c bs h simple = go (kind_of (shape_of c)) refl h
+-- an outline can show the block of one with such blocks in it
+pub read-shallow : (c : Container) (bs : Blocks) → IsRead c → are_shallow bs ≡ true →
+    is_shallow (container_block c bs) ≡ true
+read-shallow c bs h shallow = go (container_kind c) refl h
   where
-    go : (o : Option ContainerKind) → kind_of (shape_of c) ≡ o → HasKind o → IsSimple (container_block c bs)
+    go : (o : Option ContainerKind) → container_kind c ≡ o → HasKind o → is_shallow (container_block c bs) ≡ true
     go None e h = absurd h
-    go (Some k) e h =
-        let unlisted = container-unlisted k c bs e (grouped-blocks bs simple) in
-        record {
-          shallow = (container-laws k).shallow c bs e (shallow-blocks bs simple);
-          grouped_same = unlisted.grouped_same;
-          in_front = unlisted.in_front;
-        }
+    go (Some k) e h = (container-laws k).shallow c bs e shallow

@@ -2,10 +2,9 @@
 use Rattle.std.proofs.Common.{◌≡◌, ℕ, zero, suc, List, [], ◌∷◌, ◌++◌, drop, map, sym, subst}
 use Rattle.std.specs.Prelude.{Option, Some, None}
 use Rattle.md_engine.specs.declared.tokenizer.container.name.ContainerKind.{ContainerKind}
-use Rattle.md_seam.specs.Events.Spelled.{Shape}
 use Rattle.md_definition.specs.Containers.{Taken}
 use Rattle.md_definition.specs.State.{Container}
-use Rattle.markdown_blocks.specs.Registry.{IsOf, kind_of, shape_of}
+use Rattle.markdown_blocks.specs.Registry.{IsOf, container_kind}
 
 -- one of them has a kind
 abbrev pub HasKind : Option ContainerKind → Type 0
@@ -13,7 +12,7 @@ HasKind None = ⊥
 HasKind (Some k) = Unit {0}
 
 abbrev pub IsRead : Container → Type 0
-IsRead c = HasKind (kind_of (shape_of c))
+IsRead c = HasKind (container_kind c)
 
 pub of-read : (k : ContainerKind) (c : Container) → IsOf k c → IsRead c
 of-read k c is = subst HasKind (sym is) tt
@@ -39,15 +38,14 @@ pub read-front : (cs ds : List Container) → AreRead (cs ++ ds) → AreRead cs
 read-front [] ds h = tt
 read-front (c ∷ cs) ds h = (h.0, read-front cs ds h.1)
 
--- containers of the same shapes, for the events tell which they are
-pub shapes-read : (cs ds : List Container) → map shape_of cs ≡ map shape_of ds → AreRead ds → AreRead cs
-shapes-read [] ds e h = tt
-shapes-read (c ∷ cs) [] e h = cc
-shapes-read (c ∷ cs) (d ∷ ds) e h =
-    let first : shape_of c ≡ shape_of d = cc in
-    let rest : map shape_of cs ≡ map shape_of ds = cc in
-    let P : Shape → Type 0 = λ s. HasKind (kind_of s) in
-    (subst P (sym first) h.0, shapes-read cs ds rest h.1)
+-- containers of the same kinds
+pub kinds-read : (cs ds : List Container) → map container_kind cs ≡ map container_kind ds → AreRead ds → AreRead cs
+kinds-read [] ds e h = tt
+kinds-read (c ∷ cs) [] e h = cc
+kinds-read (c ∷ cs) (d ∷ ds) e h =
+    let first : container_kind c ≡ container_kind d = cc in
+    let rest : map container_kind cs ≡ map container_kind ds = cc in
+    (subst HasKind (sym first) h.0, kinds-read cs ds rest h.1)
 
 -- what a container takes of a line, if it does, is of one of them
 abbrev pub IsReadTaken : Option Taken → Type 0

@@ -40,7 +40,7 @@ use Rattle.markdown_blocks.proofs.PrefixNames.{prefixes-roles}
 -- Roles.
 
 -- what stands in front of a line that goes on is quiet but for prefixes
-fronts-between : (bytes : List ℕ) (opens : List Container) (p q : Point) (es : List Event) →
+pub fronts-between : (bytes : List ℕ) (opens : List Container) (p q : Point) (es : List Event) →
     LinePrefix bytes opens p q es → opens ≡ [] → Roles Between es
 fronts-between bytes opens p q es (Behind r) none = tt
 fronts-between bytes opens p q es (Goes many a b d xs ys further more) none =

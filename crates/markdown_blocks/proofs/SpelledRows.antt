@@ -5,7 +5,7 @@ use Rattle.md_engine.specs.declared.tokenizer.held_leaf.HeldLeaf.{HeldLeaf}
 use Rattle.std.proofs.Common.{◌≡◌, ◌≢◌, ℕ, zero, suc, ◌+◌, ◌-◌, Bool, true, false, cond, ◌&&◌, List, [], ◌∷◌, ◌++◌}
 use Rattle.std.proofs.Common.{length, map, take, refl, ap, ap₂, sym, ◌∙◌, subst, append_assoc, take_all, inl, inr, ◌⊎◌}
 use Rattle.std.proofs.Common.{arith}
-use Rattle.std.specs.Prelude.{Option, Some, None}
+use Rattle.std.specs.Prelude.{None}
 use Rattle.md_engine.specs.declared.configuration.ParseOptions.{ParseOptions}
 use Rattle.md_engine.specs.declared.event.Event.{Event}
 use Rattle.md_engine.specs.declared.event.Name.{Name}
@@ -19,7 +19,7 @@ use Rattle.md_definition.specs.State.{At, Container, Kept, Leaf, NoLeaf, Path, S
 use Rattle.md_definition.specs.State.{texts, then_block, then_leaf}
 use Rattle.md_definition.specs.Step.{spot_of, step, steps}
 use Rattle.md_definition.specs.Tree.{Block, Blocks, End}
-use Rattle.md_seam.proofs.SpelledLemmas.{Between, QuietOrPrefix, Roles, read-between, read-from, read-prefixes}
+use Rattle.md_seam.proofs.SpelledLemmas.{Between, QuietOrPrefix, read-between, read-from, read-prefixes}
 use Rattle.markdown_blocks.specs.Registry.{container_name, shape_of, text_leaf}
 use Rattle.markdown_blocks.specs.Change.{Change, ends_of, is_none}
 use Rattle.markdown_blocks.specs.Fed.{last_leaves, close_containers, rests_from}
@@ -39,6 +39,7 @@ use Rattle.markdown_blocks.specs.Leaf.Paragraph.{held_of}
 use Rattle.markdown_blocks.proofs.Registry.{text-laws}
 use Rattle.markdown_blocks.proofs.RowFacts as f
 use Rattle.markdown_blocks.proofs.LeafFacts.{shown}
+use Rattle.markdown_blocks.proofs.LeafStands.{ending-roles}
 use Rattle.markdown_blocks.proofs.RowLeaf.{block_of, row-facts}
 use Rattle.markdown_blocks.proofs.SpelledParagraphs.{IsRead, read-lines, read-more, read-one}
 use Rattle.markdown_blocks.proofs.PrefixFacts.{begins}
@@ -264,13 +265,6 @@ read-ends bytes (c ∷ cs) p r =
     read-from bytes r inner (ends_of cs p) (exit (container_name c) p ∷ []) (read-ends bytes cs p r)
     ∙ (container-facts c).read_end bytes p inner ∙ sym (close_containers-one (length cs) r)
 
-ending-between : (name : Name) (row : Row) → Between (role name) → Roles Between (ending_events name row)
-ending-between name row h = go row.after
-  where
-    go : (after : Option Point) → Roles Between (ending_events name (record row { after = after }))
-    go None = tt
-    go (Some q) = (h, (h, tt))
-
 read-tail : (bytes : List ℕ) (name : Name) (row : Row) (r : Reading) → Between (role name) → r.text ≡ None →
     r.leaf ≡ None → read bytes r (tail_events name row) ≡ close_containers (length row.leaves) r
 read-tail bytes name row r h t l =
@@ -278,7 +272,8 @@ read-tail bytes name row r h t l =
     let next = close_containers-between size r t l in
     read-from bytes r (close_containers size r) (ends_of row.leaves row.end) (ending_events name row)
     (read-ends bytes row.leaves row.end r)
-    ∙ read-between bytes (close_containers size r) (ending_events name row) next.0 next.1 (ending-between name row h)
+    ∙ read-between bytes (close_containers size r) (ending_events name row) next.0 next.1
+    (ending-roles Between name row h)
 
 -- what stands in front of a line is not read, but for the containers that begin there
 read-fronts : (bytes : List ℕ) (opens : List Container) (p q : Point) (es : List Event) (r : Reading) →

@@ -1,5 +1,5 @@
 -- Each state of flow keeps what its table needs.
-use Rattle.std.proofs.Common.{◌≡◌, Bool, Option, Some, None, refl, sym, subst}
+use Rattle.std.proofs.Common.{◌≡◌, Bool, Option, Some, None, refl, ap, sym, subst}
 use Rattle.md_engine.specs.declared.resolve.name.Name.{Name as ResolveName}
 use Rattle.md_engine.specs.declared.resolve.name.Name.TheVariants as r
 use Rattle.md_engine.specs.declared.state.Name.{Name as StateName}
@@ -16,7 +16,8 @@ use Rattle.md_engine.specs.Scheme.{after_all, spot, stands}
 use Rattle.md_engine.specs.World.{World, looks}
 use Rattle.md_engine.proofs.Local.{fits}
 use Rattle.md_content.proofs.Goods.{ChunkFits, chunk_does}
-use Rattle.md_leaves.proofs.BlankGoods.{BlankFits, blank_does}
+use Rattle.md_leaves.proofs.BlankGoods.{blank_does}
+use Rattle.md_seam.specs.Spaces.{ends_line}
 use Rattle.md_seam.proofs.SpacesGoods.{Does, white_does}
 use Rattle.markdown_blocks.specs.Document.{document_own_transition}
 use Rattle.markdown_blocks.specs.Flow.{before_transition, flow_own_transition, leaf_transition, new_before_transition}
@@ -27,10 +28,8 @@ use Rattle.markdown_blocks.proofs.Goods as goods
 use Rattle.markdown_blocks.proofs.Goods.{FlowFits}
 use Rattle.markdown_blocks.proofs.Openers.{opener-fits}
 use Rattle.markdown_blocks.proofs.Trials.{leaf-fits}
-use Rattle.markdown_blocks.proofs.Registry.{construct-does, container-states, opener-before, tried-before, white_fits}
-
-blank_fits : BlankFits flow_table_scheme
-blank_fits = record { white = white_fits; each = λ state. fits flow_owner (n.BlankLine state) }
+use Rattle.markdown_blocks.proofs.Registry.{blank_fits, construct-does, container-states, opener-before, tried-before}
+use Rattle.markdown_blocks.proofs.Registry.{white_fits}
 
 chunk_fits : ChunkFits flow_table_scheme
 chunk_fits = record { each = λ state. fits flow_owner (n.Content state) }
@@ -66,6 +65,7 @@ containers_do : (state : DocumentState) (w : World) → w.current ≡ looks w �
     Does flow_table_scheme (n.Document state) w (document_own_transition state w)
 containers_do document.ContainerExistingBefore w c at =
     goods.good_existing_before flow_table_scheme w _ _ flow_fits (λ k. (container-states k).goes_on) at
+    (ap ends_line (sym c))
 containers_do document.ContainerExistingAfter w c at = goods.good_existing_after flow_table_scheme w flow_fits at
 containers_do document.ContainerNewAfter w c at = goods.good_new_after flow_table_scheme w flow_fits at
 containers_do document.ContainersAfter w c at = goods.good_containers_after flow_table_scheme w flow_fits at

@@ -1,24 +1,24 @@
 -- The laws of a leaf of lines of text: what the frame asks of it (`TextLeaf`), beside what is known of its events
 -- (`text-facts`).
-use Rattle.std.proofs.Common.{◌≡◌, ℕ, false, List, ◌∷◌}
+use Rattle.std.proofs.Common.{◌≡◌, ℕ, true, false, List, ◌∷◌}
 use Rattle.md_engine.specs.declared.configuration.ParseOptions.{ParseOptions}
 use Rattle.md_content.specs.ContentReads.{content_events}
 use Rattle.md_seam.specs.declared.inline.Chunk.{Chunk}
 use Rattle.md_definition.specs.State.{Kept, Leaf, NoLeaf, texts, then_leaf}
 use Rattle.md_definition.specs.Tree.{Blocks}
+use Rattle.md_outline.specs.HeadingDepths.{are_shallow}
 use Rattle.markdown_blocks.specs.HeldLeaf.{IsBuiltLeaf}
 use Rattle.markdown_blocks.specs.TextLeaf.{TextLeaf}
 use Rattle.markdown_blocks.proofs.OutsideFacts.{AreOutside}
-use Rattle.markdown_blocks.proofs.SimpleBlocks.{AreSimple}
 
 pub record TextLaws (t : TextLeaf) : Type 1 where
   -- What may be open is nothing, or lines of it.
   pub cases : (P : Leaf → Type 0) → P NoLeaf → ((k : Kept) (ks : List Kept) → P (t.held (k ∷ ks))) →
       (leaf : Leaf) → IsBuiltLeaf leaf → P leaf
-  -- Where definitions are off, it is shut as a block of its lines, which is simple.
+  -- Where definitions are off, it is shut as a block of its lines, which an outline can show.
   pub shut : (options : ParseOptions) (bs : Blocks) (ks : List Kept) → options.constructs.definition ≡ false →
       then_leaf options bs (t.held ks) ≡ t.behind bs (texts ks)
-  pub simple : (bs : Blocks) (lines : List (List ℕ)) → AreSimple bs → AreSimple (t.behind bs lines)
+  pub shallow : (bs : Blocks) (lines : List (List ℕ)) → are_shallow bs ≡ true → are_shallow (t.behind bs lines) ≡ true
   -- No part begins in what is read of it that a resolver behind that of content rewrites.
   pub outside : (bytes : List ℕ) (options : ParseOptions) (chunks : List Chunk) →
       AreOutside (content_events bytes options chunks)

@@ -1,4 +1,5 @@
--- The tree of a text where only constructs that are built may be on is what the events of its lines are read as.
+-- The tree of a text where only constructs that are built may be on is what the events of its lines are read as, with
+-- lists around their items.
 use Rattle.md_engine.specs.declared.tokenizer.held_leaf.HeldLeaf.TheVariants as held_leaf
 use Rattle.md_engine.specs.declared.tokenizer.held_leaf.HeldLeaf.{HeldLeaf}
 use Rattle.std.proofs.Common.{◌≡◌, ℕ, zero, suc, ◌-◌, Bool, true, false, cond, not, ◌==◌, ◌&&◌, ◌||◌, List, [], ◌∷◌}
@@ -35,7 +36,7 @@ use Rattle.markdown_blocks.specs.Rows.{BlankRow, LeafRow, Row, RowKind, TextRow,
 use Rattle.markdown_blocks.specs.Rows.{line_kind}
 use Rattle.markdown_blocks.specs.HeldLeaf.{IsBuiltLeaf}
 use Rattle.markdown_blocks.specs.Stands.{IsPlain, containers_of, still_of}
-use Rattle.markdown_blocks.proofs.ContainedLemmas.{contained-shapes}
+use Rattle.markdown_blocks.proofs.ContainedLemmas.{contained-kinds}
 use Rattle.markdown_blocks.proofs.KindLemmas.{kind-starts}
 use Rattle.markdown_blocks.proofs.LineSteps.{behind_path, contained_at, fresh-found, goes_lazy, kept_to, longer}
 use Rattle.markdown_blocks.proofs.LineSteps.{new_line, new_path, plain-step, renewed, spot_by, step-contained, step-new}
@@ -43,10 +44,10 @@ use Rattle.markdown_blocks.proofs.LineSteps.{stepped_on}
 use Rattle.markdown_blocks.proofs.MarkLemmas.{without-mark}
 use Rattle.markdown_blocks.proofs.RowFacts as f
 use Rattle.markdown_blocks.proofs.SpelledRows.{spelled-rows}
-use Rattle.markdown_blocks.proofs.Registry.{leaf-simple, text-laws}
-use Rattle.markdown_blocks.proofs.SimpleBlocks.{AreSimple, grouped-blocks, shallow-blocks, simple-then}
-use Rattle.markdown_blocks.proofs.RegistryRead.{AreRead, IsRead, IsReadTaken, read-front, shapes-read}
-use Rattle.markdown_blocks.proofs.RegistryContainers.{opens-read, over-empty, read-simple}
+use Rattle.markdown_blocks.proofs.Registry.{leaf-shallow, text-laws}
+use Rattle.markdown_blocks.proofs.ShallowBlocks.{shallow-then}
+use Rattle.markdown_blocks.proofs.RegistryRead.{AreRead, IsRead, IsReadTaken, kinds-read, read-front}
+use Rattle.markdown_blocks.proofs.RegistryContainers.{opens-read, over-empty, read-shallow}
 use Rattle.md_outline.specs.HeadingDepths.{are_shallow}
 
 -- Containers that flow reads alone are open: those that stay on a line,
@@ -55,8 +56,8 @@ read-stay : (options : ParseOptions) (p : Path) (r : Rest) → AreRead (containe
 read-stay options p r h =
     let change = (contained_at options p r).change in
     read-front change.stays change.closes
-    (shapes-read (change.stays ++ change.closes) (containers_of p)
-    (contained-shapes options (containers_of p) (still_of p) r) h)
+    (kinds-read (change.stays ++ change.closes) (containers_of p)
+    (contained-kinds options (containers_of p) (still_of p) r) h)
 
 read-new : (options : ParseOptions) (interrupting : Bool) (n : ℕ) (r : Rest) → IsBuilt options →
     AreRead (prefixes_new options interrupting n r).containers
@@ -93,89 +94,89 @@ read-open options cs still r built = go (is_lazy still new.containers (line_kind
 
 -- Paths.
 
--- of containers that flow reads, and simple blocks in them
-abbrev HoldsSimple : Path → Type 0
-HoldsSimple (At s) = AreSimple s.here
-HoldsSimple (Within before container p) = AreSimple before × IsRead container × HoldsSimple p
+-- of containers that flow reads, and blocks in them that an outline can show
+abbrev HoldsShallow : Path → Type 0
+HoldsShallow (At s) = are_shallow s.here ≡ true
+HoldsShallow (Within before container p) = (are_shallow before ≡ true) × IsRead container × HoldsShallow p
 
-simple-read : (p : Path) → HoldsSimple p → AreRead (containers_of p)
-simple-read (At s) h = tt
-simple-read (Within before container p) h = (h.1, simple-read p h.2)
+shallow-read : (p : Path) → HoldsShallow p → AreRead (containers_of p)
+shallow-read (At s) h = tt
+shallow-read (Within before container p) h = (h.1, shallow-read p h.2)
 
-simple-shut : (options : ParseOptions) (s : Spot) → IsBuilt options → IsBuiltLeaf s.leaf → AreSimple s.here →
-    AreSimple (shut options s)
-simple-shut options s built plain h =
-    text-laws.cases (λ (leaf : Leaf). AreSimple (then_leaf options s.here leaf)) h text s.leaf plain
+shallow-shut : (options : ParseOptions) (s : Spot) → IsBuilt options → IsBuiltLeaf s.leaf → are_shallow s.here ≡ true →
+    are_shallow (shut options s) ≡ true
+shallow-shut options s built plain h =
+    text-laws.cases (λ (leaf : Leaf). are_shallow (then_leaf options s.here leaf) ≡ true) h text s.leaf plain
   where
-    text : (k : Kept) (ks : List Kept) → AreSimple (then_leaf options s.here (text_leaf.held (k ∷ ks)))
+    text : (k : Kept) (ks : List Kept) → are_shallow (then_leaf options s.here (text_leaf.held (k ∷ ks))) ≡ true
     text k ks =
-        subst AreSimple (sym (text-laws.shut options s.here (k ∷ ks) built.definition))
-        (text-laws.simple s.here (texts (k ∷ ks)) h)
+        subst (λ (bs : Blocks). are_shallow bs ≡ true) (sym (text-laws.shut options s.here (k ∷ ks) built.definition))
+        (text-laws.shallow s.here (texts (k ∷ ks)) h)
 
-simple-closed : (options : ParseOptions) (p : Path) → IsBuilt options → IsPlain p → HoldsSimple p →
-    AreSimple (closed options p)
-simple-closed options (At s) built plain h = simple-shut options s built plain h
-simple-closed options (Within before container p) built plain h =
-    let below : AreSimple (closed options p) = simple-closed options p built plain h.2 in
-    simple-then before (container_block container (closed options p)) h.0
-    (read-simple container (closed options p) h.1 below)
+shallow-closed : (options : ParseOptions) (p : Path) → IsBuilt options → IsPlain p → HoldsShallow p →
+    are_shallow (closed options p) ≡ true
+shallow-closed options (At s) built plain h = shallow-shut options s built plain h
+shallow-closed options (Within before container p) built plain h =
+    let below : are_shallow (closed options p) ≡ true = shallow-closed options p built plain h.2 in
+    shallow-then before (container_block container (closed options p)) h.0
+    (read-shallow container (closed options p) h.1 below)
 
-simple-kept : (options : ParseOptions) (cs : List Container) (p : Path) → IsBuilt options → IsPlain p → AreRead cs →
-    HoldsSimple p → HoldsSimple (kept_to options cs p)
-simple-kept options [] p built plain read h = simple-closed options p built plain h
-simple-kept options (c ∷ cs) (At s) built plain read h = simple-shut options s built plain h
-simple-kept options (c ∷ cs) (Within before container p) built plain read h =
-    (h.0, read.0, simple-kept options cs p built plain read.1 h.2)
+shallow-kept : (options : ParseOptions) (cs : List Container) (p : Path) → IsBuilt options → IsPlain p → AreRead cs →
+    HoldsShallow p → HoldsShallow (kept_to options cs p)
+shallow-kept options [] p built plain read h = shallow-closed options p built plain h
+shallow-kept options (c ∷ cs) (At s) built plain read h = shallow-shut options s built plain h
+shallow-kept options (c ∷ cs) (Within before container p) built plain read h =
+    (h.0, read.0, shallow-kept options cs p built plain read.1 h.2)
 
-simple-renewed : (cs : List Container) (p : Path) → AreRead cs → HoldsSimple p → HoldsSimple (renewed cs p)
-simple-renewed [] p read h = h
-simple-renewed (c ∷ cs) (At s) read h = h
-simple-renewed (c ∷ cs) (Within before container p) read h = (h.0, read.0, simple-renewed cs p read.1 h.2)
+shallow-renewed : (cs : List Container) (p : Path) → AreRead cs → HoldsShallow p → HoldsShallow (renewed cs p)
+shallow-renewed [] p read h = h
+shallow-renewed (c ∷ cs) (At s) read h = h
+shallow-renewed (c ∷ cs) (Within before container p) read h = (h.0, read.0, shallow-renewed cs p read.1 h.2)
 
-simple-longer : (p : Path) (lines : List Kept) → HoldsSimple p → HoldsSimple (longer p lines)
-simple-longer (At s) lines h = h
-simple-longer (Within before container p) lines h = (h.0, h.1, simple-longer p lines h.2)
+shallow-longer : (p : Path) (lines : List Kept) → HoldsShallow p → HoldsShallow (longer p lines)
+shallow-longer (At s) lines h = h
+shallow-longer (Within before container p) lines h = (h.0, h.1, shallow-longer p lines h.2)
 
-simple-behind : (p : Path) (f : Blocks → Path) → HoldsSimple p → ((bs : Blocks) → AreSimple bs → HoldsSimple (f bs)) →
-    HoldsSimple (behind_path p f)
-simple-behind (At s) f h each = each s.here h
-simple-behind (Within before container p) f h each = (h.0, h.1, simple-behind p f h.2 each)
+shallow-behind : (p : Path) (f : Blocks → Path) → HoldsShallow p → ((bs : Blocks) → are_shallow bs ≡ true → HoldsShallow (f bs)) →
+    HoldsShallow (behind_path p f)
+shallow-behind (At s) f h each = each s.here h
+shallow-behind (Within before container p) f h each = (h.0, h.1, shallow-behind p f h.2 each)
 
-simple-fresh : (options : ParseOptions) (bs : Blocks) (r : Rest) → IsBuilt options → AreSimple bs →
-    AreSimple (fresh_line options bs r).here
-simple-fresh options bs r built h =
-    subst (λ (s : Spot). AreSimple s.here) (sym (fresh-found options bs r built)) (go (line_kind options r) refl)
+shallow-fresh : (options : ParseOptions) (bs : Blocks) (r : Rest) → IsBuilt options → are_shallow bs ≡ true →
+    are_shallow (fresh_line options bs r).here ≡ true
+shallow-fresh options bs r built h =
+    subst (λ (s : Spot). are_shallow s.here ≡ true) (sym (fresh-found options bs r built)) (go (line_kind options r) refl)
   where
-    go : (kind : RowKind) → line_kind options r ≡ kind → AreSimple (spot_by bs [] r kind).here
+    go : (kind : RowKind) → line_kind options r ≡ kind → are_shallow (spot_by bs [] r kind).here ≡ true
     go BlankRow e = h
-    go (LeafRow l) e = simple-then bs ((leaf l).block r) h (leaf-simple l options r (kind-starts options r l e))
+    go (LeafRow l) e = shallow-then bs ((leaf l).block r) h (leaf-shallow l options r (kind-starts options r l e))
     go TextRow e = h
 
-simple-new_line : (options : ParseOptions) (cs : List Container) (r : Rest) (bs : Blocks) → IsBuilt options →
-    AreRead cs → AreSimple bs → HoldsSimple (new_line options cs r bs)
-simple-new_line options [] r bs built read h = simple-fresh options bs r built h
-simple-new_line options (c ∷ cs) r bs built read h = (h, read.0, simple-new_line options cs r End built read.1 tt)
+shallow-new_line : (options : ParseOptions) (cs : List Container) (r : Rest) (bs : Blocks) → IsBuilt options →
+    AreRead cs → are_shallow bs ≡ true → HoldsShallow (new_line options cs r bs)
+shallow-new_line options [] r bs built read h = shallow-fresh options bs r built h
+shallow-new_line options (c ∷ cs) r bs built read h = (h, read.0, shallow-new_line options cs r End built read.1 refl)
 
-simple-step : (options : ParseOptions) (p : Path) (r : Rest) → IsBuilt options → IsPlain p → HoldsSimple p →
-    HoldsSimple (step options p r)
-simple-step options p r built plain h =
-    subst HoldsSimple (sym (step-contained options p r built plain)) (go (goes_lazy options p c))
+shallow-step : (options : ParseOptions) (p : Path) (r : Rest) → IsBuilt options → IsPlain p → HoldsShallow p →
+    HoldsShallow (step options p r)
+shallow-step options p r built plain h =
+    subst HoldsShallow (sym (step-contained options p r built plain)) (go (goes_lazy options p c))
   where
     c : Contained
     c = contained_at options p r
 
     stay : AreRead c.change.stays
-    stay = read-stay options p r (simple-read p h)
+    stay = read-stay options p r (shallow-read p h)
 
     open_new : AreRead c.change.opens
     open_new = read-open options (containers_of p) (still_of p) r built
 
-    go : (x : Bool) → HoldsSimple (cond x (longer (renewed c.change.stays p) (kept c.rest ∷ [])) (new_path options p c))
-    go true = simple-longer (renewed c.change.stays p) (kept c.rest ∷ []) (simple-renewed c.change.stays p stay h)
+    go : (x : Bool) → HoldsShallow (cond x (longer (renewed c.change.stays p) (kept c.rest ∷ [])) (new_path options p c))
+    go true = shallow-longer (renewed c.change.stays p) (kept c.rest ∷ []) (shallow-renewed c.change.stays p stay h)
     go false =
-        simple-behind (kept_to options c.change.stays p) (new_line options c.change.opens c.rest)
-        (simple-kept options c.change.stays p built plain stay h)
-        (λ bs k. simple-new_line options c.change.opens c.rest bs built open_new k)
+        shallow-behind (kept_to options c.change.stays p) (new_line options c.change.opens c.rest)
+        (shallow-kept options c.change.stays p built plain stay h)
+        (λ bs k. shallow-new_line options c.change.opens c.rest bs built open_new k)
 
 plain-steps : (options : ParseOptions) (p : Path) (rs : List Rest) → IsBuilt options → IsPlain p →
     IsPlain (steps options p rs)
@@ -183,21 +184,21 @@ plain-steps options p [] built plain = plain
 plain-steps options p (r ∷ rs) built plain =
     plain-steps options (step options p r) rs built (plain-step options p r built plain)
 
-simple-steps : (options : ParseOptions) (p : Path) (rs : List Rest) → IsBuilt options → IsPlain p → HoldsSimple p →
-    HoldsSimple (steps options p rs)
-simple-steps options p [] built plain h = h
-simple-steps options p (r ∷ rs) built plain h =
-    simple-steps options (step options p r) rs built (plain-step options p r built plain)
-    (simple-step options p r built plain h)
+shallow-steps : (options : ParseOptions) (p : Path) (rs : List Rest) → IsBuilt options → IsPlain p → HoldsShallow p →
+    HoldsShallow (steps options p rs)
+shallow-steps options p [] built plain h = h
+shallow-steps options p (r ∷ rs) built plain h =
+    shallow-steps options (step options p r) rs built (plain-step options p r built plain)
+    (shallow-step options p r built plain h)
 
 -- what the lines of a text come to
 abbrev come : ParseOptions → List Rest → Blocks
 come options rs = closed options (steps options (At (spot_of End)) rs)
 
-simple-come : (options : ParseOptions) (rs : List Rest) → IsBuilt options → AreSimple (come options rs)
-simple-come options rs built =
-    simple-closed options (steps options (At (spot_of End)) rs) built
-    (plain-steps options (At (spot_of End)) rs built tt) (simple-steps options (At (spot_of End)) rs built tt tt)
+shallow-come : (options : ParseOptions) (rs : List Rest) → IsBuilt options → are_shallow (come options rs) ≡ true
+shallow-come options rs built =
+    shallow-closed options (steps options (At (spot_of End)) rs) built
+    (plain-steps options (At (spot_of End)) rs built tt) (shallow-steps options (At (spot_of End)) rs built tt refl)
 
 -- An empty line at the end adds nothing.
 
@@ -281,11 +282,11 @@ come-empty options column (line ∷ lines) built =
     let first : Path = step options (At (spot_of End)) (rest_at column line) in
     let rs : List Rest = map (rest_at 0) lines in
     let plain : IsPlain first = plain-step options (At (spot_of End)) (rest_at column line) built tt in
-    let simple : HoldsSimple first = simple-step options (At (spot_of End)) (rest_at column line) built tt tt in
+    let shallow : HoldsShallow first = shallow-step options (At (spot_of End)) (rest_at column line) built tt refl in
     ap (λ (l : List Rest). closed options (steps options first l)) (map-append (rest_at 0) lines ([] ∷ []))
     ∙ ap (closed options) (steps-append options first rs (rest_at 0 [] ∷ []))
     ∙ step-empty options (steps options first rs) 0 built (plain-steps options first rs built plain)
-    (simple-read (steps options first rs) (simple-steps options first rs built plain simple))
+    (shallow-read (steps options first rs) (shallow-steps options first rs built plain shallow))
 
 -- these lines, or these and an empty one
 abbrev IsOrEmpty : List (List ℕ) → List (List ℕ) → Type 0
@@ -366,23 +367,21 @@ preamble-off : (options : ParseOptions) (text : List ℕ) → options.constructs
 preamble-off options text off =
     let lines = lines_of (without_mark text) in ap (preamble_by (first_column text) lines) (front-off options lines off)
 
--- what the lines of a text come to, behind a byte order mark
-abbrev body_of : ParseOptions → List ℕ → Blocks
+-- what the lines of a text come to, behind a byte order mark; its tree has lists around their items
+abbrev pub body_of : ParseOptions → List ℕ → Blocks
 body_of options bytes = come options (rests_at (first_column bytes) (lines_of (without_mark bytes)))
 
-tree-body : (options : ParseOptions) (bytes : List ℕ) → IsBuilt options → tree options bytes ≡ body_of options bytes
+pub tree-body : (options : ParseOptions) (bytes : List ℕ) → IsBuilt options →
+    tree options bytes ≡ grouped (body_of options bytes)
 tree-body options bytes built =
     ap (λ (p : Preamble). with_frontmatter p.front (grouped (closed options (steps options (At (spot_of End)) p.body))))
     (preamble-off options bytes built.frontmatter)
-    ∙ grouped-blocks (body_of options bytes)
-    (simple-come options (rests_at (first_column bytes) (lines_of (without_mark bytes))) built)
 
--- Such a tree is not too deep for an outline.
-pub tree-shallow : (options : ParseOptions) (bytes : List ℕ) → IsBuilt options → are_shallow (tree options bytes) ≡ true
-tree-shallow options bytes built =
-    ap are_shallow (tree-body options bytes built)
-    ∙ shallow-blocks (body_of options bytes)
-    (simple-come options (rests_at (first_column bytes) (lines_of (without_mark bytes))) built)
+-- They are not too deep for an outline.
+pub body-shallow : (options : ParseOptions) (bytes : List ℕ) → IsBuilt options →
+    are_shallow (body_of options bytes) ≡ true
+body-shallow options bytes built =
+    shallow-come options (rests_at (first_column bytes) (lines_of (without_mark bytes))) built
 
 body-first : (bytes : List ℕ) → (body_point bytes).column - 1 ≡ first_column bytes
 body-first bytes = go (has_mark bytes)
@@ -395,12 +394,12 @@ rests-at : (p : Point) (lines : List (List ℕ)) → rests_from p lines ≡ rest
 rests-at p [] = refl
 rests-at p (line ∷ lines) = refl
 
--- The events of the lines of a text are read as its tree.
-pub tree-rows : (options : ParseOptions) → IsBuilt options → (bytes : List ℕ) (rows : List Row) →
+-- The events of the lines of a text are read as what the lines come to.
+pub body-rows : (options : ParseOptions) → IsBuilt options → (bytes : List ℕ) (rows : List Row) →
     f.AreRows options bytes [] held_leaf.None (body_point bytes)
     (split_lines (drop (body_point bytes).index bytes)) rows →
-    spelled (groups_events bytes (groups rows)) bytes ≡ tree options bytes
-tree-rows options built bytes rows are =
+    spelled (groups_events bytes (groups rows)) bytes ≡ body_of options bytes
+body-rows options built bytes rows are =
     let p : Point = body_point bytes in
     let text : List ℕ = without_mark bytes in
     spelled-rows options bytes p (split_lines (drop p.index bytes)) rows built are
@@ -408,4 +407,3 @@ tree-rows options built bytes rows are =
     ∙ ap (λ (k : ℕ). come options (rests_at k (split_lines (drop p.index bytes)))) (body-first bytes)
     ∙ ap (λ (l : List ℕ). come options (rests_at (first_column bytes) (split_lines l))) (sym (without-mark bytes))
     ∙ come-split options (first_column bytes) (split_lines text) (lines_of text) built (split-or_empty text)
-    ∙ sym (tree-body options bytes built)

@@ -13,6 +13,7 @@ use Rattle.md_engine.specs.declared.event.Event.{Event}
 use Rattle.md_engine.specs.declared.event.Link.{Link}
 use Rattle.md_engine.specs.declared.event.Name.{Name}
 use Rattle.md_engine.specs.declared.event.Name.TheVariants as n
+use Rattle.md_containers.specs.Listed.{listed}
 use Rattle.md_seam.specs.Events.Nested.{around, enter_link, exit}
 use Rattle.markdown_blocks.specs.Document.{body_point, mark_events}
 use Rattle.markdown_blocks.specs.Registry.{text_leaf}
@@ -53,6 +54,7 @@ abbrev pub listed_groups : List ℕ → List Group → List Event
 listed_groups bytes [] = []
 listed_groups bytes (group ∷ groups) = listed_group bytes group ++ listed_groups bytes groups
 
--- The block list of a text: its mark, and then its lines.
+-- The block list of a text: its mark, and then its lines, with the lists around their items.
 unfoldable pub block_list : ParseOptions → List ℕ → List Event
-block_list options text = mark_events text ++ listed_groups text (groups (text_rows options text (body_point text)))
+block_list options text =
+    listed text (mark_events text ++ listed_groups text (groups (text_rows options text (body_point text))))

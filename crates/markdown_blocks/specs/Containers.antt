@@ -1,2 +1,3 @@
 -- The containers, each with what the frame asks of it.
 pub mod BlockQuote
+pub mod ListItem

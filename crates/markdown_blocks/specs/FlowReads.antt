@@ -7,6 +7,7 @@ use Rattle.md_engine.specs.declared.event.Point.{Point}
 use Rattle.md_engine.specs.declared.state.State.{State}
 use Rattle.md_engine.specs.Found.{Found, nothing}
 use Rattle.md_engine.specs.World.{World}
+use Rattle.md_containers.specs.Listed.{listed}
 use Rattle.md_content.specs.ContentReads.{content_readings, wants_content}
 use Rattle.md_content.specs.Joined.{joined}
 use Rattle.md_content.specs.Resolves.{found_in_content}
@@ -32,8 +33,8 @@ pub record FlowReads (bytes : List ℕ) (options : ParseOptions) (p : Point) (fo
   pub content : List Event
   pub content_read : Substituted wants_content (content_readings bytes options) [] 0
       (joined (rows_events (text_rows options bytes p))) content
-  -- and then the other resolvers run
-  pub events_are : new.events ≡ resolved content
+  -- and then the other resolvers run, that of lists last
+  pub events_are : new.events ≡ listed bytes (resolved content)
   -- all else stays, but that no resolver is left to run
   pub rest : new ≡ record ended { events = new.events; resolvers = [] }
   pub setting : new.setting ≡ text_setting bytes options p

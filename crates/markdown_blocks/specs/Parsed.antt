@@ -1,5 +1,5 @@
 -- What a parse asks for, and what it gives.
-use Rattle.std.specs.Prelude.{◌≡◌, ◌≢◌, ℕ, ◌-◌, ◌/◌, ◌^◌, ◌<◌, ◌≤◌, ◌==◌, true, false, not, IsTrue, List, [], length}
+use Rattle.std.specs.Prelude.{◌≡◌, ◌≢◌, ℕ, ◌-◌, ◌/◌, ◌^◌, ◌<◌, ◌≤◌, ◌==◌, ◌||◌, true, false, not, IsTrue, List, [], length}
 use Rattle.std.specs.List.{list_all}
 use Rattle.md_engine.specs.declared.configuration.ParseOptions.{ParseOptions}
 use Rattle.md_engine.specs.declared.event.Event.{Event}
@@ -16,8 +16,12 @@ use Rattle.md_seam.specs.Events.Places.{are_placed}
 use Rattle.md_definition.specs.Preamble.{has_mark}
 use Rattle.md_seam.specs.Events.Spelled.{spelled}
 use Rattle.md_seam.specs.Events.Tiles.{Tiles, plain_read}
-use Rattle.md_definition.specs.Tree.{End, More, Quote}
-use Rattle.md_definition.specs.Wrapped.{quoted}
+use Rattle.md_definition.specs.Ascii.{plus}
+use Rattle.md_definition.specs.Bytes.{begins}
+use Rattle.md_definition.specs.Lines.{is_ending}
+use Rattle.md_definition.specs.Rest.{is_white}
+use Rattle.md_definition.specs.Tree.{End, Item, ListOf, More, Quote}
+use Rattle.md_definition.specs.Wrapped.{itemised, quoted}
 use Rattle.md_outline.specs.Outlined.{IsOutlined}
 use Rattle.markdown_blocks.specs.BlockList.{block_list}
 
@@ -25,7 +29,7 @@ use Rattle.markdown_blocks.specs.BlockList.{block_list}
 abbrev pub IsSmall : List ℕ → Type 0
 IsSmall text = length text ≤ (2 ^ 64 - 1) / 8
 
--- the constructs that are asked for are there: block quotes, ATX headings and breaks alone
+-- the constructs that are asked for are there: block quotes, list items, ATX headings and breaks alone
 pub record IsBuilt (options : ParseOptions) : Type 0 where
   pub code_fenced : options.constructs.code_fenced ≡ false
   pub code_indented : options.constructs.code_indented ≡ false
@@ -35,7 +39,6 @@ pub record IsBuilt (options : ParseOptions) : Type 0 where
   pub gfm_table : options.constructs.gfm_table ≡ false
   pub heading_setext : options.constructs.heading_setext ≡ false
   pub html_flow : options.constructs.html_flow ≡ false
-  pub list_item : options.constructs.list_item ≡ false
   pub math_flow : options.constructs.math_flow ≡ false
   pub mdx_esm : options.constructs.mdx_esm ≡ false
   pub mdx_expression_flow : options.constructs.mdx_expression_flow ≡ false
@@ -53,6 +56,13 @@ pub record IsQuotable (text : List ℕ) : Type 0 where
   pub no_tab : list_all (λ b. not (b == 9)) text ≡ true
   pub no_mark : has_mark text ≡ false
 
+-- a text that the list law is about: its first line is not empty and does not begin with whitespace, and it has neither a
+-- tab nor a byte order mark
+pub record IsItemable (text : List ℕ) : Type 0 where
+  pub first : begins (λ b. not (is_white b || is_ending b)) text ≡ true
+  pub no_tab : list_all (λ b. not (b == 9)) text ≡ true
+  pub no_mark : has_mark text ≡ false
+
 -- What is known of a text that was read: its events nest, stand at its points, spell its tree and tile it; and it
 -- defines no label.
 pub record IsParsed (text : List ℕ) (options : ParseOptions) (events : List Event) (state : ParseState) : Type 0 where
@@ -65,6 +75,10 @@ pub record IsParsed (text : List ℕ) (options : ParseOptions) (events : List Ev
   -- with `> ` before each line, the text means one block quote with this tree in it, unchanged
   pub in_quote : options.constructs.block_quote ≡ true → IsQuotable text →
       tree options (quoted text) ≡ More (Quote (spelled events text)) End
+  -- with `+ ` before its first line and two spaces before each other, it means one list, whose one item has this tree in
+  -- it, unchanged
+  pub in_item : options.constructs.list_item ≡ true → IsItemable text →
+      tree options (itemised text) ≡ More (ListOf plus (More (Item plus [] (spelled events text)) End)) End
   pub tree : spelled events text ≡ tree options text
   -- no construct occurs in it that is off
   pub on : are_on options (spelled events text) ≡ true

@@ -1,7 +1,7 @@
 -- The constructs that are built, and their order: the one place of the frame's definitions that names them.
-use Rattle.std.specs.Prelude.{◌≡◌, refl, Bool, ℕ, suc, ◌+◌, ◌*◌, nat_lt, true, ◌==◌, if◌then◌else◌, List, [], ◌∷◌}
+use Rattle.std.specs.Prelude.{◌≡◌, refl, Bool, ℕ, zero, suc, ◌+◌, ◌*◌, nat_lt, true, false, ◌==◌, if◌then◌else◌}
 use Rattle.std.specs.Option.{option_or}
-use Rattle.std.specs.Prelude.{length, Option, Some, None}
+use Rattle.std.specs.Prelude.{List, [], ◌∷◌, length, Option, Some, None}
 use Rattle.md_engine.specs.declared.configuration.ParseOptions.{ParseOptions}
 use Rattle.md_engine.specs.declared.event.Event.{Event}
 use Rattle.md_engine.specs.declared.event.Name.{Name}
@@ -22,6 +22,9 @@ use Rattle.md_engine.specs.declared.tokenizer.container.name.ContainerKind.TheVa
 use Rattle.md_engine.specs.Meaning.{Behaviour, Cell, Here, Outcome, Refuses}
 use Rattle.md_engine.specs.Scheme.{Rank, Scheme, nowhere, ranked}
 use Rattle.md_engine.specs.World.{World}
+use Rattle.md_containers.specs.Item.{item_scheme, item_transition}
+use Rattle.md_containers.specs.ItemRule.{item_behaves}
+use Rattle.md_containers.specs.Listed.{listed}
 use Rattle.md_containers.specs.Quote.{quote_scheme, quote_transition}
 use Rattle.md_containers.specs.QuoteRule.{quote_behaves}
 use Rattle.md_leaves.specs.Break.{break_scheme, break_transition}
@@ -34,6 +37,7 @@ use Rattle.md_definition.specs.State.{Container, InFootnote, InItem, InQuote}
 use Rattle.md_seam.specs.Transition.{Transition}
 use Rattle.markdown_blocks.specs.ContainerRules.{ContainerRules}
 use Rattle.markdown_blocks.specs.Containers.BlockQuote.{quote_rules}
+use Rattle.markdown_blocks.specs.Containers.ListItem.{item_rules}
 use Rattle.markdown_blocks.specs.Leaf.HeadingAtx.{heading_leaf}
 use Rattle.markdown_blocks.specs.Leaf.Paragraph.{paragraph_leaf}
 use Rattle.markdown_blocks.specs.Leaf.ThematicBreak.{break_leaf}
@@ -106,7 +110,7 @@ tries_of l = ranked (suc (weight l)) (low_weight l).1
 abbrev pub text_leaf : TextLeaf
 text_leaf = paragraph_leaf
 
--- Resolvers, behind that of content. There is one yet.
+-- Resolvers, behind that of content. One is run if it was registered, and behind it always that of lists.
 
 abbrev pub resolver : ResolveName
 resolver = r.HeadingAtx
@@ -115,14 +119,15 @@ resolver = r.HeadingAtx
 abbrev pub is_own : Name → Bool
 is_own name = is_heading name
 
--- what each makes of events: that of no construct that is built changes nothing
-abbrev pub resolved_by : ResolveName → List Event → List Event
-resolved_by r.HeadingAtx events = headings_resolved events
-resolved_by _ events = events
+-- what each makes of the events of a text: that of no construct that is built changes nothing
+abbrev pub resolved_by : List ℕ → ResolveName → List Event → List Event
+resolved_by bytes r.HeadingAtx events = headings_resolved events
+resolved_by bytes r.ListItem events = listed bytes events
+resolved_by bytes _ events = events
 
--- what all make of them, in their order; each changes nothing where nothing is its own
+-- what that of leaves makes of them; it changes nothing where nothing is its own
 abbrev pub resolved : List Event → List Event
-resolved events = resolved_by resolver events
+resolved events = resolved_by [] resolver events
 
 -- Containers: those of the line definition, built or not, and what the events tell of one.
 
@@ -145,25 +150,34 @@ container_name c = shape_name (shape_of c)
 
 -- Containers that are built, by the kind as which the tokenizer holds them.
 
-abbrev pub kind_of : Shape → Option ContainerKind
-kind_of QuoteShape = Some kind.BlockQuote
-kind_of _ = None
+-- an item that is held is a column wide at least
+abbrev kind_of_item : ℕ → Option ContainerKind
+kind_of_item zero = None
+kind_of_item (suc more) = Some kind.ListItem
+
+abbrev pub container_kind : Container → Option ContainerKind
+container_kind InQuote = Some kind.BlockQuote
+container_kind (InItem digits marker width starts_blank) = kind_of_item width
+container_kind (InFootnote label) = None
 
 abbrev pub container_rules : ContainerKind → ContainerRules
 container_rules kind.BlockQuote = quote_rules
+container_rules kind.ListItem = item_rules
 
 -- the order in which they are tried where one may open
 abbrev pub openers : List ContainerKind
-openers = kind.BlockQuote ∷ []
+openers = kind.BlockQuote ∷ kind.ListItem ∷ []
 
 -- the one that is tried at a state of the document; at no other is one
 abbrev pub opener_at : DocumentState → Option ContainerKind
 opener_at document.ContainerNewBefore = Some kind.BlockQuote
+opener_at document.ContainerNewBeforeNotBlockQuote = Some kind.ListItem
 opener_at _ = None
 
 -- a number by which each is known
 abbrev pub kind_number : ContainerKind → ℕ
 kind_number kind.BlockQuote = 0
+kind_number kind.ListItem = 1
 
 -- those that are tried behind one, where it does not open
 abbrev pub openers_from : ℕ → List ContainerKind → List ContainerKind
@@ -188,6 +202,7 @@ opener_weight k = 10 + 2 * length trials + 2 * length (openers_behind k)
 abbrev pub low_opener : (k : ContainerKind) →
     (nat_lt (opener_weight k) 64 ≡ true) × (nat_lt (suc (opener_weight k)) 64 ≡ true)
 low_opener kind.BlockQuote = (refl, refl)
+low_opener kind.ListItem = (refl, refl)
 
 abbrev pub opener_rank : Option ContainerKind → Rank
 opener_rank None = ranked 0 refl
@@ -199,7 +214,7 @@ opener_tries (Some k) = ranked (suc (opener_weight k)) (low_opener k).1
 
 -- a container of this kind
 abbrev pub IsOf : ContainerKind → Container → Type 0
-IsOf k c = kind_of (shape_of c) ≡ Some k
+IsOf k c = container_kind c ≡ Some k
 
 -- A container that the tokenizer holds is this one: it is of its kind, and holds what the events do not tell.
 abbrev pub MatchesContainer : Held → Container → Type 0
@@ -226,6 +241,11 @@ may_open k b = (container_rules k).may_open b
 abbrev pub may_go_on : ContainerKind → ℕ → Bool
 may_go_on k b = (container_rules k).may_go_on b
 
+-- whether that prefix may be taken at once
+abbrev pub goes_at_once : ContainerKind → Bool
+goes_at_once kind.BlockQuote = true
+goes_at_once kind.ListItem = false
+
 -- by the cells of a line, the container that opens, if one does: the first of these
 abbrev pub opens_by : ParseOptions → Bool → List Cell → Point → List ContainerKind → Option Passed
 opens_by options interrupting cells p [] = None
@@ -241,7 +261,7 @@ goes_by options c cells p None = None
 goes_by options c cells p (Some k) = (container_rules k).goes options c cells p
 
 abbrev pub goes_at : ParseOptions → Container → List Cell → Point → Option Passed
-goes_at options c cells p = goes_by options c cells p (kind_of (shape_of c))
+goes_at options c cells p = goes_by options c cells p (container_kind c)
 
 -- whether an open one, which is held so, goes on where the line ends
 abbrev pub goes_over : Held → Bool
@@ -253,17 +273,20 @@ goes_over held = (container_rules held.kind).over_empty held
 abbrev pub construct_owner : StateName → Scheme
 construct_owner (s.BlockQuote state) = quote_scheme
 construct_owner (s.HeadingAtx state) = heading_scheme
+construct_owner (s.ListItem state) = item_scheme
 construct_owner (s.ThematicBreak state) = break_scheme
 construct_owner _ = nowhere
 
 abbrev pub construct_transition : (ResolveName → ResolveName → Bool) → StateName → World → Transition
 construct_transition is_name (s.BlockQuote state) w = quote_transition state w
 construct_transition is_name (s.HeadingAtx state) w = heading_transition (is_name r.HeadingAtx) state w
+construct_transition is_name (s.ListItem state) w = item_transition state w
 construct_transition is_name (s.ThematicBreak state) w = break_transition state w
 construct_transition is_name _ w = record { to = Nok; world = w }
 
 abbrev pub construct_behaves : ParseOptions → Behaviour
 construct_behaves options (s.BlockQuote state) cells h = quote_behaves options state cells h
 construct_behaves options (s.HeadingAtx state) cells h = heading_behaves options state cells h
+construct_behaves options (s.ListItem state) cells h = item_behaves options state cells h
 construct_behaves options (s.ThematicBreak state) cells h = break_behaves options state cells h
 construct_behaves options _ cells h = Refuses h.scratch h.flags

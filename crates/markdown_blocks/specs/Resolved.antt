@@ -11,4 +11,4 @@ use Rattle.markdown_blocks.specs.Registry.{resolved_by}
 -- change nothing
 abbrev pub resolved_as : ResolveName → World → Option Found → World → Type 0
 resolved_as Content old found new = Resolves old found new
-resolved_as name old found new = (found ≡ None) × (new ≡ record old { events = resolved_by name old.events })
+resolved_as name old found new = (found ≡ None) × (new ≡ record old { events = resolved_by old.setting.bytes name old.events })

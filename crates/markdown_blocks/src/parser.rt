@@ -11,10 +11,12 @@ ghost use Rattle.markdown_blocks.specs.TextReads.{text_kind, wants_text};
 
 use crate::construct::document::DocumentTable;
 use crate::construct::flow::FlowTable;
+use crate::resolve;
 use md_engine::configuration::ParseOptions;
 use md_engine::event::{Content, Event, Point};
 use md_engine::message::Message;
 pub use md_engine::parse_state::ParseState;
+use md_engine::resolve::Name as ResolveName;
 use md_engine::state::document::State as DocumentState;
 use md_engine::state::{Name as StateName, State};
 use md_engine::subtokenize::Subresult;
@@ -115,6 +117,7 @@ fn read_flow<'a>(
         end => end,
     };
     let found = flush::<FlowTable>(&mut tokenizer, end, true)?;
+    resolve::call(&mut tokenizer, ResolveName::ListItem)?;
     Ok((tokenizer, found))
 }
 
@@ -133,8 +136,8 @@ fn behind_mark(mut mark: Vec<Event>, mut body: Vec<Event>) -> Result<Vec<Event>,
 
 /// Reads a text: its events, and what else is known of it.
 ///
-/// The text has at most `usize::MAX / 8` bytes, and of the constructs block quotes, ATX headings and breaks alone may
-/// be on. A byte order mark in front of the text is taken as such. An `Err` says that memory ran out; then nothing is
+/// The text has at most `usize::MAX / 8` bytes, and of the constructs block quotes, list items, ATX headings and breaks
+/// alone may be on. A byte order mark in front of the text is taken as such. An `Err` says that memory ran out; then nothing is
 /// handed out.
 pub fn parse<'a>(
     alloc: Global,

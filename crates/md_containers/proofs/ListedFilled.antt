@@ -26,13 +26,13 @@ use Rattle.md_seam.proofs.SpelledLemmas.{QuietOrEnding, Roles, roles-append}
 
 -- What an inline layer gives.
 
-inline-item : (x : Role) → QuietOrEnding x → is_item x ≡ false
+pub inline-item : (x : Role) → QuietOrEnding x → is_item x ≡ false
 inline-item IsQuiet h = refl
 inline-item IsEnding h = refl
 inline-item _ h = absurd h
 
 -- what stands ahead of these events and of those is the same
-abbrev SameAhead : List ℕ → List Event → List Event → Type 0
+abbrev pub SameAhead : List ℕ → List Event → List Event → Type 0
 SameAhead bytes xs ys =
     (marker_ahead bytes xs ≡ marker_ahead bytes ys) × (next_item bytes xs ≡ next_item bytes ys)
 
@@ -40,7 +40,7 @@ ahead-trans : (bytes : List ℕ) (xs ys zs : List Event) → SameAhead bytes xs 
     SameAhead bytes xs zs
 ahead-trans bytes xs ys zs h k = (h.0 ∙ k.0, h.1 ∙ k.1)
 
-ahead-more : (bytes : List ℕ) (e : Event) (xs ys : List Event) → SameAhead bytes xs ys →
+pub ahead-more : (bytes : List ℕ) (e : Event) (xs ys : List Event) → SameAhead bytes xs ys →
     SameAhead bytes (e ∷ xs) (e ∷ ys)
 ahead-more bytes e xs ys h = (
   ap (marker_by e.kind (role e.name) (get_or bytes e.point.index 0)) h.0,
@@ -49,7 +49,7 @@ ahead-more bytes e xs ys h = (
 )
 
 -- an event of no block says nothing of what comes next
-inline-one : (bytes : List ℕ) (e : Event) → QuietOrEnding (role e.name) → (es : List Event) →
+pub inline-one : (bytes : List ℕ) (e : Event) → QuietOrEnding (role e.name) → (es : List Event) →
     SameAhead bytes (e ∷ es) es
 inline-one bytes e h es = go e.kind (role e.name) h
   where
@@ -62,13 +62,13 @@ inline-one bytes e h es = go e.kind (role e.name) h
     go Exit IsEnding h = (refl, refl)
     go kind _ h = absurd h
 
-inline-ahead : (bytes : List ℕ) (xs : List Event) → Roles QuietOrEnding xs → (es : List Event) →
+pub inline-ahead : (bytes : List ℕ) (xs : List Event) → Roles QuietOrEnding xs → (es : List Event) →
     SameAhead bytes (xs ++ es) es
 inline-ahead bytes [] h es = (refl, refl)
 inline-ahead bytes (e ∷ xs) h es =
     ahead-trans bytes (e ∷ xs ++ es) (xs ++ es) es (inline-one bytes e h.0 (xs ++ es)) (inline-ahead bytes xs h.1 es)
 
-inline-listed : (bytes : List ℕ) (place : Place) (xs : List Event) → Roles QuietOrEnding xs → (es : List Event) →
+pub inline-listed : (bytes : List ℕ) (place : Place) (xs : List Event) → Roles QuietOrEnding xs → (es : List Event) →
     listed_from bytes place (xs ++ es) ≡ xs ++ listed_from bytes place es
 inline-listed bytes place [] h es = refl
 inline-listed bytes place (e ∷ xs) h es =
@@ -78,11 +78,11 @@ inline-listed bytes place (e ∷ xs) h es =
 -- Chunks.
 
 -- each chunk ends with the next event
-abbrev Chunked : List Event → Type 0
+abbrev pub Chunked : List Event → Type 0
 Chunked [] = Unit {0}
 Chunked (e ∷ es) = (is_linked e ≡ true → is_chunk e es ≡ true) × Chunked es
 
-stand-chunked : (depth : ℕ) (es : List Event) → chunks_stand depth es ≡ true → Chunked es
+pub stand-chunked : (depth : ℕ) (es : List Event) → chunks_stand depth es ≡ true → Chunked es
 stand-chunked depth [] h = tt
 stand-chunked zero (e ∷ es) h =
     let two = and_parts (not (is_linked e))
@@ -119,18 +119,18 @@ data-quiet n.Data h = tt
 data-quiet _ h = cc
 
 -- both ends of a chunk are quiet
-chunk-quiet : (e f : Event) (es : List Event) → is_chunk e (f ∷ es) ≡ true →
+pub chunk-quiet : (e f : Event) (es : List Event) → is_chunk e (f ∷ es) ≡ true →
     QuietOrEnding (role e.name) × QuietOrEnding (role f.name)
 chunk-quiet e f es h =
     let outer = and_parts (not (is_exit e.kind) && is_data e.name && is_exit f.kind) (is_data f.name) h in
     let middle = and_parts (not (is_exit e.kind) && is_data e.name) (is_exit f.kind) outer.0 in
     (data-quiet e.name (and_parts (not (is_exit e.kind)) (is_data e.name) middle.0).1, data-quiet f.name outer.1)
 
-first-of : (lists : List (List Event)) → EachInline lists → Roles QuietOrEnding (first_list lists)
+pub first-of : (lists : List (List Event)) → EachInline lists → Roles QuietOrEnding (first_list lists)
 first-of [] h = tt
 first-of (events ∷ lists) h = h.0
 
-further-of : (lists : List (List Event)) → EachInline lists → EachInline (further_lists lists)
+pub further-of : (lists : List (List Event)) → EachInline lists → EachInline (further_lists lists)
 further-of [] h = tt
 further-of (events ∷ lists) h = h.1
 
@@ -294,7 +294,7 @@ each-append : (xs ys : List (List Event)) → EachInline xs → EachInline ys �
 each-append [] ys h k = k
 each-append (x ∷ xs) ys h k = (h.0, each-append xs ys h.1 k)
 
-plain-inline : (text : List ℕ) (parts : List Part) → EachInline (together (plain_lists text parts))
+pub plain-inline : (text : List ℕ) (parts : List Part) → EachInline (together (plain_lists text parts))
 plain-inline text [] = tt
 plain-inline text (part ∷ parts) =
     each-append (plain_chunks text part.chunks) (together (plain_lists text parts)) (chunks-inline text part.chunks)

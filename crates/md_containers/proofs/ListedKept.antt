@@ -18,7 +18,7 @@ use Rattle.md_seam.specs.Events.Nested.{enter, exit}
 use Rattle.md_seam.specs.Events.Places.{are_placed, first_point, is_placed}
 use Rattle.md_seam.specs.Events.Spelled.{is_ordered, role}
 
-item-name : (name : Name) → is_item (role name) ≡ true → name ≡ n.ListItem
+pub item-name : (name : Name) → is_item (role name) ≡ true → name ≡ n.ListItem
 item-name n.ListItem h = refl
 item-name _ h = absurd (cc)
 

@@ -1,15 +1,16 @@
 -- What is asked of events before lists are put around their items, piece by piece.
-use Rattle.std.proofs.Common.{◌≡◌, ℕ, List, [], ◌∷◌, ◌++◌, refl, ap, ◌∙◌}
+use Rattle.std.proofs.Common.{◌≡◌, ℕ, Bool, List, [], ◌∷◌, ◌++◌, refl, ap, ◌∙◌, subst, sym}
 use Rattle.md_engine.specs.declared.event.Event.{Event}
 use Rattle.md_engine.specs.declared.event.Kind.{Kind}
 use Rattle.md_engine.specs.declared.event.Kind.TheVariants.{Enter, Exit}
 use Rattle.md_engine.specs.declared.event.Name.{Name}
 use Rattle.md_containers.specs.ItemsHeld.{ItemsHeld}
-use Rattle.md_containers.specs.ItemsStand.{ItemsStand, Site, site_after}
+use Rattle.md_containers.specs.ItemsStand.{AmongBlocks, ItemsStand, Site, site_after}
 use Rattle.md_containers.specs.Unlisted.{in_place, unlisted_behind, unlisted_left}
 use Rattle.md_seam.specs.Events.Grammar.{Expression, behind, inside, left_behind, left_of}
 use Rattle.md_seam.specs.Events.Nested.{open_after, open_behind}
 use Rattle.md_seam.specs.Events.Spelled.{role}
+use Rattle.md_seam.proofs.GrammarLemmas.{Leads}
 
 -- what is open behind some events
 abbrev pub site_behind : Site → List Event → Site
@@ -27,6 +28,24 @@ pub site-append : (site : Site) (xs ys : List Event) →
 site-append site [] ys = refl
 site-append site (e ∷ xs) ys = site-append (site_after site e.kind (role e.name) e.point) xs ys
 
+-- events that may stand where this is open, behind which that is
+pub record StandsTo (bytes : List ℕ) (from to : Site) (es : List Event) : Type 0 where
+  pub stand : ItemsStand bytes from es
+  pub behind : site_behind from es ≡ to
+
+pub stands-append : (bytes : List ℕ) (a b c : Site) (xs ys : List Event) → StandsTo bytes a b xs →
+    StandsTo bytes b c ys → StandsTo bytes a c (xs ++ ys)
+stands-append bytes a b c xs ys h k =
+    let P : Site → Type 0 = λ site. ItemsStand bytes site ys in
+    record {
+      stand = stand-append bytes a xs ys h.stand (subst P (sym h.behind) k.stand);
+      behind = site-append a xs ys ∙ ap (λ (site : Site). site_behind site ys) h.behind ∙ k.behind;
+    }
+
+-- among the blocks of these containers
+abbrev pub among : List Bool → Site
+among held = record { held = held; inner = AmongBlocks }
+
 pub held-append : (names : List Name) (xs ys : List Event) → ItemsHeld names xs →
     ItemsHeld (open_after names xs) ys → ItemsHeld names (xs ++ ys)
 held-append names [] ys h k = k
@@ -37,6 +56,19 @@ pub unlisted-append : (text : Expression) (stack : List Expression) (xs ys : Lis
 unlisted-append text stack [] ys = refl
 unlisted-append text stack (e ∷ xs) ys =
     unlisted-append text (unlisted_behind text stack e.kind e.name) xs ys
+
+-- events behind which that is left of this, whatever stands around it
+abbrev pub Unlists : Expression → List Expression → List Expression → List Event → Type 0
+Unlists text from to es = (outer : List Expression) → unlisted_left text (from ++ outer) es ≡ to ++ outer
+
+pub unlists-rest : (text : Expression) (a b outer : List Expression) (xs ys : List Event) → Unlists text a b xs →
+    unlisted_left text (a ++ outer) (xs ++ ys) ≡ unlisted_left text (b ++ outer) ys
+unlists-rest text a b outer xs ys h =
+    unlisted-append text (a ++ outer) xs ys ∙ ap (λ (l : List Expression). unlisted_left text l ys) (h outer)
+
+pub unlists-append : (text : Expression) (a b c : List Expression) (xs ys : List Event) → Unlists text a b xs →
+    Unlists text b c ys → Unlists text a c (xs ++ ys)
+unlists-append text a b c xs ys h k outer = unlists-rest text a b outer xs ys h ∙ k outer
 
 -- no item and no list
 abbrev pub NoListing : List Event → Type 0
@@ -56,3 +88,8 @@ unlisted-same text stack (e ∷ es) h =
     go [] kind = refl
     go (x ∷ xs) Enter = ap (λ (name : Name). inside text e.name ∷ behind name x ∷ xs) h.0
     go (x ∷ xs) Exit = refl
+
+-- so what leads by the grammar of events leads by this one
+pub unlists-same : (text : Expression) (a b : List Expression) (es : List Event) → NoListing es → Leads text a b es →
+    Unlists text a b es
+unlists-same text a b es none h outer = unlisted-same text (a ++ outer) es none ∙ h outer

@@ -1,6 +1,9 @@
 pub mod BlocksStay
+pub mod ClosedTrees
 pub mod FirstLine
 pub mod HeadingLemmas
+pub mod ListLemmas
+pub mod OutlineAgrees
 pub mod OutlineDepths
 pub mod OutlineLemmas
 pub mod ParagraphPieces

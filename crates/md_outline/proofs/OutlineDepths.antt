@@ -10,12 +10,8 @@ use Rattle.md_seam.specs.Events.Nested.{Balanced, Fits, Matches, open_after, ope
 use Rattle.md_seam.specs.Events.Spelled.{Around, Holds, IsEnding, OpenLeaf, Opens, Purpose, Reading, Role, Shape, Tells}
 use Rattle.md_seam.specs.Events.Spelled.{Text, finished, left, on_shape, read, read_by, read_enter, read_exit, role}
 use Rattle.md_seam.specs.Events.Spelled.{told_at, unread}
+use Rattle.md_outline.proofs.ClosedTrees.{depth_of}
 use Rattle.md_outline.proofs.RoleLemmas.{by-ending, by-told_at}
-
--- how many containers are open
-abbrev pub depth_of : List Around → ℕ
-depth_of [] = 0
-depth_of (around ∷ outer) = depth_of outer + 1
 
 -- The containers that are open are those whose names are.
 

@@ -1,20 +1,20 @@
 -- What is needed of the blocks that an outline shows, by the kinds of their roles.
 --
 -- What is proved by these names no block.
-use Rattle.std.proofs.Common.{◌≡◌, ℕ, ◌+◌, Bool, true, not, List, ◌∷◌, refl, sym, false, cond, length}
+use Rattle.std.proofs.Common.{◌≡◌, ℕ, Bool, true, not, List, [], ◌∷◌, refl, sym, false, cond, length}
 use Rattle.std.specs.Prelude.{Option, Some, None, nat_lt}
 use Rattle.std.proofs.lemmas.Bool.{true≢false}
 use Rattle.md_engine.specs.declared.event.Point.{Point}
 use Rattle.md_definition.specs.declared.outline.Word.{Word}
 use Rattle.md_definition.specs.declared.outline.Word.TheVariants as word
-use Rattle.md_definition.specs.Outline.{block_entries, entry, outline}
+use Rattle.md_definition.specs.Outline.{block_entries, entry}
 use Rattle.md_seam.specs.Events.Spelled.{AsDigits, AsFootnoteLabel, AsHeading, AsItemMarker, AsMarkers, AsParagraph}
-use Rattle.md_seam.specs.Events.Spelled.{BreakLeaf, HeadingAtxLeaf, Holds, IsEnding, IsPrefix, IsQuiet, LeafKind}
+use Rattle.md_seam.specs.Events.Spelled.{BreakLeaf, HeadingAtxLeaf, Holds, IsEnding, IsPrefix, IsQuiet, ItemShape, LeafKind}
 use Rattle.md_seam.specs.Events.Spelled.{OfBreak, OfHeadingAtx, OpenLeaf, Opens, QuoteShape, Reading, Shape, Tells}
 use Rattle.md_seam.specs.Events.Spelled.{Text, add_block, at_ending, block_around, fresh, named, next_line, on_leaf}
 use Rattle.md_seam.specs.Events.Spelled.{on_shape, spelled, text_to}
 use Rattle.md_seam.specs.Events.Spelled as spelled
-use Rattle.md_definition.specs.Tree.{Block, Blocks, Line}
+use Rattle.md_definition.specs.Tree.{Block, End, Line}
 use Rattle.md_outline.specs.Outlined.{begins_line, parts_exit, piece_to}
 use Rattle.md_outline.specs.ParagraphState.{text_block}
 use Rattle.md_outline.specs.Roles.{is_plain, leaf_of, noted, shown_as}
@@ -26,6 +26,7 @@ use Rattle.md_outline.specs.declared.outline.role.Purpose.TheVariants as purpose
 use Rattle.md_outline.specs.declared.outline.role.Role.{Role}
 use Rattle.md_outline.specs.declared.outline.role.Role.TheVariants as role
 use Rattle.md_outline.specs.declared.outline.Span.{Span}
+use Rattle.md_outline.proofs.ClosedTrees.{HasWord}
 
 -- Leaf blocks.
 
@@ -51,10 +52,10 @@ knows-line _ k = absurd k
 
 -- Roles.
 
--- A container that is shown by a word, and then by its blocks.
+-- A container that is shown by a word, as it begins, and tells no other.
 pub record IsShownBy (shape : Shape) (w : Word) : Type 0 where
-  pub lines : (depth : ℕ) (here : Blocks) →
-      block_entries depth (block_around shape here) ≡ entry depth w ∷ outline (depth + 1) here
+  pub line : (depth : ℕ) → block_entries depth (block_around shape End) ≡ entry depth w ∷ []
+  pub none : HasWord shape End
 
 -- A leaf block, as it begins.
 pub record IsBegun (kind : LeafKind) (l : Leaf) : Type 0 where
@@ -72,19 +73,23 @@ pub record IsNote (x : spelled.Purpose) (y : Note) : Type 0 where
   pub tree : (line : Line) (r : Reading) → spelled.told x line r ≡ on_leaf (noted y line.text) r
   pub whole : (bytes : List ℕ) (p : Point) (text : Span) → parts_exit bytes (Tells x) p text ≡ not text.is_parted
 
--- What is known of each role that an outline shows.
+-- What is known of each role that an outline shows, but of lists.
 pub record ByRole (P : spelled.Role → Role → Type 0) : Type 0 where
   pub container : (shape : Shape) (w : Word) → IsShownBy shape w → P (Holds shape) (role.Container w)
   pub prefix : P IsPrefix role.Prefix
   pub begins : (kind : LeafKind) (l : Leaf) → IsBegun kind l → P (Opens kind) (role.Leaf l)
   pub block : (x : spelled.Purpose) → IsBlock x → P (Tells x) (role.Text purpose.Block)
   pub note : (x : spelled.Purpose) (y : Note) → IsNote x y → P (Tells x) (role.Text (purpose.Note y))
+  pub digits : P (Tells AsDigits) (role.Text purpose.Digits)
+  pub marker : P (Tells AsItemMarker) (role.Text purpose.Marker)
   pub ending : P IsEnding role.Quiet
   pub quiet : P IsQuiet role.Quiet
 
 -- so it is known of all that are shown
 pub by-role : (P : spelled.Role → Role → Type 0) (x : spelled.Role) → ByRole P → is_plain x ≡ true → P x (shown_as x)
-by-role P (Holds QuoteShape) by h = by.container QuoteShape word.Quote (record { lines = λ depth here. refl })
+by-role P (Holds QuoteShape) by h = by.container QuoteShape word.Quote (record { line = λ depth. refl; none = tt })
+by-role P (Holds (ItemShape marker digits)) by h =
+    by.container (ItemShape marker digits) word.Item (record { line = λ depth. refl; none = tt })
 by-role P IsPrefix by h = by.prefix
 by-role P (Opens OfBreak) by h = by.begins OfBreak leaf.Break (record { same = refl; known = tt })
 by-role P (Opens OfHeadingAtx) by h =
@@ -95,6 +100,8 @@ by-role P (Tells AsMarkers) by h =
     by.note AsMarkers note.Markers (record { tree = λ line r. refl; whole = λ bytes p text. refl })
 by-role P (Tells AsHeading) by h =
     by.note AsHeading note.Title (record { tree = λ line r. refl; whole = λ bytes p text. refl })
+by-role P (Tells AsDigits) by h = by.digits
+by-role P (Tells AsItemMarker) by h = by.marker
 by-role P IsEnding by h = by.ending
 by-role P IsQuiet by h = by.quiet
 by-role P _ by h = absurd (true≢false (sym h))

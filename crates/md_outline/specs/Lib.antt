@@ -1,6 +1,7 @@
 pub mod Between
 pub mod HeadingDepths
 pub mod HeadingState
+pub mod ListsBegin
 pub mod Outlined
 pub mod OutlineSteps
 pub mod ParagraphState

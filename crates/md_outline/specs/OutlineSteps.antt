@@ -1,12 +1,14 @@
 -- What an outline has read between two events.
 use Rattle.std.specs.Prelude.{◌≡◌, ℕ, ◌+◌, ◌-◌, ◌++◌, Bool, true, false, List, [], ◌∷◌, slice_range, Option, Some, None}
-use Rattle.std.specs.Prelude.{option_map}
+use Rattle.std.specs.Prelude.{get_or, length, option_map, set}
 use Rattle.std.specs.Str.{IsUtf8}
 use Rattle.md_engine.specs.declared.event.Event.{Event}
 use Rattle.md_engine.specs.declared.event.Kind.{Kind}
 use Rattle.md_engine.specs.declared.event.Kind.TheVariants.{Enter, Exit}
 use Rattle.md_engine.specs.declared.event.Point.{Point}
 use Rattle.md_definition.specs.Outline.{Entry, entries_of, entry}
+use Rattle.md_definition.specs.Texts.{first_byte}
+use Rattle.md_definition.specs.declared.outline.Word.TheVariants as word
 use Rattle.md_seam.specs.Events.Spelled.{OpenLeaf}
 use Rattle.md_seam.specs.Events.Spelled as spelled
 use Rattle.md_outline.specs.Between.{is_between}
@@ -21,12 +23,14 @@ use Rattle.md_outline.specs.declared.outline.role.Purpose.TheVariants as purpose
 use Rattle.md_outline.specs.declared.outline.role.Role.{Role}
 use Rattle.md_outline.specs.declared.outline.role.Role.TheVariants as role
 
--- What was read between two events: how many containers are open, the leaf that is, the text that is read, and the
--- lines so far.
+-- What was read between two events: how many containers are open, the leaf that is, the text that is read, the list
+-- that is not told its marker yet, and the lines so far.
 pub record OutlineState : Type 0 where
   pub depth : ℕ
   pub leaf : Option OpenLeaf
   pub text : Option Span
+  -- the line of a list that has begun, as long as its marker is not known
+  pub untold : Option ℕ
   pub lines : List Entry
 
 abbrev pub state_of : Reading → OutlineState
@@ -34,12 +38,13 @@ state_of r = record {
   depth = r.depth;
   leaf = option_map leaf_of r.leaf;
   text = r.text;
+  untold = r.untold;
   lines = entries_of r.lines.items;
 }
 
 -- before the first event
 abbrev pub before_all : OutlineState
-before_all = record { depth = 0; leaf = None; text = None; lines = [] }
+before_all = record { depth = 0; leaf = None; text = None; untold = None; lines = [] }
 
 abbrev pub leaf_ended : Option OpenLeaf → OutlineState → OutlineState
 leaf_ended None s = s
@@ -49,11 +54,26 @@ leaf_ended (Some leaf) s = record s { leaf = None; lines = s.lines ++ leaf_entri
 abbrev pub told_leaf : Note → List ℕ → OutlineState → OutlineState
 told_leaf x text s = record s { leaf = option_map (noted x text) s.leaf }
 
+-- the line of a list with its marker
+abbrev pub with_marker : ℕ → List ℕ → List Entry → List Entry
+with_marker place text lines =
+    set lines place (record (get_or lines place (entry 0 word.Item)) { word = word.List (first_byte text) })
+
+-- a list that has begun is told the marker of its first item
+abbrev pub marked_at : Option ℕ → List ℕ → OutlineState → OutlineState
+marked_at None text s = s
+marked_at (Some place) text s = record s { untold = None; lines = with_marker place text s.lines }
+
+abbrev pub told_marker : List ℕ → OutlineState → OutlineState
+told_marker text s = marked_at s.untold text s
+
 -- a text has ended, with this piece
 abbrev pub told : Purpose → Bool → List ℕ → OutlineState → OutlineState
 told purpose.Block is_shown text s =
     record s { lines = s.lines ++ begin_entries s.depth is_shown ++ text_entries (s.depth + 1) text }
 told (purpose.Note x) is_shown text s = told_leaf x text s
+told purpose.Marker is_shown text s = told_marker text s
+told purpose.Digits is_shown text s = s
 
 abbrev pub told_at : List ℕ → Purpose → ℕ → Option Span → OutlineState → OutlineState
 told_at bytes purpose end None s = s
@@ -74,6 +94,11 @@ state_enter bytes (role.Container word) p s = record s {
   depth = s.depth + 1;
   lines = s.lines ++ entry s.depth word ∷ [];
 }
+state_enter bytes role.List p s = record s {
+  depth = s.depth + 1;
+  untold = Some (length s.lines);
+  lines = s.lines ++ entry s.depth (word.List 0) ∷ [];
+}
 state_enter bytes role.Prefix p s = parted_at bytes p.index s.text s
 state_enter bytes (role.Leaf leaf) p s = record s { leaf = Some (leaf_of leaf) }
 state_enter bytes (role.Text purpose) p s = record s {
@@ -84,6 +109,7 @@ state_enter bytes role.Quiet p s = s
 
 abbrev pub state_exit : List ℕ → Role → Point → OutlineState → OutlineState
 state_exit bytes (role.Container word) p s = record s { depth = s.depth - 1 }
+state_exit bytes role.List p s = record s { depth = s.depth - 1 }
 state_exit bytes role.Prefix p s = record s {
   text = option_map
       (λ (t : Span). record t { from = spelled.byte_at p }) s.text;

@@ -1,4 +1,4 @@
--- What an outline shows: the blocks that events of the roles that it knows (`is_plain`) spell out.
+-- What an outline shows: the blocks that events of the roles that it knows (`is_shown`) spell out.
 use Rattle.std.specs.Prelude.{◌≡◌, ℕ, Bool, true, false, ◌||◌, ◌&&◌, not, if◌then◌else◌, List, [], ◌∷◌, slice_range}
 use Rattle.std.specs.Prelude.{Option, Some, None, option_map}
 use Rattle.std.specs.List.{list_all}
@@ -17,10 +17,15 @@ use Rattle.md_seam.specs.Events.Spelled.{IsEnding, IsPrefix, IsQuiet, Role, Tell
 use Rattle.md_definition.specs.Texts.{split_lines}
 use Rattle.md_outline.specs.Between.{is_between}
 use Rattle.md_outline.specs.HeadingDepths.{are_shallow}
-use Rattle.md_outline.specs.Roles.{is_block, is_plain, is_told}
+use Rattle.md_outline.specs.ListsBegin.{AllTold, ListsBegin}
+use Rattle.md_outline.specs.Roles.{is_block, is_plain, is_shown, is_told}
 use Rattle.md_outline.specs.declared.outline.Span.{Span}
 
--- whether an event is of such a block (`is_plain`), or of what the tree does not show
+-- whether an event is of such a block, or of what the tree does not show
+abbrev pub has_shown_name : Event → Bool
+has_shown_name e = is_shown (role e.name)
+
+-- and of no list (`is_plain`)
 abbrev pub has_plain_name : Event → Bool
 has_plain_name e = is_plain (role e.name)
 
@@ -92,16 +97,27 @@ are_parted bytes text [] = is_unparted text
 are_parted bytes text (e ∷ es) =
     parts_by bytes e.kind (role e.name) e.point text && are_parted bytes (span_by e.kind (role e.name) e.point text) es
 
--- events of such roles, between characters of a text
-pub record IsOutlined (events : List Event) (bytes : List ℕ) : Type 0 where
-  -- so each container that begins ends
-  pub balanced : Balanced events
+-- events of such roles but lists, between characters of a text
+pub record IsUnlisted (events : List Event) (bytes : List ℕ) : Type 0 where
   pub names : list_all has_plain_name events ≡ true
   pub text : IsUtf8 bytes
   pub between : list_all (λ (e : Event). is_between bytes e.point.index) events ≡ true
   pub texts : list_all (tells_between bytes) events ≡ true
   -- each container prefix in a text stands where a line begins
   pub parted : are_parted bytes None events ≡ true
+
+-- events of all such roles
+pub record IsOutlined (events : List Event) (bytes : List ℕ) : Type 0 where
+  -- so each container that begins ends
+  pub balanced : Balanced events
+  pub names : list_all has_shown_name events ≡ true
+  pub text : IsUtf8 bytes
+  pub between : list_all (λ (e : Event). is_between bytes e.point.index) events ≡ true
+  pub texts : list_all (tells_between bytes) events ≡ true
+  -- each container prefix in a text stands where a line begins
+  pub parted : are_parted bytes None events ≡ true
+  -- each list begins with an item that begins with its marker
+  pub lists : ListsBegin bytes AllTold events
   pub depths : are_shallow (spelled events bytes) ≡ true
 
 -- the lines are those of the tree that the events spell out

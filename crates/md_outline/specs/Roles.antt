@@ -4,6 +4,8 @@
 -- shows of it stands in files of its own (as `HeadingState`).
 --
 -- - A container that is shown by a word: `is_plain` and `shown_as` here, `role_of` in code, `by-role` in the lemmas.
+--   A list is shown with the marker of its first item, which its line is told later: so it is `is_shown` alone, and has
+--   `mark` in code, and `ListsBegin` and `ListLemmas`.
 -- - A leaf block: the same three, and what is known of it: `leaf_of` here, `Leaf` with `noted` and `push_leaf` in code,
 --   `Knows` with its two laws in the lemmas.
 -- - A text that tells a leaf block something: the same three, and `told_as` here, `Note` in code, `knows-noted` in the
@@ -11,9 +13,10 @@
 use Rattle.std.specs.Prelude.{ℕ, Bool, true, false, List, None}
 use Rattle.md_definition.specs.declared.outline.Word.TheVariants as word
 use Rattle.md_definition.specs.Outline.{Entry, block_entries}
-use Rattle.md_seam.specs.Events.Spelled.{AsHeading, AsMarkers, AsParagraph, BreakLeaf, HeadingAtxLeaf, Holds, IsEnding}
-use Rattle.md_seam.specs.Events.Spelled.{IsPrefix, IsQuiet, OfBreak, OfHeadingAtx, OpenLeaf, Opens, QuoteShape, Tells}
-use Rattle.md_seam.specs.Events.Spelled.{block_of}
+use Rattle.md_seam.specs.Events.Spelled.{AsDigits, AsHeading, AsItemMarker, AsMarkers, AsParagraph, BreakLeaf}
+use Rattle.md_seam.specs.Events.Spelled.{HeadingAtxLeaf, Holds, IsEnding, IsPrefix, IsQuiet, ItemShape, OfBreak}
+use Rattle.md_seam.specs.Events.Spelled.{OfHeadingAtx, OpenLeaf, Opens, OrderedShape, QuoteShape, Tells}
+use Rattle.md_seam.specs.Events.Spelled.{UnorderedShape, block_of}
 use Rattle.md_seam.specs.Events.Spelled as spelled
 use Rattle.md_outline.specs.HeadingDepths.{fitted}
 use Rattle.md_outline.specs.HeadingState.{heading_of}
@@ -25,18 +28,27 @@ use Rattle.md_outline.specs.declared.outline.role.Purpose.TheVariants as purpose
 use Rattle.md_outline.specs.declared.outline.role.Role.{Role}
 use Rattle.md_outline.specs.declared.outline.role.Role.TheVariants as role
 
--- the roles of breaks, headings, paragraphs and block quotes, and of what the tree does not show
+-- the roles of breaks, headings, paragraphs, block quotes and items, and of what the tree does not show
 abbrev pub is_plain : spelled.Role → Bool
 is_plain (Holds QuoteShape) = true
+is_plain (Holds (ItemShape marker digits)) = true
 is_plain IsPrefix = true
 is_plain (Opens OfBreak) = true
 is_plain (Opens OfHeadingAtx) = true
 is_plain (Tells AsParagraph) = true
 is_plain (Tells AsHeading) = true
 is_plain (Tells AsMarkers) = true
+is_plain (Tells AsDigits) = true
+is_plain (Tells AsItemMarker) = true
 is_plain IsEnding = true
 is_plain IsQuiet = true
 is_plain _ = false
+
+-- these, and those of lists
+abbrev pub is_shown : spelled.Role → Bool
+is_shown (Holds OrderedShape) = true
+is_shown (Holds UnorderedShape) = true
+is_shown x = is_plain x
 
 -- what a text is read from
 abbrev pub is_told : spelled.Role → Bool
@@ -51,12 +63,17 @@ is_block _ = false
 -- what the events of a name mean to an outline
 abbrev pub shown_as : spelled.Role → Role
 shown_as (Holds QuoteShape) = role.Container word.Quote
+shown_as (Holds OrderedShape) = role.List
+shown_as (Holds UnorderedShape) = role.List
+shown_as (Holds (ItemShape marker digits)) = role.Container word.Item
 shown_as IsPrefix = role.Prefix
 shown_as (Opens OfBreak) = role.Leaf leaf.Break
 shown_as (Opens OfHeadingAtx) = role.Leaf (leaf.Heading (record { markers = None; text = None }))
 shown_as (Tells AsParagraph) = role.Text purpose.Block
 shown_as (Tells AsMarkers) = role.Text (purpose.Note note.Markers)
 shown_as (Tells AsHeading) = role.Text (purpose.Note note.Title)
+shown_as (Tells AsDigits) = role.Text purpose.Digits
+shown_as (Tells AsItemMarker) = role.Text purpose.Marker
 shown_as _ = role.Quiet
 
 -- what is known of a leaf block, as the tree has it

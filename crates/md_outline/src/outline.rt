@@ -5,7 +5,7 @@ ghost use Rattle.std.specs.Str.{IsUtf8};
 ghost use Rattle.md_seam.specs.Events.Spelled as spelled;
 ghost use Rattle.md_outline.specs.Outlined.{Outlines};
 ghost use Rattle.md_outline.specs.OutlineSteps.{IsCutAt, leaf_ended, parted_at, state_by, state_enter, state_exit};
-ghost use Rattle.md_outline.specs.OutlineSteps.{state_of, told_at, told_leaf};
+ghost use Rattle.md_outline.specs.OutlineSteps.{state_of, told_at, told_leaf, told_marker};
 ghost use Rattle.md_outline.specs.Roles.{shown_as};
 ghost use Rattle.md_outline.specs.declared.outline.Span.{Span};
 
@@ -14,7 +14,7 @@ mod lines;
 mod paragraph;
 mod role;
 
-use crate::outline::lines::{next, part, push};
+use crate::outline::lines::{first_of, next, part, push};
 use crate::outline::paragraph::{push_block, push_piece};
 use crate::outline::role::{Leaf, Note, Purpose, Role, push_leaf, role_of};
 pub use md_definition::outline::{OutlineLine, Word};
@@ -40,6 +40,8 @@ struct Reading<'a> {
     depth: usize,
     leaf: Option<Leaf<'a>>,
     text: Option<Span>,
+    /// The line of a list that has begun, as long as its marker is not known.
+    untold: Option<usize>,
     lines: Vec<OutlineLine<'a>>,
 }
 
@@ -62,6 +64,20 @@ impl<'a> Reading<'a> {
     {
         if let Some(leaf) = self.leaf {
             self.leaf = Some(leaf.noted(note, text));
+        }
+    }
+
+    /// Tells a list that has begun the marker of its first item.
+    fn mark(&mut self, text: &[u8])
+        ensures bytes { self.new.bytes ≡ self.old.bytes }
+        ensures read { state_of self.new ≡ told_marker text.now (state_of self.old) }
+    {
+        let Some(place) = self.untold else {
+            return;
+        };
+        self.untold = None;
+        if place < self.lines.len() {
+            self.lines[place].word = Word::List(first_of(text));
         }
     }
 
@@ -94,6 +110,11 @@ impl<'a> Reading<'a> {
                 self.note(note, text);
                 Ok(())
             }
+            Purpose::Marker => {
+                self.mark(text);
+                Ok(())
+            }
+            Purpose::Digits => Ok(()),
         }
     }
 
@@ -139,6 +160,11 @@ impl<'a> Reading<'a> {
                 push(&mut self.lines, self.depth, word, "")?;
                 self.depth = next(self.depth)?;
             }
+            Role::List => {
+                self.untold = Some(self.lines.len());
+                push(&mut self.lines, self.depth, Word::List(0), "")?;
+                self.depth = next(self.depth)?;
+            }
             Role::Prefix => self.part_text(point.index)?,
             Role::Leaf(leaf) => self.leaf = Some(leaf),
             Role::Text(_) => {
@@ -159,7 +185,7 @@ impl<'a> Reading<'a> {
             state_of self.new ≡ state_exit self.old.bytes.now role.entry point (state_of self.old)) }
     {
         match role {
-            Role::Container(_) => {
+            Role::Container(_) | Role::List => {
                 self.depth = self.depth.saturating_sub(1);
                 Ok(())
             }
@@ -203,6 +229,7 @@ pub fn outline<'a>(
         depth: 0,
         leaf: None,
         text: None,
+        untold: None,
         lines: Vec::new(alloc),
     };
     for event in events {

@@ -11,17 +11,18 @@ use markdown_blocks::parser::parse;
 use std::alloc::Global;
 use std::process::ExitCode;
 
-/// Block quotes, ATX headings and thematic breaks, and no other construct.
+/// Block quotes, list items, ATX headings and thematic breaks, and no other construct.
 const BUILT: ParseOptions = ParseOptions {
     constructs: Constructs {
         block_quote: true,
         heading_atx: true,
+        list_item: true,
         thematic_break: true,
         ..Constructs::NONE
     },
 };
 
-/// The lines of all headings and paragraphs, in quotes and outside, and a line `---` for each break.
+/// The lines of all headings and paragraphs, in containers and outside, and a line `---` for each break.
 fn plain_text(alloc: Global, text: &str) -> Result<String, Message>
     requires { IsSmall text.now }
 {
@@ -41,7 +42,7 @@ fn plain_text(alloc: Global, text: &str) -> Result<String, Message>
 }
 
 fn main(rt: HostRuntime) -> ExitCode {
-    match plain_text(rt.alloc(), "# a #\n  b\nc\n\n* * *\n\n> d\ne") {
+    match plain_text(rt.alloc(), "# a #\n  b\nc\n\n* * *\n\n> d\ne\n\n- f\n\n  g") {
         Ok(plain) if rt.print(&plain).is_ok() => ExitCode::SUCCESS,
         _ => ExitCode::FAILURE,
     }

@@ -14,7 +14,7 @@ use Rattle.markdown_blocks.proofs.PrefixNames.{AreFront, IsNamed}
 use Rattle.md_engine.specs.declared.event.Name.TheVariants as n
 
 -- whitespace that may stand there
-white-front : (x : Bool) (p q : Point) → AreFront (cond x (pair n.SpaceOrTab p q) [])
+pub white-front : (x : Bool) (p q : Point) → AreFront (cond x (pair n.SpaceOrTab p q) [])
 white-front true p q = ((refl, refl), ((refl, refl), tt))
 white-front false p q = tt
 

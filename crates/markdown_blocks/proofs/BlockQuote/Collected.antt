@@ -49,7 +49,7 @@ collects-prefix bytes p q es ys from end all is le c = λ t h.
     (append_assoc (slice_range bytes t.from from) (slice_range bytes from is.marker.index) all)
 
 -- what is whitespace from a point on is so from its byte on, which may lie behind a tab that is cut
-blank-before : (bytes : List ℕ) (p : Point) (end : ℕ) → byte_at p ≤ end →
+pub blank-before : (bytes : List ℕ) (p : Point) (end : ℕ) → byte_at p ≤ end →
     is_blank (slice_range bytes p.index end) ≡ true → is_blank (slice_range bytes (byte_at p) end) ≡ true
 blank-before bytes p end le blank = go (p.vs == 0) le
   where

@@ -18,10 +18,15 @@ use Rattle.md_seam.specs.Events.Nested.{Balanced, enter, exit, pair, around}
 use Rattle.md_seam.specs.Events.Places.{at_or_before, same_place}
 use Rattle.md_definition.specs.State.{InQuote}
 use Rattle.md_seam.proofs.NestedLemmas.{at_or_before-refl}
-use Rattle.md_seam.proofs.SpelledLemmas.{QuietOrPrefix, read-prefixes}
+use Rattle.md_seam.proofs.SpelledLemmas.{Between, QuietOrPrefix, read-prefixes}
+use Rattle.md_seam.specs.Events.Grammar.{behind_block, blocks}
+use Rattle.md_containers.proofs.UnlistedLemmas.{NoListing, among, stands-append, unlists-same}
+use Rattle.markdown_blocks.proofs.LeafStands.{between-stand, between-unlisted}
 use Rattle.md_containers.proofs.QuoteLines.{IsPrefix}
 use Rattle.markdown_blocks.proofs.SpanLemmas.{Spans, order-grows}
 use Rattle.markdown_blocks.proofs.PartsStand.{Inside}
+use Rattle.markdown_blocks.proofs.PartedFacts.{Still, sits-still}
+use Rattle.markdown_blocks.proofs.PlainFacts.{Untold, plain-untold}
 use Rattle.md_outline.specs.Between.{is_between}
 use Rattle.markdown_blocks.proofs.PiecesLemmas.{Tiled, tiled-append, tiled-unless_empty, tiled-around, tiled-pair}
 use Rattle.markdown_blocks.proofs.BlockQuote.Pieces.{prefix-stood}
@@ -206,7 +211,7 @@ prefix-facts bytes p q es is = record {
   tiled = prefix-tiled bytes p q es is;
   stood = prefix-stood bytes p q es is;
   others = prefix-others bytes p q es is;
-  clear = prefix-clear bytes p q es is;
+  clear = λ behind. prefix-clear bytes p q es is;
   between = λ from. prefix-between bytes p q es from is;
 }
 
@@ -225,11 +230,23 @@ pub quote-opens : (bytes : List ℕ) (p q : Point) (es : List Event) → IsPrefi
 quote-opens bytes p q es is = record {
   common = prefix-facts bytes p q es is;
   names = prefixes-front es (prefix-are bytes p q es is);
-  roles = prefixes-roles QuietOrPrefix es tt tt (prefix-are bytes p q es is);
-  leads = prefix-begins bytes p q es is;
+  plain = plain-untold bytes es (prefixes-roles Untold es (refl, refl) (refl, refl) (prefix-are bytes p q es is));
+  sits = sits-still bytes es (prefixes-roles Still es tt tt (prefix-are bytes p q es is));
+  leads =
+      λ text. unlists-same text (blocks ∷ []) (blocks ∷ behind_block ∷ []) (enter n.BlockQuote p ∷ es) (refl, none)
+      (prefix-begins bytes p q es is text);
+  stands =
+      λ held. stands-append bytes (among held) (among (false ∷ held)) (among (false ∷ held)) (enter n.BlockQuote p ∷ [])
+      es (record { stand = (tt, tt); behind = refl })
+      (between-stand bytes (false ∷ held) es (prefixes-roles Between es tt tt (prefix-are bytes p q es is)));
+  unlisted = none;
   read =
       λ r none. read-prefixes bytes (begins InQuote r) es none
       (prefixes-roles QuietOrPrefix es tt tt (prefix-are bytes p q es is));
   shown = refl;
   some = prefix-some bytes p q es is;
 }
+  where
+    -- no item and no list stands in it
+    none : NoListing es
+    none = between-unlisted es (prefixes-roles Between es tt tt (prefix-are bytes p q es is))

@@ -1,5 +1,5 @@
 -- The laws of block quotes, as containers.
-use Rattle.std.proofs.Common.{◌≡◌, true, refl, ap, ◌∙◌, [], ◌++◌}
+use Rattle.std.proofs.Common.{◌≡◌, zero, suc, true, refl, ap, ◌∙◌, [], ◌++◌}
 use Rattle.std.specs.Prelude.{None}
 use Rattle.md_engine.specs.declared.configuration.ParseOptions.{ParseOptions}
 use Rattle.md_engine.specs.declared.tokenizer.container.name.ContainerKind.TheVariants as kind
@@ -7,31 +7,24 @@ use Rattle.md_engine.specs.World.{container_of}
 use Rattle.md_containers.proofs.QuoteShorter.{prefix-shortens, quote-shortens}
 use Rattle.md_definition.specs.Containers.{continues}
 use Rattle.md_definition.specs.Preamble.{rest_at}
-use Rattle.md_definition.specs.Grouped.{grouped}
-use Rattle.md_definition.specs.Tree.{Blocks}
 use Rattle.md_outline.specs.HeadingDepths.{is_shallow}
 use Rattle.md_definition.specs.State.{Container, InFootnote, InItem, InQuote, container_block}
 use Rattle.md_seam.proofs.RestCells.{past_rest, rest_cells}
 use Rattle.markdown_blocks.specs.Containers.BlockQuote.{quote_rules}
-use Rattle.markdown_blocks.specs.Registry.{IsOf, kind_of, shape_of}
+use Rattle.markdown_blocks.specs.Registry.{IsOf, container_kind}
 use Rattle.markdown_blocks.proofs.BlockQuote.Fronts.{quote-begins, quote-goes}
-use Rattle.markdown_blocks.proofs.BlockQuote.Tree.{no_quote-empty, opens-quote, unlisted-quote}
+use Rattle.markdown_blocks.proofs.BlockQuote.Tree.{no_quote-empty, opens-quote}
 use Rattle.markdown_blocks.proofs.BlockQuote.Trial.{prefix-ended, prefix-held, prefix-looked, prefix-passed, prefix-tried}
 use Rattle.markdown_blocks.proofs.BlockQuote.Trial.{quote-ended, quote-held, quote-looked, quote-passed, quote-tried}
 use Rattle.markdown_blocks.proofs.ContainerLaws.{ByRest, ContainerLaws}
 use Rattle.markdown_blocks.proofs.PassedFacts.{Agree, HasFurther}
-use Rattle.markdown_blocks.proofs.SimpleBlocks.{IsUnlisted}
 
 -- what holds of a quote holds of each container of its kind
 each-quote : (P : Container → Type 0) → P InQuote → (c : Container) → IsOf kind.BlockQuote c → P c
 each-quote P h InQuote is = h
-each-quote P h (InItem digits marker width starts_blank) is = cc
+each-quote P h (InItem digits marker zero starts_blank) is = cc
+each-quote P h (InItem digits marker (suc more) starts_blank) is = cc
 each-quote P h (InFootnote label) is = cc
-
--- the block of one makes no list
-pub quote-unlisted : (c : Container) (bs : Blocks) → IsOf kind.BlockQuote c → grouped bs ≡ bs →
-    IsUnlisted (container_block c bs)
-quote-unlisted c bs is h = each-quote (λ d. IsUnlisted (container_block d bs)) (unlisted-quote bs h) c is
 
 pub quote-laws : ContainerLaws kind.BlockQuote quote_rules
 quote-laws = record {
@@ -48,7 +41,7 @@ quote-laws = record {
   held_on = λ options held c cells p t holds e. prefix-held options cells p t e;
   opens_agrees = λ options interrupting. quote-begins options interrupting;
   goes_agrees = goes;
-  found_one = λ options interrupting r t e. ap (λ (c : Container). kind_of (shape_of c)) (opens-quote options r t e);
+  found_one = λ options interrupting r t e. ap container_kind (opens-quote options r t e);
   opens_not = λ options interrupting cells p ends. quote-ended options interrupting cells p ends;
   goes_over = λ options held c cells p is holds ends. prefix-ended options cells p ends;
   over_empty = λ options held c column is holds.

@@ -16,7 +16,8 @@ use Rattle.md_outline.specs.Between.{is_between}
 use Rattle.md_outline.specs.Outlined.{are_parted, begins_line}
 use Rattle.md_containers.proofs.QuoteLines.{IsPrefix}
 use Rattle.markdown_blocks.proofs.SpanLemmas.{byte-order}
-use Rattle.markdown_blocks.proofs.PartedFacts.{clear, low-clear, behind_prefix, PartsText}
+use Rattle.markdown_blocks.proofs.PartedFacts.{clear, low-clear}
+use Rattle.markdown_blocks.proofs.Reached.{PartsText, behind_prefix, reaches-behind}
 use Rattle.markdown_blocks.proofs.BetweenFacts.{white-at}
 
 -- it begins where no tab of a character is cut
@@ -32,7 +33,7 @@ prefix-clear bytes p q es is =
 
 -- a text goes on behind it
 pub prefix-parted : (bytes : List ℕ) (p q : Point) (es : List Event) → IsPrefix bytes p q es → PartsText bytes p q es
-prefix-parted bytes p q es is span rest marks between more =
+prefix-parted bytes p q es is span rest reaches between more =
     subst (λ (l : List Event). are_parted bytes (Some span) (l ++ rest) ≡ true) (sym is.events)
     (go (same_place p is.marker) (same_place is.behind q))
   where
@@ -49,11 +50,12 @@ prefix-parted bytes p q es is span rest marks between more =
         && (is_between bytes (byte_at q) && are_parted bytes (Some (behind_prefix q)) rest)) ≡
         true
     step =
-        let at = marks marker.index (byte-order p marker is.indent is.marker_whole) is.white_before in
+        let onward = more (behind_prefix q) (reaches-behind bytes q) in
+        let at = reaches.marks marker.index (byte-order p marker is.indent is.marker_whole) is.white_before in
         and_from (begins_line span piece && is_blank (last_line (split_lines piece)))
         (is_between bytes (byte_at q) && are_parted bytes (Some (behind_prefix q)) rest)
         (and_from (begins_line span piece) (is_blank (last_line (split_lines piece))) at.0 at.1)
-        (and_from (is_between bytes (byte_at q)) (are_parted bytes (Some (behind_prefix q)) rest) between more)
+        (and_from (is_between bytes (byte_at q)) (are_parted bytes (Some (behind_prefix q)) rest) between onward)
 
     go : (x y : Bool) →
         are_parted bytes (Some span)

@@ -1,16 +1,12 @@
--- Block quotes by the line definition: what opens as one is one, they make no list, and they do not go on over an empty
--- line.
-use Rattle.std.proofs.Common.{◌≡◌, ◌+◌, Bool, true, false, cond, ◌&&◌, [], refl, ap, ℕ}
+-- Block quotes by the line definition: what opens as one is one, and they do not go on over an empty line.
+use Rattle.std.proofs.Common.{◌≡◌, ◌+◌, Bool, true, false, cond, ◌&&◌, [], refl, ℕ}
 use Rattle.std.specs.Prelude.{Option, Some, None}
 use Rattle.md_engine.specs.declared.configuration.ParseOptions.{ParseOptions}
 use Rattle.md_definition.specs.Containers.{Taken, opens_quote, quote_taken}
 use Rattle.md_containers.proofs.QuoteLines.{quote-container}
 use Rattle.md_definition.specs.Rest.{Rest, has_small_indent, lose}
-use Rattle.md_definition.specs.Grouped.{grouped}
 use Rattle.md_definition.specs.State.{InQuote}
 use Rattle.md_definition.specs.Preamble.{rest_at}
-use Rattle.md_definition.specs.Tree.{Blocks, Quote}
-use Rattle.markdown_blocks.proofs.SimpleBlocks.{IsUnlisted}
 
 -- a quote that opens is one
 pub opens-quote : (options : ParseOptions) (r : Rest) (t : Taken) → opens_quote options r ≡ Some t →
@@ -21,10 +17,6 @@ opens-quote options r t e = go options.constructs.block_quote e
     go : (x : Bool) → cond x (quote_taken options r) None ≡ Some t → t.container ≡ InQuote
     go true e = quote-container options r t e
     go false e = cc
-
--- it makes no list
-pub unlisted-quote : (bs : Blocks) → grouped bs ≡ bs → IsUnlisted (Quote bs)
-unlisted-quote bs h = record { grouped_same = ap Quote h; in_front = λ more. refl }
 
 -- it does not go on over an empty line
 pub no_quote-empty : (options : ParseOptions) (column : ℕ) → quote_taken options (rest_at column []) ≡ None

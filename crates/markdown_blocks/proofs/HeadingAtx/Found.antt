@@ -1,4 +1,4 @@
--- Where the line definition has an ATX heading, and that its block is simple.
+-- Where the line definition has an ATX heading, and that an outline can show its block.
 use Rattle.std.proofs.Common.{◌≡◌, ℕ, ◌+◌, Bool, true, false, cond, ◌&&◌, drop, refl, ap, ◌∙◌, arith}
 use Rattle.std.specs.Prelude.{nat_le, Option, Some, None}
 use Rattle.std.proofs.lemmas.Bool.{and_parts}
@@ -7,7 +7,7 @@ use Rattle.md_leaves.specs.HeadingRule.{is_heading}
 use Rattle.md_definition.specs.Leaves.{Came, Finished, heading_at}
 use Rattle.md_definition.specs.Rest.{Rest, has_small_indent, is_parted, run_len, trim_start}
 use Rattle.markdown_blocks.specs.Leaf.HeadingAtx.{heading_block, heading_leaf}
-use Rattle.markdown_blocks.proofs.SimpleBlocks.{IsSimple}
+use Rattle.md_outline.specs.HeadingDepths.{is_shallow}
 
 -- a heading starts where its leaf says, and comes to its block
 pub heading-found : (options : ParseOptions) (r : Rest) →
@@ -30,19 +30,14 @@ heading-found options r =
     go true false b c d e = refl
     go true true b c d e = ap (λ (z : Bool). z && d) e
 
--- it is not deeper than 6, and makes no list
-pub heading-simple : (options : ParseOptions) (r : Rest) → heading_leaf.starts options r ≡ true →
-    IsSimple (heading_block r)
-heading-simple options r h =
+-- it is not deeper than 6
+pub heading-shallow : (options : ParseOptions) (r : Rest) → heading_leaf.starts options r ≡ true →
+    is_shallow (heading_block r) ≡ true
+heading-shallow options r h =
     let text = trim_start r.bytes in
     let depth = run_len 35 text in
     let same : depth ≡ 0 + depth = omega arith in
     let heading : is_heading text ≡
     true = (and_parts (options.constructs.heading_atx && has_small_indent options r) (is_heading text) h).1 in
     let opening = (and_parts (nat_le 1 depth) (nat_le (0 + depth) 6 && is_parted (drop depth text)) heading).1 in
-    record {
-      shallow =
-          ap (λ (k : ℕ). nat_le k 6) same ∙ (and_parts (nat_le (0 + depth) 6) (is_parted (drop depth text)) opening).0;
-      grouped_same = refl;
-      in_front = λ bs. refl;
-    }
+    ap (λ (k : ℕ). nat_le k 6) same ∙ (and_parts (nat_le (0 + depth) 6) (is_parted (drop depth text)) opening).0

@@ -9,6 +9,7 @@ use Rattle.md_engine.specs.declared.event.Point.{Point}
 use Rattle.md_leaves.specs.HeadingRule.{is_heading}
 use Rattle.md_leaves.specs.HeadingTitle.{title_of, unread_title}
 use Rattle.md_seam.specs.Events.Places.{past_text}
+use Rattle.md_seam.specs.Events.Spelled.{OfHeadingAtx}
 use Rattle.md_definition.specs.Rest.{Rest, has_small_indent, trim_start}
 use Rattle.markdown_blocks.specs.Fronted.{rest_line}
 use Rattle.markdown_blocks.specs.Leaf.HeadingAtx.{heading_leaf, read_title}
@@ -22,12 +23,14 @@ use Rattle.markdown_blocks.proofs.HeadingAtx.Parted.{heading-sits}
 use Rattle.markdown_blocks.proofs.HeadingAtx.Pieces.{read-stood, unread-stood}
 use Rattle.markdown_blocks.proofs.HeadingAtx.Plain.{heading-plain}
 use Rattle.markdown_blocks.proofs.HeadingAtx.Spelled.{heading-reads}
+use Rattle.markdown_blocks.proofs.HeadingAtx.Stands.{read-parts, unread-parts}
 use Rattle.markdown_blocks.proofs.HeadingAtx.Texts.{fill-title, heading-resolved, stands-title, title-becomes}
 use Rattle.markdown_blocks.proofs.HeadingAtx.Tiled.{heading-tiled}
 use Rattle.markdown_blocks.proofs.HeadingAtx.Trial.{trial-looked, trial-refused, trial-shrinks, trial-took}
 use Rattle.markdown_blocks.proofs.HeadingAtx.Words.{read-word, unread-word}
 use Rattle.markdown_blocks.proofs.LeafFacts.{LeafFacts, LineAt}
 use Rattle.markdown_blocks.proofs.LeafLaws.{LeafLaws}
+use Rattle.markdown_blocks.proofs.LeafStands.{around-unlisted, leaf-stands}
 use Rattle.markdown_blocks.proofs.PartsStand.{stands-around}
 use Rattle.markdown_blocks.proofs.PiecesLemmas.{Tiled}
 use Rattle.markdown_blocks.proofs.RestFacts.{rest-trim}
@@ -58,6 +61,14 @@ heading-facts options bytes r p q starts is = record {
   word = read-word bytes line p begins;
   unread_ending = unread-ending line p;
   ending = read-ending bytes r line p q is;
+  unread_unlisted =
+      around-unlisted n.HeadingAtx p (past_text line p) (unread_title (title_of line p)) refl (unread-parts line p);
+  unlisted =
+      around-unlisted n.HeadingAtx p (past_text line p) (read_title bytes (title_of line p)) refl
+      (read-parts bytes line p);
+  stands =
+      λ held. leaf-stands bytes held n.HeadingAtx OfHeadingAtx p (past_text line p)
+      (read_title bytes (title_of line p)) refl (read-parts bytes line p);
   parts =
       stands-around bytes n.HeadingAtx p (past_text line p) (unread_title (title_of line p)) refl
       (stands-title bytes r line p q is);

@@ -15,11 +15,12 @@ use Rattle.md_seam.specs.Events.Nested.{enter_link, exit}
 use Rattle.md_definition.specs.State.{Kept, Leaf, NoLeaf, OpenParagraph, shut_paragraph, texts, then_leaf}
 use Rattle.md_definition.specs.State.{then_paragraph}
 use Rattle.md_definition.specs.Tree.{Blocks, Paragraph}
+use Rattle.md_outline.specs.HeadingDepths.{are_shallow}
 use Rattle.markdown_blocks.specs.Leaf.Paragraph.{paragraph_leaf}
 use Rattle.markdown_blocks.specs.HeldLeaf.{IsBuiltLeaf}
 use Rattle.markdown_blocks.proofs.EachEvent.{settled-each}
 use Rattle.markdown_blocks.proofs.OutsideFacts.{AreOutside, IsOutside, outside-append}
-use Rattle.markdown_blocks.proofs.SimpleBlocks.{AreSimple, simple-then}
+use Rattle.markdown_blocks.proofs.ShallowBlocks.{shallow-then}
 use Rattle.markdown_blocks.proofs.TextLaws.{TextLaws}
 
 open-cases : (P : Leaf → Type 0) → P NoLeaf → ((k : Kept) (ks : List Kept) → P (OpenParagraph (k ∷ ks))) →
@@ -33,11 +34,10 @@ shut-lines : (options : ParseOptions) (bs : Blocks) (ks : List Kept) → options
 unfolding shut_paragraph
 shut-lines options bs ks off = rw off refl
 
-simple-behind : (bs : Blocks) (lines : List (List ℕ)) → AreSimple bs → AreSimple (then_paragraph bs lines)
-simple-behind bs [] h = h
-simple-behind bs (line ∷ lines) h =
-    simple-then bs (Paragraph (line ∷ lines)) h
-    (record { shallow = refl; grouped_same = refl; in_front = λ more. refl })
+shallow-behind : (bs : Blocks) (lines : List (List ℕ)) → are_shallow bs ≡ true →
+    are_shallow (then_paragraph bs lines) ≡ true
+shallow-behind bs [] h = h
+shallow-behind bs (line ∷ lines) h = shallow-then bs (Paragraph (line ∷ lines)) h refl
 
 -- What is read of content.
 
@@ -71,6 +71,6 @@ pub paragraph-laws : TextLaws paragraph_leaf
 paragraph-laws = record {
   cases = λ P none text leaf plain. open-cases P none text leaf plain;
   shut = λ options bs ks off. shut-lines options bs ks off;
-  simple = λ bs lines h. simple-behind bs lines h;
+  shallow = λ bs lines h. shallow-behind bs lines h;
   outside = λ bytes options chunks. content-outside bytes options chunks;
 }

@@ -12,6 +12,7 @@ use Rattle.md_definition.specs.State.{Kept, kept, texts}
 use Rattle.md_seam.proofs.EndingsLemmas.{leaf-leads}
 use Rattle.md_seam.proofs.GrammarLemmas.{leads-around}
 use Rattle.md_seam.proofs.InlineLemmas.{plain-fills}
+use Rattle.md_seam.proofs.SpelledLemmas.{Between, Roles, roles-append}
 use Rattle.md_outline.specs.Between.{is_between}
 use Rattle.markdown_blocks.specs.Registry.{text_leaf}
 use Rattle.markdown_blocks.specs.Rows.{Row, chunks_of, last_row, read_lines, text_done}
@@ -20,13 +21,14 @@ use Rattle.markdown_blocks.proofs.BetweenFacts.{around-between}
 use Rattle.markdown_blocks.proofs.FillFacts.{fill-part}
 use Rattle.markdown_blocks.proofs.GroupLemmas.{AreLines, chunks-lines}
 use Rattle.markdown_blocks.proofs.LeafFacts.{LeafFacts}
+use Rattle.markdown_blocks.proofs.LeafStands.{around-unlisted, between-parts, text-stands}
 use Rattle.markdown_blocks.proofs.PartedFacts.{clear}
 use Rattle.markdown_blocks.proofs.PartsStand.{stands-part}
 use Rattle.markdown_blocks.proofs.PieceFacts.{stood-around}
 use Rattle.markdown_blocks.proofs.PiecesLemmas.{tiled-around}
 use Rattle.markdown_blocks.proofs.PlainFacts.{plain-around}
 use Rattle.markdown_blocks.proofs.SpanLemmas.{around-nested}
-use Rattle.markdown_blocks.proofs.SpelledParagraphs.{IsRead, read-lines, read-more, read-one}
+use Rattle.markdown_blocks.proofs.SpelledParagraphs.{IsRead, fronts-between, read-lines, read-more, read-one}
 use Rattle.markdown_blocks.proofs.Text.Endings.{linked-filling, read-filling}
 use Rattle.markdown_blocks.proofs.Text.Order.{chunks-order}
 use Rattle.markdown_blocks.proofs.Text.Parted.{text-sits}
@@ -49,6 +51,19 @@ lines-read options bytes row [] h = read-one options bytes h.0 row h.1 h.2
 lines-read options bytes row (next ∷ rows) h =
     read-more options bytes h.0 row next rows h.3 (kept-of options bytes next rows h.7) h.1 h.2 h.5 h.6
     (lines-read options bytes next rows h.7)
+
+-- before that, it is chunks of text, with what stands in front of further lines
+unread-between : (options : ParseOptions) (bytes : List ℕ) (row : Row) (rows : List Row) →
+    AreLines options bytes row rows → Roles Between (unread_lines row rows)
+unread-between options bytes row [] h = (tt, (tt, tt))
+unread-between options bytes row (next ∷ rows) h = (
+  tt,
+  (
+    tt,
+    roles-append Between next.front (unread_lines next rows)
+        (fronts-between bytes [] h.3 next.first next.front h.6 refl) (unread-between options bytes next rows h.7),
+  ),
+)
 
 -- the last one ends in no tab
 end-clear : (options : ParseOptions) (bytes : List ℕ) (row : Row) (rows : List Row) → AreLines options bytes row rows →
@@ -77,6 +92,11 @@ text-facts options bytes row rows h = record {
   word = leads-around plain_text blocks text_leaf.name row.first end done (read-word options bytes true row rows h);
   unread_ending = leaf-leads text_leaf.name row.first end unread refl (linked-filling options bytes row rows h true);
   ending = leaf-leads text_leaf.name row.first end done refl (read-filling options bytes row rows h true);
+  unread_unlisted =
+      around-unlisted text_leaf.name row.first end unread refl
+      (between-parts unread (unread-between options bytes row rows h));
+  unlisted = around-unlisted text_leaf.name row.first end done refl (between-parts done read.between);
+  stands = λ held. text-stands bytes held text_leaf.name row.first end done refl read.between;
   parts =
       stands-part bytes text_leaf.name Text row.first end chunks unread refl (lines-inside options bytes row rows h)
       (chunks-begin row rows) (chunks-lines options bytes row rows h);
@@ -93,7 +113,7 @@ text-facts options bytes row rows h = record {
       (read-plain options bytes row rows h);
   reads =
       λ r text leaf. read-lines bytes row rows (kept-of options bytes row rows h) r
-      (lines-read options bytes row rows h) text;
+      read text;
 }
   where
     end : Point
@@ -107,3 +127,6 @@ text-facts options bytes row rows h = record {
 
     chunks : List Chunk
     chunks = chunks_of row rows
+
+    read : IsRead bytes row rows (kept-of options bytes row rows h)
+    read = lines-read options bytes row rows h

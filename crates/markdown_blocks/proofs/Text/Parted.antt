@@ -1,7 +1,8 @@
 -- Prefixes part a text at the begins of its lines.
-use Rattle.markdown_blocks.proofs.FrontStands.{fronts-parted, Fine, EndBlank, begins-fine, end-blank, ended-blank}
+use Rattle.markdown_blocks.proofs.FrontStands.{fronts-parted}
+use Rattle.markdown_blocks.proofs.Reached.{Fine, Reaches, begins-fine, cut-white, reaches-ended, reaches-fine}
 use Rattle.markdown_blocks.proofs.Text.Order.{first-text}
-use Rattle.std.proofs.Common.{◌≡◌, ◌⊎◌, inl, inr, ℕ, zero, suc, ◌+◌, ◌-◌, ◌<◌, ◌≤◌, Bool, true, false, cond, ◌||◌, List}
+use Rattle.std.proofs.Common.{◌≡◌, ℕ, zero, suc, ◌+◌, ◌-◌, ◌<◌, ◌≤◌, Bool, true, false, cond, List}
 use Rattle.std.proofs.Common.{[], ◌∷◌, ◌++◌, length, get_or, drop, slice_range, refl, ap, sym, ◌∙◌, subst, append_assoc}
 use Rattle.std.proofs.Common.{arith}
 use Rattle.std.specs.Prelude.{◌==◌, not, slice_index, Some, None}
@@ -15,20 +16,17 @@ use Rattle.md_seam.specs.declared.inline.Chunk.{Chunk}
 use Rattle.md_seam.specs.Events.Inline.{plain_chunk}
 use Rattle.md_definition.specs.Lines.{is_ending}
 use Rattle.md_seam.specs.Events.Nested.{enter, exit}
-use Rattle.md_seam.specs.Events.Places.{last_line}
-use Rattle.md_definition.specs.Rest.{Rest, is_blank}
+use Rattle.md_definition.specs.Rest.{Rest, is_blank, is_white}
 use Rattle.md_seam.specs.Events.Spelled.{byte_at}
-use Rattle.md_definition.specs.Texts.{split_lines}
 use Rattle.md_seam.proofs.RestCells.{Cut}
-use Rattle.md_definition.proofs.TextsLemmas.{NoEnding, ending_bytes}
-use Rattle.md_outline.specs.Between.{is_between}
+use Rattle.md_definition.proofs.TextsLemmas.{NoEnding}
 use Rattle.md_outline.specs.Outlined.{TextSpan as Span, are_parted, begins_line}
 use Rattle.markdown_blocks.specs.Fronted.{cut_tab}
 use Rattle.markdown_blocks.specs.Rows.{BlankRow, Row, TextRow, behind_row, last_row, line_kind, read_lines, kind_of}
 use Rattle.markdown_blocks.specs.Rows.{text_done}
 use Rattle.markdown_blocks.specs.Registry.{first_of, leaf, trials, text_leaf}
-use Rattle.markdown_blocks.proofs.RowFacts.{IsEnding, slice-split, IsRow}
-use Rattle.markdown_blocks.proofs.PartedFacts.{Sits, byte-from, clear, low-clear, passes-chunk, Marks, behind_prefix}
+use Rattle.markdown_blocks.proofs.RowFacts.{IsRow}
+use Rattle.markdown_blocks.proofs.PartedFacts.{Sits, clear, low-clear, passes-chunk}
 use Rattle.markdown_blocks.proofs.BetweenFacts.{ending-behind, is_low}
 use Rattle.markdown_blocks.proofs.GroupLemmas.{AreLines}
 
@@ -36,28 +34,7 @@ use Rattle.markdown_blocks.proofs.GroupLemmas.{AreLines}
 pub record BeginsText (bytes : List ℕ) (row : Row) : Type 0 where
   fine : not (slice_index bytes (byte_at row.first) == 10) ≡ true
   within : byte_at row.first ≤ row.end.index
-
--- a line of text ends in front of an ending, behind which prefixes may stand
-pub marks-ended : (bytes : List ℕ) (p q : Point) (span : Span) → IsEnding bytes p q → Fine bytes span →
-    span.from ≤ p.index → Marks bytes q span
-marks-ended bytes p q span ending fine within j h blank =
-    let size : p.index ≤ q.index = omega (arith, ending.size) in
-    let further : q.index ≤ j = later (byte-from q) h in
-    let front : List ℕ = slice_range bytes span.from p.index in
-    let white : List ℕ = slice_range bytes q.index j in
-    let piece : slice_range bytes span.from j ≡ front ++ (ending_bytes ending.ending ++ white) =
-    slice-split bytes span.from p.index j within (later size further)
-    ∙ ap (λ (l : List ℕ). front ++ l)
-    (slice-split bytes p.index q.index j size further ∙ ap (λ (l : List ℕ). l ++ white) ending.text) in
-    let last : EndBlank
-    (split_lines (front ++ (ending_bytes ending.ending ++ white))) = ended-blank front ending.ending white blank in (
-      begins-fine bytes span j fine,
-      ap (λ (l : List ℕ). is_blank (last_line (split_lines l))) piece
-          ∙ end-blank (split_lines (front ++ (ending_bytes ending.ending ++ white))) last,
-    )
-  where
-    later : {a b c : ℕ} → a ≤ b → b ≤ c → a ≤ c
-    later h k = omega (arith, h, k)
+  white : is_blank (slice_range bytes row.first.index (byte_at row.first)) ≡ true
 
 -- it stands in a text that goes on with a line
 abbrev pub Core : List ℕ → Row → List Event → Type 0
@@ -72,15 +49,22 @@ line-at bytes line a e k b text size h at =
     ∙ ap (λ (l : List ℕ). get_or l k 0) text ∙ at
 
 -- a line that begins within a tab begins with it
+line-tab : (bytes : List ℕ) (row : Row) (spaces : ℕ) (rest : List ℕ) → Cut spaces row.first →
+    slice_range bytes row.first.index row.end.index ≡ cut_tab spaces ++ rest →
+    row.end.index ≡ row.first.index + length (cut_tab spaces ++ rest) → (row.first.vs == 0) ≡ false →
+    slice_index bytes row.first.index ≡ 9
+line-tab bytes row zero rest cut text size e = absurd (true≢false (sym (ap (λ (v : ℕ). v == 0) cut) ∙ e))
+line-tab bytes row (suc spaces) rest cut text size e =
+    let zero_at : row.first.index + 0 ≡ row.first.index = omega arith in
+    ap (slice_index bytes) (sym zero_at)
+    ∙ line-at bytes (9 ∷ rest) row.first.index row.end.index 0 9 text size (omega arith) refl
+
 pub line-clear : (bytes : List ℕ) (row : Row) (spaces : ℕ) (rest : List ℕ) → Cut spaces row.first →
     slice_range bytes row.first.index row.end.index ≡ cut_tab spaces ++ rest →
     row.end.index ≡ row.first.index + length (cut_tab spaces ++ rest) → clear bytes row.first ≡ true
-line-clear bytes row zero rest cut text size = ap (λ (v : ℕ). (v == 0) || is_between bytes (byte_at row.first)) cut
-line-clear bytes row (suc spaces) rest cut text size =
-    let zero_at : row.first.index + 0 ≡ row.first.index = omega arith in
-    let tab : slice_index bytes row.first.index ≡ 9 = ap (slice_index bytes) (sym zero_at)
-    ∙ line-at bytes (9 ∷ rest) row.first.index row.end.index 0 9 text size (omega arith) refl in
-    low-clear bytes row.first (λ e. subst (λ (b : ℕ). is_low b ≡ true) (sym tab) refl)
+line-clear bytes row spaces rest cut text size =
+    low-clear bytes row.first
+    (λ e. subst (λ (b : ℕ). is_low b ≡ true) (sym (line-tab bytes row spaces rest cut text size e)) refl)
 
 pub rest-clear : (options : ParseOptions) (bytes line : List ℕ) (row : Row) → IsRow options bytes line row →
     clear bytes row.first ≡ true
@@ -99,6 +83,14 @@ text-nonblank options r = go (is_blank r.bytes)
 pub feed-none : (b : ℕ) → is_ending b ≡ false → not (b == 10) ≡ true
 feed-none b h = grind (arith, nat_tests)
 
+line-white : (bytes : List ℕ) (row : Row) (spaces : ℕ) (rest : List ℕ) → Cut spaces row.first →
+    slice_range bytes row.first.index row.end.index ≡ cut_tab spaces ++ rest →
+    row.end.index ≡ row.first.index + length (cut_tab spaces ++ rest) →
+    is_blank (slice_range bytes row.first.index (byte_at row.first)) ≡ true
+line-white bytes row spaces rest cut text size =
+    cut-white bytes row.first
+    (λ e. subst (λ (b : ℕ). is_white b ≡ true) (sym (line-tab bytes row spaces rest cut text size e)) refl)
+
 pub line-begins : (bytes : List ℕ) (row : Row) (spaces : ℕ) (rest : List ℕ) → Cut spaces row.first →
     slice_range bytes row.first.index row.end.index ≡ cut_tab spaces ++ rest →
     row.end.index ≡ row.first.index + length (cut_tab spaces ++ rest) → is_blank rest ≡ false →
@@ -110,7 +102,11 @@ line-begins bytes row zero (b ∷ rest) cut text size blank none =
     ∙ omega arith in
     let is : slice_index bytes (byte_at row.first) ≡ b = ap (slice_index bytes) at
     ∙ line-at bytes (b ∷ rest) row.first.index row.end.index 0 b text size (omega arith) refl in
-    record { fine = ap (λ (c : ℕ). not (c == 10)) is ∙ feed-none b none.0; within = omega (arith, at, size) }
+    record {
+      fine = ap (λ (c : ℕ). not (c == 10)) is ∙ feed-none b none.0;
+      within = omega (arith, at, size);
+      white = line-white bytes row zero (b ∷ rest) cut text size;
+    }
 line-begins bytes row (suc spaces) [] cut text size blank none = absurd (true≢false blank)
 line-begins bytes row (suc spaces) (b ∷ rest) cut text size blank none =
     let other : (row.first.vs == 0) ≡ false = positive row.first.vs cut.0 in
@@ -118,7 +114,11 @@ line-begins bytes row (suc spaces) (b ∷ rest) cut text size blank none =
     row.first.index + 1 = ap (λ (x : Bool). cond x row.first.index (row.first.index + 1)) other in
     let is : slice_index bytes (byte_at row.first) ≡ b = ap (slice_index bytes) at
     ∙ line-at bytes (9 ∷ b ∷ rest) row.first.index row.end.index 1 b text size (omega arith) refl in
-    record { fine = ap (λ (c : ℕ). not (c == 10)) is ∙ feed-none b none.1.0; within = omega (arith, at, size) }
+    record {
+      fine = ap (λ (c : ℕ). not (c == 10)) is ∙ feed-none b none.1.0;
+      within = omega (arith, at, size);
+      white = line-white bytes row (suc spaces) (b ∷ rest) cut text size;
+    }
   where
     positive : (v : ℕ) → 0 < v → (v == 0) ≡ false
     positive v h = grind (arith, nat_tests)
@@ -149,12 +149,11 @@ read-parted options bytes row (next ∷ rows) ys h more span fine within =
     let events : List Event = plain_chunk bytes chunk in
     let apart : ((events ++ next.front) ++ text) ++ rest ≡
     events ++ (next.front ++ (text ++ rest)) = simp append_assoc in
-    let from : span.from ≤ q.index = omega (arith, within, h.5.size) in
     ap (are_parted bytes (Some span)) apart
     ∙ passes-chunk bytes (Some span) chunk (next.front ++ (text ++ rest))
     ∙ fronts-parted bytes [] q next.first next.front span (text ++ rest) h.6 refl (ending-behind bytes row.end q h.5)
-    (rest-clear options bytes line.0 next line.1) (marks-ended bytes row.end q span h.5 fine within)
-    (further (read-parted options bytes next rows ys h.7 more) from)
+    (rest-clear options bytes line.0 next line.1) (reaches-ended bytes row.end q span h.5 fine within)
+    (further (read-parted options bytes next rows ys h.7 more))
   where
     line : (line : List ℕ) × IsRow options bytes line next × (next.kind ≡ TextRow)
     line = first-text options bytes next rows h.7
@@ -168,20 +167,11 @@ read-parted options bytes row (next ∷ rows) ys h more span fine within =
     rest : List Event
     rest = exit text_leaf.name (last_row next rows).end ∷ ys
 
-    later : (a b c d : ℕ) → a ≤ b → b ≤ c → c ≤ d → a ≤ d
-    later a b c d h k l = omega (arith, h, k, l)
-
-    further : Core bytes next (text ++ rest) → span.from ≤ h.3.index → (after : Span) →
-        ((after ≡ span) × (h.3 ≡ next.first)) ⊎ (after ≡ behind_prefix next.first) →
+    further : Core bytes next (text ++ rest) → (after : Span) → Reaches bytes next.first after →
         are_parted bytes (Some after) (text ++ rest) ≡ true
-    further core from after (inl c) =
-        let here : span.from ≤
-        next.end.index = later span.from h.3.index (byte_at next.first) next.end.index from
-        (subst (λ (x : Point). h.3.index ≤ byte_at x) c.1 (byte-from h.3)) begins.within in
-        core after (subst (Fine bytes) (sym c.0) fine) (subst (λ (s : Span). s.from ≤ next.end.index) (sym c.0) here)
-    further core from after (inr c) =
-        core after (subst (Fine bytes) (sym c) begins.fine)
-        (subst (λ (s : Span). s.from ≤ next.end.index) (sym c) begins.within)
+    further core after reaches =
+        core after (reaches-fine bytes next.first after reaches begins.fine begins.white)
+        (let from = reaches.from in let within = begins.within in omega (arith, from, within))
 
 -- A text that begins ends.
 pub text-sits : (options : ParseOptions) (bytes : List ℕ) (row : Row) (rows : List Row) →

@@ -11,11 +11,13 @@ use Rattle.md_engine.specs.declared.event.Kind.{Kind}
 use Rattle.md_engine.specs.declared.event.Kind.TheVariants.{Enter, Exit}
 use Rattle.md_engine.specs.declared.event.Name.TheVariants as n
 use Rattle.md_engine.specs.declared.event.Point.{Point}
+use Rattle.md_containers.proofs.UnlistedLemmas.{NoListing}
 use Rattle.md_seam.specs.Events.Endings.{line_start}
 use Rattle.md_seam.specs.Events.Grammar.{Expression, Nothing, behind, blocks, inside, plain_text, unread_text}
 use Rattle.md_seam.specs.Events.Nested.{around, enter, exit}
 use Rattle.md_seam.specs.Events.Pieces.{is_run, stands_over}
 use Rattle.md_seam.specs.Events.Places.{past_byte, past_text}
+use Rattle.md_seam.specs.Events.Spelled.{OfBreak}
 use Rattle.md_definition.specs.Leaves.{is_rule, is_rule_marker}
 use Rattle.md_definition.specs.Rest.{Rest, is_white, trim_start}
 use Rattle.md_definition.specs.Tree.{Break}
@@ -31,6 +33,7 @@ use Rattle.markdown_blocks.specs.Registry.{resolved}
 use Rattle.markdown_blocks.proofs.BetweenFacts.{all-more, around-between, is_low, low-between, trim-low, white-low}
 use Rattle.markdown_blocks.proofs.FillFacts.{fill-around, fill-same}
 use Rattle.markdown_blocks.proofs.LeafFacts.{LeafFacts, LineAt}
+use Rattle.markdown_blocks.proofs.LeafStands.{around-unlisted, leaf-stands, quiets-parts}
 use Rattle.markdown_blocks.proofs.LineTexts.{line-stands}
 use Rattle.markdown_blocks.proofs.PartFacts.{NoLinks, NoParts, quiet-no_parts, IsUnlinked}
 use Rattle.markdown_blocks.proofs.PartedFacts.{around-sits, quiets-still, sits-still}
@@ -287,6 +290,9 @@ break-facts options bytes r p q starts at =
     quiet : Roles Quiet inside_of
     quiet = runs-quiet Apart m line p
 
+    unlisted : NoListing (around n.ThematicBreak p q inside_of)
+    unlisted = around-unlisted n.ThematicBreak p q inside_of refl (quiets-parts inside_of quiet)
+
     outside : NoParts inside_of
     outside = quiet-no_parts inside_of quiet
 
@@ -329,6 +335,10 @@ break-facts options bytes r p q starts at =
       word = leads-around plain_text blocks n.ThematicBreak p q inside_of (word plain_text);
       unread_ending = ends;
       ending = ends;
+      unread_unlisted = unlisted;
+      unlisted = unlisted;
+      stands =
+          λ held. leaf-stands bytes held n.ThematicBreak OfBreak p q inside_of refl (quiets-parts inside_of quiet);
       parts = stands-around bytes n.ThematicBreak p q inside_of refl (stands-outside bytes inside_of outside unlinked);
       filled =
           fill-around bytes n.ThematicBreak p q inside_of inside_of refl (fill-same bytes inside_of unlinked outside);

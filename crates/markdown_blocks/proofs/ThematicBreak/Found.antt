@@ -1,4 +1,4 @@
--- Where the line definition has a thematic break, and that its block is simple.
+-- Where the line definition has a thematic break.
 use Rattle.std.proofs.Common.{◌≡◌, cond, refl}
 use Rattle.std.specs.Prelude.{Some, None}
 use Rattle.md_engine.specs.declared.configuration.ParseOptions.{ParseOptions}
@@ -6,14 +6,9 @@ use Rattle.md_definition.specs.Leaves.{Finished, break_at}
 use Rattle.md_definition.specs.Rest.{Rest}
 use Rattle.md_definition.specs.Tree.{Break}
 use Rattle.markdown_blocks.specs.Leaf.ThematicBreak.{break_leaf}
-use Rattle.markdown_blocks.proofs.SimpleBlocks.{IsSimple}
 
 -- a break starts where its leaf says, and comes to its block
 pub break-found : (options : ParseOptions) (r : Rest) →
     break_at options r ≡ cond (break_leaf.starts options r) (Some (Finished Break)) None
 unfolding break_at
 break-found options r = refl
-
--- it makes no list
-pub break-simple : IsSimple Break
-break-simple = record { shallow = refl; grouped_same = refl; in_front = λ bs. refl }

@@ -251,6 +251,23 @@ pub fn container_new_before(tokenizer: &mut Tokenizer) -> State
     try_new(tokenizer, ContainerKind::BlockQuote)
 }
 
+/// Before a list item that may open.
+///
+/// ```markdown
+/// > | * a
+///     ^
+/// ```
+pub fn container_new_before_not_block_quote(tokenizer: &mut Tokenizer) -> State
+    requires { IsAt NeedsNothing (StateName.Document DocumentState.ContainerNewBeforeNotBlockQuote)
+        (world tokenizer.old) }
+    ensures to { result ≢ State.Error →
+        result ≡ (new_before_transition ContainerKind.ListItem (world tokenizer.old)).to }
+    ensures world { result ≢ State.Error →
+        world tokenizer.new ≡ (new_before_transition ContainerKind.ListItem (world tokenizer.old)).world }
+{
+    try_new(tokenizer, ContainerKind::ListItem)
+}
+
 /// Behind the first prefix of a container that opens: those that did not go on end before it.
 ///
 /// ```markdown
@@ -373,6 +390,9 @@ pub fn call(tokenizer: &mut Tokenizer, state: DocumentState) -> State
         DocumentState::ContainerExistingBefore => container_existing_before(tokenizer),
         DocumentState::ContainerExistingAfter => container_existing_after(tokenizer),
         DocumentState::ContainerNewBefore => container_new_before(tokenizer),
+        DocumentState::ContainerNewBeforeNotBlockQuote => {
+            container_new_before_not_block_quote(tokenizer)
+        }
         DocumentState::ContainerNewAfter => container_new_after(tokenizer),
         DocumentState::ContainersAfter => containers_after(tokenizer),
         DocumentState::FlowEnd => flow_end(tokenizer),

@@ -23,6 +23,7 @@ ghost use Rattle.md_seam.specs.Transition.{IsAt, NeedsNothing};
 
 use crate::construct::{document, registry};
 use crate::resolve;
+use md_containers::list_item;
 use md_content::content;
 use md_engine::message::Message;
 use md_engine::or_error;
@@ -268,6 +269,7 @@ impl Table for FlowTable {
         match name {
             StateName::Content(state) => content::stays(state),
             StateName::HeadingAtx(state) => heading_atx::stays(state),
+            StateName::ListItem(state) => list_item::stays(state),
             StateName::SpaceOrTab(state) => space_or_tab::stays(state),
             StateName::ThematicBreak(state) => thematic_break::stays(state),
             _ => None,

@@ -1,7 +1,7 @@
 // The constructs that are built: the one place of the frame's code that names them, but for the states of flow in front
 // of leaves.
 //
-//     container ::= block_quote
+//     container ::= block_quote | list_item
 //     leaf      ::= heading_atx | thematic_break
 //
 // What flow itself is made of (blank lines, content, whitespace) stands in its own table.
@@ -14,16 +14,17 @@ ghost use Rattle.md_engine.specs.Scheme.{stands};
 ghost use Rattle.md_engine.specs.World.{looks, world};
 ghost use Rattle.md_engine.specs.declared.resolve.name.Name.{Name as ResolveName};
 ghost use Rattle.md_engine.specs.declared.state.State.{State};
-ghost use Rattle.markdown_blocks.specs.Registry.{construct_transition, goes_on_with, goes_over, may_go_on, may_open};
-ghost use Rattle.markdown_blocks.specs.Registry.{next_opener, opener_front, openers, opens_with, resolved_by};
+ghost use Rattle.markdown_blocks.specs.Registry.{construct_transition, goes_at_once, goes_on_with, goes_over};
+ghost use Rattle.markdown_blocks.specs.Registry.{may_go_on, may_open, next_opener, opener_front, openers, opens_with, resolved_by};
 ghost use Rattle.markdown_blocks.specs.States.{flow_table_scheme};
 ghost use Rattle.md_seam.specs.Look.{looks_behind, may_with};
 
-use md_containers::block_quote;
+use md_containers::{block_quote, list_item, lists};
 use md_engine::message::Message;
 use md_engine::resolve::Name as ResolveName;
 use md_engine::state::block_quote::State as QuoteState;
 use md_engine::state::document::State as DocumentState;
+use md_engine::state::list_item::State as ItemState;
 use md_engine::state::{Name as StateName, State};
 use md_engine::subtokenize::Subresult;
 use md_engine::tokenizer::{Container, ContainerKind, Tokenizer};
@@ -44,7 +45,8 @@ pub fn next_opener(kind: ContainerKind) -> DocumentState
     ensures { result ≡ next_opener kind }
 {
     match kind {
-        ContainerKind::BlockQuote => DocumentState::ContainersAfter,
+        ContainerKind::BlockQuote => DocumentState::ContainerNewBeforeNotBlockQuote,
+        ContainerKind::ListItem => DocumentState::ContainersAfter,
     }
 }
 
@@ -55,6 +57,7 @@ pub fn opens_with(kind: ContainerKind) -> StateName
 {
     match kind {
         ContainerKind::BlockQuote => StateName::BlockQuote(QuoteState::Start),
+        ContainerKind::ListItem => StateName::ListItem(ItemState::Start),
     }
 }
 
@@ -65,6 +68,7 @@ pub fn may_open(tokenizer: &Tokenizer, kind: ContainerKind) -> bool
 {
     match kind {
         ContainerKind::BlockQuote => block_quote::may_begin(look_behind(tokenizer)),
+        ContainerKind::ListItem => list_item::may_begin(look_behind(tokenizer)),
     }
 }
 
@@ -76,6 +80,7 @@ pub fn may_go_on(tokenizer: &Tokenizer, kind: ContainerKind) -> bool
 {
     match kind {
         ContainerKind::BlockQuote => block_quote::may_begin(look_behind(tokenizer)),
+        ContainerKind::ListItem => true,
     }
 }
 
@@ -86,15 +91,18 @@ pub fn goes_over(container: Container) -> bool
 {
     match container.kind {
         ContainerKind::BlockQuote => false,
+        ContainerKind::ListItem => !container.starts_blank,
     }
 }
 
 /// Whether the prefix of a container on a further line stands here, so that it can be taken at once.
 pub fn has_plain_prefix(kind: ContainerKind, tokenizer: &Tokenizer) -> bool
-    ensures { result ≡ true → IsPlainPrefix (world tokenizer.now) }
+    ensures kind { result ≡ true → goes_at_once kind ≡ true }
+    ensures here { result ≡ true → IsPlainPrefix (world tokenizer.now) }
 {
     match kind {
         ContainerKind::BlockQuote => block_quote::is_plain_prefix(tokenizer),
+        ContainerKind::ListItem => false,
     }
 }
 
@@ -113,6 +121,7 @@ pub fn goes_on_with(kind: ContainerKind) -> StateName
 {
     match kind {
         ContainerKind::BlockQuote => StateName::BlockQuote(QuoteState::ContStart),
+        ContainerKind::ListItem => StateName::ListItem(ItemState::ContStart),
     }
 }
 
@@ -133,6 +142,7 @@ pub fn call(tokenizer: &mut Tokenizer, name: StateName) -> State
     match name {
         StateName::BlockQuote(state) => block_quote::call(tokenizer, state),
         StateName::HeadingAtx(state) => heading_atx::call(tokenizer, state),
+        StateName::ListItem(state) => list_item::call(tokenizer, state),
         StateName::ThematicBreak(state) => thematic_break::call(tokenizer, state),
         _ => State::Nok,
     }
@@ -147,10 +157,13 @@ pub fn resolve(tokenizer: &mut Tokenizer, name: ResolveName) -> Result<Option<Su
     ensures finds { IfOk result (λ found. option_map found_in found ≡ None) }
     ensures resolves { OnOk result
         (world tokenizer.new ≡
-        record (world tokenizer.old) { events = resolved_by name (world tokenizer.old).events }) }
+        record (world tokenizer.old) {
+          events = resolved_by (world tokenizer.old).setting.bytes name (world tokenizer.old).events;
+        }) }
 {
     match name {
         ResolveName::HeadingAtx => heading_atx::resolve(tokenizer),
+        ResolveName::ListItem => lists::resolve(tokenizer),
         _ => Ok(None),
     }
 }

@@ -6,7 +6,7 @@ ghost use Rattle.std.specs.Str.{IsUtf8};
 ghost use Rattle.md_definition.specs.Lines.{is_ending};
 ghost use Rattle.md_definition.specs.Outline.{entries_of, entry_with};
 ghost use Rattle.md_definition.specs.Rest.{is_white, trim_start};
-ghost use Rattle.md_definition.specs.Texts.{split_lines, trim_each};
+ghost use Rattle.md_definition.specs.Texts.{first_byte, split_lines, trim_each};
 ghost use Rattle.md_seam.specs.Events.Places.{last_line};
 ghost use Rattle.md_outline.specs.TextLines.{after_ending, full_entries, line_len, text_entries};
 
@@ -68,6 +68,16 @@ pub fn part(bytes: &[u8], first: usize, end: usize) -> &[u8]
 {
     let end = end.min(bytes.len());
     if first < end { &bytes[first..end] } else { &[] }
+}
+
+/// The first byte of a text, 0 if it is empty.
+pub fn first_of(text: &[u8]) -> u8
+    ensures { result ≡ first_byte text.now }
+{
+    match text {
+        [first, ..] => *first,
+        [] => 0,
+    }
 }
 
 /// The text that these bytes are. A text is cut only beside bytes of ASCII, so that each part of it is UTF-8.

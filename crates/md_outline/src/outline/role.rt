@@ -27,6 +27,10 @@ pub enum Purpose {
     /// A block of its own, shown with its lines as they come.
     Block,
     Note(Note),
+    /// The marker of an item, which a list is shown with.
+    Marker,
+    /// The digits of an item, which are not shown.
+    Digits,
 }
 
 /// A leaf block that is open, with what it was told.
@@ -41,6 +45,8 @@ pub enum Leaf<'a> {
 pub enum Role<'a> {
     /// A container, with the word that shows it.
     Container(Word),
+    /// A list, whose word has the marker of its first item.
+    List,
     /// The prefix of a container, which belongs to no text.
     Prefix,
     /// A leaf block, as it begins.
@@ -56,6 +62,10 @@ pub fn role_of<'a>(name: Name) -> Role<'a>
     match name {
         Name::BlockQuote => Role::Container(Word::Quote),
         Name::BlockQuotePrefix => Role::Prefix,
+        Name::ListOrdered | Name::ListUnordered => Role::List,
+        Name::ListItem => Role::Container(Word::Item),
+        Name::ListItemValue => Role::Text(Purpose::Digits),
+        Name::ListItemMarker => Role::Text(Purpose::Marker),
         Name::ThematicBreak => Role::Leaf(Leaf::Break),
         Name::HeadingAtx => Role::Leaf(Leaf::Heading(Heading {
             markers: None,

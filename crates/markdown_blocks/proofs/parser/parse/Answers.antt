@@ -14,6 +14,7 @@ use Rattle.md_seam.proofs.ReachedLemmas.{events-placed}
 use Rattle.markdown_blocks.proofs.FlowReads.{reads-labels, map-nil}
 use Rattle.markdown_blocks.proofs.MarkLemmas.{body-placed}
 use Rattle.markdown_blocks.proofs.Parses.{Reads, parsed-reads}
+use Rattle.markdown_blocks.proofs.TextItemised.{text-itemised}
 use Rattle.markdown_blocks.proofs.TextQuoted.{text-quoted}
 use Rattle.markdown_blocks.specs.TextReads.{text_kind, wants_text}
 use Rattle.markdown_blocks.proofs.parser.parse.Goals as goal
@@ -79,9 +80,12 @@ returns c =
       in_quote =
           λ on may. text-quoted c.args.options.now c.args.value.now c.in_ok-events.events.items c.requires.built
           read.tree on may;
+      in_item =
+          λ on may. text-itemised c.args.options.now c.args.value.now c.in_ok-events.events.items c.requires.built
+          read.tree on may;
       events_are = read.events_are;
       tiles = tiled.0;
-      blocks_are = tiled.1 ∙ read.blocks_are;
+      blocks_are = tiled.1;
       held =
           blocks-held c.args.value.now tiled.0.blocks tiled.0.covers tiled.0.block_list.pieces_are
           tiled.0.block_list.chunks;

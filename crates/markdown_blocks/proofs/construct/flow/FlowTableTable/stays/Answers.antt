@@ -23,6 +23,11 @@ returns-in-HeadingAtx c =
     (flow-stays is_name (n.HeadingAtx c.in-HeadingAtx.state) c.stays-in-HeadingAtx.result
     (IfSome_then c.stays-in-HeadingAtx.result c.stays-in-HeadingAtx.ensures (λ k h. h (is_name r.HeadingAtx))))
 
+pub returns-in-ListItem : goal.returns-in-ListItem
+returns-in-ListItem c =
+    rw c.in-ListItem.is
+    (flow-stays is_name (n.ListItem c.in-ListItem.state) c.stays-in-ListItem.result c.stays-in-ListItem.ensures)
+
 pub returns-in-SpaceOrTab : goal.returns-in-SpaceOrTab
 returns-in-SpaceOrTab c =
     rw c.in-SpaceOrTab.is

@@ -1,0 +1,236 @@
+-- Items begin directly in blocks, or outside of all, before the text parts of a text are read and once they are.
+use Rattle.md_engine.specs.declared.tokenizer.held_leaf.HeldLeaf.TheVariants as held_leaf
+use Rattle.std.specs.Prelude.{None, Option, Some}
+use Rattle.std.proofs.Common.{◌≡◌, ℕ, Bool, true, false, cond, List, [], ◌∷◌, ◌++◌, refl, sym, subst, append_assoc}
+use Rattle.md_engine.specs.declared.configuration.ParseOptions.{ParseOptions}
+use Rattle.md_engine.specs.declared.event.Event.{Event}
+use Rattle.md_engine.specs.declared.event.Kind.{Kind}
+use Rattle.md_engine.specs.declared.event.Kind.TheVariants.{Enter, Exit}
+use Rattle.md_engine.specs.declared.event.Name.{Name}
+use Rattle.md_engine.specs.declared.event.Name.TheVariants as n
+use Rattle.md_engine.specs.declared.event.Point.{Point}
+use Rattle.md_containers.specs.ItemsHeld.{HoldsItems, IsHeld, ItemsHeld}
+use Rattle.md_containers.specs.Listed.{Begins as TurnBegins, Ends as TurnEnds, Stays as TurnStays, is_block, is_item}
+use Rattle.md_containers.specs.Listed.{turn}
+use Rattle.md_containers.specs.Unlisted.{in_place}
+use Rattle.md_containers.proofs.UnlistedLemmas.{NoListing, held-append}
+use Rattle.md_engine.specs.Place.{first_point}
+use Rattle.md_definition.specs.Preamble.{has_mark}
+use Rattle.md_definition.specs.State.{Container}
+use Rattle.md_seam.specs.Events.Nested.{exit, open_after, open_behind, pair}
+use Rattle.md_seam.specs.Events.Spelled.{Role, role}
+use Rattle.md_seam.proofs.NestedLemmas.{balanced-open}
+use Rattle.md_seam.proofs.SpelledLemmas.{Between}
+use Rattle.markdown_blocks.specs.Change.{ends_of}
+use Rattle.markdown_blocks.specs.Document.{body_point, mark_end, mark_events}
+use Rattle.markdown_blocks.specs.Registry.{container_name}
+use Rattle.markdown_blocks.specs.Rows.{Group, Row, ending_events, ending_of, final_row, first_row, group_done}
+use Rattle.markdown_blocks.specs.Rows.{group_kind, groups, groups_events, tail_events}
+use Rattle.markdown_blocks.specs.Unread.{group_unread, listed_groups}
+use Rattle.markdown_blocks.proofs.ContainerNames.{container-facts, open_names}
+use Rattle.markdown_blocks.proofs.FrontFacts.{Begins, Behind, Goes, LinePrefix}
+use Rattle.markdown_blocks.proofs.FrontLemmas.{Turns, ends-turn, fronts-turn, turns-balanced}
+use Rattle.markdown_blocks.proofs.LeafStands.{between-unlisted, ending-between, mark-between}
+use Rattle.markdown_blocks.proofs.NestedRows.{ByGroups, Keeps, Ordered, rows-hold}
+use Rattle.markdown_blocks.proofs.PrefixNames.{prefixes-roles}
+use Rattle.markdown_blocks.proofs.RowFacts.{AreRows}
+use Rattle.markdown_blocks.proofs.SpanLemmas.{Nested_in}
+
+-- What is open.
+
+-- each of these names is that of a block
+abbrev AreBlocks : List Name → Type 0
+AreBlocks [] = Unit {0}
+AreBlocks (name ∷ names) = (is_block (role name) ≡ true) × AreBlocks names
+
+blocks-append : (xs ys : List Name) → AreBlocks xs → AreBlocks ys → AreBlocks (xs ++ ys)
+blocks-append [] ys h k = k
+blocks-append (name ∷ xs) ys h k = (h.0, blocks-append xs ys h.1 k)
+
+blocks-behind : (xs ys : List Name) → AreBlocks (xs ++ ys) → AreBlocks ys
+blocks-behind [] ys h = h
+blocks-behind (name ∷ xs) ys h = blocks-behind xs ys h.1
+
+-- as those of containers are
+containers-blocks : (cs : List Container) → AreBlocks (open_names cs)
+containers-blocks [] = tt
+containers-blocks (c ∷ cs) =
+    blocks-append (open_names cs) (container_name c ∷ []) (containers-blocks cs) ((container-facts c).block_role, tt)
+
+-- an item may begin in them
+blocks-hold : (names : List Name) → AreBlocks names → HoldsItems names
+blocks-hold [] h = tt
+blocks-hold (name ∷ names) h = h.0
+
+-- Events.
+
+-- what begins in blocks may be an item, and whatever ends may be one
+begin-held : (x : Role) (names : List Name) → HoldsItems names → IsHeld (turn Enter x) names
+begin-held x names h = go (is_item x)
+  where
+    go : (item : Bool) → IsHeld (cond item TurnBegins TurnStays) names
+    go true = h
+    go false = tt
+
+end-held : (x : Role) (names : List Name) → IsHeld (turn Exit x) names
+end-held x names = go (is_item x)
+  where
+    go : (item : Bool) → IsHeld (cond item TurnEnds TurnStays) names
+    go true = tt
+    go false = tt
+
+-- an event that is no item stands anywhere: each name is tested
+no_item : (name : Name) → in_place name ≡ name → is_item (role name) ≡ false
+no_item n.ListItem h = cc
+no_item _ h = refl
+
+stays-held : (kind : Kind) (x : Role) (names : List Name) → is_item x ≡ false → IsHeld (turn kind x) names
+stays-held Enter x names h = subst (λ (item : Bool). IsHeld (cond item TurnBegins TurnStays) names) (sym h) tt
+stays-held Exit x names h = end-held x names
+
+unlisted-held : (names : List Name) (es : List Event) → NoListing es → ItemsHeld names es
+unlisted-held names [] h = tt
+unlisted-held names (e ∷ es) h = (
+  stays-held e.kind (role e.name) names (no_item e.name h.0),
+  unlisted-held (open_behind names e.kind e.name) es h.1,
+)
+
+-- events in front of others
+held-through : (from to : List Name) (xs ys : List Event) → ItemsHeld from xs → open_after from xs ≡ to →
+    ItemsHeld to ys → ItemsHeld from (xs ++ ys)
+held-through from to xs ys h opened k =
+    held-append from xs ys h (subst (λ (names : List Name). ItemsHeld names ys) (sym opened) k)
+
+-- Lines.
+
+-- what stands in front of a line
+fronts-held : (bytes : List ℕ) (opens : List Container) (names : List Name) (p q : Point) (front : List Event) →
+    AreBlocks names → LinePrefix bytes opens p q front → ItemsHeld names front
+fronts-held bytes _ names p _ _ blocks (Behind _) = tt
+fronts-held bytes opens names p r _ blocks (Goes _ _ q _ es fs is more) =
+    held-through names names es fs
+    (unlisted-held names es (between-unlisted es (prefixes-roles Between es tt tt is.names)))
+    (balanced-open names es is.common.nested.0) (fronts-held bytes opens names q r fs blocks more)
+fronts-held bytes _ names p r _ blocks (Begins c opens _ q _ es fs is more) =
+    let name : Name = container_name c in (
+      begin-held (role name) names (blocks-hold names blocks),
+      held-through (name ∷ names) (name ∷ names) es fs (unlisted-held (name ∷ names) es is.unlisted)
+          (balanced-open (name ∷ names) es is.common.nested.0)
+          (fronts-held bytes opens (name ∷ names) q r fs ((container-facts c).block_role, blocks) more),
+    )
+
+-- the ends of containers
+ends-held : (cs : List Container) (names : List Name) (p : Point) → ItemsHeld names (ends_of cs p)
+ends-held [] names p = tt
+ends-held (c ∷ cs) names p =
+    held-append names (ends_of cs p) (exit (container_name c) p ∷ []) (ends-held cs names p)
+    (end-held (role (container_name c)) (open_after names (ends_of cs p)), tt)
+
+-- behind the ending of a line that is open which was
+ending-opens : (name : Name) (row : Row) (names : List Name) → open_after names (ending_events name row) ≡ names
+ending-opens name row names = go row.after
+  where
+    go : (after : Option Point) → open_after names (ending_events name (record row { after = after })) ≡ names
+    go None = refl
+    go (Some q) = refl
+
+-- Groups.
+
+-- a group in front of such events, with what stands in its place
+group-held : (bytes : List ℕ) (names kept : List Name) (p : Point) (group : Group) (inside events : List Event) →
+    Ordered bytes p group → Keeps names group kept → AreBlocks names →
+    Nested_in (first_row group).first (final_row group).end inside → NoListing inside →
+    (AreBlocks kept → ItemsHeld kept events) →
+    ItemsHeld names
+    (((first_row group).front ++ inside ++ tail_events (ending_of (group_kind group)) (final_row group)) ++ events)
+group-held bytes names kept p group inside events o keeps blocks nested none on =
+    subst (ItemsHeld names) (sym apart)
+    (held-through names all row.front (inside ++ (ends ++ (ending ++ events)))
+    (fronts-held bytes row.change.opens names p row.first row.front blocks o.front)
+    (fronts-turn bytes row.change.opens names p row.first row.front o.front).opened
+    (held-through all all inside (ends ++ (ending ++ events)) (unlisted-held all inside none)
+    (turns-balanced all inside nested.0).opened
+    (held-through all kept ends (ending ++ events) (ends-held last.leaves all last.end)
+    (subst (λ (l : List Name). Turns l kept ends) (sym keeps) (ends-turn last.leaves kept last.end)).opened
+    (held-through kept kept ending events (unlisted-held kept ending quiet)
+    (ending-opens (ending_of (group_kind group)) last kept) (on left)))))
+  where
+    row : Row
+    row = first_row group
+
+    last : Row
+    last = final_row group
+
+    all : List Name
+    all = open_names row.change.opens ++ names
+
+    ends : List Event
+    ends = ends_of last.leaves last.end
+
+    ending : List Event
+    ending = ending_events (ending_of (group_kind group)) last
+
+    quiet : NoListing ending
+    quiet = between-unlisted ending (ending-between (group_kind group) last)
+
+    left : AreBlocks kept
+    left =
+        blocks-behind (open_names last.leaves) kept
+        (subst AreBlocks keeps (blocks-append (open_names row.change.opens) names
+        (containers-blocks row.change.opens) blocks))
+
+    apart : (row.front ++ inside ++ (ends ++ ending)) ++ events ≡ row.front ++ (inside ++ (ends ++ (ending ++ events)))
+    apart = simp append_assoc
+
+-- before text parts are read
+abbrev UnreadHeld : List ℕ → List Name → Point → List Group → Type 0
+UnreadHeld bytes names p gs = AreBlocks names → ItemsHeld names (listed_groups bytes gs)
+
+unread-by_groups : (bytes : List ℕ) → ByGroups bytes (UnreadHeld bytes)
+unread-by_groups bytes = record {
+  none = λ p blocks. tt;
+  group = λ names kept p group gs o keeps on blocks.
+      group-held bytes names kept p group (group_unread bytes group) (listed_groups bytes gs) o keeps blocks
+      o.leaf.1.unread_nested o.leaf.1.unread_unlisted on;
+}
+
+-- and once they are
+abbrev ReadHeld : List ℕ → List Name → Point → List Group → Type 0
+ReadHeld bytes names p gs = AreBlocks names → ItemsHeld names (groups_events bytes gs)
+
+read-by_groups : (bytes : List ℕ) → ByGroups bytes (ReadHeld bytes)
+read-by_groups bytes = record {
+  none = λ p blocks. tt;
+  group = λ names kept p group gs o keeps on blocks.
+      group-held bytes names kept p group (group_done bytes group) (groups_events bytes gs) o keeps blocks
+      o.leaf.1.nested o.leaf.1.unlisted on;
+}
+
+-- The events of a text, with its mark.
+
+mark-opens : (bytes : List ℕ) → open_after [] (mark_events bytes) ≡ []
+mark-opens bytes = go (has_mark bytes)
+  where
+    go : (mark : Bool) → open_after [] (cond mark (pair n.ByteOrderMark first_point mark_end) []) ≡ []
+    go true = refl
+    go false = refl
+
+mark-held : (bytes : List ℕ) (es : List Event) → ItemsHeld [] es → ItemsHeld [] (mark_events bytes ++ es)
+mark-held bytes es h =
+    held-through [] [] (mark_events bytes) es
+    (unlisted-held [] (mark_events bytes) (between-unlisted (mark_events bytes) (mark-between bytes)))
+    (mark-opens bytes) h
+
+pub blocks-held : (options : ParseOptions) (bytes : List ℕ) (lines : List (List ℕ)) (rows : List Row) →
+    AreRows options bytes [] held_leaf.None (body_point bytes) lines rows →
+    ItemsHeld [] (mark_events bytes ++ listed_groups bytes (groups rows))
+blocks-held options bytes lines rows are =
+    mark-held bytes (listed_groups bytes (groups rows))
+    (rows-hold bytes (UnreadHeld bytes) (unread-by_groups bytes) options (body_point bytes) lines rows are tt)
+
+pub events-held : (options : ParseOptions) (bytes : List ℕ) (lines : List (List ℕ)) (rows : List Row) →
+    AreRows options bytes [] held_leaf.None (body_point bytes) lines rows →
+    ItemsHeld [] (mark_events bytes ++ groups_events bytes (groups rows))
+events-held options bytes lines rows are =
+    mark-held bytes (groups_events bytes (groups rows))
+    (rows-hold bytes (ReadHeld bytes) (read-by_groups bytes) options (body_point bytes) lines rows are tt)

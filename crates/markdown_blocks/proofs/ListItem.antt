@@ -1,0 +1,12 @@
+-- List items.
+pub mod Cells
+pub mod Collected
+pub mod Grammar
+pub mod Laws
+pub mod Names
+pub mod Parted
+pub mod Pieces
+pub mod Prefix
+pub mod Read
+pub mod Registers
+pub mod Trial

@@ -1,0 +1,298 @@
+-- The tree of a half-read text, if all containers that are open ended here, and its lines.
+use Rattle.std.proofs.Common.{◌≡◌, ℕ, ◌+◌, Bool, true, false, List, [], ◌∷◌, ◌++◌, refl, sym, ◌∙◌, ap, cond}
+use Rattle.std.proofs.Common.{append_assoc, append-nil}
+use Rattle.std.specs.Prelude.{◌==◌, if◌then◌else◌}
+use Rattle.std.proofs.lemmas.Bool.{true≢false}
+use Rattle.md_definition.specs.declared.outline.Word.TheVariants as word
+use Rattle.md_definition.specs.Containers.{is_bullet}
+use Rattle.md_definition.specs.Outline.{Entry, block_entries, entry, entry_with, outline}
+use Rattle.md_definition.specs.State.{then_block}
+use Rattle.md_definition.specs.Texts.{first_byte}
+use Rattle.md_definition.specs.Tree.{Block, Blocks, End, Item, More}
+use Rattle.md_seam.specs.Events.Spelled.{Around, AsDigits, AsItemMarker, FootnoteShape, ItemShape, OrderedShape}
+use Rattle.md_seam.specs.Events.Spelled.{QuoteShape, Shape, UnorderedShape, block_around, is_ordered, list_marker, named}
+use Rattle.md_seam.specs.Events.Spelled.{on_shape}
+
+-- how many containers are open
+abbrev pub depth_of : List Around → ℕ
+depth_of [] = 0
+depth_of (around ∷ outer) = depth_of outer + 1
+
+abbrev pub closed : List Around → Blocks → Blocks
+closed [] here = here
+closed (around ∷ outer) here = closed outer (then_block around.before (block_around around.shape here))
+
+-- the lines of what was read so far
+abbrev pub shown : List Around → Blocks → List Entry
+shown outer here = outline 0 (closed outer here)
+
+-- a block that is added last is shown last
+pub outline-then : (depth : ℕ) (bs : Blocks) (b : Block) →
+    outline depth (then_block bs b) ≡ outline depth bs ++ block_entries depth b
+outline-then depth End b = append-nil (block_entries depth b)
+outline-then depth (More a bs) b =
+    ap (λ es. block_entries depth a ++ es) (outline-then depth bs b)
+    ∙ sym (append_assoc (block_entries depth a) (outline depth bs) (block_entries depth b))
+
+-- The markers of lists.
+
+-- the marker that a list is shown with, by its items
+abbrev pub list_word : Shape → Blocks → ℕ
+list_word OrderedShape items = list_marker is_ordered items
+list_word UnorderedShape items = list_marker is_bullet items
+list_word _ items = 0
+
+-- a list has told its marker
+abbrev pub HasWord : Shape → Blocks → Type 0
+HasWord OrderedShape items = (list_marker is_ordered items == 0) ≡ false
+HasWord UnorderedShape items = (list_marker is_bullet items == 0) ≡ false
+HasWord _ items = Unit {0}
+
+-- so have all lists that are open
+abbrev pub HaveWords : List Around → Blocks → Type 0
+HaveWords [] here = Unit {0}
+HaveWords (around ∷ outer) here =
+    HasWord around.shape here × HaveWords outer (then_block around.before (block_around around.shape here))
+
+-- the innermost container, if it is a list, is shown with the same marker
+abbrev SameWord : List Around → Blocks → Blocks → Type 0
+SameWord [] xs ys = Unit {0}
+SameWord (around ∷ outer) xs ys = list_word around.shape ys ≡ list_word around.shape xs
+
+word-stays : (shape : Shape) (xs ys : Blocks) → list_word shape ys ≡ list_word shape xs → HasWord shape xs →
+    HasWord shape ys
+word-stays OrderedShape xs ys e h = ap (λ m. m == 0) e ∙ h
+word-stays UnorderedShape xs ys e h = ap (λ m. m == 0) e ∙ h
+word-stays _ xs ys e h = tt
+
+-- the first item tells it
+first-told : (f : ℕ → Bool) (before : Blocks) (a b : Block) →
+    list_marker f (More b End) ≡ list_marker f (More a End) →
+    list_marker f (then_block before b) ≡ list_marker f (then_block before a)
+first-told f End a b e = e
+first-told f (More (Item m d x) bs) a b e = refl
+first-told f (More _ bs) a b e = refl
+
+first-word : (shape : Shape) (before : Blocks) (a b : Block) →
+    ((f : ℕ → Bool) → list_marker f (More b End) ≡ list_marker f (More a End)) →
+    list_word shape (then_block before b) ≡ list_word shape (then_block before a)
+first-word OrderedShape before a b e = first-told is_ordered before a b (e is_ordered)
+first-word UnorderedShape before a b e = first-told is_bullet before a b (e is_bullet)
+first-word _ before a b e = refl
+
+-- whatever stands in it
+inside-word : (f : ℕ → Bool) (shape : Shape) (xs ys : Blocks) →
+    list_marker f (More (block_around shape ys) End) ≡ list_marker f (More (block_around shape xs) End)
+inside-word f QuoteShape xs ys = refl
+inside-word f OrderedShape xs ys = refl
+inside-word f UnorderedShape xs ys = refl
+inside-word f (ItemShape m d) xs ys = refl
+inside-word f (FootnoteShape label) xs ys = refl
+
+around-word : (outer : List Around) (around : Around) (xs ys : Blocks) →
+    SameWord outer (then_block around.before (block_around around.shape xs))
+    (then_block around.before (block_around around.shape ys))
+around-word [] around xs ys = tt
+around-word (list ∷ outer) around xs ys =
+    first-word list.shape around.before (block_around around.shape xs) (block_around around.shape ys)
+    (λ f. inside-word f around.shape xs ys)
+
+-- and a block behind it changes nothing
+then-told : (f : ℕ → Bool) (here : Blocks) (b : Block) → (list_marker f here == 0) ≡ false →
+    list_marker f (then_block here b) ≡ list_marker f here
+then-told f End b h = absurd (true≢false h)
+then-told f (More (Item m d x) bs) b h = refl
+then-told f (More _ bs) b h = refl
+
+then-word : (shape : Shape) (here : Blocks) (b : Block) → HasWord shape here →
+    list_word shape (then_block here b) ≡ list_word shape here
+then-word OrderedShape here b h = then-told is_ordered here b h
+then-word UnorderedShape here b h = then-told is_bullet here b h
+then-word _ here b h = refl
+
+then-same : (outer : List Around) (here : Blocks) (b : Block) → HaveWords outer here →
+    SameWord outer here (then_block here b)
+then-same [] here b h = tt
+then-same (around ∷ outer) here b h = then-word around.shape here b h.0
+
+words-stay : (outer : List Around) (xs ys : Blocks) → SameWord outer xs ys → HaveWords outer xs → HaveWords outer ys
+words-stay [] xs ys e h = tt
+words-stay (around ∷ outer) xs ys e h = (
+  word-stays around.shape xs ys e h.0,
+  words-stay outer (then_block around.before (block_around around.shape xs))
+      (then_block around.before (block_around around.shape ys)) (around-word outer around xs ys) h.1,
+)
+
+pub words-then : (outer : List Around) (here : Blocks) (b : Block) → HaveWords outer here →
+    HaveWords outer (then_block here b)
+words-then outer here b h = words-stay outer here (then_block here b) (then-same outer here b h) h
+
+-- Lines.
+
+-- lines that are added to the innermost blocks are added to all
+inside-lines : (depth : ℕ) (shape : Shape) (xs ys : Blocks) (es : List Entry) →
+    list_word shape ys ≡ list_word shape xs → outline (depth + 1) ys ≡ outline (depth + 1) xs ++ es →
+    block_entries depth (block_around shape ys) ≡ block_entries depth (block_around shape xs) ++ es
+inside-lines depth QuoteShape xs ys es e h = ap (λ l. entry depth word.Quote ∷ l) h
+inside-lines depth OrderedShape xs ys es e h =
+    ap (λ m. entry depth (word.List m) ∷ outline (depth + 1) ys) e
+    ∙ ap (λ l. entry depth (word.List (list_marker is_ordered xs)) ∷ l) h
+inside-lines depth UnorderedShape xs ys es e h =
+    ap (λ m. entry depth (word.List m) ∷ outline (depth + 1) ys) e
+    ∙ ap (λ l. entry depth (word.List (list_marker is_bullet xs)) ∷ l) h
+inside-lines depth (ItemShape m d) xs ys es e h = ap (λ l. entry depth word.Item ∷ l) h
+inside-lines depth (FootnoteShape label) xs ys es e h =
+    ap (λ l. entry depth word.Footnote ∷ entry_with (depth + 1) word.Label label ∷ l) h
+
+grown : (outer : List Around) (xs ys : Blocks) (es : List Entry) → SameWord outer xs ys →
+    outline (depth_of outer) ys ≡ outline (depth_of outer) xs ++ es →
+    shown outer ys ≡ shown outer xs ++ es
+grown [] xs ys es e h = h
+grown (around ∷ outer) xs ys es e h =
+    let before : List Entry = outline (depth_of outer) around.before in
+    let old : Block = block_around around.shape xs in
+    let new : Block = block_around around.shape ys in
+    grown outer (then_block around.before old) (then_block around.before new) es (around-word outer around xs ys)
+    (outline-then (depth_of outer) around.before new
+    ∙ ap (λ l. before ++ l) (inside-lines (depth_of outer) around.shape xs ys es e h)
+    ∙ sym (append_assoc before (block_entries (depth_of outer) old) es)
+    ∙ ap (λ l. l ++ es) (sym (outline-then (depth_of outer) around.before old)))
+
+-- a block more
+pub shown-then : (outer : List Around) (here : Blocks) (b : Block) → HaveWords outer here →
+    shown outer (then_block here b) ≡ shown outer here ++ block_entries (depth_of outer) b
+shown-then outer here b h =
+    grown outer here (then_block here b) (block_entries (depth_of outer) b) (then-same outer here b h)
+    (outline-then (depth_of outer) here b)
+
+-- Items that are told something.
+
+-- no digits are shown
+digits-lines : (depth : ℕ) (text : List ℕ) (shape : Shape) (here : Blocks) →
+    block_entries depth (block_around (named AsDigits text shape) here) ≡ block_entries depth (block_around shape here)
+digits-lines depth text (ItemShape m d) here = refl
+digits-lines depth text _ here = refl
+
+digits-word : (f : ℕ → Bool) (text : List ℕ) (shape : Shape) (here : Blocks) →
+    list_marker f (More (block_around (named AsDigits text shape) here) End)
+    ≡ list_marker f (More (block_around shape here) End)
+digits-word f text (ItemShape m d) here = refl
+digits-word f text _ here = refl
+
+-- a marker is that of a list which has none yet
+marker-lines : (depth : ℕ) (text : List ℕ) (shape : Shape) (here : Blocks) →
+    block_entries depth (block_around (named AsItemMarker text shape) here)
+    ≡ block_entries depth (block_around shape here)
+marker-lines depth text (ItemShape m d) here = refl
+marker-lines depth text _ here = refl
+
+no-marker : (m : ℕ) (x : Bool) → (m == 0) ≡ true → ((cond x m 0) == 0) ≡ true
+no-marker m true h = h
+no-marker m false h = refl
+
+marker-told : (f : ℕ → Bool) (before : Blocks) (k m : ℕ) (d : List ℕ) (here : Blocks) →
+    (list_marker f (then_block before (Item m d here)) == 0) ≡ false →
+    list_marker f (then_block before (Item (if m == 0 then k else m) d here))
+    ≡ list_marker f (then_block before (Item m d here))
+marker-told f (More (Item a b c) bs) k m d here h = refl
+marker-told f (More _ bs) k m d here h = refl
+marker-told f End k m d here h = go (m == 0) refl
+  where
+    go : (x : Bool) → (m == 0) ≡ x →
+        list_marker f (More (Item (cond x k m) d here) End) ≡ list_marker f (More (Item m d here) End)
+    go true e = absurd (true≢false (sym (no-marker m (f m) e) ∙ h))
+    go false e = refl
+
+marker-word : (list : Shape) (text : List ℕ) (before : Blocks) (shape : Shape) (here : Blocks) →
+    HasWord list (then_block before (block_around shape here)) →
+    list_word list (then_block before (block_around (named AsItemMarker text shape) here))
+    ≡ list_word list (then_block before (block_around shape here))
+marker-word OrderedShape text before (ItemShape m d) here h =
+    marker-told is_ordered before (first_byte text) m d here h
+marker-word UnorderedShape text before (ItemShape m d) here h =
+    marker-told is_bullet before (first_byte text) m d here h
+marker-word OrderedShape text before _ here h = refl
+marker-word UnorderedShape text before _ here h = refl
+marker-word _ text before shape here h = refl
+
+-- a container that is shown as before, with what it tells of its list
+renamed : (f : Shape → Shape) (around : Around) (outer : List Around) (here : Blocks) →
+    ((depth : ℕ) → block_entries depth (block_around (f around.shape) here)
+    ≡ block_entries depth (block_around around.shape here)) →
+    SameWord outer (then_block around.before (block_around around.shape here))
+    (then_block around.before (block_around (f around.shape) here)) →
+    shown (on_shape f (around ∷ outer)) here ≡ shown (around ∷ outer) here
+renamed f around outer here h e =
+    let before : List Entry = outline (depth_of outer) around.before in
+    let old : Block = block_around around.shape here in
+    let new : Block = block_around (f around.shape) here in
+    grown outer (then_block around.before old) (then_block around.before new) [] e
+    (outline-then (depth_of outer) around.before new ∙ ap (λ l. before ++ l) (h (depth_of outer))
+    ∙ sym (outline-then (depth_of outer) around.before old)
+    ∙ sym (append-nil (outline (depth_of outer) (then_block around.before old))))
+    ∙ append-nil (shown (around ∷ outer) here)
+
+-- What is told of the innermost container changes nothing that is shown.
+pub record StaysShown (f : Shape → Shape) (outer : List Around) (here : Blocks) : Type 0 where
+  pub lines : shown (on_shape f outer) here ≡ shown outer here
+  pub words : HaveWords (on_shape f outer) here
+  pub depth : depth_of (on_shape f outer) ≡ depth_of outer
+
+digits-has : (text : List ℕ) (shape : Shape) (here : Blocks) → HasWord shape here →
+    HasWord (named AsDigits text shape) here
+digits-has text (ItemShape m d) here h = tt
+digits-has text _ here h = h
+
+marker-has : (text : List ℕ) (shape : Shape) (here : Blocks) → HasWord shape here →
+    HasWord (named AsItemMarker text shape) here
+marker-has text (ItemShape m d) here h = tt
+marker-has text _ here h = h
+
+digits-same : (outer : List Around) (text : List ℕ) (around : Around) (here : Blocks) →
+    SameWord outer (then_block around.before (block_around around.shape here))
+    (then_block around.before (block_around (named AsDigits text around.shape) here))
+digits-same [] text around here = tt
+digits-same (list ∷ outer) text around here =
+    first-word list.shape around.before (block_around around.shape here)
+    (block_around (named AsDigits text around.shape) here) (λ f. digits-word f text around.shape here)
+
+marker-same : (outer : List Around) (text : List ℕ) (around : Around) (here : Blocks) →
+    HaveWords outer (then_block around.before (block_around around.shape here)) →
+    SameWord outer (then_block around.before (block_around around.shape here))
+    (then_block around.before (block_around (named AsItemMarker text around.shape) here))
+marker-same [] text around here h = tt
+marker-same (list ∷ outer) text around here h =
+    marker-word list.shape text around.before around.shape here h.0
+
+pub digits-stay : (text : List ℕ) (outer : List Around) (here : Blocks) → HaveWords outer here →
+    StaysShown (named AsDigits text) outer here
+digits-stay text [] here h = record { lines = refl; words = h; depth = refl }
+digits-stay text (around ∷ outer) here h =
+    let same = digits-same outer text around here in
+    record {
+      lines =
+          renamed (named AsDigits text) around outer here (λ depth. digits-lines depth text around.shape here) same;
+      words = (
+        digits-has text around.shape here h.0,
+        words-stay outer (then_block around.before (block_around around.shape here))
+            (then_block around.before (block_around (named AsDigits text around.shape) here)) same h.1,
+      );
+      depth = refl;
+    }
+
+pub marker-stays : (text : List ℕ) (outer : List Around) (here : Blocks) → HaveWords outer here →
+    StaysShown (named AsItemMarker text) outer here
+marker-stays text [] here h = record { lines = refl; words = h; depth = refl }
+marker-stays text (around ∷ outer) here h =
+    let same = marker-same outer text around here h.1 in
+    record {
+      lines =
+          renamed (named AsItemMarker text) around outer here
+          (λ depth. marker-lines depth text around.shape here) same;
+      words = (
+        marker-has text around.shape here h.0,
+        words-stay outer (then_block around.before (block_around around.shape here))
+            (then_block around.before (block_around (named AsItemMarker text around.shape) here)) same h.1,
+      );
+      depth = refl;
+    }

@@ -1,0 +1,420 @@
+-- What an outline has read of some events agrees with what was read of the tree that they spell out.
+use Rattle.std.proofs.Common.{◌≡◌, ℕ, ◌+◌, ◌-◌, true, false, not, List, [], ◌∷◌, ◌++◌}
+use Rattle.std.proofs.Common.{slice_range, refl, sym, ◌∙◌, ap, subst}
+use Rattle.std.proofs.Common.{arith}
+use Rattle.std.specs.Prelude.{Option, Some, None, option_map}
+use Rattle.std.proofs.lemmas.Bool.{and_parts}
+use Rattle.md_engine.specs.declared.event.Kind.{Kind}
+use Rattle.md_engine.specs.declared.event.Kind.TheVariants.{Enter, Exit}
+use Rattle.md_engine.specs.declared.event.Point.{Point}
+use Rattle.md_definition.specs.declared.outline.Word.{Word}
+use Rattle.md_definition.specs.Outline.{Entry, block_entries, entry}
+use Rattle.md_seam.specs.Events.Places.{last_line}
+use Rattle.md_definition.specs.Rest.{is_blank}
+use Rattle.md_seam.specs.Events.Spelled.{Around, AsDigits, AsItemMarker, Holds, IsPrefix, OpenLeaf, Opens, Reading, Shape, Tells, Text}
+use Rattle.md_seam.specs.Events.Spelled.{after_prefix, at_ending, before_prefix, begun, block_around, block_of, byte_at}
+use Rattle.md_seam.specs.Events.Spelled.{finished, left, next_line, on_leaf, read, read_by, read_enter, read_exit}
+use Rattle.md_seam.specs.Events.Spelled.{named, on_shape, text_to}
+use Rattle.md_seam.specs.Events.Spelled as spelled
+use Rattle.md_definition.specs.State.{then_block}
+use Rattle.md_definition.specs.Texts.{split_lines}
+use Rattle.md_definition.specs.Tree.{Block, End, Line}
+use Rattle.md_seam.proofs.ThroughoutLemmas.{all-then}
+use Rattle.md_outline.specs.HeadingDepths.{are_shallow, fits}
+use Rattle.md_outline.specs.Outlined.{begins_line, is_unparted, parts_by}
+use Rattle.md_outline.specs.OutlineSteps.{OutlineState, leaf_ended, parted_at}
+use Rattle.md_outline.specs.OutlineSteps.{state_by, state_enter, state_exit, told_at, told_leaf}
+use Rattle.md_outline.specs.OutlineSteps.{marked_at}
+use Rattle.md_outline.specs.ParagraphState.{begin_entries, text_block}
+use Rattle.md_outline.specs.Roles.{is_plain, leaf_entries, noted, shown_as}
+use Rattle.md_outline.specs.TextLines.{full_entries}
+use Rattle.md_outline.specs.declared.outline.role.Note.{Note}
+use Rattle.md_outline.specs.declared.outline.role.Purpose.TheVariants as purpose
+use Rattle.md_outline.specs.declared.outline.role.Role.{Role}
+use Rattle.md_outline.specs.declared.outline.role.Role.TheVariants as role
+use Rattle.md_outline.specs.declared.outline.Span.{Span}
+use Rattle.md_outline.proofs.HeadingLemmas.{fitted-same}
+use Rattle.md_outline.proofs.ClosedTrees.{HaveWords, StaysShown, depth_of, digits-stay, marker-stays, shown}
+use Rattle.md_outline.proofs.ClosedTrees.{shown-then, words-then}
+use Rattle.md_outline.proofs.ParagraphPieces.{Pieces, pieces-from, pieces-last, pieces-next, pieces-none}
+use Rattle.md_outline.proofs.RoleLemmas.{ByRole, IsBlock, IsNote, IsShownBy, Knows, by-ending, by-role, knows-line}
+use Rattle.md_outline.proofs.RoleLemmas.{knows-noted}
+
+-- The leaf and the text.
+
+abbrev pub KnowsOpen : Option OpenLeaf → Type 0
+KnowsOpen None = Unit {0}
+KnowsOpen (Some leaf) = Knows leaf
+
+-- the text that is read, by where it begins or goes on
+abbrev pub TextIs : List Entry → ℕ → List Entry → Option Span → Option Text → Type 0
+TextIs before depth lines None None = lines ≡ before
+TextIs before depth lines (Some span) (Some text) =
+    (text.from ≡ span.from) × Pieces before depth lines span.is_parted text.front
+TextIs before depth lines None (Some text) = ⊥
+TextIs before depth lines (Some span) None = ⊥
+
+-- what was read of some events is what is known of the half-read tree, where no list is to be told its marker
+pub record Agrees (s : OutlineState) (r : Reading) : Type 0 where
+  pub depth : s.depth ≡ depth_of r.outer
+  pub words : HaveWords r.outer r.here
+  pub untold : s.untold ≡ None
+  pub leaf : s.leaf ≡ r.leaf
+  pub known : KnowsOpen r.leaf
+  pub text : TextIs (shown r.outer r.here) s.depth s.lines s.text r.text
+
+-- where no text is parted, the lines are those of the tree
+pub text-lines : (before : List Entry) (depth : ℕ) (lines : List Entry) (span : Option Span) (text : Option Text) →
+    is_unparted span ≡ true → TextIs before depth lines span text → lines ≡ before
+text-lines before depth lines None None h k = k
+text-lines before depth lines (Some span) (Some text) h k =
+    (pieces-none before depth lines span.is_parted text.front h k.1).0
+text-lines before depth lines None (Some text) h k = absurd k
+text-lines before depth lines (Some span) None h k = absurd k
+
+-- and the text stays when lines and blocks are added
+pub text-stays : (before before' : List Entry) (depth depth' : ℕ) (lines lines' : List Entry) (span : Option Span)
+    (text : Option Text) →
+    is_unparted span ≡ true → (lines ≡ before → lines' ≡ before') → TextIs before depth lines span text →
+    TextIs before' depth' lines' span text
+text-stays before before' depth depth' lines lines' None None h f k = f k
+text-stays before before' depth depth' lines lines' (Some span) (Some text) h f k =
+    let pieces = pieces-none before depth lines span.is_parted text.front h k.1 in
+    (k.0, pieces-from before' depth' lines' span.is_parted text.front h (f pieces.0, pieces.1))
+text-stays before before' depth depth' lines lines' None (Some text) h f k = absurd k
+text-stays before before' depth depth' lines lines' (Some span) None h f k = absurd k
+
+-- a leaf ends
+agrees-leaf : (s : OutlineState) (r : Reading) (leaf : Option OpenLeaf) → is_unparted s.text ≡ true →
+    are_shallow (finished leaf r).here ≡ true → Agrees s r →
+    Agrees (leaf_ended leaf s) (finished leaf r)
+agrees-leaf s r None k d is = is
+agrees-leaf s r (Some leaf) k d is =
+    let b : Block = block_of leaf in
+    let fit = fitted-same b (all-then fits r.here b d).1 in
+    record {
+      depth = is.depth;
+      words = words-then r.outer r.here b is.words;
+      untold = is.untold;
+      leaf = refl;
+      known = tt;
+      text =
+          text-stays (shown r.outer r.here) (shown r.outer (then_block r.here b)) s.depth s.depth s.lines
+          (s.lines ++ leaf_entries s.depth leaf) s.text r.text k
+          (λ same.
+          ap (λ all. all ++ leaf_entries s.depth leaf) same
+          ∙ ap (λ x. shown r.outer r.here ++ x) (ap (block_entries s.depth) fit ∙ ap (λ d. block_entries d b) is.depth)
+          ∙ sym (shown-then r.outer r.here b is.words))
+          is.text;
+    }
+
+-- a leaf that an outline knows is told of a text, and meets a line ending
+known-noted : (y : Note) (text : List ℕ) (leaf : Option OpenLeaf) → KnowsOpen leaf →
+    KnowsOpen (option_map (noted y text) leaf)
+known-noted y text None k = tt
+known-noted y text (Some leaf) k = knows-noted y text leaf k
+
+known-line : (leaf : Option OpenLeaf) → KnowsOpen leaf → option_map next_line leaf ≡ leaf
+known-line None k = refl
+known-line (Some leaf) k = ap Some (knows-line leaf k)
+
+-- a text that has no prefix in it is one piece
+pub whole-piece : (bytes : List ℕ) (p : Point) (before : List Entry) (depth : ℕ) (lines : List Entry) (span : Span)
+    (text : Text) →
+    not span.is_parted ≡ true → TextIs before depth lines (Some span) (Some text) →
+    text_to bytes p.index text ≡ slice_range bytes span.from p.index
+whole-piece bytes p before depth lines span text h k =
+    ap (λ f. f ++ slice_range bytes text.from p.index)
+    (pieces-none before depth lines span.is_parted text.front h k.1).1
+    ∙ ap (λ i. slice_range bytes i p.index) k.0
+
+-- a text that is a block of its own
+agrees-block : (bytes : List ℕ) (x : spelled.Purpose) (p : Point) (s : OutlineState) (r : Reading) (span : Option Span)
+    (text : Option Text) → IsBlock x → TextIs (shown r.outer r.here) s.depth s.lines span text →
+    parts_by bytes Exit (Tells x) p span ≡ true → Agrees s r →
+    Agrees (told_at bytes purpose.Block p.index span s) (spelled.told_at bytes x p text r)
+agrees-block bytes x p s r None None by h k is = is
+agrees-block bytes x p s r None (Some text) by h k is = absurd h
+agrees-block bytes x p s r (Some span) None by h k is = absurd h
+agrees-block bytes x p s r (Some span) (Some text) by h k is =
+    let piece : List ℕ = slice_range bytes span.from p.index in
+    let line : Line = record { spaces = text.spaces; text = text_to bytes p.index text } in
+    subst (Agrees (told_at bytes purpose.Block p.index (Some span) s)) (sym (by.tree line (record r { text = None })))
+    (record {
+      depth = is.depth;
+      words = words-then r.outer r.here (text_block line.text) is.words;
+      untold = is.untold;
+      leaf = is.leaf;
+      known = is.known;
+      text =
+          pieces-last (shown r.outer r.here) s.depth s.lines span.is_parted text.front piece
+          (sym (by.parted bytes p span) ∙ k) h.1
+          ∙ ap
+          (λ i. shown r.outer r.here ++ block_entries s.depth (text_block (text.front ++ slice_range bytes i p.index)))
+          (sym h.0)
+          ∙ ap (λ d. shown r.outer r.here ++ block_entries d (text_block line.text)) is.depth
+          ∙ sym (shown-then r.outer r.here (text_block line.text) is.words);
+    })
+
+-- a text that says something of a leaf
+agrees-note : (bytes : List ℕ) (x : spelled.Purpose) (y : Note) (p : Point) (s : OutlineState) (r : Reading)
+    (span : Option Span) (text : Option Text) → IsNote x y →
+    TextIs (shown r.outer r.here) s.depth s.lines span text → is_unparted span ≡ true →
+    Agrees s r → Agrees (told_at bytes (purpose.Note y) p.index span s) (spelled.told_at bytes x p text r)
+agrees-note bytes x y p s r None None by h k is = is
+agrees-note bytes x y p s r None (Some text) by h k is = absurd h
+agrees-note bytes x y p s r (Some span) None by h k is = absurd h
+agrees-note bytes x y p s r (Some span) (Some text) by h k is =
+    let piece : List ℕ = slice_range bytes span.from p.index in
+    let line : Line = record { spaces = text.spaces; text = text_to bytes p.index text } in
+    let whole : line.text ≡ piece = whole-piece bytes p (shown r.outer r.here) s.depth s.lines span text k h in
+    subst (Agrees (told_leaf y piece (record s { text = None }))) (sym (by.tree line (record r { text = None })))
+    (record {
+      depth = is.depth;
+      words = is.words;
+      untold = is.untold;
+      leaf = ap (option_map (noted y piece)) is.leaf ∙ ap (λ t. option_map (noted y t) r.leaf) (sym whole);
+      known = known-noted y line.text r.leaf is.known;
+      text = text-lines (shown r.outer r.here) s.depth s.lines (Some span) (Some text) k h;
+    })
+
+-- a text that says something of a container
+agrees-named : (f : Shape → Shape) (s : OutlineState) (r : Reading) (span : Span) (text : Text) →
+    StaysShown f r.outer r.here → TextIs (shown r.outer r.here) s.depth s.lines (Some span) (Some text) →
+    not span.is_parted ≡ true → Agrees s r →
+    Agrees (record s { text = None }) (record r { text = None; outer = on_shape f r.outer })
+agrees-named f s r span text stays h k is = record {
+  depth = is.depth ∙ sym stays.depth;
+  words = stays.words;
+  untold = is.untold;
+  leaf = is.leaf;
+  known = is.known;
+  text = text-lines (shown r.outer r.here) s.depth s.lines (Some span) (Some text) k h ∙ sym stays.lines;
+}
+
+agrees-digits : (bytes : List ℕ) (p : Point) (s : OutlineState) (r : Reading) (span : Option Span)
+    (text : Option Text) →
+    TextIs (shown r.outer r.here) s.depth s.lines span text → is_unparted span ≡ true → Agrees s r →
+    Agrees (told_at bytes purpose.Digits p.index span s) (spelled.told_at bytes AsDigits p text r)
+agrees-digits bytes p s r None None h k is = is
+agrees-digits bytes p s r None (Some text) h k is = absurd h
+agrees-digits bytes p s r (Some span) None h k is = absurd h
+agrees-digits bytes p s r (Some span) (Some text) h k is =
+    agrees-named (named AsDigits (text_to bytes p.index text)) s r span text
+    (digits-stay (text_to bytes p.index text) r.outer r.here is.words) h k is
+
+-- a marker of a further item
+agrees-marker : (bytes : List ℕ) (p : Point) (s : OutlineState) (r : Reading) (span : Option Span)
+    (text : Option Text) →
+    TextIs (shown r.outer r.here) s.depth s.lines span text → is_unparted span ≡ true → Agrees s r →
+    Agrees (told_at bytes purpose.Marker p.index span s) (spelled.told_at bytes AsItemMarker p text r)
+agrees-marker bytes p s r None None h k is = is
+agrees-marker bytes p s r None (Some text) h k is = absurd h
+agrees-marker bytes p s r (Some span) None h k is = absurd h
+agrees-marker bytes p s r (Some span) (Some text) h k is =
+    subst
+    (λ untold.
+    Agrees (marked_at untold (slice_range bytes span.from p.index) (record s { text = None }))
+    (spelled.told_at bytes AsItemMarker p (Some text) r))
+    (sym is.untold)
+    (agrees-named (named AsItemMarker (text_to bytes p.index text)) s r span text
+    (marker-stays (text_to bytes p.index text) r.outer r.here is.words) h k is)
+
+-- a prefix begins
+agrees-prefix : (bytes : List ℕ) (p : Point) (s : OutlineState) (r : Reading) (span : Option Span)
+    (text : Option Text) →
+    s.text ≡ span → TextIs (shown r.outer r.here) s.depth s.lines span text →
+    parts_by bytes Enter IsPrefix p span ≡ true → Agrees s r →
+    Agrees (parted_at bytes p.index span s) (record r { text = option_map (before_prefix bytes p) text })
+agrees-prefix bytes p s r None None e h k is = record {
+  depth = is.depth;
+  words = is.words;
+  untold = is.untold;
+  leaf = is.leaf;
+  known = is.known;
+  text = subst (λ x. TextIs (shown r.outer r.here) s.depth s.lines x None) (sym e) h;
+}
+agrees-prefix bytes p s r None (Some text) e h k is = absurd h
+agrees-prefix bytes p s r (Some span) None e h k is = absurd h
+agrees-prefix bytes p s r (Some span) (Some text) e h k is =
+    let piece : List ℕ = slice_range bytes span.from p.index in
+    let parts = and_parts (begins_line span piece) (is_blank (last_line (split_lines piece))) k in
+    let lines : List Entry = (s.lines ++ begin_entries s.depth span.is_parted) ++ full_entries (s.depth + 1) piece in
+    record {
+      depth = is.depth;
+      words = is.words;
+      untold = is.untold;
+      leaf = is.leaf;
+      known = is.known;
+      text = (
+        h.0,
+        subst (λ i. Pieces (shown r.outer r.here) s.depth lines true (text.front ++ slice_range bytes i p.index))
+            (sym h.0)
+            (pieces-next (shown r.outer r.here) s.depth s.lines span.is_parted text.front piece parts.0 parts.1 h.1),
+      );
+    }
+
+-- a prefix ends
+agrees-gone_on : (p : Point) (before : List Entry) (depth : ℕ) (lines : List Entry) (span : Option Span)
+    (text : Option Text) →
+    TextIs before depth lines span text →
+    TextIs before depth lines (option_map (λ (t : Span). record t { from = byte_at p }) span)
+    (option_map (after_prefix p) text)
+agrees-gone_on p before depth lines None None h = h
+agrees-gone_on p before depth lines (Some span) (Some text) h = (refl, h.1)
+agrees-gone_on p before depth lines None (Some text) h = absurd h
+agrees-gone_on p before depth lines (Some span) None h = absurd h
+
+-- a container ends
+pub agrees-left : (s : OutlineState) (r : Reading) (outer : List Around) → r.outer ≡ outer → is_unparted s.text ≡ true →
+    Agrees s r → Agrees (record s { depth = s.depth - 1 }) (left outer r)
+agrees-left s r [] e h is =
+    let none : depth_of r.outer ≡ 0 = ap depth_of e in
+    record {
+      depth = ap (λ d. d - 1) (is.depth ∙ none) ∙ sym none;
+      words = is.words;
+      untold = is.untold;
+      leaf = is.leaf;
+      known = is.known;
+      text =
+          text-stays (shown r.outer r.here) (shown r.outer r.here) s.depth (s.depth - 1) s.lines s.lines s.text r.text h
+          (λ same. same) is.text;
+    }
+agrees-left s r (around ∷ outer) e h is =
+    let depth : s.depth ≡ depth_of outer + 1 = is.depth ∙ ap depth_of e in
+    record {
+      depth = omega (arith, depth);
+      words = (subst (λ o. HaveWords o r.here) e is.words).1;
+      untold = is.untold;
+      leaf = is.leaf;
+      known = is.known;
+      text =
+          text-stays (shown r.outer r.here)
+          (shown outer (then_block around.before (block_around around.shape r.here))) s.depth
+          (s.depth - 1) s.lines s.lines s.text r.text h
+          (λ same. same ∙ ap (λ o. shown o r.here) e)
+          is.text;
+    }
+
+-- a line ending opens no line of a leaf that an outline knows
+agrees-line : (s : OutlineState) (r : Reading) → Agrees s r → Agrees s (on_leaf next_line r)
+agrees-line s r is =
+    let same = known-line r.leaf is.known in
+    record {
+      depth = is.depth;
+      words = is.words;
+      untold = is.untold;
+      leaf = is.leaf ∙ sym same;
+      known = subst KnowsOpen (sym same) is.known;
+      text = is.text;
+    }
+
+-- What stands in no text that is parted.
+pub apart : (bytes : List ℕ) (kind : Kind) (x : spelled.Role) (p : Point) (span : Option Span) →
+    ((t : Span) → parts_by bytes kind x p (Some t) ≡ not t.is_parted) → parts_by bytes kind x p span ≡ true →
+    is_unparted span ≡ true
+apart bytes kind x p None by h = refl
+apart bytes kind x p (Some span) by h = sym (by span) ∙ h
+
+-- the step of one event, by what it means
+agrees-begun : (p : Point) (s : OutlineState) (r : Reading) → is_unparted s.text ≡ true → Agrees s r →
+    Agrees (record s { text = Some (record { from = byte_at p; is_parted = false }) })
+    (record r { text = Some (begun p) })
+agrees-begun p s r k is = record {
+  depth = is.depth;
+  words = is.words;
+  untold = is.untold;
+  leaf = is.leaf;
+  known = is.known;
+  text = (refl, (text-lines (shown r.outer r.here) s.depth s.lines s.text r.text k is.text, refl));
+}
+
+-- a container begins
+agrees-container : (bytes : List ℕ) (shape : Shape) (w : Word) (p : Point) (s : OutlineState) (r : Reading) →
+    IsShownBy shape w → is_unparted s.text ≡ true → Agrees s r →
+    Agrees (state_enter bytes (role.Container w) p s) (read_enter bytes (Holds shape) p r)
+agrees-container bytes shape w p s r by k is = record {
+  depth = ap (λ d. d + 1) is.depth;
+  words = (by.none, words-then r.outer r.here (block_around shape End) is.words);
+  untold = is.untold;
+  leaf = is.leaf;
+  known = is.known;
+  text =
+      text-stays (shown r.outer r.here) (shown r.outer (then_block r.here (block_around shape End))) s.depth
+      (s.depth + 1) s.lines (s.lines ++ entry s.depth w ∷ []) s.text r.text
+      k
+      (λ same.
+      ap (λ es. es ++ entry s.depth w ∷ []) same
+      ∙ ap (λ d. shown r.outer r.here ++ entry d w ∷ []) is.depth
+      ∙ ap (λ es. shown r.outer r.here ++ es) (sym (by.line (depth_of r.outer)))
+      ∙ sym (shown-then r.outer r.here (block_around shape End) is.words))
+      is.text;
+}
+
+-- what an event that begins a part, and one that ends a part, leaves
+abbrev AgreesBehind : List ℕ → Point → spelled.Role → Role → Type 0
+AgreesBehind bytes p x y =
+    (s : OutlineState) (r : Reading) → parts_by bytes Enter x p s.text ≡ true → Agrees s r →
+    Agrees (state_enter bytes y p s) (read_enter bytes x p r)
+
+agrees-enter : (bytes : List ℕ) (p : Point) → ByRole (AgreesBehind bytes p)
+agrees-enter bytes p = record {
+  container = λ shape w by s r k is.
+      agrees-container bytes shape w p s r by (apart bytes Enter (Holds shape) p s.text (λ t. refl) k) is;
+  prefix = λ s r k is. agrees-prefix bytes p s r s.text r.text refl is.text k is;
+  begins = λ kind l by s r k is.
+      record {
+        depth = is.depth;
+        words = is.words;
+        untold = is.untold;
+        leaf = ap Some by.same;
+        known = by.known;
+        text = is.text;
+      };
+  block = λ x by s r k is. agrees-begun p s r (apart bytes Enter (Tells x) p s.text (λ t. refl) k) is;
+  note = λ x y by s r k is. agrees-begun p s r (apart bytes Enter (Tells x) p s.text (λ t. refl) k) is;
+  digits = λ s r k is. agrees-begun p s r (apart bytes Enter (Tells AsDigits) p s.text (λ t. refl) k) is;
+  marker = λ s r k is. agrees-begun p s r (apart bytes Enter (Tells AsItemMarker) p s.text (λ t. refl) k) is;
+  ending = λ s r k is. is;
+  quiet = λ s r k is. is;
+}
+
+abbrev AgreesEnded : List ℕ → Point → spelled.Role → Role → Type 0
+AgreesEnded bytes p x y =
+    (s : OutlineState) (r : Reading) → parts_by bytes Exit x p s.text ≡ true →
+    are_shallow (read_exit bytes x p r).here ≡ true → Agrees s r →
+    Agrees (state_exit bytes y p s) (read_exit bytes x p r)
+
+agrees-exit : (bytes : List ℕ) (p : Point) → ByRole (AgreesEnded bytes p)
+agrees-exit bytes p = record {
+  container = λ shape w by s r k d is.
+      agrees-left s r r.outer refl (apart bytes Exit (Holds shape) p s.text (λ t. refl) k) is;
+  prefix = λ s r k d is. record {
+    depth = is.depth;
+    words = is.words;
+    untold = is.untold;
+    leaf = is.leaf;
+    known = is.known;
+    text = agrees-gone_on p (shown r.outer r.here) s.depth s.lines s.text r.text is.text;
+  };
+  begins = λ kind l by s r k d is.
+      subst (λ leaf. Agrees (leaf_ended leaf s) (finished r.leaf r)) (sym is.leaf)
+      (agrees-leaf s r r.leaf (apart bytes Exit (Opens kind) p s.text (λ t. refl) k) d is);
+  block = λ x by s r k d is. agrees-block bytes x p s r s.text r.text by is.text k is;
+  note = λ x y by s r k d is.
+      agrees-note bytes x y p s r s.text r.text by is.text (apart bytes Exit (Tells x) p s.text (by.whole bytes p) k) is;
+  digits = λ s r k d is.
+      agrees-digits bytes p s r s.text r.text is.text (apart bytes Exit (Tells AsDigits) p s.text (λ t. refl) k) is;
+  marker = λ s r k d is.
+      agrees-marker bytes p s r s.text r.text is.text (apart bytes Exit (Tells AsItemMarker) p s.text (λ t. refl) k) is;
+  ending = λ s r k d is. by-ending (Agrees s) bytes p r.text r is (agrees-line s r is);
+  quiet = λ s r k d is. is;
+}
+
+-- one event
+pub agrees-step : (bytes : List ℕ) (kind : Kind) (x : spelled.Role) (p : Point) (s : OutlineState) (r : Reading) →
+    is_plain x ≡ true → parts_by bytes kind x p s.text ≡ true → are_shallow (read_by bytes kind x p r).here ≡ true →
+    Agrees s r →
+    Agrees (state_by bytes kind (shown_as x) p s) (read_by bytes kind x p r)
+agrees-step bytes Enter x p s r h k d is = by-role (AgreesBehind bytes p) x (agrees-enter bytes p) h s r k is
+agrees-step bytes Exit x p s r h k d is = by-role (AgreesEnded bytes p) x (agrees-exit bytes p) h s r k d is
