@@ -1,6 +1,6 @@
 // The step of one line: what is open after it (CommonMark, appendix).
 
-ghost use Rattle.std.specs.Prelude.{◌≡◌, ◌<◌, length, take, drop, is_some, IfOk};
+ghost use Rattle.std.specs.Prelude.{◌≡◌, ◌<◌, ◌++◌, ◌∷◌, [], length, take, drop, is_some, IfOk, OnOk};
 ghost use Rattle.md_definition.specs.Tree.{End};
 ghost use Rattle.md_definition.specs.State as state;
 ghost use Rattle.md_definition.specs.Leaves.{Text, goes_on, starts, table_at};
@@ -185,6 +185,19 @@ fn leaf_line<'a>(
     }
 }
 
+/// So many containers may be open at once: blocks in blocks are walked by recursion.
+const DEPTH: usize = 2000;
+
+/// Opens one more container. Beyond the depth that is walked, that is want of memory.
+fn push_frame<'a>(frames: &mut Vec<Frame<'a>>, frame: Frame<'a>) -> Result<(), Message>
+    ensures { OnOk result (frames.new.items ≡ frames.old.items ++ frame.entry ∷ []) }
+{
+    if frames.len() >= DEPTH {
+        return Err(Message);
+    }
+    memory::push(frames, frame)
+}
+
 /// Containers open as often as they do, each in the one before: all that are open then, and the rest in the innermost.
 fn open_all<'a>(
     alloc: Global,
@@ -204,7 +217,7 @@ fn open_all<'a>(
         let Some(next) = opens(options, false, &left) else {
             return Ok((frames, left));
         };
-        memory::push(
+        push_frame(
             &mut frames,
             Frame {
                 before: Vec::new(alloc),
@@ -231,7 +244,7 @@ fn enter<'a>(
         (definition.entered options.now (meanings here.entry.items) (taken_meaning taken.entry))) }
 {
     let mut frames = frames;
-    memory::push(
+    push_frame(
         &mut frames,
         Frame {
             before: here,
