@@ -22,14 +22,14 @@ REQUESTS = 60
 # How many parts of a text must be read within the steps, and how many within the requests.
 MOST: dict[str, tuple[int, int]] = {
     "paragraphs of long lines": (7, 8),
-    "one long line": (95, 116),
-    "headings of some words": (41, 28),
-    "quotes of long lines": (35, 60),
-    "quotes in quotes in quotes": (36, 88),
-    "blank lines": (648, 4_882),
-    "one line of tabs": (745, 4_882),
-    "one line of spaces": (3_192, 4_882),
-    "one line of `*`": (3_564, 4_882),
+    "one long line": (98, 130),
+    "headings of some words": (38, 28),
+    "quotes of long lines": (35, 66),
+    "quotes in quotes in quotes": (33, 92),
+    "blank lines": (625, 5_492),
+    "one line of tabs": (495, 5_492),
+    "one line of spaces": (2_430, 5_492),
+    "one line of `*`": (1_920, 5_492),
 }
 
 
