@@ -1,7 +1,7 @@
 -- Lines on which one look tells that no container opens and no leaf begins: what is passed at once is what the states
 -- refuse one after another.
 use Rattle.std.proofs.Common.{◌≡◌, ◌≢◌, ℕ, Bool, true, false, cond, not, ◌||◌, nat_eq, List, [], ◌∷◌, Option, Some, None}
-use Rattle.std.proofs.Common.{refl, sym, ◌∙◌, ap, ap₂, subst}
+use Rattle.std.proofs.Common.{◌<◌, ◌⊎◌, inl, length, refl, sym, ◌∙◌, ap, ap₂, subst}
 use Rattle.std.specs.List.{list_any}
 use Rattle.std.specs.Prelude.{slice_range}
 use Rattle.std.proofs.lemmas.Bool.{not-true, or_parts}
@@ -14,24 +14,30 @@ use Rattle.md_engine.specs.declared.state.document.State.TheVariants as document
 use Rattle.md_engine.specs.declared.state.flow.State.{State as FlowState}
 use Rattle.md_engine.specs.declared.state.flow.State.TheVariants as flow
 use Rattle.md_engine.specs.declared.state.State.{State}
-use Rattle.md_engine.specs.declared.state.State.TheVariants.{Next, Retry}
+use Rattle.md_engine.specs.declared.state.State.TheVariants.{Error, Next, Nok, Retry}
 use Rattle.md_engine.specs.declared.tokenizer.container.name.ContainerKind.{ContainerKind}
-use Rattle.md_engine.specs.World.{World, container_of, looks}
-use Rattle.md_engine.proofs.Loops.{CameTo}
+use Rattle.md_engine.specs.Going.{SeesOn}
+use Rattle.md_engine.specs.Run.{Remains, RunsHere}
+use Rattle.md_engine.specs.World.{World, closed, container_of, looks}
+use Rattle.md_engine.proofs.Keeps.{runs-setting}
+use Rattle.md_engine.proofs.Loops.{CameHere, CameTo, call-sees, came-calls, came-runs, reading-same}
 use Rattle.md_engine.proofs.Walks.{Within, then-stays}
+use Rattle.md_content.specs.Chunks.{chunk_inside_code}
+use Rattle.md_leaves.proofs.HeadingWords.{remains-of, sees-from}
 use Rattle.md_seam.specs.Look.{behind_code, first_behind, looks_behind, may_with}
 use Rattle.md_seam.specs.Spaces.{ends_line}
-use Rattle.md_seam.specs.Transition.{Transition}
+use Rattle.md_seam.specs.Transition.{Transition, entered, exited, taken}
 use Rattle.markdown_blocks.specs.AtOnce.{all_asked, begins_none, opens_none, openers_passed}
 use Rattle.markdown_blocks.specs.Document.{document_own_transition}
 use Rattle.markdown_blocks.specs.Flow.{before_transition, blank_line_before_transition, blank_line_code}
+use Rattle.markdown_blocks.specs.Flow.{flow_end_code, flow_end_transition}
 use Rattle.markdown_blocks.specs.Flow.{flow_own_transition, leaf_transition, new_before_transition, opener_transition}
 use Rattle.markdown_blocks.specs.Flow.{trial_code}
-use Rattle.markdown_blocks.specs.LineFlags.{asking}
+use Rattle.markdown_blocks.specs.LineFlags.{asking, ending_name, next_line, stays}
 use Rattle.markdown_blocks.specs.Registry.{LeafName, behind, container_rules, front_of, leaf, may_open, next_of}
 use Rattle.markdown_blocks.specs.Registry.{next_opener, opener_at, opener_front, openers, openers_behind, opens_with}
 use Rattle.markdown_blocks.specs.Registry.{trials, tried_at}
-use Rattle.markdown_blocks.specs.States.{FlowStep}
+use Rattle.markdown_blocks.specs.States.{FlowStep, flow_transition}
 use Rattle.markdown_blocks.proofs.Registry.{NextIs, NextOpener, container-states, leaf-states}
 
 -- a byte that is no whitespace stands first behind whitespace
@@ -193,3 +199,78 @@ pub passes-leaves : (is_name : ResolveName → ResolveName → Bool) (is_end : B
     CameTo (FlowStep is_name) is_end s v (n.Flow flow.BeforeContent) w
 passes-leaves is_name is_end s v w e seen within came =
     leaves-refuse is_name is_end s v trials w refl (begins-none w e) seen within came
+
+-- What a call leaves: where it stays, it has gone nowhere, and the text is the same.
+abbrev pub Leaves : Transition → World → Type 0
+Leaves a w = Remains a.to w a.world × (a.world.setting ≡ w.setting)
+
+trial-leaves : (start ok nok : StateName) (w u : World) (x : Bool) → u.point ≡ w.point → u.current ≡ w.current →
+    u.setting ≡ w.setting → Leaves (trial_code start ok nok u x) w
+trial-leaves start ok nok w u true there same text = ((there, same), text)
+trial-leaves start ok nok w u false there same text = ((there, same), text)
+
+pub opener-leaves : (k : ContainerKind) (w : World) → Leaves (new_before_transition k w) w
+opener-leaves k w =
+    trial-leaves (opens_with k) (n.Document document.ContainerNewAfter) (n.Document (next_opener k)) w
+    (asking (container_of k) w) (may_with (may_open k) (looks_behind w)) refl refl refl
+
+pub leaf-leaves : (l : LeafName) (w : World) → Leaves (before_transition l w) w
+leaf-leaves l w =
+    trial-leaves (leaf l).start (n.Flow flow.After) (n.Flow (next_of l)) w w
+    (may_with (leaf l).may_begin (looks_behind w)) refl refl refl
+
+pub chunk-leaves : (is_name : ResolveName → Bool) (w : World) (x : Bool) → Leaves (chunk_inside_code is_name w x) w
+chunk-leaves is_name w true = (tt, refl)
+chunk-leaves is_name w false = (tt, refl)
+
+-- at the end of a line no state stays
+ends-anywhere : (u w : World) (o : Option ℕ) → u.setting ≡ w.setting → Leaves (flow_end_code u o) w
+ends-anywhere u w None same = (tt, same)
+ends-anywhere u w (Some b) same = go (nat_eq b 10)
+  where
+    a : Bool → Transition
+    a x = cond x
+        (record {
+          to = Next (n.Document document.ContainerExistingBefore);
+          world =
+              record (exited (taken (entered u (ending_name u.flags.blank))) (ending_name u.flags.blank)) {
+                flags = next_line (length u.events) u.flags;
+              };
+        })
+        (record { to = Nok; world = u })
+
+    go : (x : Bool) → Leaves (a x) w
+    go true = (tt, same)
+    go false = (tt, same)
+
+pub line-leaves : (w : World) → Leaves (flow_end_transition w) w
+line-leaves w = ends-anywhere (closed w (stays w.flags) w.flags.line_end) w w.current refl
+
+-- One has come to a state, where one was, and it is called last.
+pub ends-with : (is_name : ResolveName → ResolveName → Bool) (first name : StateName) (old w : World) (to : State)
+    (new : World) →
+    CameHere (FlowStep is_name) first old name w → Leaves (flow_transition is_name name w) w →
+    to ≡ (flow_transition is_name name w).to → new ≡ (flow_transition is_name name w).world → to ≢ Error →
+    w.current ≡ looks w → Within w → w.point ≡ old.point →
+    RunsHere (FlowStep is_name) first old to new × SeesOn to old new
+ends-with is_name first name old w to new came leaves to_is new_is fine seen within there =
+    let same : new.setting ≡ w.setting = ap (λ (x : World). x.setting) new_is ∙ leaves.1 in
+    let remains = remains-of (flow_transition is_name name w) to w new to_is new_is leaves.0 in (
+      came-calls (FlowStep is_name) first name old w to new came (record { to_is = to_is; new_is = new_is }) fine same
+      within,
+      sees-from to old w new (call-sees to w new remains same seen) same (inl there),
+    )
+
+-- One has come to a state, where one was, and more runs from there.
+pub runs-on : (is_name : ResolveName → ResolveName → Bool) (first name : StateName) (old w : World) (to : State)
+    (new : World) →
+    CameHere (FlowStep is_name) first old name w → RunsHere (FlowStep is_name) name w to new → SeesOn to w new →
+    w.current ≡ looks w → (w.point ≡ old.point) ⊎ (w.point.index < w.setting.limit) →
+    RunsHere (FlowStep is_name) first old to new × SeesOn to old new
+runs-on is_name first name old w to new came runs sees seen there =
+    let T = FlowStep is_name in
+    let same : new.setting ≡ w.setting =
+    runs-setting T true (Next name) w to new (runs true (Next name) w refl (reading-same w seen) (inl refl)) in (
+      λ is_end. came-runs T is_end first name old w to new (came is_end) (runs is_end),
+      sees-from to old w new sees same there,
+    )

@@ -213,8 +213,25 @@ fn call_state(tokenizer: &mut Tokenizer, name: StateName) -> State
     }
 }
 
-/// Before the first leaf that is tried: where none may begin by what stands here, a line of content begins at once.
+/// Before content: its first byte is taken at once.
 #[inline(always)]
+fn content_begins(tokenizer: &mut Tokenizer) -> State
+    requires { IsAt NeedsNothing (StateName.Flow FlowState.BeforeContent) (world tokenizer.old) }
+    ensures runs { result ≢ State.Error →
+        RunsHere (FlowStep (λ target other. ⟦<ResolveName as PartialEq>⟧.eq other target))
+        (StateName.Flow FlowState.BeforeContent) (world tokenizer.old) result (world tokenizer.new) }
+    ensures sees { result ≢ State.Error → SeesOn result (world tokenizer.old) (world tokenizer.new) }
+{
+    match before_content(tokenizer) {
+        State::Error => State::Error,
+        _ => match content::chunk_start(tokenizer) {
+            State::Error => State::Error,
+            _ => content::chunk_inside(tokenizer),
+        },
+    }
+}
+
+/// Before the first leaf that is tried: where none may begin by what stands here, content begins at once.
 fn leaves(tokenizer: &mut Tokenizer) -> State
     requires { IsAt NeedsNothing (StateName.Flow (front_of trials)) (world tokenizer.old) }
     ensures runs { result ≢ State.Error →
@@ -222,16 +239,11 @@ fn leaves(tokenizer: &mut Tokenizer) -> State
         (StateName.Flow (front_of trials)) (world tokenizer.old) result (world tokenizer.new) }
     ensures sees { result ≢ State.Error → SeesOn result (world tokenizer.old) (world tokenizer.new) }
 {
-    if !registry::begins_none(tokenizer.current) {
-        return before_heading_atx(tokenizer);
+    if registry::begins_none(tokenizer.current) {
+        content_begins(tokenizer)
+    } else {
+        before_heading_atx(tokenizer)
     }
-    if matches!(before_content(tokenizer), State::Error) {
-        return State::Error;
-    }
-    if matches!(content::chunk_start(tokenizer), State::Error) {
-        return State::Error;
-    }
-    content::chunk_inside(tokenizer)
 }
 
 /// Before the first container that may open: where none may by what stands here, the leaf of the line is next.
@@ -242,11 +254,12 @@ fn containers_new(tokenizer: &mut Tokenizer) -> State
         (StateName.Document (opener_front openers)) (world tokenizer.old) result (world tokenizer.new) }
     ensures sees { result ≢ State.Error → SeesOn result (world tokenizer.old) (world tokenizer.new) }
 {
-    if !registry::opens_none(tokenizer.current) {
-        return document::container_new_before(tokenizer);
+    if registry::opens_none(tokenizer.current) {
+        document::pass_openers(tokenizer);
+        leaves(tokenizer)
+    } else {
+        document::container_new_before(tokenizer)
     }
-    document::pass_openers(tokenizer);
-    leaves(tokenizer)
 }
 
 /// At the begin of a line, or behind a prefix: goes on behind the containers that go on.
@@ -325,6 +338,7 @@ fn call_flow(tokenizer: &mut Tokenizer, state: FlowState) -> State
     match state {
         FlowState::After => line_end(tokenizer),
         FlowState::BeforeHeadingAtx => leaves(tokenizer),
+        FlowState::BeforeContent => content_begins(tokenizer),
         _ => call(tokenizer, state),
     }
 }
