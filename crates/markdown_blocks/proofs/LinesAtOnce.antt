@@ -20,7 +20,8 @@ use Rattle.md_engine.specs.Going.{SeesOn}
 use Rattle.md_engine.specs.Run.{Remains, RunsHere}
 use Rattle.md_engine.specs.World.{World, closed, container_of, looks}
 use Rattle.md_engine.proofs.Keeps.{runs-setting}
-use Rattle.md_engine.proofs.Loops.{CameHere, CameTo, call-sees, came-calls, came-runs, reading-same}
+use Rattle.md_engine.proofs.Loops.{CameHere, CameTo, call-sees, came-calls, came-first, came-runs}
+use Rattle.md_engine.proofs.Loops.{came-stays, reading-same}
 use Rattle.md_engine.proofs.Walks.{Within, then-stays}
 use Rattle.md_content.specs.Chunks.{chunk_inside_code}
 use Rattle.md_leaves.proofs.HeadingWords.{remains-of, sees-from}
@@ -274,3 +275,19 @@ runs-on is_name first name old w to new came runs sees seen there =
       λ is_end. came-runs T is_end first name old w to new (came is_end) (runs is_end),
       sees-from to old w new sees same there,
     )
+
+-- A run has come to a state that stays, and more runs from there.
+pub stays-runs : (is_name : ResolveName → ResolveName → Bool) (first next : StateName) (old w : World) (s to : State)
+    (new : World) →
+    old.current ≡ looks old → s ≡ Retry next → RunsHere (FlowStep is_name) first old s w → SeesOn s old w →
+    RunsHere (FlowStep is_name) next w to new → SeesOn to w new →
+    RunsHere (FlowStep is_name) first old to new × SeesOn to old new
+stays-runs is_name first next old w s to new seen is before saw runs sees =
+    let T = FlowStep is_name in
+    let come : RunsHere T first old (Retry next) w = subst (λ (x : State). RunsHere T first old x w) is before in
+    let here : SeesOn (Retry next) old w = subst (λ (x : State). SeesOn x old w) is saw in
+    let same : w.setting ≡ old.setting =
+    runs-setting T true (Next first) old (Retry next) w
+    (come true (Next first) old refl (reading-same old seen) (inl refl)) in
+    runs-on is_name first next old w to new
+    (came-stays T first first next old old w (came-first T first old) come here same) runs sees here.0 here.1
