@@ -258,7 +258,7 @@ ends-with is_name first name old w to new came leaves to_is new_is fine seen wit
     let same : new.setting ≡ w.setting = ap (λ (x : World). x.setting) new_is ∙ leaves.1 in
     let remains = remains-of (flow_transition is_name name w) to w new to_is new_is leaves.0 in (
       came-calls (FlowStep is_name) first name old w to new came (record { to_is = to_is; new_is = new_is }) fine same
-      within,
+          within,
       sees-from to old w new (call-sees to w new remains same seen) same (inl there),
     )
 
