@@ -126,8 +126,8 @@ fn puts_lists(rt: HostRuntime) {
     }
 }
 
-// The outline of such events with their lists: a list as its marker, an item as `i`, a quote as `q`, a paragraph as `p`,
-// and each line of text between bars.
+// The outline of such events with their lists: a list as its marker, an item as `i`, a quote as `q`, a paragraph as
+// `p`, and each line of text between bars.
 fn shown(alloc: Global, text: &str, list: &str) -> Result<String, Message> {
     let Ok(events) = all(alloc, list) else {
         return Err(Message);

@@ -1,5 +1,6 @@
 -- Events with lists around their items may be outlined, where those without may.
-use Rattle.std.proofs.Common.{◌≡◌, ℕ, ◌+◌, Bool, true, false, cond, ◌||◌, ◌&&◌, List, [], ◌∷◌, ◌++◌, refl, ap, sym, ◌∙◌, subst}
+use Rattle.std.proofs.Common.{◌≡◌, ℕ, ◌+◌, Bool, true, false, cond, ◌||◌, ◌&&◌, List, [], ◌∷◌, ◌++◌, refl, ap, sym}
+use Rattle.std.proofs.Common.{◌∙◌, subst}
 use Rattle.std.proofs.lemmas.Bool.{and_from, and_parts}
 use Rattle.std.proofs.lemmas.List.Folds.{list_all-append}
 use Rattle.std.specs.List.{list_all}
@@ -44,7 +45,8 @@ use Rattle.markdown_blocks.proofs.GroupedDepths.{grouped-shallow}
 -- what holds of the begin and the end of a list where it holds of an event at this point
 abbrev OfLists : (Event → Bool) → Type 0
 OfLists P =
-    (m : ℕ) (e : Event) → P e ≡ true → (P (enter (list_name m) e.point) ≡ true) × (P (exit (list_name m) e.point) ≡ true)
+    (m : ℕ) (e : Event) → P e ≡ true →
+    (P (enter (list_name m) e.point) ≡ true) × (P (exit (list_name m) e.point) ≡ true)
 
 given-holds : (P : Event → Bool) (t : Turn) (place : Place) (marker : ℕ) (next : Option ℕ) (e : Event) → OfLists P →
     P e ≡ true → list_all P (given_by t place marker next e) ≡ true
@@ -52,7 +54,8 @@ given-holds P Begins place marker next e of h = go place.within
   where
     go : (x : Bool) → list_all P (list_begin x marker e.point ++ e ∷ []) ≡ true
     go true = and_from (P e) true h refl
-    go false = and_from (P (enter (list_name marker) e.point)) (P e && true) (of marker e h).0 (and_from (P e) true h refl)
+    go false =
+        and_from (P (enter (list_name marker) e.point)) (P e && true) (of marker e h).0 (and_from (P e) true h refl)
 given-holds P Ends place marker next e of h = go place.markers
   where
     go : (markers : List ℕ) → list_all P (e ∷ list_end markers next e.point) ≡ true
@@ -134,7 +137,8 @@ parted-kept bytes span place (e ∷ es) h =
     let parts = and_parts (parts_by bytes Exit item e.point span) (are_parted bytes span es) k in
     let none : is_unparted span ≡ true = sym (holds-parted bytes Exit (ItemShape 0 []) e.point span) ∙ parts.0 in
     let rest : List Event = listed_from bytes (place_behind place (next_item bytes es)) es in
-    holder-parted bytes Exit item (ItemShape 0 []) e.point span (list_end place.markers (next_item bytes es) e.point ++ rest)
+    holder-parted bytes Exit item (ItemShape 0 []) e.point span
+    (list_end place.markers (next_item bytes es) e.point ++ rest)
     refl none
     (ends place.markers rest none (parted-kept bytes span (place_behind place (next_item bytes es)) es parts.1)))
     (passed (λ s. parted-kept bytes s place es))
@@ -155,8 +159,8 @@ parted-kept bytes span place (e ∷ es) h =
         holder-parted bytes Enter item (ItemShape 0 []) e.point span
         (listed_from bytes (record { within = false; markers = marker_ahead bytes es ∷ place.markers }) es) refl none k
     begins false none k =
-        holder-parted bytes Enter (role (list_name (marker_ahead bytes es))) (list_shape (marker_ahead bytes es)) e.point
-        span
+        holder-parted bytes Enter (role (list_name (marker_ahead bytes es))) (list_shape (marker_ahead bytes es))
+        e.point span
         (record e { kind = Enter; name = n.ListItem }
         ∷ listed_from bytes (record { within = false; markers = marker_ahead bytes es ∷ place.markers }) es)
         (role-list (marker_ahead bytes es)) none
@@ -174,7 +178,8 @@ parted-kept bytes span place (e ∷ es) h =
         by false =
             holder-parted bytes Exit (role (list_name m)) (list_shape m) e.point span rest (role-list m) none k
 
-    passed : ((s : Option Span) → are_parted bytes s es ≡ true → are_parted bytes s (listed_from bytes place es) ≡ true) →
+    passed :
+        ((s : Option Span) → are_parted bytes s es ≡ true → are_parted bytes s (listed_from bytes place es) ≡ true) →
         (kind : Kind) (name : Name) → is_item (role name) ≡ false →
         are_parted bytes span (record e { kind = kind; name = name } ∷ es) ≡ true →
         are_parted bytes span (listed_from bytes place (record e { kind = kind; name = name } ∷ es)) ≡ true
@@ -253,7 +258,8 @@ at-passed bytes _ held _ kind x p behind may passes at = absurd at
 
 -- where an item begins or ends, no marker is to come
 at-item : (bytes : List ℕ) (stage : Stage) (held : List Bool) (inner : Inner) (kind : Kind) (p : Point) (ahead : ℕ) →
-    MayStand bytes (record { held = held; inner = inner }) kind (Holds (ItemShape 0 [])) p → IsAt bytes stage inner ahead →
+    MayStand bytes (record { held = held; inner = inner }) kind (Holds (ItemShape 0 [])) p →
+    IsAt bytes stage inner ahead →
     AllTold ≡ stage
 at-item bytes AllTold held inner kind p ahead may at = refl
 at-item bytes (AtMarker shape) held InFront Enter p ahead may at = absurd may
@@ -287,13 +293,15 @@ lists-begun bytes stage site place (e ∷ es) stands at =
     IsAt bytes stage site.inner (marker_ahead bytes (record e { kind = kind; name = name } ∷ es)) →
     ListsBegin bytes stage (listed_from bytes place (record e { kind = kind; name = name } ∷ es)))
     (λ stands at.
-    subst (λ (s : Stage). ListsBegin bytes s (listed_from bytes place (record e { kind = Enter; name = n.ListItem } ∷ es)))
+    subst
+    (λ (s : Stage). ListsBegin bytes s (listed_from bytes place (record e { kind = Enter; name = n.ListItem } ∷ es)))
     (at-item bytes stage site.held site.inner Enter e.point 0 stands.0 at)
     (begins place.within stands.0
     (λ (s : Stage) (k : IsAt bytes s (inner_in e.point site.inner item) (marker_ahead bytes es)).
     lists-begun bytes s (site_after site Enter item e.point) inside es stands.1 k)))
     (λ stands at.
-    subst (λ (s : Stage). ListsBegin bytes s (listed_from bytes place (record e { kind = Exit; name = n.ListItem } ∷ es)))
+    subst
+    (λ (s : Stage). ListsBegin bytes s (listed_from bytes place (record e { kind = Exit; name = n.ListItem } ∷ es)))
     (at-item bytes stage site.held site.inner Exit e.point 0 stands.0 at) (
       tt,
       ends place.markers (listed_from bytes (place_behind place (next_item bytes es)) es)
@@ -301,7 +309,8 @@ lists-begun bytes stage site place (e ∷ es) stands at =
           stands.1 tt),
     ))
     (λ kind name i stands at.
-    let now = at-passed bytes stage site.held site.inner kind (role name) e.point (marker_ahead bytes es) stands.0 i at in
+    let now =
+    at-passed bytes stage site.held site.inner kind (role name) e.point (marker_ahead bytes es) stands.0 i at in
     subst (ListsBegin bytes stage) (sym (passes-given bytes place (record e { kind = kind; name = name }) es i)) (
       now.0,
       lists-begun bytes (stage_by stage kind (role name) e.point) (site_after site kind (role name) e.point) place es
@@ -331,7 +340,8 @@ lists-begun bytes stage site place (e ∷ es) stands at =
             refl,
             go (AtMarker (list_shape (marker_ahead bytes es)))
                 (subst
-                (λ (inner : Inner). IsAt bytes (AtMarker (list_shape (marker_ahead bytes es))) inner (marker_ahead bytes es))
+                (λ (inner : Inner).
+                IsAt bytes (AtMarker (list_shape (marker_ahead bytes es))) inner (marker_ahead bytes es))
                 (in-front bytes site.inner e.point may) refl),
           ),
     )

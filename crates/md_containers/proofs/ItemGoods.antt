@@ -23,10 +23,9 @@ use Rattle.md_containers.specs.Interrupts.{interrupts}
 use Rattle.md_containers.specs.Item.{IsFilled, after_code, before_code, before_ordered_code, behind_break, blank_code}
 use Rattle.md_containers.specs.Item.{bullet_code, cont_blank_code, cont_filled_code, cont_start_code, filled_transition}
 use Rattle.md_containers.specs.Item.{indent_code, indent_ready, inside_code, is_item_marker, item_level, item_rank}
-use Rattle.md_containers.specs.Item.{item_ready, item_scheme, item_transition, item_tries, least_width, marker_code, refused}
+use Rattle.md_containers.specs.Item.{item_ready, item_scheme, item_transition, item_tries, least_width, marker_code, may_break, refused}
 use Rattle.md_containers.specs.Item.{prefix_other_code, sees, unseen, value_code}
 use Rattle.md_containers.specs.Item.{whitespace_after_code, without_size}
-use Rattle.md_definition.specs.Ascii.{plus}
 use Rattle.md_definition.specs.Containers.{is_bullet, is_digit}
 use Rattle.md_leaves.specs.Blank.{blank_scheme}
 use Rattle.md_leaves.specs.Break.{break_scheme}
@@ -137,8 +136,7 @@ good_before T w (Some b) has r =
   where
     go : (x y : Bool) → is_bullet b ≡ x → is_digit b && (not (interrupts w.flags) || nat_eq b 49) ≡ y →
         Does T (n.ListItem its.Before) w (before_code w (Some b))
-    go true y e f =
-        rw e (good_bullet T w (w.setting.options.constructs.thematic_break && not (nat_eq b plus)) has r)
+    go true y e f = rw e (good_bullet T w (may_break w b) has r)
     go false true e f = rw (e, f) (
       turns T item_scheme _ (n.ListItem its.BeforeOrdered) w w.events w.scratch (has.each its.Before)
           (has.each its.BeforeOrdered) r (omega arith) (omega arith),

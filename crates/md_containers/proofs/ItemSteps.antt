@@ -2,8 +2,8 @@
 use Rattle.std.proofs.Common.{◌≡◌, ℕ, zero, suc, ◌+◌, ◌-◌, ◌<◌, ◌≤◌, Bool, true, false, cond, not, ◌&&◌, ◌||◌, nat_eq}
 use Rattle.std.proofs.Common.{nat_lt, List, [], ◌∷◌, ◌++◌, length, take, Option, Some, None, refl, sym, ◌∙◌, ap, ap₂}
 use Rattle.std.proofs.Common.{arith, append_assoc, add-zero}
-use Rattle.std.specs.Prelude.{nat_le}
-use Rattle.std.proofs.lemmas.Bool.{and_parts, eqb-true}
+use Rattle.std.specs.Prelude.{count_by, nat_le}
+use Rattle.std.proofs.lemmas.Bool.{and_parts, eq-eqb, eqb-true}
 use Rattle.std.proofs.lemmas.Bool.Decides.{nat_tests}
 use Rattle.std.proofs.lemmas.List.{take_all}
 use Rattle.md_engine.specs.declared.configuration.ParseOptions.{ParseOptions}
@@ -22,6 +22,7 @@ use Rattle.md_engine.specs.declared.tokenizer.Scratch.{Scratch}
 use Rattle.md_engine.specs.declared.tokenizer.held_leaf.HeldLeaf.{HeldLeaf}
 use Rattle.md_engine.specs.declared.tokenizer.held_leaf.HeldLeaf.TheVariants as held_leaf
 use Rattle.md_engine.specs.Meaning.{Accepts, Behaviour, Cell, Feed, Here, Outcome, Refuses, Steps, goes, here, resume}
+use Rattle.md_engine.specs.Place.{is_ending}
 use Rattle.md_engine.specs.Scheme.{After, spot}
 use Rattle.md_engine.specs.World.{Flags, World, after}
 use Rattle.md_engine.proofs.StepOf.{Sees, ahead, begins_only, cell_here, moves, passes}
@@ -29,7 +30,7 @@ use Rattle.md_containers.specs.Interrupts.{interrupts}
 use Rattle.md_containers.specs.Item.{after_code, before_code, before_ordered_code, behind_break, blank_code, bullet_code}
 use Rattle.md_containers.specs.Item.{cont_blank_code, cont_filled_code, cont_start_code, ends_value, filled_transition}
 use Rattle.md_containers.specs.Item.{indent_code, inside_code, is_item_marker, item_gone_on, item_ready}
-use Rattle.md_containers.specs.Item.{item_transition, least_width, marker_code, prefix_other_code, sees, unseen}
+use Rattle.md_containers.specs.Item.{item_transition, least_width, marker_code, may_break, prefix_other_code, sees, unseen}
 use Rattle.md_containers.specs.Item.{value_code, whitespace_after_code, without_size}
 use Rattle.md_containers.specs.ItemRule.{HasItem, at_bullet, at_marker, at_value, behind_columns, behind_indent}
 use Rattle.md_containers.specs.ItemRule.{behind_marker, behind_padding, behind_prefix, behind_value, blank_behaves}
@@ -39,7 +40,7 @@ use Rattle.md_containers.specs.ItemRule.{padding_at}
 use Rattle.md_definition.specs.Ascii.{plus}
 use Rattle.md_containers.proofs.ItemGoods.{least-some}
 use Rattle.md_definition.specs.Containers.{is_bullet, is_digit}
-use Rattle.md_definition.specs.Leaves.{is_rule}
+use Rattle.md_definition.specs.Leaves.{is_rule, is_rule_marker}
 use Rattle.md_definition.specs.Rest.{is_blank, is_white}
 use Rattle.md_leaves.specs.BlankRule.{blank_at, blank_events}
 use Rattle.md_leaves.specs.Break.{without_marker}
@@ -48,10 +49,11 @@ use Rattle.md_leaves.specs.LeafStart.{entered_here}
 use Rattle.md_leaves.proofs.LeafStart.{HasStart, at-none, start-steps}
 use Rattle.md_seam.specs.Ahead.{after_white, begins_white, from_ending, line_bytes, line_end, white_at, white_rest, white_size}
 use Rattle.md_seam.specs.Events.Nested.{enter, exit}
-use Rattle.md_seam.specs.Look.{first_seen, looks_behind, seen_behind}
+use Rattle.md_seam.specs.Look.{first_seen, looks_behind, seen_behind, sees_other}
 use Rattle.md_seam.specs.Spaces.{IsRest, asking, calmed, ends_line, sees_white}
 use Rattle.md_seam.proofs.AheadLemmas.{none-end, none-rest, none-size, white-no_ending}
 use Rattle.md_seam.proofs.LookLemmas.{first-seen, seen-first}
+use Rattle.md_seam.proofs.SpreadLemmas.{are_spread, other-first}
 use Rattle.md_seam.proofs.WhiteSteps.{begins-seen, behind_white, white-tried}
 
 -- Attempts that were begun here.
@@ -101,12 +103,44 @@ unfolding behind_indent
 indent-other options c cs h e = rw e refl
 
 -- a plus begins no break
-no-rule : (x : Bool) (c : Cell) (cs : List Cell) → is_bullet c.byte ≡ true → x && not (nat_eq c.byte plus) ≡ false →
-    x && is_rule (line_bytes (c ∷ cs)) ≡ false
-no-rule false c cs e f = refl
-no-rule true c cs e f =
-    let same : nat_eq c.byte plus ≡ true = grind (arith, nat_tests) in
-    let byte : c.byte ≡ 43 = eqb-true c.byte 43 same in rw byte refl
+plus-no_rule : (c : Cell) (cs : List Cell) → nat_eq c.byte plus ≡ true → is_rule (line_bytes (c ∷ cs)) ≡ false
+plus-no_rule c cs same = let byte : c.byte ≡ 43 = eqb-true c.byte 43 same in rw byte refl
+
+bullet-no_ending : (b : ℕ) → is_bullet b ≡ true → is_ending b ≡ false
+bullet-no_ending b e = grind (arith, nat_tests)
+
+-- nor is there one where another byte stands
+other-no_rule : (c : Cell) (cs : List Cell) → is_bullet c.byte ≡ true →
+    are_spread c.byte (line_bytes (c ∷ cs)) ≡ false → is_rule (line_bytes (c ∷ cs)) ≡ false
+other-no_rule c cs e other =
+    let on : nat_eq c.byte 10 ≡ false = bullet-on c.byte e in
+    let same : nat_eq c.byte c.byte ≡ true = eq-eqb c.byte c.byte refl in
+    let tail : are_spread c.byte (line_bytes cs) ≡ false = rw (on, same) at other in
+    rw on
+    (ap
+    (λ (x : Bool). is_rule_marker c.byte && x && nat_le 2 (count_by (λ (b : ℕ). nat_eq b c.byte) (line_bytes cs))) tail
+    ∙ none (is_rule_marker c.byte))
+  where
+    none : (x : Bool) → x && false && nat_le 2 (count_by (λ (b : ℕ). nat_eq b c.byte) (line_bytes cs)) ≡ false
+    none true = refl
+    none false = refl
+
+-- where none may stand, none does
+no-rule : (feed : Feed) (w : World) (c : Cell) (cs : List Cell) → Sees feed w → feed w.point ≡ c ∷ cs →
+    is_bullet c.byte ≡ true → may_break w c.byte ≡ false →
+    w.setting.options.constructs.thematic_break && is_rule (line_bytes (c ∷ cs)) ≡ false
+no-rule feed w c cs s next e f =
+    go w.setting.options.constructs.thematic_break (nat_eq c.byte plus) (sees_other w c.byte) refl refl f
+  where
+    go : (x y z : Bool) → nat_eq c.byte plus ≡ y → sees_other w c.byte ≡ z → x && not (y || z) ≡ false →
+        x && is_rule (line_bytes (c ∷ cs)) ≡ false
+    go false y z j k f = refl
+    go true true z j k f = plus-no_rule c cs j
+    go true false true j k f =
+        other-no_rule c cs e
+        (ap (λ (cells : List Cell). are_spread c.byte (line_bytes cells)) (sym next)
+        ∙ other-first feed w c.byte s (bullet-no_ending c.byte e) k)
+    go true false false j k f = cc
 
 -- a break stands here, or none
 break-outcome : (B : Behaviour) (options : ParseOptions) (c : Cell) (cs : List Cell) (h : Here) → HasItem B options →
@@ -164,11 +198,12 @@ break-checked B feed w c cs false has is next e f =
     ∙ has.each its.BeforeUnordered _ _)
 
 bullet_steps : (B : Behaviour) (feed : Feed) (w : World) (c : Cell) (cs : List Cell) (x : Bool) →
-    HasItem B w.setting.options → IsRest w.scratch → feed w.point ≡ c ∷ cs → is_bullet c.byte ≡ true →
-    w.setting.options.constructs.thematic_break && not (nat_eq c.byte plus) ≡ x →
+    HasItem B w.setting.options → Sees feed w → IsRest w.scratch → feed w.point ≡ c ∷ cs → is_bullet c.byte ≡ true →
+    may_break w c.byte ≡ x →
     Steps B feed (Next (n.ListItem its.Before)) w (bullet_code w x).to (bullet_code w x).world
-bullet_steps B feed w c cs true has is next e f =
-    let on = (and_parts w.setting.options.constructs.thematic_break (not (nat_eq c.byte plus)) f).0 in
+bullet_steps B feed w c cs true has s is next e f =
+    let on =
+    (and_parts w.setting.options.constructs.thematic_break (not (nat_eq c.byte plus || sees_other w c.byte)) f).0 in
     let rule : Bool = is_rule (line_bytes (c ∷ cs)) in
     begins_only B feed _ _ w (bullet_code w true).world
     (frame_here (behind_break w.flags.leaf) (Next (n.ListItem its.BeforeUnordered)) true w) refl refl
@@ -181,23 +216,23 @@ bullet_steps B feed w c cs true has is next e f =
     (sym
     (ap (λ (x : List Cell). B (n.ThematicBreak thematic_break.Start) x (here w)) next
     ∙ break-outcome B w.setting.options c cs (here w) has on e)))
-bullet_steps B feed w c cs false has is next e f =
+bullet_steps B feed w c cs false has s is next e f =
     passes B feed _ _ w w refl refl
     (has.each its.Before _ _ ∙ ap (λ (x : List Cell). behind_indent w.setting.options x (here w)) next
     ∙ indent-bullet w.setting.options c cs (here w) e
     ∙ ap (λ (x : Bool). cond x (Refuses w.scratch w.flags) (at_bullet (c ∷ cs) (here w)))
-    (no-rule w.setting.options.constructs.thematic_break c cs e f)
+    (no-rule feed w c cs s next e f)
     ∙ ap (λ (x : List Cell). at_bullet x (here w)) (sym next)
     ∙ sym (has.each its.BeforeUnordered _ _))
 
-before_steps : (B : Behaviour) (feed : Feed) (w : World) (o : Option ℕ) → HasItem B w.setting.options →
+before_steps : (B : Behaviour) (feed : Feed) (w : World) (o : Option ℕ) → HasItem B w.setting.options → Sees feed w →
     IsRest w.scratch → feed w.point ≡ ahead feed w o →
     Steps B feed (Next (n.ListItem its.Before)) w (before_code w o).to (before_code w o).world
-before_steps B feed w None has is next =
+before_steps B feed w None has s is next =
     passes B feed _ Nok w w refl refl
     (has.each its.Before _ _ ∙ ap (λ (x : List Cell). behind_indent w.setting.options x (here w)) next
     ∙ indent-none w.setting.options (here w))
-before_steps B feed w (Some b) has is next =
+before_steps B feed w (Some b) has s is next =
     go (is_bullet b) (is_digit b && (not (interrupts w.flags) || nat_eq b 49)) refl refl
   where
     c : Cell
@@ -218,9 +253,7 @@ before_steps B feed w (Some b) has is next =
     go : (x y : Bool) → is_bullet b ≡ x → is_digit b && (not (interrupts w.flags) || nat_eq b 49) ≡ y →
         Steps B feed (Next (n.ListItem its.Before)) w (before_code w (Some b)).to (before_code w (Some b)).world
     go true y e f =
-        rw e
-        (bullet_steps B feed w c cs (w.setting.options.constructs.thematic_break && not (nat_eq b plus)) has is next e
-        refl)
+        rw e (bullet_steps B feed w c cs (may_break w b) has s is next e refl)
     go false true e f =
         rw (e, f) (passes B feed _ _ w w refl refl (other true e f ∙ sym (has.each its.BeforeOrdered _ _)))
     go false false e f = rw (e, f) (passes B feed _ Nok w w refl refl (other false e f))
@@ -835,7 +868,7 @@ pub item_steps : (B : Behaviour) (feed : Feed) (state : ItemState) (w : World) (
     Steps B feed (Next (n.ListItem state)) w (item_transition state w).to (item_transition state w).world
 item_steps B feed its.Start w K has s at =
     start-steps B feed parts.ListItem _ (behind_indent w.setting.options) _ _ w _ _ (has_start B _ has) s refl refl
-item_steps B feed its.Before w K has s at = before_steps B feed w _ has at.0 s.next
+item_steps B feed its.Before w K has s at = before_steps B feed w _ has s at.0 s.next
 item_steps B feed its.BeforeUnordered w K has s at = unordered_steps B _ feed w has
 item_steps B feed its.BeforeOrdered w K has s at = ordered_steps B _ feed w _ has s refl
 item_steps B feed its.Value w K has s at = value_steps B _ feed w _ _ has s refl refl

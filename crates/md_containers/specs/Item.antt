@@ -22,7 +22,7 @@ use Rattle.md_containers.specs.Interrupts.{interrupts}
 use Rattle.md_definition.specs.Ascii.{dot, plus, right_parenthesis}
 use Rattle.md_definition.specs.Containers.{is_bullet, is_digit}
 use Rattle.md_leaves.specs.LeafStart as leaf
-use Rattle.md_seam.specs.Look.{looks_behind}
+use Rattle.md_seam.specs.Look.{looks_behind, sees_other}
 use Rattle.md_seam.specs.Spaces.{IsRest, asking, calmed, ends_line, later_ready, rest_ready, sees_white, white_then}
 use Rattle.md_seam.specs.Transition.{Transition, entered, exited, taken, tried}
 
@@ -81,11 +81,15 @@ bullet_code w true = record {
 }
 bullet_code w false = goes_to its.BeforeUnordered w
 
+-- whether a thematic break of this marker may stand here: there is none of `+`, and none where another byte is seen
+abbrev pub may_break : World → ℕ → Bool
+may_break w b = w.setting.options.constructs.thematic_break && not ((b == plus) || sees_other w b)
+
 -- by what stands here; text is interrupted by the number 1 alone
 abbrev pub before_code : World → Option ℕ → Transition
 before_code w None = refused w
 before_code w (Some b) =
-    if is_bullet b then bullet_code w (w.setting.options.constructs.thematic_break && not (b == plus))
+    if is_bullet b then bullet_code w (may_break w b)
     else if is_digit b && (not (interrupts w.flags) || (b == 49)) then goes_to its.BeforeOrdered w
     else refused w
 

@@ -21,7 +21,7 @@ ghost use Rattle.md_containers.specs.Item.{after_transition, at_least_one, befor
 ghost use Rattle.md_containers.specs.Item.{before_unordered_transition, blank_code, cont_blank_transition};
 ghost use Rattle.md_containers.specs.Item.{cont_filled_transition, cont_start_transition, ends_value, filled_transition};
 ghost use Rattle.md_containers.specs.Item.{indent_code, inside_transition, is_item_marker, item_transition, least_width};
-ghost use Rattle.md_containers.specs.Item.{marker_after_transition, marker_transition, may_begin};
+ghost use Rattle.md_containers.specs.Item.{marker_after_transition, marker_transition, may_begin, may_break};
 ghost use Rattle.md_containers.specs.Item.{prefix_other_transition, start_transition, value_transition};
 ghost use Rattle.md_containers.specs.Item.{whitespace_after_transition, whitespace_transition, width_here};
 ghost use Rattle.md_definition.specs.Containers.{is_bullet, is_digit};
@@ -40,7 +40,9 @@ use md_engine::state::{Name as StateName, State};
 use md_engine::stay::Stay;
 use md_engine::tokenizer::{HeldLeaf, Tokenizer, Whitespace};
 use md_leaves::blank_line::ends_line;
-use md_seam::space_or_tab::{is_space_or_tab, look_behind, small_indent, space_or_tab_min_max};
+use md_seam::space_or_tab::{
+    is_space_or_tab, look_behind, sees_other, small_indent, space_or_tab_min_max,
+};
 
 /// A value has at most so many digits.
 const DIGITS: usize = 9;
@@ -67,6 +69,14 @@ fn is_digit(byte: u8) -> bool
     ensures { result ≡ is_digit byte }
 {
     byte >= b'0' && byte <= b'9'
+}
+
+/// Whether a thematic break of this marker may stand here: there is none of `+`, and none where another byte is seen.
+fn may_break(tokenizer: &mut Tokenizer, marker: u8) -> bool
+    ensures value { result ≡ may_break (world tokenizer.old) marker }
+    ensures same { world tokenizer.new ≡ world tokenizer.old }
+{
+    tokenizer.options.constructs.thematic_break && marker != b'+' && !sees_other(tokenizer, marker)
 }
 
 /// Whether an item may open here, by what stands first behind whitespace: a marker or a digit, if that is known.
@@ -123,7 +133,7 @@ pub fn before(tokenizer: &mut Tokenizer) -> State
         return State::Nok;
     };
     if is_bullet(byte) {
-        if !tokenizer.options.constructs.thematic_break || byte == b'+' {
+        if !may_break(tokenizer, byte) {
             return State::Retry(StateName::ListItem(ItemState::BeforeUnordered));
         }
         // A break that is found has ended the leaf in front of it: text is opened again, since the line is read anew.

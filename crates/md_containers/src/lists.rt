@@ -21,6 +21,9 @@ use md_engine::subtokenize::Subresult;
 use md_engine::tokenizer::Tokenizer;
 use std::alloc::Global;
 
+/// Events are copied so many at once: the C library copies larger pieces by an instruction that goes byte by byte.
+const PIECE: usize = 48;
+
 /// Whether these events are of a block: of a container, a leaf block or a paragraph.
 fn is_block(name: Name) -> bool
     ensures { result ≡ is_block (role name) }
@@ -159,6 +162,16 @@ fn push(events: &mut Vec<Event>, event: Event) -> Result<(), Message>
     Ok(())
 }
 
+/// Appends events.
+fn append(events: &mut Vec<Event>, more: &[Event]) -> Result<(), Message>
+    ensures { OnOk result (events.new.items ≡ events.old.items ++ more.now) }
+{
+    if events.extend_from_slice(more).is_err() {
+        return Err(Message);
+    }
+    Ok(())
+}
+
 /// A walk over the events: what is given for those so far, and where it stands.
 #[derive(Drop)]
 struct Walk {
@@ -175,10 +188,14 @@ impl Walk {
     /// Goes on with events none of which begins or ends an item.
     fn copy(&mut self, events: &[Event]) -> Result<(), Message>
         ensures given { OnOk result (self.new.given.items ≡ self.old.given.items ++ events.now) }
-        ensures place { place_of self.new ≡ place_of self.old }
+        ensures place { OnOk result (place_of self.new ≡ place_of self.old) }
     {
-        if self.given.extend_from_slice(events).is_err() {
-            return Err(Message);
+        let mut at = 0;
+        while at < events.len() {
+            let left = events.len() - at;
+            let many = if left < PIECE { left } else { PIECE };
+            append(&mut self.given, &events[at..][..many])?;
+            at += many;
         }
         Ok(())
     }
@@ -267,7 +284,7 @@ pub fn put_lists(
     Ok(walk.given)
 }
 
-/// Puts lists around items: neighbouring items with the same marker are one list.
+/// Puts lists around items: neighbouring items with the same marker are one list. Where no item stands nothing is copied.
 ///
 /// After an `Err` the parse has failed, and the tokenizer is only dropped.
 pub fn resolve(tokenizer: &mut Tokenizer) -> Result<Option<Subresult>, Message>
@@ -280,6 +297,9 @@ pub fn resolve(tokenizer: &mut Tokenizer) -> Result<Option<Subresult>, Message>
         }) }
     ensures found { IfOk result (λ found. option_map found_in found ≡ None) }
 {
+    if until_item(&tokenizer.events) == tokenizer.events.len() {
+        return Ok(None);
+    }
     let alloc = tokenizer.alloc;
     let events = tokenizer.take_events();
     let spare = tokenizer.take_spare();

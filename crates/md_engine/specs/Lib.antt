@@ -1,5 +1,6 @@
 pub mod Place
 pub mod Sound
+pub mod Spread
 pub mod World
 pub mod Classes
 pub mod Resolvers

@@ -7,6 +7,7 @@ pub mod event;
 pub mod message;
 pub mod parse_state;
 pub mod resolve;
+pub mod spread;
 pub mod state;
 pub mod stay;
 pub mod subtokenize;

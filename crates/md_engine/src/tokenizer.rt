@@ -8,6 +8,7 @@ ghost use Rattle.std.specs.Prelude.{if◌then◌else◌, is_ok, nat_le, nat_lt, 
 ghost use Rattle.std.specs.Prelude.{IfNone, reverse, slice_index, ◌⊎◌};
 ghost use Rattle.md_engine.specs.Place.{IsPlaced, begun_at, is_pair, next_point, stepped};
 ghost use Rattle.md_engine.specs.Sound.{IsSound};
+ghost use Rattle.md_engine.specs.Spread.{EndsSpread, IsSpread};
 ghost use Rattle.md_engine.specs.Classes.{is_white};
 ghost use Rattle.md_engine.specs.Ends.{ends_at, point_of, put};
 
@@ -19,6 +20,7 @@ use crate::configuration::ParseOptions;
 use crate::event::{Event, Kind, Link, Name, Point};
 use crate::message::Message;
 use crate::resolve::Name as ResolveName;
+use crate::spread::Spread;
 use crate::state::State;
 use crate::stay::Stay;
 use crate::tokenizer::container::name::name_of;
@@ -157,7 +159,12 @@ pub struct Tokenizer<'a> {
     pub limit: usize,
     pub line: Line,
     pub resolvers: Vec<ResolveName>,
+    /// How far whitespace is known to go.
+    white: Spread,
+    /// How far a run of a marker and whitespace is known to go.
+    marks: Spread,
     ghost sound: { IsSound bytes.now point limit events.items frames.items skips.items },
+    ghost spread: { IsSpread bytes.now white × IsSpread bytes.now marks },
 }
 
 /// Goes to `State::Error` where there was no memory.
@@ -322,6 +329,8 @@ impl<'a> Tokenizer<'a> {
                 pierce: false,
             },
             resolvers: Vec::new(alloc),
+            white: Spread::NONE,
+            marks: Spread::NONE,
         }
     }
 
@@ -642,6 +651,23 @@ impl<'a> Tokenizer<'a> {
             self.current = Some(byte);
             self.consume();
             stay.count(&mut self.scratch, byte);
+        }
+    }
+
+    /// How far the run of a marker and whitespace goes that stands here, as far as the text may be read: up to the index
+    /// of another byte. With a space for the marker it is whitespace alone.
+    pub fn spread_end(&mut self, marker: u8) -> usize
+        ensures ends { EndsSpread (world self.old).setting.bytes marker
+            (world self.old).point.index (world self.old).setting.limit result }
+        ensures same { world self.new ≡ world self.old }
+    {
+        let index = self.point.index;
+        if marker == b' ' {
+            self.white = self.white.found(self.bytes, marker, index, self.limit);
+            self.white.end
+        } else {
+            self.marks = self.marks.found(self.bytes, marker, index, self.limit);
+            self.marks.end
         }
     }
 

@@ -1,5 +1,5 @@
 -- The tree of a half-read text, if all containers that are open ended here, and its lines.
-use Rattle.std.proofs.Common.{◌≡◌, ℕ, ◌+◌, Bool, true, false, List, [], ◌∷◌, ◌++◌, refl, sym, ◌∙◌, ap, cond}
+use Rattle.std.proofs.Common.{◌≡◌, ℕ, ◌+◌, Bool, true, false, List, [], ◌∷◌, ◌++◌, refl, sym, ◌∙◌, ap, cond, subst}
 use Rattle.std.proofs.Common.{append_assoc, append-nil}
 use Rattle.std.specs.Prelude.{◌==◌, if◌then◌else◌}
 use Rattle.std.proofs.lemmas.Bool.{true≢false}
@@ -10,8 +10,8 @@ use Rattle.md_definition.specs.State.{then_block}
 use Rattle.md_definition.specs.Texts.{first_byte}
 use Rattle.md_definition.specs.Tree.{Block, Blocks, End, Item, More}
 use Rattle.md_seam.specs.Events.Spelled.{Around, AsDigits, AsItemMarker, FootnoteShape, ItemShape, OrderedShape}
-use Rattle.md_seam.specs.Events.Spelled.{QuoteShape, Shape, UnorderedShape, block_around, is_ordered, list_marker, named}
-use Rattle.md_seam.specs.Events.Spelled.{on_shape}
+use Rattle.md_seam.specs.Events.Spelled.{QuoteShape, Shape, UnorderedShape, block_around, is_ordered, list_marker}
+use Rattle.md_seam.specs.Events.Spelled.{named, on_shape}
 
 -- how many containers are open
 abbrev pub depth_of : List Around → ℕ
@@ -167,11 +167,81 @@ shown-then outer here b h =
 
 -- Items that are told something.
 
--- no digits are shown
-digits-lines : (depth : ℕ) (text : List ℕ) (shape : Shape) (here : Blocks) →
-    block_entries depth (block_around (named AsDigits text shape) here) ≡ block_entries depth (block_around shape here)
-digits-lines depth text (ItemShape m d) here = refl
-digits-lines depth text _ here = refl
+-- only an item is told anything
+abbrev ToldItem : Shape → Shape → Type 0
+ToldItem (ItemShape m d) (ItemShape k e) = Unit {0}
+ToldItem (ItemShape m d) _ = ⊥
+ToldItem x y = x ≡ y
+
+told-lines : (depth : ℕ) (x y : Shape) (here : Blocks) → ToldItem x y →
+    block_entries depth (block_around y here) ≡ block_entries depth (block_around x here)
+told-lines depth (ItemShape m d) (ItemShape k e) here h = refl
+told-lines depth (ItemShape m d) _ here h = absurd h
+told-lines depth x y here h = ap (λ shape. block_entries depth (block_around shape here)) (sym h)
+
+told-word : (x y : Shape) (here : Blocks) → ToldItem x y → HasWord x here → HasWord y here
+told-word (ItemShape m d) (ItemShape k e) here h w = tt
+told-word (ItemShape m d) _ here h w = absurd h
+told-word x y here h w = subst (λ shape. HasWord shape here) h w
+
+-- a list that has a marker keeps it
+abbrev KeepsWord : (Shape → Shape) → Blocks → Type 0
+KeepsWord f here =
+    (list : Shape) (before : Blocks) (shape : Shape) → HasWord list (then_block before (block_around shape here)) →
+    list_word list (then_block before (block_around (f shape) here))
+    ≡ list_word list (then_block before (block_around shape here))
+
+named-same : (f : Shape → Shape) (outer : List Around) (around : Around) (here : Blocks) → KeepsWord f here →
+    HaveWords outer (then_block around.before (block_around around.shape here)) →
+    SameWord outer (then_block around.before (block_around around.shape here))
+    (then_block around.before (block_around (f around.shape) here))
+named-same f [] around here k h = tt
+named-same f (list ∷ outer) around here k h = k list.shape around.before around.shape h.0
+
+-- a container that is shown as before, with what it tells of its list
+renamed : (f : Shape → Shape) (around : Around) (outer : List Around) (here : Blocks) →
+    ((depth : ℕ) → block_entries depth (block_around (f around.shape) here)
+    ≡ block_entries depth (block_around around.shape here)) →
+    SameWord outer (then_block around.before (block_around around.shape here))
+    (then_block around.before (block_around (f around.shape) here)) →
+    shown (on_shape f (around ∷ outer)) here ≡ shown (around ∷ outer) here
+renamed f around outer here h e =
+    let before : List Entry = outline (depth_of outer) around.before in
+    let old : Block = block_around around.shape here in
+    let new : Block = block_around (f around.shape) here in
+    grown outer (then_block around.before old) (then_block around.before new) [] e
+    (outline-then (depth_of outer) around.before new ∙ ap (λ l. before ++ l) (h (depth_of outer))
+    ∙ sym (outline-then (depth_of outer) around.before old)
+    ∙ sym (append-nil (outline (depth_of outer) (then_block around.before old))))
+    ∙ append-nil (shown (around ∷ outer) here)
+
+-- What is told of the innermost container changes nothing that is shown.
+pub record StaysShown (f : Shape → Shape) (outer : List Around) (here : Blocks) : Type 0 where
+  pub lines : shown (on_shape f outer) here ≡ shown outer here
+  pub words : HaveWords (on_shape f outer) here
+  pub depth : depth_of (on_shape f outer) ≡ depth_of outer
+
+stays-shown : (f : Shape → Shape) (outer : List Around) (here : Blocks) →
+    ((shape : Shape) → ToldItem shape (f shape)) → KeepsWord f here → HaveWords outer here → StaysShown f outer here
+stays-shown f [] here alone k h = record { lines = refl; words = h; depth = refl }
+stays-shown f (around ∷ outer) here alone k h =
+    let same = named-same f outer around here k h.1 in
+    record {
+      lines =
+          renamed f around outer here
+          (λ depth. told-lines depth around.shape (f around.shape) here (alone around.shape)) same;
+      words = (
+        told-word around.shape (f around.shape) here (alone around.shape) h.0,
+        words-stay outer (then_block around.before (block_around around.shape here))
+            (then_block around.before (block_around (f around.shape) here)) same h.1,
+      );
+      depth = refl;
+    }
+
+-- digits are not shown
+digits-alone : (text : List ℕ) (shape : Shape) → ToldItem shape (named AsDigits text shape)
+digits-alone text (ItemShape m d) = tt
+digits-alone text _ = refl
 
 digits-word : (f : ℕ → Bool) (text : List ℕ) (shape : Shape) (here : Blocks) →
     list_marker f (More (block_around (named AsDigits text shape) here) End)
@@ -179,12 +249,19 @@ digits-word : (f : ℕ → Bool) (text : List ℕ) (shape : Shape) (here : Block
 digits-word f text (ItemShape m d) here = refl
 digits-word f text _ here = refl
 
--- a marker is that of a list which has none yet
-marker-lines : (depth : ℕ) (text : List ℕ) (shape : Shape) (here : Blocks) →
-    block_entries depth (block_around (named AsItemMarker text shape) here)
-    ≡ block_entries depth (block_around shape here)
-marker-lines depth text (ItemShape m d) here = refl
-marker-lines depth text _ here = refl
+pub digits-stay : (text : List ℕ) (outer : List Around) (here : Blocks) → HaveWords outer here →
+    StaysShown (named AsDigits text) outer here
+digits-stay text outer here h =
+    stays-shown (named AsDigits text) outer here (digits-alone text)
+    (λ list before shape k.
+    first-word list before (block_around shape here) (block_around (named AsDigits text shape) here)
+    (λ f. digits-word f text shape here))
+    h
+
+-- the marker of an item is not that of a list which has one
+marker-alone : (text : List ℕ) (shape : Shape) → ToldItem shape (named AsItemMarker text shape)
+marker-alone text (ItemShape m d) = tt
+marker-alone text _ = refl
 
 no-marker : (m : ℕ) (x : Bool) → (m == 0) ≡ true → ((cond x m 0) == 0) ≡ true
 no-marker m true h = h
@@ -215,84 +292,8 @@ marker-word OrderedShape text before _ here h = refl
 marker-word UnorderedShape text before _ here h = refl
 marker-word _ text before shape here h = refl
 
--- a container that is shown as before, with what it tells of its list
-renamed : (f : Shape → Shape) (around : Around) (outer : List Around) (here : Blocks) →
-    ((depth : ℕ) → block_entries depth (block_around (f around.shape) here)
-    ≡ block_entries depth (block_around around.shape here)) →
-    SameWord outer (then_block around.before (block_around around.shape here))
-    (then_block around.before (block_around (f around.shape) here)) →
-    shown (on_shape f (around ∷ outer)) here ≡ shown (around ∷ outer) here
-renamed f around outer here h e =
-    let before : List Entry = outline (depth_of outer) around.before in
-    let old : Block = block_around around.shape here in
-    let new : Block = block_around (f around.shape) here in
-    grown outer (then_block around.before old) (then_block around.before new) [] e
-    (outline-then (depth_of outer) around.before new ∙ ap (λ l. before ++ l) (h (depth_of outer))
-    ∙ sym (outline-then (depth_of outer) around.before old)
-    ∙ sym (append-nil (outline (depth_of outer) (then_block around.before old))))
-    ∙ append-nil (shown (around ∷ outer) here)
-
--- What is told of the innermost container changes nothing that is shown.
-pub record StaysShown (f : Shape → Shape) (outer : List Around) (here : Blocks) : Type 0 where
-  pub lines : shown (on_shape f outer) here ≡ shown outer here
-  pub words : HaveWords (on_shape f outer) here
-  pub depth : depth_of (on_shape f outer) ≡ depth_of outer
-
-digits-has : (text : List ℕ) (shape : Shape) (here : Blocks) → HasWord shape here →
-    HasWord (named AsDigits text shape) here
-digits-has text (ItemShape m d) here h = tt
-digits-has text _ here h = h
-
-marker-has : (text : List ℕ) (shape : Shape) (here : Blocks) → HasWord shape here →
-    HasWord (named AsItemMarker text shape) here
-marker-has text (ItemShape m d) here h = tt
-marker-has text _ here h = h
-
-digits-same : (outer : List Around) (text : List ℕ) (around : Around) (here : Blocks) →
-    SameWord outer (then_block around.before (block_around around.shape here))
-    (then_block around.before (block_around (named AsDigits text around.shape) here))
-digits-same [] text around here = tt
-digits-same (list ∷ outer) text around here =
-    first-word list.shape around.before (block_around around.shape here)
-    (block_around (named AsDigits text around.shape) here) (λ f. digits-word f text around.shape here)
-
-marker-same : (outer : List Around) (text : List ℕ) (around : Around) (here : Blocks) →
-    HaveWords outer (then_block around.before (block_around around.shape here)) →
-    SameWord outer (then_block around.before (block_around around.shape here))
-    (then_block around.before (block_around (named AsItemMarker text around.shape) here))
-marker-same [] text around here h = tt
-marker-same (list ∷ outer) text around here h =
-    marker-word list.shape text around.before around.shape here h.0
-
-pub digits-stay : (text : List ℕ) (outer : List Around) (here : Blocks) → HaveWords outer here →
-    StaysShown (named AsDigits text) outer here
-digits-stay text [] here h = record { lines = refl; words = h; depth = refl }
-digits-stay text (around ∷ outer) here h =
-    let same = digits-same outer text around here in
-    record {
-      lines =
-          renamed (named AsDigits text) around outer here (λ depth. digits-lines depth text around.shape here) same;
-      words = (
-        digits-has text around.shape here h.0,
-        words-stay outer (then_block around.before (block_around around.shape here))
-            (then_block around.before (block_around (named AsDigits text around.shape) here)) same h.1,
-      );
-      depth = refl;
-    }
-
 pub marker-stays : (text : List ℕ) (outer : List Around) (here : Blocks) → HaveWords outer here →
     StaysShown (named AsItemMarker text) outer here
-marker-stays text [] here h = record { lines = refl; words = h; depth = refl }
-marker-stays text (around ∷ outer) here h =
-    let same = marker-same outer text around here h.1 in
-    record {
-      lines =
-          renamed (named AsItemMarker text) around outer here
-          (λ depth. marker-lines depth text around.shape here) same;
-      words = (
-        marker-has text around.shape here h.0,
-        words-stay outer (then_block around.before (block_around around.shape here))
-            (then_block around.before (block_around (named AsItemMarker text around.shape) here)) same h.1,
-      );
-      depth = refl;
-    }
+marker-stays text outer here h =
+    stays-shown (named AsItemMarker text) outer here (marker-alone text)
+    (λ list before shape k. marker-word list text before shape here k) h

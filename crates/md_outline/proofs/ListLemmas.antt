@@ -150,8 +150,8 @@ list-begins bytes shape p s r h k is =
       leaf = is.leaf;
       known = is.known;
       text =
-          text-stays (shown r.outer r.here) (shown r.outer r.here ++ entry (depth_of r.outer) (word.List 0) ∷ []) s.depth
-          (s.depth + 1) s.lines (s.lines ++ entry s.depth (word.List 0) ∷ []) s.text r.text k
+          text-stays (shown r.outer r.here) (shown r.outer r.here ++ entry (depth_of r.outer) (word.List 0) ∷ [])
+          s.depth (s.depth + 1) s.lines (s.lines ++ entry s.depth (word.List 0) ∷ []) s.text r.text k
           (λ same.
           ap (λ es. es ++ entry s.depth (word.List 0) ∷ []) same
           ∙ ap (λ d. shown r.outer r.here ++ entry d (word.List 0) ∷ []) is.depth)
@@ -256,7 +256,8 @@ text_or t (Some text) = text
 
 marked-agrees : (shape : Shape) (now : List ℕ) (s : OutlineState) (r : Reading) (is : AwaitsMarker shape s r) →
     s.lines
-    ≡ shown is.outer is.before ++ entry (depth_of is.outer) (word.List 0) ∷ entry (depth_of is.outer + 1) word.Item ∷ [] →
+    ≡ shown is.outer is.before ++ entry (depth_of is.outer) (word.List 0)
+    ∷ entry (depth_of is.outer + 1) word.Item ∷ [] →
     marks shape (first_byte now) ≡ true →
     Agrees (marked_at (Some (length (shown is.outer is.before))) now (record s { text = None }))
     (record r {
@@ -306,7 +307,8 @@ marker-ends bytes shape p q s r (Some span) (Some text) is e h k m =
     (sym is.untold)
     (subst
     (λ i.
-    Agrees (marked_at (Some (length (shown is.outer is.before))) (slice_range bytes i p.index) (record s { text = None }))
+    Agrees
+    (marked_at (Some (length (shown is.outer is.before))) (slice_range bytes i p.index) (record s { text = None }))
     (spelled.told_at bytes AsItemMarker p (Some text) r))
     (sym from)
     (subst

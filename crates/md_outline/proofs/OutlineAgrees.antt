@@ -11,7 +11,8 @@ use Rattle.md_definition.specs.declared.outline.Word.{Word}
 use Rattle.md_definition.specs.Outline.{Entry, block_entries, entry}
 use Rattle.md_seam.specs.Events.Places.{last_line}
 use Rattle.md_definition.specs.Rest.{is_blank}
-use Rattle.md_seam.specs.Events.Spelled.{Around, AsDigits, AsItemMarker, Holds, IsPrefix, OpenLeaf, Opens, Reading, Shape, Tells, Text}
+use Rattle.md_seam.specs.Events.Spelled.{Around, AsDigits, AsItemMarker, Holds, IsPrefix, OpenLeaf, Opens, Reading}
+use Rattle.md_seam.specs.Events.Spelled.{Shape, Tells, Text}
 use Rattle.md_seam.specs.Events.Spelled.{after_prefix, at_ending, before_prefix, begun, block_around, block_of, byte_at}
 use Rattle.md_seam.specs.Events.Spelled.{finished, left, next_line, on_leaf, read, read_by, read_enter, read_exit}
 use Rattle.md_seam.specs.Events.Spelled.{named, on_shape, text_to}
@@ -402,7 +403,8 @@ agrees-exit bytes p = record {
       (agrees-leaf s r r.leaf (apart bytes Exit (Opens kind) p s.text (λ t. refl) k) d is);
   block = λ x by s r k d is. agrees-block bytes x p s r s.text r.text by is.text k is;
   note = λ x y by s r k d is.
-      agrees-note bytes x y p s r s.text r.text by is.text (apart bytes Exit (Tells x) p s.text (by.whole bytes p) k) is;
+      agrees-note bytes x y p s r s.text r.text by is.text (apart bytes Exit (Tells x) p s.text (by.whole bytes p) k)
+      is;
   digits = λ s r k d is.
       agrees-digits bytes p s r s.text r.text is.text (apart bytes Exit (Tells AsDigits) p s.text (λ t. refl) k) is;
   marker = λ s r k d is.

@@ -14,7 +14,8 @@ use Rattle.md_engine.specs.declared.event.Kind.TheVariants.{Enter, Exit}
 use Rattle.md_engine.specs.declared.event.Point.{Point}
 use Rattle.md_definition.specs.Outline.{Entry, outline}
 use Rattle.md_seam.specs.Events.Nested.{Balanced}
-use Rattle.md_seam.specs.Events.Spelled.{Holds, IsPrefix, OpenLeaf, OrderedShape, UnorderedShape, Reading, Shape, Tells, Text}
+use Rattle.md_seam.specs.Events.Spelled.{Holds, IsPrefix, OpenLeaf, OrderedShape, Reading, Shape, Tells, Text}
+use Rattle.md_seam.specs.Events.Spelled.{UnorderedShape}
 use Rattle.md_seam.specs.Events.Spelled.{after_prefix, at_ending, before_prefix, begun, block_around, block_of, byte_at}
 use Rattle.md_seam.specs.Events.Spelled.{finished, left, next_line, on_leaf, read, read_by, read_enter, read_exit}
 use Rattle.md_seam.specs.Events.Spelled.{spelled, text_to, unread}
@@ -124,8 +125,8 @@ agrees-all bytes (e ∷ events) stage s r h k lists d closed is =
     let parts = parted-step bytes e events s names.0 k in
     let x : spelled.Role = spelled.role e.name in
     let next : Reading = read_by bytes e.kind x e.point r in
-    agrees-all bytes events (stage_by stage e.kind x e.point) (state_by bytes e.kind (shown_as x) e.point s) next names.1
-    parts.1 lists.1 d closed
+    agrees-all bytes events (stage_by stage e.kind x e.point) (state_by bytes e.kind (shown_as x) e.point s) next
+    names.1 parts.1 lists.1 d closed
     (agrees-stage bytes stage e.kind x e.point s r names.0 parts.0 (blocks-stay fits bytes events next d).0 lists.0 is)
 
 -- the lines that all events add are those of the tree that they spell out

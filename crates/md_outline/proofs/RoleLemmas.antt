@@ -9,7 +9,8 @@ use Rattle.md_definition.specs.declared.outline.Word.{Word}
 use Rattle.md_definition.specs.declared.outline.Word.TheVariants as word
 use Rattle.md_definition.specs.Outline.{block_entries, entry}
 use Rattle.md_seam.specs.Events.Spelled.{AsDigits, AsFootnoteLabel, AsHeading, AsItemMarker, AsMarkers, AsParagraph}
-use Rattle.md_seam.specs.Events.Spelled.{BreakLeaf, HeadingAtxLeaf, Holds, IsEnding, IsPrefix, IsQuiet, ItemShape, LeafKind}
+use Rattle.md_seam.specs.Events.Spelled.{BreakLeaf, HeadingAtxLeaf, Holds, IsEnding, IsPrefix, IsQuiet, ItemShape}
+use Rattle.md_seam.specs.Events.Spelled.{LeafKind}
 use Rattle.md_seam.specs.Events.Spelled.{OfBreak, OfHeadingAtx, OpenLeaf, Opens, QuoteShape, Reading, Shape, Tells}
 use Rattle.md_seam.specs.Events.Spelled.{Text, add_block, at_ending, block_around, fresh, named, next_line, on_leaf}
 use Rattle.md_seam.specs.Events.Spelled.{on_shape, spelled, text_to}

@@ -29,28 +29,28 @@ first-seen feed w s = rw s.next (go w.current)
 
 -- What a feed that follows the text has behind whitespace.
 
-abbrev Along : Feed → Setting → Type 0
+abbrev pub Along : Feed → Setting → Type 0
 Along feed x =
     (p : Point) → p.index < x.limit →
     feed p ≡
     (record { byte = seen_at x.bytes p; after = after x p; line = line_of x.line (feed p) } ∷ feed (after x p))
 
 -- the bytes from a point on
-abbrev left_at : Setting → Point → List ℕ
+abbrev pub left_at : Setting → Point → List ℕ
 left_at x p = slice_range x.bytes p.index x.limit
 
 -- there are none from the limit or the end of the text on
-none-left : (x : Setting) (p : Point) → (x.limit ≤ p.index) ⊎ (length x.bytes ≤ p.index) → left_at x p ≡ []
+pub none-left : (x : Setting) (p : Point) → (x.limit ≤ p.index) ⊎ (length x.bytes ≤ p.index) → left_at x p ≡ []
 none-left x p (inl le) = range-none x.bytes p.index x.limit le
 none-left x p (inr le) =
     ap (take (x.limit - p.index)) (drop_all p.index x.bytes le) ∙ take-nil (x.limit - p.index)
 
 -- a space, or a column of a tab, is white, and behind it the same byte is left or the next
-record IsWhiteAt (x : Setting) (p : Point) : Type 0 where
-  white : is_white (seen_at x.bytes p) ≡ true
-  behind : ((after x p).index ≡ p.index) ⊎ ((after x p).index ≡ p.index + 1)
+pub record IsWhiteAt (x : Setting) (p : Point) : Type 0 where
+  pub white : is_white (seen_at x.bytes p) ≡ true
+  pub behind : ((after x p).index ≡ p.index) ⊎ ((after x p).index ≡ p.index + 1)
 
-white-at : (x : Setting) (p : Point) → is_white (slice_index x.bytes p.index) ≡ true → IsWhiteAt x p
+pub white-at : (x : Setting) (p : Point) → is_white (slice_index x.bytes p.index) ≡ true → IsWhiteAt x p
 white-at x p e = go (nat_eq (slice_index x.bytes p.index) 9) refl
   where
     byte : ℕ
@@ -77,7 +77,7 @@ white-at x p e = go (nat_eq (slice_index x.bytes p.index) 9) refl
         record { white = rw space refl; behind = inr (rw space refl) }
 
 -- any other byte is seen as it is, and a line ending as LF
-dark-at : (x : Setting) (p : Point) → is_white (slice_index x.bytes p.index) ≡ false →
+pub dark-at : (x : Setting) (p : Point) → is_white (slice_index x.bytes p.index) ≡ false →
     seen_at x.bytes p ≡ cond (is_ending (slice_index x.bytes p.index)) 10 (slice_index x.bytes p.index)
 dark-at x p e =
     let byte : ℕ = slice_index x.bytes p.index in

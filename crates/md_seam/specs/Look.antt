@@ -1,7 +1,8 @@
 -- What stands first behind whitespace: by it alone most trials are refused, before they begin.
-use Rattle.std.specs.Prelude.{ℕ, Bool, true, if◌then◌else◌, List, [], ◌∷◌, Option, Some, None, slice_range}
+use Rattle.std.specs.Prelude.{ℕ, Bool, true, false, not, if◌then◌else◌, List, [], ◌∷◌, Option, Some, None, slice_range}
 use Rattle.md_engine.specs.Meaning.{Cell}
 use Rattle.md_engine.specs.Place.{is_ending}
+use Rattle.md_engine.specs.Spread.{spreads}
 use Rattle.md_engine.specs.World.{World}
 use Rattle.md_definition.specs.Rest.{is_white}
 
@@ -15,10 +16,14 @@ abbrev pub seen_behind : List Cell → Option ℕ
 seen_behind [] = None
 seen_behind (c ∷ cs) = if is_white c.byte then seen_behind cs else Some c.byte
 
+-- a byte as a state sees it
+abbrev pub as_seen : ℕ → ℕ
+as_seen b = if is_ending b then 10 else b
+
 -- the first byte behind whitespace, as a state sees it
 abbrev pub first_behind : List ℕ → Option ℕ
 first_behind [] = None
-first_behind (b ∷ bytes) = if is_white b then first_behind bytes else Some (if is_ending b then 10 else b)
+first_behind (b ∷ bytes) = if is_white b then first_behind bytes else Some (as_seen b)
 
 -- by what stands here, and by what stands first behind whitespace
 abbrev pub behind_code : Option ℕ → Option ℕ → Option ℕ
@@ -34,3 +39,17 @@ looks_behind w = behind_code w.current (first_behind (slice_range w.setting.byte
 abbrev pub may_with : (ℕ → Bool) → Option ℕ → Bool
 may_with begins None = true
 may_with begins (Some b) = begins b
+
+-- the first byte that is neither a marker nor whitespace
+abbrev pub first_other : ℕ → List ℕ → Option ℕ
+first_other marker [] = None
+first_other marker (b ∷ bytes) = if spreads marker b then first_other marker bytes else Some b
+
+-- whether it is known, and does not end the line
+abbrev pub is_other : Option ℕ → Bool
+is_other None = false
+is_other (Some b) = not (is_ending b)
+
+-- whether something else than a marker and whitespace stands on the rest of the line: the text that may be read now has it
+unfoldable pub sees_other : World → ℕ → Bool
+sees_other w marker = is_other (first_other marker (slice_range w.setting.bytes w.point.index w.setting.limit))

@@ -5,11 +5,12 @@
 // It adds one `SpaceOrTab` around them, and nothing where there are none.
 
 ghost use Rattle.std.specs.Prelude.{◌≡◌, ◌≢◌, IfSome, OnOk, true};
+ghost use Rattle.md_engine.specs.Place.{is_ending};
 ghost use Rattle.md_engine.specs.World.{world};
 ghost use Rattle.md_engine.specs.declared.state.Name.{Name as StateName};
 ghost use Rattle.md_engine.specs.declared.state.State.{State};
 ghost use Rattle.md_engine.specs.declared.state.space_or_tab.State.{State as WhiteState};
-ghost use Rattle.md_seam.specs.Look.{first_behind, looks_behind};
+ghost use Rattle.md_seam.specs.Look.{as_seen, looks_behind, sees_other};
 ghost use Rattle.md_seam.specs.OneSpace.{IsOneSpace, spaced};
 ghost use Rattle.md_seam.specs.Spaces.{WhiteNeeds, after_transition, any_size, inside_transition, sees_white};
 ghost use Rattle.md_seam.specs.Spaces.{small_indent, start_transition, white_then, white_transition};
@@ -38,34 +39,46 @@ pub fn is_space_or_tab(current: Option<u8>) -> bool
     }
 }
 
-/// The first of these bytes behind whitespace, as a state sees it: a line ending as `\n`.
-fn first_behind(bytes: &[u8]) -> Option<u8>
-    ensures { result ≡ first_behind bytes.now }
+/// Whether this byte ends a line.
+fn is_ending(byte: u8) -> bool
+    ensures { result ≡ is_ending byte }
 {
-    for byte in bytes {
-        match *byte {
-            b' ' | b'\t' => {}
-            b'\r' => return Some(b'\n'),
-            first => return Some(first),
-        }
-    }
-    None
+    byte == b'\n' || byte == b'\r'
+}
+
+/// A byte as a state sees it: a line ending as `\n`.
+fn as_seen(byte: u8) -> u8
+    ensures { result ≡ as_seen byte }
+{
+    if is_ending(byte) { b'\n' } else { byte }
 }
 
 /// What stands here or, where that is whitespace, what stands first behind it, as far as the text may be read now; none
 /// where that is not known, or where nothing stands.
 #[tactic(auto, unfolding(crate::specs::Look::looks_behind))]
-pub fn look_behind(tokenizer: &Tokenizer) -> Option<u8>
-    ensures { result ≡ looks_behind (world tokenizer.now) }
+pub fn look_behind(tokenizer: &mut Tokenizer) -> Option<u8>
+    ensures behind { result ≡ looks_behind (world tokenizer.old) }
+    ensures same { world tokenizer.new ≡ world tokenizer.old }
 {
     if !is_space_or_tab(tokenizer.current) {
         return tokenizer.current;
     }
-    let index = tokenizer.point.index;
-    if index >= tokenizer.limit {
-        return None;
+    let end = tokenizer.spread_end(b' ');
+    if end < tokenizer.limit {
+        Some(as_seen(tokenizer.bytes[end]))
+    } else {
+        None
     }
-    first_behind(&tokenizer.bytes[index..tokenizer.limit])
+}
+
+/// Whether something else than this marker and whitespace is known to stand on the rest of the line. Then it is no line
+/// of such markers alone.
+pub fn sees_other(tokenizer: &mut Tokenizer, marker: u8) -> bool
+    ensures sees { result ≡ sees_other (world tokenizer.old) marker }
+    ensures same { world tokenizer.new ≡ world tokenizer.old }
+{
+    let end = tokenizer.spread_end(marker);
+    end < tokenizer.limit && !is_ending(tokenizer.bytes[end])
 }
 
 /// The greatest small indent, in columns: 3, or any where there is no indented code.

@@ -1,6 +1,5 @@
 -- List items (CommonMark 5.2), as containers of a line.
 use Rattle.std.specs.Prelude.{◌≡◌, not, true, List, Option, Some, None}
-use Rattle.md_engine.specs.declared.configuration.ParseOptions.{ParseOptions}
 use Rattle.md_engine.specs.declared.event.Point.{Point}
 use Rattle.md_engine.specs.declared.state.Name.TheVariants as s
 use Rattle.md_engine.specs.declared.state.document.State.TheVariants as document

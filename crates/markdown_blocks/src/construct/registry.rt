@@ -106,8 +106,9 @@ pub fn opens_with(kind: ContainerKind) -> StateName
 
 /// Whether a container may open here, by what stands first behind whitespace, where its kind looks at that.
 #[inline(always)]
-pub fn may_open(tokenizer: &Tokenizer, kind: ContainerKind) -> bool
-    ensures { result ≡ may_with (may_open kind) (looks_behind (world tokenizer.now)) }
+pub fn may_open(tokenizer: &mut Tokenizer, kind: ContainerKind) -> bool
+    ensures may { result ≡ may_with (may_open kind) (looks_behind (world tokenizer.old)) }
+    ensures same { world tokenizer.new ≡ world tokenizer.old }
 {
     match kind {
         ContainerKind::BlockQuote => block_quote::may_begin(look_behind(tokenizer)),
@@ -118,8 +119,9 @@ pub fn may_open(tokenizer: &Tokenizer, kind: ContainerKind) -> bool
 /// Whether the prefix of a container on a further line may begin here, by what stands first behind whitespace, where
 /// its kind looks at that.
 #[inline(always)]
-pub fn may_go_on(tokenizer: &Tokenizer, kind: ContainerKind) -> bool
-    ensures { result ≡ may_with (may_go_on kind) (looks_behind (world tokenizer.now)) }
+pub fn may_go_on(tokenizer: &mut Tokenizer, kind: ContainerKind) -> bool
+    ensures may { result ≡ may_with (may_go_on kind) (looks_behind (world tokenizer.old)) }
+    ensures same { world tokenizer.new ≡ world tokenizer.old }
 {
     match kind {
         ContainerKind::BlockQuote => block_quote::may_begin(look_behind(tokenizer)),

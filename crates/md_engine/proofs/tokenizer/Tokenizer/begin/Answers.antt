@@ -3,11 +3,12 @@ use Rattle.md_engine.proofs.Sound.{sound-begun}
 use Rattle.md_engine.proofs.tokenizer.Tokenizer.begin.Goals as goal
 
 pub invariant_of-self : goal.invariant_of-self
-invariant_of-self c = record { sound = rw c.reserve.ensures.items c.args.self.now.sound }
+invariant_of-self c = record { sound = rw c.reserve.ensures.items c.args.self.now.sound; spread = c.args.self.now.spread }
 
 pub invariant_of-self-2 : goal.invariant_of-self-2
 invariant_of-self-2 c = record {
   sound =
       rw (c.push_reserved.ensures.items, c.reserve.ensures.items)
       (sound-begun _ _ _ _ _ _ _ c.args.self.now.sound refl (omega arith));
+  spread = c.args.self.now.spread;
 }

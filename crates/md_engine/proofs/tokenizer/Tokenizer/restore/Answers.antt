@@ -8,4 +8,5 @@ invariant_of-self c = record {
       (sound-restored _ c.args.self.now.point c.args.frame.point _ c.args.frame.events_len _ _ _ c.args.self.now.sound
       c.requires.placed
       (All-unreverse (λ f. f.events_len ≤ c.args.frame.events_len) _ c.requires.outer));
+  spread = c.args.self.now.spread;
 }
