@@ -1,6 +1,6 @@
 -- Lines on which one look tells that no container opens and no leaf begins: what is passed at once is what the states
 -- refuse one after another.
-use Rattle.std.proofs.Common.{◌≡◌, ◌≢◌, ℕ, Bool, true, false, cond, not, ◌||◌, nat_eq, List, [], ◌∷◌, Option, Some, None}
+use Rattle.std.proofs.Common.{◌≡◌, ◌≢◌, ℕ, Bool, true, false, cond, ◌||◌, nat_eq, List, [], ◌∷◌, Option, Some, None}
 use Rattle.std.proofs.Common.{◌<◌, ◌⊎◌, inl, length, refl, sym, ◌∙◌, ap, ap₂, subst}
 use Rattle.std.specs.List.{list_any}
 use Rattle.std.specs.Prelude.{slice_range}
@@ -35,8 +35,8 @@ use Rattle.markdown_blocks.specs.Flow.{flow_end_code, flow_end_transition}
 use Rattle.markdown_blocks.specs.Flow.{flow_own_transition, leaf_transition, new_before_transition, opener_transition}
 use Rattle.markdown_blocks.specs.Flow.{trial_code}
 use Rattle.markdown_blocks.specs.LineFlags.{asking, ending_name, next_line, stays}
-use Rattle.markdown_blocks.specs.Registry.{LeafName, behind, container_rules, front_of, leaf, may_open, next_of}
-use Rattle.markdown_blocks.specs.Registry.{next_opener, opener_at, opener_front, openers, openers_behind, opens_with}
+use Rattle.markdown_blocks.specs.Registry.{LeafName, container_rules, front_of, leaf, may_open, next_of}
+use Rattle.markdown_blocks.specs.Registry.{next_opener, opener_at, opener_front, openers, opens_with}
 use Rattle.markdown_blocks.specs.Registry.{trials, tried_at}
 use Rattle.markdown_blocks.specs.States.{FlowStep, flow_transition}
 use Rattle.markdown_blocks.proofs.Registry.{NextIs, NextOpener, container-states, leaf-states}
