@@ -54,6 +54,7 @@ pub mod FrontRows
 pub mod RowLemmas
 pub mod LeafRows
 pub mod FlowRows
+pub mod LinesAtOnce
 pub mod LinesFed
 pub mod EachEvent
 pub mod FlowSteps

@@ -1,10 +1,13 @@
--- Containers whose prefixes are taken at once.
-use Rattle.std.specs.Prelude.{◌≡◌, true, Option, None, Some}
+-- Containers whose prefixes are taken at once, and lines where one look tells that none opens, or that no leaf begins.
+use Rattle.std.specs.Prelude.{◌≡◌, ℕ, Bool, true, false, not, ◌||◌, ◌==◌, List, [], ◌∷◌, Option, None, Some}
+use Rattle.std.specs.List.{list_any}
+use Rattle.md_definition.specs.Rest.{is_white}
+use Rattle.md_engine.specs.declared.tokenizer.container.name.ContainerKind.{ContainerKind}
 use Rattle.md_engine.specs.declared.tokenizer.container.Container.{Container}
-use Rattle.md_engine.specs.World.{World}
+use Rattle.md_engine.specs.World.{World, container_of}
 use Rattle.md_containers.specs.PlainPrefix.{IsPlainPrefix}
-use Rattle.markdown_blocks.specs.LineFlags.{asking, next_container}
-use Rattle.markdown_blocks.specs.Registry.{goes_at_once}
+use Rattle.markdown_blocks.specs.LineFlags.{asking, begun_line, next_container}
+use Rattle.markdown_blocks.specs.Registry.{goes_at_once, leaf, may_open, openers, trials}
 
 -- a container is open that was not asked yet, and its prefix stands here
 pub record GoesAtOnce (w : World) : Type 0 where
@@ -20,3 +23,24 @@ asking_by (Some c) w = asking c w
 
 abbrev pub asking_next : World → World
 asking_next w = asking_by (next_container w.flags) w
+
+-- Lines that open nothing.
+
+-- what stands here is no whitespace and does not end the line, and no container may open with it
+abbrev pub opens_none : Option ℕ → Bool
+opens_none None = false
+opens_none (Some b) = not (is_white b || b == 10 || list_any (λ k. may_open k b) openers)
+
+-- it is no whitespace, and none of the leaves that are tried may begin with it
+abbrev pub begins_none : Option ℕ → Bool
+begins_none None = false
+begins_none (Some b) = not (is_white b || list_any (λ l. (leaf l).may_begin b) trials)
+
+-- containers of these kinds were asked one after another whether they open
+abbrev pub all_asked : List ContainerKind → World → World
+all_asked [] w = w
+all_asked (k ∷ ks) w = all_asked ks (asking (container_of k) w)
+
+-- and none opened, so that the leaf of the line follows
+abbrev pub openers_passed : World → World
+openers_passed w = let v = all_asked openers w in record v { flags = begun_line v.flags }

@@ -23,7 +23,7 @@ ghost use Rattle.markdown_blocks.specs.Flow.{existing_before_transition, flow_en
 ghost use Rattle.markdown_blocks.specs.Flow.{new_before_transition};
 ghost use Rattle.md_engine.specs.declared.tokenizer.container.name.ContainerKind.{ContainerKind};
 ghost use Rattle.markdown_blocks.specs.LineFlags.{asking, ended_on, ending_name, next_container, over_end, stays};
-ghost use Rattle.markdown_blocks.specs.AtOnce.{GoesAtOnce, asking_next};
+ghost use Rattle.markdown_blocks.specs.AtOnce.{GoesAtOnce, asking_next, openers_passed};
 ghost use Rattle.markdown_blocks.specs.States.{FlowStep};
 ghost use Rattle.md_engine.specs.declared.resolve.name.Name.{Name as ResolveName};
 ghost use Rattle.markdown_blocks.specs.HeldLeaf.{takes_lazy};
@@ -249,6 +249,15 @@ pub fn container_new_before(tokenizer: &mut Tokenizer) -> State
         world tokenizer.new ≡ (new_before_transition ContainerKind.BlockQuote (world tokenizer.old)).world }
 {
     try_new(tokenizer, ContainerKind::BlockQuote)
+}
+
+/// Passes all containers that may open, where none does by what stands here, as the states do one after another.
+#[inline(always)]
+pub fn pass_openers(tokenizer: &mut Tokenizer)
+    ensures { world tokenizer.new ≡ openers_passed (world tokenizer.old) }
+{
+    ask(tokenizer, Container::new(registry::last_opener()));
+    tokenizer.flags.leaf_before = tokenizer.flags.leaf;
 }
 
 /// Before a list item that may open.

@@ -18,7 +18,7 @@ ghost use Rattle.md_engine.specs.declared.state.flow.State.{State as FlowState};
 ghost use Rattle.markdown_blocks.specs.Flow.{after_transition, before_content_transition, before_transition};
 ghost use Rattle.markdown_blocks.specs.Flow.{blank_line_after_transition, blank_line_before_transition};
 ghost use Rattle.markdown_blocks.specs.Flow.{flow_own_transition, start_transition};
-ghost use Rattle.markdown_blocks.specs.Registry.{LeafName};
+ghost use Rattle.markdown_blocks.specs.Registry.{LeafName, front_of, opener_front, openers, trials};
 ghost use Rattle.md_seam.specs.Transition.{IsAt, NeedsNothing};
 
 use crate::construct::{document, registry};
@@ -213,6 +213,85 @@ fn call_state(tokenizer: &mut Tokenizer, name: StateName) -> State
     }
 }
 
+/// Before content: its first byte is taken at once.
+#[inline(always)]
+fn content_begins(tokenizer: &mut Tokenizer) -> State
+    requires { IsAt NeedsNothing (StateName.Flow FlowState.BeforeContent) (world tokenizer.old) }
+    ensures runs { result ≢ State.Error →
+        RunsHere (FlowStep (λ target other. ⟦<ResolveName as PartialEq>⟧.eq other target))
+        (StateName.Flow FlowState.BeforeContent) (world tokenizer.old) result (world tokenizer.new) }
+    ensures sees { result ≢ State.Error → SeesOn result (world tokenizer.old) (world tokenizer.new) }
+{
+    match before_content(tokenizer) {
+        State::Error => State::Error,
+        _ => match content::chunk_start(tokenizer) {
+            State::Error => State::Error,
+            _ => content::chunk_inside(tokenizer),
+        },
+    }
+}
+
+/// Before the first leaf that is tried: where none may begin by what stands here, content begins at once.
+fn leaves(tokenizer: &mut Tokenizer) -> State
+    requires { IsAt NeedsNothing (StateName.Flow (front_of trials)) (world tokenizer.old) }
+    ensures runs { result ≢ State.Error →
+        RunsHere (FlowStep (λ target other. ⟦<ResolveName as PartialEq>⟧.eq other target))
+        (StateName.Flow (front_of trials)) (world tokenizer.old) result (world tokenizer.new) }
+    ensures sees { result ≢ State.Error → SeesOn result (world tokenizer.old) (world tokenizer.new) }
+{
+    if registry::begins_none(tokenizer.current) {
+        content_begins(tokenizer)
+    } else {
+        before_heading_atx(tokenizer)
+    }
+}
+
+/// Before the first container that may open: where none may by what stands here, the leaf of the line is next.
+fn containers_new(tokenizer: &mut Tokenizer) -> State
+    requires { IsAt NeedsNothing (StateName.Document (opener_front openers)) (world tokenizer.old) }
+    ensures runs { result ≢ State.Error →
+        RunsHere (FlowStep (λ target other. ⟦<ResolveName as PartialEq>⟧.eq other target))
+        (StateName.Document (opener_front openers)) (world tokenizer.old) result (world tokenizer.new) }
+    ensures sees { result ≢ State.Error → SeesOn result (world tokenizer.old) (world tokenizer.new) }
+{
+    if registry::opens_none(tokenizer.current) {
+        document::pass_openers(tokenizer);
+        leaves(tokenizer)
+    } else {
+        document::container_new_before(tokenizer)
+    }
+}
+
+/// At the begin of a line, or behind a prefix: goes on behind the containers that go on.
+#[inline(always)]
+fn containers(tokenizer: &mut Tokenizer) -> State
+    requires { IsAt NeedsNothing (StateName.Document DocumentState.ContainerExistingBefore) (world tokenizer.old) }
+    ensures runs { result ≢ State.Error →
+        RunsHere (FlowStep (λ target other. ⟦<ResolveName as PartialEq>⟧.eq other target))
+        (StateName.Document DocumentState.ContainerExistingBefore) (world tokenizer.old) result (world tokenizer.new) }
+    ensures sees { result ≢ State.Error → SeesOn result (world tokenizer.old) (world tokenizer.new) }
+{
+    match document::containers_existing(tokenizer) {
+        State::Retry(StateName::Document(DocumentState::ContainerNewBefore)) => {
+            containers_new(tokenizer)
+        }
+        state => state,
+    }
+}
+
+/// Behind the leaf of a line: the line ends.
+#[inline(always)]
+fn line_end(tokenizer: &mut Tokenizer) -> State
+    requires { IsAt NeedsNothing (StateName.Flow FlowState.After) (world tokenizer.old) }
+    ensures runs { result ≢ State.Error →
+        RunsHere (FlowStep (λ target other. ⟦<ResolveName as PartialEq>⟧.eq other target))
+        (StateName.Flow FlowState.After) (world tokenizer.old) result (world tokenizer.new) }
+    ensures sees { result ≢ State.Error → SeesOn result (world tokenizer.old) (world tokenizer.new) }
+{
+    after(tokenizer);
+    document::flow_end(tokenizer)
+}
+
 /// Calls a state of a heading; words of it are taken at once.
 #[inline(always)]
 fn call_heading(tokenizer: &mut Tokenizer, state: HeadingState) -> State
@@ -229,7 +308,7 @@ fn call_heading(tokenizer: &mut Tokenizer, state: HeadingState) -> State
     }
 }
 
-/// Calls a state of the containers of a line; prefixes are taken at once.
+/// Calls a state of the containers of a line; prefixes are taken at once, and so is what refuses the byte behind them.
 #[inline(always)]
 fn call_document(tokenizer: &mut Tokenizer, state: DocumentState) -> State
     requires current { (world tokenizer.old).current ≡ looks (world tokenizer.old) }
@@ -240,8 +319,27 @@ fn call_document(tokenizer: &mut Tokenizer, state: DocumentState) -> State
     ensures sees { result ≢ State.Error → SeesOn result (world tokenizer.old) (world tokenizer.new) }
 {
     match state {
-        DocumentState::ContainerExistingBefore => document::containers_existing(tokenizer),
+        DocumentState::ContainerExistingBefore => containers(tokenizer),
+        DocumentState::ContainerNewBefore => containers_new(tokenizer),
         _ => document::call(tokenizer, state),
+    }
+}
+
+/// Calls a state of flow; leaves that refuse the byte that stands here are passed at once.
+#[inline(always)]
+fn call_flow(tokenizer: &mut Tokenizer, state: FlowState) -> State
+    requires current { (world tokenizer.old).current ≡ looks (world tokenizer.old) }
+    requires stands { stands flow_table_scheme (world tokenizer.old) (State.Next (StateName.Flow state)) }
+    ensures runs { result ≢ State.Error →
+        RunsHere (FlowStep (λ target other. ⟦<ResolveName as PartialEq>⟧.eq other target)) (StateName.Flow state)
+        (world tokenizer.old) result (world tokenizer.new) }
+    ensures sees { result ≢ State.Error → SeesOn result (world tokenizer.old) (world tokenizer.new) }
+{
+    match state {
+        FlowState::After => line_end(tokenizer),
+        FlowState::BeforeHeadingAtx => leaves(tokenizer),
+        FlowState::BeforeContent => content_begins(tokenizer),
+        _ => call(tokenizer, state),
     }
 }
 
@@ -260,6 +358,7 @@ impl Table for FlowTable {
     fn call(tokenizer: &mut Tokenizer, name: StateName) -> State {
         match name {
             StateName::Document(state) => call_document(tokenizer, state),
+            StateName::Flow(state) => call_flow(tokenizer, state),
             StateName::HeadingAtx(state) => call_heading(tokenizer, state),
             _ => call_state(tokenizer, name),
         }

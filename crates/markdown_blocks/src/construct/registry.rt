@@ -11,16 +11,19 @@ ghost use Rattle.md_containers.specs.PlainPrefix.{IsPlainPrefix, prefixed};
 ghost use Rattle.std.specs.Option.{option_map};
 ghost use Rattle.md_engine.specs.Found.{found_in};
 ghost use Rattle.md_engine.specs.Scheme.{stands};
-ghost use Rattle.md_engine.specs.World.{looks, world};
+ghost use Rattle.md_engine.specs.World.{World, container_of, looks, world};
 ghost use Rattle.md_engine.specs.declared.resolve.name.Name.{Name as ResolveName};
 ghost use Rattle.md_engine.specs.declared.state.State.{State};
+ghost use Rattle.markdown_blocks.specs.LineFlags.{asking};
 ghost use Rattle.markdown_blocks.specs.Registry.{construct_transition, goes_at_once, goes_on_with, goes_over};
-ghost use Rattle.markdown_blocks.specs.Registry.{may_go_on, may_open, next_opener, opener_front, openers, opens_with};
-ghost use Rattle.markdown_blocks.specs.Registry.{resolved_by};
+ghost use Rattle.markdown_blocks.specs.AtOnce.{all_asked, begins_none, opens_none};
+ghost use Rattle.markdown_blocks.specs.Registry.{may_go_on, may_open, next_opener, opener_front, openers};
+ghost use Rattle.markdown_blocks.specs.Registry.{opens_with, resolved_by};
 ghost use Rattle.markdown_blocks.specs.States.{flow_table_scheme};
 ghost use Rattle.md_seam.specs.Look.{looks_behind, may_with};
 
 use md_containers::{block_quote, list_item, lists};
+use md_engine::class::is_white;
 use md_engine::message::Message;
 use md_engine::resolve::Name as ResolveName;
 use md_engine::state::block_quote::State as QuoteState;
@@ -48,6 +51,45 @@ pub fn next_opener(kind: ContainerKind) -> DocumentState
     match kind {
         ContainerKind::BlockQuote => DocumentState::ContainerNewBeforeNotBlockQuote,
         ContainerKind::ListItem => DocumentState::ContainersAfter,
+    }
+}
+
+/// The last one: where none opens, it is the one that was asked last.
+#[inline(always)]
+pub fn last_opener() -> ContainerKind
+    ensures { (w : World) → all_asked openers w ≡ asking (container_of result) w }
+{
+    ContainerKind::ListItem
+}
+
+/// Whether no container may open where this stands, which is no whitespace and does not end the line.
+#[inline(always)]
+pub fn opens_none(current: Option<u8>) -> bool
+    ensures { result ≡ opens_none current }
+{
+    match current {
+        None => false,
+        Some(byte) => {
+            !(is_white(byte)
+                || byte == b'\n'
+                || block_quote::may_begin(current)
+                || list_item::may_begin(current))
+        }
+    }
+}
+
+/// Whether no leaf may begin where this stands, which is no whitespace.
+#[inline(always)]
+pub fn begins_none(current: Option<u8>) -> bool
+    ensures { result ≡ begins_none current }
+{
+    match current {
+        None => false,
+        Some(byte) => {
+            !(is_white(byte)
+                || heading_atx::may_begin(current)
+                || thematic_break::may_begin(current))
+        }
     }
 }
 

@@ -19,12 +19,23 @@ is_name target other = names.ghosts.eq other target
 pub returns-in-ContainerExistingBefore : goal.returns-in-ContainerExistingBefore
 returns-in-ContainerExistingBefore c =
     let w = world c.args.tokenizer.now in
-    let w' = world c.containers_existing.new.tokenizer in
+    let w' = world c.containers.new.tokenizer in
     record {
       runs = λ fine.
-          subst (λ (x : DocumentState). RunsHere (FlowStep is_name) (n.Document x) w c.containers_existing.result w')
-          (sym c.in-ContainerExistingBefore.is) (c.containers_existing.ensures.runs fine);
-      sees = c.containers_existing.ensures.sees;
+          subst (λ (x : DocumentState). RunsHere (FlowStep is_name) (n.Document x) w c.containers.result w')
+          (sym c.in-ContainerExistingBefore.is) (c.containers.ensures.runs fine);
+      sees = c.containers.ensures.sees;
+    }
+
+pub returns-in-ContainerNewBefore : goal.returns-in-ContainerNewBefore
+returns-in-ContainerNewBefore c =
+    let w = world c.args.tokenizer.now in
+    let w' = world c.containers_new.new.tokenizer in
+    record {
+      runs = λ fine.
+          subst (λ (x : DocumentState). RunsHere (FlowStep is_name) (n.Document x) w c.containers_new.result w')
+          (sym c.in-ContainerNewBefore.is) (c.containers_new.ensures.runs fine);
+      sees = c.containers_new.ensures.sees;
     }
 
 pub returns-in_default : goal.returns-in_default

@@ -36,6 +36,24 @@ returns-in-Document c =
       sees = c.call_document.ensures.sees;
     }
 
+pub returns-in-Flow : goal.returns-in-Flow
+returns-in-Flow c =
+    let w = world c.args.tokenizer.now in
+    let w' = world c.call_flow.new.tokenizer in
+    let runs : c.call_flow.result ≢ Error → RunsHere (FlowStep is_name) c.args.name w c.call_flow.result w' =
+    λ fine. subst (λ (x : StateName). RunsHere (FlowStep is_name) x w c.call_flow.result w') (sym c.in-Flow.is)
+    (c.call_flow.ensures.runs fine) in
+    let kept = λ (fine : c.call_flow.result ≢ Error).
+    here-keeps (FlowStep is_name) flow_table_scheme c.args.name w c.call_flow.result w' (flow-keeps is_name)
+    c.requires.current c.requires.stands (runs fine) in
+    record {
+      runs = runs;
+      stands = λ fine. (kept fine).0;
+      falls = λ fine. (kept fine).1;
+      setting = λ fine. (kept fine).2;
+      sees = c.call_flow.ensures.sees;
+    }
+
 pub returns-in-HeadingAtx : goal.returns-in-HeadingAtx
 returns-in-HeadingAtx c =
     let w = world c.args.tokenizer.now in

@@ -1,0 +1,293 @@
+-- Lines on which one look tells that no container opens and no leaf begins: what is passed at once is what the states
+-- refuse one after another.
+use Rattle.std.proofs.Common.{◌≡◌, ◌≢◌, ℕ, Bool, true, false, cond, ◌||◌, nat_eq, List, [], ◌∷◌, Option, Some, None}
+use Rattle.std.proofs.Common.{◌<◌, ◌⊎◌, inl, length, refl, sym, ◌∙◌, ap, ap₂, subst}
+use Rattle.std.specs.List.{list_any}
+use Rattle.std.specs.Prelude.{slice_range}
+use Rattle.std.proofs.lemmas.Bool.{not-true, or_parts}
+use Rattle.md_definition.specs.Rest.{is_white}
+use Rattle.md_engine.specs.declared.resolve.name.Name.{Name as ResolveName}
+use Rattle.md_engine.specs.declared.state.Name.{Name as StateName}
+use Rattle.md_engine.specs.declared.state.Name.TheVariants as n
+use Rattle.md_engine.specs.declared.state.document.State.{State as DocumentState}
+use Rattle.md_engine.specs.declared.state.document.State.TheVariants as document
+use Rattle.md_engine.specs.declared.state.flow.State.{State as FlowState}
+use Rattle.md_engine.specs.declared.state.flow.State.TheVariants as flow
+use Rattle.md_engine.specs.declared.state.State.{State}
+use Rattle.md_engine.specs.declared.state.State.TheVariants.{Error, Next, Nok, Retry}
+use Rattle.md_engine.specs.declared.tokenizer.container.name.ContainerKind.{ContainerKind}
+use Rattle.md_engine.specs.Going.{SeesOn}
+use Rattle.md_engine.specs.Run.{Remains, RunsHere}
+use Rattle.md_engine.specs.World.{World, closed, container_of, looks}
+use Rattle.md_engine.proofs.Keeps.{runs-setting}
+use Rattle.md_engine.proofs.Loops.{CameHere, CameTo, call-sees, came-calls, came-first, came-runs}
+use Rattle.md_engine.proofs.Loops.{came-stays, reading-same}
+use Rattle.md_engine.proofs.Walks.{Within, then-stays}
+use Rattle.md_content.specs.Chunks.{chunk_inside_code}
+use Rattle.md_leaves.proofs.HeadingWords.{remains-of, sees-from}
+use Rattle.md_seam.specs.Look.{behind_code, first_behind, looks_behind, may_with}
+use Rattle.md_seam.specs.Spaces.{ends_line}
+use Rattle.md_seam.specs.Transition.{Transition, entered, exited, taken}
+use Rattle.markdown_blocks.specs.AtOnce.{all_asked, begins_none, opens_none, openers_passed}
+use Rattle.markdown_blocks.specs.Document.{document_own_transition}
+use Rattle.markdown_blocks.specs.Flow.{before_transition, blank_line_before_transition, blank_line_code}
+use Rattle.markdown_blocks.specs.Flow.{flow_end_code, flow_end_transition}
+use Rattle.markdown_blocks.specs.Flow.{flow_own_transition, leaf_transition, new_before_transition, opener_transition}
+use Rattle.markdown_blocks.specs.Flow.{trial_code}
+use Rattle.markdown_blocks.specs.LineFlags.{asking, ending_name, next_line, stays}
+use Rattle.markdown_blocks.specs.Registry.{LeafName, container_rules, front_of, leaf, may_open, next_of}
+use Rattle.markdown_blocks.specs.Registry.{next_opener, opener_at, opener_front, openers, opens_with}
+use Rattle.markdown_blocks.specs.Registry.{trials, tried_at}
+use Rattle.markdown_blocks.specs.States.{FlowStep, flow_transition}
+use Rattle.markdown_blocks.proofs.Registry.{NextIs, NextOpener, container-states, leaf-states}
+
+-- a byte that is no whitespace stands first behind whitespace
+looks-dark : (w : World) (b : ℕ) → w.current ≡ Some b → is_white b ≡ false → looks_behind w ≡ Some b
+unfolding looks_behind
+looks-dark w b e dark =
+    let found : Option ℕ = first_behind (slice_range w.setting.bytes w.point.index w.setting.limit) in
+    ap (λ (o : Option ℕ). behind_code o found) e ∙ ap (λ (x : Bool). cond x found (Some b)) dark
+
+-- such a byte stands here, with which none of these may begin
+record Refused {K : Type 0} (may : K → ℕ → Bool) (ks : List K) (w : World) : Type 0 where
+  byte : ℕ
+  here : looks_behind w ≡ Some byte
+  none : list_any (λ (k : K). may k byte) ks ≡ false
+
+-- the first of these
+refused-first : {K : Type 0} → (may : K → ℕ → Bool) (k : K) (ks : List K) (w : World) → Refused may (k ∷ ks) w →
+    may_with (may k) (looks_behind w) ≡ false
+refused-first may k ks w r =
+    ap (may_with (may k)) r.here ∙ (or_parts (may k r.byte) (list_any (λ x. may x r.byte) ks) r.none).0
+
+-- and those behind it, wherever the same byte stands first
+refused-rest : {K : Type 0} → (may : K → ℕ → Bool) (k : K) (ks : List K) (w v : World) →
+    looks_behind v ≡ looks_behind w → Refused may (k ∷ ks) w → Refused may ks v
+refused-rest may k ks w v same r = record {
+  byte = r.byte;
+  here = same ∙ r.here;
+  none = (or_parts (may k r.byte) (list_any (λ x. may x r.byte) ks) r.none).1;
+}
+
+-- Containers that may open.
+
+-- a state where one is tried
+at-opener : (x : DocumentState) (k : ContainerKind) (w : World) → opener_at x ≡ Some k →
+    document_own_transition x w ≡ new_before_transition k w
+at-opener document.Start k w e = cc
+at-opener document.BeforeFrontmatter k w e = cc
+at-opener document.ContainerExistingBefore k w e = cc
+at-opener document.ContainerExistingAfter k w e = cc
+at-opener document.ContainerNewAfter k w e = cc
+at-opener document.ContainersAfter k w e = cc
+at-opener document.FlowEnd k w e = cc
+at-opener _ k w e = ap (λ (o : Option ContainerKind). opener_transition o w) e
+
+-- none of these opens
+openers-refuse : (is_name : ResolveName → ResolveName → Bool) (is_end : Bool) (s : State) (v : World)
+    (ks : List ContainerKind) (w : World) →
+    NextOpener ks → Refused may_open ks w → w.current ≡ looks w → Within w →
+    CameTo (FlowStep is_name) is_end s v (n.Document (opener_front ks)) w →
+    CameTo (FlowStep is_name) is_end s v (n.Document document.ContainersAfter) (all_asked ks w)
+unfolding looks_behind
+openers-refuse is_name is_end s v [] w next none seen within came = came
+openers-refuse is_name is_end s v (k ∷ ks) w next none seen within came =
+    let a : World = asking (container_of k) w in
+    let x : DocumentState = (container_rules k).before in
+    let is : document_own_transition x w ≡ record { to = Retry (n.Document (opener_front ks)); world = a } =
+    at-opener x k w (container-states k).tried
+    ∙ ap
+    (trial_code (opens_with k) (n.Document document.ContainerNewAfter) (n.Document (next_opener k)) a)
+    (refused-first may_open k ks w none)
+    ∙ ap (λ (js : List ContainerKind). record { to = Retry (n.Document (opener_front js)); world = a }) next in
+    openers-refuse is_name is_end s v ks a (subst NextOpener next (container-states k).next)
+    (refused-rest may_open k ks w a refl none) seen within
+    (then-stays (FlowStep is_name) is_end s v (n.Document x) (n.Document (opener_front ks)) w a came
+    (record { to_is = sym (ap (λ (y : Transition). y.to) is); new_is = sym (ap (λ (y : Transition). y.world) is) }) refl
+    within refl seen)
+
+-- Leaves that are tried.
+
+at-leaf : (x : FlowState) (l : LeafName) (w : World) → tried_at x ≡ Some l →
+    flow_own_transition x w ≡ before_transition l w
+at-leaf flow.Start l w e = cc
+at-leaf flow.BlankLineBefore l w e = cc
+at-leaf flow.BeforeContent l w e = cc
+at-leaf flow.BlankLineAfter l w e = cc
+at-leaf flow.After l w e = cc
+at-leaf _ l w e = ap (λ (o : Option LeafName). leaf_transition o w) e
+
+-- none of these begins
+leaves-refuse : (is_name : ResolveName → ResolveName → Bool) (is_end : Bool) (s : State) (v : World)
+    (ls : List LeafName) (w : World) →
+    NextIs ls → Refused (λ l. (leaf l).may_begin) ls w → w.current ≡ looks w → Within w →
+    CameTo (FlowStep is_name) is_end s v (n.Flow (front_of ls)) w →
+    CameTo (FlowStep is_name) is_end s v (n.Flow flow.BeforeContent) w
+leaves-refuse is_name is_end s v [] w next none seen within came = came
+leaves-refuse is_name is_end s v (l ∷ ls) w next none seen within came =
+    let x : FlowState = (leaf l).before in
+    let is : flow_own_transition x w ≡ record { to = Retry (n.Flow (front_of ls)); world = w } =
+    at-leaf x l w (leaf-states l).tried
+    ∙ ap (trial_code (leaf l).start (n.Flow flow.After) (n.Flow (next_of l)) w)
+    (refused-first (λ (m : LeafName). (leaf m).may_begin) l ls w none)
+    ∙ ap (λ (ms : List LeafName). record { to = Retry (n.Flow (front_of ms)); world = w }) next in
+    leaves-refuse is_name is_end s v ls w (subst NextIs next (leaf-states l).next)
+    (refused-rest (λ (m : LeafName). (leaf m).may_begin) l ls w w refl none) seen within
+    (then-stays (FlowStep is_name) is_end s v (n.Flow x) (n.Flow (front_of ls)) w w came
+    (record { to_is = sym (ap (λ (y : Transition). y.to) is); new_is = sym (ap (λ (y : Transition). y.world) is) }) refl
+    within refl seen)
+
+-- What one look tells.
+
+-- what stands here opens no container, and does not end the line
+record OpensNone (w : World) : Type 0 where
+  refused : Refused may_open openers w
+  not_end : ends_line w.current ≡ false
+  not_blank : may_with (λ (b : ℕ). nat_eq b 10) (looks_behind w) ≡ false
+
+opens-none : (w : World) → opens_none w.current ≡ true → OpensNone w
+opens-none w e = go w.current refl e
+  where
+    go : (o : Option ℕ) → w.current ≡ o → opens_none o ≡ true → OpensNone w
+    go None here is = cc
+    go (Some b) here is =
+        let any : Bool = list_any (λ (k : ContainerKind). may_open k b) openers in
+        let parts = or_parts (is_white b || nat_eq b 10) any (not-true (is_white b || nat_eq b 10 || any) is) in
+        let dark = or_parts (is_white b) (nat_eq b 10) parts.0 in
+        let first : looks_behind w ≡ Some b = looks-dark w b here dark.0 in
+        record {
+          refused = record { byte = b; here = first; none = parts.1 };
+          not_end = ap ends_line here ∙ dark.1;
+          not_blank = ap (may_with (λ (x : ℕ). nat_eq x 10)) first ∙ dark.1;
+        }
+
+-- it begins no leaf
+begins-none : (w : World) → begins_none w.current ≡ true → Refused (λ l. (leaf l).may_begin) trials w
+begins-none w e = go w.current refl e
+  where
+    go : (o : Option ℕ) → w.current ≡ o → begins_none o ≡ true → Refused (λ l. (leaf l).may_begin) trials w
+    go None here is = cc
+    go (Some b) here is =
+        let any : Bool = list_any (λ (l : LeafName). (leaf l).may_begin b) trials in
+        let dark = or_parts (is_white b) any (not-true (is_white b || any) is) in
+        record { byte = b; here = looks-dark w b here dark.0; none = dark.1 }
+
+-- So one comes to the leaf of the line,
+pub passes-openers : (is_name : ResolveName → ResolveName → Bool) (is_end : Bool) (s : State) (v w : World) →
+    opens_none w.current ≡ true → w.current ≡ looks w → Within w →
+    CameTo (FlowStep is_name) is_end s v (n.Document (opener_front openers)) w →
+    CameTo (FlowStep is_name) is_end s v (n.Flow (front_of trials)) (openers_passed w)
+unfolding looks_behind
+passes-openers is_name is_end s v w e seen within came =
+    let T = FlowStep is_name in
+    let is = opens-none w e in
+    let u : World = openers_passed w in
+    let behind = openers-refuse is_name is_end s v openers w refl is.refused seen within came in
+    let begun = then-stays T is_end s v (n.Document document.ContainersAfter) (n.Flow flow.Start) (all_asked openers w) u
+    behind (record { to_is = refl; new_is = refl }) refl within refl seen in
+    let start = then-stays T is_end s v (n.Flow flow.Start) (n.Flow flow.BlankLineBefore) u u begun
+    (record { to_is = refl; new_is = refl }) refl within refl seen in
+    let no : blank_line_before_transition u ≡ record { to = Retry (n.Flow (front_of trials)); world = u } =
+    ap₂ (λ (x y : Bool). blank_line_code u x y) is.not_end is.not_blank in
+    then-stays T is_end s v (n.Flow flow.BlankLineBefore) (n.Flow (front_of trials)) u u start
+    (record { to_is = sym (ap (λ (y : Transition). y.to) no); new_is = sym (ap (λ (y : Transition). y.world) no) }) refl
+    within refl seen
+
+-- and to content
+pub passes-leaves : (is_name : ResolveName → ResolveName → Bool) (is_end : Bool) (s : State) (v w : World) →
+    begins_none w.current ≡ true → w.current ≡ looks w → Within w →
+    CameTo (FlowStep is_name) is_end s v (n.Flow (front_of trials)) w →
+    CameTo (FlowStep is_name) is_end s v (n.Flow flow.BeforeContent) w
+passes-leaves is_name is_end s v w e seen within came =
+    leaves-refuse is_name is_end s v trials w refl (begins-none w e) seen within came
+
+-- What a call leaves: where it stays, it has gone nowhere, and the text is the same.
+abbrev pub Leaves : Transition → World → Type 0
+Leaves a w = Remains a.to w a.world × (a.world.setting ≡ w.setting)
+
+trial-leaves : (start ok nok : StateName) (w u : World) (x : Bool) → u.point ≡ w.point → u.current ≡ w.current →
+    u.setting ≡ w.setting → Leaves (trial_code start ok nok u x) w
+trial-leaves start ok nok w u true there same text = ((there, same), text)
+trial-leaves start ok nok w u false there same text = ((there, same), text)
+
+pub opener-leaves : (k : ContainerKind) (w : World) → Leaves (new_before_transition k w) w
+opener-leaves k w =
+    trial-leaves (opens_with k) (n.Document document.ContainerNewAfter) (n.Document (next_opener k)) w
+    (asking (container_of k) w) (may_with (may_open k) (looks_behind w)) refl refl refl
+
+pub leaf-leaves : (l : LeafName) (w : World) → Leaves (before_transition l w) w
+leaf-leaves l w =
+    trial-leaves (leaf l).start (n.Flow flow.After) (n.Flow (next_of l)) w w
+    (may_with (leaf l).may_begin (looks_behind w)) refl refl refl
+
+pub chunk-leaves : (is_name : ResolveName → Bool) (w : World) (x : Bool) → Leaves (chunk_inside_code is_name w x) w
+chunk-leaves is_name w true = (tt, refl)
+chunk-leaves is_name w false = (tt, refl)
+
+-- at the end of a line no state stays
+ends-anywhere : (u w : World) (o : Option ℕ) → u.setting ≡ w.setting → Leaves (flow_end_code u o) w
+ends-anywhere u w None same = (tt, same)
+ends-anywhere u w (Some b) same = go (nat_eq b 10)
+  where
+    a : Bool → Transition
+    a x = cond x
+        (record {
+          to = Next (n.Document document.ContainerExistingBefore);
+          world =
+              record (exited (taken (entered u (ending_name u.flags.blank))) (ending_name u.flags.blank)) {
+                flags = next_line (length u.events) u.flags;
+              };
+        })
+        (record { to = Nok; world = u })
+
+    go : (x : Bool) → Leaves (a x) w
+    go true = (tt, same)
+    go false = (tt, same)
+
+pub line-leaves : (w : World) → Leaves (flow_end_transition w) w
+line-leaves w = ends-anywhere (closed w (stays w.flags) w.flags.line_end) w w.current refl
+
+-- One has come to a state, where one was, and it is called last.
+pub ends-with : (is_name : ResolveName → ResolveName → Bool) (first name : StateName) (old w : World) (to : State)
+    (new : World) →
+    CameHere (FlowStep is_name) first old name w → Leaves (flow_transition is_name name w) w →
+    to ≡ (flow_transition is_name name w).to → new ≡ (flow_transition is_name name w).world → to ≢ Error →
+    w.current ≡ looks w → Within w → w.point ≡ old.point →
+    RunsHere (FlowStep is_name) first old to new × SeesOn to old new
+ends-with is_name first name old w to new came leaves to_is new_is fine seen within there =
+    let same : new.setting ≡ w.setting = ap (λ (x : World). x.setting) new_is ∙ leaves.1 in
+    let remains = remains-of (flow_transition is_name name w) to w new to_is new_is leaves.0 in (
+      came-calls (FlowStep is_name) first name old w to new came (record { to_is = to_is; new_is = new_is }) fine same
+          within,
+      sees-from to old w new (call-sees to w new remains same seen) same (inl there),
+    )
+
+-- One has come to a state, where one was, and more runs from there.
+pub runs-on : (is_name : ResolveName → ResolveName → Bool) (first name : StateName) (old w : World) (to : State)
+    (new : World) →
+    CameHere (FlowStep is_name) first old name w → RunsHere (FlowStep is_name) name w to new → SeesOn to w new →
+    w.current ≡ looks w → (w.point ≡ old.point) ⊎ (w.point.index < w.setting.limit) →
+    RunsHere (FlowStep is_name) first old to new × SeesOn to old new
+runs-on is_name first name old w to new came runs sees seen there =
+    let T = FlowStep is_name in
+    let same : new.setting ≡ w.setting =
+    runs-setting T true (Next name) w to new (runs true (Next name) w refl (reading-same w seen) (inl refl)) in (
+      λ is_end. came-runs T is_end first name old w to new (came is_end) (runs is_end),
+      sees-from to old w new sees same there,
+    )
+
+-- A run has come to a state that stays, and more runs from there.
+pub stays-runs : (is_name : ResolveName → ResolveName → Bool) (first next : StateName) (old w : World) (s to : State)
+    (new : World) →
+    old.current ≡ looks old → s ≡ Retry next → RunsHere (FlowStep is_name) first old s w → SeesOn s old w →
+    RunsHere (FlowStep is_name) next w to new → SeesOn to w new →
+    RunsHere (FlowStep is_name) first old to new × SeesOn to old new
+stays-runs is_name first next old w s to new seen is before saw runs sees =
+    let T = FlowStep is_name in
+    let come : RunsHere T first old (Retry next) w = subst (λ (x : State). RunsHere T first old x w) is before in
+    let here : SeesOn (Retry next) old w = subst (λ (x : State). SeesOn x old w) is saw in
+    let same : w.setting ≡ old.setting =
+    runs-setting T true (Next first) old (Retry next) w
+    (come true (Next first) old refl (reading-same old seen) (inl refl)) in
+    runs-on is_name first next old w to new
+    (came-stays T first first next old old w (came-first T first old) come here same) runs sees here.0 here.1

@@ -1,0 +1,11 @@
+use Rattle.std.proofs.Common.{◌∙◌, ap, sym}
+use Rattle.md_engine.specs.declared.tokenizer.container.Container.{Container}
+use Rattle.md_engine.specs.World.{World, world}
+use Rattle.markdown_blocks.specs.LineFlags.{asking, begun_line}
+use Rattle.markdown_blocks.proofs.construct.document.pass_openers.Goals as goal
+
+pub returns : goal.returns
+returns c =
+    let w = world c.args.tokenizer.now in
+    ap (λ (x : World). record x { flags = begun_line x.flags })
+    (c.ask.ensures ∙ ap (λ (k : Container). asking k w) c.new.ensures ∙ sym (c.last_opener.ensures w))

@@ -1,0 +1,44 @@
+use Rattle.std.proofs.Common.{◌≡◌, ◌∙◌, Bool, ap, inr}
+use Rattle.md_engine.specs.World.{world}
+use Rattle.md_engine.specs.contracts.resolve.name.NamePartialEq.TheImpl as names
+use Rattle.md_engine.specs.declared.resolve.name.Name.{Name as ResolveName}
+use Rattle.md_engine.specs.declared.state.document.State.{State as DocumentState}
+use Rattle.md_engine.specs.declared.state.document.State.TheVariants as document
+use Rattle.md_engine.specs.declared.state.Name.TheVariants as n
+use Rattle.md_engine.specs.declared.state.State.TheVariants.{Retry}
+use Rattle.md_engine.proofs.Loops.{not_error, plain_of}
+use Rattle.markdown_blocks.specs.Registry.{opener_front, openers}
+use Rattle.markdown_blocks.proofs.LinesAtOnce.{stays-runs}
+use Rattle.markdown_blocks.proofs.construct.flow.containers.Goals as goal
+
+-- whether a name that is registered is the one that is looked for
+abbrev is_name : ResolveName → ResolveName → Bool
+is_name target other = names.ghosts.eq other target
+
+pub returns-in-Retry-Document-ContainerNewBefore-clause-runs :
+    goal.returns-in-Retry-Document-ContainerNewBefore-clause-runs
+returns-in-Retry-Document-ContainerNewBefore-clause-runs c = λ fine.
+    let at = c.in-Retry-Document-ContainerNewBefore in
+    let first = n.Document document.ContainerExistingBefore in
+    let next = n.Document (opener_front openers) in
+    let is : c.containers_existing.result ≡ Retry next =
+    at.is ∙ ap Retry at.field-0-is ∙ ap (λ (x : DocumentState). Retry (n.Document x)) at.field-0-0-is in
+    let come = not_error c.containers_existing.result next (plain_of c.containers_existing.result next (inr is)) in
+    (stays-runs is_name first next (world c.args.tokenizer.now) (world c.containers_existing.new.tokenizer)
+    c.containers_existing.result c.containers_new.result (world c.containers_new.new.tokenizer) c.requires.current is
+    (c.containers_existing.ensures.runs come) (c.containers_existing.ensures.sees come)
+    (c.containers_new.ensures.runs fine) (c.containers_new.ensures.sees fine)).0
+
+pub returns-in-Retry-Document-ContainerNewBefore-clause-sees :
+    goal.returns-in-Retry-Document-ContainerNewBefore-clause-sees
+returns-in-Retry-Document-ContainerNewBefore-clause-sees c = λ fine.
+    let at = c.in-Retry-Document-ContainerNewBefore in
+    let first = n.Document document.ContainerExistingBefore in
+    let next = n.Document (opener_front openers) in
+    let is : c.containers_existing.result ≡ Retry next =
+    at.is ∙ ap Retry at.field-0-is ∙ ap (λ (x : DocumentState). Retry (n.Document x)) at.field-0-0-is in
+    let come = not_error c.containers_existing.result next (plain_of c.containers_existing.result next (inr is)) in
+    (stays-runs is_name first next (world c.args.tokenizer.now) (world c.containers_existing.new.tokenizer)
+    c.containers_existing.result c.containers_new.result (world c.containers_new.new.tokenizer) c.requires.current is
+    (c.containers_existing.ensures.runs come) (c.containers_existing.ensures.sees come)
+    (c.containers_new.ensures.runs fine) (c.containers_new.ensures.sees fine)).1
