@@ -29,14 +29,17 @@ on-same {A = A} f options keeps (c ∷ cs) r = go (on-same f options keeps cs) (
     by o = elim o [ None ↦ no_prefix r | Some t ↦ one_more t.container (prefixes_on options cs t.rest) ]
 
     go : ((s : Rest) →
-        map f ((prefixes_on options cs s).containers ++ others_of cs (prefixes_on options cs s).containers) ≡ map f cs) →
+        map f ((prefixes_on options cs s).containers ++ others_of cs (prefixes_on options cs s).containers) ≡
+        map f cs) →
         (o : Option Taken) → ((t : Taken) → o ≡ Some t → f t.container ≡ f c) →
         map f ((by o).containers ++ others_of (c ∷ cs) (by o).containers) ≡ map f (c ∷ cs)
     go below None same = refl
     go below (Some t) same =
         ap
         (λ (x : A).
-        x ∷ map f ((prefixes_on options cs t.rest).containers ++ others_of cs (prefixes_on options cs t.rest).containers))
+        x
+        ∷ map f
+        ((prefixes_on options cs t.rest).containers ++ others_of cs (prefixes_on options cs t.rest).containers))
         (same t refl)
         ∙ ap (λ (xs : List A). f c ∷ xs) (below t.rest)
 

@@ -414,7 +414,8 @@ flow-reads-from is_name bytes options p start to end at found items more new nam
     let S : (ResolveName → ResolveName → Bool) →
     Type 0 = λ t. Runs (FlowStep t) false (Next (s.Document document.ContainerExistingBefore))
     (reads_to start to) end at in
-    let F : (ResolveName → ResolveName → Bool) → Type 0 = λ t. Flushes (FlowStep t) resolved_as end at true found items in
+    let F : (ResolveName → ResolveName → Bool) →
+    Type 0 = λ t. Flushes (FlowStep t) resolved_as end at true found items in
     flow-reads bytes options p end at found items more new small (subst P same (subst Q all (subst S named run)))
     (subst F named f) listing
 

@@ -1,6 +1,8 @@
 -- List items.
 pub mod Cells
 pub mod Collected
+pub mod Facts
+pub mod Fronts
 pub mod Grammar
 pub mod Laws
 pub mod Names

@@ -3,8 +3,8 @@
 -- What is read is put in the places of the chunks, and no list begins or ends in a part. So it is, but for the lists,
 -- what may be read of the events without them. That is known, and an event of a block stands in it only where one stood
 -- before, so the lists stand around the same items.
-use Rattle.std.proofs.Common.{◌≡◌, ℕ, zero, suc, ◌+◌, ◌≤◌, Bool, true, false, cond, List, [], ◌∷◌, ◌++◌, length, take, drop}
-use Rattle.std.proofs.Common.{refl, ap, sym, ◌∙◌, subst, arith}
+use Rattle.std.proofs.Common.{◌≡◌, ℕ, zero, suc, ◌+◌, ◌≤◌, Bool, true, false, cond, List, [], ◌∷◌, ◌++◌, length, take}
+use Rattle.std.proofs.Common.{drop, refl, ap, sym, ◌∙◌, subst, arith}
 use Rattle.std.specs.Prelude.{Option, Some, None, if◌then◌else◌}
 use Rattle.std.specs.Option.{is_some}
 use Rattle.md_engine.specs.declared.event.Content.{Content}
@@ -12,14 +12,12 @@ use Rattle.md_engine.specs.declared.event.Event.{Event}
 use Rattle.md_engine.specs.declared.event.Kind.{Kind}
 use Rattle.md_engine.specs.declared.event.Kind.TheVariants.{Enter, Exit}
 use Rattle.md_engine.specs.declared.event.Link.{Link}
-use Rattle.md_engine.specs.declared.event.Name.{Name}
 use Rattle.md_engine.specs.declared.event.Name.TheVariants as n
-use Rattle.md_engine.specs.declared.event.Point.{Point}
 use Rattle.md_containers.specs.Listed.{Begins, Ends, Place, Stays, Turn, given, given_by, goes_on, is_item, list_begin}
 use Rattle.md_containers.specs.Listed.{list_end, list_name, listed, listed_from, marker_ahead, next_item, outside}
 use Rattle.md_containers.specs.Listed.{place_after, place_by, turn}
-use Rattle.md_containers.proofs.ListedFilled.{Chunked, SameAhead, ahead-more, chunk-quiet, first-of, further-of, inline-ahead}
-use Rattle.md_containers.proofs.ListedFilled.{inline-item, inline-listed, inline-one, plain-inline, stand-chunked}
+use Rattle.md_containers.proofs.ListedFilled.{Chunked, SameAhead, ahead-more, chunk-quiet, first-of, further-of}
+use Rattle.md_containers.proofs.ListedFilled.{inline-ahead, inline-item, inline-listed, inline-one, plain-inline, stand-chunked}
 use Rattle.md_containers.proofs.ListedKept.{item-name}
 use Rattle.md_containers.proofs.ListedLemmas.{passes-given}
 use Rattle.md_seam.specs.declared.inline.Chunk.{Chunk}
@@ -27,13 +25,13 @@ use Rattle.md_seam.specs.Events.Inline.{is_linked, together}
 use Rattle.md_seam.specs.Events.Nested.{enter, exit}
 use Rattle.md_seam.specs.Events.Prefix.{is_prefix}
 use Rattle.md_seam.specs.Events.Spelled.{IsEnding, IsQuiet, Role, is_ordered, role}
-use Rattle.md_seam.specs.Events.Tiles.{chunks_stand, filled_from, first_list, further_lists, is_chunk, parts, plain_lists}
-use Rattle.md_seam.specs.Events.Tiles.{plain_read}
+use Rattle.md_seam.specs.Events.Tiles.{chunks_stand, filled_from, first_list, further_lists, is_chunk, parts}
+use Rattle.md_seam.specs.Events.Tiles.{plain_lists, plain_read}
 use Rattle.md_seam.specs.Substituted.{Readings, Substituted, chunk_of, chunks_behind, share, wanted, wanted_at}
 use Rattle.md_seam.proofs.FilledLemmas.{EachInline}
 use Rattle.md_seam.proofs.SpelledLemmas.{QuietOrEnding, Roles}
 use Rattle.md_seam.proofs.SubstitutedLemmas.{SubstitutedBy}
-use Rattle.markdown_blocks.proofs.SubstitutedLemmas.{Unwanted, no_link-unwanted, passes}
+use Rattle.markdown_blocks.proofs.SubstitutedLemmas.{Unwanted, passes}
 
 -- Loud events.
 
@@ -172,7 +170,8 @@ behind-given wants Begins place m next e h plain es = go place.within
     go : (x : Bool) → chunks_behind wants ((list_begin x m e.point ++ e ∷ []) ++ es) ≡ []
     go true = behind-none wants e h plain es
     go false = behind-none wants (enter (list_name m) e.point) refl (list-no_prefix m) (e ∷ es)
-behind-given wants Ends place m next e h plain es = behind-none wants e h plain (list_end place.markers next e.point ++ es)
+behind-given wants Ends place m next e h plain es =
+    behind-none wants e h plain (list_end place.markers next e.point ++ es)
 behind-given wants Stays place m next e h plain es = behind-none wants e h plain es
 
 -- with lists the same chunks go on a part
@@ -255,7 +254,9 @@ given-same : (bytes : List ℕ) (place : Place) (e : Event) (es read : List Even
     given bytes place e es ++ listed_from bytes (place_after bytes place e es) read ≡ listed_from bytes place (e ∷ read)
 given-same bytes place e es read same =
     let t : Turn = turn e.kind (role e.name) in
-    ap (λ (m : ℕ). given_by t place m (next_item bytes es) e ++ listed_from bytes (place_by t place m (next_item bytes es)) read)
+    ap
+    (λ (m : ℕ).
+    given_by t place m (next_item bytes es) e ++ listed_from bytes (place_by t place m (next_item bytes es)) read)
     (sym same.0)
     ∙ ap
     (λ (o : Option ℕ).
@@ -421,8 +422,8 @@ same-loud text mark es read h is =
     let two : loud (mark ++ es) ≡ loud mark + loud es = loud-append mark es in
     let few : loud read ≡ loud es = omega (arith, all, one, two) in few
 
--- Where only what the plain layer reads can be read of some events, behind a mark, that is read of them with lists around
--- their items too.
+-- Where only what the plain layer reads can be read of some events, behind a mark, that is read of them with lists
+-- around their items too.
 pub listed-read : (wants : Content → Bool) (reads : Readings) (bytes : List ℕ) (mark es read out : List Event) →
     chunks_stand 0 (mark ++ es) ≡ true → mark ++ read ≡ plain_read bytes (mark ++ es) →
     ((events : List Event) → Substituted wants reads [] 0 es events → events ≡ read) →

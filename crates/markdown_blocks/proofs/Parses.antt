@@ -24,7 +24,7 @@ use Rattle.md_containers.proofs.ListedReads.{listed-spelled}
 use Rattle.md_content.specs.ContentReads.{content_readings, wants_content}
 use Rattle.md_definition.specs.Grouped.{grouped}
 use Rattle.md_seam.specs.Events.Endings.{endings_stand}
-use Rattle.md_seam.specs.Events.Grammar.{keeps_grammar, plain_text, unread_text}
+use Rattle.md_seam.specs.Events.Grammar.{keeps_grammar, plain_text}
 use Rattle.md_seam.specs.Events.Inline.{Part, Piece, pieces}
 use Rattle.md_definition.specs.Meaning.{tree}
 use Rattle.md_seam.specs.Events.Nested.{Nested}
@@ -35,7 +35,6 @@ use Rattle.md_seam.specs.Substituted.{Readings, Substituted}
 use Rattle.md_definition.specs.Texts.{split_lines}
 use Rattle.md_seam.specs.Events.Tiles.{EachRead, Tiles, parts, plain_lists, plain_read}
 use Rattle.md_outline.specs.HeadingDepths.{are_shallow}
-use Rattle.md_outline.specs.Outlined as outlined
 use Rattle.md_outline.specs.Outlined.{IsOutlined}
 use Rattle.markdown_blocks.specs.BlockList.{block_list}
 use Rattle.markdown_blocks.specs.Document.{body_point, mark_events}
@@ -64,6 +63,7 @@ use Rattle.markdown_blocks.proofs.TileCovers.{blocks-cover}
 use Rattle.markdown_blocks.proofs.TileParts.{blocks-chunks, blocks-nested, blocks-stand}
 use Rattle.markdown_blocks.proofs.TileReads.{groups-empty, text-filled}
 use Rattle.markdown_blocks.proofs.ListedMark.{listed-mark}
+use Rattle.markdown_blocks.proofs.ListedOutlined.{listed-outlined}
 use Rattle.markdown_blocks.proofs.ListedRead.{listed-read}
 use Rattle.markdown_blocks.proofs.TreeRows.{body-rows, body-shallow, body_of, tree-body}
 use Rattle.markdown_blocks.proofs.LeafFacts.{ReadsText}

@@ -2,7 +2,6 @@
 use Rattle.md_engine.specs.declared.tokenizer.held_leaf.HeldLeaf.TheVariants as held_leaf
 use Rattle.md_engine.specs.declared.tokenizer.held_leaf.HeldLeaf.{HeldLeaf}
 use Rattle.md_outline.specs.Roles.{is_plain, is_told}
-use Rattle.md_outline.specs.HeadingDepths.{are_shallow}
 use Rattle.std.proofs.Common.{◌≡◌, ℕ, Bool, true, false, ◌||◌, not, List, [], ◌∷◌, ◌++◌, map, refl, sym, subst}
 use Rattle.std.specs.Prelude.{Option, Some, None}
 use Rattle.std.specs.List.{list_all}
@@ -12,8 +11,8 @@ use Rattle.md_engine.specs.declared.configuration.ParseOptions.{ParseOptions}
 use Rattle.md_engine.specs.declared.event.Event.{Event}
 use Rattle.md_engine.specs.declared.event.Name.{Name}
 use Rattle.md_engine.specs.declared.event.Point.{Point}
-use Rattle.md_seam.specs.Events.Nested.{Balanced, exit, pair}
-use Rattle.md_seam.specs.Events.Spelled.{Holds, Shape, byte_at, role, spelled}
+use Rattle.md_seam.specs.Events.Nested.{exit, pair}
+use Rattle.md_seam.specs.Events.Spelled.{Holds, Shape, byte_at, role}
 use Rattle.md_definition.specs.State.{Container}
 use Rattle.md_seam.proofs.SpelledLemmas.{Roles, roles-append}
 use Rattle.md_outline.specs.Between.{is_between}

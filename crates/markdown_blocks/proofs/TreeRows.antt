@@ -137,15 +137,16 @@ shallow-longer : (p : Path) (lines : List Kept) → HoldsShallow p → HoldsShal
 shallow-longer (At s) lines h = h
 shallow-longer (Within before container p) lines h = (h.0, h.1, shallow-longer p lines h.2)
 
-shallow-behind : (p : Path) (f : Blocks → Path) → HoldsShallow p → ((bs : Blocks) → are_shallow bs ≡ true → HoldsShallow (f bs)) →
-    HoldsShallow (behind_path p f)
+shallow-behind : (p : Path) (f : Blocks → Path) → HoldsShallow p →
+    ((bs : Blocks) → are_shallow bs ≡ true → HoldsShallow (f bs)) → HoldsShallow (behind_path p f)
 shallow-behind (At s) f h each = each s.here h
 shallow-behind (Within before container p) f h each = (h.0, h.1, shallow-behind p f h.2 each)
 
 shallow-fresh : (options : ParseOptions) (bs : Blocks) (r : Rest) → IsBuilt options → are_shallow bs ≡ true →
     are_shallow (fresh_line options bs r).here ≡ true
 shallow-fresh options bs r built h =
-    subst (λ (s : Spot). are_shallow s.here ≡ true) (sym (fresh-found options bs r built)) (go (line_kind options r) refl)
+    subst (λ (s : Spot). are_shallow s.here ≡ true) (sym (fresh-found options bs r built))
+    (go (line_kind options r) refl)
   where
     go : (kind : RowKind) → line_kind options r ≡ kind → are_shallow (spot_by bs [] r kind).here ≡ true
     go BlankRow e = h
@@ -171,7 +172,8 @@ shallow-step options p r built plain h =
     open_new : AreRead c.change.opens
     open_new = read-open options (containers_of p) (still_of p) r built
 
-    go : (x : Bool) → HoldsShallow (cond x (longer (renewed c.change.stays p) (kept c.rest ∷ [])) (new_path options p c))
+    go : (x : Bool) →
+        HoldsShallow (cond x (longer (renewed c.change.stays p) (kept c.rest ∷ [])) (new_path options p c))
     go true = shallow-longer (renewed c.change.stays p) (kept c.rest ∷ []) (shallow-renewed c.change.stays p stay h)
     go false =
         shallow-behind (kept_to options c.change.stays p) (new_line options c.change.opens c.rest)

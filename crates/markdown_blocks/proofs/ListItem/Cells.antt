@@ -1,6 +1,6 @@
 -- The events in front of the content of a list item, by the cells of a line, have names of prefixes and of containers.
-use Rattle.std.proofs.Common.{Bool, true, false, cond, not, ◌&&◌, ◌||◌, nat_eq, nat_lt, ℕ, List, [], ◌∷◌, ◌++◌, Option, Some, None}
-use Rattle.std.proofs.Common.{refl}
+use Rattle.std.proofs.Common.{Bool, true, false, cond, not, ◌&&◌, ◌||◌, nat_lt, ℕ, List, [], ◌∷◌, ◌++◌, Option, Some}
+use Rattle.std.proofs.Common.{None, refl}
 use Rattle.std.specs.Prelude.{◌==◌, nat_le}
 use Rattle.md_engine.specs.declared.configuration.ParseOptions.{ParseOptions}
 use Rattle.md_engine.specs.declared.event.Event.{Event}
@@ -8,8 +8,8 @@ use Rattle.md_engine.specs.declared.event.Name.TheVariants as n
 use Rattle.md_engine.specs.declared.event.Point.{Point}
 use Rattle.md_engine.specs.Meaning.{Cell}
 use Rattle.md_containers.specs.Item.{ends_value}
-use Rattle.md_containers.specs.ItemPrefix.{ItemPassed, Padded, digits_of, item_behind, item_further, item_marked, item_new}
-use Rattle.md_containers.specs.ItemPrefix.{item_numbered, item_padded, item_valued, padding, padding_room}
+use Rattle.md_containers.specs.ItemPrefix.{ItemPassed, Padded, digits_of, item_behind, item_further, item_marked}
+use Rattle.md_containers.specs.ItemPrefix.{item_new, item_numbered, item_padded, item_valued, padding, padding_room}
 use Rattle.md_containers.specs.ItemRule.{digits_end, digits_rest, digits_size}
 use Rattle.md_containers.specs.QuoteRule.{indent_events}
 use Rattle.md_definition.specs.Containers.{is_bullet, is_digit}

@@ -1,8 +1,7 @@
 -- The whitespace of a list item on a further line, in a text that goes on behind it.
-use Rattle.std.proofs.Common.{◌≡◌, ℕ, ◌+◌, ◌≤◌, Bool, true, false, cond, List, [], ◌∷◌, ◌++◌, slice_range, refl, ap, ◌∙◌, sym}
+use Rattle.std.proofs.Common.{◌≡◌, ℕ, ◌+◌, Bool, true, false, cond, List, [], ◌++◌, slice_range, refl, ap, ◌∙◌, sym}
 use Rattle.std.proofs.Common.{subst, arith}
-use Rattle.std.specs.Prelude.{◌==◌, IsTrue}
-use Rattle.std.proofs.lemmas.Bool.Decides.{nat_tests}
+use Rattle.std.specs.Prelude.{◌==◌}
 use Rattle.md_engine.specs.declared.event.Event.{Event}
 use Rattle.md_engine.specs.declared.event.Name.TheVariants as n
 use Rattle.md_engine.specs.declared.event.Point.{Point}
@@ -10,12 +9,13 @@ use Rattle.md_containers.proofs.QuoteLines.{White}
 use Rattle.md_definition.specs.Rest.{is_blank}
 use Rattle.md_seam.specs.Events.Inline.{pair_unless_empty}
 use Rattle.md_seam.specs.Events.Nested.{pair}
-use Rattle.md_seam.specs.Events.Places.{at_or_before, same_place}
+use Rattle.md_seam.specs.Events.Places.{same_place}
 use Rattle.md_seam.specs.Events.Spelled.{byte_at}
 use Rattle.md_seam.proofs.FeedLines.{slice-split}
 use Rattle.md_seam.proofs.SpelledLemmas.{QuietOrEnding}
 use Rattle.markdown_blocks.proofs.BlockQuote.Collected.{blank-before}
 use Rattle.markdown_blocks.proofs.CollectFacts.{Collects, blank-append, collects-back, collects-behind}
+use Rattle.markdown_blocks.proofs.ListItem.Parted.{byte-grows}
 use Rattle.markdown_blocks.proofs.ListItem.Prefix.{IsIndent}
 use Rattle.markdown_blocks.proofs.PartsStand.{Inside}
 use Rattle.markdown_blocks.proofs.PlainRoles.{pair-roles}
@@ -34,9 +34,6 @@ white-inside bytes p q is = go (same_place p q)
       has = refl;
       stand = λ ys. refl;
     }
-
-byte-grows : (p q : Point) → IsTrue (at_or_before p q) → byte_at p ≤ byte_at q
-byte-grows p q h = grind (arith, nat_tests)
 
 -- what stands up to the next byte behind it is whitespace
 indent-blank : (bytes : List ℕ) (p q : Point) (es : List Event) → IsIndent bytes p q es →

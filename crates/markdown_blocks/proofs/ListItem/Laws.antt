@@ -8,17 +8,17 @@ use Rattle.md_engine.specs.declared.tokenizer.container.name.ContainerKind.TheVa
 use Rattle.md_containers.specs.ItemPrefix.{item_holds}
 use Rattle.md_containers.proofs.ItemHeld.{item-empty, item-looked}
 use Rattle.md_containers.proofs.ItemShorter.{further-shortens, item-shortens}
-use Rattle.md_definition.specs.Containers.{Marker, Taken, continues, item_by, item_padding, item_with, list_marker, may_interrupt}
+use Rattle.md_definition.specs.Containers.{Marker, Taken, continues, item_by, list_marker, may_interrupt}
 use Rattle.md_definition.specs.Containers.{opens_item}
 use Rattle.md_definition.specs.Leaves.{is_rule}
 use Rattle.md_definition.specs.Preamble.{rest_at}
 use Rattle.md_definition.specs.Rest.{Rest, behind, behind_indent, has_small_indent, indent, is_blank, is_parted}
 use Rattle.md_definition.specs.State.{Container, InItem, container_block}
-use Rattle.md_definition.specs.Tree.{Blocks}
-use Rattle.md_outline.specs.HeadingDepths.{are_shallow, is_shallow}
+use Rattle.md_outline.specs.HeadingDepths.{is_shallow}
 use Rattle.markdown_blocks.specs.Containers.ListItem.{item_rules}
 use Rattle.markdown_blocks.specs.Registry.{IsOf}
 use Rattle.markdown_blocks.proofs.ContainerLaws.{ContainerLaws}
+use Rattle.markdown_blocks.proofs.ListItem.Fronts.{item-begins, item-goes}
 use Rattle.markdown_blocks.proofs.ListItem.Trial.{each-held, each-item, further-ended, further-holds, further-passed}
 use Rattle.markdown_blocks.proofs.ListItem.Trial.{further-tried, new-ended, new-holds, new-passed, new-tried, wide-one}
 
@@ -68,8 +68,8 @@ item-laws = record {
   went = λ options c cells p t is e. further-passed c cells p t is e;
   held_new = λ options interrupting cells p t e. new-holds options interrupting cells p t e;
   held_on = λ options held c cells p t holds e. further-holds held c cells p t holds.1 e;
-  opens_agrees = ?;
-  goes_agrees = ?;
+  opens_agrees = λ options interrupting. item-begins options interrupting;
+  goes_agrees = item-goes;
   found_one = λ options interrupting r t e.
       found (opens_item options interrupting r) t (opens-one options interrupting r) e;
   opens_not = λ options interrupting cells p ends. new-ended options interrupting cells p ends;

@@ -22,7 +22,7 @@ use Rattle.markdown_blocks.proofs.PlainRoles.{pair-roles}
 use Rattle.markdown_blocks.proofs.Reached.{PartsText, Reaches}
 
 -- a byte of an earlier point stands no later
-byte-grows : (p q : Point) → IsTrue (at_or_before p q) → byte_at p ≤ byte_at q
+pub byte-grows : (p q : Point) → IsTrue (at_or_before p q) → byte_at p ≤ byte_at q
 byte-grows p q h = grind (arith, nat_tests)
 
 -- behind whitespace a text reaches as far as in front of it

@@ -1,5 +1,5 @@
 -- The pieces of the prefix of a list item stand over their bytes, and cover them.
-use Rattle.std.proofs.Common.{◌≡◌, ℕ, ◌+◌, ◌≤◌, Bool, true, false, cond, List, [], ◌∷◌, ◌++◌, drop, length, slice_range, refl}
+use Rattle.std.proofs.Common.{◌≡◌, ℕ, Bool, true, false, cond, List, [], ◌∷◌, ◌++◌, drop, length, refl}
 use Rattle.std.proofs.Common.{ap, sym, ◌∙◌, subst, arith}
 use Rattle.std.specs.Prelude.{◌==◌, nat_le}
 use Rattle.std.specs.List.{list_all}
@@ -17,7 +17,7 @@ use Rattle.md_seam.specs.Events.Nested.{around, pair}
 use Rattle.md_seam.specs.Events.Pieces.{piece_stands, stands_over}
 use Rattle.md_seam.specs.Events.Places.{past_text, same_place}
 use Rattle.md_seam.proofs.InlineLemmas.{same-refl}
-use Rattle.markdown_blocks.proofs.ListItem.Prefix.{IsFront, behind-index, inside_by, marker-index, marker-text}
+use Rattle.markdown_blocks.proofs.ListItem.Prefix.{IsFront, inside_by, marker-text}
 use Rattle.markdown_blocks.proofs.ListItem.Prefix.{marker-whole, no_digits}
 use Rattle.markdown_blocks.proofs.PieceFacts.{Starts, Stood, begins-cut, begins-whole, over-front, over-stands}
 use Rattle.markdown_blocks.proofs.PieceFacts.{piece-stands, span, stood-append, stood-around, stood-none, stood-pair}

@@ -1,5 +1,5 @@
 -- A list item is read from its begin and its prefix: its digits and its marker are the bytes there.
-use Rattle.std.proofs.Common.{◌≡◌, ℕ, ◌+◌, Bool, true, false, cond, List, [], ◌∷◌, ◌++◌, drop, length, slice_range, refl, ap}
+use Rattle.std.proofs.Common.{◌≡◌, ℕ, ◌+◌, Bool, true, false, cond, List, [], ◌∷◌, ◌++◌, drop, length, refl, ap}
 use Rattle.std.proofs.Common.{sym, ◌∙◌, append_assoc}
 use Rattle.std.specs.Prelude.{None, Option, Some}
 use Rattle.md_engine.specs.declared.event.Event.{Event}

@@ -1,7 +1,7 @@
 -- What is tried for a list item: its prefix is taken where its cells say so, and takes a cell at least.
-use Rattle.std.proofs.Common.{◌≡◌, ℕ, zero, suc, ◌≤◌, Bool, true, false, cond, not, ◌&&◌, ◌||◌, nat_eq, List, [], ◌∷◌, ◌++◌}
-use Rattle.std.proofs.Common.{length, Option, Some, None, refl, ◌∙◌, sym, subst, ap, ap₂, arith}
-use Rattle.std.specs.Prelude.{◌==◌, nat_le}
+use Rattle.std.proofs.Common.{◌≡◌, ℕ, zero, suc, ◌≤◌, Bool, true, false, cond, not, List, [], ◌∷◌, ◌++◌, length, Option}
+use Rattle.std.proofs.Common.{Some, None, refl, ◌∙◌, sym, subst, ap, ap₂, arith}
+use Rattle.std.specs.Prelude.{nat_le}
 use Rattle.std.proofs.lemmas.Bool.{eqb-true}
 use Rattle.md_engine.specs.declared.configuration.ParseOptions.{ParseOptions}
 use Rattle.md_engine.specs.declared.event.Event.{Event}
@@ -13,8 +13,8 @@ use Rattle.md_engine.specs.declared.tokenizer.container.name.ContainerKind.TheVa
 use Rattle.md_engine.specs.Meaning.{Accepts, Cell, Here}
 use Rattle.md_engine.specs.World.{container_of}
 use Rattle.md_containers.specs.Interrupts.{interrupts}
-use Rattle.md_containers.specs.ItemPrefix.{ItemPassed, held_as, item_behind, item_by, item_further, item_holds, item_indented}
-use Rattle.md_containers.specs.ItemPrefix.{item_new, item_same}
+use Rattle.md_containers.specs.ItemPrefix.{ItemPassed, held_as, item_behind, item_by, item_further, item_holds}
+use Rattle.md_containers.specs.ItemPrefix.{item_indented, item_new, item_same}
 use Rattle.md_containers.specs.ItemRule.{item_at, item_on}
 use Rattle.md_containers.specs.QuoteRule.{indent_events}
 use Rattle.md_containers.proofs.ItemCells.{item-is}
@@ -134,7 +134,8 @@ further-within digits marker width blank cells p =
 -- one that is held is of its kind
 held-one : (held : Held) (c : Container) → item_holds held c → IsOf kind.ListItem c
 held-one held c =
-    each-held held (IsOf kind.ListItem) (λ digits marker width blank e f some. wide-one digits marker width blank some) c
+    each-held held (IsOf kind.ListItem)
+    (λ digits marker width blank e f some. wide-one digits marker width blank some) c
 
 held-kind : (held : Held) (c : Container) → (held_as held c).kind ≡ held.kind
 held-kind held InQuote = refl
@@ -234,8 +235,8 @@ new-ended options interrupting cells p ends = ap item_passes (go options.constru
 
     go : (x : Bool) → cond x new None ≡ None
     go true =
-        ended-rest options interrupting p (enter ListItem p ∷ indent_events options cells p) (small_indent options) cells
-        (white_end (small_indent options) cells p) ends
+        ended-rest options interrupting p (enter ListItem p ∷ indent_events options cells p) (small_indent options)
+        cells (white_end (small_indent options) cells p) ends
     go false = refl
 
 -- and an open one goes on as it is, unless it started blank
@@ -253,7 +254,8 @@ further-ended held c cells p is holds ends =
         held_as (container_of kind.ListItem) (InItem [] 0 width false) ≡ held
     as-held width e f =
         sym (ap (λ (k : ContainerKind). let h : Held = record held { kind = k } in h) is
-        ∙ ap₂ (λ (w : ℕ) (b : Bool). let h : Held = record { width = w; kind = kind.ListItem; starts_blank = b } in h) e f)
+        ∙ ap₂ (λ (w : ℕ) (b : Bool). let h : Held = record { width = w; kind = kind.ListItem; starts_blank = b } in h)
+        e f)
 
     by : (digits : List ℕ) (marker width : ℕ) (blank : Bool) → held.width ≡ width → held.starts_blank ≡ blank →
         item_passes (cond blank None (Some (item_same digits marker width cells p))) ≡

@@ -15,7 +15,8 @@ ghost use Rattle.md_engine.specs.World.{looks, world};
 ghost use Rattle.md_engine.specs.declared.resolve.name.Name.{Name as ResolveName};
 ghost use Rattle.md_engine.specs.declared.state.State.{State};
 ghost use Rattle.markdown_blocks.specs.Registry.{construct_transition, goes_at_once, goes_on_with, goes_over};
-ghost use Rattle.markdown_blocks.specs.Registry.{may_go_on, may_open, next_opener, opener_front, openers, opens_with, resolved_by};
+ghost use Rattle.markdown_blocks.specs.Registry.{may_go_on, may_open, next_opener, opener_front, openers, opens_with};
+ghost use Rattle.markdown_blocks.specs.Registry.{resolved_by};
 ghost use Rattle.markdown_blocks.specs.States.{flow_table_scheme};
 ghost use Rattle.md_seam.specs.Look.{looks_behind, may_with};
 
@@ -63,8 +64,9 @@ pub fn opens_with(kind: ContainerKind) -> StateName
 
 /// Whether a container may open here, by what stands first behind whitespace, where its kind looks at that.
 #[inline(always)]
-pub fn may_open(tokenizer: &Tokenizer, kind: ContainerKind) -> bool
-    ensures { result ≡ may_with (may_open kind) (looks_behind (world tokenizer.now)) }
+pub fn may_open(tokenizer: &mut Tokenizer, kind: ContainerKind) -> bool
+    ensures may { result ≡ may_with (may_open kind) (looks_behind (world tokenizer.old)) }
+    ensures same { world tokenizer.new ≡ world tokenizer.old }
 {
     match kind {
         ContainerKind::BlockQuote => block_quote::may_begin(look_behind(tokenizer)),
@@ -75,8 +77,9 @@ pub fn may_open(tokenizer: &Tokenizer, kind: ContainerKind) -> bool
 /// Whether the prefix of a container on a further line may begin here, by what stands first behind whitespace, where
 /// its kind looks at that.
 #[inline(always)]
-pub fn may_go_on(tokenizer: &Tokenizer, kind: ContainerKind) -> bool
-    ensures { result ≡ may_with (may_go_on kind) (looks_behind (world tokenizer.now)) }
+pub fn may_go_on(tokenizer: &mut Tokenizer, kind: ContainerKind) -> bool
+    ensures may { result ≡ may_with (may_go_on kind) (looks_behind (world tokenizer.old)) }
+    ensures same { world tokenizer.new ≡ world tokenizer.old }
 {
     match kind {
         ContainerKind::BlockQuote => block_quote::may_begin(look_behind(tokenizer)),

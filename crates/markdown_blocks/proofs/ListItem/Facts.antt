@@ -1,0 +1,74 @@
+-- What is known of what stands in front of the content of a list item, where it goes on and where it opens.
+use Rattle.std.proofs.Common.{ℕ, Bool, List, refl, sym, subst, [], ◌∷◌}
+use Rattle.md_engine.specs.declared.event.Event.{Event}
+use Rattle.md_engine.specs.declared.event.Name.TheVariants as n
+use Rattle.md_engine.specs.declared.event.Point.{Point}
+use Rattle.md_definition.specs.State.{InItem}
+use Rattle.md_seam.proofs.GrammarLemmas.{Leads}
+use Rattle.markdown_blocks.proofs.BlockQuote.Facts.{pair-prefixes}
+use Rattle.markdown_blocks.proofs.ListItem.Collected.{indent-collects, white-inside}
+use Rattle.markdown_blocks.proofs.ListItem.Grammar.{front-leads, front-others, front-stands, front-unlisted, white-others}
+use Rattle.markdown_blocks.proofs.ListItem.Grammar.{white-stays}
+use Rattle.markdown_blocks.proofs.ListItem.Names.{IsPart, front-between, front-part, front-some, space-between, white-part}
+use Rattle.markdown_blocks.proofs.ListItem.Parted.{white-clear, white-parted}
+use Rattle.markdown_blocks.proofs.ListItem.Pieces.{front-stood, front-tiled, white-stood}
+use Rattle.markdown_blocks.proofs.ListItem.Prefix.{IsFront, IsIndent, front-line}
+use Rattle.markdown_blocks.proofs.ListItem.Read.{front-read}
+use Rattle.markdown_blocks.proofs.PartsStand.{Inside}
+use Rattle.markdown_blocks.proofs.PiecesLemmas.{tiled-unless_empty}
+use Rattle.markdown_blocks.proofs.PrefixFacts.{Continues, Opens, PrefixFacts}
+use Rattle.markdown_blocks.proofs.PrefixNames.{ArePrefixes}
+
+indent-facts : (bytes : List ℕ) (p q : Point) (es : List Event) → IsIndent bytes p q es → PrefixFacts bytes p q es
+indent-facts bytes p q es is =
+    subst (PrefixFacts bytes p q) (sym is.events)
+    (record {
+      nested = (white-part bytes p q is.white.onward).nested;
+      line = is.white.line;
+      tiled = tiled-unless_empty n.SpaceOrTab p q;
+      stood = white-stood bytes p q is.white;
+      others = white-others p q;
+      clear = white-clear bytes p q is.white;
+      between = space-between bytes p q is.white;
+    })
+
+-- where an item goes on
+pub item-continues : (bytes : List ℕ) (p q : Point) (es : List Event) → IsIndent bytes p q es → Continues bytes p q es
+item-continues bytes p q es is = record {
+  common = indent-facts bytes p q es is;
+  names = subst ArePrefixes (sym is.events) (pair-prefixes p q);
+  stays = λ text x takes. subst (Leads text (x ∷ []) (x ∷ [])) (sym is.events) (white-stays p q text x takes);
+  parted = white-parted bytes p q es is.events is.white;
+  inside = subst (Inside bytes []) (sym is.events) (white-inside bytes p q is.white);
+  collects = λ ys end all c. indent-collects bytes p q es ys end all is c;
+}
+
+front-facts : (bytes digits : List ℕ) (byte : ℕ) (p q : Point) (es : List Event) → IsFront bytes digits byte p q es →
+    PrefixFacts bytes p q es
+front-facts bytes digits byte p q es is = record {
+  nested = (front-part bytes digits byte p q es is).nested;
+  line = front-line bytes digits byte p q es is;
+  tiled = front-tiled bytes digits byte p q es is;
+  stood = front-stood bytes digits byte p q es is;
+  others = front-others bytes digits byte p q es is;
+  clear = λ behind. white-clear bytes p is.start is.white_before (rw is.whole refl);
+  between = front-between bytes digits byte p q es is;
+}
+
+-- and where it opens
+pub item-opens : (bytes digits : List ℕ) (byte width : ℕ) (blank : Bool) (p q : Point) (es : List Event) →
+    IsFront bytes digits byte p q es → Opens bytes (InItem digits byte width blank) p q es
+item-opens bytes digits byte width blank p q es is =
+    let part : IsPart bytes p q es = front-part bytes digits byte p q es is in
+    record {
+      common = front-facts bytes digits byte p q es is;
+      names = part.names;
+      plain = part.plain;
+      sits = part.sits;
+      leads = front-leads bytes digits byte p q es is;
+      stands = λ held. front-stands bytes digits byte p q es held is;
+      unlisted = front-unlisted bytes digits byte p q es is;
+      read = λ r none. front-read bytes digits byte width blank p q es r is none;
+      shown = refl;
+      some = front-some bytes digits byte p q es is;
+    }
