@@ -3,6 +3,7 @@ pub mod States
 pub mod FlowStays
 pub mod FlowCalls
 pub mod AtOnce
+pub mod OverEnd
 pub mod FromEnding
 pub mod FlowLemmas
 pub mod FlowMeans

@@ -5,6 +5,7 @@ pub mod class;
 pub mod configuration;
 pub mod event;
 pub mod message;
+pub mod over;
 pub mod parse_state;
 pub mod resolve;
 pub mod spread;

@@ -5,10 +5,11 @@
 // equation over `world`, which is what contracts see of a tokenizer.
 ghost use Rattle.std.specs.Prelude.{◌≡◌, ◌-◌, IfOk, drop, ◌+◌, ◌^◌, ◌∷◌, ◌++◌, ◌<◌, ◌≤◌, [], length, All, AllPairs};
 ghost use Rattle.std.specs.Prelude.{if◌then◌else◌, is_ok, nat_le, nat_lt, ◌==◌, true, false, Some, None, take, IfSome};
-ghost use Rattle.std.specs.Prelude.{IfNone, reverse, slice_index, ◌⊎◌};
+ghost use Rattle.std.specs.Prelude.{IfNone, reverse, slice_index, slice_set, ◌⊎◌};
 ghost use Rattle.md_engine.specs.Place.{IsPlaced, begun_at, is_pair, next_point, stepped};
 ghost use Rattle.md_engine.specs.Sound.{IsSound};
 ghost use Rattle.md_engine.specs.Spread.{EndsSpread, IsSpread};
+ghost use Rattle.md_engine.specs.Over.{EndsOver, IsOver};
 ghost use Rattle.md_engine.specs.Classes.{is_white};
 ghost use Rattle.md_engine.specs.Ends.{ends_at, point_of, put};
 
@@ -19,6 +20,7 @@ use crate::class::{Class, is_white};
 use crate::configuration::ParseOptions;
 use crate::event::{Event, Kind, Link, Name, Point};
 use crate::message::Message;
+use crate::over::Over;
 use crate::resolve::Name as ResolveName;
 use crate::spread::Spread;
 use crate::state::State;
@@ -163,8 +165,11 @@ pub struct Tokenizer<'a> {
     white: Spread,
     /// How far a run of a marker and whitespace is known to go.
     marks: Spread,
+    /// Which open containers are known to go on over an empty line.
+    over: Over,
     ghost sound: { IsSound bytes.now point limit events.items frames.items skips.items },
     ghost spread: { IsSpread bytes.now white × IsSpread bytes.now marks },
+    ghost passed: { IsOver containers.items over },
 }
 
 /// Goes to `State::Error` where there was no memory.
@@ -331,6 +336,7 @@ impl<'a> Tokenizer<'a> {
             resolvers: Vec::new(alloc),
             white: Spread::NONE,
             marks: Spread::NONE,
+            over: Over::NONE,
         }
     }
 
@@ -747,6 +753,30 @@ impl<'a> Tokenizer<'a> {
         }
     }
 
+    /// Holds another container in place of the open one at an index.
+    pub fn set_container(&mut self, index: usize, container: Container)
+        requires { index < length (world self.old).flags.containers }
+        ensures { world self.new ≡
+            record (world self.old) {
+              flags = record (world self.old).flags {
+                containers = slice_set (world self.old).flags.containers index container;
+              };
+            } }
+    {
+        self.over = self.over.changed(index, container);
+        self.containers[index] = container;
+    }
+
+    /// Up to which the open containers from an index on go on over an empty line: the index of the first that does not.
+    pub fn over_end(&mut self, index: usize) -> usize
+        requires { index ≤ length (world self.old).flags.containers }
+        ensures ends { EndsOver (world self.old).flags.containers index result }
+        ensures same { world self.new ≡ world self.old }
+    {
+        self.over = self.over.found(&self.containers, index);
+        self.over.to
+    }
+
     /// Where containers end that end in front of the event at `at`: at its point, or at the tokenizer's if there is
     /// none.
     fn end_point(&self, at: usize) -> Point
@@ -789,6 +819,7 @@ impl<'a> Tokenizer<'a> {
         let point = self.end_point(at);
         let mut ends = ends_at(self.alloc, &self.containers[keep..], point)?;
         self.put(at, &mut ends)?;
+        self.over = self.over.cut(keep);
         self.containers.truncate(keep);
         Ok(())
     }

@@ -22,7 +22,7 @@ ghost use Rattle.markdown_blocks.specs.Flow.{containers_after_transition, existi
 ghost use Rattle.markdown_blocks.specs.Flow.{existing_before_transition, flow_end_transition, new_after_transition};
 ghost use Rattle.markdown_blocks.specs.Flow.{new_before_transition};
 ghost use Rattle.md_engine.specs.declared.tokenizer.container.name.ContainerKind.{ContainerKind};
-ghost use Rattle.markdown_blocks.specs.LineFlags.{asking, ended_on, ending_name, next_container, over_end, stays};
+ghost use Rattle.markdown_blocks.specs.LineFlags.{asking, ended_on, ending_name, next_container, stays};
 ghost use Rattle.markdown_blocks.specs.AtOnce.{GoesAtOnce, asking_next, openers_passed};
 ghost use Rattle.markdown_blocks.specs.States.{FlowStep};
 ghost use Rattle.md_engine.specs.declared.resolve.name.Name.{Name as ResolveName};
@@ -95,28 +95,13 @@ fn ask(tokenizer: &mut Tokenizer, container: Container)
     tokenizer.flags.asked_column = tokenizer.point.column;
 }
 
-/// How many of these go on where the line ends: those that take nothing of it, up to the first that would.
-fn over_end(containers: &[Container]) -> usize
-    ensures over { result ≡ over_end containers.now }
-    ensures within { result ≤ length containers.now }
-{
-    let mut over = 0;
-    for container in containers {
-        if !registry::goes_over(*container) {
-            return over;
-        }
-        over += 1;
-    }
-    over
-}
-
 /// Where the line ends no container is asked: those go on that take nothing of it.
 fn pass_over(tokenizer: &mut Tokenizer)
     ensures { world tokenizer.new ≡ record (world tokenizer.old) { flags = ended_on (world tokenizer.old).flags } }
 {
     let continued = tokenizer.flags.continued;
     if continued < tokenizer.containers.len() {
-        tokenizer.flags.continued = continued + over_end(&tokenizer.containers[continued..]);
+        tokenizer.flags.continued = tokenizer.over_end(continued);
     }
 }
 
@@ -210,7 +195,7 @@ pub fn container_existing_after(tokenizer: &mut Tokenizer) -> State
         ..
     } = tokenizer.flags;
     if continued < tokenizer.containers.len() {
-        tokenizer.containers[continued] = asked;
+        tokenizer.set_container(continued, asked);
         tokenizer.flags.continued = continued + 1;
     }
     State::Retry(StateName::Document(DocumentState::ContainerExistingBefore))

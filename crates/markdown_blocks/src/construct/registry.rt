@@ -134,10 +134,7 @@ pub fn may_go_on(tokenizer: &mut Tokenizer, kind: ContainerKind) -> bool
 pub fn goes_over(container: Container) -> bool
     ensures { result ≡ goes_over container }
 {
-    match container.kind {
-        ContainerKind::BlockQuote => false,
-        ContainerKind::ListItem => !container.starts_blank,
-    }
+    container.goes_over_empty()
 }
 
 /// Whether the prefix of a container on a further line stands here, so that it can be taken at once.

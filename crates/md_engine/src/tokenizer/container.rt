@@ -1,6 +1,7 @@
 // What is kept of a container that is open.
 
 ghost use Rattle.std.specs.Prelude.{◌≡◌};
+ghost use Rattle.md_engine.specs.Over.{goes_over_empty};
 ghost use Rattle.md_engine.specs.World.{container_of};
 
 pub mod name;
@@ -26,6 +27,17 @@ impl Container {
             width: 0,
             kind,
             starts_blank: false,
+        }
+    }
+
+    /// Whether it goes on over an empty line, of which it takes nothing: a list item does that did not start blank
+    /// (CommonMark 5.2).
+    pub fn goes_over_empty(self) -> bool
+        ensures { result ≡ goes_over_empty self }
+    {
+        match self.kind {
+            ContainerKind::BlockQuote => false,
+            ContainerKind::ListItem => !self.starts_blank,
         }
     }
 }

@@ -3,7 +3,7 @@ use Rattle.md_engine.proofs.Sound.{sound-begun}
 use Rattle.md_engine.proofs.tokenizer.Tokenizer.begin.Goals as goal
 
 pub invariant_of-self : goal.invariant_of-self
-invariant_of-self c = record { sound = rw c.reserve.ensures.items c.args.self.now.sound; spread = c.args.self.now.spread }
+invariant_of-self c = record { sound = rw c.reserve.ensures.items c.args.self.now.sound; spread = c.args.self.now.spread; passed = c.args.self.now.passed }
 
 pub invariant_of-self-2 : goal.invariant_of-self-2
 invariant_of-self-2 c = record {
@@ -11,4 +11,5 @@ invariant_of-self-2 c = record {
       rw (c.push_reserved.ensures.items, c.reserve.ensures.items)
       (sound-begun _ _ _ _ _ _ _ c.args.self.now.sound refl (omega arith));
   spread = c.args.self.now.spread;
+  passed = c.args.self.now.passed;
 }

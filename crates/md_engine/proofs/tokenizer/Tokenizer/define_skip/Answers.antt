@@ -7,6 +7,7 @@ invariant_of-self-then-self-point-2 c = record {
   sound = sound-moved _ _ c.args.point _ _ _ _
       (sound-skip_if _ _ c.args.point _ _ _ _ _ _ c.args.self.now.sound c.requires c.push.ensures.items) c.requires;
   spread = c.args.self.now.spread;
+  passed = c.args.self.now.passed;
 }
 
 pub invariant_of-self-else-self-point-2 : goal.invariant_of-self-else-self-point-2
@@ -14,6 +15,7 @@ invariant_of-self-else-self-point-2 c = record {
   sound = sound-skip_if _ _ c.args.point _ _ _ _ _ _
       c.args.self.now.sound c.requires c.push.ensures.items;
   spread = c.args.self.now.spread;
+  passed = c.args.self.now.passed;
 }
 
 pub invariant_of-self-else-self-point : goal.invariant_of-self-else-self-point
@@ -21,6 +23,7 @@ invariant_of-self-else-self-point c = record {
   sound = sound-skip_if _ _ c.args.point _ _ _ _ _ _ c.args.self.now.sound
       c.requires c.push.ensures.items;
   spread = c.args.self.now.spread;
+  passed = c.args.self.now.passed;
 }
 
 pub returns-then-self-point-2 : goal.returns-then-self-point-2

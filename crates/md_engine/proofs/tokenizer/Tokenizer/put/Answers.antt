@@ -13,4 +13,4 @@ invariant_of-self-2 c =
     let new : c.turn.new.events.items ≡ put c.args.at c.args.ends.now.items c.args.self.now.events.items =
     turned-put c.args.at c.min-at.result c.len-count.result c.args.ends.now.items c.args.self.now.events.items
     c.append.new.self.items c.turn.new.events.items least count all c.turn.ensures in
-    record { sound = rw new (sound-put _ _ _ c.args.at _ _ _ _ c.args.self.now.sound c.requires); spread = c.args.self.now.spread }
+    record { sound = rw new (sound-put _ _ _ c.args.at _ _ _ _ c.args.self.now.sound c.requires); spread = c.args.self.now.spread; passed = c.args.self.now.passed }

@@ -9,4 +9,5 @@ invariant_of-self c = record {
       c.requires.placed
       (All-unreverse (λ f. f.events_len ≤ c.args.frame.events_len) _ c.requires.outer));
   spread = c.args.self.now.spread;
+  passed = c.args.self.now.passed;
 }

@@ -1,0 +1,32 @@
+-- Open containers that go on over an empty line.
+use Rattle.std.specs.Prelude.{◌≡◌, ℕ, ◌<◌, ◌≤◌, Bool, true, false, not, List, length, get_or}
+use Rattle.md_engine.specs.declared.tokenizer.container.Container.{Container}
+use Rattle.md_engine.specs.declared.tokenizer.container.name.ContainerKind.{ContainerKind}
+use Rattle.md_engine.specs.declared.tokenizer.container.name.ContainerKind.TheVariants.{BlockQuote, ListItem}
+use Rattle.md_engine.specs.declared.over.Over.{Over}
+
+-- whether a container of a kind goes on over an empty line, by whether it started blank: a list item that did not
+-- (CommonMark 5.2)
+abbrev pub kind_goes_over : ContainerKind → Bool → Bool
+kind_goes_over BlockQuote blank = false
+kind_goes_over ListItem blank = not blank
+
+-- whether an open container does
+abbrev pub goes_over_empty : Container → Bool
+goes_over_empty c = kind_goes_over c.kind c.starts_blank
+
+-- each container from an index up to another does
+abbrev pub AreOver : List Container → ℕ → ℕ → Type 0
+AreOver cs from to = (k : ℕ) (d : Container) → from ≤ k → k < to → goes_over_empty (get_or cs k d) ≡ true
+
+-- what is kept of open containers is right of them
+pub record IsOver (cs : List Container) (o : Over) : Type 0 where
+  pub within : o.to ≤ length cs
+  pub each : AreOver cs o.from o.to
+
+-- the containers from an index on go on over an empty line up to another, and the one there does not
+pub record EndsOver (cs : List Container) (from n : ℕ) : Type 0 where
+  pub behind : from ≤ n
+  pub within : n ≤ length cs
+  pub each : AreOver cs from n
+  pub ends : (d : Container) → n < length cs → goes_over_empty (get_or cs n d) ≡ false

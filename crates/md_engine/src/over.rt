@@ -1,0 +1,96 @@
+// Open containers that go on over an empty line, and up to which they are known to.
+//
+// Where a line ends, each open container goes on by what is held of it. What was found of them is kept, so that on many
+// blank lines in many containers none is asked again unless it has changed.
+
+ghost use Rattle.std.specs.Prelude.{◌≡◌, ◌<◌, ◌≤◌, List, false, get_or, length, slice_set, take};
+ghost use Rattle.md_engine.specs.Over.{AreOver, EndsOver, IsOver, goes_over_empty};
+ghost use Rattle.md_engine.specs.declared.tokenizer.container.Container.{Container};
+
+use crate::tokenizer::container::Container;
+
+/// All open containers from an index up to another go on over an empty line.
+#[derive(Clone, Copy, Debug, PartialEq, Eq)]
+pub struct Over {
+    pub from: usize,
+    pub to: usize,
+}
+
+/// Up to which these go on over an empty line, from an index on and up to another at most.
+fn asked(containers: &[Container], from: usize, until: usize) -> usize
+    requires { (from ≤ until) × (until ≤ length containers.now) }
+    ensures within { (from ≤ result) × (result ≤ until) }
+    ensures each { AreOver containers.now from result }
+    ensures ends { (d : Container) → result < until → goes_over_empty (get_or containers.now result d) ≡ false }
+{
+    let mut to = from;
+    while to < until && containers[to].goes_over_empty() {
+        to += 1;
+    }
+    to
+}
+
+impl Over {
+    /// Before anything is known.
+    pub const NONE: Over = Over { from: 0, to: 0 };
+
+    /// What is known from an index on: what is kept, also where those in front of it are found to go on up to there; or
+    /// what is found of these.
+    fn known(self, containers: &[Container], index: usize) -> Over
+        requires kept { IsOver containers.now self }
+        requires inside { index ≤ length containers.now }
+        ensures around { (result.from ≤ index) × (index ≤ result.to) }
+        ensures right { IsOver containers.now result }
+    {
+        let Over { from, to } = self;
+        if from <= index && index <= to {
+            return self;
+        }
+        if index > to || from > to {
+            return Over {
+                from: index,
+                to: index,
+            };
+        }
+        let met = asked(containers, index, from);
+        Over {
+            from: index,
+            to: if met == from { to } else { met },
+        }
+    }
+
+    /// Up to which the containers from an index on go on over an empty line: none is asked of which it is known.
+    pub fn found(self, containers: &[Container], index: usize) -> Over
+        requires kept { IsOver containers.now self }
+        requires inside { index ≤ length containers.now }
+        ensures right { IsOver containers.now result }
+        ensures ends { EndsOver containers.now index result.to }
+    {
+        let Over { from, to } = self.known(containers, index);
+        Over {
+            from,
+            to: asked(containers, to, containers.len()),
+        }
+    }
+
+    /// What stays known where the containers behind the first `keep` end.
+    pub fn cut(self, keep: usize) -> Over
+        ensures { (cs : List Container) → IsOver cs self → IsOver (take keep cs) result }
+    {
+        Over {
+            from: self.from,
+            to: self.to.min(keep),
+        }
+    }
+
+    /// What stays known where another container is held at an index.
+    pub fn changed(self, index: usize, container: Container) -> Over
+        ensures { (cs : List Container) → IsOver cs self → IsOver (slice_set cs index container) result }
+    {
+        if index < self.from || container.goes_over_empty() {
+            self
+        } else {
+            self.cut(index)
+        }
+    }
+}
