@@ -3,7 +3,7 @@ use Rattle.std.proofs.Common.{◌≡◌, ℕ, suc, ◌+◌, ◌<◌, Bool, true,
 use Rattle.std.proofs.Common.{refl, ap, sym, ◌∙◌, append_assoc, append-nil, arith, ◌≤◌}
 use Rattle.std.specs.Prelude.{Option, if◌then◌else◌}
 use Rattle.std.specs.List.{prefix_len}
-use Rattle.std.proofs.lemmas.List.{drop-drop, drop_all, drop_more, take-append-drop, take_all}
+use Rattle.std.proofs.lemmas.List.{drop-drop, drop_all, drop_more, take_all}
 use Rattle.std.proofs.lemmas.List.Elements.{All-append, All-cons, All-head, All-nil, All-tail}
 use Rattle.std.specs.List.{All}
 use Rattle.md_engine.specs.declared.event.Event.{Event}
@@ -52,15 +52,6 @@ listed-passes bytes place (e ∷ es) = go (is_item (role e.name)) refl (listed-p
         passes-given bytes place e es h ∙ ap (λ (l : List Event). e ∷ l) k
         ∙ ap (λ (n : ℕ). take n (e ∷ es) ++ listed_from bytes place (drop n (e ∷ es)))
         (let one : suc (prefix_len passes es) ≡ 1 + prefix_len passes es = omega arith in one)
-
--- so many of the events that are left are copied
-pub piece-copied : (events old new all : List Event) (at many : ℕ) → new ≡ old ++ take many (drop at events) →
-    old ++ drop at events ≡ all → new ++ drop (at + many) events ≡ all
-piece-copied events old new all at many is so_far =
-    rw is
-    (append_assoc old (take many (drop at events)) (drop (at + many) events)
-    ∙ ap (λ (l : List Event). old ++ (take many (drop at events) ++ l)) (sym (drop-drop many at events))
-    ∙ ap (λ (l : List Event). old ++ l) (take-append-drop many (drop at events)) ∙ so_far)
 
 -- where all events pass, they stay as they are
 pub listed-none : (bytes : List ℕ) (events : List Event) → prefix_len passes events ≡ length events →

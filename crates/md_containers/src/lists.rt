@@ -19,10 +19,8 @@ use md_engine::event::{Event, Kind, Name, Point};
 use md_engine::message::Message;
 use md_engine::subtokenize::Subresult;
 use md_engine::tokenizer::Tokenizer;
+use md_seam::moving::append;
 use std::alloc::Global;
-
-/// Events are copied so many at once: the C library copies larger pieces by an instruction that goes byte by byte.
-const PIECE: usize = 48;
 
 /// Whether these events are of a block: of a container, a leaf block or a paragraph.
 fn is_block(name: Name) -> bool
@@ -162,16 +160,6 @@ fn push(events: &mut Vec<Event>, event: Event) -> Result<(), Message>
     Ok(())
 }
 
-/// Appends events.
-fn append(events: &mut Vec<Event>, more: &[Event]) -> Result<(), Message>
-    ensures { OnOk result (events.new.items ≡ events.old.items ++ more.now) }
-{
-    if events.extend_from_slice(more).is_err() {
-        return Err(Message);
-    }
-    Ok(())
-}
-
 /// A walk over the events: what is given for those so far, and where it stands.
 #[derive(Drop)]
 struct Walk {
@@ -188,16 +176,9 @@ impl Walk {
     /// Goes on with events none of which begins or ends an item.
     fn copy(&mut self, events: &[Event]) -> Result<(), Message>
         ensures given { OnOk result (self.new.given.items ≡ self.old.given.items ++ events.now) }
-        ensures place { OnOk result (place_of self.new ≡ place_of self.old) }
+        ensures place { place_of self.new ≡ place_of self.old }
     {
-        let mut at = 0;
-        while at < events.len() {
-            let left = events.len() - at;
-            let many = if left < PIECE { left } else { PIECE };
-            append(&mut self.given, &events[at..][..many])?;
-            at += many;
-        }
-        Ok(())
+        append(&mut self.given, events)
     }
 
     /// Goes on with the begin of an item.

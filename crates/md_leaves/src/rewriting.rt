@@ -4,7 +4,7 @@ ghost use Rattle.std.specs.Prelude.{◌≡◌, ◌≤◌, [], ◌∷◌, ◌++�
 
 use md_engine::event::Event;
 use md_engine::message::Message;
-use md_seam::moving::move_down;
+use md_seam::moving;
 
 /// Appends an event.
 fn push(events: &mut Vec<Event>, event: Event) -> Result<(), Message>
@@ -92,7 +92,7 @@ impl Rewriting {
         ensures held { held_of self.new ≡ [] }
         ensures written { written_of self.new ≡ written_of self.old ++ held_of self.old }
     {
-        move_down(&mut self.events, self.written, self.done, self.read);
+        moving::move_down(&mut self.events, self.written, self.done, self.read);
         self.written += self.read - self.done;
         self.done = self.read;
     }
@@ -108,9 +108,7 @@ impl Rewriting {
             return Ok(());
         }
         let held = &self.events[self.done..self.read];
-        if self.more.extend_from_slice(held).is_err() {
-            return Err(Message);
-        }
+        moving::append(&mut self.more, held)?;
         self.done = self.read;
         Ok(())
     }

@@ -1,9 +1,9 @@
--- Events are moved to the front of their list.
-use Rattle.std.proofs.Common.{◌≡◌, ℕ, ◌+◌, ◌-◌, ◌≤◌, List, ◌++◌, length, take, drop, refl, sym, ◌∙◌, ap, arith}
+-- Events are moved to the front of their list, and appended to another piece by piece.
+use Rattle.std.proofs.Common.{◌≡◌, ℕ, ◌+◌, ◌-◌, ◌≤◌, List, ◌++◌, length, take, drop, refl, sym, ◌∙◌, ap, arith, append_assoc}
 use Rattle.std.proofs.Common.{length-drop}
 use lib.Seq.{paste}
 use Rattle.std.proofs.Math.Seq.{take-add}
-use Rattle.std.proofs.lemmas.List.{drop-drop, drop_at}
+use Rattle.std.proofs.lemmas.List.{drop-drop, drop_at, take-append-drop}
 use Rattle.std.proofs.lemmas.List.Edits.{drop-paste, take-paste}
 use Rattle.md_engine.specs.declared.event.Event.{Event}
 
@@ -41,3 +41,12 @@ behind-copied events front back from end le long is =
     ∙ sym (drop-drop far (length front) (front ++ back))
     ∙ ap (drop far) (drop_at front back (length front) refl ∙ is)
     ∙ drop-drop far from events ∙ ap (λ (n : ℕ). drop n events) (omega arith)
+
+-- so many of the events that are left are appended
+pub piece-appended : (events old new all : List Event) (at many : ℕ) → new ≡ old ++ take many (drop at events) →
+    old ++ drop at events ≡ all → new ++ drop (at + many) events ≡ all
+piece-appended events old new all at many is so_far =
+    rw is
+    (append_assoc old (take many (drop at events)) (drop (at + many) events)
+    ∙ ap (λ (l : List Event). old ++ (take many (drop at events) ++ l)) (sym (drop-drop many at events))
+    ∙ ap (λ (l : List Event). old ++ l) (take-append-drop many (drop at events)) ∙ so_far)

@@ -1,8 +1,38 @@
-// Events that are moved to the front of their list, many at once.
+// Events that are moved to the front of their list, or appended to another, many at once.
 
-ghost use Rattle.std.specs.Prelude.{◌≡◌, ◌≤◌, ◌+◌, ◌-◌, ◌++◌, drop, length, take};
+ghost use Rattle.std.specs.Prelude.{◌≡◌, ◌≤◌, ◌+◌, ◌-◌, ◌++◌, OnOk, drop, length, take};
 
 use md_engine::event::Event;
+use md_engine::message::Message;
+
+/// So many events are appended at once: the C library copies larger pieces by an instruction that goes byte by byte.
+const PIECE: usize = 48;
+
+/// Appends these events at once.
+fn append_piece(events: &mut Vec<Event>, piece: &[Event]) -> Result<(), Message>
+    ensures { OnOk result (events.new.items ≡ events.old.items ++ piece.now) }
+{
+    if events.extend_from_slice(piece).is_err() {
+        return Err(Message);
+    }
+    Ok(())
+}
+
+/// Appends events.
+///
+/// After an `Err`, which says that memory ran out, some of them may have been appended.
+pub fn append(events: &mut Vec<Event>, more: &[Event]) -> Result<(), Message>
+    ensures { OnOk result (events.new.items ≡ events.old.items ++ more.now) }
+{
+    let mut at = 0;
+    while at < more.len() {
+        let left = more.len() - at;
+        let many = if left < PIECE { left } else { PIECE };
+        append_piece(events, &more[at..][..many])?;
+        at += many;
+    }
+    Ok(())
+}
 
 /// Copies events over those from `to` on.
 fn copy_over(events: &mut [Event], to: usize, from: &[Event])
