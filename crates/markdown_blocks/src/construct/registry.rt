@@ -15,7 +15,7 @@ ghost use Rattle.md_engine.specs.World.{World, container_of, looks, world};
 ghost use Rattle.md_engine.specs.declared.resolve.name.Name.{Name as ResolveName};
 ghost use Rattle.md_engine.specs.declared.state.State.{State};
 ghost use Rattle.markdown_blocks.specs.LineFlags.{asking};
-ghost use Rattle.markdown_blocks.specs.Registry.{construct_transition, goes_at_once, goes_on_with, goes_over};
+ghost use Rattle.markdown_blocks.specs.Registry.{construct_transition, goes_at_once, goes_on_with};
 ghost use Rattle.markdown_blocks.specs.AtOnce.{all_asked, begins_none, opens_none};
 ghost use Rattle.markdown_blocks.specs.Registry.{may_go_on, may_open, next_opener, opener_front, openers};
 ghost use Rattle.markdown_blocks.specs.Registry.{opens_with, resolved_by};
@@ -31,7 +31,7 @@ use md_engine::state::document::State as DocumentState;
 use md_engine::state::list_item::State as ItemState;
 use md_engine::state::{Name as StateName, State};
 use md_engine::subtokenize::Subresult;
-use md_engine::tokenizer::{Container, ContainerKind, Tokenizer};
+use md_engine::tokenizer::{ContainerKind, Tokenizer};
 use md_leaves::{heading_atx, thematic_break};
 use md_seam::space_or_tab::look_behind;
 
@@ -127,14 +127,6 @@ pub fn may_go_on(tokenizer: &mut Tokenizer, kind: ContainerKind) -> bool
         ContainerKind::BlockQuote => block_quote::may_begin(look_behind(tokenizer)),
         ContainerKind::ListItem => true,
     }
-}
-
-/// Whether an open container goes on where the line ends, and takes nothing.
-#[inline(always)]
-pub fn goes_over(container: Container) -> bool
-    ensures { result ≡ goes_over container }
-{
-    container.goes_over_empty()
 }
 
 /// Whether the prefix of a container on a further line stands here, so that it can be taken at once.
