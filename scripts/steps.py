@@ -22,14 +22,14 @@ REQUESTS = 60
 # How many parts of a text must be read within the steps, and how many within the requests.
 MOST: dict[str, tuple[int, int]] = {
     "paragraphs of long lines": (7, 8),
-    "one long line": (98, 130),
-    "headings of some words": (38, 28),
-    "quotes of long lines": (35, 66),
-    "quotes in quotes in quotes": (33, 92),
+    "one long line": (99, 130),
+    "headings of some words": (41, 28),
+    "quotes of long lines": (36, 66),
+    "quotes in quotes in quotes": (35, 92),
     "blank lines": (625, 5_492),
-    "one line of tabs": (495, 5_492),
-    "one line of spaces": (2_430, 5_492),
-    "one line of `*`": (1_920, 5_492),
+    "one line of tabs": (500, 5_492),
+    "one line of spaces": (2_500, 5_492),
+    "one line of `*`": (1_950, 5_492),
 }
 
 
