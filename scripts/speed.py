@@ -130,6 +130,11 @@ def deep(quotes: int, behind: str, lines: int, groups: int = 1) -> str:
     return (">" * quotes + " a\n" + behind * lines) * groups
 
 
+def steps(items: int) -> str:
+    """So many items in one another, each on a line of its own."""
+    return "".join("  " * depth + "- a\n" for depth in range(items))
+
+
 # Texts that grow in another way, where they are once or twice as large.
 GROWING: dict[str, Callable[[int], str]] = {
     "4,000 quotes on one line": lambda n: deep(4_000 * n, "", 0),
@@ -140,6 +145,12 @@ GROWING: dict[str, Callable[[int], str]] = {
     "1,000 quotes with 1,000 blank lines, four times": lambda n: deep(1_000, "\n", 1_000, 4 * n),
     "1,000 quotes with 1,000 blank lines, twice both": lambda n: deep(1_000 * n, "\n", 1_000 * n),
     "1,000 quotes with 1,000 lines `> b`, twice both": lambda n: deep(1_000 * n, "> b\n", 1_000 * n),
+    "200 items in one another on one line": lambda n: "- " * 200 * n + "a\n",
+    "2,000 items in one another on one line": lambda n: "- " * 2_000 * n + "a\n",
+    "200 items in one another line by line": lambda n: steps(int(200 * n**0.5)),
+    "1,000 items with 1,000 blank lines, twice both": lambda n: "- " * 1_000 * n + "a\n" + "\n" * 1_000 * n,
+    "10,000 items": lambda n: "- a\n" * 10_000 * n,
+    "10,000 items with markers in turn": lambda n: "- a\n* b\n" * 5_000 * n,
 }
 
 # What is timed: a part, and how many times it stands.
