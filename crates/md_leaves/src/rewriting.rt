@@ -16,17 +16,6 @@ fn push(events: &mut Vec<Event>, event: Event) -> Result<(), Message>
     Ok(())
 }
 
-/// Appends the events of another list, and leaves that empty.
-fn append(events: &mut Vec<Event>, more: &mut Vec<Event>) -> Result<(), Message>
-    ensures items { OnOk result (events.new.items ≡ events.old.items ++ more.old.items) }
-    ensures more { OnOk result (more.new.items ≡ []) }
-{
-    if events.append(more).is_err() {
-        return Err(Message);
-    }
-    Ok(())
-}
-
 /// A list that is read from its front on, and written again in the places that are read. What was read is held before
 /// it is given, so that many events are given at once. What finds no place there, since more is written than was read,
 /// stands behind it in a list of its own.
@@ -154,7 +143,8 @@ impl Rewriting {
             ..
         } = self;
         events.truncate(written);
-        append(&mut events, &mut more)?;
+        moving::append(&mut events, &more)?;
+        more.clear();
         Ok((events, more))
     }
 }

@@ -3,7 +3,7 @@ use Rattle.std.proofs.Common.{◌≡◌, ℕ, ◌+◌, ◌-◌, ◌≤◌, List,
 use Rattle.std.proofs.Common.{length-drop}
 use lib.Seq.{paste}
 use Rattle.std.proofs.Math.Seq.{take-add}
-use Rattle.std.proofs.lemmas.List.{drop-drop, drop_at, take-append-drop}
+use Rattle.std.proofs.lemmas.List.{drop-drop, drop_at, length-take-le, take-append-drop}
 use Rattle.std.proofs.lemmas.List.Edits.{drop-paste, take-paste}
 use Rattle.md_engine.specs.declared.event.Event.{Event}
 
@@ -50,3 +50,15 @@ piece-appended events old new all at many is so_far =
     (append_assoc old (take many (drop at events)) (drop (at + many) events)
     ∙ ap (λ (l : List Event). old ++ (take many (drop at events) ++ l)) (sym (drop-drop many at events))
     ∙ ap (λ (l : List Event). old ++ l) (take-append-drop many (drop at events)) ∙ so_far)
+
+-- so many of them are copied behind those that were
+pub piece-copied : (old now new from : List Event) (to at many : ℕ) → many ≤ length from - at →
+    take (to + at + length (take many (drop at from))) new ≡ take (to + at) now ++ take many (drop at from) →
+    take (to + at) now ≡ take to old ++ take at from →
+    take (to + (at + many)) new ≡ take to old ++ take (at + many) from
+piece-copied old now new from to at many within copied so_far =
+    let size : length (take many (drop at from)) ≡ many = length-take-le many (drop at from) (simp length-drop within) in
+    let end : to + at + length (take many (drop at from)) ≡ to + (at + many) = omega (arith, size) in
+    ap (λ (n : ℕ). take n new) (sym end) ∙ copied ∙ ap (λ (l : List Event). l ++ take many (drop at from)) so_far
+    ∙ append_assoc (take to old) (take at from) (take many (drop at from))
+    ∙ ap (λ (l : List Event). take to old ++ l) (sym (take-add at many from))

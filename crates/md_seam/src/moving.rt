@@ -1,12 +1,20 @@
 // Events that are moved to the front of their list, or appended to another, many at once.
 
-ghost use Rattle.std.specs.Prelude.{◌≡◌, ◌≤◌, ◌+◌, ◌-◌, ◌++◌, OnOk, drop, length, take};
+ghost use Rattle.std.specs.Prelude.{◌≡◌, ◌≤◌, ◌<◌, ◌+◌, ◌-◌, ◌++◌, OnOk, drop, length, take};
 
 use md_engine::event::Event;
 use md_engine::message::Message;
 
-/// So many events are appended at once: the C library copies larger pieces by an instruction that goes byte by byte.
+/// So many events are copied at once: the C library copies larger pieces by an instruction that goes byte by byte.
 const PIECE: usize = 48;
+
+/// How many of so many events are copied at once.
+fn piece(left: usize) -> usize
+    ensures most { result ≤ left }
+    ensures some { 0 < left → 0 < result }
+{
+    if left < PIECE { left } else { PIECE }
+}
 
 /// Appends these events at once.
 fn append_piece(events: &mut Vec<Event>, piece: &[Event]) -> Result<(), Message>
@@ -26,12 +34,20 @@ pub fn append(events: &mut Vec<Event>, more: &[Event]) -> Result<(), Message>
 {
     let mut at = 0;
     while at < more.len() {
-        let left = more.len() - at;
-        let many = if left < PIECE { left } else { PIECE };
+        let many = piece(more.len() - at);
         append_piece(events, &more[at..][..many])?;
         at += many;
     }
     Ok(())
+}
+
+/// Copies these events at once over those from `to` on.
+fn copy_piece(events: &mut [Event], to: usize, from: &[Event])
+    requires { to + length from.now ≤ length events.old }
+    ensures copied { take (to + length from.now) events.new ≡ take to events.old ++ from.now }
+    ensures many { length events.new ≡ length events.old }
+{
+    events[to..to + from.len()].copy_from_slice(from);
 }
 
 /// Copies events over those from `to` on.
@@ -40,7 +56,12 @@ fn copy_over(events: &mut [Event], to: usize, from: &[Event])
     ensures copied { take (to + length from.now) events.new ≡ take to events.old ++ from.now }
     ensures many { length events.new ≡ length events.old }
 {
-    events[to..to + from.len()].copy_from_slice(from);
+    let mut at = 0;
+    while at < from.len() {
+        let many = piece(from.len() - at);
+        copy_piece(events, to + at, &from[at..][..many]);
+        at += many;
+    }
 }
 
 /// Moves the events from `from` to `end` down to `to`.

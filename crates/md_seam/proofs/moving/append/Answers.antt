@@ -6,4 +6,4 @@ pub loop-at-preserved : goal.loop-at-preserved
 loop-at-preserved c =
     let more = c.args.more.now in
     piece-appended more c.loop-at.events.items c.append_piece.new.events.items _ c.loop-at.at
-    c.if-left-lt-PIECE.many (rw (take_rest more c.loop-at.at) at c.in_ok-append_piece.ensures) c.loop-at.invariant
+    c.piece-many.result (rw (take_rest more c.loop-at.at) at c.in_ok-append_piece.ensures) c.loop-at.invariant
