@@ -112,6 +112,8 @@ pub lazy-some : (still : HeldLeaf) (c : Container) (cs : List Container) (kind :
     is_lazy still (c ∷ cs) kind ≡ false
 lazy-some held_leaf.Text c cs kind = refl
 lazy-some held_leaf.None c cs kind = refl
+lazy-some held_leaf.Code c cs kind = refl
+lazy-some (held_leaf.Fence marker size indent) c cs kind = refl
 
 -- on a line that goes on the open paragraph nothing opens
 pub lazy-opens : (still : HeldLeaf) (opens : List Container) (kind : RowKind) → is_lazy still opens kind ≡ true →
@@ -119,3 +121,5 @@ pub lazy-opens : (still : HeldLeaf) (opens : List Container) (kind : RowKind) �
 lazy-opens still [] kind e = refl
 lazy-opens held_leaf.Text (c ∷ cs) kind e = cc
 lazy-opens held_leaf.None (c ∷ cs) kind e = cc
+lazy-opens held_leaf.Code (c ∷ cs) kind e = cc
+lazy-opens (held_leaf.Fence marker size indent) (c ∷ cs) kind e = cc

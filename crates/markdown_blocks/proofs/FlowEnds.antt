@@ -13,9 +13,11 @@ use Rattle.md_seam.specs.Spaces.{ends_line}
 use Rattle.md_seam.proofs.FeedLines.{Stops}
 use Rattle.markdown_blocks.specs.FlowRule.{Rule, asking_here, behind_containers, blank_ended, content_of, ended, ended_to}
 use Rattle.markdown_blocks.specs.FlowRule.{existing_at, existing_by, existing_from, opens_of}
-use Rattle.markdown_blocks.specs.FlowRule.{flow_at, flow_lines, leaf_of, leaves_of, line_ended, line_then, new_from}
+use Rattle.markdown_blocks.specs.FlowRule.{flow_at, flow_lines, leaf_ended, leaf_of, leaves_of, line_ended, line_then}
+use Rattle.markdown_blocks.specs.FlowRule.{new_from}
 use Rattle.markdown_blocks.specs.FlowRule.{new_of, opened, tried}
-use Rattle.markdown_blocks.specs.LineFlags.{begun_line, blanked, ended_on, next_container, stays, went_on}
+use Rattle.markdown_blocks.specs.LineFlags.{begun_line, blanked, ended_on, next_container, shut_leaf, stays}
+use Rattle.markdown_blocks.specs.LineFlags.{went_on}
 use Rattle.markdown_blocks.specs.Registry.{LeafName, begins_at, continues_at, leaf, openers, trials}
 use Rattle.markdown_blocks.proofs.FlowLemmas.{blank_at-shrinks, chunk_at-shrinks}
 use Rattle.markdown_blocks.proofs.FromEnding.{stops-same}
@@ -75,8 +77,8 @@ leaves-finish : (options : ParseOptions) (next : Rule) (ls : List LeafName) (cel
     Finishes (leaves_of options next ls cells h)
 leaves-finish options next [] cells h ends = content-finishes next cells h ends
 leaves-finish options next (l ∷ ls) cells h ends =
-    tried-finishes _ (line_ended next) _ ((leaf l).trial options cells h) ((laws l).shrinks options cells h)
-    (line_ended-finishes _ next ends)
+    tried-finishes _ (leaf_ended next) _ ((leaf l).trial options cells h) ((laws l).shrinks options cells h)
+    (λ rest k at le. line_ended-finishes _ next ends rest (record k { flags = shut_leaf k.flags }) at le)
     (λ s g. leaves-finish options next ls cells (record h { scratch = s; flags = g }) ends)
 
 leaf-finishes : (options : ParseOptions) (next : Rule) (cells : List Cell) (h : Here) → Ends (length cells) next →

@@ -14,9 +14,11 @@ use Rattle.md_seam.specs.Look.{first_seen}
 use Rattle.md_seam.specs.Spaces.{ends_line}
 use Rattle.md_definition.specs.Rest.{is_blank}
 use Rattle.markdown_blocks.specs.FlowRule.{Rule, asking_here, behind_containers, blank_ended, ended, ended_to, existing_by}
-use Rattle.markdown_blocks.specs.FlowRule.{existing_at, existing_from, flow_at, flow_lines, leaf_of, leaves_of, line_ended}
+use Rattle.markdown_blocks.specs.FlowRule.{existing_at, existing_from, flow_at, flow_lines, leaf_ended, leaf_of}
+use Rattle.markdown_blocks.specs.FlowRule.{leaves_of, line_ended}
 use Rattle.markdown_blocks.specs.FlowRule.{line_then, new_from, new_of, opened, openers_of, opens_of, tried}
-use Rattle.markdown_blocks.specs.LineFlags.{begun_line, blanked, ended_on, next_container, stays, went_on}
+use Rattle.markdown_blocks.specs.LineFlags.{begun_line, blanked, ended_on, next_container, shut_leaf, stays}
+use Rattle.markdown_blocks.specs.LineFlags.{went_on}
 use Rattle.markdown_blocks.specs.Registry.{LeafName, begins_at, continues_at, leaf, openers, trials}
 use Rattle.markdown_blocks.proofs.FromEnding.{from_ending-again, from_ending-shrinks}
 use Rattle.markdown_blocks.proofs.LeafLaws.{Shrinks, cond-shrinks}
@@ -56,6 +58,9 @@ line_ended-same n f g agree cells h le = ended-same n f g agree cells (ended_to 
 blank_ended-same : (n : ℕ) (f g : Rule) → Agree n f g → AgreeAt n (blank_ended f) (blank_ended g)
 blank_ended-same n f g agree cells h le = line_ended-same n f g agree cells (record h { flags = blanked h.flags }) le
 
+leaf_ended-same : (n : ℕ) (f g : Rule) → Agree n f g → AgreeAt n (leaf_ended f) (leaf_ended g)
+leaf_ended-same n f g agree cells h le = line_ended-same n f g agree cells (record h { flags = shut_leaf h.flags }) le
+
 tried-same : (n : ℕ) (f g : Rule) → AgreeAt n f g → (o : Outcome) (a b : Scratch → Flags → Outcome) → Shrinks n o →
     ((s : Scratch) (t : Flags) → a s t ≡ b s t) → tried o f a ≡ tried o g b
 tried-same n f g agree (Accepts h rest) a b shrinks same = agree rest h shrinks.0
@@ -77,7 +82,7 @@ leaves_of-same options f g [] cells h agree =
     tried-same _ (line_ended f) (line_ended g) (line_ended-same _ f g agree) (chunk_at cells h) Refuses Refuses
     (chunk_at-shrinks cells h) (λ s t. refl)
 leaves_of-same options f g (l ∷ ls) cells h agree =
-    tried-same _ (line_ended f) (line_ended g) (line_ended-same _ f g agree) ((leaf l).trial options cells h) _ _
+    tried-same _ (leaf_ended f) (leaf_ended g) (leaf_ended-same _ f g agree) ((leaf l).trial options cells h) _ _
     ((laws l).shrinks options cells h)
     (λ s t. leaves_of-same options f g ls cells (record h { scratch = s; flags = t }) agree)
 

@@ -44,10 +44,12 @@ use Rattle.markdown_blocks.specs.Fed.{feeds}
 use Rattle.markdown_blocks.specs.Flow.{after_transition, before_content_transition, before_transition}
 use Rattle.markdown_blocks.specs.Flow.{blank_line_after_transition, blank_line_code, containers_after_transition}
 use Rattle.markdown_blocks.specs.Flow.{existing_after_transition, existing_before_code, flow_end_code}
-use Rattle.markdown_blocks.specs.Flow.{flow_end_transition, flow_own_transition, leaf_transition, new_after_transition}
+use Rattle.markdown_blocks.specs.Flow.{flow_end_transition, flow_own_transition, leaf_after_transition}
+use Rattle.markdown_blocks.specs.Flow.{leaf_transition, new_after_transition}
 use Rattle.markdown_blocks.specs.Flow.{new_before_transition, opener_transition, start_transition, trial_code}
 use Rattle.markdown_blocks.specs.FlowRule.{HasFlow, Rule, blank_ended, ended, ended_to, existing_at, existing_by}
-use Rattle.markdown_blocks.specs.FlowRule.{flow_at, leaves_of, line_ended, line_then, new_of, nonblank_of, opened, openers_of}
+use Rattle.markdown_blocks.specs.FlowRule.{flow_at, leaf_ended, leaves_of, line_ended, line_then, new_of, nonblank_of}
+use Rattle.markdown_blocks.specs.FlowRule.{opened, openers_of}
 use Rattle.markdown_blocks.specs.FlowRule.{tried}
 use Rattle.markdown_blocks.specs.LineFlags as flags
 use Rattle.markdown_blocks.specs.LineFlags.{asking, ending_name, next_container, next_line, went_on}
@@ -163,7 +165,14 @@ existing_before_steps B feed w options next false (Some c) has s is e k =
           ∙ (container-laws c.kind).continues_looked options _ _ first.0 is first.1 first.2;
     })
 
-existing_after_steps : (B : Behaviour) (feed : Feed) (w : World) (options : ParseOptions) (next : Rule) →
+existing_leaf_after_steps : (B : Behaviour) (feed : Feed) (w : World) (options : ParseOptions) (next : Rule) →
+    HasFlow B options next →
+    Steps B feed (Next (n.Flow flow.LeafAfter)) w (leaf_after_transition w).to (leaf_after_transition w).world
+leaf_after_steps B feed w options next has =
+    passes B feed _ _ w (leaf_after_transition w).world refl refl
+    (has.leaves flow.LeafAfter _ _ ∙ sym (has.containers document.FlowEnd _ _))
+
+after_steps : (B : Behaviour) (feed : Feed) (w : World) (options : ParseOptions) (next : Rule) →
     HasFlow B options next →
     Steps B feed (Next (n.Document document.ContainerExistingAfter)) w (existing_after_transition w).to
     (existing_after_transition w).world
@@ -194,7 +203,14 @@ new_before_steps k B feed w options next has s is =
     })
 
 -- where containers end no attempt is around, so none goes back to events before these ends
-new_after_steps : (B : Behaviour) (feed : Feed) (w : World) (options : ParseOptions) (next : Rule) →
+new_leaf_after_steps : (B : Behaviour) (feed : Feed) (w : World) (options : ParseOptions) (next : Rule) →
+    HasFlow B options next →
+    Steps B feed (Next (n.Flow flow.LeafAfter)) w (leaf_after_transition w).to (leaf_after_transition w).world
+leaf_after_steps B feed w options next has =
+    passes B feed _ _ w (leaf_after_transition w).world refl refl
+    (has.leaves flow.LeafAfter _ _ ∙ sym (has.containers document.FlowEnd _ _))
+
+after_steps : (B : Behaviour) (feed : Feed) (w : World) (options : ParseOptions) (next : Rule) →
     HasFlow B options next → w.frames ≡ [] →
     Steps B feed (Next (n.Document document.ContainerNewAfter)) w (new_after_transition w).to
     (new_after_transition w).world
@@ -202,7 +218,14 @@ new_after_steps B feed w options next has none =
     changes B feed _ _ w (new_after_transition w).world none none
     (has.containers document.ContainerNewAfter _ _ ∙ sym (opening_left B options next has _ _))
 
-containers_after_steps : (B : Behaviour) (feed : Feed) (w : World) (options : ParseOptions) (next : Rule) →
+containers_leaf_after_steps : (B : Behaviour) (feed : Feed) (w : World) (options : ParseOptions) (next : Rule) →
+    HasFlow B options next →
+    Steps B feed (Next (n.Flow flow.LeafAfter)) w (leaf_after_transition w).to (leaf_after_transition w).world
+leaf_after_steps B feed w options next has =
+    passes B feed _ _ w (leaf_after_transition w).world refl refl
+    (has.leaves flow.LeafAfter _ _ ∙ sym (has.containers document.FlowEnd _ _))
+
+after_steps : (B : Behaviour) (feed : Feed) (w : World) (options : ParseOptions) (next : Rule) →
     HasFlow B options next →
     Steps B feed (Next (n.Document document.ContainersAfter)) w (containers_after_transition w).to
     (containers_after_transition w).world
@@ -254,12 +277,12 @@ before_steps l B feed w options next has s is =
     let otherwise : Scratch → Flags → Outcome =
     λ s g. leaves_of options next (behind l) (feed w.point) (record (here w) { scratch = s; flags = g }) in
     trial_steps B feed w w.flags _ _ _ _ (may_with (leaf l).may_begin (looks_behind w)) (record {
-      onward = line_ended next;
+      onward = leaf_ended next;
       otherwise = otherwise;
       from_is =
           has.leaves (leaf l).before _ _ ∙ left-before options next l _ _
-          ∙ ap (λ (o : Outcome). tried o (line_ended next) otherwise) (sym (has.starts l _ _));
-      ok_is = has.leaves flow.After;
+          ∙ ap (λ (o : Outcome). tried o (leaf_ended next) otherwise) (sym (has.starts l _ _));
+      ok_is = has.leaves flow.LeafAfter;
       nok_is = λ s g. has.leaves (next_of l) _ _ ∙ left-next options next l _ _;
       looked = λ no.
           let first = refused-first (leaf l).may_begin feed w s no in
@@ -279,13 +302,27 @@ before_content_steps B feed w options next has =
     (has.leaves flow.After) (λ s g. refl)
     ∙ ap (resume B feed w.events f) (sym (has.chunk.each content.ChunkStart _ _)))
 
-blank_line_after_steps : (B : Behaviour) (feed : Feed) (w : World) (options : ParseOptions) (next : Rule) →
+blank_line_leaf_after_steps : (B : Behaviour) (feed : Feed) (w : World) (options : ParseOptions) (next : Rule) →
+    HasFlow B options next →
+    Steps B feed (Next (n.Flow flow.LeafAfter)) w (leaf_after_transition w).to (leaf_after_transition w).world
+leaf_after_steps B feed w options next has =
+    passes B feed _ _ w (leaf_after_transition w).world refl refl
+    (has.leaves flow.LeafAfter _ _ ∙ sym (has.containers document.FlowEnd _ _))
+
+after_steps : (B : Behaviour) (feed : Feed) (w : World) (options : ParseOptions) (next : Rule) →
     HasFlow B options next →
     Steps B feed (Next (n.Flow flow.BlankLineAfter)) w (blank_line_after_transition w).to
     (blank_line_after_transition w).world
 blank_line_after_steps B feed w options next has =
     passes B feed _ _ w (blank_line_after_transition w).world refl refl
     (has.leaves flow.BlankLineAfter _ _ ∙ sym (has.containers document.FlowEnd _ _))
+
+leaf_after_steps : (B : Behaviour) (feed : Feed) (w : World) (options : ParseOptions) (next : Rule) →
+    HasFlow B options next →
+    Steps B feed (Next (n.Flow flow.LeafAfter)) w (leaf_after_transition w).to (leaf_after_transition w).world
+leaf_after_steps B feed w options next has =
+    passes B feed _ _ w (leaf_after_transition w).world refl refl
+    (has.leaves flow.LeafAfter _ _ ∙ sym (has.containers document.FlowEnd _ _))
 
 after_steps : (B : Behaviour) (feed : Feed) (w : World) (options : ParseOptions) (next : Rule) →
     HasFlow B options next →
@@ -414,6 +451,7 @@ leaves_steps B feed next flow.Start w has s at = start_steps B feed w _ _ has
 leaves_steps B feed next flow.BlankLineBefore w has s at = blank_line_before_steps B feed w _ _ _ has s refl
 leaves_steps B feed next flow.BeforeContent w has s at = before_content_steps B feed w _ _ has
 leaves_steps B feed next flow.BlankLineAfter w has s at = blank_line_after_steps B feed w _ _ has
+leaves_steps B feed next flow.LeafAfter w has s at = leaf_after_steps B feed w _ _ has
 leaves_steps B feed next flow.After w has s at = after_steps B feed w _ _ has
 leaves_steps B feed next state w has s at = leaf_steps B feed next state (tried_at state) refl w has s at
 

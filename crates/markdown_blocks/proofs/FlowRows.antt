@@ -34,7 +34,8 @@ use Rattle.md_seam.specs.Spaces.{IsRest, ends_line}
 use Rattle.md_definition.specs.State.{Container}
 use Rattle.markdown_blocks.specs.Change.{Change, change_by, ends_of, interrupts, is_none, open_behind, others_of}
 use Rattle.markdown_blocks.specs.FlowRule.{Rule, asking_here, behind_containers, blank_ended, ended, ended_to, existing_by}
-use Rattle.markdown_blocks.specs.FlowRule.{existing_at, existing_from, flow_at, flow_lines, leaf_of, leaves_of, line_ended}
+use Rattle.markdown_blocks.specs.FlowRule.{existing_at, existing_from, flow_at, flow_lines, leaf_ended, leaf_of}
+use Rattle.markdown_blocks.specs.FlowRule.{leaves_of, line_ended}
 use Rattle.markdown_blocks.specs.FlowRule.{line_then, new_from, new_of, nonblank_of, opened, opens_of, tried}
 use Rattle.markdown_blocks.specs.LineFlags.{asks, begun_line, ended_on, ending_name, next_container, next_line, over_end, stays}
 use Rattle.markdown_blocks.specs.LineFlags.{went_on}
@@ -92,7 +93,7 @@ leaves-are options next (l ∷ ls) cells h is =
     go ((leaf l).takes options cells) refl (leaves-are options next ls cells h is)
   where
     onward : Outcome → Outcome
-    onward o = tried o (line_ended next) (λ s g. leaves_of options next ls cells (record h { scratch = s; flags = g }))
+    onward o = tried o (leaf_ended next) (λ s g. leaves_of options next ls cells (record h { scratch = s; flags = g }))
 
     Done : Option LeafName → Type 0
     Done o =
@@ -758,6 +759,8 @@ between-asked front tail p cs still w h c column b = record {
 lazy-none : (still : HeldLeaf) (k : RowKind) → is_lazy still [] k ≡ (takes_lazy still && is_text k)
 lazy-none held_leaf.Text k = refl
 lazy-none held_leaf.None k = refl
+lazy-none held_leaf.Code k = refl
+lazy-none (held_leaf.Fence marker size indent) k = refl
 
 -- and such a line leaves a leaf that takes one
 lazy-behind : (k : RowKind) → takes_lazy (leaf_behind k) ≡ is_text k

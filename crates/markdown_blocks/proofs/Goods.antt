@@ -23,7 +23,8 @@ use Rattle.md_seam.proofs.SpacesGoods.{Does, seen-some}
 use Rattle.markdown_blocks.specs.Flow.{after_transition, before_content_transition, before_transition}
 use Rattle.markdown_blocks.specs.Flow.{blank_line_after_transition, blank_line_code, containers_after_transition}
 use Rattle.markdown_blocks.specs.Flow.{existing_after_transition, existing_before_code, flow_end_code, flow_rank}
-use Rattle.markdown_blocks.specs.Flow.{flow_ready, flow_scheme, new_after_transition, new_before_transition}
+use Rattle.markdown_blocks.specs.Flow.{flow_ready, flow_scheme, leaf_after_transition, new_after_transition}
+use Rattle.markdown_blocks.specs.Flow.{new_before_transition}
 use Rattle.markdown_blocks.specs.Flow.{start_transition, trial_code}
 use Rattle.markdown_blocks.specs.LineFlags as flags
 use Rattle.markdown_blocks.specs.LineFlags.{asking}
@@ -41,7 +42,7 @@ pub record LeafFits (T : Scheme) (l : LeafName) : Type 1 where
   pub next : Fits T flow_scheme (n.Flow (next_of l))
   pub falls : (flow_scheme.tries (n.Flow (next_of l))).number < (flow_rank (n.Flow (leaf l).before)).number
   pub next_low : (flow_rank (n.Flow (next_of l))).number < (flow_scheme.tries (n.Flow (next_of l))).number
-  pub behind_low : (flow_rank (n.Flow flow.After)).number < (flow_scheme.tries (n.Flow (next_of l))).number
+  pub behind_low : (flow_rank (n.Flow flow.LeafAfter)).number < (flow_scheme.tries (n.Flow (next_of l))).number
 
 -- what is known of the spot where a container is tried, and of the one where an open one is asked: there the line does
 -- not end
@@ -80,6 +81,7 @@ pub record FlowFits (T : Scheme) : Type 1 where
   pub first_leaf : Fits T flow_scheme (n.Flow (front_of trials))
   pub before_content : Fits T flow_scheme (n.Flow flow.BeforeContent)
   pub blank_line_after : Fits T flow_scheme (n.Flow flow.BlankLineAfter)
+  pub behind_leaf : Fits T flow_scheme (n.Flow flow.LeafAfter)
   pub behind : Fits T flow_scheme (n.Flow flow.After)
 
 -- a trial that is refused at once goes on with a state that ranks below
@@ -223,8 +225,8 @@ good_before T l w has inner r =
     let b = inner.next_low in
     looked T _ _ _ _ w w.flags (may_with (leaf l).may_begin (looks_behind w)) inner.front inner.next r (omega (arith, a, b)) (
       begins_try T flow_scheme inner.own (n.Flow (leaf l).before) (leaf l).start w IsRest IsRest
-          w.events w.scratch _ inner.front inner.starts has.behind inner.next refl
-          (flow_tries (n.Flow flow.After) (n.Flow (next_of l)) w
+          w.events w.scratch _ inner.front inner.starts has.behind_leaf inner.next refl
+          (flow_tries (n.Flow flow.LeafAfter) (n.Flow (next_of l)) w
           (after_all T w.frames) r inner.behind_low inner.next_low (λ x. refl) (λ x. refl))
           (λ K e. inner.ready _ K (r.0.0, e)) inner.level (omega arith) inner.falls,
       refl,
@@ -257,6 +259,11 @@ pub good_blank_line_after : (T : Scheme) (w : World) → FlowFits T → flow_rea
     Does T (n.Flow flow.BlankLineAfter) w (blank_line_after_transition w)
 good_blank_line_after T w has r =
     (turns T flow_scheme _ _ w w.events w.scratch has.blank_line_after has.flow_end r (omega arith) (omega arith), refl)
+
+pub good_leaf_after : (T : Scheme) (w : World) → FlowFits T → flow_ready (spot w) (after_all T w.frames) →
+    Does T (n.Flow flow.LeafAfter) w (leaf_after_transition w)
+good_leaf_after T w has r =
+    (turns T flow_scheme _ _ w w.events w.scratch has.behind_leaf has.flow_end r (omega arith) (omega arith), refl)
 
 pub good_after : (T : Scheme) (w : World) → FlowFits T → flow_ready (spot w) (after_all T w.frames) →
     Does T (n.Flow flow.After) w (after_transition w)

@@ -7,7 +7,6 @@ use Rattle.md_engine.specs.declared.event.Content.TheVariants as content
 use Rattle.md_engine.specs.declared.event.Event.{Event}
 use Rattle.md_engine.specs.declared.event.Point.{Point}
 use Rattle.md_engine.specs.declared.tokenizer.Line.{Line}
-use Rattle.md_engine.specs.declared.tokenizer.held_leaf.HeldLeaf.TheVariants as held_leaf
 use Rattle.md_engine.specs.Meaning.{Accepts, Cell, Fails, Here, Outcome, Refuses}
 use Rattle.md_seam.specs.Ahead.{from_ending, line_end}
 use Rattle.md_seam.specs.Look.{seen_behind}
@@ -25,16 +24,10 @@ use Rattle.markdown_blocks.proofs.SubstitutedLemmas.{Becomes}
 use Rattle.md_seam.specs.Substituted.{Readings}
 use Rattle.markdown_blocks.proofs.ContentFacts.{NoContent}
 
--- a line that ends with what was added, where no text is open
-abbrev pub shut_line : List Event → List Cell → Here → Outcome
-shut_line added cells h =
-    Accepts
-    (record h {
-      events = h.events ++ added;
-      point = line_end cells h.point;
-      flags = record h.flags { leaf = held_leaf.None };
-    })
-    (from_ending cells)
+-- a line that ends with what was added
+abbrev pub whole_line : List Event → List Cell → Here → Outcome
+whole_line added cells h =
+    Accepts (record h { events = h.events ++ added; point = line_end cells h.point }) (from_ending cells)
 
 -- a line is taken or refused; what is left of one that is taken is no longer than what there was, and begins with an
 -- ending
@@ -54,7 +47,7 @@ pub record LeafLaws (l : LineLeaf) : Type 1 where
       l.may_begin b ≡ false → l.takes options cells ≡ false
   -- Its trial takes a line to its end, or refuses it and leaves all as it was.
   pub took : (options : ParseOptions) (cells : List Cell) (h : Here) → IsRest h.scratch → l.takes options cells ≡ true →
-      l.trial options cells h ≡ shut_line (l.adds options cells h.point) cells h
+      l.trial options cells h ≡ whole_line (l.adds options cells h.point) cells h
   pub refused : (options : ParseOptions) (cells : List Cell) (h : Here) → IsRest h.scratch →
       l.takes options cells ≡ false → l.trial options cells h ≡ Refuses h.scratch h.flags
   pub shrinks : (options : ParseOptions) (cells : List Cell) (h : Here) →

@@ -330,6 +330,8 @@ step-stopped options before c p r built plain =
     never : (x : HeldLeaf) → false ≡ interrupts x (c ∷ containers_of p)
     never held_leaf.Text = refl
     never held_leaf.None = refl
+    never held_leaf.Code = refl
+    never (held_leaf.Fence marker size indent) = refl
 
     go : (o : Option Taken) →
         stopped_by options before c p r o ≡ stepped options (Within before c p) [] (found_by options r o)

@@ -114,6 +114,7 @@ at-leaf flow.Start l w e = cc
 at-leaf flow.BlankLineBefore l w e = cc
 at-leaf flow.BeforeContent l w e = cc
 at-leaf flow.BlankLineAfter l w e = cc
+at-leaf flow.LeafAfter l w e = cc
 at-leaf flow.After l w e = cc
 at-leaf _ l w e = ap (λ (o : Option LeafName). leaf_transition o w) e
 
@@ -128,7 +129,7 @@ leaves-refuse is_name is_end s v (l ∷ ls) w next none seen within came =
     let x : FlowState = (leaf l).before in
     let is : flow_own_transition x w ≡ record { to = Retry (n.Flow (front_of ls)); world = w } =
     at-leaf x l w (leaf-states l).tried
-    ∙ ap (trial_code (leaf l).start (n.Flow flow.After) (n.Flow (next_of l)) w)
+    ∙ ap (trial_code (leaf l).start (n.Flow flow.LeafAfter) (n.Flow (next_of l)) w)
     (refused-first (λ (m : LeafName). (leaf m).may_begin) l ls w none)
     ∙ ap (λ (ms : List LeafName). record { to = Retry (n.Flow (front_of ms)); world = w }) next in
     leaves-refuse is_name is_end s v ls w (subst NextIs next (leaf-states l).next)
@@ -217,7 +218,7 @@ opener-leaves k w =
 
 pub leaf-leaves : (l : LeafName) (w : World) → Leaves (before_transition l w) w
 leaf-leaves l w =
-    trial-leaves (leaf l).start (n.Flow flow.After) (n.Flow (next_of l)) w w
+    trial-leaves (leaf l).start (n.Flow flow.LeafAfter) (n.Flow (next_of l)) w w
     (may_with (leaf l).may_begin (looks_behind w)) refl refl refl
 
 pub chunk-leaves : (is_name : ResolveName → Bool) (w : World) (x : Bool) → Leaves (chunk_inside_code is_name w x) w

@@ -47,6 +47,7 @@ flow_fits = record {
   first_leaf = fits flow_owner (n.Flow (front_of trials));
   before_content = fits flow_owner (n.Flow flow.BeforeContent);
   blank_line_after = fits flow_owner (n.Flow flow.BlankLineAfter);
+  behind_leaf = fits flow_owner (n.Flow flow.LeafAfter);
   behind = fits flow_owner (n.Flow flow.After);
 }
 
@@ -92,6 +93,7 @@ leaves_do flow.BlankLineBefore w at =
 leaves_do flow.BeforeContent w at =
     goods.good_before_content flow_table_scheme w flow_fits (fits flow_owner (n.Content content.ChunkStart)) at
 leaves_do flow.BlankLineAfter w at = goods.good_blank_line_after flow_table_scheme w flow_fits at
+leaves_do flow.LeafAfter w at = goods.good_leaf_after flow_table_scheme w flow_fits at
 leaves_do flow.After w at = goods.good_after flow_table_scheme w flow_fits at
 leaves_do state w at = leaf_does state (tried_at state) refl w at
 

@@ -271,6 +271,8 @@ step-empty options p column built plain read =
         closed options other
     go held_leaf.Text = refl
     go held_leaf.None = refl
+    go held_leaf.Code = refl
+    go (held_leaf.Fence marker size indent) = refl
 
 steps-append : (options : ParseOptions) (p : Path) (rs ss : List Rest) →
     steps options p (rs ++ ss) ≡ steps options (steps options p rs) ss

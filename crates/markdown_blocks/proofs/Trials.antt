@@ -22,6 +22,7 @@ owned flow.Start l e = refl
 owned flow.BlankLineBefore l e = refl
 owned flow.BeforeContent l e = refl
 owned flow.BlankLineAfter l e = refl
+owned flow.LeafAfter l e = refl
 owned flow.After l e = refl
 owned _ l e = ap leaf_owner e
 
@@ -30,6 +31,7 @@ rank-is flow.Start l e = cc
 rank-is flow.BlankLineBefore l e = cc
 rank-is flow.BeforeContent l e = cc
 rank-is flow.BlankLineAfter l e = cc
+rank-is flow.LeafAfter l e = cc
 rank-is flow.After l e = cc
 rank-is _ l e = ap leaf_rank e
 
@@ -43,6 +45,7 @@ left-tried options next flow.Start l cells h e = cc
 left-tried options next flow.BlankLineBefore l cells h e = cc
 left-tried options next flow.BeforeContent l cells h e = cc
 left-tried options next flow.BlankLineAfter l cells h e = cc
+left-tried options next flow.LeafAfter l cells h e = cc
 left-tried options next flow.After l cells h e = cc
 left-tried options next _ l cells h e = ap (λ (o : Option LeafName). leaf_behaves options next o cells h) e
 
@@ -77,7 +80,7 @@ fits-front (m ∷ ms) = fits-before m
 record Falls (l : LeafName) (next : FlowState) : Type 0 where
   falls : (flow_tries (n.Flow next)).number < (flow_rank (n.Flow (leaf l).before)).number
   next_low : (flow_rank (n.Flow next)).number < (flow_tries (n.Flow next)).number
-  behind_low : (flow_rank (n.Flow flow.After)).number < (flow_tries (n.Flow next)).number
+  behind_low : (flow_rank (n.Flow flow.LeafAfter)).number < (flow_tries (n.Flow next)).number
 
 falls-to : (l : LeafName) (ls : List LeafName) → behind l ≡ ls → NextIs ls → Falls l (front_of ls)
 falls-to l ls e is = go ls (ap length e) is

@@ -17,7 +17,7 @@ use Rattle.md_seam.specs.Look.{looks_behind, may_with}
 use Rattle.md_seam.specs.Spaces.{ends_line, rest_ready}
 use Rattle.md_seam.specs.Transition.{Transition, entered, exited, taken, tried}
 use Rattle.markdown_blocks.specs.LineFlags.{asking, begun_line, blanked, ending_name, next_container, next_line, stays}
-use Rattle.markdown_blocks.specs.LineFlags.{ended_on, went_on, with_container}
+use Rattle.markdown_blocks.specs.LineFlags.{ended_on, shut_leaf, went_on, with_container}
 use Rattle.markdown_blocks.specs.Registry.{LeafName, front_of, goes_on_with, leaf, may_go_on, may_open, next_of}
 use Rattle.markdown_blocks.specs.Registry.{next_opener, opener_at, opener_front, opener_rank, opener_tries, openers}
 use Rattle.markdown_blocks.specs.Registry.{opens_with, rank_of, trials, tried_at, tries_of}
@@ -48,16 +48,21 @@ blank_line_before_transition w =
 -- in front of a leaf
 abbrev pub before_transition : LeafName → World → Transition
 before_transition l w =
-    trial_code (leaf l).start (s.Flow flow.After) (s.Flow (next_of l)) w
+    trial_code (leaf l).start (s.Flow flow.LeafAfter) (s.Flow (next_of l)) w
     (may_with (leaf l).may_begin (looks_behind w))
 
 abbrev pub before_content_transition : World → Transition
 before_content_transition w =
     record { to = Retry (s.Content content.ChunkStart); world = tried w (Next (s.Flow flow.After)) Nok }
 
--- behind the leaf of a line
+-- behind a line of text
 abbrev pub after_transition : World → Transition
 after_transition w = record { to = Retry (s.Document document.FlowEnd); world = w }
+
+-- behind a leaf on one line none is open
+abbrev pub leaf_after_transition : World → Transition
+leaf_after_transition w =
+    record { to = Retry (s.Document document.FlowEnd); world = record w { flags = shut_leaf w.flags } }
 
 -- behind a blank line no paragraph is open
 abbrev pub blank_line_after_transition : World → Transition
@@ -133,6 +138,7 @@ flow_own_transition flow.Start w = start_transition w
 flow_own_transition flow.BlankLineBefore w = blank_line_before_transition w
 flow_own_transition flow.BeforeContent w = before_content_transition w
 flow_own_transition flow.BlankLineAfter w = blank_line_after_transition w
+flow_own_transition flow.LeafAfter w = leaf_after_transition w
 flow_own_transition flow.After w = after_transition w
 flow_own_transition state w = leaf_transition (tried_at state) w
 
@@ -157,6 +163,7 @@ flow_rank (s.Flow flow.Start) = ranked (7 + leaves) refl
 flow_rank (s.Flow flow.BlankLineBefore) = ranked (6 + leaves) refl
 flow_rank (s.Flow flow.BeforeContent) = ranked 4 refl
 flow_rank (s.Flow flow.BlankLineAfter) = ranked 1 refl
+flow_rank (s.Flow flow.LeafAfter) = ranked 1 refl
 flow_rank (s.Flow flow.After) = ranked 1 refl
 flow_rank (s.Flow state) = leaf_rank (tried_at state)
 flow_rank _ = ranked 0 refl

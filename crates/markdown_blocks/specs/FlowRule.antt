@@ -20,7 +20,7 @@ use Rattle.md_seam.specs.Spaces.{ends_line}
 use Rattle.markdown_blocks.specs.Registry.{LeafName, begins_at, behind, continues_at, goes_on_with, leaf, opener_at, openers}
 use Rattle.markdown_blocks.specs.Registry.{openers_behind, opens_with, trials, tried_at}
 use Rattle.markdown_blocks.specs.LineFlags.{asks, begun_line, blanked, ending_name, next_container, next_line, stays}
-use Rattle.markdown_blocks.specs.LineFlags.{ended_on, went_on, with_container}
+use Rattle.markdown_blocks.specs.LineFlags.{ended_on, shut_leaf, went_on, with_container}
 
 -- how the rest of a text ends from a place
 abbrev pub Rule : Type 0
@@ -50,6 +50,10 @@ ended next (c ∷ cs) h =
 abbrev pub line_ended : Rule → Rule
 line_ended next cells h = ended next cells (ended_to (stays h.flags) h.flags.line_end h)
 
+-- behind a leaf on one line none is open
+abbrev pub leaf_ended : Rule → Rule
+leaf_ended next cells h = line_ended next cells (record h { flags = shut_leaf h.flags })
+
 -- behind a blank line no paragraph is open
 abbrev pub blank_ended : Rule → Rule
 blank_ended next cells h = line_ended next cells (record h { flags = blanked h.flags })
@@ -68,7 +72,7 @@ content_of next cells h = tried (chunk_at cells h) (line_ended next) Refuses
 abbrev pub leaves_of : ParseOptions → Rule → List LeafName → Rule
 leaves_of options next [] cells h = content_of next cells h
 leaves_of options next (l ∷ ls) cells h =
-    tried ((leaf l).trial options cells h) (line_ended next)
+    tried ((leaf l).trial options cells h) (leaf_ended next)
     (λ s g. leaves_of options next ls cells (record h { scratch = s; flags = g }))
 
 abbrev pub nonblank_of : ParseOptions → Rule → Rule
@@ -175,6 +179,7 @@ leaves_behave options next flow.Start cells h = leaf_of options next cells h
 leaves_behave options next flow.BlankLineBefore cells h = leaf_of options next cells h
 leaves_behave options next flow.BeforeContent cells h = content_of next cells h
 leaves_behave options next flow.BlankLineAfter cells h = blank_ended next cells h
+leaves_behave options next flow.LeafAfter cells h = leaf_ended next cells h
 leaves_behave options next flow.After cells h = line_ended next cells h
 leaves_behave options next state cells h = leaf_behaves options next (tried_at state) cells h
 

@@ -12,8 +12,8 @@ use Rattle.markdown_blocks.specs.Leaf.Paragraph.{IsOpenText}
 
 -- whether a line goes on it that starts no other leaf, although not all containers went on (CommonMark 5.1, "laziness")
 abbrev pub takes_lazy : HeldLeaf → Bool
-takes_lazy held_leaf.None = false
 takes_lazy held_leaf.Text = true
+takes_lazy _ = false
 
 -- the kind of an open leaf of the line definition
 abbrev pub kind_of_leaf : Leaf → HeldLeaf

@@ -48,7 +48,11 @@ with_container g = record g {
 abbrev pub begun_line : Flags → Flags
 begun_line g = record g { leaf_before = g.leaf }
 
--- behind a blank line no paragraph is open
+-- behind a leaf on one line none is open
+abbrev pub shut_leaf : Flags → Flags
+shut_leaf g = record g { leaf = held_leaf.None }
+
+-- nor behind a blank line
 abbrev pub blanked : Flags → Flags
 blanked g = record g { leaf = held_leaf.None; blank = true }
 

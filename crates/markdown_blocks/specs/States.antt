@@ -51,6 +51,7 @@ leaves_owner flow.Start = flow_scheme
 leaves_owner flow.BlankLineBefore = flow_scheme
 leaves_owner flow.BeforeContent = flow_scheme
 leaves_owner flow.BlankLineAfter = flow_scheme
+leaves_owner flow.LeafAfter = flow_scheme
 leaves_owner flow.After = flow_scheme
 leaves_owner state = leaf_owner (tried_at state)
 

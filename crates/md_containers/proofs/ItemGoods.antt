@@ -12,15 +12,13 @@ use Rattle.md_engine.specs.declared.state.thematic_break.State.TheVariants as th
 use Rattle.md_engine.specs.declared.tokenizer.Frame.{Frame}
 use Rattle.md_engine.specs.declared.tokenizer.Scratch.{Scratch}
 use Rattle.md_engine.specs.declared.tokenizer.container.Container.{Container}
-use Rattle.md_engine.specs.declared.tokenizer.held_leaf.HeldLeaf.{HeldLeaf}
-use Rattle.md_engine.specs.declared.tokenizer.held_leaf.HeldLeaf.TheVariants as held_leaf
 use Rattle.md_engine.specs.Scheme.{After, EndsLater, Fits, Grown, Scheme, Spot, after_all, moved_to, seen, spot, spot_at}
 use Rattle.md_engine.specs.World.{Setting, World, after, looks}
 use Rattle.md_engine.proofs.Falls.{later, later_at, passed, passing_at}
 use Rattle.md_engine.proofs.Local.{accepts, begins_try, consumes, refuses, refuses_later, turns}
 use Rattle.md_engine.proofs.Points.{grown-same, stays, takes, takes_past}
 use Rattle.md_containers.specs.Interrupts.{interrupts}
-use Rattle.md_containers.specs.Item.{IsFilled, after_code, before_code, before_ordered_code, behind_break, blank_code}
+use Rattle.md_containers.specs.Item.{IsFilled, after_code, before_code, before_ordered_code, blank_code}
 use Rattle.md_containers.specs.Item.{bullet_code, cont_blank_code, cont_filled_code, cont_start_code, filled_transition}
 use Rattle.md_containers.specs.Item.{indent_code, indent_ready, inside_code, is_item_marker, item_level, item_rank}
 use Rattle.md_containers.specs.Item.{item_ready, item_scheme, item_transition, item_tries, least_width, marker_code, may_break, refused}
@@ -68,19 +66,17 @@ back_later : (w : World) (K : After) (s : Scratch) (t : Setting) → EndsLater I
     later_ready (spot_at t w.point s) K
 back_later w K s t e is up = (is, passing_at IsRest IsRest (spot w) K w.point t s up (stays t.limit w.point) e)
 
-good_break : (T : Scheme) (w : World) (l : HeldLeaf) → w.flags.leaf ≡ l → ItemFits T →
-    later_ready (spot w) (after_all T w.frames) →
+good_break : (T : Scheme) (w : World) → ItemFits T → later_ready (spot w) (after_all T w.frames) →
     Does T (n.ListItem its.Before) w (bullet_code w true)
-good_break T w held_leaf.None e has r =
+good_break T w has r =
     let K = after_all T w.frames in
     let f : Frame = record {
-      ok = behind_break held_leaf.None;
+      ok = Nok;
       nok = Next (n.ListItem its.BeforeUnordered);
       is_check = true;
       events_len = length w.events;
       point = w.point;
-    } in
-    rw e (
+    } in (
       begins_try T item_scheme break_scheme _ (n.ThematicBreak thematic_break.Start) w IsRest IsRest w.events w.scratch f
           (has.each its.Before) (has.breaks.each thematic_break.Start) tt (has.each its.BeforeUnordered) refl
           (record {
@@ -94,34 +90,10 @@ good_break T w held_leaf.None e has r =
           (λ K e. (r.0, e)) (omega arith) (omega arith) (omega arith),
       refl,
     )
-good_break T w held_leaf.Text e has r =
-    let K = after_all T w.frames in
-    let f : Frame = record {
-      ok = behind_break held_leaf.Text;
-      nok = Next (n.ListItem its.BeforeUnordered);
-      is_check = true;
-      events_len = length w.events;
-      point = w.point;
-    } in
-    rw e (
-      begins_try T item_scheme break_scheme _ (n.ThematicBreak thematic_break.Start) w IsRest IsRest w.events w.scratch f
-          (has.each its.Before) (has.breaks.each thematic_break.Start) (has.each its.BeforeOrdered)
-          (has.each its.BeforeUnordered) refl
-          (record {
-            ok = λ s q t is up way. back_later w K s t r.1 is up;
-            ok_level = omega arith;
-            ok_rank = λ s t is up. omega arith;
-            nok = λ s t is up. back_later w K s t r.1 is up;
-            nok_level = omega arith;
-            nok_rank = λ s t is up. omega arith;
-          })
-          (λ K e. (r.0, e)) (omega arith) (omega arith) (omega arith),
-      refl,
-    )
 
 good_bullet : (T : Scheme) (w : World) (x : Bool) → ItemFits T → later_ready (spot w) (after_all T w.frames) →
     Does T (n.ListItem its.Before) w (bullet_code w x)
-good_bullet T w true has r = good_break T w w.flags.leaf refl has r
+good_bullet T w true has r = good_break T w has r
 good_bullet T w false has r = (
   turns T item_scheme _ _ w w.events w.scratch (has.each its.Before) (has.each its.BeforeUnordered) r (omega arith)
       (omega arith),

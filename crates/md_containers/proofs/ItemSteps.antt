@@ -19,15 +19,13 @@ use Rattle.md_engine.specs.declared.state.space_or_tab.State.TheVariants as spac
 use Rattle.md_engine.specs.declared.state.thematic_break.State.TheVariants as thematic_break
 use Rattle.md_engine.specs.declared.tokenizer.Frame.{Frame}
 use Rattle.md_engine.specs.declared.tokenizer.Scratch.{Scratch}
-use Rattle.md_engine.specs.declared.tokenizer.held_leaf.HeldLeaf.{HeldLeaf}
-use Rattle.md_engine.specs.declared.tokenizer.held_leaf.HeldLeaf.TheVariants as held_leaf
 use Rattle.md_engine.specs.Meaning.{Accepts, Behaviour, Cell, Feed, Here, Outcome, Refuses, Steps, goes, here, resume}
 use Rattle.md_engine.specs.Place.{is_ending}
 use Rattle.md_engine.specs.Scheme.{After, spot}
 use Rattle.md_engine.specs.World.{Flags, World, after}
 use Rattle.md_engine.proofs.StepOf.{Sees, ahead, begins_only, cell_here, moves, passes}
 use Rattle.md_containers.specs.Interrupts.{interrupts}
-use Rattle.md_containers.specs.Item.{after_code, before_code, before_ordered_code, behind_break, blank_code, bullet_code}
+use Rattle.md_containers.specs.Item.{after_code, before_code, before_ordered_code, blank_code, bullet_code}
 use Rattle.md_containers.specs.Item.{cont_blank_code, cont_filled_code, cont_start_code, ends_value, filled_transition}
 use Rattle.md_containers.specs.Item.{indent_code, inside_code, is_item_marker, item_gone_on, item_ready}
 use Rattle.md_containers.specs.Item.{item_transition, least_width, marker_code, may_break, prefix_other_code, sees, unseen}
@@ -154,40 +152,18 @@ break-outcome B options c cs h has on e =
     ∙ at-none parts.ThematicBreak options.constructs.thematic_break before_marker options (c ∷ cs) h on
     (bullet-dark c.byte e)
 
-value-other : (c : Cell) (cs : List Cell) (h : Here) → is_digit c.byte ≡ false →
-    at_value (c ∷ cs) h ≡ Refuses h.scratch (record h.flags { leaf = held_leaf.Text })
-unfolding at_value
-value-other c cs h e = rw e refl
-
--- behind a break the leaf is what it was
-restored-leaf : (B : Behaviour) (options : ParseOptions) (c : Cell) (cs : List Cell) (h : Here) (l : HeldLeaf) →
-    HasItem B options → is_bullet c.byte ≡ true → h.flags.leaf ≡ l →
-    goes B (behind_break l) (c ∷ cs) (record h { flags = record h.flags { leaf = held_leaf.None } }) ≡
-    Refuses h.scratch h.flags
-restored-leaf B options c cs h held_leaf.None has e is =
-    ap (λ (l : HeldLeaf). Refuses h.scratch (record h.flags { leaf = l })) (sym is)
-restored-leaf B options c cs h held_leaf.Text has e is =
-    has.each its.BeforeOrdered _ _ ∙ value-other c cs _ (bullet-no_digit c.byte e)
-    ∙ ap (λ (l : HeldLeaf). Refuses h.scratch (record h.flags { leaf = l })) (sym is)
-
 break-checked : (B : Behaviour) (feed : Feed) (w : World) (c : Cell) (cs : List Cell) (x : Bool) →
     HasItem B w.setting.options → IsRest w.scratch → feed w.point ≡ c ∷ cs → is_bullet c.byte ≡ true →
     is_rule (line_bytes (c ∷ cs)) ≡ x →
     cond x (Refuses w.scratch w.flags) (at_bullet (c ∷ cs) (here w)) ≡
-    resume B feed w.events (frame_here (behind_break w.flags.leaf) (Next (n.ListItem its.BeforeUnordered)) true w)
+    resume B feed w.events (frame_here Nok (Next (n.ListItem its.BeforeUnordered)) true w)
     (cond x (broken Apart c.byte (c ∷ cs) (entered_here parts.ThematicBreak (here w)))
     (Refuses (without_marker w.scratch) w.flags))
 break-checked B feed w c cs true has is next e f =
     let rest : without_marker w.scratch ≡ w.scratch = ap without_marker is ∙ sym is in
     sym
-    (went-back B (behind_break w.flags.leaf) feed w (without_marker w.scratch)
-    (record w.flags { leaf = held_leaf.None })
-    ∙ ap₂
-    (λ (cells : List Cell) (s : Scratch).
-    goes B (behind_break w.flags.leaf) cells
-    (record (here w) { scratch = s; flags = record w.flags { leaf = held_leaf.None } }))
-    next rest
-    ∙ restored-leaf B w.setting.options c cs (here w) w.flags.leaf has e refl)
+    (went-back B Nok feed w (without_marker w.scratch) w.flags
+    ∙ ap (λ (s : Scratch). Refuses s w.flags) rest)
 break-checked B feed w c cs false has is next e f =
     let rest : without_marker w.scratch ≡ w.scratch = ap without_marker is ∙ sym is in
     sym
@@ -206,13 +182,13 @@ bullet_steps B feed w c cs true has s is next e f =
     (and_parts w.setting.options.constructs.thematic_break (not (nat_eq c.byte plus || sees_other w c.byte)) f).0 in
     let rule : Bool = is_rule (line_bytes (c ∷ cs)) in
     begins_only B feed _ _ w (bullet_code w true).world
-    (frame_here (behind_break w.flags.leaf) (Next (n.ListItem its.BeforeUnordered)) true w) refl refl
+    (frame_here Nok (Next (n.ListItem its.BeforeUnordered)) true w) refl refl
     (has.each its.Before _ _ ∙ ap (λ (x : List Cell). behind_indent w.setting.options x (here w)) next
     ∙ indent-bullet w.setting.options c cs (here w) e
     ∙ ap (λ (x : Bool). cond (x && rule) (Refuses w.scratch w.flags) (at_bullet (c ∷ cs) (here w))) on
     ∙ break-checked B feed w c cs rule has is next e refl
     ∙ ap
-    (resume B feed w.events (frame_here (behind_break w.flags.leaf) (Next (n.ListItem its.BeforeUnordered)) true w))
+    (resume B feed w.events (frame_here Nok (Next (n.ListItem its.BeforeUnordered)) true w))
     (sym
     (ap (λ (x : List Cell). B (n.ThematicBreak thematic_break.Start) x (here w)) next
     ∙ break-outcome B w.setting.options c cs (here w) has on e)))
@@ -278,7 +254,7 @@ value-taken feed w h None e = cc
 value-taken feed w h (Some b) e = rw e refl
 
 value-none : (feed : Feed) (w : World) (h : Here) (o : Option ℕ) → sees is_digit o ≡ false →
-    at_value (ahead feed w o) h ≡ Refuses h.scratch (record h.flags { leaf = held_leaf.Text })
+    at_value (ahead feed w o) h ≡ Refuses h.scratch h.flags
 unfolding at_value
 value-none feed w h None e = refl
 value-none feed w h (Some b) e = rw e refl

@@ -6,8 +6,8 @@ use Rattle.md_engine.specs.World.{Flags}
 
 -- whether a container that opens behind all others interrupts it
 abbrev pub is_interrupted : HeldLeaf → Bool
-is_interrupted held_leaf.None = false
 is_interrupted held_leaf.Text = true
+is_interrupted _ = false
 
 -- the leaf that is open is interrupted by what opens, since all containers went on: where one did not, the leaf ends
 -- with it

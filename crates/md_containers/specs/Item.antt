@@ -14,8 +14,6 @@ use Rattle.md_engine.specs.declared.state.thematic_break.State.TheVariants as th
 use Rattle.md_engine.specs.declared.tokenizer.Scratch.{Scratch}
 use Rattle.md_engine.specs.declared.tokenizer.TheConstants.Scratch.{REST}
 use Rattle.md_engine.specs.declared.tokenizer.container.Container.{Container}
-use Rattle.md_engine.specs.declared.tokenizer.held_leaf.HeldLeaf.{HeldLeaf}
-use Rattle.md_engine.specs.declared.tokenizer.held_leaf.HeldLeaf.TheVariants as held_leaf
 use Rattle.md_engine.specs.Scheme.{After, Ends, EndsLater, Rank, Scheme, Spot, ranked, seen}
 use Rattle.md_engine.specs.World.{Flags, World}
 use Rattle.md_containers.specs.Interrupts.{interrupts}
@@ -68,16 +66,11 @@ abbrev pub start_transition : World → Transition
 start_transition w =
     leaf.start_transition ListItem (n.ListItem its.Before) w.setting.options.constructs.list_item w
 
--- where a thematic break stands: a leaf that it has ended is open again
-abbrev pub behind_break : HeldLeaf → State
-behind_break held_leaf.None = Nok
-behind_break held_leaf.Text = Next (n.ListItem its.BeforeOrdered)
-
 -- at a bullet, by whether a thematic break may stand here
 abbrev pub bullet_code : World → Bool → Transition
 bullet_code w true = record {
   to = Retry (n.ThematicBreak thematic_break.Start);
-  world = checked w (behind_break w.flags.leaf) (Next (n.ListItem its.BeforeUnordered));
+  world = checked w Nok (Next (n.ListItem its.BeforeUnordered));
 }
 bullet_code w false = goes_to its.BeforeUnordered w
 
@@ -93,10 +86,10 @@ before_code w (Some b) =
     else if is_digit b && (not (interrupts w.flags) || (b == 49)) then goes_to its.BeforeOrdered w
     else refused w
 
--- by whether a digit stands here; elsewhere a break does, that has ended the text
+-- by whether a digit stands here
 abbrev pub before_ordered_code : World → Bool → Transition
 before_ordered_code w true = goes_to its.Value (entered (entered w ListItemPrefix) ListItemValue)
-before_ordered_code w false = refused (record w { flags = record w.flags { leaf = held_leaf.Text } })
+before_ordered_code w false = refused w
 
 -- by whether one more digit is taken, and whether the value ends
 abbrev pub value_code : World → Bool → Bool → Transition

@@ -8,7 +8,6 @@ use Rattle.md_engine.specs.declared.event.Point.{Point}
 use Rattle.md_engine.specs.declared.state.Name.TheVariants as n
 use Rattle.md_engine.specs.declared.state.list_item.State.{State as ItemState}
 use Rattle.md_engine.specs.declared.state.list_item.State.TheVariants as its
-use Rattle.md_engine.specs.declared.tokenizer.held_leaf.HeldLeaf.TheVariants as held_leaf
 use Rattle.md_engine.specs.Meaning.{Accepts, Behaviour, Cell, Here, Outcome, Refuses}
 use Rattle.md_containers.specs.Interrupts.{interrupts}
 use Rattle.md_containers.specs.Item.{ends_value, is_item_marker, item_gone_on, item_held, least_width, unseen}
@@ -121,14 +120,14 @@ in_value cells h =
       scratch = record h.scratch { size = h.scratch.size + digits_size room cells };
     })
 
--- at the digits; where none stands, text that a break has ended is open again
+-- at the digits
 unfoldable pub at_value : List Cell → Here → Outcome
-at_value [] h = Refuses h.scratch (record h.flags { leaf = held_leaf.Text })
+at_value [] h = Refuses h.scratch h.flags
 at_value (c ∷ cs) h =
     if is_digit c.byte
     then in_value (c ∷ cs)
     (record h { events = h.events ++ enter ListItemPrefix h.point ∷ enter ListItemValue h.point ∷ [] })
-    else Refuses h.scratch (record h.flags { leaf = held_leaf.Text })
+    else Refuses h.scratch h.flags
 
 -- at a bullet
 unfoldable pub at_bullet : List Cell → Here → Outcome

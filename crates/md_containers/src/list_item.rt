@@ -38,7 +38,7 @@ use md_engine::state::list_item::State as ItemState;
 use md_engine::state::thematic_break::State as BreakState;
 use md_engine::state::{Name as StateName, State};
 use md_engine::stay::Stay;
-use md_engine::tokenizer::{HeldLeaf, Tokenizer, Whitespace};
+use md_engine::tokenizer::{Tokenizer, Whitespace};
 use md_leaves::blank_line::ends_line;
 use md_seam::space_or_tab::{
     is_space_or_tab, look_behind, sees_other, small_indent, space_or_tab_min_max,
@@ -136,13 +136,8 @@ pub fn before(tokenizer: &mut Tokenizer) -> State
         if !may_break(tokenizer, byte) {
             return State::Retry(StateName::ListItem(ItemState::BeforeUnordered));
         }
-        // A break that is found has ended the leaf in front of it: text is opened again, since the line is read anew.
-        let is_break = match tokenizer.flags.leaf {
-            HeldLeaf::None => State::Nok,
-            HeldLeaf::Text => State::Next(StateName::ListItem(ItemState::BeforeOrdered)),
-        };
         or_error!(tokenizer.check(
-            is_break,
+            State::Nok,
             State::Next(StateName::ListItem(ItemState::BeforeUnordered))
         ));
         State::Retry(StateName::ThematicBreak(BreakState::Start))
@@ -169,8 +164,7 @@ pub fn before_unordered(tokenizer: &mut Tokenizer) -> State
     State::Retry(StateName::ListItem(ItemState::Marker))
 }
 
-/// At the value of an ordered item. Where no digit stands, a thematic break does, which is no item: the text that it was
-/// found in is open again.
+/// At the value of an ordered item.
 ///
 /// ```markdown
 /// > | 1. a
@@ -188,10 +182,7 @@ pub fn before_ordered(tokenizer: &mut Tokenizer) -> State
             or_error!(tokenizer.enter(Name::ListItemValue));
             State::Retry(StateName::ListItem(ItemState::Value))
         }
-        _ => {
-            tokenizer.flags.leaf = HeldLeaf::Text;
-            State::Nok
-        }
+        _ => State::Nok,
     }
 }
 

@@ -12,7 +12,6 @@ use Rattle.md_engine.specs.declared.state.thematic_break.State.TheVariants as it
 use Rattle.md_engine.specs.declared.state.State.TheVariants.{Nok, Next, Retry}
 use Rattle.md_engine.specs.declared.tokenizer.Frame.{Frame}
 use Rattle.md_engine.specs.declared.tokenizer.Scratch.{Scratch}
-use Rattle.md_engine.specs.declared.tokenizer.held_leaf.HeldLeaf.TheVariants as held_leaf
 use Rattle.md_engine.specs.Meaning.{Accepts, Behaviour, Cell, Feed, Here, Refuses, Steps, here}
 use Rattle.md_engine.specs.Scheme.{After, spot}
 use Rattle.md_engine.specs.World.{World, after}
@@ -119,7 +118,6 @@ at_break-end : (feed : Feed) (w : World) (h : Here) (o : Option ℕ) → ends_li
     (record h {
       events = h.events ++ exit ThematicBreak h.point ∷ [];
       scratch = without_marker h.scratch;
-      flags = record h.flags { leaf = held_leaf.None };
     })
     (ahead feed w o)
 unfolding at_break in_break
@@ -132,7 +130,6 @@ at_break-end feed w h (Some b) e = go (nat_eq b 10) refl e
         (record h {
           events = h.events ++ exit ThematicBreak h.point ∷ [];
           scratch = without_marker h.scratch;
-          flags = record h.flags { leaf = held_leaf.None };
         })
         (ahead feed w (Some b))
     go true is e = let ten : b ≡ 10 = eqb-true b 10 is in rw (ten, marks-none, add-zero, e, append-nil) refl

@@ -17,7 +17,6 @@ use Rattle.md_engine.specs.declared.state.State.{State}
 use Rattle.md_engine.specs.declared.state.State.TheVariants.{Next}
 use Rattle.md_engine.specs.declared.tokenizer.Frame.{Frame}
 use Rattle.md_engine.specs.declared.tokenizer.Scratch.{Scratch}
-use Rattle.md_engine.specs.declared.tokenizer.held_leaf.HeldLeaf.TheVariants as held_leaf
 use Rattle.md_engine.specs.Meaning.{Accepts, Behaviour, Cell, Feed, Here, Refuses, Steps, goes, here}
 use Rattle.md_engine.specs.Scheme.{After, spot}
 use Rattle.md_engine.specs.World.{World, after}
@@ -215,7 +214,6 @@ line-ends : (feed : Feed) (w : World) (h : Here) (o : Option ℕ) → ends_line 
     Accepts
     (record h {
       events = h.events ++ exit parts.HeadingAtx h.point ∷ [];
-      flags = record h.flags { leaf = held_leaf.None };
     })
     (ahead feed w o)
 unfolding at_break in_heading

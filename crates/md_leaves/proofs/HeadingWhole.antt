@@ -7,7 +7,6 @@ use Rattle.md_engine.specs.declared.event.Event.{Event}
 use Rattle.md_engine.specs.declared.event.Name.TheVariants.{HeadingAtx, SpaceOrTab}
 use Rattle.md_engine.specs.declared.event.Point.{Point}
 use Rattle.md_engine.specs.declared.tokenizer.Scratch.{Scratch}
-use Rattle.md_engine.specs.declared.tokenizer.held_leaf.HeldLeaf.TheVariants as held_leaf
 use Rattle.md_engine.specs.Meaning.{Accepts, Cell, Here, Outcome, Refuses}
 use Rattle.md_leaves.specs.HeadingRule.{Apart, before_opening, heading_at, heading_inside, in_heading, is_heading}
 use Rattle.md_leaves.specs.HeadingRule.{is_heading_line, runs}
@@ -30,7 +29,6 @@ taken_line inside cells h =
     (record h {
       events = h.events ++ around HeadingAtx h.point p inside;
       point = p;
-      flags = record h.flags { leaf = held_leaf.None };
     })
     (from_ending cells)
 

@@ -8,7 +8,6 @@ use Rattle.md_engine.specs.declared.state.thematic_break.State.{State as BreakSt
 use Rattle.md_engine.specs.declared.state.thematic_break.State.TheVariants as its
 use Rattle.md_engine.specs.declared.state.State.TheVariants.{Ok, Nok, Next, Retry}
 use Rattle.md_engine.specs.declared.tokenizer.Scratch.{Scratch}
-use Rattle.md_engine.specs.declared.tokenizer.held_leaf.HeldLeaf.TheVariants as held_leaf
 use Rattle.md_engine.specs.Scheme.{After, Ends, Rank, Scheme, Spot, cells_before, ranked, seen}
 use Rattle.md_engine.specs.World.{World}
 use Rattle.md_leaves.specs.LeafStart as leaf
@@ -41,13 +40,8 @@ before_code w (Some b) =
 abbrev pub at_break_code : World → Bool → Bool → Transition
 at_break_code w true done =
     record { to = Retry (n.ThematicBreak its.Sequence); world = entered w ThematicBreakSequence }
-at_break_code w false true = record {
-  to = Ok;
-  world = record (exited w ThematicBreak) {
-    scratch = without_marker w.scratch;
-    flags = record w.flags { leaf = held_leaf.None };
-  };
-}
+at_break_code w false true =
+    record { to = Ok; world = record (exited w ThematicBreak) { scratch = without_marker w.scratch } }
 at_break_code w false false = record { to = Nok; world = record w { scratch = without_marker w.scratch } }
 
 -- by whether the marker stands here, and whether whitespace does

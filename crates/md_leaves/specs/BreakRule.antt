@@ -9,7 +9,6 @@ use Rattle.md_engine.specs.declared.event.Point.{Point}
 use Rattle.md_engine.specs.declared.state.Name.TheVariants as n
 use Rattle.md_engine.specs.declared.state.thematic_break.State.{State as BreakState}
 use Rattle.md_engine.specs.declared.state.thematic_break.State.TheVariants as its
-use Rattle.md_engine.specs.declared.tokenizer.held_leaf.HeldLeaf.TheVariants as held_leaf
 use Rattle.md_engine.specs.Meaning.{Accepts, Behaviour, Cell, Here, Outcome, Refuses}
 use Rattle.md_leaves.specs.LeafStart.{start_at}
 use Rattle.md_leaves.specs.Break.{without_marker}
@@ -48,7 +47,6 @@ broken run m cells h =
       events = h.events ++ runs run m (line_cells cells) h.point ++ exit ThematicBreak p ∷ [];
       point = p;
       scratch = without_marker h.scratch;
-      flags = record h.flags { leaf = held_leaf.None };
     }) (from_ending cells)
 
 -- how many of the marker there are

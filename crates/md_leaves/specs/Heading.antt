@@ -12,7 +12,6 @@ use Rattle.md_engine.specs.declared.state.heading_atx.State.{State as HeadingSta
 use Rattle.md_engine.specs.declared.state.heading_atx.State.TheVariants as its
 use Rattle.md_engine.specs.declared.state.State.TheVariants.{Ok, Nok, Next, Retry}
 use Rattle.md_engine.specs.declared.tokenizer.Scratch.{Scratch}
-use Rattle.md_engine.specs.declared.tokenizer.held_leaf.HeldLeaf.TheVariants as held_leaf
 use Rattle.md_engine.specs.Scheme.{After, Ends, Rank, Scheme, Spot, ranked, seen}
 use Rattle.md_engine.specs.World.{World, registered}
 use Rattle.md_leaves.specs.LeafStart as leaf
@@ -64,10 +63,7 @@ at_break_code is_name w true false ending =
     record { to = Retry (n.HeadingAtx its.Data); world = entered_link w Data heading_link }
 at_break_code is_name w false hash true = record {
   to = Ok;
-  world = record (exited w HeadingAtx) {
-    resolvers = registered is_name w.resolvers HeadingResolver;
-    flags = record w.flags { leaf = held_leaf.None };
-  };
+  world = record (exited w HeadingAtx) { resolvers = registered is_name w.resolvers HeadingResolver };
 }
 at_break_code is_name w false hash false = record { to = Nok; world = w }
 

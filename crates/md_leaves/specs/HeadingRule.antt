@@ -9,7 +9,6 @@ use Rattle.md_engine.specs.declared.event.Point.{Point}
 use Rattle.md_engine.specs.declared.state.Name.TheVariants as n
 use Rattle.md_engine.specs.declared.state.heading_atx.State.{State as HeadingState}
 use Rattle.md_engine.specs.declared.state.heading_atx.State.TheVariants as its
-use Rattle.md_engine.specs.declared.tokenizer.held_leaf.HeldLeaf.TheVariants as held_leaf
 use Rattle.md_engine.specs.Meaning.{Accepts, Behaviour, Cell, Here, Outcome, Refuses}
 use Rattle.md_leaves.specs.LeafStart.{start_at}
 use Rattle.md_leaves.specs.Heading.{heading_link, without_size}
@@ -66,7 +65,6 @@ in_heading run cells h =
     (record h {
       events = h.events ++ runs run (line_cells cells) h.point ++ exit HeadingAtx p ∷ [];
       point = p;
-      flags = record h.flags { leaf = held_leaf.None };
     })
     (from_ending cells)
 

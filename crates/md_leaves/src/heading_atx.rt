@@ -35,7 +35,7 @@ use md_engine::state::heading_atx::State as HeadingState;
 use md_engine::state::{Name as StateName, State};
 use md_engine::stay::Stay;
 use md_engine::subtokenize::Subresult;
-use md_engine::tokenizer::{HeldLeaf, Tokenizer};
+use md_engine::tokenizer::Tokenizer;
 use md_seam::space_or_tab::{is_one_space, is_space_or_tab, space_or_tab, take_one_space};
 
 /// An opening sequence has at most so many `#`.
@@ -160,7 +160,6 @@ pub fn at_break(tokenizer: &mut Tokenizer) -> State
         None | Some(b'\n') => {
             or_error!(tokenizer.exit(Name::HeadingAtx));
             or_error!(tokenizer.register_resolver(ResolveName::HeadingAtx));
-            tokenizer.flags.leaf = HeldLeaf::None;
             State::Ok
         }
         // All whitespace lies behind.

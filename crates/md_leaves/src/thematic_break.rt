@@ -23,7 +23,7 @@ use md_engine::or_error;
 use md_engine::state::thematic_break::State as BreakState;
 use md_engine::state::{Name as StateName, State};
 use md_engine::stay::Stay;
-use md_engine::tokenizer::{HeldLeaf, Tokenizer};
+use md_engine::tokenizer::Tokenizer;
 use md_seam::space_or_tab::{is_space_or_tab, small_indent, space_or_tab_min_max};
 
 /// A break has at least so many markers.
@@ -109,7 +109,6 @@ pub fn at_break(tokenizer: &mut Tokenizer) -> State
     tokenizer.scratch.size = 0;
     if is_break {
         or_error!(tokenizer.exit(Name::ThematicBreak));
-        tokenizer.flags.leaf = HeldLeaf::None;
         State::Ok
     } else {
         State::Nok

@@ -14,7 +14,7 @@ use Rattle.md_seam.specs.Spaces.{IsRest, small_indent}
 use Rattle.md_seam.proofs.SpacesGoods.{rest-calm}
 use Rattle.markdown_blocks.specs.Leaf.HeadingAtx.{heading_leaf}
 use Rattle.markdown_blocks.proofs.FromEnding.{from_ending-again, from_ending-shrinks}
-use Rattle.markdown_blocks.proofs.LeafLaws.{Shrinks, cond-shrinks, shut_line}
+use Rattle.markdown_blocks.proofs.LeafLaws.{Shrinks, cond-shrinks, whole_line}
 use Rattle.markdown_blocks.proofs.LeafStarts.{start-shrinks}
 
 -- a line where another byte than `#` stands first behind whitespace holds no heading
@@ -27,7 +27,7 @@ trial-looked options cells b seen e =
 -- a line that holds a heading is taken
 pub trial-took : (options : ParseOptions) (cells : List Cell) (h : Here) → IsRest h.scratch →
     is_heading_line options cells ≡ true →
-    heading_at options cells h ≡ shut_line (heading_leaf.adds options cells h.point) cells h
+    heading_at options cells h ≡ whole_line (heading_leaf.adds options cells h.point) cells h
 trial-took options cells h is e = heading-taken options cells h (rest-calm h.scratch is ∙ sym is) e
 
 -- any other line is refused

@@ -8,7 +8,6 @@ use Rattle.md_engine.specs.declared.event.Event.{Event}
 use Rattle.md_engine.specs.declared.event.Name.TheVariants as n
 use Rattle.md_engine.specs.declared.event.Point.{Point}
 use Rattle.md_engine.specs.declared.tokenizer.Scratch.{Scratch}
-use Rattle.md_engine.specs.declared.tokenizer.held_leaf.HeldLeaf.TheVariants as held_leaf
 use Rattle.md_engine.specs.Meaning.{Accepts, Cell, Here, Outcome, Refuses}
 use Rattle.md_leaves.specs.Break.{may_begin, without_marker}
 use Rattle.md_leaves.specs.BreakRule.{Apart, before_marker, break_at, broken, runs}
@@ -24,7 +23,7 @@ use Rattle.md_seam.proofs.WhiteSteps.{behind_white}
 use Rattle.markdown_blocks.specs.Leaf.ThematicBreak.{break_inside, first_cell, is_break}
 use Rattle.markdown_blocks.proofs.FromEnding.{from_ending-again, from_ending-shrinks}
 use Rattle.markdown_blocks.proofs.LeafStarts.{start-shrinks}
-use Rattle.markdown_blocks.proofs.LeafLaws.{Shrinks, cond-shrinks, shut_line}
+use Rattle.markdown_blocks.proofs.LeafLaws.{Shrinks, cond-shrinks, whole_line}
 
 -- what stands in a break with no indent, and with one
 inside-none : (options : ParseOptions) (cells : List Cell) (p : Point) → begins_white cells ≡ false →
@@ -93,7 +92,7 @@ break-looked options cells b seen e =
 pub break-took : (options : ParseOptions) (cells : List Cell) (h : Here) → IsRest h.scratch →
     is_break options cells ≡ true →
     break_at options cells h ≡
-    shut_line (around n.ThematicBreak h.point (line_end cells h.point) (break_inside options cells h.point)) cells h
+    whole_line (around n.ThematicBreak h.point (line_end cells h.point) (break_inside options cells h.point)) cells h
 break-took options cells h is e = go (begins_white cells) refl
   where
     room : ℕ
@@ -119,11 +118,11 @@ break-took options cells h is e = go (begins_white cells) refl
     -- what it is up to its scratch, its events and its point
     new : List Event → Point → Scratch → List Cell → Outcome
     new es x s rest =
-        Accepts (record { events = es; point = x; scratch = s; flags = record h.flags { leaf = held_leaf.None } }) rest
+        Accepts (record { events = es; point = x; scratch = s; flags = h.flags }) rest
 
     go : (x : Bool) → begins_white cells ≡ x →
         break_at options cells h ≡
-        shut_line
+        whole_line
         (around n.ThematicBreak h.point (line_end cells h.point) (break_inside options cells h.point)) cells h
     go true s =
         let at : Here = behind_white room cells (entered_here n.ThematicBreak h) in

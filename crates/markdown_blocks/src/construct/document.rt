@@ -307,8 +307,8 @@ fn takes_lazy(leaf: HeldLeaf) -> bool
     ensures { result ≡ takes_lazy leaf }
 {
     match leaf {
-        HeldLeaf::None => false,
         HeldLeaf::Text => true,
+        _ => false,
     }
 }
 

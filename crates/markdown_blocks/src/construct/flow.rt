@@ -17,7 +17,7 @@ ghost use Rattle.md_engine.specs.declared.state.State.{State};
 ghost use Rattle.md_engine.specs.declared.state.flow.State.{State as FlowState};
 ghost use Rattle.markdown_blocks.specs.Flow.{after_transition, before_content_transition, before_transition};
 ghost use Rattle.markdown_blocks.specs.Flow.{blank_line_after_transition, blank_line_before_transition};
-ghost use Rattle.markdown_blocks.specs.Flow.{flow_own_transition, start_transition};
+ghost use Rattle.markdown_blocks.specs.Flow.{flow_own_transition, leaf_after_transition, start_transition};
 ghost use Rattle.markdown_blocks.specs.Registry.{LeafName, front_of, opener_front, openers, trials};
 ghost use Rattle.md_seam.specs.Transition.{IsAt, NeedsNothing};
 
@@ -97,7 +97,7 @@ pub fn before_heading_atx(tokenizer: &mut Tokenizer) -> State
         return State::Retry(StateName::Flow(FlowState::BeforeThematicBreak));
     }
     or_error!(tokenizer.attempt(
-        State::Next(StateName::Flow(FlowState::After)),
+        State::Next(StateName::Flow(FlowState::LeafAfter)),
         State::Next(StateName::Flow(FlowState::BeforeThematicBreak))
     ));
     State::Retry(StateName::HeadingAtx(HeadingState::Start))
@@ -119,7 +119,7 @@ pub fn before_thematic_break(tokenizer: &mut Tokenizer) -> State
         return State::Retry(StateName::Flow(FlowState::BeforeContent));
     }
     or_error!(tokenizer.attempt(
-        State::Next(StateName::Flow(FlowState::After)),
+        State::Next(StateName::Flow(FlowState::LeafAfter)),
         State::Next(StateName::Flow(FlowState::BeforeContent))
     ));
     State::Retry(StateName::ThematicBreak(BreakState::Start))
@@ -152,16 +152,30 @@ pub fn blank_line_after(tokenizer: &mut Tokenizer) -> State
     ensures to { result ≡ (blank_line_after_transition (world tokenizer.old)).to }
     ensures world { world tokenizer.new ≡ (blank_line_after_transition (world tokenizer.old)).world }
 {
-    tokenizer.flags.leaf = HeldLeaf::None;
     tokenizer.flags.blank = true;
-    State::Retry(StateName::Document(DocumentState::FlowEnd))
+    leaf_after(tokenizer)
 }
 
-/// Behind any other line, at its ending or the end of the text.
+/// Behind a leaf on one line, at its ending or the end of the text: no leaf is open.
 ///
 /// ```markdown
 /// > | ***
 ///        ^
+/// ```
+pub fn leaf_after(tokenizer: &mut Tokenizer) -> State
+    requires { IsAt NeedsNothing (StateName.Flow FlowState.LeafAfter) (world tokenizer.old) }
+    ensures to { result ≡ (leaf_after_transition (world tokenizer.old)).to }
+    ensures world { world tokenizer.new ≡ (leaf_after_transition (world tokenizer.old)).world }
+{
+    tokenizer.flags.leaf = HeldLeaf::None;
+    State::Retry(StateName::Document(DocumentState::FlowEnd))
+}
+
+/// Behind a line of text, at its ending or the end of the text.
+///
+/// ```markdown
+/// > | a
+///      ^
 /// ```
 pub fn after(_tokenizer: &mut Tokenizer) -> State
     requires { IsAt NeedsNothing (StateName.Flow FlowState.After) (world _tokenizer.old) }
@@ -185,6 +199,7 @@ pub fn call(tokenizer: &mut Tokenizer, state: FlowState) -> State
         FlowState::BeforeThematicBreak => before_thematic_break(tokenizer),
         FlowState::BeforeContent => before_content(tokenizer),
         FlowState::BlankLineAfter => blank_line_after(tokenizer),
+        FlowState::LeafAfter => leaf_after(tokenizer),
         FlowState::After => after(tokenizer),
         _ => State::Nok,
     }
@@ -279,7 +294,20 @@ fn containers(tokenizer: &mut Tokenizer) -> State
     }
 }
 
-/// Behind the leaf of a line: the line ends.
+/// Behind a leaf on one line: the line ends.
+#[inline(always)]
+fn leaf_end(tokenizer: &mut Tokenizer) -> State
+    requires { IsAt NeedsNothing (StateName.Flow FlowState.LeafAfter) (world tokenizer.old) }
+    ensures runs { result ≢ State.Error →
+        RunsHere (FlowStep (λ target other. ⟦<ResolveName as PartialEq>⟧.eq other target))
+        (StateName.Flow FlowState.LeafAfter) (world tokenizer.old) result (world tokenizer.new) }
+    ensures sees { result ≢ State.Error → SeesOn result (world tokenizer.old) (world tokenizer.new) }
+{
+    leaf_after(tokenizer);
+    document::flow_end(tokenizer)
+}
+
+/// Behind a line of text: the line ends.
 #[inline(always)]
 fn line_end(tokenizer: &mut Tokenizer) -> State
     requires { IsAt NeedsNothing (StateName.Flow FlowState.After) (world tokenizer.old) }
@@ -336,6 +364,7 @@ fn call_flow(tokenizer: &mut Tokenizer, state: FlowState) -> State
     ensures sees { result ≢ State.Error → SeesOn result (world tokenizer.old) (world tokenizer.new) }
 {
     match state {
+        FlowState::LeafAfter => leaf_end(tokenizer),
         FlowState::After => line_end(tokenizer),
         FlowState::BeforeHeadingAtx => leaves(tokenizer),
         FlowState::BeforeContent => content_begins(tokenizer),

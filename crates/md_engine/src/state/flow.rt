@@ -14,5 +14,6 @@ pub enum State {
     BeforeGfmTable,
     BeforeContent,
     BlankLineAfter,
+    LeafAfter,
     After,
 }

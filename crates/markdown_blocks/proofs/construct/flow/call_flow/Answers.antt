@@ -16,6 +16,17 @@ use Rattle.markdown_blocks.proofs.construct.flow.call_flow.Goals as goal
 abbrev is_name : ResolveName → ResolveName → Bool
 is_name target other = names.ghosts.eq other target
 
+pub returns-in-LeafAfter : goal.returns-in-LeafAfter
+returns-in-LeafAfter c =
+    let w = world c.args.tokenizer.now in
+    let w' = world c.leaf_end.new.tokenizer in
+    record {
+      runs = λ fine.
+          subst (λ (x : FlowState). RunsHere (FlowStep is_name) (n.Flow x) w c.leaf_end.result w')
+          (sym c.in-LeafAfter.is) (c.leaf_end.ensures.runs fine);
+      sees = c.leaf_end.ensures.sees;
+    }
+
 pub returns-in-After : goal.returns-in-After
 returns-in-After c =
     let w = world c.args.tokenizer.now in
