@@ -4,7 +4,7 @@ use Rattle.std.proofs.Common.{Option, Some, None, length, refl, arith, ap, sym, 
 use Rattle.std.proofs.lemmas.Bool.Decides.{nat_tests}
 use Rattle.md_engine.specs.declared.event.Name.TheVariants as parts
 use Rattle.md_engine.specs.declared.state.Name.TheVariants as n
-use Rattle.md_engine.specs.declared.state.State.TheVariants.{Next}
+use Rattle.md_engine.specs.declared.state.State.TheVariants.{Nok, Next}
 use Rattle.md_engine.specs.declared.state.blank_line.State.TheVariants as blank_line
 use Rattle.md_engine.specs.declared.state.list_item.State.{State as ItemState}
 use Rattle.md_engine.specs.declared.state.list_item.State.TheVariants as its

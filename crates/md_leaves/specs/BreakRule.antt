@@ -43,11 +43,13 @@ runs White m (c ∷ cs) p =
 abbrev pub broken : Run → ℕ → List Cell → Here → Outcome
 broken run m cells h =
     let p = line_end cells h.point in
-    Accepts (record {
+    Accepts
+    (record h {
       events = h.events ++ runs run m (line_cells cells) h.point ++ exit ThematicBreak p ∷ [];
       point = p;
       scratch = without_marker h.scratch;
-    }) (from_ending cells)
+    })
+    (from_ending cells)
 
 -- how many of the marker there are
 unfoldable pub marks : ℕ → List ℕ → ℕ
