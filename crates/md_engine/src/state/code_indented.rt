@@ -5,6 +5,7 @@
 pub enum State {
     Start,
     AtBreak,
+    InsideBlank,
     Inside,
     After,
     FurtherStart,
