@@ -1,6 +1,7 @@
 pub mod Blank
 pub mod Bom
 pub mod Break
+pub mod Code
 pub mod Heading
 pub mod HeadingText
 pub mod HeadingWords
@@ -11,6 +12,7 @@ pub mod NonLazy
 pub mod BlankRule
 pub mod BomRule
 pub mod BreakRule
+pub mod CodeRule
 pub mod HeadingRule
 pub mod HeadingTitle
 pub mod NonLazyRule

@@ -1,0 +1,272 @@
+// Indented code (CommonMark 4.4), a line at a time.
+//
+//     code_indented ::= code_line *( line_ending *( blank_line line_ending ) code_line )
+//     code_line     ::= 4( space | column of a tab ) *space_or_tab text
+//     blank_line    ::= *space_or_tab
+//
+// The first line adds `Enter CodeIndented`, the `SpaceOrTab` of its four columns, and a `CodeFlowChunk` over the rest; a
+// further line the same without the first. A blank line has a `SpaceOrTab` of at most four columns, and a chunk over
+// what whitespace is left. Which lines follow one another, their endings, and where the code ends is told by what calls
+// the states: behind each line that is not blank they note where it ended.
+
+ghost use Rattle.std.specs.Prelude.{◌≡◌, ◌≢◌, IfSome, Some};
+ghost use Rattle.md_engine.specs.World.{world};
+ghost use Rattle.md_engine.specs.declared.state.Name.{Name as StateName};
+ghost use Rattle.md_engine.specs.declared.state.State.{State};
+ghost use Rattle.md_engine.specs.declared.state.code_indented.State.{State as CodeState};
+ghost use Rattle.md_leaves.specs.Code.{after_transition, at_break_transition, code_transition, further_after_transition};
+ghost use Rattle.md_leaves.specs.Code.{further_begin_transition, further_start_transition, inside_blank_transition};
+ghost use Rattle.md_leaves.specs.Code.{blank_state, inside_transition, is_code, is_free, may_begin, start_transition};
+ghost use Rattle.md_seam.specs.Look.{may_with};
+ghost use Rattle.md_seam.specs.Stays.{TakesEach};
+ghost use Rattle.md_seam.specs.Transition.{IsAt, NeedsNothing};
+
+use md_engine::event::Name;
+use md_engine::or_error;
+use md_engine::state::code_indented::State as CodeState;
+use md_engine::state::{Name as StateName, State};
+use md_engine::stay::Stay;
+use md_engine::tokenizer::{HeldLeaf, Tokenizer};
+use md_seam::space_or_tab::{is_space_or_tab, space_or_tab, space_or_tab_min_max};
+
+/// Code is indented by so many columns.
+const INDENT: usize = 4;
+
+/// Whether code may begin here, by what stands first behind whitespace: any byte may, and only the indent tells.
+pub fn may_begin(first: Option<u8>) -> bool
+    ensures { result ≡ may_with may_begin first }
+{
+    matches!(first, None | Some(_))
+}
+
+/// Whether code may begin where this leaf is open: none is. Text is not interrupted, and a leaf that the line does not
+/// go on has ended before.
+fn is_free(leaf: HeldLeaf) -> bool
+    ensures { result ≡ is_free leaf }
+{
+    matches!(leaf, HeldLeaf::None)
+}
+
+/// Whether this is code, which goes on over blank lines.
+fn is_code(leaf: HeldLeaf) -> bool
+    ensures { result ≡ is_code leaf }
+{
+    matches!(leaf, HeldLeaf::Code { .. })
+}
+
+/// Before code.
+///
+/// ```markdown
+/// > |     aaa
+///     ^
+/// ```
+pub fn start(tokenizer: &mut Tokenizer) -> State
+    requires { IsAt NeedsNothing (StateName.CodeIndented CodeState.Start) (world tokenizer.old) }
+    ensures to { result ≢ State.Error → result ≡ (start_transition (world tokenizer.old)).to }
+    ensures world { result ≢ State.Error → world tokenizer.new ≡ (start_transition (world tokenizer.old)).world }
+{
+    if tokenizer.options.constructs.code_indented
+        && is_free(tokenizer.flags.leaf)
+        && is_space_or_tab(tokenizer.current)
+    {
+        or_error!(tokenizer.enter(Name::CodeIndented));
+        space_or_tab_min_max(
+            tokenizer,
+            INDENT,
+            INDENT,
+            State::Next(StateName::CodeIndented(CodeState::AtBreak)),
+            State::Nok,
+        )
+    } else {
+        State::Nok
+    }
+}
+
+/// At the end of a line that is blank: open code goes on, and none begins.
+fn blank(tokenizer: &Tokenizer) -> State
+    ensures { result ≡ blank_state (world tokenizer.now).flags.leaf }
+{
+    if is_code(tokenizer.flags.leaf) {
+        State::Ok
+    } else {
+        State::Nok
+    }
+}
+
+/// Behind the four columns of a line.
+///
+/// ```markdown
+/// > |     aaa
+///         ^
+/// ```
+pub fn at_break(tokenizer: &mut Tokenizer) -> State
+    requires { IsAt NeedsNothing (StateName.CodeIndented CodeState.AtBreak) (world tokenizer.old) }
+    ensures to { result ≢ State.Error → result ≡ (at_break_transition (world tokenizer.old)).to }
+    ensures world { result ≢ State.Error → world tokenizer.new ≡ (at_break_transition (world tokenizer.old)).world }
+{
+    match tokenizer.current {
+        None | Some(b'\n') => blank(tokenizer),
+        Some(_) => {
+            or_error!(tokenizer.enter(Name::CodeFlowChunk));
+            State::Retry(StateName::CodeIndented(CodeState::InsideBlank))
+        }
+    }
+}
+
+/// In a chunk of which nothing but whitespace was read yet.
+///
+/// ```markdown
+/// > |       aaa
+///         ^^
+/// ```
+pub fn inside_blank(tokenizer: &mut Tokenizer) -> State
+    requires { IsAt NeedsNothing (StateName.CodeIndented CodeState.InsideBlank) (world tokenizer.old) }
+    ensures to { result ≢ State.Error → result ≡ (inside_blank_transition (world tokenizer.old)).to }
+    ensures world { result ≢ State.Error →
+        world tokenizer.new ≡ (inside_blank_transition (world tokenizer.old)).world }
+{
+    match tokenizer.current {
+        None | Some(b'\n') => {
+            or_error!(tokenizer.exit(Name::CodeFlowChunk));
+            blank(tokenizer)
+        }
+        Some(b'\t' | b' ') => {
+            tokenizer.consume();
+            State::Next(StateName::CodeIndented(CodeState::InsideBlank))
+        }
+        Some(_) => State::Retry(StateName::CodeIndented(CodeState::Inside)),
+    }
+}
+
+/// In a chunk with text.
+///
+/// ```markdown
+/// > |     aaa
+///         ^^^
+/// ```
+pub fn inside(tokenizer: &mut Tokenizer) -> State
+    requires { IsAt NeedsNothing (StateName.CodeIndented CodeState.Inside) (world tokenizer.old) }
+    ensures to { result ≢ State.Error → result ≡ (inside_transition (world tokenizer.old)).to }
+    ensures world { result ≢ State.Error → world tokenizer.new ≡ (inside_transition (world tokenizer.old)).world }
+{
+    match tokenizer.current {
+        None | Some(b'\n') => {
+            or_error!(tokenizer.exit(Name::CodeFlowChunk));
+            State::Retry(StateName::CodeIndented(CodeState::After))
+        }
+        Some(_) => {
+            tokenizer.consume();
+            State::Next(StateName::CodeIndented(CodeState::Inside))
+        }
+    }
+}
+
+/// Behind a line that is not blank: the code ends here, unless another such line goes on.
+///
+/// ```markdown
+/// > |     aaa
+///            ^
+/// ```
+pub fn after(tokenizer: &mut Tokenizer) -> State
+    requires { IsAt NeedsNothing (StateName.CodeIndented CodeState.After) (world tokenizer.old) }
+    ensures to { result ≡ (after_transition (world tokenizer.old)).to }
+    ensures world { world tokenizer.new ≡ (after_transition (world tokenizer.old)).world }
+{
+    tokenizer.flags.leaf = HeldLeaf::Code {
+        end: tokenizer.events.len(),
+    };
+    State::Ok
+}
+
+/// Before a further line.
+///
+/// ```markdown
+///   |     aaa
+/// > |     bbb
+///     ^
+/// ```
+pub fn further_start(tokenizer: &mut Tokenizer) -> State
+    requires { IsAt NeedsNothing (StateName.CodeIndented CodeState.FurtherStart) (world tokenizer.old) }
+    ensures to { result ≢ State.Error → result ≡ (further_start_transition (world tokenizer.old)).to }
+    ensures world { result ≢ State.Error →
+        world tokenizer.new ≡ (further_start_transition (world tokenizer.old)).world }
+{
+    space_or_tab_min_max(
+        tokenizer,
+        INDENT,
+        INDENT,
+        State::Next(StateName::CodeIndented(CodeState::AtBreak)),
+        State::Next(StateName::CodeIndented(CodeState::FurtherBegin)),
+    )
+}
+
+/// Before a further line that is not indented enough.
+///
+/// ```markdown
+///   |     aaa
+/// > |   bbb
+///     ^
+/// ```
+pub fn further_begin(tokenizer: &mut Tokenizer) -> State
+    requires { IsAt NeedsNothing (StateName.CodeIndented CodeState.FurtherBegin) (world tokenizer.old) }
+    ensures to { result ≢ State.Error → result ≡ (further_begin_transition (world tokenizer.old)).to }
+    ensures world { result ≢ State.Error →
+        world tokenizer.new ≡ (further_begin_transition (world tokenizer.old)).world }
+{
+    if is_space_or_tab(tokenizer.current) {
+        space_or_tab(
+            tokenizer,
+            State::Next(StateName::CodeIndented(CodeState::FurtherAfter)),
+            State::Nok,
+        )
+    } else {
+        State::Retry(StateName::CodeIndented(CodeState::FurtherAfter))
+    }
+}
+
+/// Behind its whitespace: it goes on the code if it is blank.
+///
+/// ```markdown
+///   |     aaa
+/// > |   bbb
+///       ^
+/// ```
+pub fn further_after(tokenizer: &mut Tokenizer) -> State
+    requires { IsAt NeedsNothing (StateName.CodeIndented CodeState.FurtherAfter) (world tokenizer.old) }
+    ensures to { result ≡ (further_after_transition (world tokenizer.old)).to }
+    ensures world { world tokenizer.new ≡ (further_after_transition (world tokenizer.old)).world }
+{
+    match tokenizer.current {
+        None | Some(b'\n') => State::Ok,
+        Some(_) => State::Nok,
+    }
+}
+
+/// What a state of code only takes.
+pub fn stays(state: CodeState) -> Option<Stay>
+    ensures { IfSome result (λ stay. TakesEach stay (StateName.CodeIndented state) (code_transition state)) }
+{
+    match state {
+        CodeState::InsideBlank => Some(Stay::Byte(b' ')),
+        CodeState::Inside => Some(Stay::Line),
+        _ => None,
+    }
+}
+
+/// Calls a state of code.
+pub fn call(tokenizer: &mut Tokenizer, state: CodeState) -> State
+    requires { IsAt NeedsNothing (StateName.CodeIndented state) (world tokenizer.old) }
+    ensures to { result ≢ State.Error → result ≡ (code_transition state (world tokenizer.old)).to }
+    ensures world { result ≢ State.Error → world tokenizer.new ≡ (code_transition state (world tokenizer.old)).world }
+{
+    match state {
+        CodeState::Start => start(tokenizer),
+        CodeState::AtBreak => at_break(tokenizer),
+        CodeState::InsideBlank => inside_blank(tokenizer),
+        CodeState::Inside => inside(tokenizer),
+        CodeState::After => after(tokenizer),
+        CodeState::FurtherStart => further_start(tokenizer),
+        CodeState::FurtherBegin => further_begin(tokenizer),
+        CodeState::FurtherAfter => further_after(tokenizer),
+    }
+}
