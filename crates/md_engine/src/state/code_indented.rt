@@ -11,4 +11,5 @@ pub enum State {
     FurtherStart,
     FurtherBegin,
     FurtherAfter,
+    FurtherInside,
 }
