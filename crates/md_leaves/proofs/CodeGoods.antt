@@ -4,7 +4,6 @@ use Rattle.md_engine.specs.declared.event.Name.TheVariants as parts
 use Rattle.md_engine.specs.declared.state.Name.{Name as StateName}
 use Rattle.md_engine.specs.declared.state.Name.TheVariants as n
 use Rattle.md_engine.specs.declared.state.State.TheVariants.{Ok, Next, Nok}
-use Rattle.md_engine.specs.declared.state.space_or_tab.State.TheVariants as space_or_tab
 use Rattle.md_engine.specs.declared.state.code_indented.State.{State as CodeState}
 use Rattle.md_engine.specs.declared.state.code_indented.State.TheVariants as its
 use Rattle.md_engine.specs.Scheme.{Fits, Scheme, after_all, seen, spot}
@@ -12,11 +11,10 @@ use Rattle.md_engine.specs.World.{World, looks}
 use Rattle.md_engine.proofs.Falls.{later, later_at}
 use Rattle.md_engine.proofs.Local.{accepts, begins_try, consumes, refuses, turns}
 use Rattle.md_engine.proofs.Points.{stays, takes}
-use Rattle.md_leaves.specs.Code.{at_break_code, code_scheme, code_transition}
-use Rattle.md_leaves.specs.Code.{further_after_code, further_begin_code, inside_blank_code, inside_code, is_code}
-use Rattle.md_leaves.specs.Code.{start_code}
-use Rattle.md_seam.specs.Spaces.{IsRest, any_size, asking, calmed, ends_line, rest_ready, sees_white, white_scheme}
-use Rattle.md_seam.specs.Transition.{entered, exited}
+use Rattle.md_leaves.specs.Code.{code_scheme, code_transition, further_after_code, further_begin_code}
+use Rattle.md_leaves.specs.Code.{further_inside_code, inside_blank_code, inside_code, opened, start_code}
+use Rattle.md_seam.specs.Spaces.{IsRest, ends_line, rest_ready, sees_white}
+use Rattle.md_seam.specs.Transition.{entered, exited, taken}
 use Rattle.md_seam.proofs.SpacesGoods.{Does, WhiteFits, goes-on, rest-calm, rest-none, seen-in, white_try}
 
 pub record CodeFits (T : Scheme) : Type 1 where
@@ -26,40 +24,35 @@ pub record CodeFits (T : Scheme) : Type 1 where
 good_code_start : (T : Scheme) (w : World) (x : Bool) → CodeFits T → rest_ready (spot w) (after_all T w.frames) →
     Does T (n.CodeIndented its.Start) w (start_code w x)
 good_code_start T w true has r =
-    white_try T code_scheme _ (n.CodeIndented its.AtBreak) w (entered w parts.CodeIndented).events w.scratch 4 4 IsRest
-    IsRest has.white (has.each its.Start) (has.each its.AtBreak) (rest-none w.scratch r.0)
-    (λ some. rest-calm w.scratch r.0) r.1
+    white_try T code_scheme _ (n.CodeIndented its.AtBreak) w (opened w).events w.scratch 4 4 IsRest IsRest has.white
+    (has.each its.Start) (has.each its.AtBreak) (rest-none w.scratch r.0) (λ some. rest-calm w.scratch r.0) r.1
     (λ q t up way. (rest-calm w.scratch r.0, later_at _ _ (spot w) _ q t _ up way r.1)) (omega arith) (omega arith)
     (λ t up. omega arith) (omega arith)
 good_code_start T w false has r = (refuses T _ w _ _ w.events w.scratch r.1 r.0, refl)
 
--- a blank line ends the call, with these events
-good-blank : (T : Scheme) (name : StateName) (w v : World) (x : Bool) → rest_ready (spot w) (after_all T w.frames) →
-    v ≡ record w { events = v.events } → Does T name w (record { to = cond x Ok Nok; world = v })
-good-blank T name w v true r same =
-    rw same (accepts T name w _ _ v.events w.scratch r.1 r.0, refl)
-good-blank T name w v false r same =
-    rw same (refuses T name w _ _ v.events w.scratch r.1 r.0, refl)
-
-good_code_at_break : (T : Scheme) (w : World) (x : Bool) → CodeFits T → rest_ready (spot w) (after_all T w.frames) →
-    Does T (n.CodeIndented its.AtBreak) w (at_break_code w x)
-good_code_at_break T w true has r = good-blank T _ w w (is_code w.flags.leaf) r refl
-good_code_at_break T w false has r = (
+good_code_at_break : (T : Scheme) (w : World) → CodeFits T → rest_ready (spot w) (after_all T w.frames) →
+    Does T (n.CodeIndented its.AtBreak) w (code_transition its.AtBreak w)
+good_code_at_break T w has r = (
   turns T code_scheme _ (n.CodeIndented its.InsideBlank) w (entered w parts.CodeFlowChunk).events w.scratch
       (has.each its.AtBreak) (has.each its.InsideBlank) r (omega arith) (omega arith),
   refl,
 )
 
-good_inside_blank : (T : Scheme) (w : World) (x y : Bool) → CodeFits T → rest_ready (spot w) (after_all T w.frames) →
-    sees_white (seen (spot w)) ≡ y → Does T (n.CodeIndented its.InsideBlank) w (inside_blank_code w x y)
-good_inside_blank T w true y has r e =
-    good-blank T _ w (exited w parts.CodeFlowChunk) (is_code w.flags.leaf) r refl
-good_inside_blank T w false true has r e =
+-- whitespace is taken in a chunk
+good-white : (T : Scheme) (state : CodeState) (w : World) → CodeFits T → rest_ready (spot w) (after_all T w.frames) →
+    sees_white (seen (spot w)) ≡ true →
+    Does T (n.CodeIndented state) w (record { to = Next (n.CodeIndented state); world = taken w })
+good-white T state w has r e =
     let inside = seen-in (spot w) sees_white refl e in (
-      consumes T code_scheme _ _ w w.events w.scratch (has.each its.InsideBlank) (has.each its.InsideBlank) inside
+      consumes T code_scheme _ _ w w.events w.scratch (has.each state) (has.each state) inside
           (r.0, later _ _ (spot w) _ _ _ (takes w.setting w.point inside) r.1) (omega arith),
       refl,
     )
+
+good_inside_blank : (T : Scheme) (w : World) (x y : Bool) → CodeFits T → rest_ready (spot w) (after_all T w.frames) →
+    sees_white (seen (spot w)) ≡ y → Does T (n.CodeIndented its.InsideBlank) w (inside_blank_code w x y)
+good_inside_blank T w true y has r e = (refuses T _ w _ _ w.events w.scratch r.1 r.0, refl)
+good_inside_blank T w false true has r e = good-white T its.InsideBlank w has r e
 good_inside_blank T w false false has r e = (
   turns T code_scheme _ (n.CodeIndented its.Inside) w w.events w.scratch (has.each its.InsideBlank)
       (has.each its.Inside) r (omega arith) (omega arith),
@@ -83,41 +76,39 @@ good_inside T w false has c r e =
 
 good_after : (T : Scheme) (w : World) → rest_ready (spot w) (after_all T w.frames) →
     Does T (n.CodeIndented its.After) w (code_transition its.After w)
-good_after T w r = (accepts T _ w _ _ w.events w.scratch r.1 r.0, refl)
+good_after T w r = (accepts T _ w _ _ (exited w parts.CodeIndented).events w.scratch r.1 r.0, refl)
 
 good_further_start : (T : Scheme) (w : World) → CodeFits T → rest_ready (spot w) (after_all T w.frames) →
     Does T (n.CodeIndented its.FurtherStart) w (code_transition its.FurtherStart w)
 good_further_start T w has r = (
-  begins_try T code_scheme white_scheme (n.CodeIndented its.FurtherStart) (n.SpaceOrTab space_or_tab.Start) w
-      (λ t. t ≡ calmed w.scratch) (λ t. (t ≡ calmed w.scratch) × (0 < 4)) w.events (asking 4 4 0 w.scratch)
+  begins_try T code_scheme code_scheme (n.CodeIndented its.FurtherStart) (n.CodeIndented its.Start) w IsRest IsRest
+      w.events w.scratch
       (record {
-        ok = Next (n.CodeIndented its.AtBreak);
+        ok = Ok;
         nok = Next (n.CodeIndented its.FurtherBegin);
         is_check = false;
         events_len = length w.events;
         point = w.point;
       })
-      (has.each its.FurtherStart) (has.white.each space_or_tab.Start) (has.each its.AtBreak)
-      (has.each its.FurtherBegin) refl
+      (has.each its.FurtherStart) (has.each its.Start) tt (has.each its.FurtherBegin) refl
       (record {
-        ok = λ s q t is up way. rw is (rest-calm w.scratch r.0, later_at IsRest IsRest (spot w) _ q t _ up way r.1);
+        ok = λ s q t is up way. r.1.ok s q t is up way;
         ok_level = omega arith;
         ok_rank = λ s t is up. omega arith;
         nok =
             λ s t is up.
-            rw is.0
-            (rest-calm w.scratch r.0, later_at IsRest IsRest (spot w) _ w.point t _ up (stays t.limit w.point) r.1);
+            (is, later_at IsRest IsRest (spot w) _ w.point t s up (stays t.limit w.point) r.1);
         nok_level = omega arith;
         nok_rank = λ s t is up. omega arith;
       })
-      (λ K e. (omega arith, e)) (omega arith) (omega arith) (omega arith),
+      (λ K e. (r.0, e)) (omega arith) (omega arith) (omega arith),
   refl,
 )
 
 good_further_begin : (T : Scheme) (w : World) (x : Bool) → CodeFits T → rest_ready (spot w) (after_all T w.frames) →
     Does T (n.CodeIndented its.FurtherBegin) w (further_begin_code w x)
 good_further_begin T w true has r =
-    white_try T code_scheme _ (n.CodeIndented its.FurtherAfter) w w.events w.scratch 1 any_size IsRest IsRest has.white
+    white_try T code_scheme _ (n.CodeIndented its.FurtherAfter) w w.events w.scratch 0 4 IsRest IsRest has.white
     (has.each its.FurtherBegin) (has.each its.FurtherAfter) (rest-none w.scratch r.0)
     (λ some. rest-calm w.scratch r.0) r.1
     (λ q t up way. (rest-calm w.scratch r.0, later_at _ _ (spot w) _ q t _ up way r.1)) (omega arith) (omega arith)
@@ -128,20 +119,32 @@ good_further_begin T w false has r = (
   refl,
 )
 
-good_further_after : (T : Scheme) (w : World) (x : Bool) → rest_ready (spot w) (after_all T w.frames) →
+good_further_after : (T : Scheme) (w : World) (x : Bool) → CodeFits T → rest_ready (spot w) (after_all T w.frames) →
     Does T (n.CodeIndented its.FurtherAfter) w (further_after_code w x)
-good_further_after T w true r = (accepts T _ w _ _ w.events w.scratch r.1 r.0, refl)
-good_further_after T w false r = (refuses T _ w _ _ w.events w.scratch r.1 r.0, refl)
+good_further_after T w true has r = (accepts T _ w _ _ w.events w.scratch r.1 r.0, refl)
+good_further_after T w false has r = (
+  turns T code_scheme _ (n.CodeIndented its.FurtherInside) w (entered w parts.CodeFlowChunk).events w.scratch
+      (has.each its.FurtherAfter) (has.each its.FurtherInside) r (omega arith) (omega arith),
+  refl,
+)
+
+good_further_inside : (T : Scheme) (w : World) (x y : Bool) → CodeFits T → rest_ready (spot w) (after_all T w.frames) →
+    sees_white (seen (spot w)) ≡ y → Does T (n.CodeIndented its.FurtherInside) w (further_inside_code w x y)
+good_further_inside T w true y has r e =
+    (accepts T _ w _ _ (exited w parts.CodeFlowChunk).events w.scratch r.1 r.0, refl)
+good_further_inside T w false true has r e = good-white T its.FurtherInside w has r e
+good_further_inside T w false false has r e = (refuses T _ w _ _ w.events w.scratch r.1 r.0, refl)
 
 -- each state of code
 pub code_does : (T : Scheme) (state : CodeState) (w : World) → CodeFits T → w.current ≡ looks w →
     rest_ready (spot w) (after_all T w.frames) →
     Does T (n.CodeIndented state) w (code_transition state w)
 code_does T its.Start w has c r = good_code_start T w _ has r
-code_does T its.AtBreak w has c r = good_code_at_break T w _ has r
+code_does T its.AtBreak w has c r = good_code_at_break T w has r
 code_does T its.InsideBlank w has c r = good_inside_blank T w _ _ has r (ap sees_white (sym c))
 code_does T its.Inside w has c r = good_inside T w _ has c r refl
 code_does T its.After w has c r = good_after T w r
 code_does T its.FurtherStart w has c r = good_further_start T w has r
 code_does T its.FurtherBegin w has c r = good_further_begin T w _ has r
-code_does T its.FurtherAfter w has c r = good_further_after T w _ r
+code_does T its.FurtherAfter w has c r = good_further_after T w _ has r
+code_does T its.FurtherInside w has c r = good_further_inside T w _ _ has r (ap sees_white (sym c))

@@ -17,15 +17,14 @@ use Rattle.md_engine.specs.declared.state.space_or_tab.State.TheVariants as spac
 use Rattle.md_engine.specs.declared.tokenizer.Frame.{Frame}
 use Rattle.md_engine.specs.declared.tokenizer.Scratch.{Scratch}
 use Rattle.md_engine.specs.declared.tokenizer.held_leaf.HeldLeaf.{HeldLeaf}
-use Rattle.md_engine.specs.Meaning.{Accepts, Behaviour, Cell, Feed, Here, Outcome, Refuses, Steps, goes, here, restored}
+use Rattle.md_engine.specs.Meaning.{Accepts, Behaviour, Cell, Fails, Feed, Here, Outcome, Refuses, Steps, goes, here, restored}
 use Rattle.md_engine.specs.Meaning.{resume}
 use Rattle.md_engine.specs.World.{World, after}
 use Rattle.md_engine.proofs.StepOf.{Sees, ahead, begins, begins_only, cell_here, moves, passes}
-use Rattle.md_leaves.specs.Code.{at_break_code, blank_state, code_transition, further_after_code, further_begin_code}
-use Rattle.md_leaves.specs.Code.{inside_blank_code, inside_code, is_code, is_free, start_code}
-use Rattle.md_leaves.specs.CodeRule.{HasCode, at_break, behind_chunk, behind_columns, blank_ends, code_at, code_further}
-use Rattle.md_leaves.specs.CodeRule.{further_after, further_begin, in_blank, in_text, is_indented, text_ends}
-use Rattle.md_leaves.specs.LeafStart.{entered_here}
+use Rattle.md_leaves.specs.Code.{begin_of, code_transition, further_after_code, further_begin_code}
+use Rattle.md_leaves.specs.Code.{further_inside_code, inside_blank_code, inside_code, may_open, start_code}
+use Rattle.md_leaves.specs.CodeRule.{HasCode, at_break, behind_columns, code_at, code_ends, further_after, further_begin}
+use Rattle.md_leaves.specs.CodeRule.{further_inside, in_blank, in_text, is_indented, or_blank, then_here}
 use Rattle.md_leaves.proofs.LeafSteps.{sees-one, white_frame}
 use Rattle.md_seam.specs.Ahead.{HasWhite, after_white, begins_white, from_ending, inside_white, line_bytes, white_at}
 use Rattle.md_seam.specs.Ahead.{line_cells, white_end, white_rest, white_size}
@@ -60,15 +59,6 @@ ends-here feed w (Some b) e = record { line = rw e refl; ending = rw e refl }
 
 ends-seen : (feed : Feed) (w : World) → Sees feed w → ends_line w.current ≡ true → Ends (feed w.point)
 ends-seen feed w s e = rw s.next (ends-here feed w w.current e)
-
--- a blank line ends
-blank-goes : (B : Behaviour) (cells : List Cell) (h : Here) →
-    blank_ends cells h ≡ goes B (blank_state h.flags.leaf) cells h
-blank-goes B cells h = go (is_code h.flags.leaf)
-  where
-    go : (x : Bool) → cond x (Accepts h cells) (Refuses h.scratch h.flags) ≡ goes B (cond x Ok Nok) cells h
-    go true = refl
-    go false = refl
 
 -- So many columns of whitespace.
 
@@ -140,33 +130,35 @@ and-third true true c d f e = f e
 
 -- where no whitespace stands, it is refused
 pub code-none : (options : ParseOptions) (cells : List Cell) (h : Here) →
-    options.constructs.code_indented && is_free h.flags.leaf && begins_white cells ≡ false →
+    options.constructs.code_indented && may_open h.flags.leaf && begins_white cells ≡ false →
     code_at options cells h ≡ Refuses h.scratch h.flags
 unfolding code_at
 code-none options cells h e =
-    let none : options.constructs.code_indented && is_free h.flags.leaf && is_indented cells ≡
-    false = and-third options.constructs.code_indented (is_free h.flags.leaf) (begins_white cells)
+    let none : options.constructs.code_indented && may_open h.flags.leaf && is_indented cells ≡
+    false = and-third options.constructs.code_indented (may_open h.flags.leaf) (begins_white cells)
     (is_indented cells) (λ s. ap (nat_le 4) (none-size 4 cells s)) e in
     rw none refl
 
 code-some : (options : ParseOptions) (cells : List Cell) (h : Here) → options.constructs.code_indented ≡ true →
-    is_free h.flags.leaf ≡ true →
+    may_open h.flags.leaf ≡ true →
     code_at options cells h ≡
-    cond (is_indented cells) (at_break (white_rest 4 cells) (behind_columns 4 cells (entered_here CodeIndented h)))
+    cond (is_indented cells)
+    (at_break (white_rest 4 cells) (behind_columns 4 cells (then_here (begin_of h.flags.leaf h.point) h)))
     (Refuses h.scratch h.flags)
 unfolding code_at
-code-some options cells h on free = rw (on, free) refl
+code-some options cells h on may = rw (on, may) refl
 
 code_start_steps : (B : Behaviour) (feed : Feed) (w : World) (x : Bool) → HasCode B w.setting.options → Sees feed w →
     IsRest w.scratch →
-    w.setting.options.constructs.code_indented && is_free w.flags.leaf && sees_white w.current ≡ x →
+    w.setting.options.constructs.code_indented && may_open w.flags.leaf && sees_white w.current ≡ x →
     Steps B feed (Next (n.CodeIndented its.Start)) w (start_code w x).to (start_code w x).world
 code_start_steps B feed w true has s r e =
-    let on = and_parts w.setting.options.constructs.code_indented (is_free w.flags.leaf)
-    (and_parts (w.setting.options.constructs.code_indented && is_free w.flags.leaf) (sees_white w.current) e).0 in
-    let h : Here = entered_here CodeIndented (here w) in
+    let on = and_parts w.setting.options.constructs.code_indented (may_open w.flags.leaf)
+    (and_parts (w.setting.options.constructs.code_indented && may_open w.flags.leaf) (sees_white w.current) e).0 in
+    let begin : Event = begin_of w.flags.leaf w.point in
+    let h : Here = then_here begin (here w) in
     let frame : Frame = white_frame (Next (n.CodeIndented its.AtBreak)) w h.events in
-    begins B feed _ _ w (start_code w true).world (enter CodeIndented w.point ∷ []) frame refl refl
+    begins B feed _ _ w (start_code w true).world (begin ∷ []) frame refl refl
     (has.each its.Start _ _ ∙ code-some w.setting.options (feed w.point) (here w) on.0 on.1
     ∙ ap₂ (λ (a b : Outcome). cond (is_indented (feed w.point)) a b) (sym (has.each its.AtBreak _ _))
     (ap (λ (t : Scratch). Refuses t w.flags) (sym (calm w.scratch r)))
@@ -175,39 +167,18 @@ code_start_steps B feed w false has s r e =
     passes B feed _ _ w w refl refl
     (has.each its.Start _ _
     ∙ code-none w.setting.options (feed w.point) (here w)
-    (ap (λ (x : Bool). w.setting.options.constructs.code_indented && is_free w.flags.leaf && x) (begins-seen feed w s)
+    (ap (λ (x : Bool). w.setting.options.constructs.code_indented && may_open w.flags.leaf && x) (begins-seen feed w s)
     ∙ e))
 
--- Behind the four columns.
-
-break-ends : (cells : List Cell) (h : Here) → is_end (line_bytes cells) ≡ true → at_break cells h ≡ blank_ends cells h
-unfolding at_break
-break-ends cells h e = rw e refl
-
-break-goes : (cells : List Cell) (h : Here) → is_end (line_bytes cells) ≡ false →
-    at_break cells h ≡ in_blank cells (record h { events = h.events ++ enter CodeFlowChunk h.point ∷ [] })
-unfolding at_break
-break-goes cells h e = rw e refl
-
-code_at_break_steps : (B : Behaviour) (options : ParseOptions) (feed : Feed) (w : World) (x : Bool) → HasCode B options →
-    Sees feed w → ends_line w.current ≡ x →
-    Steps B feed (Next (n.CodeIndented its.AtBreak)) w (at_break_code w x).to (at_break_code w x).world
-code_at_break_steps B options feed w true has s e =
-    passes B feed _ _ w w refl refl
-    (has.each its.AtBreak _ _ ∙ break-ends (feed w.point) (here w) (end-seen feed w s ∙ e)
-    ∙ blank-goes B (feed w.point) (here w))
-code_at_break_steps B options feed w false has s e =
-    moves B feed _ _ w (at_break_code w false).world (enter CodeFlowChunk w.point ∷ []) refl refl
-    (has.each its.AtBreak _ _ ∙ break-goes (feed w.point) (here w) (end-seen feed w s ∙ e)
-    ∙ sym (has.each its.InsideBlank _ _))
+-- In a chunk.
 
 -- a chunk that ends here
 abbrev chunk_ends : Here → Here
-chunk_ends h = record h { events = h.events ++ exit CodeFlowChunk h.point ∷ [] }
+chunk_ends h = then_here (exit CodeFlowChunk h.point) h
 
-blank-ends : (cells : List Cell) (h : Here) → Ends cells → in_blank cells h ≡ blank_ends cells (chunk_ends h)
+blank-ends : (cells : List Cell) (h : Here) → Ends cells → in_blank cells h ≡ Refuses h.scratch h.flags
 unfolding in_blank
-blank-ends cells h e = rw (e.line, e.ending) refl
+blank-ends cells h e = rw e.line refl
 
 blank-more : (c : Cell) (cs : List Cell) (h : Here) → is_white c.byte ≡ true →
     in_blank (c ∷ cs) h ≡ in_blank cs (record h { point = c.after })
@@ -224,9 +195,8 @@ inside_blank_steps : (B : Behaviour) (options : ParseOptions) (feed : Feed) (w :
     HasCode B options → Sees feed w → ends_line w.current ≡ x → sees_white w.current ≡ y →
     Steps B feed (Next (n.CodeIndented its.InsideBlank)) w (inside_blank_code w x y).to (inside_blank_code w x y).world
 inside_blank_steps B options feed w true y has s e f =
-    moves B feed _ _ w (inside_blank_code w true y).world (exit CodeFlowChunk w.point ∷ []) refl refl
-    (has.each its.InsideBlank _ _ ∙ blank-ends (feed w.point) (here w) (ends-seen feed w s e)
-    ∙ blank-goes B (feed w.point) (chunk_ends (here w)))
+    passes B feed _ _ w w refl refl
+    (has.each its.InsideBlank _ _ ∙ blank-ends (feed w.point) (here w) (ends-seen feed w s e))
 inside_blank_steps B options feed w false true has s e f =
     let saw = sees-one feed w sees_white refl s f in
     passes B feed _ _ w (inside_blank_code w false true).world refl refl
@@ -238,7 +208,7 @@ inside_blank_steps B options feed w false false has s e f =
     (has.each its.InsideBlank _ _ ∙ rw s.next (blank-text feed w (here w) w.current e f)
     ∙ sym (has.each its.Inside _ _))
 
-text-ends : (cells : List Cell) (h : Here) → Ends cells → in_text cells h ≡ text_ends cells (chunk_ends h)
+text-ends : (cells : List Cell) (h : Here) → Ends cells → in_text cells h ≡ code_ends cells (chunk_ends h)
 unfolding in_text
 text-ends cells h e = rw (e.line, e.ending) refl
 
@@ -262,36 +232,36 @@ inside_steps B options feed w false has s e =
 
 -- A further line.
 
-further-is : (cells : List Cell) (h : Here) →
-    code_further cells h ≡
-    cond (is_indented cells) (at_break (white_rest 4 cells) (behind_columns 4 cells h)) (further_begin cells h)
-unfolding code_further
-further-is cells h = refl
-
-further_start_steps : (B : Behaviour) (options : ParseOptions) (feed : Feed) (w : World) → HasCode B options →
-    Sees feed w → IsRest w.scratch →
+further_start_steps : (B : Behaviour) (feed : Feed) (w : World) → HasCode B w.setting.options → Sees feed w →
     Steps B feed (Next (n.CodeIndented its.FurtherStart)) w (code_transition its.FurtherStart w).to
     (code_transition its.FurtherStart w).world
-further_start_steps B options feed w has s r =
+further_start_steps B feed w has s =
     begins_only B feed _ _ w (code_transition its.FurtherStart w).world frame refl refl
-    (has.each its.FurtherStart _ _ ∙ further-is (feed w.point) (here w)
-    ∙ ap₂ (λ (a b : Outcome). cond (is_indented (feed w.point)) a b) (sym (has.each its.AtBreak _ _))
-    (ap₂ (λ (es : List Event) (t : Scratch). further_begin (feed w.point) (record (here w) { events = es; scratch = t }))
-    (sym (take-length w.events)) (sym (calm w.scratch r))
-    ∙ sym (has.each its.FurtherBegin _ _))
-    ∙ white-asked B feed frame w.events (feed w.point) (here w) 4 has.white (omega arith) refl)
+    (has.each its.FurtherStart _ _
+    ∙ by (code_at w.setting.options (feed w.point) (here w))
+    ∙ ap (resume B feed w.events frame) (sym (has.each its.Start _ _)))
   where
     frame : Frame
     frame = record {
-      ok = Next (n.CodeIndented its.AtBreak);
+      ok = Ok;
       nok = Next (n.CodeIndented its.FurtherBegin);
       is_check = false;
       events_len = length w.events;
       point = w.point;
     }
 
+    by : (o : Outcome) → or_blank (feed w.point) (here w) o ≡ resume B feed w.events frame o
+    by (Accepts h rest) = refl
+    by Fails = refl
+    by (Refuses t g) =
+        ap
+        (λ (es : List Event).
+        further_begin (feed w.point) (record (here w) { events = es; scratch = t; flags = g }))
+        (sym (take-length w.events))
+        ∙ sym (has.each its.FurtherBegin _ _)
+
 begin-white : (cells : List Cell) (h : Here) → begins_white cells ≡ true →
-    further_begin cells h ≡ further_after (white_rest any_size cells) (behind_columns any_size cells h)
+    further_begin cells h ≡ further_after (white_rest 4 cells) (behind_columns 4 cells h)
 unfolding further_begin
 begin-white cells h e = rw e refl
 
@@ -308,15 +278,14 @@ further_begin_steps B options feed w true has s e =
     let white : begins_white (feed w.point) ≡ true = begins-seen feed w s ∙ e in
     begins_only B feed _ _ w (further_begin_code w true).world frame refl refl
     (has.each its.FurtherBegin _ _ ∙ begin-white (feed w.point) (here w) white ∙ sym (has.each its.FurtherAfter _ _)
-    ∙ white-tried B feed frame w.events (feed w.point) (here w) 1 any_size has.white white (omega arith) (omega arith)
-    refl)
+    ∙ white-tried B feed frame w.events (feed w.point) (here w) 0 4 has.white white (omega arith) (omega arith) refl)
 further_begin_steps B options feed w false has s e =
     passes B feed _ _ w w refl refl
     (has.each its.FurtherBegin _ _ ∙ begin-none (feed w.point) (here w) (begins-seen feed w s ∙ e)
     ∙ sym (has.each its.FurtherAfter _ _))
 
 after-is : (cells : List Cell) (h : Here) (x : Bool) → is_end (line_bytes cells) ≡ x →
-    further_after cells h ≡ cond x (Accepts h cells) (Refuses h.scratch h.flags)
+    further_after cells h ≡ cond x (Accepts h cells) (further_inside cells (then_here (enter CodeFlowChunk h.point) h))
 unfolding further_after
 after-is cells h x e = rw e refl
 
@@ -327,19 +296,56 @@ further_after_steps B options feed w true has s e =
     passes B feed _ _ w w refl refl
     (has.each its.FurtherAfter _ _ ∙ after-is (feed w.point) (here w) true (end-seen feed w s ∙ e))
 further_after_steps B options feed w false has s e =
+    moves B feed _ _ w (further_after_code w false).world (enter CodeFlowChunk w.point ∷ []) refl refl
+    (has.each its.FurtherAfter _ _ ∙ after-is (feed w.point) (here w) false (end-seen feed w s ∙ e)
+    ∙ sym (has.each its.FurtherInside _ _))
+
+further-ends : (cells : List Cell) (h : Here) → Ends cells → further_inside cells h ≡ Accepts (chunk_ends h) cells
+unfolding further_inside
+further-ends cells h e = rw (e.line, e.ending) refl
+
+further-more : (c : Cell) (cs : List Cell) (h : Here) → is_white c.byte ≡ true →
+    further_inside (c ∷ cs) h ≡ further_inside cs (record h { point = c.after })
+unfolding further_inside
+further-more c cs h e = rw (white-no_ending c.byte e, e) refl
+
+further-text : (feed : Feed) (w : World) (h : Here) (o : Option ℕ) → ends_line o ≡ false → sees_white o ≡ false →
+    further_inside (ahead feed w o) h ≡ Refuses h.scratch h.flags
+unfolding further_inside
+further-text feed w h None e f = cc
+further-text feed w h (Some b) e f = rw (e, f) refl
+
+further_inside_steps : (B : Behaviour) (options : ParseOptions) (feed : Feed) (w : World) (x y : Bool) →
+    HasCode B options → Sees feed w → ends_line w.current ≡ x → sees_white w.current ≡ y →
+    Steps B feed (Next (n.CodeIndented its.FurtherInside)) w (further_inside_code w x y).to
+    (further_inside_code w x y).world
+further_inside_steps B options feed w true y has s e f =
+    moves B feed _ _ w (further_inside_code w true y).world (exit CodeFlowChunk w.point ∷ []) refl refl
+    (has.each its.FurtherInside _ _ ∙ further-ends (feed w.point) (here w) (ends-seen feed w s e))
+further_inside_steps B options feed w false true has s e f =
+    let saw = sees-one feed w sees_white refl s f in
+    passes B feed _ _ w (further_inside_code w false true).world refl refl
+    (has.each its.FurtherInside _ _ ∙ ap (λ (x : List Cell). further_inside x (here w)) saw.1
+    ∙ further-more (cell_here feed w saw.0) (feed (after w.setting w.point)) (here w) saw.2
+    ∙ sym (has.each its.FurtherInside _ _))
+further_inside_steps B options feed w false false has s e f =
     passes B feed _ _ w w refl refl
-    (has.each its.FurtherAfter _ _ ∙ after-is (feed w.point) (here w) false (end-seen feed w s ∙ e))
+    (has.each its.FurtherInside _ _ ∙ rw s.next (further-text feed w (here w) w.current e f))
 
 -- each state of code takes one step of what it means
 pub code_steps : (B : Behaviour) (feed : Feed) (state : CodeState) (w : World) → HasCode B w.setting.options →
     Sees feed w → IsRest w.scratch →
     Steps B feed (Next (n.CodeIndented state)) w (code_transition state w).to (code_transition state w).world
 code_steps B feed its.Start w has s r = code_start_steps B feed w _ has s r refl
-code_steps B feed its.AtBreak w has s r = code_at_break_steps B _ feed w _ has s refl
+code_steps B feed its.AtBreak w has s r =
+    moves B feed _ _ w (code_transition its.AtBreak w).world (enter CodeFlowChunk w.point ∷ []) refl refl
+    (has.each its.AtBreak _ _ ∙ sym (has.each its.InsideBlank _ _))
 code_steps B feed its.InsideBlank w has s r = inside_blank_steps B _ feed w _ _ has s refl refl
 code_steps B feed its.Inside w has s r = inside_steps B _ feed w _ has s refl
 code_steps B feed its.After w has s r =
-    passes B feed _ _ w (code_transition its.After w).world refl refl (has.each its.After _ _)
-code_steps B feed its.FurtherStart w has s r = further_start_steps B _ feed w has s r
+    moves B feed _ _ w (code_transition its.After w).world (exit CodeIndented w.point ∷ []) refl refl
+    (has.each its.After _ _)
+code_steps B feed its.FurtherStart w has s r = further_start_steps B feed w has s
 code_steps B feed its.FurtherBegin w has s r = further_begin_steps B _ feed w _ has s refl
 code_steps B feed its.FurtherAfter w has s r = further_after_steps B _ feed w _ has s refl
+code_steps B feed its.FurtherInside w has s r = further_inside_steps B _ feed w _ _ has s refl refl

@@ -2,6 +2,7 @@ pub mod Blank
 pub mod Bom
 pub mod Break
 pub mod Code
+pub mod Further
 pub mod Heading
 pub mod HeadingText
 pub mod HeadingWords

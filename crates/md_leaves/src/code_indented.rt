@@ -4,30 +4,33 @@
 //     code_line     ::= 4( space | column of a tab ) *space_or_tab text
 //     blank_line    ::= *space_or_tab
 //
-// The first line adds `Enter CodeIndented`, the `SpaceOrTab` of its four columns, and a `CodeFlowChunk` over the rest; a
-// further line the same without the first. A blank line has a `SpaceOrTab` of at most four columns, and a chunk over
-// what whitespace is left. Which lines follow one another, their endings, and where the code ends is told by what calls
-// the states: behind each line that is not blank they note where it ended.
+// Each line of code is a `CodeIndented` of its own, around the `SpaceOrTab` of its four columns and a `CodeFlowChunk`
+// over the rest. One that goes on the code of a line before it says so in its link: a resolver makes one block of them. A
+// blank line stands bare, as it is not known yet whether code goes on behind it: a `SpaceOrTab` of at most four columns,
+// and a chunk over what whitespace is left.
 
-ghost use Rattle.std.specs.Prelude.{◌≡◌, ◌≢◌, IfSome, Some};
+ghost use Rattle.std.specs.Prelude.{◌≡◌, ◌≢◌, IfSome, OnOk};
 ghost use Rattle.md_engine.specs.World.{world};
 ghost use Rattle.md_engine.specs.declared.state.Name.{Name as StateName};
 ghost use Rattle.md_engine.specs.declared.state.State.{State};
 ghost use Rattle.md_engine.specs.declared.state.code_indented.State.{State as CodeState};
 ghost use Rattle.md_leaves.specs.Code.{after_transition, at_break_transition, code_transition, further_after_transition};
-ghost use Rattle.md_leaves.specs.Code.{further_begin_transition, further_start_transition, inside_blank_transition};
-ghost use Rattle.md_leaves.specs.Code.{blank_state, inside_transition, is_code, is_free, may_begin, start_transition};
+ghost use Rattle.md_leaves.specs.Code.{further_begin_transition, further_inside_transition, further_start_transition};
+ghost use Rattle.md_leaves.specs.Code.{inside_blank_transition, inside_transition, may_begin, may_open, opened};
+ghost use Rattle.md_leaves.specs.Code.{start_transition};
 ghost use Rattle.md_seam.specs.Look.{may_with};
 ghost use Rattle.md_seam.specs.Stays.{TakesEach};
 ghost use Rattle.md_seam.specs.Transition.{IsAt, NeedsNothing};
 
+use crate::further::FURTHER;
 use md_engine::event::Name;
+use md_engine::message::Message;
 use md_engine::or_error;
 use md_engine::state::code_indented::State as CodeState;
 use md_engine::state::{Name as StateName, State};
 use md_engine::stay::Stay;
 use md_engine::tokenizer::{HeldLeaf, Tokenizer};
-use md_seam::space_or_tab::{is_space_or_tab, space_or_tab, space_or_tab_min_max};
+use md_seam::space_or_tab::{is_space_or_tab, space_or_tab_min_max};
 
 /// Code is indented by so many columns.
 const INDENT: usize = 4;
@@ -39,22 +42,25 @@ pub fn may_begin(first: Option<u8>) -> bool
     matches!(first, None | Some(_))
 }
 
-/// Whether code may begin where this leaf is open: none is. Text is not interrupted, and a leaf that the line does not
-/// go on has ended before.
-fn is_free(leaf: HeldLeaf) -> bool
-    ensures { result ≡ is_free leaf }
+/// Whether a line of code may begin where this leaf is open: the first one, or one that goes on. Text is not interrupted,
+/// and any other leaf has ended before.
+fn may_open(leaf: HeldLeaf) -> bool
+    ensures { result ≡ may_open leaf }
 {
-    matches!(leaf, HeldLeaf::None)
+    matches!(leaf, HeldLeaf::None | HeldLeaf::Code)
 }
 
-/// Whether this is code, which goes on over blank lines.
-fn is_code(leaf: HeldLeaf) -> bool
-    ensures { result ≡ is_code leaf }
+/// Begins a line of code: a further one, if code is open.
+fn open(tokenizer: &mut Tokenizer) -> Result<(), Message>
+    ensures { OnOk result (world tokenizer.new ≡ opened (world tokenizer.old)) }
 {
-    matches!(leaf, HeldLeaf::Code { .. })
+    match tokenizer.flags.leaf {
+        HeldLeaf::Code => tokenizer.enter_link(Name::CodeIndented, FURTHER),
+        _ => tokenizer.enter(Name::CodeIndented),
+    }
 }
 
-/// Before code.
+/// Before a line of code.
 ///
 /// ```markdown
 /// > |     aaa
@@ -66,10 +72,10 @@ pub fn start(tokenizer: &mut Tokenizer) -> State
     ensures world { result ≢ State.Error → world tokenizer.new ≡ (start_transition (world tokenizer.old)).world }
 {
     if tokenizer.options.constructs.code_indented
-        && is_free(tokenizer.flags.leaf)
+        && may_open(tokenizer.flags.leaf)
         && is_space_or_tab(tokenizer.current)
     {
-        or_error!(tokenizer.enter(Name::CodeIndented));
+        or_error!(open(tokenizer));
         space_or_tab_min_max(
             tokenizer,
             INDENT,
@@ -82,18 +88,7 @@ pub fn start(tokenizer: &mut Tokenizer) -> State
     }
 }
 
-/// At the end of a line that is blank: open code goes on, and none begins.
-fn blank(tokenizer: &Tokenizer) -> State
-    ensures { result ≡ blank_state (world tokenizer.now).flags.leaf }
-{
-    if is_code(tokenizer.flags.leaf) {
-        State::Ok
-    } else {
-        State::Nok
-    }
-}
-
-/// Behind the four columns of a line.
+/// Behind its four columns.
 ///
 /// ```markdown
 /// > |     aaa
@@ -104,16 +99,11 @@ pub fn at_break(tokenizer: &mut Tokenizer) -> State
     ensures to { result ≢ State.Error → result ≡ (at_break_transition (world tokenizer.old)).to }
     ensures world { result ≢ State.Error → world tokenizer.new ≡ (at_break_transition (world tokenizer.old)).world }
 {
-    match tokenizer.current {
-        None | Some(b'\n') => blank(tokenizer),
-        Some(_) => {
-            or_error!(tokenizer.enter(Name::CodeFlowChunk));
-            State::Retry(StateName::CodeIndented(CodeState::InsideBlank))
-        }
-    }
+    or_error!(tokenizer.enter(Name::CodeFlowChunk));
+    State::Retry(StateName::CodeIndented(CodeState::InsideBlank))
 }
 
-/// In a chunk of which nothing but whitespace was read yet.
+/// In a chunk of which nothing but whitespace was read yet: a blank line is no line of code.
 ///
 /// ```markdown
 /// > |       aaa
@@ -121,15 +111,11 @@ pub fn at_break(tokenizer: &mut Tokenizer) -> State
 /// ```
 pub fn inside_blank(tokenizer: &mut Tokenizer) -> State
     requires { IsAt NeedsNothing (StateName.CodeIndented CodeState.InsideBlank) (world tokenizer.old) }
-    ensures to { result ≢ State.Error → result ≡ (inside_blank_transition (world tokenizer.old)).to }
-    ensures world { result ≢ State.Error →
-        world tokenizer.new ≡ (inside_blank_transition (world tokenizer.old)).world }
+    ensures to { result ≡ (inside_blank_transition (world tokenizer.old)).to }
+    ensures world { world tokenizer.new ≡ (inside_blank_transition (world tokenizer.old)).world }
 {
     match tokenizer.current {
-        None | Some(b'\n') => {
-            or_error!(tokenizer.exit(Name::CodeFlowChunk));
-            blank(tokenizer)
-        }
+        None | Some(b'\n') => State::Nok,
         Some(b'\t' | b' ') => {
             tokenizer.consume();
             State::Next(StateName::CodeIndented(CodeState::InsideBlank))
@@ -161,7 +147,7 @@ pub fn inside(tokenizer: &mut Tokenizer) -> State
     }
 }
 
-/// Behind a line that is not blank: the code ends here, unless another such line goes on.
+/// Behind a line of code.
 ///
 /// ```markdown
 /// > |     aaa
@@ -169,16 +155,15 @@ pub fn inside(tokenizer: &mut Tokenizer) -> State
 /// ```
 pub fn after(tokenizer: &mut Tokenizer) -> State
     requires { IsAt NeedsNothing (StateName.CodeIndented CodeState.After) (world tokenizer.old) }
-    ensures to { result ≡ (after_transition (world tokenizer.old)).to }
-    ensures world { world tokenizer.new ≡ (after_transition (world tokenizer.old)).world }
+    ensures to { result ≢ State.Error → result ≡ (after_transition (world tokenizer.old)).to }
+    ensures world { result ≢ State.Error → world tokenizer.new ≡ (after_transition (world tokenizer.old)).world }
 {
-    tokenizer.flags.leaf = HeldLeaf::Code {
-        end: tokenizer.events.len(),
-    };
+    or_error!(tokenizer.exit(Name::CodeIndented));
+    tokenizer.flags.leaf = HeldLeaf::Code;
     State::Ok
 }
 
-/// Before a further line.
+/// Before a line that may go on open code: another line of code, or a blank one.
 ///
 /// ```markdown
 ///   |     aaa
@@ -191,16 +176,14 @@ pub fn further_start(tokenizer: &mut Tokenizer) -> State
     ensures world { result ≢ State.Error →
         world tokenizer.new ≡ (further_start_transition (world tokenizer.old)).world }
 {
-    space_or_tab_min_max(
-        tokenizer,
-        INDENT,
-        INDENT,
-        State::Next(StateName::CodeIndented(CodeState::AtBreak)),
-        State::Next(StateName::CodeIndented(CodeState::FurtherBegin)),
-    )
+    or_error!(tokenizer.attempt(
+        State::Ok,
+        State::Next(StateName::CodeIndented(CodeState::FurtherBegin))
+    ));
+    State::Retry(StateName::CodeIndented(CodeState::Start))
 }
 
-/// Before a further line that is not indented enough.
+/// Before a line that is no line of code.
 ///
 /// ```markdown
 ///   |     aaa
@@ -214,8 +197,10 @@ pub fn further_begin(tokenizer: &mut Tokenizer) -> State
         world tokenizer.new ≡ (further_begin_transition (world tokenizer.old)).world }
 {
     if is_space_or_tab(tokenizer.current) {
-        space_or_tab(
+        space_or_tab_min_max(
             tokenizer,
+            0,
+            INDENT,
             State::Next(StateName::CodeIndented(CodeState::FurtherAfter)),
             State::Nok,
         )
@@ -224,7 +209,7 @@ pub fn further_begin(tokenizer: &mut Tokenizer) -> State
     }
 }
 
-/// Behind its whitespace: it goes on the code if it is blank.
+/// Behind its first columns: it goes on the code if it is blank.
 ///
 /// ```markdown
 ///   |     aaa
@@ -233,11 +218,41 @@ pub fn further_begin(tokenizer: &mut Tokenizer) -> State
 /// ```
 pub fn further_after(tokenizer: &mut Tokenizer) -> State
     requires { IsAt NeedsNothing (StateName.CodeIndented CodeState.FurtherAfter) (world tokenizer.old) }
-    ensures to { result ≡ (further_after_transition (world tokenizer.old)).to }
-    ensures world { world tokenizer.new ≡ (further_after_transition (world tokenizer.old)).world }
+    ensures to { result ≢ State.Error → result ≡ (further_after_transition (world tokenizer.old)).to }
+    ensures world { result ≢ State.Error →
+        world tokenizer.new ≡ (further_after_transition (world tokenizer.old)).world }
 {
     match tokenizer.current {
         None | Some(b'\n') => State::Ok,
+        Some(_) => {
+            or_error!(tokenizer.enter(Name::CodeFlowChunk));
+            State::Retry(StateName::CodeIndented(CodeState::FurtherInside))
+        }
+    }
+}
+
+/// In what whitespace is left of a blank line.
+///
+/// ```markdown
+///   |     aaa
+/// > |       |
+///         ^^
+/// ```
+pub fn further_inside(tokenizer: &mut Tokenizer) -> State
+    requires { IsAt NeedsNothing (StateName.CodeIndented CodeState.FurtherInside) (world tokenizer.old) }
+    ensures to { result ≢ State.Error → result ≡ (further_inside_transition (world tokenizer.old)).to }
+    ensures world { result ≢ State.Error →
+        world tokenizer.new ≡ (further_inside_transition (world tokenizer.old)).world }
+{
+    match tokenizer.current {
+        None | Some(b'\n') => {
+            or_error!(tokenizer.exit(Name::CodeFlowChunk));
+            State::Ok
+        }
+        Some(b'\t' | b' ') => {
+            tokenizer.consume();
+            State::Next(StateName::CodeIndented(CodeState::FurtherInside))
+        }
         Some(_) => State::Nok,
     }
 }
@@ -249,6 +264,7 @@ pub fn stays(state: CodeState) -> Option<Stay>
     match state {
         CodeState::InsideBlank => Some(Stay::Byte(b' ')),
         CodeState::Inside => Some(Stay::Line),
+        CodeState::FurtherInside => Some(Stay::Byte(b' ')),
         _ => None,
     }
 }
@@ -268,5 +284,6 @@ pub fn call(tokenizer: &mut Tokenizer, state: CodeState) -> State
         CodeState::FurtherStart => further_start(tokenizer),
         CodeState::FurtherBegin => further_begin(tokenizer),
         CodeState::FurtherAfter => further_after(tokenizer),
+        CodeState::FurtherInside => further_inside(tokenizer),
     }
 }

@@ -3,6 +3,7 @@
 
 pub mod blank_line;
 pub mod code_indented;
+pub mod further;
 pub mod heading_atx;
 pub mod heading_text;
 mod leaf_start;
