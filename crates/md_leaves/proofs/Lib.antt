@@ -7,6 +7,8 @@ pub mod BreakSteps
 pub mod CodeGoods
 pub mod CodeSteps
 pub mod CodeWhole
+pub mod CodeLines
+pub mod LostColumns
 pub mod HeadingGoods
 pub mod BomGoods
 pub mod HeadingLemmas

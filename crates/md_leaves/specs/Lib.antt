@@ -14,6 +14,7 @@ pub mod BlankRule
 pub mod BomRule
 pub mod BreakRule
 pub mod CodeRule
+pub mod CodeLine
 pub mod HeadingRule
 pub mod HeadingTitle
 pub mod NonLazyRule
