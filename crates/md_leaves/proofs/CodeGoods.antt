@@ -1,9 +1,8 @@
 -- Indented code stands and ends in any table that has it.
-use Rattle.std.proofs.Common.{◌≡◌, ◌<◌, Bool, true, false, cond, length, refl, arith, ap, sym}
+use Rattle.std.proofs.Common.{◌≡◌, Bool, true, false, length, refl, arith, ap, sym}
 use Rattle.md_engine.specs.declared.event.Name.TheVariants as parts
-use Rattle.md_engine.specs.declared.state.Name.{Name as StateName}
 use Rattle.md_engine.specs.declared.state.Name.TheVariants as n
-use Rattle.md_engine.specs.declared.state.State.TheVariants.{Ok, Next, Nok}
+use Rattle.md_engine.specs.declared.state.State.TheVariants.{Ok, Next}
 use Rattle.md_engine.specs.declared.state.code_indented.State.{State as CodeState}
 use Rattle.md_engine.specs.declared.state.code_indented.State.TheVariants as its
 use Rattle.md_engine.specs.Scheme.{Fits, Scheme, after_all, seen, spot}

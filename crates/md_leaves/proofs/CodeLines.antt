@@ -1,6 +1,6 @@
 -- What indented code takes of a line is what the definition of lines takes, for any rest of a line.
 use Rattle.std.proofs.Common.{◌≡◌, ℕ, zero, suc, ◌+◌, ◌-◌, ◌<◌, ◌≤◌, Bool, true, false, cond, ◌&&◌, ◌||◌, List, [], ◌∷◌}
-use Rattle.std.proofs.Common.{◌++◌, length, slice_range, Option, Some, None, refl, sym, ap, ap₂, ◌∙◌, arith, append_assoc}
+use Rattle.std.proofs.Common.{◌++◌, slice_range, Some, None, refl, sym, ap, ap₂, ◌∙◌, arith, append_assoc}
 use Rattle.std.proofs.Common.{append-nil}
 use Rattle.std.specs.Prelude.{◌==◌, nat_le, not}
 use Rattle.std.proofs.lemmas.Bool.{or_parts}
@@ -13,7 +13,7 @@ use Rattle.md_engine.specs.declared.tokenizer.held_leaf.HeldLeaf.TheVariants as 
 use Rattle.md_engine.specs.Meaning.{Cell}
 use Rattle.md_definition.specs.Bytes.{is_end}
 use Rattle.md_definition.specs.Leaves.{Opened, ParagraphContext, code_at, code_goes_on, code_line, is_free}
-use Rattle.md_definition.specs.Rest.{Rest, indent, is_blank, is_white, line_of, lose, tab_columns, without_column}
+use Rattle.md_definition.specs.Rest.{Rest, indent, is_blank, line_of, lose, tab_columns, without_column}
 use Rattle.md_definition.specs.State.{OpenCode}
 use Rattle.md_definition.specs.Tree.{Line}
 use Rattle.md_definition.proofs.TextsLemmas.{NoEnding}
@@ -24,7 +24,7 @@ use Rattle.md_leaves.proofs.LostColumns.{HasLost, blank-cells, lose-walk, stops-
 use Rattle.md_seam.specs.Ahead.{line_bytes, line_cells, line_end, point_after, white_end, white_rest, white_size}
 use Rattle.md_seam.specs.Events.Places.{past_byte, past_text}
 use Rattle.md_seam.specs.Events.Spelled.{byte_at, columns_left, empty_line}
-use Rattle.md_seam.proofs.FeedLines.{Stops, byte_cells, cell, columns_more, line_cells-append, next_column}
+use Rattle.md_seam.proofs.FeedLines.{Stops, cell, columns_more, line_cells-append, next_column}
 use Rattle.md_seam.proofs.FeedLines.{no_feed-spread, past-next, slice-front, spread, tab_cells, tab_end}
 use Rattle.md_seam.proofs.InlineLemmas.{past-index}
 use Rattle.md_seam.proofs.RestCells.{RestAt, cells_by, lose-no_ending, past_cut, past_rest, rest-end, rest_cells}
@@ -109,8 +109,8 @@ chunk-reads text past r p is = go r.spaces r.bytes is
         chunk_line text p (past_text bytes (past_cut spaces p)) ≡
         line_of (record { column = r.column; spaces = spaces; bytes = bytes })
 
-    go : (spaces : ℕ) (bytes : List ℕ) → RestAt text past (record { column = r.column; spaces = spaces; bytes = bytes }) p →
-        Reads spaces bytes
+    go : (spaces : ℕ) (bytes : List ℕ) →
+        RestAt text past (record { column = r.column; spaces = spaces; bytes = bytes }) p → Reads spaces bytes
     go zero bytes h =
         let spaces : columns_left p ≡ 0 = ap (λ (v : ℕ). cond (v == 0) 0 (tab_columns (p.column - 1))) h.cut in
         let from : byte_at p ≡ p.index = ap (λ (v : ℕ). cond (v == 0) p.index (p.index + 1)) h.cut in

@@ -9,29 +9,28 @@ use Rattle.md_engine.specs.declared.configuration.ParseOptions.{ParseOptions}
 use Rattle.md_engine.specs.declared.event.Event.{Event}
 use Rattle.md_engine.specs.declared.event.Name.TheVariants.{CodeFlowChunk, CodeIndented, SpaceOrTab}
 use Rattle.md_engine.specs.declared.state.Name.TheVariants as n
-use Rattle.md_engine.specs.declared.state.State.{State}
-use Rattle.md_engine.specs.declared.state.State.TheVariants.{Nok, Next, Ok, Retry}
+use Rattle.md_engine.specs.declared.state.State.TheVariants.{Next, Ok}
 use Rattle.md_engine.specs.declared.state.code_indented.State.{State as CodeState}
 use Rattle.md_engine.specs.declared.state.code_indented.State.TheVariants as its
 use Rattle.md_engine.specs.declared.state.space_or_tab.State.TheVariants as space_or_tab
 use Rattle.md_engine.specs.declared.tokenizer.Frame.{Frame}
 use Rattle.md_engine.specs.declared.tokenizer.Scratch.{Scratch}
-use Rattle.md_engine.specs.declared.tokenizer.held_leaf.HeldLeaf.{HeldLeaf}
-use Rattle.md_engine.specs.Meaning.{Accepts, Behaviour, Cell, Fails, Feed, Here, Outcome, Refuses, Steps, goes, here, restored}
+use Rattle.md_engine.specs.Meaning.{Accepts, Behaviour, Cell, Fails, Feed, Here, Outcome, Refuses, Steps, goes, here}
+use Rattle.md_engine.specs.Meaning.{restored}
 use Rattle.md_engine.specs.Meaning.{resume}
 use Rattle.md_engine.specs.World.{World, after}
 use Rattle.md_engine.proofs.StepOf.{Sees, ahead, begins, begins_only, cell_here, moves, passes}
 use Rattle.md_leaves.specs.Code.{begin_of, code_transition, further_after_code, further_begin_code}
 use Rattle.md_leaves.specs.Code.{further_inside_code, inside_blank_code, inside_code, may_open, start_code}
-use Rattle.md_leaves.specs.CodeRule.{HasCode, at_break, behind_columns, code_at, code_ends, further_after, further_begin}
-use Rattle.md_leaves.specs.CodeRule.{further_inside, in_blank, in_text, is_indented, or_blank, then_here}
+use Rattle.md_leaves.specs.CodeRule.{HasCode, at_break, behind_columns, code_at, code_ends, further_after}
+use Rattle.md_leaves.specs.CodeRule.{further_begin, further_inside, in_blank, in_text, is_indented, or_blank, then_here}
 use Rattle.md_leaves.proofs.LeafSteps.{sees-one, white_frame}
 use Rattle.md_seam.specs.Ahead.{HasWhite, after_white, begins_white, from_ending, inside_white, line_bytes, white_at}
 use Rattle.md_seam.specs.Ahead.{line_cells, white_end, white_rest, white_size}
 use Rattle.md_seam.specs.Events.Nested.{enter, exit}
 use Rattle.md_definition.specs.Bytes.{is_end}
-use Rattle.md_definition.specs.Rest.{is_blank, is_white}
-use Rattle.md_seam.specs.Spaces.{IsRest, any_size, asking, calmed, ends_line, sees_white}
+use Rattle.md_definition.specs.Rest.{is_white}
+use Rattle.md_seam.specs.Spaces.{IsRest, asking, calmed, ends_line, sees_white}
 use Rattle.md_seam.proofs.AheadLemmas.{none-size, white-no_ending}
 use Rattle.md_seam.proofs.WhiteSteps.{begins-seen, white-tried}
 
@@ -84,7 +83,8 @@ white-exact cells h size some = go (begins_white cells) (nat_le size (white_size
             cond (nat_le size (white_size size cells))
             (Accepts
             (record h {
-              events = (h.events ++ enter SpaceOrTab h.point ∷ []) ++ exit SpaceOrTab (white_end size cells h.point) ∷ [];
+              events = (h.events ++ enter SpaceOrTab h.point ∷ [])
+                  ++ exit SpaceOrTab (white_end size cells h.point) ∷ [];
               point = white_end size cells h.point;
               scratch = calmed h.scratch;
             })

@@ -1,5 +1,5 @@
 -- Indented code takes a whole line, or refuses it.
-use Rattle.std.proofs.Common.{◌≡◌, ℕ, zero, suc, Bool, true, false, cond, ◌&&◌, nat_eq, List, [], ◌∷◌, ◌++◌, Option, Some}
+use Rattle.std.proofs.Common.{◌≡◌, ℕ, zero, suc, Bool, true, false, cond, ◌&&◌, nat_eq, List, [], ◌∷◌, ◌++◌, Some}
 use Rattle.std.proofs.Common.{None, refl, sym, ◌∙◌, ap, append_assoc, append-nil}
 use Rattle.std.specs.Prelude.{not}
 use Rattle.md_engine.specs.declared.configuration.ParseOptions.{ParseOptions}
@@ -9,12 +9,12 @@ use Rattle.md_engine.specs.declared.event.Point.{Point}
 use Rattle.md_engine.specs.declared.tokenizer.Scratch.{Scratch}
 use Rattle.md_engine.specs.declared.tokenizer.held_leaf.HeldLeaf.{HeldLeaf}
 use Rattle.md_engine.specs.declared.tokenizer.held_leaf.HeldLeaf.TheVariants as held_leaf
-use Rattle.md_engine.specs.Meaning.{Accepts, Cell, Here, Outcome, Refuses}
+use Rattle.md_engine.specs.Meaning.{Accepts, Cell, Here, Refuses}
 use Rattle.md_leaves.specs.Code.{begin_of, may_open}
-use Rattle.md_leaves.specs.CodeRule.{at_break, behind_columns, blank_adds, code_adds, code_adds_on, code_at, code_begins}
-use Rattle.md_leaves.specs.CodeRule.{code_further, code_goes, further_after, further_begin, further_inside, in_blank}
+use Rattle.md_leaves.specs.CodeRule.{at_break, behind_columns, blank_adds, code_adds, code_adds_on, code_at}
+use Rattle.md_leaves.specs.CodeRule.{code_begins, code_further, code_goes, further_after, further_begin, further_inside, in_blank}
 use Rattle.md_leaves.specs.CodeRule.{in_text, is_indented, line_by, or_blank, then_here}
-use Rattle.md_seam.specs.Ahead.{begins_white, from_ending, line_bytes, line_cells, line_end, point_after, white_end}
+use Rattle.md_seam.specs.Ahead.{begins_white, from_ending, line_bytes, line_cells, line_end, white_end}
 use Rattle.md_seam.specs.Ahead.{white_rest}
 use Rattle.md_seam.specs.Events.Nested.{enter, exit, pair}
 use Rattle.md_definition.specs.Bytes.{is_end}
@@ -52,7 +52,8 @@ dark-blank (c ∷ cs) s = go (nat_eq c.byte 10) refl
     go false k = rw (k, s) refl
 
 -- whitespace that is left out leaves a line blank, or not
-white-blank : (room : ℕ) (cells : List Cell) → is_blank (line_bytes (white_rest room cells)) ≡ is_blank (line_bytes cells)
+white-blank : (room : ℕ) (cells : List Cell) →
+    is_blank (line_bytes (white_rest room cells)) ≡ is_blank (line_bytes cells)
 white-blank room [] = refl
 white-blank zero (c ∷ cs) = refl
 white-blank (suc room) (c ∷ cs) = go (is_white c.byte) refl (white-blank room cs)

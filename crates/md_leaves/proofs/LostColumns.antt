@@ -1,7 +1,7 @@
 -- The cells of the rest of a line: what so many columns of whitespace leave of it, also from within a cut tab, and that
 -- they are blank where its bytes are.
-use Rattle.std.proofs.Common.{◌≡◌, ℕ, zero, suc, ◌+◌, ◌<◌, ◌≤◌, Bool, true, false, cond, ◌&&◌, ◌||◌, List, [], ◌∷◌, ◌++◌}
-use Rattle.std.proofs.Common.{drop, slice_range, refl, sym, ap, ◌∙◌, subst, arith, append_assoc}
+use Rattle.std.proofs.Common.{◌≡◌, ℕ, zero, suc, ◌+◌, ◌<◌, ◌≤◌, Bool, true, false, cond, ◌&&◌, ◌||◌, List, [], ◌∷◌}
+use Rattle.std.proofs.Common.{◌++◌, drop, slice_range, refl, sym, ap, ◌∙◌, subst, arith, append_assoc}
 use Rattle.std.specs.Prelude.{IsTrue, ◌==◌}
 use Rattle.std.proofs.lemmas.Bool.{eqb-true, or_parts}
 use Rattle.std.proofs.lemmas.Bool.Decides.{nat_tests}
@@ -14,8 +14,8 @@ use Rattle.md_definition.proofs.TextsLemmas.{NoEnding}
 use Rattle.md_seam.specs.Ahead.{begins_white, line_bytes, line_cells, white_end, white_rest, white_size}
 use Rattle.md_seam.specs.Events.Places.{at_or_before, past_byte, same_place}
 use Rattle.md_seam.proofs.AheadLemmas.{none-end, none-rest, none-size, white-no_ending}
-use Rattle.md_seam.proofs.FeedLines.{Stops, behind_last, byte_cells, bytes_of, cell, columns_more, next_column, slice-front}
-use Rattle.md_seam.proofs.FeedLines.{slice-split, spread, tab_cells, tab_end}
+use Rattle.md_seam.proofs.FeedLines.{Stops, behind_last, byte_cells, bytes_of, cell, columns_more, next_column}
+use Rattle.md_seam.proofs.FeedLines.{slice-front, slice-split, spread, tab_cells, tab_end}
 use Rattle.md_seam.proofs.NestedLemmas.{at_or_before-refl, at_or_before-trans}
 use Rattle.md_seam.proofs.PlainSteps.{range-none}
 use Rattle.md_seam.proofs.RestCells.{HasColumn, RestAt, bare-cells, bare-same, cells_by, column-end, column-first}

@@ -1,5 +1,5 @@
 -- Indented code, a line at a time.
-use Rattle.std.specs.Prelude.{refl, ℕ, Bool, true, false, ◌&&◌, ◌==◌, if◌then◌else◌, ◌∷◌, ◌++◌, [], Option, Some, None}
+use Rattle.std.specs.Prelude.{refl, ℕ, Bool, true, false, ◌&&◌, ◌∷◌, ◌++◌, []}
 use Rattle.md_engine.specs.declared.event.Event.{Event}
 use Rattle.md_engine.specs.declared.event.Name.TheVariants.{CodeFlowChunk, CodeIndented}
 use Rattle.md_engine.specs.declared.event.Point.{Point}
@@ -21,8 +21,8 @@ use Rattle.md_seam.specs.Transition.{Transition, entered, exited, taken, tried}
 abbrev pub may_begin : ℕ → Bool
 may_begin b = true
 
--- whether a line of code may begin where this leaf is open: the first one, or one that goes on; text is not interrupted,
--- and any other leaf has ended before
+-- whether a line of code may begin where this leaf is open: the first one, or one that goes on; text is not
+-- interrupted, and any other leaf has ended before
 abbrev pub may_open : HeldLeaf → Bool
 may_open held_leaf.None = true
 may_open held_leaf.Code = true

@@ -5,16 +5,17 @@
 //     blank_line    ::= *space_or_tab
 //
 // Each line of code is a `CodeIndented` of its own, around the `SpaceOrTab` of its four columns and a `CodeFlowChunk`
-// over the rest. One that goes on the code of a line before it says so in its link: a resolver makes one block of them. A
-// blank line stands bare, as it is not known yet whether code goes on behind it: a `SpaceOrTab` of at most four columns,
-// and a chunk over what whitespace is left.
+// over the rest. One that goes on the code of a line before says so in its link: a resolver makes one block of them.
+// A blank line stands bare, as it is not known yet whether code goes on behind it: a `SpaceOrTab` of at most four
+// columns, and a chunk over what whitespace is left.
 
 ghost use Rattle.std.specs.Prelude.{◌≡◌, ◌≢◌, IfSome, OnOk};
 ghost use Rattle.md_engine.specs.World.{world};
 ghost use Rattle.md_engine.specs.declared.state.Name.{Name as StateName};
 ghost use Rattle.md_engine.specs.declared.state.State.{State};
 ghost use Rattle.md_engine.specs.declared.state.code_indented.State.{State as CodeState};
-ghost use Rattle.md_leaves.specs.Code.{after_transition, at_break_transition, code_transition, further_after_transition};
+ghost use Rattle.md_leaves.specs.Code.{after_transition, at_break_transition, code_transition};
+ghost use Rattle.md_leaves.specs.Code.{further_after_transition};
 ghost use Rattle.md_leaves.specs.Code.{further_begin_transition, further_inside_transition, further_start_transition};
 ghost use Rattle.md_leaves.specs.Code.{inside_blank_transition, inside_transition, may_begin, may_open, opened};
 ghost use Rattle.md_leaves.specs.Code.{start_transition};
@@ -42,8 +43,8 @@ pub fn may_begin(first: Option<u8>) -> bool
     matches!(first, None | Some(_))
 }
 
-/// Whether a line of code may begin where this leaf is open: the first one, or one that goes on. Text is not interrupted,
-/// and any other leaf has ended before.
+/// Whether a line of code may begin where this leaf is open: the first one, or one that goes on. Text is not
+/// interrupted, and any other leaf has ended before.
 fn may_open(leaf: HeldLeaf) -> bool
     ensures { result ≡ may_open leaf }
 {
