@@ -58,7 +58,7 @@ rest-line line r p stop h k = go r.spaces
         ∙ tab-line line n 32 p (more ++ stop) refl
         ∙ ap (λ (l : List Cell). tab_cells line n 32 p ++ l) (spread-line line r.bytes (tab_end n p) stop h k)
 
-line-ends : (line : Fed) (r : Rest) (p : Point) (stop : List Cell) → 1 ≤ p.column → NoEnding r.bytes → Stops stop →
+pub line-ends : (line : Fed) (r : Rest) (p : Point) (stop : List Cell) → 1 ≤ p.column → NoEnding r.bytes → Stops stop →
     line_end (rest_cells line r p ++ stop) p ≡ past_rest r p
 line-ends line r p stop one h k =
     ap (λ (l : List Cell). point_after l p) (rest-line line r p stop h k) ∙ rest-end line r p one
@@ -100,7 +100,7 @@ end-empty line r p stop h k e = go r.spaces r.bytes h e
 -- A chunk.
 
 -- a chunk over a rest is read as its line
-chunk-reads : (text past : List ℕ) (r : Rest) (p : Point) → RestAt text past r p →
+pub chunk-reads : (text past : List ℕ) (r : Rest) (p : Point) → RestAt text past r p →
     chunk_line text p (past_rest r p) ≡ line_of r
 chunk-reads text past r p is = go r.spaces r.bytes is
   where
@@ -160,7 +160,7 @@ told-line line text past r p stop is h k = go (is_end (line_bytes (white_rest 4 
         ∙ chunk-reads text past (lose 4 r) q lost.stands
 
 -- it is indented by its cells where it is by its bytes
-indented-same : (line : Fed) (text past : List ℕ) (r : Rest) (p : Point) (stop : List Cell) → RestAt text past r p →
+pub indented-same : (line : Fed) (text past : List ℕ) (r : Rest) (p : Point) (stop : List Cell) → RestAt text past r p →
     Stops stop → is_indented (rest_cells line r p ++ stop) ≡ nat_le 4 (indent r)
 indented-same line text past r p stop is k =
     let lost = lose-walk line text past 4 r p stop is k in
