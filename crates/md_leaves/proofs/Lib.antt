@@ -4,6 +4,11 @@ pub mod BreakLemmas
 pub mod BlankSteps
 pub mod BlankLook
 pub mod BreakSteps
+pub mod CodeGoods
+pub mod CodeSteps
+pub mod CodeWhole
+pub mod CodeLines
+pub mod LostColumns
 pub mod HeadingGoods
 pub mod BomGoods
 pub mod HeadingLemmas

@@ -1,6 +1,8 @@
 pub mod Blank
 pub mod Bom
 pub mod Break
+pub mod Code
+pub mod Further
 pub mod Heading
 pub mod HeadingText
 pub mod HeadingWords
@@ -11,6 +13,8 @@ pub mod NonLazy
 pub mod BlankRule
 pub mod BomRule
 pub mod BreakRule
+pub mod CodeRule
+pub mod CodeLine
 pub mod HeadingRule
 pub mod HeadingTitle
 pub mod NonLazyRule

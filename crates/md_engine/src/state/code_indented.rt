@@ -5,9 +5,11 @@
 pub enum State {
     Start,
     AtBreak,
+    InsideBlank,
     Inside,
     After,
     FurtherStart,
     FurtherBegin,
     FurtherAfter,
+    FurtherInside,
 }

@@ -1,0 +1,251 @@
+-- Indented code takes a whole line, or refuses it.
+use Rattle.std.proofs.Common.{◌≡◌, ℕ, zero, suc, Bool, true, false, cond, ◌&&◌, nat_eq, List, [], ◌∷◌, ◌++◌, Some}
+use Rattle.std.proofs.Common.{None, refl, sym, ◌∙◌, ap, append_assoc, append-nil}
+use Rattle.std.specs.Prelude.{not}
+use Rattle.md_engine.specs.declared.configuration.ParseOptions.{ParseOptions}
+use Rattle.md_engine.specs.declared.event.Event.{Event}
+use Rattle.md_engine.specs.declared.event.Name.TheVariants.{CodeFlowChunk, CodeIndented, SpaceOrTab}
+use Rattle.md_engine.specs.declared.event.Point.{Point}
+use Rattle.md_engine.specs.declared.tokenizer.Scratch.{Scratch}
+use Rattle.md_engine.specs.declared.tokenizer.held_leaf.HeldLeaf.{HeldLeaf}
+use Rattle.md_engine.specs.declared.tokenizer.held_leaf.HeldLeaf.TheVariants as held_leaf
+use Rattle.md_engine.specs.Meaning.{Accepts, Cell, Here, Refuses}
+use Rattle.md_leaves.specs.Code.{begin_of, may_open}
+use Rattle.md_leaves.specs.CodeRule.{at_break, behind_columns, blank_adds, code_adds, code_adds_on, code_at}
+use Rattle.md_leaves.specs.CodeRule.{code_begins, code_further, code_goes, further_after, further_begin, further_inside, in_blank}
+use Rattle.md_leaves.specs.CodeRule.{in_text, is_indented, line_by, or_blank, then_here}
+use Rattle.md_seam.specs.Ahead.{begins_white, from_ending, line_bytes, line_cells, line_end, white_end}
+use Rattle.md_seam.specs.Ahead.{white_rest}
+use Rattle.md_seam.specs.Events.Nested.{enter, exit, pair}
+use Rattle.md_definition.specs.Bytes.{is_end}
+use Rattle.md_definition.specs.Rest.{is_blank, is_white}
+use Rattle.md_seam.specs.Spaces.{calmed}
+use Rattle.md_seam.proofs.AheadLemmas.{none-rest, white-ending, white-line_end, white-no_ending}
+
+-- Whitespace, and the end of a line.
+
+-- where the line ends here, nothing of it is left
+record Ended (cells : List Cell) : Type 0 where
+  pub line : line_cells cells ≡ []
+  pub ending : from_ending cells ≡ cells
+
+ended : (cells : List Cell) → is_end (line_bytes cells) ≡ true → Ended cells
+ended [] e = record { line = refl; ending = refl }
+ended (c ∷ cs) e = go (nat_eq c.byte 10) refl
+  where
+    go : (x : Bool) → nat_eq c.byte 10 ≡ x → Ended (c ∷ cs)
+    go true k = record { line = rw k refl; ending = rw k refl }
+    go false k = let bad : false ≡ true = rw k at e in cc
+
+-- an ended line is blank
+end-blank : (cells : List Cell) → is_end (line_bytes cells) ≡ true → is_blank (line_bytes cells) ≡ true
+end-blank cells e = rw (ended cells e).line refl
+
+-- without whitespace in front, a line is blank where it ends
+dark-blank : (cells : List Cell) → begins_white cells ≡ false → is_end (line_bytes cells) ≡ is_blank (line_bytes cells)
+dark-blank [] s = refl
+dark-blank (c ∷ cs) s = go (nat_eq c.byte 10) refl
+  where
+    go : (x : Bool) → nat_eq c.byte 10 ≡ x →
+        is_end (line_bytes (c ∷ cs)) ≡ is_blank (line_bytes (c ∷ cs))
+    go true k = rw k refl
+    go false k = rw (k, s) refl
+
+-- whitespace that is left out leaves a line blank, or not
+white-blank : (room : ℕ) (cells : List Cell) →
+    is_blank (line_bytes (white_rest room cells)) ≡ is_blank (line_bytes cells)
+white-blank room [] = refl
+white-blank zero (c ∷ cs) = refl
+white-blank (suc room) (c ∷ cs) = go (is_white c.byte) refl (white-blank room cs)
+  where
+    go : (x : Bool) → is_white c.byte ≡ x →
+        is_blank (line_bytes (white_rest room cs)) ≡ is_blank (line_bytes cs) →
+        is_blank (line_bytes (white_rest (suc room) (c ∷ cs))) ≡ is_blank (line_bytes (c ∷ cs))
+    go true s ih = rw (s, white-no_ending c.byte s, s) ih
+    go false s ih = rw s refl
+
+-- a line with text does not end
+text-goes : (cells : List Cell) → is_blank (line_bytes cells) ≡ false → is_end (line_bytes cells) ≡ false
+text-goes cells e = go (is_end (line_bytes cells)) refl
+  where
+    go : (x : Bool) → is_end (line_bytes cells) ≡ x → x ≡ false
+    go false k = refl
+    go true k = let bad : true ≡ false = sym (end-blank cells k) ∙ e in cc
+
+-- a line that is taken behind its columns is taken with them,
+columns-taken : (added : List Event) (cells : List Cell) (h : Here) (leaf : HeldLeaf) → calmed h.scratch ≡ h.scratch →
+    line_by added (white_rest 4 cells) (behind_columns 4 cells h) (Some leaf) ≡
+    line_by (pair SpaceOrTab h.point (white_end 4 cells h.point) ++ added) cells h (Some leaf)
+columns-taken added cells h leaf calm =
+    rw (white-ending 4 cells, white-line_end 4 cells h.point, calm) (simp append_assoc)
+
+-- and one that is taken behind its begin with that
+begin-taken : (e : Event) (added : List Event) (cells : List Cell) (h : Here) (leaf : HeldLeaf) →
+    line_by added cells (then_here e h) (Some leaf) ≡ line_by (e ∷ added) cells h (Some leaf)
+begin-taken e added cells h leaf = simp append_assoc
+
+-- A line of code.
+
+-- a chunk over the rest of the line, and the end of the line of code
+abbrev rest_events : Point → Point → List Event
+rest_events q r = pair CodeFlowChunk q r ++ exit CodeIndented r ∷ []
+
+text-break : (cells : List Cell) (h : Here) → is_blank (line_bytes cells) ≡ false →
+    at_break cells h ≡ line_by (rest_events h.point (line_end cells h.point)) cells h (Some held_leaf.Code)
+unfolding in_blank in_text
+text-break cells h e = rw e (simp append_assoc)
+
+blank-break : (cells : List Cell) (h : Here) → is_blank (line_bytes cells) ≡ true →
+    at_break cells h ≡ Refuses h.scratch h.flags
+unfolding in_blank
+blank-break cells h e = rw e refl
+
+-- a line of code is taken, and any other refused
+pub code-line : (options : ParseOptions) (cells : List Cell) (h : Here) → calmed h.scratch ≡ h.scratch →
+    code_at options cells h ≡
+    line_by (code_adds h.flags.leaf cells h.point) cells h (code_begins options h.flags.leaf cells)
+unfolding code_at
+code-line options cells h calm =
+    go options.constructs.code_indented (may_open h.flags.leaf) (is_indented cells) (is_blank (line_bytes cells)) refl
+    refl refl refl
+  where
+    begin : Event
+    begin = begin_of h.flags.leaf h.point
+
+    q : Point
+    q = white_end 4 cells h.point
+
+    taken : is_blank (line_bytes cells) ≡ false →
+        at_break (white_rest 4 cells) (behind_columns 4 cells (then_here begin h)) ≡
+        line_by (code_adds h.flags.leaf cells h.point) cells h (Some held_leaf.Code)
+    taken b =
+        text-break (white_rest 4 cells) (behind_columns 4 cells (then_here begin h)) (white-blank 4 cells ∙ b)
+        ∙ columns-taken (rest_events q (line_end (white_rest 4 cells) q)) cells (then_here begin h) held_leaf.Code calm
+        ∙ begin-taken begin (pair SpaceOrTab h.point q ++ rest_events q (line_end (white_rest 4 cells) q)) cells h
+        held_leaf.Code
+        ∙ ap
+        (λ (r : Point).
+        line_by (begin ∷ pair SpaceOrTab h.point q ++ rest_events q r) cells h (Some held_leaf.Code))
+        (white-line_end 4 cells h.point)
+
+    go : (on may some blank : Bool) → options.constructs.code_indented ≡ on → may_open h.flags.leaf ≡ may →
+        is_indented cells ≡ some → is_blank (line_bytes cells) ≡ blank →
+        code_at options cells h ≡
+        line_by (code_adds h.flags.leaf cells h.point) cells h (code_begins options h.flags.leaf cells)
+    go false may some blank e f k b = rw e refl
+    go true false some blank e f k b = rw (e, f) refl
+    go true true false blank e f k b = rw (e, f, k) refl
+    go true true true true e f k b =
+        rw (e, f, k, b)
+        (blank-break (white_rest 4 cells) (behind_columns 4 cells (then_here begin h)) (white-blank 4 cells ∙ b)
+        ∙ ap (λ (t : Scratch). Refuses t h.flags) calm)
+    go true true true false e f k b = rw (e, f, k, b) (taken b)
+
+-- A line that may go on open code.
+
+-- what a blank one adds, where whitespace stands here
+blank-white : (cells : List Cell) (p : Point) (x : Bool) → begins_white cells ≡ true →
+    is_end (line_bytes (white_rest 4 cells)) ≡ x →
+    blank_adds cells p ≡
+    pair SpaceOrTab p (white_end 4 cells p) ++ cond x [] (pair CodeFlowChunk (white_end 4 cells p) (line_end cells p))
+blank-white cells p x w e = rw (w, e) refl
+
+-- and where none does
+blank-dark : (cells : List Cell) (p : Point) → begins_white cells ≡ false → is_end (line_bytes cells) ≡ true →
+    blank_adds cells p ≡ []
+blank-dark cells p w e = rw (w, none-rest 4 cells w, e) refl
+
+-- where the line ends here, it is taken as it is
+end-taken : (cells : List Cell) (h : Here) → is_end (line_bytes cells) ≡ true →
+    Accepts h cells ≡ line_by [] cells h (Some h.flags.leaf)
+end-taken cells h e = let end = ended cells e in rw (end.line, end.ending, append-nil) refl
+
+-- whitespace to the end of the line is a chunk
+chunk-taken : (cells : List Cell) (h : Here) → is_blank (line_bytes cells) ≡ true →
+    further_inside cells (then_here (enter CodeFlowChunk h.point) h) ≡
+    line_by (pair CodeFlowChunk h.point (line_end cells h.point)) cells h (Some h.flags.leaf)
+unfolding further_inside
+chunk-taken cells h b = rw b (simp append_assoc)
+
+after-blank : (cells : List Cell) (h : Here) (x : Bool) → is_blank (line_bytes cells) ≡ true →
+    is_end (line_bytes cells) ≡ x →
+    further_after cells h ≡
+    line_by (cond x [] (pair CodeFlowChunk h.point (line_end cells h.point))) cells h (Some h.flags.leaf)
+unfolding further_after
+after-blank cells h true b e = rw e (end-taken cells h e)
+after-blank cells h false b e = rw e (chunk-taken cells h b)
+
+-- a blank line is taken
+further-blank : (cells : List Cell) (h : Here) (w : Bool) → calmed h.scratch ≡ h.scratch → begins_white cells ≡ w →
+    is_blank (line_bytes cells) ≡ true →
+    further_begin cells h ≡ line_by (blank_adds cells h.point) cells h (Some h.flags.leaf)
+unfolding further_begin
+further-blank cells h true calm w b =
+    let q = white_end 4 cells h.point in
+    let ends = is_end (line_bytes (white_rest 4 cells)) in
+    ap
+    (λ (x : Bool).
+    cond x (further_after (white_rest 4 cells) (behind_columns 4 cells h)) (further_after cells h)) w
+    ∙ after-blank (white_rest 4 cells) (behind_columns 4 cells h) ends (white-blank 4 cells ∙ b) refl
+    ∙ columns-taken (cond ends [] (pair CodeFlowChunk q (line_end (white_rest 4 cells) q))) cells h h.flags.leaf calm
+    ∙ ap
+    (λ (r : Point).
+    line_by (pair SpaceOrTab h.point q ++ cond ends [] (pair CodeFlowChunk q r)) cells h (Some h.flags.leaf))
+    (white-line_end 4 cells h.point)
+    ∙ ap (λ (es : List Event). line_by es cells h (Some h.flags.leaf)) (sym (blank-white cells h.point ends w refl))
+further-blank cells h false calm w b =
+    let end = dark-blank cells w ∙ b in
+    ap
+    (λ (x : Bool).
+    cond x (further_after (white_rest 4 cells) (behind_columns 4 cells h)) (further_after cells h)) w
+    ∙ after-blank cells h true b end
+    ∙ ap (λ (es : List Event). line_by es cells h (Some h.flags.leaf)) (sym (blank-dark cells h.point w end))
+
+-- one with text is refused
+after-text : (cells : List Cell) (h : Here) → is_blank (line_bytes cells) ≡ false →
+    further_after cells h ≡ Refuses h.scratch h.flags
+unfolding further_after further_inside
+after-text cells h b = rw (text-goes cells b, b) refl
+
+further-text : (cells : List Cell) (h : Here) (w : Bool) → calmed h.scratch ≡ h.scratch → begins_white cells ≡ w →
+    is_blank (line_bytes cells) ≡ false →
+    further_begin cells h ≡ Refuses h.scratch h.flags
+unfolding further_begin
+further-text cells h true calm w b =
+    rw w
+    (after-text (white_rest 4 cells) (behind_columns 4 cells h) (white-blank 4 cells ∙ b)
+    ∙ ap (λ (t : Scratch). Refuses t h.flags) calm)
+further-text cells h false calm w b = rw w (after-text cells h b)
+
+and-false : (a : Bool) → (a && false) ≡ false
+and-false true = refl
+and-false false = refl
+
+-- it is taken if it is a line of code or blank, and refused elsewhere
+pub code-on : (options : ParseOptions) (cells : List Cell) (h : Here) → calmed h.scratch ≡ h.scratch →
+    code_further options cells h ≡
+    line_by (code_adds_on h.flags.leaf cells h.point) cells h (code_goes options h.flags.leaf cells)
+code-on options cells h calm =
+    ap (or_blank cells h) (code-line options cells h calm) ∙ go (is_blank (line_bytes cells)) refl
+  where
+    leaf : HeldLeaf
+    leaf = h.flags.leaf
+
+    some : Bool
+    some = options.constructs.code_indented && may_open leaf && is_indented cells
+
+    text : (x : Bool) → is_blank (line_bytes cells) ≡ false →
+        or_blank cells h (line_by (code_adds leaf cells h.point) cells h (cond x (Some held_leaf.Code) None)) ≡
+        line_by (code_adds leaf cells h.point) cells h (cond x (Some held_leaf.Code) None)
+    text true b = refl
+    text false b = further-text cells h (begins_white cells) calm refl b
+
+    go : (x : Bool) → is_blank (line_bytes cells) ≡ x →
+        or_blank cells h
+        (line_by (code_adds leaf cells h.point) cells h
+        (cond (some && not (is_blank (line_bytes cells))) (Some held_leaf.Code) None)) ≡
+        line_by (cond (is_blank (line_bytes cells)) (blank_adds cells h.point) (code_adds leaf cells h.point)) cells h
+        (cond (is_blank (line_bytes cells)) (Some leaf)
+        (cond (some && not (is_blank (line_bytes cells))) (Some held_leaf.Code) None))
+    go true b = rw (b, and-false some) (further-blank cells h (begins_white cells) calm refl b)
+    go false b = rw b (text (some && true) b)

@@ -1,0 +1,10 @@
+// What tells a line of a leaf that goes on.
+
+use md_engine::event::{Content, Link};
+
+/// The link of the begin of a line that goes on the leaf of the line before.
+pub const FURTHER: Link = Link {
+    previous: true,
+    next: false,
+    content: Content::Flow,
+};
