@@ -6,3 +6,4 @@ pub mod ContentRuns
 pub mod JoinedLemmas
 pub mod ContentReadsLemmas
 pub mod SettledLemmas
+pub mod WholeLinesLemmas

@@ -6,3 +6,4 @@ pub mod ParagraphRule
 pub mod Resolves
 pub mod Joined
 pub mod ContentReads
+pub mod WholeLines

@@ -2,4 +2,5 @@
 #![tactic(auto)]
 
 pub mod content;
+mod lines;
 pub mod paragraph;

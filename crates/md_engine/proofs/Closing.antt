@@ -2,8 +2,10 @@
 use Rattle.std.proofs.Common.{◌≡◌, ℕ, ◌+◌, ◌-◌, ◌≤◌, Bool, true, false, nat_lt, List, [], ◌∷◌, ◌++◌, length, take, drop}
 use Rattle.std.proofs.Common.{min, None, refl, sym, ◌∙◌, ap, arith, length-append, length-drop}
 use Rattle.std.specs.List.{All}
+use Rattle.std.specs.Prelude.{reverse}
 use Rattle.std.proofs.lemmas.Bool.Decides.{nat_tests}
-use Rattle.std.proofs.lemmas.List.{drop-append-le, drop_all, take-append-drop, take-append-le, take_all}
+use Rattle.std.proofs.lemmas.List.{drop-append-le, drop_all, length-reverse, reverse-append, reverse-reverse}
+use Rattle.std.proofs.lemmas.List.{take-append-drop, take-append-le, take_all}
 use Rattle.std.proofs.lemmas.List.Elements.{All-append, All-drop, All-nil, All-push, All-take, All-weaker}
 use Rattle.std.proofs.Math.Seq.{drop-append_seam, take-append_seam}
 use Rattle.md_engine.specs.declared.event.Event.{Event}
@@ -93,3 +95,22 @@ turned-put at m n ends events all new least count is e =
     let t = turned m ends events all (omega arith) is in
     let f : new ≡ put m ends events = (rw count at e) ∙ t in
     f ∙ ap (λ (i : ℕ). put i ends events) least ∙ put-least at ends events
+
+-- events that are turned around, and then each side of them, have changed sides
+pub turned-few : (xs r first second front back : List Event) (n : ℕ) → n ≤ length xs → r ≡ reverse xs →
+    first ≡ take n r → second ≡ drop n r → front ≡ reverse first → back ≡ reverse second →
+    front ++ back ≡ drop (length xs - n) xs ++ take (length xs - n) xs
+turned-few xs r first second front back n le all left right one two =
+    let k = length xs - n in
+    let a = take k xs in
+    let b = drop k xs in
+    let split : r ≡ reverse b ++ reverse a = all ∙ ap reverse (sym (take-append-drop k xs)) ∙ reverse-append a b in
+    let dropped = length-drop k xs in
+    let turned = length-reverse b in
+    let size : n ≡ length (reverse b) = omega (arith, le, dropped, turned) in
+    let before : first ≡ reverse b = left ∙ ap (λ (l : List Event). take n l) split
+    ∙ ap (λ (m : ℕ). take m (reverse b ++ reverse a)) size ∙ take-append_seam (reverse b) (reverse a) in
+    let behind : second ≡ reverse a = right ∙ ap (λ (l : List Event). drop n l) split
+    ∙ ap (λ (m : ℕ). drop m (reverse b ++ reverse a)) size ∙ drop-append_seam (reverse b) (reverse a) in
+    ap (λ (l : List Event). l ++ back) (one ∙ ap reverse before ∙ reverse-reverse b)
+    ∙ ap (λ (l : List Event). b ++ l) (two ∙ ap reverse behind ∙ reverse-reverse a)

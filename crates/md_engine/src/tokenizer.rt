@@ -279,6 +279,21 @@ fn ends_at(alloc: Global, containers: &[Container], point: Point) -> Result<Vec<
     Ok(ends)
 }
 
+/// Of at most so many events, the last are moved to the front by turning them around. Of more that takes longer than the
+/// library's way, which needs room for some of them.
+const FEW: usize = 64;
+
+/// Moves the last `count` events to the front.
+fn turn_few(events: &mut [Event], count: usize)
+    requires { count ≤ length events.old }
+    ensures { events.new ≡ drop (length events.old - count) events.old ++ take (length events.old - count) events.old }
+{
+    events.reverse();
+    let (front, back) = events.split_at_mut(count);
+    front.reverse();
+    back.reverse();
+}
+
 /// Moves the last `count` events in front of the one at `at`.
 fn turn(events: &mut Vec<Event>, at: usize, count: usize)
     requires { at + count ≤ length events.old.items }
@@ -286,7 +301,11 @@ fn turn(events: &mut Vec<Event>, at: usize, count: usize)
         take at events.old.items ++ drop (length events.old.items - at - count) (drop at events.old.items)
         ++ take (length events.old.items - at - count) (drop at events.old.items) }
 {
-    events[at..].rotate_right(count);
+    if events.len() - at <= FEW {
+        turn_few(&mut events[at..], count);
+    } else {
+        events[at..].rotate_right(count);
+    }
 }
 
 impl<'a> Tokenizer<'a> {

@@ -16,6 +16,17 @@ held-more events done read e le front =
     ∙ take-add k 1 (drop done events)
     ∙ ap (λ (es : List Event). take k (drop done events) ++ take 1 es) (at ∙ front)
 
+-- so many events more are held
+pub held-many : (events : List Event) (done read count : ℕ) → done ≤ read →
+    take (read + count - done) (drop done events) ≡ take (read - done) (drop done events) ++ take count (drop read events)
+held-many events done read count le =
+    let k = read - done in
+    let at : drop k (drop done events) ≡ drop read events = drop-drop k done events
+    ∙ ap (λ (n : ℕ). drop n events) (omega arith) in
+    ap (λ (n : ℕ). take n (drop done events)) (omega arith)
+    ∙ take-add k count (drop done events)
+    ∙ ap (λ (es : List Event). take k (drop done events) ++ take count es) at
+
 -- so many fewer are held
 pub held-fewer : (events : List Event) (done read count : ℕ) → count ≤ read - done →
     take (read - (done + count)) (drop (done + count) events) ≡ drop count (take (read - done) (drop done events))

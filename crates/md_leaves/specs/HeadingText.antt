@@ -1,6 +1,6 @@
 -- The text of an ATX heading, among the events: one part from the run behind its opening sequence to the last run that
 -- is no closing sequence (CommonMark 4.2).
-use Rattle.std.specs.Prelude.{Bool, true, false, ◌&&◌, ◌||◌, if◌then◌else◌, List, [], ◌∷◌, ◌++◌, Option, Some, None}
+use Rattle.std.specs.Prelude.{Bool, true, false, ◌&&◌, ◌||◌, not, if◌then◌else◌, List, [], ◌∷◌, ◌++◌, Option, Some, None}
 use Rattle.md_engine.specs.declared.event.Event.{Event}
 use Rattle.md_engine.specs.declared.event.Name.{Name}
 use Rattle.md_engine.specs.declared.event.Name.TheVariants as n
@@ -28,6 +28,10 @@ begins is_name e = is_enter e.kind && is_name e.name
 
 abbrev pub ends : (Name → Bool) → Event → Bool
 ends is_name e = is_exit e.kind && is_name e.name
+
+-- whether no heading begins here
+abbrev pub is_outside : Event → Bool
+is_outside e = not (begins is_heading e)
 
 -- the text of a heading, as one part that is read later
 abbrev pub linked_text : Option Chunk → List Event

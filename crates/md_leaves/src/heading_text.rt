@@ -1,8 +1,10 @@
 // The text of each ATX heading, in one walk over the events.
 
-ghost use Rattle.std.specs.Prelude.{◌≡◌, ℕ, List, [], ◌++◌, IfOk, OnOk, drop, length, ◌≤◌};
+ghost use Rattle.std.specs.Prelude.{◌≡◌, false, ℕ, List, [], ◌++◌, IfOk, OnOk, drop, length, ◌≤◌};
+ghost use Rattle.std.specs.List.{prefix_len};
 ghost use Rattle.md_leaves.specs.Rewritten.{IsFirst, held_of, left_of, written_of};
-ghost use Rattle.md_leaves.specs.HeadingText.{begins, ends, headings_resolved, is_heading, is_run, is_sequence};
+ghost use Rattle.md_leaves.specs.HeadingText.{begins, ends, headings_resolved, is_heading, is_outside, is_run};
+ghost use Rattle.md_leaves.specs.HeadingText.{is_sequence};
 ghost use Rattle.md_leaves.specs.HeadingText.{text_between};
 ghost use Rattle.md_seam.specs.Parts.{ArePlaced};
 ghost use Rattle.md_seam.specs.Events.Tiles.{is_data};
@@ -17,6 +19,19 @@ fn begins_heading(event: &Event) -> bool
     ensures { result ≡ begins is_heading event.now }
 {
     matches!(event.kind, Kind::Enter) && matches!(event.name, Name::HeadingAtx)
+}
+
+/// How many of the events come before the first heading.
+fn until_heading(events: &[Event]) -> usize
+    ensures value { result ≡ prefix_len is_outside events.now }
+    ensures within { result ≤ length events.now }
+{
+    for (at, event) in events.iter().enumerate() {
+        if begins_heading(event) {
+            return at;
+        }
+    }
+    events.len()
 }
 
 /// Whether a heading ends here.
@@ -134,7 +149,7 @@ struct Walk {
 }
 
 impl Walk {
-    ghost use Rattle.md_leaves.specs.HeadingWalk.{finished, stepped, walk_of};
+    ghost use Rattle.md_leaves.specs.HeadingWalk.{finished, in_all, stepped, walk_of};
 
     /// Goes on with an event outside of headings.
     fn step_outside(&mut self, event: Event)
@@ -218,6 +233,26 @@ impl Walk {
         Ok(())
     }
 
+    /// Whether it stands in a heading.
+    fn is_in_heading(&self) -> bool
+        ensures { result ≡ false → self.now.stage ≡ Stage.Outside }
+    {
+        !matches!(self.stage, Stage::Outside)
+    }
+
+    /// Goes over events in front of the next heading at once.
+    fn pass(&mut self)
+        ensures same { in_all (walk_of self.new) (left_of self.new.all) ≡
+            in_all (walk_of self.old) (left_of self.old.all) }
+        ensures fewer { length (left_of self.new.all) ≤ length (left_of self.old.all) }
+    {
+        if self.is_in_heading() {
+            return;
+        }
+        let many = until_heading(self.all.left());
+        self.all.hold_many(many);
+    }
+
     /// Goes on with the event that is left first.
     fn step(&mut self, event: Event) -> Result<(), Message>
         requires { IsFirst event (left_of self.old.all) }
@@ -271,6 +306,7 @@ pub fn put_texts(events: Vec<Event>, spare: Vec<Event>) -> Result<(Vec<Event>, V
     };
     while let Some(event) = walk.all.first() {
         walk.step(event)?;
+        walk.pass();
     }
     let (mut all, spare) = walk.finish()?;
     all.shrink_to_fit();

@@ -36,7 +36,7 @@ use Rattle.md_definition.proofs.TextsLemmas.{split-next}
 -- Points that one comes to from the first.
 
 -- a point comes before another
-abbrev Before : Point → Point → Type 0
+abbrev pub Before : Point → Point → Type 0
 Before p q = (p.index < q.index) ⊎ ((p.index ≡ q.index) × (p.vs < q.vs))
 
 before-trans : (p q r : Point) → Before p q → Before q r → Before p r
@@ -59,7 +59,7 @@ before-next bytes p =
     go false y true = inr (refl, omega arith)
     go false y false = inl (omega arith)
 
-walk-before : (bytes : List ℕ) (n m : ℕ) → n < m → Before (walked bytes n) (walked bytes m)
+pub walk-before : (bytes : List ℕ) (n m : ℕ) → n < m → Before (walked bytes n) (walked bytes m)
 unfolding walked
 walk-before bytes n zero h = absurd (omega arith)
 walk-before bytes n (suc m) h = elim (cases_lt n m) [
@@ -129,7 +129,7 @@ next-within bytes p q h k lt =
     ∥∥₁_elim h.reached (hlevel props)
     (λ r. ∥∥₁_elim k.reached (hlevel props) (λ s. reached-next_within bytes p q r s lt))
 
-reached-column : (bytes : List ℕ) (p : Point) → IsReached bytes p → 1 ≤ p.column
+pub reached-column : (bytes : List ℕ) (p : Point) → IsReached bytes p → 1 ≤ p.column
 unfolding walked
 reached-column bytes p (zero, e) = rw e (omega arith)
 reached-column bytes p (suc n, e) = rw e (go (walked bytes n))

@@ -1,4 +1,4 @@
-use Rattle.std.proofs.Common.{◌≡◌, ◌∙◌, arith, refl}
+use Rattle.std.proofs.Common.{◌≡◌, ◌<◌, ◌∙◌, arith, length, refl}
 use Rattle.md_leaves.specs.HeadingText.{headings_resolved}
 use Rattle.md_leaves.specs.HeadingWalk.{walk_of}
 use Rattle.md_leaves.specs.Rewritten.{left_of}
@@ -9,11 +9,15 @@ pub loop-event-init : goal.loop-event-init
 loop-event-init c = rw (c.new.ensures.written, c.new.ensures.held, c.new.ensures.left) refl
 
 pub loop-event-smaller : goal.loop-event-smaller
-loop-event-smaller c = rw (c.in_ok-step.ensures.left, c.in-Some.ensures.some) (omega arith)
+loop-event-smaller c =
+    let fewer : length (left_of c.step.new.self.all) < length (left_of c.loop-event.walk.all) =
+    rw (c.in_ok-step.ensures.left, c.in-Some.ensures.some) (omega arith) in
+    omega (arith, fewer, c.pass.ensures.fewer)
 
 pub loop-event-preserved : goal.loop-event-preserved
 loop-event-preserved c =
-    walk-next (walk_of c.loop-event.walk) (walk_of c.step.new.self) (left_of c.loop-event.walk.all)
+    c.pass.ensures.same
+    ∙ walk-next (walk_of c.loop-event.walk) (walk_of c.step.new.self) (left_of c.loop-event.walk.all)
     (left_of c.step.new.self.all) (headings_resolved c.args.events.items) c.in-Some.event
     c.in-Some.ensures.some c.in_ok-step.ensures.walked c.in_ok-step.ensures.left c.loop-event.invariant
 
