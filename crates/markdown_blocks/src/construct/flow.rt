@@ -262,6 +262,23 @@ fn containers_new(tokenizer: &mut Tokenizer) -> State
     }
 }
 
+/// Behind all containers of a line: where nothing is left of it, it ends at once, and else may be blank.
+fn behind_containers(tokenizer: &mut Tokenizer) -> State
+    requires { IsAt NeedsNothing (StateName.Document DocumentState.ContainersAfter) (world tokenizer.old) }
+    ensures runs { result ≢ State.Error →
+        RunsHere (FlowStep (λ target other. ⟦<ResolveName as PartialEq>⟧.eq other target))
+        (StateName.Document DocumentState.ContainersAfter) (world tokenizer.old) result (world tokenizer.new) }
+    ensures sees { result ≢ State.Error → SeesOn result (world tokenizer.old) (world tokenizer.new) }
+{
+    document::containers_after(tokenizer);
+    if blank_line::ends_line(tokenizer.current) {
+        blank_line_after(tokenizer);
+        document::flow_end(tokenizer)
+    } else {
+        blank_line_before(tokenizer)
+    }
+}
+
 /// At the begin of a line, or behind a prefix: goes on behind the containers that go on.
 #[inline(always)]
 fn containers(tokenizer: &mut Tokenizer) -> State
@@ -274,6 +291,9 @@ fn containers(tokenizer: &mut Tokenizer) -> State
     match document::containers_existing(tokenizer) {
         State::Retry(StateName::Document(DocumentState::ContainerNewBefore)) => {
             containers_new(tokenizer)
+        }
+        State::Retry(StateName::Document(DocumentState::ContainersAfter)) => {
+            behind_containers(tokenizer)
         }
         state => state,
     }
