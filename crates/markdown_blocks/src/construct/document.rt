@@ -141,12 +141,13 @@ pub fn container_existing_before(tokenizer: &mut Tokenizer) -> State
 }
 
 /// Whether the next container goes on, with a prefix that can be taken at once.
-fn goes_on_at_once(tokenizer: &Tokenizer) -> bool
-    ensures { result ≡ true → GoesAtOnce (world tokenizer.now) }
+fn goes_on_at_once(tokenizer: &mut Tokenizer) -> bool
+    ensures goes { result ≡ true → GoesAtOnce (world tokenizer.old) }
+    ensures same { world tokenizer.new ≡ world tokenizer.old }
 {
     match next_container(tokenizer) {
         None => false,
-        Some(container) => registry::has_plain_prefix(container.kind, tokenizer),
+        Some(container) => registry::has_plain_prefix(container, tokenizer),
     }
 }
 
