@@ -282,6 +282,21 @@ ends-anywhere u w (Some b) same = go (nat_eq b 10)
 pub line-leaves : (w : World) → Leaves (flow_end_transition w) w
 line-leaves w = ends-anywhere (closed w (stays w.flags) w.flags.line_end) w w.current refl
 
+-- One has come to a state, where one was or something may be read, and it is called last.
+pub ends-behind : (is_name : ResolveName → ResolveName → Bool) (first name : StateName) (old w : World) (to : State)
+    (new : World) →
+    CameHere (FlowStep is_name) first old name w → Leaves (flow_transition is_name name w) w →
+    to ≡ (flow_transition is_name name w).to → new ≡ (flow_transition is_name name w).world → to ≢ Error →
+    w.current ≡ looks w → Within w → (w.point ≡ old.point) ⊎ (w.point.index < w.setting.limit) →
+    RunsHere (FlowStep is_name) first old to new × SeesOn to old new
+ends-behind is_name first name old w to new came leaves to_is new_is fine seen within there =
+    let same : new.setting ≡ w.setting = ap (λ (x : World). x.setting) new_is ∙ leaves.1 in
+    let remains = remains-of (flow_transition is_name name w) to w new to_is new_is leaves.0 in (
+      came-calls (FlowStep is_name) first name old w to new came (record { to_is = to_is; new_is = new_is }) fine same
+          within,
+      sees-from to old w new (call-sees to w new remains same seen) same there,
+    )
+
 -- One has come to a state, where one was, and it is called last.
 pub ends-with : (is_name : ResolveName → ResolveName → Bool) (first name : StateName) (old w : World) (to : State)
     (new : World) →
@@ -290,12 +305,7 @@ pub ends-with : (is_name : ResolveName → ResolveName → Bool) (first name : S
     w.current ≡ looks w → Within w → w.point ≡ old.point →
     RunsHere (FlowStep is_name) first old to new × SeesOn to old new
 ends-with is_name first name old w to new came leaves to_is new_is fine seen within there =
-    let same : new.setting ≡ w.setting = ap (λ (x : World). x.setting) new_is ∙ leaves.1 in
-    let remains = remains-of (flow_transition is_name name w) to w new to_is new_is leaves.0 in (
-      came-calls (FlowStep is_name) first name old w to new came (record { to_is = to_is; new_is = new_is }) fine same
-          within,
-      sees-from to old w new (call-sees to w new remains same seen) same (inl there),
-    )
+    ends-behind is_name first name old w to new came leaves to_is new_is fine seen within (inl there)
 
 -- One has come to a state, where one was, and more runs from there.
 pub runs-on : (is_name : ResolveName → ResolveName → Bool) (first name : StateName) (old w : World) (to : State)

@@ -246,7 +246,8 @@ fn leaves(tokenizer: &mut Tokenizer) -> State
     }
 }
 
-/// Before the first container that may open: where none may by what stands here, the leaf of the line is next.
+/// Before the first container that may open: where none may by what stands here, the leaf of the line is next; and one
+/// opens at once whose prefix can be taken so.
 fn containers_new(tokenizer: &mut Tokenizer) -> State
     requires { IsAt NeedsNothing (StateName.Document (opener_front openers)) (world tokenizer.old) }
     ensures runs { result ≢ State.Error →
@@ -257,6 +258,8 @@ fn containers_new(tokenizer: &mut Tokenizer) -> State
     if registry::opens_none(tokenizer.current) {
         document::pass_openers(tokenizer);
         leaves(tokenizer)
+    } else if registry::opens_plainly(tokenizer) {
+        document::opens_at_once(tokenizer)
     } else {
         document::container_new_before(tokenizer)
     }

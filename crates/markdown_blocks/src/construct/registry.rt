@@ -7,6 +7,8 @@
 // What flow itself is made of (blank lines, content, whitespace) stands in its own table.
 
 ghost use Rattle.std.specs.Prelude.{◌≡◌, ◌≢◌, [], IfOk, None, OnOk, true};
+ghost use Rattle.md_containers.specs.PlainBullet.{IsPlainBullet, bulleted};
+ghost use Rattle.md_engine.specs.declared.tokenizer.container.name.ContainerKind.{ContainerKind};
 ghost use Rattle.std.specs.Option.{option_map};
 ghost use Rattle.md_engine.specs.Found.{found_in};
 ghost use Rattle.md_engine.specs.Scheme.{stands};
@@ -152,6 +154,31 @@ pub fn take_plain_prefix(tokenizer: &mut Tokenizer) -> Result<(), Message>
         ContainerKind::BlockQuote => block_quote::take_plain_prefix(tokenizer),
         ContainerKind::ListItem => plain_item::take_plain_indent(tokenizer),
     }
+}
+
+/// Whether a container opens here with a first prefix that can be taken at once.
+#[inline(always)]
+pub fn opens_plainly(tokenizer: &Tokenizer) -> bool
+    ensures { result ≡ true → IsPlainBullet (world tokenizer.now) }
+{
+    plain_item::is_plain_bullet(tokenizer)
+}
+
+/// The kind of that container.
+#[inline(always)]
+pub fn plain_opener() -> ContainerKind
+    ensures { result ≡ ContainerKind.ListItem }
+{
+    ContainerKind::ListItem
+}
+
+/// Takes that prefix, as the states of the container that is tried do, and sees what stands behind it.
+#[inline(always)]
+pub fn take_plain_opening(tokenizer: &mut Tokenizer) -> Result<(), Message>
+    requires { IsPlainBullet (world tokenizer.old) }
+    ensures { OnOk result (world tokenizer.new ≡ bulleted (world tokenizer.old)) }
+{
+    plain_item::take_plain_bullet(tokenizer)
 }
 
 /// The state in front of the prefix of a container on a further line.
