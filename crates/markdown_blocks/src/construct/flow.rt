@@ -327,6 +327,7 @@ fn call_heading(tokenizer: &mut Tokenizer, state: HeadingState) -> State
 {
     match state {
         HeadingState::AtBreak => heading_atx::words(tokenizer),
+        HeadingState::SequenceOpen => heading_atx::opens(tokenizer),
         _ => heading_atx::call(tokenizer, state),
     }
 }
