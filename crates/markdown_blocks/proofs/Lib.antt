@@ -16,6 +16,7 @@ pub mod ContentFacts
 pub mod LineTexts
 pub mod RowKinds
 pub mod Openers
+pub mod OpensAtOnce
 pub mod OutsideFacts
 pub mod BetweenFacts
 pub mod PartedFacts

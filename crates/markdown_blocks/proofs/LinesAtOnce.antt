@@ -11,6 +11,7 @@ use Rattle.md_engine.specs.declared.state.Name.{Name as StateName}
 use Rattle.md_engine.specs.declared.state.Name.TheVariants as n
 use Rattle.md_engine.specs.declared.state.document.State.{State as DocumentState}
 use Rattle.md_engine.specs.declared.state.document.State.TheVariants as document
+use Rattle.md_engine.specs.declared.state.blank_line.State.TheVariants as blank_line
 use Rattle.md_engine.specs.declared.state.flow.State.{State as FlowState}
 use Rattle.md_engine.specs.declared.state.flow.State.TheVariants as flow
 use Rattle.md_engine.specs.declared.state.State.{State}
@@ -24,6 +25,7 @@ use Rattle.md_engine.proofs.Loops.{CameHere, CameTo, call-sees, came-calls, came
 use Rattle.md_engine.proofs.Loops.{came-stays, reading-same}
 use Rattle.md_engine.proofs.Walks.{Within, then-stays}
 use Rattle.md_content.specs.Chunks.{chunk_inside_code}
+use Rattle.md_leaves.specs.Blank as blank
 use Rattle.md_leaves.proofs.HeadingWords.{remains-of, sees-from}
 use Rattle.md_seam.specs.Look.{behind_code, first_behind, looks_behind, may_with}
 use Rattle.md_seam.specs.Spaces.{ends_line}
@@ -34,7 +36,7 @@ use Rattle.markdown_blocks.specs.Flow.{before_transition, blank_line_before_tran
 use Rattle.markdown_blocks.specs.Flow.{flow_end_code, flow_end_transition}
 use Rattle.markdown_blocks.specs.Flow.{flow_own_transition, leaf_transition, new_before_transition, opener_transition}
 use Rattle.markdown_blocks.specs.Flow.{trial_code}
-use Rattle.markdown_blocks.specs.LineFlags.{asking, ending_name, next_line, stays}
+use Rattle.markdown_blocks.specs.LineFlags.{asking, begun_line, blanked, ending_name, next_line, stays}
 use Rattle.markdown_blocks.specs.Registry.{LeafName, container_rules, front_of, leaf, may_open, next_of}
 use Rattle.markdown_blocks.specs.Registry.{next_opener, opener_at, opener_front, openers, opens_with}
 use Rattle.markdown_blocks.specs.Registry.{trials, tried_at}
@@ -173,6 +175,33 @@ begins-none w e = go w.current refl e
         let dark = or_parts (is_white b) any (not-true (is_white b || any) is) in
         record { byte = b; here = looks-dark w b here dark.0; none = dark.1 }
 
+-- Behind all containers the line may be blank,
+pub line-begun : (is_name : ResolveName → ResolveName → Bool) (is_end : Bool) (s : State) (v w : World) →
+    w.current ≡ looks w → Within w → CameTo (FlowStep is_name) is_end s v (n.Document document.ContainersAfter) w →
+    CameTo (FlowStep is_name) is_end s v (n.Flow flow.BlankLineBefore) (record w { flags = begun_line w.flags })
+line-begun is_name is_end s v w seen within came =
+    let T = FlowStep is_name in
+    let u : World = record w { flags = begun_line w.flags } in
+    let begun = then-stays T is_end s v (n.Document document.ContainersAfter) (n.Flow flow.Start) w u came
+    (record { to_is = refl; new_is = refl }) refl within refl seen in
+    then-stays T is_end s v (n.Flow flow.Start) (n.Flow flow.BlankLineBefore) u u begun
+    (record { to_is = refl; new_is = refl }) refl within refl seen
+
+-- and it is, and ends, where nothing is left of it
+pub line-over : (is_name : ResolveName → ResolveName → Bool) (is_end : Bool) (s : State) (v w : World) →
+    ends_line w.current ≡ true → w.current ≡ looks w → Within w →
+    CameTo (FlowStep is_name) is_end s v (n.Flow flow.BlankLineBefore) w →
+    CameTo (FlowStep is_name) is_end s v (n.Document document.FlowEnd) (record w { flags = blanked w.flags })
+line-over is_name is_end s v w ends seen within came =
+    let T = FlowStep is_name in
+    let is : blank_line_before_transition w ≡ record { to = Retry (n.Flow flow.BlankLineAfter); world = w } =
+    ap (λ (x : Bool). blank_line_code w x (may_with blank.may_begin (looks_behind w))) ends in
+    let blank = then-stays T is_end s v (n.Flow flow.BlankLineBefore) (n.Flow flow.BlankLineAfter) w w came
+    (record { to_is = sym (ap (λ (y : Transition). y.to) is); new_is = sym (ap (λ (y : Transition). y.world) is) }) refl
+    within refl seen in
+    then-stays T is_end s v (n.Flow flow.BlankLineAfter) (n.Document document.FlowEnd) w
+    (record w { flags = blanked w.flags }) blank (record { to_is = refl; new_is = refl }) refl within refl seen
+
 -- So one comes to the leaf of the line,
 pub passes-openers : (is_name : ResolveName → ResolveName → Bool) (is_end : Bool) (s : State) (v w : World) →
     opens_none w.current ≡ true → w.current ≡ looks w → Within w →
@@ -184,10 +213,7 @@ passes-openers is_name is_end s v w e seen within came =
     let is = opens-none w e in
     let u : World = openers_passed w in
     let behind = openers-refuse is_name is_end s v openers w refl is.refused seen within came in
-    let begun = then-stays T is_end s v (n.Document document.ContainersAfter) (n.Flow flow.Start) (all_asked openers w) u
-    behind (record { to_is = refl; new_is = refl }) refl within refl seen in
-    let start = then-stays T is_end s v (n.Flow flow.Start) (n.Flow flow.BlankLineBefore) u u begun
-    (record { to_is = refl; new_is = refl }) refl within refl seen in
+    let start = line-begun is_name is_end s v (all_asked openers w) seen within behind in
     let no : blank_line_before_transition u ≡ record { to = Retry (n.Flow (front_of trials)); world = u } =
     ap₂ (λ (x y : Bool). blank_line_code u x y) is.not_end is.not_blank in
     then-stays T is_end s v (n.Flow flow.BlankLineBefore) (n.Flow (front_of trials)) u u start
@@ -215,6 +241,15 @@ pub opener-leaves : (k : ContainerKind) (w : World) → Leaves (new_before_trans
 opener-leaves k w =
     trial-leaves (opens_with k) (n.Document document.ContainerNewAfter) (n.Document (next_opener k)) w
     (asking (container_of k) w) (may_with (may_open k) (looks_behind w)) refl refl refl
+
+pub blank-leaves : (w : World) → Leaves (blank_line_before_transition w) w
+blank-leaves w = go (ends_line w.current)
+  where
+    go : (x : Bool) → Leaves (blank_line_code w x (may_with blank.may_begin (looks_behind w))) w
+    go true = ((refl, refl), refl)
+    go false =
+        trial-leaves (n.BlankLine blank_line.Start) (n.Flow flow.BlankLineAfter) (n.Flow (front_of trials)) w w
+        (may_with blank.may_begin (looks_behind w)) refl refl refl
 
 pub leaf-leaves : (l : LeafName) (w : World) → Leaves (before_transition l w) w
 leaf-leaves l w =
@@ -248,6 +283,21 @@ ends-anywhere u w (Some b) same = go (nat_eq b 10)
 pub line-leaves : (w : World) → Leaves (flow_end_transition w) w
 line-leaves w = ends-anywhere (closed w (stays w.flags) w.flags.line_end) w w.current refl
 
+-- One has come to a state, where one was or something may be read, and it is called last.
+pub ends-behind : (is_name : ResolveName → ResolveName → Bool) (first name : StateName) (old w : World) (to : State)
+    (new : World) →
+    CameHere (FlowStep is_name) first old name w → Leaves (flow_transition is_name name w) w →
+    to ≡ (flow_transition is_name name w).to → new ≡ (flow_transition is_name name w).world → to ≢ Error →
+    w.current ≡ looks w → Within w → (w.point ≡ old.point) ⊎ (w.point.index < w.setting.limit) →
+    RunsHere (FlowStep is_name) first old to new × SeesOn to old new
+ends-behind is_name first name old w to new came leaves to_is new_is fine seen within there =
+    let same : new.setting ≡ w.setting = ap (λ (x : World). x.setting) new_is ∙ leaves.1 in
+    let remains = remains-of (flow_transition is_name name w) to w new to_is new_is leaves.0 in (
+      came-calls (FlowStep is_name) first name old w to new came (record { to_is = to_is; new_is = new_is }) fine same
+          within,
+      sees-from to old w new (call-sees to w new remains same seen) same there,
+    )
+
 -- One has come to a state, where one was, and it is called last.
 pub ends-with : (is_name : ResolveName → ResolveName → Bool) (first name : StateName) (old w : World) (to : State)
     (new : World) →
@@ -256,12 +306,7 @@ pub ends-with : (is_name : ResolveName → ResolveName → Bool) (first name : S
     w.current ≡ looks w → Within w → w.point ≡ old.point →
     RunsHere (FlowStep is_name) first old to new × SeesOn to old new
 ends-with is_name first name old w to new came leaves to_is new_is fine seen within there =
-    let same : new.setting ≡ w.setting = ap (λ (x : World). x.setting) new_is ∙ leaves.1 in
-    let remains = remains-of (flow_transition is_name name w) to w new to_is new_is leaves.0 in (
-      came-calls (FlowStep is_name) first name old w to new came (record { to_is = to_is; new_is = new_is }) fine same
-          within,
-      sees-from to old w new (call-sees to w new remains same seen) same (inl there),
-    )
+    ends-behind is_name first name old w to new came leaves to_is new_is fine seen within (inl there)
 
 -- One has come to a state, where one was, and more runs from there.
 pub runs-on : (is_name : ResolveName → ResolveName → Bool) (first name : StateName) (old w : World) (to : State)

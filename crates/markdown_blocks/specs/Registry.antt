@@ -1,5 +1,5 @@
 -- The constructs that are built, and their order: the one place of the frame's definitions that names them.
-use Rattle.std.specs.Prelude.{◌≡◌, refl, Bool, ℕ, zero, suc, ◌+◌, ◌*◌, nat_lt, true, false, ◌==◌, if◌then◌else◌}
+use Rattle.std.specs.Prelude.{◌≡◌, refl, Bool, ℕ, zero, suc, ◌+◌, ◌*◌, nat_lt, true, ◌==◌, if◌then◌else◌}
 use Rattle.std.specs.Option.{option_or}
 use Rattle.std.specs.Prelude.{List, [], ◌∷◌, length, Option, Some, None}
 use Rattle.md_engine.specs.declared.configuration.ParseOptions.{ParseOptions}
@@ -240,11 +240,6 @@ may_open k b = (container_rules k).may_open b
 
 abbrev pub may_go_on : ContainerKind → ℕ → Bool
 may_go_on k b = (container_rules k).may_go_on b
-
--- whether that prefix may be taken at once
-abbrev pub goes_at_once : ContainerKind → Bool
-goes_at_once kind.BlockQuote = true
-goes_at_once kind.ListItem = false
 
 -- by the cells of a line, the container that opens, if one does: the first of these
 abbrev pub opens_by : ParseOptions → Bool → List Cell → Point → List ContainerKind → Option Passed

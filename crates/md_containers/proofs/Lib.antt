@@ -22,6 +22,8 @@ pub mod ListedKept
 pub mod ListedNests
 pub mod ListedParts
 pub mod ListedFilled
+pub mod PlainBullet
+pub mod PlainItem
 pub mod PlainPrefix
 pub mod ItemDigits
 pub mod ItemMarker

@@ -8,5 +8,7 @@ pub mod Listed
 pub mod ItemsStand
 pub mod ListedWalk
 pub mod ItemsHeld
+pub mod PlainBullet
+pub mod PlainItem
 pub mod PlainPrefix
 pub mod Unlisted

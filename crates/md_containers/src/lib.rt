@@ -5,3 +5,4 @@ pub mod block_quote;
 mod interrupts;
 pub mod list_item;
 pub mod lists;
+pub mod plain_item;

@@ -51,7 +51,7 @@ const DIGITS: usize = 9;
 const PADDING: usize = 4;
 
 /// Whether this is the marker of an item without a number.
-fn is_bullet(byte: u8) -> bool
+pub(crate) fn is_bullet(byte: u8) -> bool
     ensures { result ≡ is_bullet byte }
 {
     byte == b'*' || byte == b'+' || byte == b'-'
@@ -356,14 +356,14 @@ pub fn prefix_other(tokenizer: &mut Tokenizer) -> State
 }
 
 /// So many columns, and one at least: no item is less wide.
-fn at_least_one(columns: usize) -> usize
+pub(crate) fn at_least_one(columns: usize) -> usize
     ensures { result ≡ at_least_one columns }
 {
     if columns == 0 { 1 } else { columns }
 }
 
 /// The columns from the begin of the item that is tried to here; where its first line is blank, one more.
-fn width_here(tokenizer: &Tokenizer, blank: bool) -> usize
+pub(crate) fn width_here(tokenizer: &Tokenizer, blank: bool) -> usize
     ensures { result ≡
         width_here (world tokenizer.now).point.column (world tokenizer.now).flags.asked_column blank }
 {

@@ -1,8 +1,8 @@
 -- Words of a heading that are taken at once are what its states take.
-use Rattle.std.proofs.Common.{◌≡◌, ℕ, ◌<◌, ◌≤◌, Bool, true, false, ◌&&◌, ◌||◌, not, nat_eq, ◌∷◌, []}
+use Rattle.std.proofs.Common.{◌≡◌, ℕ, ◌<◌, ◌≤◌, Bool, true, false, ◌&&◌, ◌||◌, not, nat_eq, nat_lt, ◌∷◌, []}
 use Rattle.std.proofs.Common.{Option, Some, None, refl, sym, ◌∙◌, ap, ap₂, inl, inr, ◌⊎◌, subst}
 use Rattle.md_engine.specs.declared.class.Class.TheVariants as class
-use Rattle.md_engine.specs.declared.event.Name.TheVariants.{Data}
+use Rattle.md_engine.specs.declared.event.Name.TheVariants.{Data, HeadingAtxSequence}
 use Rattle.md_engine.specs.declared.resolve.name.Name.{Name as ResolveName}
 use Rattle.md_engine.specs.declared.state.Name.TheVariants as n
 use Rattle.md_engine.specs.declared.state.heading_atx.State.TheVariants as its
@@ -17,7 +17,8 @@ use Rattle.md_engine.specs.World.{World, looks}
 use Rattle.md_engine.proofs.Loops.{CameTo}
 use Rattle.md_engine.proofs.StayLemmas.{in-line, seen-inside}
 use Rattle.md_engine.proofs.Walks.{TakesSo, Within, then-seen, then-stays, then-waits, within-more}
-use Rattle.md_leaves.specs.Heading.{at_break_code, data_code, heading_link, heading_transition, sees_text}
+use Rattle.md_leaves.specs.Heading.{at_break_code, behind_part, data_code, heading_link, heading_transition}
+use Rattle.md_leaves.specs.Heading.{sees_text, sequence_open_code, without_size}
 use Rattle.md_leaves.specs.HeadingWords.{HeadingStep, begins_word}
 use Rattle.md_seam.specs.Events.Nested.{exit}
 use Rattle.md_seam.specs.OneSpace.{IsOneSpace, spaced}
@@ -98,7 +99,42 @@ word-ends is_name is_end s v w came seen within one =
     (within-more w.frames w.events (exit Data w.point ∷ []) within)
     (record { here = one.here; next = one.next; behind = one.behind })
 
+-- Where one space stands behind the opening sequence, it ends, and the first run of the line begins.
+abbrev pub opening_ended : World → World
+opening_ended w = record (exited w HeadingAtxSequence) { scratch = without_size w.scratch }
+
+pub opening-ends : (is_name : ResolveName → Bool) (is_end : Bool) (s : State) (v w : World) →
+    CameTo (HeadingStep is_name) is_end s v (n.HeadingAtx its.SequenceOpen) w → w.current ≡ looks w → Within w →
+    IsOneSpace w →
+    CameTo (HeadingStep is_name) is_end s v (n.HeadingAtx its.AtBreak) (spaced (opening_ended w))
+opening-ends is_name is_end s v w came seen within one =
+    let here : w.current ≡ Some 32 = seen ∙ one.here in
+    let x : World = opening_ended w in
+    let u : World = (white_then x 1 any_size (Next (n.HeadingAtx its.AtBreak)) Nok).world in
+    space-run (HeadingStep is_name) is_end s v (n.HeadingAtx its.AtBreak) x
+    (λ state y to new e. stepped (white_transition state y) to new e)
+    (then-stays (HeadingStep is_name) is_end s v (n.HeadingAtx its.SequenceOpen) (n.SpaceOrTab white.Start) w u came
+    (stepped (heading_transition is_name its.SequenceOpen w) (Retry (n.SpaceOrTab white.Start)) u
+    (ap
+    (λ (o : Option ℕ).
+    sequence_open_code w (is_current 35 o && nat_lt w.scratch.size 6) (sees_text o) (sees_white o)) here)) refl within
+    refl seen) seen
+    (within-more w.frames w.events (exit HeadingAtxSequence w.point ∷ []) within)
+    (record { here = one.here; next = one.next; behind = one.behind })
+
 -- What a single call leaves.
+pub part-remains : (w x : World) (y : Bool) → x.point ≡ w.point → x.current ≡ w.current → x.setting ≡ w.setting →
+    Remains (behind_part x y).to w (behind_part x y).world × ((behind_part x y).world.setting ≡ w.setting)
+part-remains w x true there same text = ((there, same), text)
+part-remains w x false there same text = ((there, same), text)
+
+pub opening-remains : (w : World) (x y z : Bool) →
+    Remains (sequence_open_code w x y z).to w (sequence_open_code w x y z).world ×
+    ((sequence_open_code w x y z).world.setting ≡ w.setting)
+opening-remains w true y z = (tt, refl)
+opening-remains w false true z = (tt, refl)
+opening-remains w false false z = part-remains w (opening_ended w) z refl refl refl
+
 pub data-remains : (w : World) (x y : Bool) → Remains (data_code w x y).to w (data_code w x y).world ×
     ((data_code w x y).world.setting ≡ w.setting)
 data-remains w true y = (tt, refl)

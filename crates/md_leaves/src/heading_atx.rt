@@ -258,6 +258,30 @@ pub fn words(tokenizer: &mut Tokenizer) -> State
     at_break(tokenizer)
 }
 
+/// In the opening sequence: where one space stands behind it, goes on at once with the words, as the states do one after
+/// another.
+///
+/// ```markdown
+/// > | ## aa bb
+///       ^
+/// ```
+pub fn opens(tokenizer: &mut Tokenizer) -> State
+    requires { IsAt NeedsNothing (StateName.HeadingAtx HeadingState.SequenceOpen) (world tokenizer.old) }
+    ensures runs { result ≢ State.Error →
+        RunsHere (HeadingStep (λ name. ⟦<ResolveName as PartialEq>⟧.eq name ResolveName.HeadingAtx))
+        (StateName.HeadingAtx HeadingState.SequenceOpen) (world tokenizer.old) result (world tokenizer.new) }
+    ensures sees { result ≢ State.Error → SeesOn result (world tokenizer.old) (world tokenizer.new) }
+{
+    if is_one_space(tokenizer) {
+        tokenizer.scratch.size = 0;
+        or_error!(tokenizer.exit(Name::HeadingAtxSequence));
+        or_error!(take_one_space(tokenizer));
+        words(tokenizer)
+    } else {
+        sequence_open(tokenizer)
+    }
+}
+
 /// Calls a state of a heading.
 #[inline(always)]
 pub fn call(tokenizer: &mut Tokenizer, state: HeadingState) -> State

@@ -24,6 +24,8 @@ ghost use Rattle.markdown_blocks.specs.Flow.{new_before_transition};
 ghost use Rattle.md_engine.specs.declared.tokenizer.container.name.ContainerKind.{ContainerKind};
 ghost use Rattle.markdown_blocks.specs.LineFlags.{asking, ended_on, ending_name, next_container, stays};
 ghost use Rattle.markdown_blocks.specs.AtOnce.{GoesAtOnce, asking_next, openers_passed};
+ghost use Rattle.md_containers.specs.PlainBullet.{IsPlainBullet};
+ghost use Rattle.markdown_blocks.specs.Registry.{opener_front, openers};
 ghost use Rattle.markdown_blocks.specs.States.{FlowStep};
 ghost use Rattle.md_engine.specs.declared.resolve.name.Name.{Name as ResolveName};
 ghost use Rattle.markdown_blocks.specs.HeldLeaf.{takes_lazy};
@@ -141,12 +143,13 @@ pub fn container_existing_before(tokenizer: &mut Tokenizer) -> State
 }
 
 /// Whether the next container goes on, with a prefix that can be taken at once.
-fn goes_on_at_once(tokenizer: &Tokenizer) -> bool
-    ensures { result ≡ true → GoesAtOnce (world tokenizer.now) }
+fn goes_on_at_once(tokenizer: &mut Tokenizer) -> bool
+    ensures goes { result ≡ true → GoesAtOnce (world tokenizer.old) }
+    ensures same { world tokenizer.new ≡ world tokenizer.old }
 {
     match next_container(tokenizer) {
         None => false,
-        Some(container) => registry::has_plain_prefix(container.kind, tokenizer),
+        Some(container) => registry::has_plain_prefix(container, tokenizer),
     }
 }
 
@@ -243,6 +246,21 @@ pub fn pass_openers(tokenizer: &mut Tokenizer)
 {
     ask(tokenizer, Container::new(registry::last_opener()));
     tokenizer.flags.leaf_before = tokenizer.flags.leaf;
+}
+
+/// Before the first container that may open, where one opens with a prefix that can be taken at once: it opens, as by
+/// the states that try one kind after another.
+pub fn opens_at_once(tokenizer: &mut Tokenizer) -> State
+    requires at { IsAt NeedsNothing (StateName.Document (opener_front openers)) (world tokenizer.old) }
+    requires plain { IsPlainBullet (world tokenizer.old) }
+    ensures runs { result ≢ State.Error →
+        RunsHere (FlowStep (λ target other. ⟦<ResolveName as PartialEq>⟧.eq other target))
+        (StateName.Document (opener_front openers)) (world tokenizer.old) result (world tokenizer.new) }
+    ensures sees { result ≢ State.Error → SeesOn result (world tokenizer.old) (world tokenizer.new) }
+{
+    ask(tokenizer, Container::new(registry::plain_opener()));
+    or_error!(registry::take_plain_opening(tokenizer));
+    container_new_after(tokenizer)
 }
 
 /// Before a list item that may open.

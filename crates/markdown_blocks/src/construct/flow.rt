@@ -261,7 +261,8 @@ fn leaves(tokenizer: &mut Tokenizer) -> State
     }
 }
 
-/// Before the first container that may open: where none may by what stands here, the leaf of the line is next.
+/// Before the first container that may open: where none may by what stands here, the leaf of the line is next; and one
+/// opens at once whose prefix can be taken so.
 fn containers_new(tokenizer: &mut Tokenizer) -> State
     requires { IsAt NeedsNothing (StateName.Document (opener_front openers)) (world tokenizer.old) }
     ensures runs { result ≢ State.Error →
@@ -272,8 +273,27 @@ fn containers_new(tokenizer: &mut Tokenizer) -> State
     if registry::opens_none(tokenizer.current) {
         document::pass_openers(tokenizer);
         leaves(tokenizer)
+    } else if registry::opens_plainly(tokenizer) {
+        document::opens_at_once(tokenizer)
     } else {
         document::container_new_before(tokenizer)
+    }
+}
+
+/// Behind all containers of a line: where nothing is left of it, it ends at once, and else may be blank.
+fn behind_containers(tokenizer: &mut Tokenizer) -> State
+    requires { IsAt NeedsNothing (StateName.Document DocumentState.ContainersAfter) (world tokenizer.old) }
+    ensures runs { result ≢ State.Error →
+        RunsHere (FlowStep (λ target other. ⟦<ResolveName as PartialEq>⟧.eq other target))
+        (StateName.Document DocumentState.ContainersAfter) (world tokenizer.old) result (world tokenizer.new) }
+    ensures sees { result ≢ State.Error → SeesOn result (world tokenizer.old) (world tokenizer.new) }
+{
+    document::containers_after(tokenizer);
+    if blank_line::ends_line(tokenizer.current) {
+        blank_line_after(tokenizer);
+        document::flow_end(tokenizer)
+    } else {
+        blank_line_before(tokenizer)
     }
 }
 
@@ -289,6 +309,9 @@ fn containers(tokenizer: &mut Tokenizer) -> State
     match document::containers_existing(tokenizer) {
         State::Retry(StateName::Document(DocumentState::ContainerNewBefore)) => {
             containers_new(tokenizer)
+        }
+        State::Retry(StateName::Document(DocumentState::ContainersAfter)) => {
+            behind_containers(tokenizer)
         }
         state => state,
     }
@@ -332,6 +355,7 @@ fn call_heading(tokenizer: &mut Tokenizer, state: HeadingState) -> State
 {
     match state {
         HeadingState::AtBreak => heading_atx::words(tokenizer),
+        HeadingState::SequenceOpen => heading_atx::opens(tokenizer),
         _ => heading_atx::call(tokenizer, state),
     }
 }

@@ -7,7 +7,8 @@
 // What flow itself is made of (blank lines, content, whitespace) stands in its own table.
 
 ghost use Rattle.std.specs.Prelude.{◌≡◌, ◌≢◌, [], IfOk, None, OnOk, true};
-ghost use Rattle.md_containers.specs.PlainPrefix.{IsPlainPrefix, prefixed};
+ghost use Rattle.md_containers.specs.PlainBullet.{IsPlainBullet, bulleted};
+ghost use Rattle.md_engine.specs.declared.tokenizer.container.name.ContainerKind.{ContainerKind};
 ghost use Rattle.std.specs.Option.{option_map};
 ghost use Rattle.md_engine.specs.Found.{found_in};
 ghost use Rattle.md_engine.specs.Scheme.{stands};
@@ -15,14 +16,14 @@ ghost use Rattle.md_engine.specs.World.{World, container_of, looks, world};
 ghost use Rattle.md_engine.specs.declared.resolve.name.Name.{Name as ResolveName};
 ghost use Rattle.md_engine.specs.declared.state.State.{State};
 ghost use Rattle.markdown_blocks.specs.LineFlags.{asking};
-ghost use Rattle.markdown_blocks.specs.Registry.{construct_transition, goes_at_once, goes_on_with};
-ghost use Rattle.markdown_blocks.specs.AtOnce.{all_asked, begins_none, opens_none};
+ghost use Rattle.markdown_blocks.specs.Registry.{construct_transition, goes_on_with};
+ghost use Rattle.markdown_blocks.specs.AtOnce.{HasPrefix, all_asked, begins_none, opens_none, prefix_taken};
 ghost use Rattle.markdown_blocks.specs.Registry.{may_go_on, may_open, next_opener, opener_front, openers};
 ghost use Rattle.markdown_blocks.specs.Registry.{opens_with, resolved_by};
 ghost use Rattle.markdown_blocks.specs.States.{flow_table_scheme};
 ghost use Rattle.md_seam.specs.Look.{looks_behind, may_with};
 
-use md_containers::{block_quote, list_item, lists};
+use md_containers::{block_quote, list_item, lists, plain_item};
 use md_engine::class::is_white;
 use md_engine::message::Message;
 use md_engine::resolve::Name as ResolveName;
@@ -31,7 +32,7 @@ use md_engine::state::document::State as DocumentState;
 use md_engine::state::list_item::State as ItemState;
 use md_engine::state::{Name as StateName, State};
 use md_engine::subtokenize::Subresult;
-use md_engine::tokenizer::{ContainerKind, Tokenizer};
+use md_engine::tokenizer::{Container, ContainerKind, Tokenizer};
 use md_leaves::{heading_atx, thematic_break};
 use md_seam::space_or_tab::look_behind;
 
@@ -130,23 +131,54 @@ pub fn may_go_on(tokenizer: &mut Tokenizer, kind: ContainerKind) -> bool
 }
 
 /// Whether the prefix of a container on a further line stands here, so that it can be taken at once.
-pub fn has_plain_prefix(kind: ContainerKind, tokenizer: &Tokenizer) -> bool
-    ensures kind { result ≡ true → goes_at_once kind ≡ true }
-    ensures here { result ≡ true → IsPlainPrefix (world tokenizer.now) }
+pub fn has_plain_prefix(container: Container, tokenizer: &mut Tokenizer) -> bool
+    ensures has { result ≡ true → HasPrefix container container.kind (world tokenizer.old) }
+    ensures same { world tokenizer.new ≡ world tokenizer.old }
 {
-    match kind {
+    match container.kind {
         ContainerKind::BlockQuote => block_quote::is_plain_prefix(tokenizer),
-        ContainerKind::ListItem => false,
+        ContainerKind::ListItem => plain_item::is_plain_indent(tokenizer, container),
     }
 }
 
-/// Takes it, as the states of the container do, and sees what stands behind it.
+/// Takes that of the one that is asked, as its states do, and sees what stands behind it.
 #[inline(always)]
 pub fn take_plain_prefix(tokenizer: &mut Tokenizer) -> Result<(), Message>
-    requires { IsPlainPrefix (world tokenizer.old) }
-    ensures { OnOk result (world tokenizer.new ≡ prefixed (world tokenizer.old)) }
+    requires { HasPrefix (world tokenizer.old).flags.asked (world tokenizer.old).flags.asked.kind (world tokenizer.old) }
+    ensures { OnOk result
+        (world tokenizer.new ≡
+        prefix_taken (world tokenizer.old).flags.asked (world tokenizer.old).flags.asked.kind
+        (world tokenizer.old)) }
 {
-    block_quote::take_plain_prefix(tokenizer)
+    match tokenizer.flags.asked.kind {
+        ContainerKind::BlockQuote => block_quote::take_plain_prefix(tokenizer),
+        ContainerKind::ListItem => plain_item::take_plain_indent(tokenizer),
+    }
+}
+
+/// Whether a container opens here with a first prefix that can be taken at once.
+#[inline(always)]
+pub fn opens_plainly(tokenizer: &Tokenizer) -> bool
+    ensures { result ≡ true → IsPlainBullet (world tokenizer.now) }
+{
+    plain_item::is_plain_bullet(tokenizer)
+}
+
+/// The kind of that container.
+#[inline(always)]
+pub fn plain_opener() -> ContainerKind
+    ensures { result ≡ ContainerKind.ListItem }
+{
+    ContainerKind::ListItem
+}
+
+/// Takes that prefix, as the states of the container that is tried do, and sees what stands behind it.
+#[inline(always)]
+pub fn take_plain_opening(tokenizer: &mut Tokenizer) -> Result<(), Message>
+    requires { IsPlainBullet (world tokenizer.old) }
+    ensures { OnOk result (world tokenizer.new ≡ bulleted (world tokenizer.old)) }
+{
+    plain_item::take_plain_bullet(tokenizer)
 }
 
 /// The state in front of the prefix of a container on a further line.

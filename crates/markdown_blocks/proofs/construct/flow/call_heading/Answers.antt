@@ -34,6 +34,20 @@ returns-in-AtBreak c =
       sees = c.words.ensures.sees;
     }
 
+pub returns-in-SequenceOpen : goal.returns-in-SequenceOpen
+returns-in-SequenceOpen c =
+    let w = world c.args.tokenizer.now in
+    let w' = world c.opens.new.tokenizer in
+    record {
+      runs = λ fine.
+          subst (λ (x : HeadingState). RunsHere (FlowStep is_name) (n.HeadingAtx x) w c.opens.result w')
+          (sym c.in-SequenceOpen.is)
+          (λ is_end s v named sees may.
+          runs-in (HeadingStep (is_name r.HeadingAtx)) (FlowStep is_name) is_end s v c.opens.result w'
+          (heading-flows is_name) (c.opens.ensures.runs fine is_end s v named sees may));
+      sees = c.opens.ensures.sees;
+    }
+
 pub returns-in_default : goal.returns-in_default
 returns-in_default c =
     let w = world c.args.tokenizer.now in

@@ -42,3 +42,31 @@ returns-in-Retry-Document-ContainerNewBefore-clause-sees c = λ fine.
     c.containers_existing.result c.containers_new.result (world c.containers_new.new.tokenizer) c.requires.current is
     (c.containers_existing.ensures.runs come) (c.containers_existing.ensures.sees come)
     (c.containers_new.ensures.runs fine) (c.containers_new.ensures.sees fine)).1
+
+pub returns-in-Retry-Document-ContainersAfter-clause-runs :
+    goal.returns-in-Retry-Document-ContainersAfter-clause-runs
+returns-in-Retry-Document-ContainersAfter-clause-runs c = λ fine.
+    let at = c.in-Retry-Document-ContainersAfter in
+    let first = n.Document document.ContainerExistingBefore in
+    let next = n.Document document.ContainersAfter in
+    let is : c.containers_existing.result ≡ Retry next =
+    at.is ∙ ap Retry at.field-0-is ∙ ap (λ (x : DocumentState). Retry (n.Document x)) at.field-0-0-is in
+    let come = not_error c.containers_existing.result next (plain_of c.containers_existing.result next (inr is)) in
+    (stays-runs is_name first next (world c.args.tokenizer.now) (world c.containers_existing.new.tokenizer)
+    c.containers_existing.result c.behind_containers.result (world c.behind_containers.new.tokenizer) c.requires.current is
+    (c.containers_existing.ensures.runs come) (c.containers_existing.ensures.sees come)
+    (c.behind_containers.ensures.runs fine) (c.behind_containers.ensures.sees fine)).0
+
+pub returns-in-Retry-Document-ContainersAfter-clause-sees :
+    goal.returns-in-Retry-Document-ContainersAfter-clause-sees
+returns-in-Retry-Document-ContainersAfter-clause-sees c = λ fine.
+    let at = c.in-Retry-Document-ContainersAfter in
+    let first = n.Document document.ContainerExistingBefore in
+    let next = n.Document document.ContainersAfter in
+    let is : c.containers_existing.result ≡ Retry next =
+    at.is ∙ ap Retry at.field-0-is ∙ ap (λ (x : DocumentState). Retry (n.Document x)) at.field-0-0-is in
+    let come = not_error c.containers_existing.result next (plain_of c.containers_existing.result next (inr is)) in
+    (stays-runs is_name first next (world c.args.tokenizer.now) (world c.containers_existing.new.tokenizer)
+    c.containers_existing.result c.behind_containers.result (world c.behind_containers.new.tokenizer) c.requires.current is
+    (c.containers_existing.ensures.runs come) (c.containers_existing.ensures.sees come)
+    (c.behind_containers.ensures.runs fine) (c.behind_containers.ensures.sees fine)).1

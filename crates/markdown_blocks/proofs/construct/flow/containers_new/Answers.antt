@@ -32,18 +32,24 @@ returns-then-opens_none-clause-runs c = λ fine.
     (subst (λ (x : World). x.current ≡ looks x) (sym passed) c.requires.current)
     (inl (ap (λ (x : World). x.point) passed))).0
 
-pub returns-else-opens_none-clause-runs : goal.returns-else-opens_none-clause-runs
-returns-else-opens_none-clause-runs c = λ fine.
+pub returns-else-opens_plainly-clause-runs : goal.returns-else-opens_plainly-clause-runs
+returns-else-opens_plainly-clause-runs c = λ fine.
     let first = n.Document (opener_front openers) in
     let w = world c.args.tokenizer.now in
     (ends-with is_name first first w w c.container_new_before.result (world c.container_new_before.new.tokenizer)
     (came-first (FlowStep is_name) first w) (opener-leaves BlockQuote w) (c.container_new_before.ensures.to fine)
     (c.container_new_before.ensures.world fine) fine c.requires.current (within-world c.args.tokenizer.now) refl).0
 
-pub returns-else-opens_none-clause-sees : goal.returns-else-opens_none-clause-sees
-returns-else-opens_none-clause-sees c = λ fine.
+pub returns-else-opens_plainly-clause-sees : goal.returns-else-opens_plainly-clause-sees
+returns-else-opens_plainly-clause-sees c = λ fine.
     let first = n.Document (opener_front openers) in
     let w = world c.args.tokenizer.now in
     (ends-with is_name first first w w c.container_new_before.result (world c.container_new_before.new.tokenizer)
     (came-first (FlowStep is_name) first w) (opener-leaves BlockQuote w) (c.container_new_before.ensures.to fine)
     (c.container_new_before.ensures.world fine) fine c.requires.current (within-world c.args.tokenizer.now) refl).1
+
+pub returns-then-opens_plainly : goal.returns-then-opens_plainly
+returns-then-opens_plainly c = record {
+  runs = c.opens_at_once.ensures.runs;
+  sees = c.opens_at_once.ensures.sees;
+}
