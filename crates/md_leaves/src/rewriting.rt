@@ -1,6 +1,6 @@
 // A list of events that is rewritten in its own place.
 
-ghost use Rattle.std.specs.Prelude.{◌≡◌, ◌≤◌, [], ◌∷◌, ◌++◌, IfNone, IfOk, IfSome, OnOk, drop, length};
+ghost use Rattle.std.specs.Prelude.{◌≡◌, ◌≤◌, [], ◌∷◌, ◌++◌, IfNone, IfOk, IfSome, OnOk, drop, length, take};
 
 use md_engine::event::Event;
 use md_engine::message::Message;
@@ -55,6 +55,23 @@ impl Rewriting {
         ensures written { written_of self.new ≡ written_of self.old }
     {
         self.read += 1;
+    }
+
+    /// The events that are left.
+    pub(crate) fn left(&self) -> &[Event]
+        ensures { result.now ≡ left_of self.now }
+    {
+        &self.events[self.read..]
+    }
+
+    /// Reads so many of the events that are left, and holds them.
+    pub(crate) fn hold_many(&mut self, count: usize)
+        requires { count ≤ length (left_of self.old) }
+        ensures left { left_of self.new ≡ drop count (left_of self.old) }
+        ensures held { held_of self.new ≡ held_of self.old ++ take count (left_of self.old) }
+        ensures written { written_of self.new ≡ written_of self.old }
+    {
+        self.read += count;
     }
 
     /// How many events are held.
