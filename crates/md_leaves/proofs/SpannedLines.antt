@@ -1,7 +1,7 @@
 -- Blocks of several lines, line by line.
 --
 -- A line is its begin, what stands inside, its end, and what stands between it and the next block.
-use Rattle.std.proofs.Common.{◌≡◌, Bool, true, false, ◌&&◌, List, [], ◌∷◌, ◌++◌, refl, ap, sym, ◌∙◌, append_assoc}
+use Rattle.std.proofs.Common.{◌≡◌, Bool, true, false, List, [], ◌∷◌, ◌++◌, refl, ap, sym, ◌∙◌, append_assoc}
 use Rattle.std.specs.Prelude.{map}
 use Rattle.md_engine.specs.declared.event.Event.{Event}
 use Rattle.md_engine.specs.declared.event.Kind.{Kind}
@@ -14,8 +14,7 @@ use Rattle.md_leaves.specs.Spanned.{has_lines, links_back, passes, place_after, 
 use Rattle.md_leaves.specs.Spanned.{spanned_from, turn, turn_by}
 use Rattle.md_leaves.proofs.SpannedLemmas.{passes-given, stays-given}
 use Rattle.md_seam.specs.Events.Blocks.{is_block}
-use Rattle.md_seam.specs.Events.Nested.{Forward, is_enter}
-use Rattle.md_seam.specs.Events.Places.{at_or_before}
+use Rattle.md_seam.specs.Events.Nested.{Forward}
 use Rattle.md_seam.specs.Events.Spelled.{Opens, Role, role}
 use Rattle.md_seam.proofs.NestedLemmas.{forward-from}
 
