@@ -12,10 +12,11 @@ use Rattle.md_engine.specs.declared.tokenizer.container.name.ContainerKind.{Cont
 use Rattle.md_engine.specs.declared.tokenizer.container.name.ContainerKind.TheVariants as kind
 use Rattle.md_engine.specs.ContainerName.{name_of}
 use Rattle.md_containers.specs.ItemsStand.{is_item_shape}
-use Rattle.md_containers.specs.Listed.{is_block, is_item}
+use Rattle.md_containers.specs.Listed.{is_item}
 use Rattle.md_containers.proofs.UnlistedLemmas.{among}
 use Rattle.md_content.specs.Joined.{content_behind}
 use Rattle.md_outline.specs.Roles.{is_plain}
+use Rattle.md_seam.specs.Events.Blocks.{is_block}
 use Rattle.md_seam.specs.Events.Endings.{on_line}
 use Rattle.md_seam.specs.Events.Grammar.{Expression, behind}
 use Rattle.md_seam.specs.Events.Inline.{is_line_ending}

@@ -10,13 +10,14 @@ use Rattle.md_engine.specs.declared.event.Name.{Name}
 use Rattle.md_engine.specs.declared.event.Name.TheVariants as n
 use Rattle.md_engine.specs.declared.event.Point.{Point}
 use Rattle.md_containers.specs.ItemsHeld.{HoldsItems, IsHeld, ItemsHeld}
-use Rattle.md_containers.specs.Listed.{Begins as TurnBegins, Ends as TurnEnds, Stays as TurnStays, is_block, is_item}
+use Rattle.md_containers.specs.Listed.{Begins as TurnBegins, Ends as TurnEnds, Stays as TurnStays, is_item}
 use Rattle.md_containers.specs.Listed.{turn}
 use Rattle.md_containers.specs.Unlisted.{in_place}
 use Rattle.md_containers.proofs.UnlistedLemmas.{NoListing, held-append}
 use Rattle.md_engine.specs.Place.{first_point}
 use Rattle.md_definition.specs.Preamble.{has_mark}
 use Rattle.md_definition.specs.State.{Container}
+use Rattle.md_seam.specs.Events.Blocks.{is_block}
 use Rattle.md_seam.specs.Events.Nested.{exit, open_after, open_behind, pair}
 use Rattle.md_seam.specs.Events.Spelled.{Role, role}
 use Rattle.md_seam.proofs.NestedLemmas.{balanced-open}

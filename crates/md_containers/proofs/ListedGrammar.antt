@@ -13,7 +13,7 @@ use Rattle.md_engine.specs.declared.event.Name.{Name}
 use Rattle.md_engine.specs.declared.event.Name.TheVariants as n
 use Rattle.md_engine.specs.declared.event.Point.{Point}
 use Rattle.md_containers.specs.ItemsHeld.{HoldsItems, ItemsHeld}
-use Rattle.md_containers.specs.Listed.{Place, goes_on, is_block, is_item, list_end, list_name, listed, listed_from}
+use Rattle.md_containers.specs.Listed.{Place, goes_on, is_item, list_end, list_name, listed, listed_from}
 use Rattle.md_containers.specs.Listed.{marker_ahead, next_by, next_item}
 use Rattle.md_containers.specs.Unlisted.{in_place, keeps_unlisted, unlisted_behind, unlisted_left}
 use Rattle.md_containers.proofs.ListedBlockSteps.{goes_on-some}
@@ -23,6 +23,7 @@ use Rattle.md_containers.proofs.ListedNests.{event, pass-next}
 use Rattle.md_containers.proofs.ListedParts.{by-list}
 use Rattle.md_containers.proofs.TamedLemmas.{AtBoth, AtFrontmatter, AtLine, AtMark, BehindBlock, IsTame, ItemFront, ListsWell}
 use Rattle.md_containers.proofs.TamedLemmas.{is_plain, tame-behind, tame-inside, tame-lists}
+use Rattle.md_seam.specs.Events.Blocks.{is_block}
 use Rattle.md_seam.specs.Events.Grammar.{Expression, Many, Never, Then, behind, behind_block, blocks, inside, is_whole}
 use Rattle.md_seam.specs.Events.Grammar.{keeps_grammar, left_of, line_break, may_end, one, prefixes, some, texts}
 use Rattle.md_seam.specs.Events.Nested.{Matches, Nested, enter, exit}

@@ -12,11 +12,12 @@ use Rattle.md_engine.specs.declared.event.Name.{Name}
 use Rattle.md_engine.specs.declared.event.Name.TheVariants as n
 use Rattle.md_engine.specs.declared.event.Point.{Point}
 use Rattle.md_containers.specs.ItemsHeld.{HoldsItems, ItemsHeld}
-use Rattle.md_containers.specs.Listed.{Place, goes_on, is_block, is_item, list_begin, list_end, list_name, listed, listed_from}
+use Rattle.md_containers.specs.Listed.{Place, goes_on, is_item, list_begin, list_end, list_name, listed, listed_from}
 use Rattle.md_containers.specs.Listed.{marker_ahead, next_by, next_item, outside, place_behind}
 use Rattle.md_containers.proofs.ListedKept.{by-turn}
 use Rattle.md_containers.proofs.ListedLemmas.{passes-given}
 use Rattle.md_containers.proofs.ListedBlockSteps.{goes_on-some}
+use Rattle.md_seam.specs.Events.Blocks.{is_block}
 use Rattle.md_seam.specs.Events.Nested.{Forward, Matches, Nested, exit, open_after}
 use Rattle.md_seam.specs.Events.Places.{at_or_before, first_point}
 use Rattle.md_seam.specs.Events.Spelled.{role}

@@ -2,7 +2,8 @@
 use Rattle.std.specs.Prelude.{◌≡◌, true, List, [], ◌∷◌}
 use Rattle.md_engine.specs.declared.event.Event.{Event}
 use Rattle.md_engine.specs.declared.event.Name.{Name}
-use Rattle.md_containers.specs.Listed.{Begins, Ends, Stays, Turn, is_block, turn}
+use Rattle.md_containers.specs.Listed.{Begins, Ends, Stays, Turn, turn}
+use Rattle.md_seam.specs.Events.Blocks.{is_block}
 use Rattle.md_seam.specs.Events.Nested.{open_behind}
 use Rattle.md_seam.specs.Events.Spelled.{role}
 

@@ -12,17 +12,11 @@ use Rattle.md_engine.specs.declared.event.Kind.TheVariants.{Enter, Exit}
 use Rattle.md_engine.specs.declared.event.Name.{Name}
 use Rattle.md_engine.specs.declared.event.Name.TheVariants as n
 use Rattle.md_engine.specs.declared.event.Point.{Point}
+use Rattle.md_seam.specs.Events.Blocks.{is_block}
 use Rattle.md_seam.specs.Events.Nested.{enter, exit, is_enter}
-use Rattle.md_seam.specs.Events.Spelled.{AsItemMarker, AsParagraph, Holds, ItemShape, Opens, Role, Tells, is_ordered, role}
+use Rattle.md_seam.specs.Events.Spelled.{AsItemMarker, Holds, ItemShape, Role, Tells, is_ordered, role}
 
 -- Roles.
-
--- whether a block begins or ends where an event has this role: a container, a leaf block or a paragraph
-abbrev pub is_block : Role → Bool
-is_block (Holds shape) = true
-is_block (Opens kind) = true
-is_block (Tells AsParagraph) = true
-is_block _ = false
 
 abbrev pub is_item : Role → Bool
 is_item (Holds (ItemShape marker digits)) = true

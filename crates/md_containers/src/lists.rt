@@ -9,7 +9,7 @@ ghost use Rattle.std.specs.List.{prefix_len};
 ghost use Rattle.std.specs.Option.{option_map};
 ghost use Rattle.md_engine.specs.Found.{found_in};
 ghost use Rattle.md_engine.specs.World.{world};
-ghost use Rattle.md_containers.specs.Listed.{Begins, Ends, given, given_by, goes_on, is_block, is_item, is_marker};
+ghost use Rattle.md_containers.specs.Listed.{Begins, Ends, given, given_by, goes_on, is_item, is_marker};
 ghost use Rattle.md_containers.specs.Listed.{list_name, listed, marker_ahead, next_item, passes, place_after, place_by};
 ghost use Rattle.md_seam.specs.Events.Nested.{is_enter};
 ghost use Rattle.md_seam.specs.Events.Spelled.{role};
@@ -20,32 +20,8 @@ use md_engine::message::Message;
 use md_engine::subtokenize::Subresult;
 use md_engine::tokenizer::Tokenizer;
 use md_seam::moving::append;
+use md_seam::names::is_block;
 use std::alloc::Global;
-
-/// Whether these events are of a block: of a container, a leaf block or a paragraph.
-fn is_block(name: Name) -> bool
-    ensures { result ≡ is_block (role name) }
-{
-    match name {
-        Name::Frontmatter
-        | Name::BlockQuote
-        | Name::ListOrdered
-        | Name::ListUnordered
-        | Name::ListItem
-        | Name::GfmFootnoteDefinition
-        | Name::HeadingAtx
-        | Name::HeadingSetext
-        | Name::ThematicBreak
-        | Name::CodeIndented
-        | Name::CodeFenced
-        | Name::MathFlow
-        | Name::HtmlFlow
-        | Name::Definition
-        | Name::Paragraph
-        | Name::GfmTable => true,
-        _ => false,
-    }
-}
 
 /// Whether these events are of an item.
 fn is_item(name: Name) -> bool

@@ -20,6 +20,9 @@ pub mod NonLazyGoods
 pub mod NonLazySteps
 pub mod HeadingWalkLemmas
 pub mod RewrittenLemmas
+pub mod SpannedLemmas
+pub mod SpannedLines
+pub mod SpannedNames
 pub mod TitleRuns
 pub mod TitleTexts
 pub mod TitleLemmas

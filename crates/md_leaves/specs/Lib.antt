@@ -9,6 +9,8 @@ pub mod HeadingWords
 pub mod HeadingWalk
 pub mod LeafStart
 pub mod Rewritten
+pub mod Spanned
+pub mod SpannedWalk
 pub mod NonLazy
 pub mod BlankRule
 pub mod BomRule

@@ -10,4 +10,5 @@ mod leaf_start;
 pub mod partial_bom;
 pub mod partial_non_lazy_continuation;
 mod rewriting;
+pub mod spans;
 pub mod thematic_break;

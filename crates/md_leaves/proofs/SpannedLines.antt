@@ -1,0 +1,245 @@
+-- Blocks of several lines, line by line.
+--
+-- A line is its begin, what stands inside, its end, and what stands between it and the next block.
+use Rattle.std.proofs.Common.{◌≡◌, Bool, true, false, List, [], ◌∷◌, ◌++◌, refl, ap, sym, ◌∙◌, append_assoc}
+use Rattle.std.specs.Prelude.{map}
+use Rattle.md_engine.specs.declared.event.Event.{Event}
+use Rattle.md_engine.specs.declared.event.Kind.{Kind}
+use Rattle.md_engine.specs.declared.event.Kind.TheVariants.{Enter, Exit}
+use Rattle.md_engine.specs.declared.event.Point.{Point}
+use Rattle.md_leaves.specs.declared.spans.Place.{Place}
+use Rattle.md_leaves.specs.declared.spans.Place.TheVariants.{Between, Inside, Outside}
+use Rattle.md_leaves.specs.Spanned.{Begins, Ends, GoesOn, Stays, Turn, begins_further, given, given_by, goes_on}
+use Rattle.md_leaves.specs.Spanned.{has_lines, links_back, passes, place_after, place_by, renamed, spanned}
+use Rattle.md_leaves.specs.Spanned.{spanned_from, turn, turn_by}
+use Rattle.md_leaves.proofs.SpannedLemmas.{passes-given, stays-given}
+use Rattle.md_seam.specs.Events.Blocks.{is_block}
+use Rattle.md_seam.specs.Events.Nested.{Forward}
+use Rattle.md_seam.specs.Events.Spelled.{Opens, Role, role}
+use Rattle.md_seam.proofs.NestedLemmas.{forward-from}
+
+-- events that pass a place as they are; of no line; of no block
+abbrev pub Pass : Place → List Event → Type 0
+Pass place [] = Unit {0}
+Pass place (e ∷ es) = (passes place e ≡ true) × Pass place es
+
+abbrev pub NoLines : List Event → Type 0
+NoLines [] = Unit {0}
+NoLines (e ∷ es) = (has_lines (role e.name) ≡ false) × NoLines es
+
+abbrev pub NoBlocks : List Event → Type 0
+NoBlocks [] = Unit {0}
+NoBlocks (e ∷ es) = (is_block (role e.name) ≡ false) × NoBlocks es
+
+-- Events that pass.
+
+-- events that pass stay as they are, in front of any others
+pub spanned-passes : (place : Place) (es rest : List Event) → Pass place es →
+    spanned_from place (es ++ rest) ≡ es ++ spanned_from place rest
+spanned-passes place [] rest h = refl
+spanned-passes place (e ∷ es) rest h =
+    passes-given place e (es ++ rest) h.0 ∙ ap (λ (l : List Event). e ∷ l) (spanned-passes place es rest h.1)
+
+-- Events of no line have their names there,
+pub spanned-stays : (place : Place) (es rest : List Event) → NoLines es →
+    spanned_from place (es ++ rest) ≡ map (renamed place) es ++ spanned_from place rest
+spanned-stays place [] rest h = refl
+spanned-stays place (e ∷ es) rest h =
+    stays-given place e (es ++ rest) h.0
+    ∙ ap (λ (l : List Event). renamed place e ∷ l) (spanned-stays place es rest h.1)
+
+-- and inside of a line their own.
+pub inside-passes : (es : List Event) → NoLines es → Pass Inside es
+inside-passes [] h = tt
+inside-passes (e ∷ es) h = (rw h.0 refl, inside-passes es h.1)
+
+pub spanned-inside : (es rest : List Event) → NoLines es →
+    spanned_from Inside (es ++ rest) ≡ es ++ spanned_from Inside rest
+spanned-inside es rest h = spanned-passes Inside es rest (inside-passes es h)
+
+-- What stands ahead.
+
+-- lines are of blocks
+lines-block : (x : Role) → has_lines x ≡ true → is_block x ≡ true
+lines-block (Opens kind) h = refl
+lines-block _ h = absurd (let none : false ≡ true = h in cc)
+
+no_block-line : (x : Role) → is_block x ≡ false → has_lines x ≡ false
+no_block-line (Opens kind) h = absurd (let block : true ≡ false = h in cc)
+no_block-line _ h = refl
+
+pub blocks-lines : (es : List Event) → NoBlocks es → NoLines es
+blocks-lines [] h = tt
+blocks-lines (e ∷ es) h = (no_block-line (role e.name) h.0, blocks-lines es h.1)
+
+-- what is of no block is passed by a look ahead
+pub goes_on-past : (gap rest : List Event) → NoBlocks gap → goes_on (gap ++ rest) ≡ goes_on rest
+goes_on-past [] rest h = refl
+goes_on-past (e ∷ gap) rest h = rw h.0 (goes_on-past gap rest h.1)
+
+-- Lines.
+
+pub record IsBegin (e : Event) : Type 0 where
+  pub kind : e.kind ≡ Enter
+  pub lines : has_lines (role e.name) ≡ true
+  pub link : links_back e.link ≡ false
+
+pub record IsFurther (e : Event) : Type 0 where
+  pub kind : e.kind ≡ Enter
+  pub lines : has_lines (role e.name) ≡ true
+  pub link : links_back e.link ≡ true
+
+pub record IsEnd (e : Event) : Type 0 where
+  pub kind : e.kind ≡ Exit
+  pub lines : has_lines (role e.name) ≡ true
+
+-- the begin of a further line is seen from in front of it
+further-seen : (e : Event) (es : List Event) → IsFurther e → goes_on (e ∷ es) ≡ true
+further-seen e es is =
+    let block : is_block (role e.name) ≡ true = lines-block (role e.name) is.lines in
+    rw (block, is.kind, is.lines, is.link) refl
+
+by-turn : (place : Place) (e : Event) (es : List Event) (t : Turn) → turn e ≡ t →
+    spanned_from place (e ∷ es) ≡
+    given_by t place (goes_on es) e ++ spanned_from (place_by t place (goes_on es)) es
+by-turn place e es t is =
+    ap (λ (t : Turn). given_by t place (goes_on es) e ++ spanned_from (place_by t place (goes_on es)) es) is
+
+turn-is : (e : Event) (kind : Kind) (further : Bool) → e.kind ≡ kind → has_lines (role e.name) ≡ true →
+    links_back e.link ≡ further → turn e ≡ turn_by kind true further
+turn-is e kind further k l m = rw (k, l, m) refl
+
+-- the first line begins
+pub line-begins : (place : Place) (e : Event) (es : List Event) → IsBegin e →
+    spanned_from place (e ∷ es) ≡ e ∷ spanned_from Inside es
+line-begins place e es is = by-turn place e es Begins (turn-is e Enter false is.kind is.lines is.link)
+
+-- a further line begins: nothing is left of its begin
+pub further-begins : (e : Event) (es : List Event) → IsFurther e →
+    spanned_from Between (e ∷ es) ≡ spanned_from Inside es
+further-begins e es is = by-turn Between e es GoesOn (turn-is e Enter true is.kind is.lines is.link)
+
+end-turn : (e : Event) → IsEnd e → turn e ≡ Ends
+end-turn e is = turn-is e Exit (links_back e.link) is.kind is.lines refl
+
+-- a line ends, and so does its block
+pub block-ends : (place : Place) (e : Event) (es : List Event) → IsEnd e → goes_on es ≡ false →
+    spanned_from place (e ∷ es) ≡ e ∷ spanned_from Outside es
+block-ends place e es is last =
+    by-turn place e es Ends (end-turn e is)
+    ∙ ap (λ (on : Bool). given_by Ends place on e ++ spanned_from (place_by Ends place on) es) last
+
+-- a line ends, and its block goes on: nothing is left of its end
+pub line-ends : (place : Place) (e : Event) (es : List Event) → IsEnd e → goes_on es ≡ true →
+    spanned_from place (e ∷ es) ≡ spanned_from Between es
+line-ends place e es is on =
+    by-turn place e es Ends (end-turn e is)
+    ∙ ap (λ (on : Bool). given_by Ends place on e ++ spanned_from (place_by Ends place on) es) on
+
+-- From the end of a line to the begin of the next: what stands between them is left, with the names that it has there.
+pub lines-joined : (place : Place) (e : Event) (gap : List Event) (f : Event) (rest : List Event) → IsEnd e →
+    NoBlocks gap → IsFurther f →
+    spanned_from place (e ∷ (gap ++ f ∷ rest)) ≡ map (renamed Between) gap ++ spanned_from Inside rest
+lines-joined place e gap f rest end free further =
+    line-ends place e (gap ++ f ∷ rest) end
+    (goes_on-past gap (f ∷ rest) free ∙ further-seen f rest further)
+    ∙ spanned-stays Between gap (f ∷ rest) (blocks-lines gap free)
+    ∙ ap (λ (l : List Event). map (renamed Between) gap ++ l) (further-begins f rest further)
+
+-- A line that goes on: what stands inside, what stands behind it, and then the next line.
+pub line-joined : (inside : List Event) (e : Event) (gap : List Event) (f : Event) (rest : List Event) →
+    NoLines inside → IsEnd e → NoBlocks gap → IsFurther f →
+    spanned_from Inside (inside ++ e ∷ (gap ++ f ∷ rest))
+    ≡ inside ++ (map (renamed Between) gap ++ spanned_from Inside rest)
+line-joined inside e gap f rest plain end free further =
+    spanned-inside inside (e ∷ (gap ++ f ∷ rest)) plain
+    ∙ ap (λ (l : List Event). inside ++ l) (lines-joined Inside e gap f rest end free further)
+
+-- The last line: it ends as it did.
+pub line-last : (inside : List Event) (e : Event) (rest : List Event) → NoLines inside → IsEnd e →
+    goes_on rest ≡ false →
+    spanned_from Inside (inside ++ e ∷ rest) ≡ inside ++ e ∷ spanned_from Outside rest
+line-last inside e rest plain end last =
+    spanned-inside inside (e ∷ rest) plain ∙ ap (λ (l : List Event). inside ++ l) (block-ends Inside e rest end last)
+
+-- A block that begins where none is open, by its first line.
+pub block-joined : (b : Event) (inside : List Event) (e : Event) (gap : List Event) (f : Event) (rest : List Event) →
+    IsBegin b → NoLines inside → IsEnd e → NoBlocks gap → IsFurther f →
+    spanned (b ∷ (inside ++ e ∷ (gap ++ f ∷ rest)))
+    ≡ b ∷ (inside ++ (map (renamed Between) gap ++ spanned_from Inside rest))
+block-joined b inside e gap f rest begin plain end free further =
+    line-begins Outside b (inside ++ e ∷ (gap ++ f ∷ rest)) begin
+    ∙ ap (λ (l : List Event). b ∷ l) (line-joined inside e gap f rest plain end free further)
+
+-- A block of one line stays as it is.
+pub block-alone : (b : Event) (inside : List Event) (e : Event) (rest : List Event) → IsBegin b → NoLines inside →
+    IsEnd e → goes_on rest ≡ false →
+    spanned (b ∷ (inside ++ e ∷ rest)) ≡ b ∷ (inside ++ e ∷ spanned rest)
+block-alone b inside e rest begin plain end last =
+    line-begins Outside b (inside ++ e ∷ rest) begin
+    ∙ ap (λ (l : List Event). b ∷ l) (line-last inside e rest plain end last)
+
+-- Texts side by side.
+
+-- where one is behind some events, if no further line stands ahead of them
+abbrev pub place_behind : Place → List Event → Place
+place_behind place [] = place
+place_behind place (e ∷ es) = place_behind (place_after place e es) es
+
+goes_on-front : (es rest : List Event) → goes_on rest ≡ false → goes_on (es ++ rest) ≡ goes_on es
+goes_on-front [] rest last = last
+goes_on-front (e ∷ es) rest last =
+    go (is_block (role e.name)) refl (goes_on-front es rest last)
+  where
+    go : (x : Bool) → is_block (role e.name) ≡ x → goes_on (es ++ rest) ≡ goes_on es →
+        goes_on (e ∷ (es ++ rest)) ≡ goes_on (e ∷ es)
+    go true h k = rw h refl
+    go false h k = rw h k
+
+-- Where no further line stands ahead, events are joined by themselves.
+pub spanned-append : (place : Place) (es rest : List Event) → goes_on rest ≡ false →
+    spanned_from place (es ++ rest) ≡ spanned_from place es ++ spanned_from (place_behind place es) rest
+spanned-append place [] rest last = refl
+spanned-append place (e ∷ es) rest last =
+    ap (λ (on : Bool). given_by (turn e) place on e ++ spanned_from (place_by (turn e) place on) (es ++ rest))
+    (goes_on-front es rest last)
+    ∙ ap (λ (l : List Event). given place e es ++ l) (spanned-append (place_after place e es) es rest last)
+    ∙ sym
+    (append_assoc (given place e es) (spanned_from (place_after place e es) es)
+    (spanned_from (place_behind (place_after place e es) es) rest))
+
+-- So texts are joined side by side, where no block is open behind the first and no further line begins the second.
+pub spanned-texts : (es rest : List Event) → place_behind Outside es ≡ Outside → goes_on rest ≡ false →
+    spanned (es ++ rest) ≡ spanned es ++ spanned rest
+spanned-texts es rest closed last =
+    spanned-append Outside es rest last
+    ∙ ap (λ (place : Place). spanned es ++ spanned_from place rest) closed
+
+-- What is of no block is no further line.
+pub goes_on-none : (es : List Event) → NoBlocks es → goes_on es ≡ false
+goes_on-none [] h = refl
+goes_on-none (e ∷ es) h = rw h.0 (goes_on-none es h.1)
+
+-- Nor is what begins or ends another block.
+pub goes_on-other : (e : Event) (es : List Event) → is_block (role e.name) ≡ true → begins_further e ≡ false →
+    goes_on (e ∷ es) ≡ false
+goes_on-other e es block other = rw (block, other) refl
+
+-- Points.
+
+-- Points that never go back still never do.
+pub spanned-forward : (p : Point) (place : Place) (es : List Event) → Forward p es → Forward p (spanned_from place es)
+spanned-forward p place [] h = tt
+spanned-forward p place (e ∷ es) h =
+    go (turn e) place (goes_on es) (spanned_from (place_after place e es) es)
+    (spanned-forward e.point (place_after place e es) es h.1)
+  where
+    go : (t : Turn) (place : Place) (on : Bool) (behind : List Event) → Forward e.point behind →
+        Forward p (given_by t place on e ++ behind)
+    go Begins place on behind k = (h.0, k)
+    go GoesOn Outside on behind k = (h.0, k)
+    go GoesOn Inside on behind k = (h.0, k)
+    go GoesOn Between on behind k = forward-from p e.point behind h.0 k
+    go Ends place true behind k = forward-from p e.point behind h.0 k
+    go Ends place false behind k = (h.0, k)
+    go Stays place on behind k = (h.0, k)

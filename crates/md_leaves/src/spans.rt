@@ -1,0 +1,301 @@
+// Leaf blocks of several lines, whose lines are joined in one walk over the events.
+//
+// At first each line stands as a block by itself. The walk looks at each event as it passes it, and else at most once
+// from an end of a block in front of it that asks for the next one. So it is linear. It only leaves out events and
+// renames some, so the events are moved down in their own list.
+
+ghost use Rattle.std.specs.Prelude.{◌≡◌, ℕ, ◌≤◌, ◌<◌, ◌++◌, ◌∷◌, [], IfOk, List, None, OnOk, drop};
+ghost use Rattle.std.specs.Prelude.{false, length, take, true};
+ghost use Rattle.std.specs.List.{prefix_len};
+ghost use Rattle.std.specs.Option.{option_map};
+ghost use Rattle.md_engine.specs.Found.{found_in};
+ghost use Rattle.md_engine.specs.World.{world};
+ghost use Rattle.md_leaves.specs.Rewritten.{IsFirst, held_of};
+ghost use Rattle.md_leaves.specs.Spanned.{Ends, begins_further, given, given_by, goes_on, has_lines, is_blank_ending};
+ghost use Rattle.md_leaves.specs.Spanned.{is_code_line, is_renamed, links_back, passes, place_after, place_by};
+ghost use Rattle.md_leaves.specs.Spanned.{renamed, spanned, turn_by};
+ghost use Rattle.md_seam.specs.Events.Spelled.{role};
+ghost use Rattle.md_seam.specs.Parts.{ArePlaced};
+
+use crate::rewriting::Rewriting;
+use md_engine::event::{Event, Kind, Link, Name};
+use md_engine::message::Message;
+use md_engine::subtokenize::Subresult;
+use md_engine::tokenizer::Tokenizer;
+use md_seam::names::is_block;
+
+/// Whether these events are of a leaf block of several lines.
+fn has_lines(name: Name) -> bool
+    ensures { result ≡ has_lines (role name) }
+{
+    matches!(name, Name::CodeIndented | Name::CodeFenced | Name::MathFlow)
+}
+
+/// Whether these events are of a line of code.
+fn is_code_line(name: Name) -> bool
+    ensures { result ≡ is_code_line name }
+{
+    matches!(name, Name::CodeFlowChunk)
+}
+
+/// Whether these events are of the ending of a blank line.
+fn is_blank_ending(name: Name) -> bool
+    ensures { result ≡ is_blank_ending name }
+{
+    matches!(name, Name::BlankLineEnding)
+}
+
+/// Whether a link says that its part goes on the one before.
+fn links_back(link: Option<Link>) -> bool
+    ensures { result ≡ links_back link }
+{
+    match link {
+        Some(link) => link.previous,
+        None => false,
+    }
+}
+
+/// Whether a further line of a block begins here.
+fn begins_further(event: &Event) -> bool
+    ensures { result ≡ begins_further event.now }
+{
+    matches!(event.kind, Kind::Enter) && has_lines(event.name) && links_back(event.link)
+}
+
+/// Whether the next block is a further line.
+fn goes_on(events: &[Event]) -> bool
+    ensures { result ≡ goes_on events.now }
+{
+    let mut at = 0;
+    while at < events.len() {
+        let event = events[at];
+        if is_block(event.name) {
+            return begins_further(&event);
+        }
+        at += 1;
+    }
+    false
+}
+
+/// Where a walk over the events stands.
+#[derive(Clone, Copy)]
+enum Place {
+    /// Neither in a block of several lines nor between two lines of one.
+    Outside,
+    /// In a line of such a block.
+    Inside,
+    /// Between two lines of one.
+    Between,
+}
+
+/// Whether a part that stands at a place gets another name.
+fn is_renamed(place: Place, name: Name) -> bool
+    ensures { result ≡ is_renamed place name }
+{
+    match place {
+        Place::Outside => is_code_line(name),
+        Place::Inside => false,
+        Place::Between => is_blank_ending(name),
+    }
+}
+
+/// Whether an event passes a place as it is.
+fn passes(place: Place, event: &Event) -> bool
+    ensures { result ≡ passes place event.now }
+{
+    !has_lines(event.name) && !is_renamed(place, event.name)
+}
+
+/// How many events stand in front of the first that does not pass a place as it is.
+fn until_other(place: Place, events: &[Event]) -> usize
+    ensures value { result ≡ prefix_len (passes place) events.now }
+    ensures within { result ≤ length events.now }
+{
+    for (at, event) in events.iter().enumerate() {
+        if !passes(place, event) {
+            return at;
+        }
+    }
+    events.len()
+}
+
+/// A walk over the events.
+#[derive(Drop)]
+struct Walk {
+    /// What is given for the events so far, those that are held behind it, which are given as they are, and those that
+    /// are left.
+    all: Rewriting,
+    place: Place,
+}
+
+impl Walk {
+    ghost use Rattle.md_leaves.specs.SpannedWalk.{given_of, passing, rest_of};
+
+    /// Gives the event that is left first as it is.
+    fn keep(&mut self, event: Event)
+        requires { IsFirst event (rest_of self.old) }
+        ensures given { given_of self.new ≡ given_of self.old ++ event ∷ [] }
+        ensures rest { rest_of self.new ≡ drop 1 (rest_of self.old) }
+        ensures place { self.new.place ≡ self.old.place }
+    {
+        self.all.hold(event);
+    }
+
+    /// Leaves out the event that is left first.
+    fn leave_out(&mut self, event: Event) -> Result<(), Message>
+        requires { IsFirst event (rest_of self.old) }
+        ensures given { OnOk result (given_of self.new ≡ given_of self.old) }
+        ensures rest { OnOk result (rest_of self.new ≡ drop 1 (rest_of self.old)) }
+        ensures held { OnOk result (held_of self.new.all ≡ []) }
+        ensures place { self.new.place ≡ self.old.place }
+    {
+        self.all.give()?;
+        self.all.hold(event);
+        self.all.leave_out(1);
+        Ok(())
+    }
+
+    /// Gives the event that is left first by another name.
+    fn rename(&mut self, event: Event, name: Name) -> Result<(), Message>
+        requires { IsFirst event (rest_of self.old) }
+        ensures given { OnOk result (given_of self.new ≡ given_of self.old ++ record event { name = name } ∷ []) }
+        ensures rest { OnOk result (rest_of self.new ≡ drop 1 (rest_of self.old)) }
+        ensures place { self.new.place ≡ self.old.place }
+    {
+        self.leave_out(event)?;
+        self.all.push(Event { name, ..event })
+    }
+
+    /// Gives the events in front of the first that does not pass here as it is.
+    fn pass(&mut self)
+        ensures given { given_of self.new ≡ given_of self.old ++ take (passing self.old) (rest_of self.old) }
+        ensures rest { rest_of self.new ≡ drop (passing self.old) (rest_of self.old) }
+        ensures place { self.new.place ≡ self.old.place }
+    {
+        let many = until_other(self.place, self.all.left());
+        self.all.hold_many(many);
+    }
+
+    /// Whether the next block behind the event that is left first is a further line.
+    fn goes_on_behind(&self) -> bool
+        requires { 0 < length (rest_of self.now) }
+        ensures { result ≡ goes_on (drop 1 (rest_of self.now)) }
+    {
+        goes_on(&self.all.left()[1..])
+    }
+
+    /// Goes on with an event that no line begins or ends with.
+    fn stay(&mut self, event: Event) -> Result<(), Message>
+        requires { IsFirst event (rest_of self.old) }
+        ensures given { OnOk result (given_of self.new ≡ given_of self.old ++ renamed self.old.place event ∷ []) }
+        ensures rest { OnOk result (rest_of self.new ≡ drop 1 (rest_of self.old)) }
+        ensures place { self.new.place ≡ self.old.place }
+    {
+        match self.place {
+            Place::Outside if is_code_line(event.name) => self.rename(event, Name::SpaceOrTab),
+            Place::Between if is_blank_ending(event.name) => self.rename(event, Name::LineEnding),
+            _ => {
+                self.keep(event);
+                Ok(())
+            }
+        }
+    }
+
+    /// Goes on with the begin of a line.
+    fn begin(&mut self, event: Event) -> Result<(), Message>
+        requires { IsFirst event (rest_of self.old) }
+        ensures given { OnOk result
+            (given_of self.new ≡
+            given_of self.old
+            ++ given_by (turn_by Kind.Enter true (links_back event.link)) self.old.place false event) }
+        ensures rest { OnOk result (rest_of self.new ≡ drop 1 (rest_of self.old)) }
+        ensures place { OnOk result (self.new.place ≡ Place.Inside) }
+    {
+        if links_back(event.link) && matches!(self.place, Place::Between) {
+            self.leave_out(event)?;
+        } else {
+            self.keep(event);
+        }
+        self.place = Place::Inside;
+        Ok(())
+    }
+
+    /// Goes on with the end of a line.
+    fn end(&mut self, event: Event, further: bool) -> Result<(), Message>
+        requires { IsFirst event (rest_of self.old) }
+        ensures given { OnOk result
+            (given_of self.new ≡ given_of self.old ++ given_by Ends self.old.place further event) }
+        ensures rest { OnOk result (rest_of self.new ≡ drop 1 (rest_of self.old)) }
+        ensures place { OnOk result (self.new.place ≡ place_by Ends self.old.place further) }
+    {
+        if further {
+            self.leave_out(event)?;
+            self.place = Place::Between;
+        } else {
+            self.keep(event);
+            self.place = Place::Outside;
+        }
+        Ok(())
+    }
+
+    /// Goes on with the event that is left first.
+    fn step(&mut self, event: Event) -> Result<(), Message>
+        requires { IsFirst event (rest_of self.old) }
+        ensures given { OnOk result
+            (given_of self.new ≡ given_of self.old ++ given self.old.place event (drop 1 (rest_of self.old))) }
+        ensures rest { OnOk result (rest_of self.new ≡ drop 1 (rest_of self.old)) }
+        ensures place { OnOk result
+            (self.new.place ≡ place_after self.old.place event (drop 1 (rest_of self.old))) }
+    {
+        if !has_lines(event.name) {
+            return self.stay(event);
+        }
+        if matches!(event.kind, Kind::Enter) {
+            self.begin(event)
+        } else {
+            self.end(event, self.goes_on_behind())
+        }
+    }
+}
+
+/// The events with the lines of each block joined, in the list of the events. `spare` is handed back empty.
+pub fn join(events: Vec<Event>, spare: Vec<Event>) -> Result<(Vec<Event>, Vec<Event>), Message>
+    requires { spare.items ≡ [] }
+    ensures events { IfOk result (λ lists. lists.0.items ≡ spanned events.items) }
+    ensures placed { IfOk result
+        (λ lists. (text : List ℕ) → ArePlaced text events.items → ArePlaced text lists.0.items) }
+{
+    let mut walk = Walk {
+        all: Rewriting::new(events, spare),
+        place: Place::Outside,
+    };
+    walk.pass();
+    while let Some(event) = walk.all.first() {
+        walk.step(event)?;
+        walk.pass();
+    }
+    let Walk { mut all, .. } = walk;
+    all.give()?;
+    all.finish()
+}
+
+/// Joins the lines of each block of several lines. Where no event of such a block stands nothing is copied.
+///
+/// After an `Err` the parse has failed, and the tokenizer is only dropped.
+pub fn resolve(tokenizer: &mut Tokenizer) -> Result<Option<Subresult>, Message>
+    requires { (world tokenizer.old).frames ≡ [] }
+    ensures world { IfOk result
+        (λ found.
+        world tokenizer.new ≡
+        record (world tokenizer.old) { events = spanned (world tokenizer.old).events }) }
+    ensures found { IfOk result (λ found. option_map found_in found ≡ None) }
+{
+    if until_other(Place::Outside, &tokenizer.events) == tokenizer.events.len() {
+        return Ok(None);
+    }
+    let events = tokenizer.take_events();
+    let spare = tokenizer.take_spare();
+    let (joined, spare) = join(events, spare)?;
+    tokenizer.set_events(joined, spare);
+    Ok(None)
+}
