@@ -8,4 +8,8 @@ pub enum HeldLeaf {
     None,
     /// Lines of text, which are read once it ends.
     Text,
+    /// Indented code.
+    Code,
+    /// Fenced code or math: the byte of its marker, how many of it, and the columns in front of them.
+    Fence { marker: u8, size: usize, indent: usize },
 }
