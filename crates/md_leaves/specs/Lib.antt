@@ -1,6 +1,7 @@
 pub mod Blank
 pub mod Bom
 pub mod Break
+pub mod Fence
 pub mod Heading
 pub mod HeadingText
 pub mod HeadingWords
