@@ -4,6 +4,7 @@ pub mod BreakLemmas
 pub mod BlankSteps
 pub mod BlankLook
 pub mod BreakSteps
+pub mod FenceGoods
 pub mod HeadingGoods
 pub mod BomGoods
 pub mod HeadingLemmas

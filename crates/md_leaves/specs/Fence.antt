@@ -354,16 +354,16 @@ abbrev pub marker_rank : Spot → Rank
 marker_rank x = if is_current x.scratch.marker (seen x) then ranked 3 refl else ranked 5 refl
 
 abbrev pub fence_rank : StateName → Spot → Rank
-fence_rank (n.RawFlow its.Start) x = ranked 6 refl
-fence_rank (n.RawFlow its.BeforeSequenceOpen) x = ranked 4 refl
+fence_rank (n.RawFlow its.Start) x = ranked 8 refl
+fence_rank (n.RawFlow its.BeforeSequenceOpen) x = ranked 6 refl
 fence_rank (n.RawFlow its.SequenceOpen) x = marker_rank x
 fence_rank (n.RawFlow its.InfoBefore) x = if ends_line (seen x) then ranked 0 refl else ranked 2 refl
 fence_rank (n.RawFlow its.Info) x = if ends_word (seen x) then ranked 4 refl else ranked 1 refl
 fence_rank (n.RawFlow its.MetaBefore) x = if ends_line (seen x) then ranked 1 refl else ranked 2 refl
 fence_rank (n.RawFlow its.Meta) x = ranked 1 refl
-fence_rank (n.RawFlow its.AtNonLazyBreak) x = ranked 8 refl
-fence_rank (n.RawFlow its.CloseStart) x = ranked 6 refl
-fence_rank (n.RawFlow its.BeforeSequenceClose) x = ranked 4 refl
+fence_rank (n.RawFlow its.AtNonLazyBreak) x = ranked 9 refl
+fence_rank (n.RawFlow its.CloseStart) x = ranked 8 refl
+fence_rank (n.RawFlow its.BeforeSequenceClose) x = ranked 6 refl
 fence_rank (n.RawFlow its.SequenceClose) x = marker_rank x
 fence_rank (n.RawFlow its.SequenceCloseAfter) x = ranked 1 refl
 fence_rank (n.RawFlow its.ContentStart) x = ranked 6 refl
@@ -372,8 +372,8 @@ fence_rank (n.RawFlow its.ContentChunk) x = ranked 3 refl
 fence_rank _ x = ranked 0 refl
 
 abbrev pub fence_tries : StateName → Rank
-fence_tries (n.RawFlow its.BeforeSequenceOpen) = ranked 5 refl
-fence_tries (n.RawFlow its.BeforeSequenceClose) = ranked 5 refl
+fence_tries (n.RawFlow its.BeforeSequenceOpen) = ranked 7 refl
+fence_tries (n.RawFlow its.BeforeSequenceClose) = ranked 7 refl
 fence_tries (n.RawFlow its.BeforeContentChunk) = ranked 5 refl
 fence_tries (n.RawFlow its.ContentStart) = ranked 7 refl
 fence_tries _ = ranked 3 refl
