@@ -5,6 +5,7 @@ pub mod BlankSteps
 pub mod BlankLook
 pub mod BreakSteps
 pub mod FenceGoods
+pub mod FenceSteps
 pub mod HeadingGoods
 pub mod BomGoods
 pub mod HeadingLemmas

@@ -3,6 +3,7 @@ use Rattle.std.specs.Prelude.{◌≡◌, ℕ, zero, suc, ◌+◌, ◌-◌, Bool,
 use Rattle.std.specs.Prelude.{if◌then◌else◌, List, [], ◌∷◌, ◌++◌}
 use Rattle.std.specs.List.{list_any}
 use Rattle.md_engine.specs.declared.configuration.ParseOptions.{ParseOptions}
+use Rattle.md_engine.specs.declared.event.Event.{Event}
 use Rattle.md_engine.specs.declared.event.Name.{Name}
 use Rattle.md_engine.specs.declared.event.Name.TheVariants as part
 use Rattle.md_engine.specs.declared.event.Point.{Point}
@@ -50,6 +51,10 @@ is_line b = not (b == 10)
 abbrev pub is_end : List Cell → Bool
 is_end cells = ends_line (first_seen cells)
 
+-- with one more event
+abbrev pub with_event : Here → Event → Here
+with_event h e = record h { events = h.events ++ e ∷ [] }
+
 -- behind whitespace that comes first, up to so many columns
 abbrev pub behind_columns : ℕ → List Cell → Here → Here
 behind_columns room cells h = record h {
@@ -81,11 +86,10 @@ opens cells h =
 
 -- where a part begins that is read later, and where it ended
 abbrev pub part_begun : Name → Here → Here
-part_begun name h =
-    record h { events = h.events ++ enter name h.point ∷ enter_link part.Data h.point string_link ∷ [] }
+part_begun name h = with_event (with_event h (enter name h.point)) (enter_link part.Data h.point string_link)
 
 abbrev pub part_ended : Name → Point → Here → Here
-part_ended name p h = record h { events = h.events ++ exit part.Data p ∷ exit name p ∷ []; point = p }
+part_ended name p h = record (with_event (with_event h (exit part.Data p)) (exit name p)) { point = p }
 
 -- in meta: the rest of the line
 unfoldable pub in_meta : List Cell → Here → Outcome
@@ -133,18 +137,19 @@ in_sequence cells h =
       scratch = record h.scratch { size = size };
     })
 
+-- where a block begins
+abbrev pub block_begun : ℕ → Here → Here
+block_begun m h =
+    with_event (with_event (with_event h (enter (block_name m) h.point)) (enter (fence_name m) h.point))
+    (enter (sequence_name m) h.point)
+
 -- behind the indent, of which the column is kept where it begins
 unfoldable pub before_sequence : ParseOptions → List Cell → Here → Outcome
 before_sequence options [] h = refuses h
 before_sequence options (c ∷ cs) h =
     if is_fence_marker options c.byte
     then in_sequence (c ∷ cs)
-    (record h {
-      events = h.events
-          ++ enter (block_name c.byte) h.point
-          ∷ enter (fence_name c.byte) h.point
-          ∷ enter (sequence_name c.byte) h.point
-          ∷ [];
+    (record (block_begun c.byte h) {
       scratch = record h.scratch { marker = c.byte; size_c = h.point.column - h.scratch.size_c };
     })
     else refuses h
@@ -188,7 +193,7 @@ before_close (c ∷ cs) h =
     let m = h.scratch.marker in
     if c.byte == m
     then in_close (c ∷ cs)
-    (record h { events = h.events ++ enter (fence_name m) h.point ∷ enter (sequence_name m) h.point ∷ [] })
+    (with_event (with_event h (enter (fence_name m) h.point)) (enter (sequence_name m) h.point))
     else refuses h
 
 -- a closing fence: a small indent, and a sequence behind it
