@@ -73,7 +73,7 @@ marker-first : (m : ℕ) (o : Option ℕ) → is_current m o ≡ false → first
 marker-first m None e = refl
 marker-first m (Some b) e = e
 
-line-first : (o : Option ℕ) → ends_line o ≡ true → first_is is_line o ≡ false
+pub line-first : (o : Option ℕ) → ends_line o ≡ true → first_is is_line o ≡ false
 line-first None e = refl
 line-first (Some b) e = rw e refl
 

@@ -6,6 +6,7 @@ pub mod BlankLook
 pub mod BreakSteps
 pub mod FenceGoods
 pub mod FenceSteps
+pub mod FenceWhole
 pub mod HeadingGoods
 pub mod BomGoods
 pub mod HeadingLemmas

@@ -12,6 +12,7 @@ pub mod NonLazy
 pub mod BlankRule
 pub mod BomRule
 pub mod BreakRule
+pub mod FenceLine
 pub mod FenceRule
 pub mod HeadingRule
 pub mod HeadingTitle
