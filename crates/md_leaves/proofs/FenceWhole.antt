@@ -56,11 +56,11 @@ white-joined room behind cells h calm some = go (begins_white cells) refl
         rw (fits, e, none-rest room cells e, none-end room cells h.point e)
         (ap (λ (es : List Event). behind cells (record h { events = es })) (sym (append-nil h.events)))
 
-zero-rest : (cells : List Cell) → white_rest 0 cells ≡ cells
+pub zero-rest : (cells : List Cell) → white_rest 0 cells ≡ cells
 zero-rest [] = refl
 zero-rest (c ∷ cs) = refl
 
-zero-end : (cells : List Cell) (p : Point) → white_end 0 cells p ≡ p
+pub zero-end : (cells : List Cell) (p : Point) → white_end 0 cells p ≡ p
 zero-end [] p = refl
 zero-end (c ∷ cs) p = refl
 

@@ -4,7 +4,10 @@ pub mod BreakLemmas
 pub mod BlankSteps
 pub mod BlankLook
 pub mod BreakSteps
+pub mod FenceCells
+pub mod FenceFurther
 pub mod FenceGoods
+pub mod FenceOpened
 pub mod FenceSteps
 pub mod FenceWhole
 pub mod HeadingGoods

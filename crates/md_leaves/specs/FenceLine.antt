@@ -8,12 +8,12 @@ use Rattle.md_engine.specs.declared.event.Name.TheVariants as part
 use Rattle.md_engine.specs.declared.event.Point.{Point}
 use Rattle.md_engine.specs.declared.tokenizer.held_leaf.HeldLeaf.{HeldLeaf}
 use Rattle.md_engine.specs.declared.tokenizer.held_leaf.HeldLeaf.TheVariants as held_leaf
-use Rattle.md_engine.specs.Meaning.{Accepts, Cell, Here, Outcome}
+use Rattle.md_engine.specs.Meaning.{Accepts, Cell, Here, Outcome, Refuses}
 use Rattle.md_definition.specs.Leaves.{is_fence_marker, least_size}
 use Rattle.md_leaves.specs.Fence.{block_name, chunk_name, fence_name, held_indent, held_marker, held_size, is_on}
 use Rattle.md_leaves.specs.Fence.{is_refused, meta_name, sequence_name, string_link}
 use Rattle.md_leaves.specs.FenceRule.{is_end, is_line, is_word, run_end, run_has, run_rest, run_size}
-use Rattle.md_seam.specs.Ahead.{begins_white, white_end, white_rest}
+use Rattle.md_seam.specs.Ahead.{begins_white, from_ending, line_end, white_end, white_rest}
 use Rattle.md_seam.specs.Events.Nested.{enter, enter_link, exit, pair}
 use Rattle.md_seam.specs.Look.{first_seen}
 use Rattle.md_seam.specs.Spaces.{any_size, is_current, small_indent}
@@ -57,7 +57,7 @@ open_events m cells p =
     let q = run_end (λ b. b == m) cells p in
     enter (block_name m) p ∷ enter (fence_name m) p ∷ pair (sequence_name m) p q
     ++ behind_events m (run_rest (λ b. b == m) cells) q
-    ++ exit (fence_name m) (run_end is_line (run_rest (λ b. b == m) cells) q) ∷ []
+    ++ exit (fence_name m) (line_end cells p) ∷ []
 
 -- whether a fence of this marker stands here: enough of it, and behind it none that is refused
 abbrev pub is_opening : ℕ → List Cell → Bool
@@ -154,14 +154,20 @@ fence_begins options cells p =
     if is_on options then fence_opened options cells p (marker_at options (white_rest (small_indent options) cells))
     else None
 
--- its events, where it ends, and what follows
-abbrev pub fence_adds : ParseOptions → List Cell → Point → ℕ → List Event
-fence_adds options cells p m =
+-- its events
+abbrev pub fence_adds : ParseOptions → HeldLeaf → List Cell → Point → List Event
+fence_adds options leaf cells p =
     let room = small_indent options in
-    spaces room cells p ++ open_events m (white_rest room cells) (white_end room cells p)
+    spaces room cells p ++ open_events (held_marker leaf) (white_rest room cells) (white_end room cells p)
 
-abbrev pub fence_end : ParseOptions → List Cell → Point → Point
-fence_end options cells p = run_end is_line cells p
-
-abbrev pub fence_rest : List Cell → List Cell
-fence_rest cells = run_rest is_line cells
+-- the line is taken or refused
+abbrev pub fence_by : ParseOptions → Option HeldLeaf → List Cell → Here → Outcome
+fence_by options None cells h = Refuses h.scratch h.flags
+fence_by options (Some leaf) cells h =
+    Accepts
+    (record h {
+      events = h.events ++ fence_adds options leaf cells h.point;
+      point = line_end cells h.point;
+      flags = record h.flags { leaf = leaf };
+    })
+    (from_ending cells)
