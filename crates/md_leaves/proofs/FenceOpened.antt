@@ -20,7 +20,7 @@ use Rattle.md_leaves.specs.FenceLine.{meta_events, open_events, spaces, behind_e
 use Rattle.md_leaves.specs.FenceRule.{before_info, before_meta, before_sequence, behind_sequence, behind_white_of}
 use Rattle.md_leaves.specs.FenceRule.{block_begun, fence_at, in_info, in_meta, in_sequence, is_end, is_line, is_word}
 use Rattle.md_leaves.specs.FenceRule.{part_begun, part_ended, refuses, run_end, run_has, run_rest, run_size, with_event}
-use Rattle.md_leaves.proofs.FenceCells.{line-all, line-done, line-run, line-white, marker-dark, marker-goes, run-length}
+use Rattle.md_leaves.proofs.FenceCells.{SameLine, line-all, line-done, line-run, line-white, marker-dark, marker-goes, run-length}
 use Rattle.md_leaves.proofs.FenceGoods.{rest-clear}
 use Rattle.md_leaves.proofs.FenceSteps.{line-first, run-has-none}
 use Rattle.md_leaves.proofs.FenceWhole.{behind_spaces, white-joined}
@@ -234,3 +234,214 @@ info-whole cells k dark is calm short = go (is_end cells) refl
             cond (x || y) (refuses k) (opened_at (info_events m cells k.point) cells k)
         either true y = refl
         either false y = refl
+
+-- From the sequence on.
+
+-- with so many markers
+abbrev sized : ℕ → Here → Here
+sized size k = record k { scratch = record k.scratch { size = size } }
+
+-- the events of a line from its sequence on
+abbrev sequence_events : ℕ → List Cell → Point → List Event
+sequence_events m cells p =
+    let q = run_end (λ b. b == m) cells p in
+    exit (sequence_name m) q ∷ behind_events m (run_rest (λ b. b == m) cells) q
+    ++ exit (fence_name m) (line_end cells p) ∷ []
+
+sequence-whole : (cells : List Cell) (k : Here) → k.scratch.size ≡ 0 → may_begin k.scratch.marker ≡ true →
+    calmed k.scratch ≡ k.scratch → length cells ≤ any_size →
+    in_sequence cells k ≡
+    cond (is_opening k.scratch.marker cells)
+    (opened_with (k.events ++ sequence_events k.scratch.marker cells k.point) cells
+    (sized (run_size (λ b. b == k.scratch.marker) cells) k))
+    (refuses k)
+unfolding in_sequence
+sequence-whole cells k none is calm short =
+    rw sum
+    (ap (cond few (refuses k))
+    (white-joined any_size (behind_sequence m) left begun
+    (ap (λ (s : Scratch). record s { size = size }) calm) (omega arith)
+    ∙ behind (m == 36)
+    ∙ ap (cond (run_has (is_refused m) is_line last) (refuses k)) opened
+    ∙ ap (λ (x : Bool). cond x (refuses k) taken)
+    (has-white (is_refused m) (λ b e. refused-dark m b is e) any_size left))
+    ∙ either few (run_has (is_refused m) is_line left))
+  where
+    m : ℕ
+    m = k.scratch.marker
+
+    size : ℕ
+    size = run_size (λ b. b == m) cells
+
+    few : Bool
+    few = nat_lt size (least_size m)
+
+    q : Point
+    q = run_end (λ b. b == m) cells k.point
+
+    left : List Cell
+    left = run_rest (λ b. b == m) cells
+
+    last : List Cell
+    last = white_rest any_size left
+
+    sum : k.scratch.size + size ≡ size
+    sum = omega (arith, none)
+
+    begun : Here
+    begun = record (with_event k (exit (sequence_name m) q)) {
+      point = q;
+      scratch = record k.scratch { size = size };
+    }
+
+    end : Here
+    end = behind_spaces any_size left begun
+
+    taken : Outcome
+    taken = opened_with (k.events ++ sequence_events m cells k.point) cells (sized size k)
+
+    parts : Bool → List Event
+    parts math = cond math (meta_events m last end.point) (info_events m last end.point)
+
+    dark : begins_white last ≡ false
+    dark = let le = run-length (λ b. b == m) cells in white-all any_size left (omega (arith, le, short))
+
+    behind : (math : Bool) →
+        cond math (before_meta last end) (before_info last end) ≡
+        cond (run_has (is_refused m) is_line last) (refuses k) (opened_at (parts math) last end)
+    behind true = meta-whole last end dark
+    behind false =
+        let le = run-length (λ b. b == m) cells in
+        let less = white-length any_size left in
+        info-whole last end dark is (ap (λ (s : Scratch). record s { size = size }) calm) (omega (arith, le, less, short))
+
+    ends : line_end last end.point ≡ line_end cells k.point
+    ends =
+        (line-white any_size left q).end ∙ (line-run (λ b. b == m) (λ b e. marker-goes m b is e) cells k.point).end
+
+    from : from_ending last ≡ from_ending cells
+    from =
+        (line-white any_size left q).from ∙ (line-run (λ b. b == m) (λ b e. marker-goes m b is e) cells k.point).from
+
+    opened : opened_at (parts (m == 36)) last end ≡ taken
+    opened = rw (ends, from) (ap (λ (es : List Event). opened_with es cells (sized size k)) (simp append_assoc))
+
+    either : (x y : Bool) → cond x (refuses k) (cond y (refuses k) taken) ≡ cond (not x && not y) taken (refuses k)
+    either true y = refl
+    either false true = refl
+    either false false = refl
+
+-- Behind the indent.
+
+-- a marker of a block that is on is a marker
+pub marker-may : (options : ParseOptions) (m : ℕ) → is_fence_marker options m ≡ true → may_begin m ≡ true
+marker-may options m e = go (m == 36) refl (m == 96) refl (m == 126) refl
+  where
+    none : (x : Bool) → x && false ≡ true → ((m == 96) || (m == 126) || (m == 36)) ≡ true
+    none true k = cc
+    none false k = cc
+
+    go : (x : Bool) → (m == 36) ≡ x → (y : Bool) → (m == 96) ≡ y → (z : Bool) → (m == 126) ≡ z →
+        may_begin m ≡ true
+    go true f y g z h = rw f (over ((m == 96) || (m == 126)))
+      where
+        over : (t : Bool) → t || true ≡ true
+        over true = refl
+        over false = refl
+    go false f true g z h = rw g refl
+    go false f false g true h = rw (g, h) refl
+    go false f false g false h = none options.constructs.code_fenced (rw (f, g, h) at e)
+
+abbrev in_block : ℕ → Here → Here
+in_block m k = record (block_begun m k) {
+  scratch = record k.scratch { marker = m; size_c = k.point.column - k.scratch.size_c };
+}
+
+-- what is left there, by the marker that stands there
+abbrev before_by : Option ℕ → List Cell → Here → Outcome
+before_by None cells k = refuses k
+before_by (Some m) cells k =
+    cond (is_opening m cells)
+    (opened_with (k.events ++ open_events m cells k.point) cells
+    (sized (run_size (λ b. b == m) cells) (in_block m k)))
+    (refuses k)
+
+before-whole : (options : ParseOptions) (cells : List Cell) (k : Here) → k.scratch.size ≡ 0 →
+    calmed k.scratch ≡ k.scratch → length cells ≤ any_size →
+    before_sequence options cells k ≡ before_by (marker_at options cells) cells k
+unfolding before_sequence
+before-whole options [] k none calm short = refl
+before-whole options (c ∷ cs) k none calm short = go (is_fence_marker options c.byte) refl
+  where
+    go : (x : Bool) → is_fence_marker options c.byte ≡ x →
+        cond x (in_sequence (c ∷ cs) (in_block c.byte k)) (refuses k) ≡
+        before_by (cond x (Some c.byte) None) (c ∷ cs) k
+    go true e =
+        sequence-whole (c ∷ cs) (in_block c.byte k) none (marker-may options c.byte e)
+        (ap (λ (s : Scratch). record s { marker = c.byte; size_c = k.point.column - k.scratch.size_c }) calm) short
+        ∙ ap
+        (λ (es : List Event).
+        cond (is_opening c.byte (c ∷ cs))
+        (opened_with es (c ∷ cs) (sized (run_size (λ b. b == c.byte) (c ∷ cs)) (in_block c.byte k))) (refuses k))
+        (simp append_assoc)
+    go false e = refl
+
+-- The whole line.
+
+pub fence-whole : (options : ParseOptions) (cells : List Cell) (h : Here) → IsRest h.scratch →
+    length cells ≤ any_size →
+    fence_at options cells h ≡ fence_by options (fence_begins options cells h.point) cells h
+unfolding fence_at
+fence-whole options cells h is short = go (is_on options)
+  where
+    room : ℕ
+    room = small_indent options
+
+    rest : List Cell
+    rest = white_rest room cells
+
+    begun : Here
+    begun = record h { scratch = record h.scratch { size_c = h.point.column } }
+
+    k : Here
+    k = behind_spaces room cells begun
+
+    calm : calmed begun.scratch ≡ begun.scratch
+    calm = ap (λ (s : Scratch). record s { size_c = h.point.column }) (rest-calm h.scratch is ∙ sym is)
+
+    same : SameLine cells rest h.point k.point
+    same = line-white room cells h.point
+
+    opened : (m : ℕ) (x : Bool) →
+        cond x
+        (opened_with (k.events ++ open_events m rest k.point) rest (sized (run_size (λ b. b == m) rest) (in_block m k)))
+        (refuses k) ≡
+        fence_by options
+        (cond x (Some (held_leaf.Fence m (run_size (λ b. b == m) rest) (k.point.column - h.point.column))) None) cells h
+    opened m true =
+        rw (same.end, same.from, rest-clear h.scratch is)
+        (ap
+        (λ (es : List Event). Accepts
+        (record h {
+          events = es;
+          point = line_end cells h.point;
+          flags = record h.flags {
+            leaf = held_leaf.Fence m (run_size (λ b. b == m) rest) (k.point.column - h.point.column);
+          };
+        })
+        (from_ending cells)) (simp append_assoc))
+    opened m false = ap (λ (s : Scratch). Refuses s h.flags) (rest-clear h.scratch is)
+
+    by : (o : Option ℕ) → before_by o rest k ≡ fence_by options (fence_opened options cells h.point o) cells h
+    by None = ap (λ (s : Scratch). Refuses s h.flags) (rest-clear h.scratch is)
+    by (Some m) = opened m (is_opening m rest)
+
+    go : (x : Bool) →
+        cond x (behind_white_of room (before_sequence options) cells begun) (Refuses h.scratch h.flags) ≡
+        fence_by options (cond x (fence_opened options cells h.point (marker_at options rest)) None) cells h
+    go true =
+        let le = white-length room cells in
+        white-joined room (before_sequence options) cells begun calm (small-some options)
+        ∙ before-whole options rest k (rest-size h.scratch is) calm (omega (arith, le, short))
+        ∙ by (marker_at options rest)
+    go false = refl
