@@ -132,7 +132,7 @@ first-spread line b bs q cs = go (b == 9) refl
     go true e = tab (columns_more q) ∙ ap Some (sym (eqb-true b 9 e))
     go false e = refl
 
-stop-first : (t : ℕ → Bool) → t 10 ≡ false → (stop : List Cell) → Stops stop → first_is t (first_seen stop) ≡ false
+pub stop-first : (t : ℕ → Bool) → t 10 ≡ false → (stop : List Cell) → Stops stop → first_is t (first_seen stop) ≡ false
 stop-first t ten [] h = refl
 stop-first t ten (c ∷ cs) h = ap t (eqb-true c.byte 10 h) ∙ ten
 
@@ -215,7 +215,7 @@ marker-goes m b e f = grind (arith, nat_tests)
 pub marker-ten : (m : ℕ) → may_begin m ≡ true → nat_eq 10 m ≡ false
 marker-ten m e = grind (arith, nat_tests)
 
-not-lt : (a b : ℕ) → not (nat_lt a b) ≡ nat_le b a
+pub not-lt : (a b : ℕ) → not (nat_lt a b) ≡ nat_le b a
 not-lt a b = go (nat_lt a b) refl
   where
     go : (x : Bool) → nat_lt a b ≡ x → not x ≡ nat_le b a

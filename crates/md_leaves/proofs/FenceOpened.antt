@@ -80,7 +80,7 @@ refused-dark m b is e = go (b == m) refl
     go false f = refl
 
 -- all whitespace is taken
-white-all : (room : ℕ) (cells : List Cell) → length cells ≤ room → begins_white (white_rest room cells) ≡ false
+pub white-all : (room : ℕ) (cells : List Cell) → length cells ≤ room → begins_white (white_rest room cells) ≡ false
 white-all room [] le = refl
 white-all zero (c ∷ cs) le = absurd (omega (arith, le))
 white-all (suc room) (c ∷ cs) le = go (is_white c.byte) refl (white-all room cs (omega (arith, le)))

@@ -8,6 +8,7 @@ pub mod FenceCells
 pub mod FenceFurther
 pub mod FenceGoods
 pub mod FenceOpened
+pub mod FenceOpens
 pub mod FenceSteps
 pub mod FenceWhole
 pub mod HeadingGoods
