@@ -1,6 +1,6 @@
 -- Runs and whitespace by the cells of a line, and by its bytes.
-use Rattle.std.proofs.Common.{◌≡◌, ℕ, zero, suc, ◌+◌, ◌^◌, ◌<◌, ◌≤◌, Bool, true, false, cond, ◌&&◌, nat_eq, nat_lt, List}
-use Rattle.std.proofs.Common.{[], ◌∷◌, ◌++◌, length, take, drop, Option, Some, None, refl, sym, ◌∙◌, ap, arith, append-nil}
+use Rattle.std.proofs.Common.{◌≡◌, ℕ, zero, suc, ◌≤◌, Bool, true, false, cond, ◌&&◌, nat_eq, nat_lt, List}
+use Rattle.std.proofs.Common.{[], ◌∷◌, ◌++◌, length, take, drop, Option, Some, refl, sym, ◌∙◌, ap, arith, append-nil}
 use Rattle.std.specs.Prelude.{not, nat_le, ◌==◌}
 use Rattle.std.specs.List.{prefix_len}
 use Rattle.std.proofs.lemmas.Bool.{eqb-true}
@@ -18,7 +18,7 @@ use Rattle.md_seam.specs.Ahead.{from_ending, line_bytes, line_cells, line_end, p
 use Rattle.md_seam.specs.Events.Places.{past_byte, past_text}
 use Rattle.md_seam.specs.Look.{first_seen}
 use Rattle.md_seam.specs.Spaces.{any_size, is_current}
-use Rattle.md_seam.proofs.FeedLines.{NoFeed, Stops, all-spread, byte-one, byte_cells, bytes_of, cell, columns_more}
+use Rattle.md_seam.proofs.FeedLines.{NoFeed, Stops, all-spread, byte-one, bytes_of, cell, columns_more}
 use Rattle.md_seam.proofs.FeedLines.{from_ending-append, line_cells-append, next_column, no_feed-spread, spread, tab_cells}
 use Rattle.md_seam.proofs.FeedLines.{tab_end}
 use Rattle.md_seam.proofs.RestCells.{cells_by, past_rest, rest-end, rest_cells}

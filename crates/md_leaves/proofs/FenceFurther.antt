@@ -1,10 +1,9 @@
 -- A further line of fenced code or math closes the block, or goes on it, where the definition of lines says, and leaves
 -- what that says.
 use Rattle.std.proofs.Common.{◌≡◌, ℕ, zero, suc, ◌+◌, ◌-◌, ◌^◌, ◌<◌, ◌≤◌, Bool, true, false, cond, ◌&&◌, ◌||◌, nat_lt}
-use Rattle.std.proofs.Common.{List, [], ◌∷◌, ◌++◌, length, drop, Some, refl, sym, ◌∙◌, ap, append_assoc, arith, subst}
+use Rattle.std.proofs.Common.{List, [], ◌∷◌, ◌++◌, length, drop, refl, sym, ◌∙◌, ap, append_assoc, arith, subst}
 use Rattle.std.specs.Prelude.{not, nat_le, ◌==◌}
 use Rattle.std.specs.List.{prefix_len}
-use Rattle.std.proofs.lemmas.Bool.{and_parts}
 use Rattle.std.proofs.lemmas.Bool.Decides.{nat_tests}
 use Rattle.std.proofs.lemmas.List.{length-append}
 use Rattle.md_engine.specs.declared.configuration.ParseOptions.{ParseOptions}
@@ -19,7 +18,7 @@ use Rattle.md_definition.specs.Rest.{Rest, behind_indent, has_small_indent, inde
 use Rattle.md_definition.specs.Rest.{tab_columns, trim_start}
 use Rattle.md_definition.specs.State.{Opening}
 use Rattle.md_definition.proofs.TextsLemmas.{NoEnding, no_ending-drop}
-use Rattle.md_leaves.specs.Fence.{chunk_name, held_indent, held_marker, held_size, may_begin}
+use Rattle.md_leaves.specs.Fence.{chunk_name, held_indent, held_marker, may_begin}
 use Rattle.md_leaves.specs.FenceLine.{chunk_events, closes_here, closing_end, fence_goes, further_end, further_events}
 use Rattle.md_leaves.specs.FenceLine.{further_rest, is_closing, spaces}
 use Rattle.md_leaves.specs.FenceRule.{is_end, is_line, run_end, run_rest, run_size}
@@ -33,7 +32,7 @@ use Rattle.md_engine.specs.Place.{is_ending}
 use Rattle.md_seam.specs.Spaces.{any_size, ends_line, is_current, small_indent}
 use Rattle.md_seam.proofs.AheadLemmas.{none-end, none-rest}
 use Rattle.md_seam.proofs.FeedLines.{Stops, cell, spread, tab_cells, tab_end}
-use Rattle.md_seam.proofs.RestCells.{Bare, HasColumn, HasIndent, RestAt, bare, bare-cells, bare-same, cells_by}
+use Rattle.md_seam.proofs.RestCells.{Bare, HasColumn, RestAt, bare, bare-cells, bare-same, cells_by}
 use Rattle.md_seam.proofs.RestCells.{column-end, column-first, indent-length, indent-over, indent-taken, lose-no_ending}
 use Rattle.md_seam.proofs.RestCells.{past_rest, rest_cells, white-length, without_first}
 

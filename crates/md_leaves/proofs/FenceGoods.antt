@@ -1,33 +1,32 @@
 -- Fenced code and math stand and end in any table that has them.
-use Rattle.std.proofs.Common.{◌≡◌, ℕ, ◌<◌, Bool, true, false, cond, ◌&&◌, nat_eq, Option, Some, None, List, length, refl}
+use Rattle.std.proofs.Common.{◌≡◌, ℕ, ◌<◌, Bool, true, false, cond, nat_eq, Option, Some, None, List, length, refl}
 use Rattle.std.proofs.Common.{arith, ap, sym, ◌∙◌}
 use Rattle.std.specs.Prelude.{not}
 use Rattle.md_engine.specs.declared.event.Event.{Event}
 use Rattle.md_engine.specs.declared.event.Name.TheVariants as part
 use Rattle.md_engine.specs.declared.event.Point.{Point}
-use Rattle.md_engine.specs.declared.state.Name.{Name as StateName}
 use Rattle.md_engine.specs.declared.state.Name.TheVariants as n
 use Rattle.md_engine.specs.declared.state.raw_flow.State.{State as RawState}
 use Rattle.md_engine.specs.declared.state.raw_flow.State.TheVariants as its
 use Rattle.md_engine.specs.declared.state.State.TheVariants.{Next}
 use Rattle.md_engine.specs.declared.tokenizer.Scratch.{Scratch}
-use Rattle.md_engine.specs.Scheme.{After, Ends, Fits, Grown, Rank, Reaches, Scheme, Spot, after_all, cells_before}
+use Rattle.md_engine.specs.Scheme.{Ends, Fits, Grown, Reaches, Scheme, Spot, after_all}
 use Rattle.md_engine.specs.Scheme.{moved_to, ranked, seen, spot, spot_at}
 use Rattle.md_engine.specs.World.{Setting, World, looks}
 use Rattle.md_engine.proofs.Falls.{later, later_at}
 use Rattle.md_engine.proofs.Local.{accepts, begins_try, consumes, refuses, turns}
 use Rattle.md_engine.proofs.Points.{cells-grow, stays, takes}
-use Rattle.md_definition.specs.Leaves.{is_fence_marker, least_size}
-use Rattle.md_leaves.specs.Fence.{IsFence, after_transition, at_non_lazy_break_code, before_chunk_code, before_close_code}
-use Rattle.md_leaves.specs.Fence.{before_open, before_open_code, behind_opening, behind_part, block_entered, block_name}
-use Rattle.md_leaves.specs.Fence.{chunk_code, chunk_name, cleared, close_after_code, close_start_code, content_start_code}
-use Rattle.md_leaves.specs.Fence.{ends_word, fence_name, fence_rank, fence_ready, fence_scheme, fence_transition}
+use Rattle.md_definition.specs.Leaves.{is_fence_marker}
+use Rattle.md_leaves.specs.Fence.{at_non_lazy_break_code, before_chunk_code, before_close_code}
+use Rattle.md_leaves.specs.Fence.{before_open, before_open_code, behind_part, block_entered, block_name}
+use Rattle.md_leaves.specs.Fence.{chunk_code, cleared, close_after_code, close_start_code, content_start_code}
+use Rattle.md_leaves.specs.Fence.{ends_word, fence_rank, fence_ready, fence_scheme, fence_transition}
 use Rattle.md_leaves.specs.Fence.{fence_level, fence_tries, held_indent, held_marker, in_fence, info_before_code, info_code}
 use Rattle.md_leaves.specs.Fence.{marked, meta_before_code, meta_code, meta_name, opened, part_entered, part_exited}
 use Rattle.md_leaves.specs.Fence.{sequence_close_code, sequence_name, sequence_open_code, start_code}
 use Rattle.md_seam.specs.Spaces.{IsRest, any_size, calmed, ends_line, is_current, rest_ready, sees_white, small_indent}
-use Rattle.md_seam.specs.Transition.{entered, exited}
-use Rattle.md_seam.proofs.SpacesGoods.{Does, WhiteFits, goes-on, rest-calm, rest-none, rest-size, seen-in, white_try}
+use Rattle.md_seam.specs.Transition.{exited}
+use Rattle.md_seam.proofs.SpacesGoods.{Does, WhiteFits, rest-calm, rest-none, rest-size, seen-in, white_try}
 
 pub record FenceFits (T : Scheme) : Type 1 where
   pub white : WhiteFits T

@@ -1,5 +1,5 @@
 -- The opening line of fenced code or math as a whole: it opens a block, or is refused.
-use Rattle.std.proofs.Common.{◌≡◌, ℕ, zero, suc, ◌+◌, ◌-◌, ◌^◌, ◌<◌, ◌≤◌, Bool, true, false, cond, ◌&&◌, ◌||◌, nat_eq}
+use Rattle.std.proofs.Common.{◌≡◌, ℕ, zero, suc, ◌+◌, ◌-◌, ◌≤◌, Bool, true, false, cond, ◌&&◌, ◌||◌, nat_eq}
 use Rattle.std.proofs.Common.{nat_lt, List, [], ◌∷◌, ◌++◌, length, Option, Some, None, refl, sym, ◌∙◌, ap, arith}
 use Rattle.std.proofs.Common.{append-nil, append_assoc}
 use Rattle.std.specs.Prelude.{not, ◌==◌}
@@ -16,7 +16,7 @@ use Rattle.md_definition.specs.Leaves.{is_fence_marker, least_size}
 use Rattle.md_definition.specs.Rest.{is_white}
 use Rattle.md_leaves.specs.Fence.{cleared, fence_name, is_on, is_refused, may_begin, sequence_name}
 use Rattle.md_leaves.specs.FenceLine.{fence_begins, fence_by, fence_opened, info_events, is_opening, marker_at}
-use Rattle.md_leaves.specs.FenceLine.{meta_events, open_events, spaces, behind_events}
+use Rattle.md_leaves.specs.FenceLine.{meta_events, open_events, behind_events}
 use Rattle.md_leaves.specs.FenceRule.{before_info, before_meta, before_sequence, behind_sequence, behind_white_of}
 use Rattle.md_leaves.specs.FenceRule.{block_begun, fence_at, in_info, in_meta, in_sequence, is_end, is_line, is_word}
 use Rattle.md_leaves.specs.FenceRule.{part_begun, part_ended, refuses, run_end, run_has, run_rest, run_size, with_event}
@@ -24,7 +24,7 @@ use Rattle.md_leaves.proofs.FenceCells.{SameLine, line-all, line-done, line-run,
 use Rattle.md_leaves.proofs.FenceGoods.{rest-clear}
 use Rattle.md_leaves.proofs.FenceSteps.{line-first, run-has-none}
 use Rattle.md_leaves.proofs.FenceWhole.{behind_spaces, white-joined}
-use Rattle.md_seam.specs.Ahead.{begins_white, from_ending, line_end, white_end, white_rest}
+use Rattle.md_seam.specs.Ahead.{begins_white, from_ending, line_end, white_rest}
 use Rattle.md_seam.specs.Events.Nested.{exit}
 use Rattle.md_seam.specs.Look.{first_seen}
 use Rattle.md_seam.specs.Spaces.{IsRest, any_size, calmed, small_indent}

@@ -3,7 +3,7 @@ use Rattle.std.proofs.Common.{◌≡◌, ℕ, zero, suc, ◌+◌, ◌-◌, ◌^�
 use Rattle.std.proofs.Common.{List, [], ◌∷◌, ◌++◌, length, take, drop, Option, Some, None, refl, sym, ◌∙◌, ap, arith, append_assoc, subst}
 use Rattle.std.specs.Prelude.{not, nat_le, ◌==◌}
 use Rattle.std.specs.List.{list_any, prefix_len}
-use Rattle.std.proofs.lemmas.Bool.{and_parts, eqb-true}
+use Rattle.std.proofs.lemmas.Bool.{eqb-true}
 use Rattle.std.proofs.lemmas.Bool.Decides.{nat_tests}
 use Rattle.md_engine.specs.declared.configuration.ParseOptions.{ParseOptions}
 use Rattle.md_engine.specs.declared.event.Point.{Point}
@@ -12,16 +12,16 @@ use Rattle.md_engine.specs.declared.tokenizer.held_leaf.HeldLeaf.{HeldLeaf}
 use Rattle.md_engine.specs.declared.tokenizer.held_leaf.HeldLeaf.TheVariants as held_leaf
 use Rattle.md_engine.specs.Meaning.{Cell}
 use Rattle.md_engine.specs.Place.{is_ending}
-use Rattle.md_definition.specs.Leaves.{Came, Finished, Opened, allows, fence_at, fence_from, is_fence_marker, least_size}
+use Rattle.md_definition.specs.Leaves.{Came, Opened, allows, fence_at, fence_from, is_fence_marker, least_size}
 use Rattle.md_definition.specs.Leaves.{opening}
-use Rattle.md_definition.specs.Rest.{Rest, behind_indent, has_small_indent, indent, is_white, lose, run_len, trim_start}
+use Rattle.md_definition.specs.Rest.{Rest, has_small_indent, indent, is_white, lose, run_len, trim_start}
 use Rattle.md_definition.specs.Rest.{white_columns}
 use Rattle.md_definition.specs.State.{OpenFence}
 use Rattle.md_definition.proofs.TextsLemmas.{NoEnding, no_ending-drop}
 use Rattle.md_leaves.specs.Fence.{is_on, is_refused, may_begin}
 use Rattle.md_leaves.specs.FenceLine.{fence_begins, fence_opened, is_opening, marker_at}
 use Rattle.md_leaves.specs.FenceRule.{is_line, run_has, run_rest, run_size}
-use Rattle.md_leaves.proofs.FenceCells.{RunOf, first-spread, marker-dark, marker-ten, not-lt, run-walk, stop-first}
+use Rattle.md_leaves.proofs.FenceCells.{first-spread, marker-dark, marker-ten, not-lt, run-walk, stop-first}
 use Rattle.md_leaves.proofs.FenceFurther.{large-room, small-behind}
 use Rattle.md_leaves.proofs.FenceOpened.{marker-may}
 use Rattle.md_leaves.proofs.FenceSteps.{run-has-none}
@@ -119,8 +119,7 @@ opening-spread m line bytes q stop is h k =
     let run = run-walk (λ b. b == m) (λ b e. marker-dark m b is e) (marker-ten m is) line bytes q stop k in
     let n = run_len m bytes in
     let after = drop n bytes in
-    let cells = spread line bytes q ++ stop in
-    (
+    let cells = spread line bytes q ++ stop in (
       run.size,
       ap (λ (s : ℕ). not (nat_lt s (least_size m)) && not (run_has (is_refused m) is_line (run_rest (λ b. b == m) cells)))
           run.size

@@ -1,6 +1,6 @@
 -- Each state of fenced code and math takes one step of its rule.
 use Rattle.std.proofs.Common.{◌≡◌, ℕ, suc, ◌+◌, ◌-◌, ◌≤◌, Bool, true, false, cond, ◌&&◌, ◌||◌, nat_eq, nat_lt, List, [], ◌∷◌}
-use Rattle.std.proofs.Common.{◌++◌, length, take, Option, Some, None, refl, sym, ◌∙◌, ap, arith, append-nil, append_assoc}
+use Rattle.std.proofs.Common.{◌++◌, length, Option, Some, None, refl, sym, ◌∙◌, ap, arith, append-nil, append_assoc}
 use Rattle.std.specs.Prelude.{not, ◌==◌}
 use Rattle.std.proofs.lemmas.Bool.{and_parts}
 use Rattle.std.proofs.lemmas.Bool.Decides.{nat_tests}
@@ -16,15 +16,15 @@ use Rattle.md_engine.specs.declared.state.raw_flow.State.TheVariants as its
 use Rattle.md_engine.specs.declared.state.State.TheVariants.{Nok, Next, Retry}
 use Rattle.md_engine.specs.declared.tokenizer.Frame.{Frame}
 use Rattle.md_engine.specs.declared.tokenizer.Scratch.{Scratch}
-use Rattle.md_engine.specs.Meaning.{Accepts, Behaviour, Cell, Fails, Feed, Here, Outcome, Refuses, Steps, goes, here}
+use Rattle.md_engine.specs.Meaning.{Accepts, Behaviour, Cell, Fails, Feed, Here, Outcome, Refuses, Steps, here}
 use Rattle.md_engine.specs.Meaning.{resume}
 use Rattle.md_engine.specs.Scheme.{After, spot}
-use Rattle.md_engine.specs.World.{Flags, World, after}
+use Rattle.md_engine.specs.World.{World, after}
 use Rattle.md_engine.proofs.StepOf.{Sees, ahead, begins, begins_only, cell_here, moves, passes}
 use Rattle.md_definition.specs.Leaves.{is_fence_marker, least_size}
 use Rattle.md_definition.specs.Rest.{is_white}
 use Rattle.md_leaves.specs.Fence.{after_transition, at_non_lazy_break_code, before_chunk_code, before_close_code}
-use Rattle.md_leaves.specs.Fence.{before_open, before_open_code, behind_opening, behind_part, block_name, chunk_code}
+use Rattle.md_leaves.specs.Fence.{before_open, before_open_code, behind_part, block_name, chunk_code}
 use Rattle.md_leaves.specs.Fence.{chunk_name, cleared, close_after_code, close_start_code, content_start_code, ends_word}
 use Rattle.md_leaves.specs.Fence.{fence_name, fence_ready, fence_transition, held_indent, held_marker, held_size}
 use Rattle.md_leaves.specs.Fence.{info_before_code, info_code, is_on, is_refused, may_close, meta_before_code, meta_code}
@@ -32,13 +32,13 @@ use Rattle.md_leaves.specs.Fence.{meta_name, sees_refused, sequence_close_code, 
 use Rattle.md_leaves.specs.Fence.{start_code, string_link}
 use Rattle.md_leaves.specs.FenceRule.{HasFence, before_chunk, before_close, before_info, before_meta, before_sequence}
 use Rattle.md_leaves.specs.FenceRule.{behind_sequence, behind_white_of, block_begun, close_at, close_end}
-use Rattle.md_leaves.specs.FenceRule.{closed_or_content, content_at, fence_at, fence_behaves, further_at, in_chunk}
+use Rattle.md_leaves.specs.FenceRule.{closed_or_content, content_at, fence_at, further_at, in_chunk}
 use Rattle.md_leaves.specs.FenceRule.{in_close, in_info, in_meta, in_sequence, is_end, is_line, is_word, opens}
-use Rattle.md_leaves.specs.FenceRule.{part_begun, part_ended, refuses, run_end, run_has, run_rest, run_size, shuts}
+use Rattle.md_leaves.specs.FenceRule.{part_begun, part_ended, refuses, run_end, run_has, run_rest, run_size}
 use Rattle.md_leaves.specs.FenceRule.{with_event}
-use Rattle.md_leaves.proofs.FenceGoods.{fence-calm, rest-clear}
+use Rattle.md_leaves.proofs.FenceGoods.{rest-clear}
 use Rattle.md_leaves.proofs.LeafSteps.{sees-one, white_frame}
-use Rattle.md_seam.specs.Ahead.{begins_white, white_rest}
+use Rattle.md_seam.specs.Ahead.{begins_white}
 use Rattle.md_seam.specs.Events.Nested.{enter, enter_link, exit}
 use Rattle.md_seam.specs.Look.{first_seen}
 use Rattle.md_seam.specs.Spaces.{IsRest, any_size, ends_line, is_current, sees_white, small_indent, white_then}

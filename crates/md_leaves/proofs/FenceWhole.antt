@@ -1,6 +1,6 @@
 -- A line of fenced code or math as a whole: a closing fence, or else a line of the block.
 use Rattle.std.proofs.Common.{◌≡◌, ℕ, zero, suc, ◌+◌, ◌≤◌, Bool, true, false, cond, ◌&&◌, nat_lt, List, [], ◌∷◌}
-use Rattle.std.proofs.Common.{◌++◌, Option, Some, None, refl, sym, ◌∙◌, ap, arith, append-nil, append_assoc}
+use Rattle.std.proofs.Common.{◌++◌, refl, sym, ◌∙◌, ap, arith, append-nil, append_assoc}
 use Rattle.std.specs.Prelude.{not, ◌==◌}
 use Rattle.std.proofs.lemmas.Bool.Decides.{nat_tests}
 use Rattle.md_engine.specs.declared.configuration.ParseOptions.{ParseOptions}
@@ -10,9 +10,9 @@ use Rattle.md_engine.specs.declared.event.Point.{Point}
 use Rattle.md_engine.specs.declared.tokenizer.Scratch.{Scratch}
 use Rattle.md_engine.specs.declared.tokenizer.held_leaf.HeldLeaf.TheVariants as held_leaf
 use Rattle.md_engine.specs.Meaning.{Accepts, Cell, Here, Outcome, Refuses}
-use Rattle.md_leaves.specs.Fence.{block_name, chunk_name, cleared, fence_name, held_indent, held_marker, held_size}
+use Rattle.md_leaves.specs.Fence.{chunk_name, cleared, fence_name, held_indent, held_marker, held_size}
 use Rattle.md_leaves.specs.Fence.{sequence_name}
-use Rattle.md_leaves.specs.FenceLine.{chunk_events, closes_here, closing_end, closing_events, fence_goes, further_taken}
+use Rattle.md_leaves.specs.FenceLine.{chunk_events, closes_here, closing_end, closing_events, further_taken}
 use Rattle.md_leaves.specs.FenceLine.{is_closing, spaces}
 use Rattle.md_leaves.specs.FenceRule.{before_chunk, before_close, behind_columns, behind_white_of, close_at, close_end}
 use Rattle.md_leaves.specs.FenceRule.{closed_or_content, content_at, further_at, in_chunk, in_close, is_end, is_line}
@@ -22,7 +22,7 @@ use Rattle.md_leaves.proofs.FenceSteps.{line-first, run-none}
 use Rattle.md_seam.specs.Ahead.{begins_white, white_end, white_rest}
 use Rattle.md_seam.specs.Events.Nested.{enter, exit, pair}
 use Rattle.md_seam.specs.Look.{first_seen}
-use Rattle.md_seam.specs.Spaces.{IsRest, any_size, calmed, is_current, small_indent}
+use Rattle.md_seam.specs.Spaces.{IsRest, any_size, calmed, small_indent}
 use Rattle.md_seam.proofs.AheadLemmas.{none-end, none-rest, small-some}
 use Rattle.md_seam.proofs.SpacesGoods.{rest-calm, rest-size}
 
