@@ -304,7 +304,7 @@ is_nothing r = nothing r.spaces r.bytes
 abbrev pub left_part : ℕ → Rest → Point → List Event
 left_part m left q = cond (is_nothing left) [] (pair (chunk_name m) q (past_rest left q))
 
-nothing-end : (line : Line) (r : Rest) (p : Point) (stop : List Cell) → NoEnding r.bytes → Stops stop →
+pub nothing-end : (line : Line) (r : Rest) (p : Point) (stop : List Cell) → NoEnding r.bytes → Stops stop →
     is_end (rest_cells line r p ++ stop) ≡ is_nothing r
 nothing-end line r p stop h k = go r.spaces r.bytes h
   where

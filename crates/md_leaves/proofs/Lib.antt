@@ -9,6 +9,7 @@ pub mod FenceFurther
 pub mod FenceGoods
 pub mod FenceOpened
 pub mod FenceOpens
+pub mod FenceParts
 pub mod FenceSteps
 pub mod FenceWhole
 pub mod HeadingGoods

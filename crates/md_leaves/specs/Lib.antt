@@ -13,6 +13,7 @@ pub mod BlankRule
 pub mod BomRule
 pub mod BreakRule
 pub mod FenceLine
+pub mod FenceParts
 pub mod FenceRule
 pub mod HeadingRule
 pub mod HeadingTitle
