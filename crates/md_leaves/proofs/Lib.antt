@@ -9,6 +9,14 @@ pub mod CodeSteps
 pub mod CodeWhole
 pub mod CodeLines
 pub mod LostColumns
+pub mod FenceCells
+pub mod FenceFurther
+pub mod FenceGoods
+pub mod FenceOpened
+pub mod FenceOpens
+pub mod FenceParts
+pub mod FenceSteps
+pub mod FenceWhole
 pub mod HeadingGoods
 pub mod BomGoods
 pub mod HeadingLemmas

@@ -3,6 +3,7 @@ pub mod Bom
 pub mod Break
 pub mod Code
 pub mod Further
+pub mod Fence
 pub mod Heading
 pub mod HeadingText
 pub mod HeadingWords
@@ -17,6 +18,9 @@ pub mod BomRule
 pub mod BreakRule
 pub mod CodeRule
 pub mod CodeLine
+pub mod FenceLine
+pub mod FenceParts
+pub mod FenceRule
 pub mod HeadingRule
 pub mod HeadingTitle
 pub mod NonLazyRule

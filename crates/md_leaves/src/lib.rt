@@ -9,6 +9,7 @@ pub mod heading_text;
 mod leaf_start;
 pub mod partial_bom;
 pub mod partial_non_lazy_continuation;
+pub mod raw_flow;
 mod rewriting;
 pub mod spans;
 pub mod thematic_break;
