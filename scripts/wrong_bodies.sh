@@ -1,5 +1,6 @@
 #!/usr/bin/env bash
-# Tries wrong bodies that no contract can refuse, or that one may come to let through, without proof: each must change a row.
+# Tries wrong bodies without proof, each of which must change a row: those that no contract can refuse, or that one may come to let
+# through, and those of promises that no must-fail edit tries.
 #
 # Each file of scripts/wrong-bodies has lines `file:`, `old:` (standing once in that file) and `new:`. All are applied to one copy of
 # the crates, where a body is wrong only for the number that stands for it: `is_wrong()` in a `new:` line asks that of the constructs,

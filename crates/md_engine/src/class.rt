@@ -8,7 +8,7 @@ ghost use Rattle.md_engine.specs.Classes.{IsSpan, has, is_white};
 use memchr::memchr3;
 
 /// A set of bytes without line endings and tabs.
-#[derive(Clone, Copy, Debug, PartialEq, Eq)]
+#[derive(Clone, Copy)]
 pub enum Class {
     /// All others: the text of a line.
     Text,

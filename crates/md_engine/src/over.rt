@@ -10,7 +10,7 @@ ghost use Rattle.md_engine.specs.declared.tokenizer.container.Container.{Contain
 use crate::tokenizer::container::Container;
 
 /// All open containers from an index up to another go on over an empty line.
-#[derive(Clone, Copy, Debug, PartialEq, Eq)]
+#[derive(Clone, Copy)]
 pub struct Over {
     pub from: usize,
     pub to: usize,

@@ -10,7 +10,7 @@ ghost use Rattle.md_engine.specs.Spread.{EndsSpread, IsSpread, spreads};
 use crate::class::is_white;
 
 /// All bytes from an index up to another are this marker, or whitespace.
-#[derive(Clone, Copy, Debug, PartialEq, Eq)]
+#[derive(Clone, Copy)]
 pub struct Spread {
     pub marker: u8,
     pub from: usize,

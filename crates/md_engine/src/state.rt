@@ -30,7 +30,7 @@ pub mod thematic_break;
 pub mod title;
 
 /// What a state answers.
-#[derive(Clone, Copy, Debug, PartialEq, Eq)]
+#[derive(Clone, Copy)]
 pub enum State {
     /// Memory ran out: the parse has failed.
     Error,
@@ -45,7 +45,7 @@ pub enum State {
 }
 
 /// Names of states, by construct: each construct has its own.
-#[derive(Clone, Copy, Debug, PartialEq, Eq)]
+#[derive(Clone, Copy)]
 pub enum Name {
     /// Of a blank line.
     BlankLine(blank_line::State),

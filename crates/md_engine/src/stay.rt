@@ -7,7 +7,7 @@ use crate::class::{Class, is_white};
 use crate::tokenizer::{Scratch, Whitespace};
 
 /// What a state takes, a byte or a column of a tab at once, to do nothing else but count it.
-#[derive(Clone, Copy, Debug, PartialEq, Eq)]
+#[derive(Clone, Copy)]
 pub enum Stay {
     /// The rest of a line.
     Line,

@@ -3,7 +3,7 @@
 use crate::message::Message;
 
 /// What a walk over linked parts has found.
-#[derive(Debug, Drop)]
+#[derive(Drop)]
 pub struct Subresult {
     /// Whether no linked part is left unread.
     pub done: bool,

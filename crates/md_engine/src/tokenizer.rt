@@ -32,7 +32,7 @@ use std::alloc::Global;
 use std::mem;
 
 /// How much whitespace a construct asks for, in columns, and how much of it was taken.
-#[derive(Clone, Copy, Debug, PartialEq, Eq)]
+#[derive(Clone, Copy)]
 pub struct Whitespace {
     pub min: usize,
     pub max: usize,
@@ -40,7 +40,7 @@ pub struct Whitespace {
 }
 
 /// What a construct keeps from state to state. Between constructs it is at rest.
-#[derive(Clone, Copy, Debug, PartialEq, Eq)]
+#[derive(Clone, Copy)]
 pub struct Scratch {
     /// The byte that a sequence is made of.
     pub marker: u8,
@@ -94,7 +94,7 @@ impl Scratch {
 }
 
 /// What a construct tells the containers around it, and what the document knows of these.
-#[derive(Clone, Copy, Debug, PartialEq, Eq)]
+#[derive(Clone, Copy)]
 pub struct Flags {
     /// The leaf that is open behind what was read: whether a container would interrupt it, or cannot open in it, is
     /// read off it.
@@ -115,7 +115,7 @@ pub struct Flags {
 }
 
 /// What the containers say of the line that is fed.
-#[derive(Clone, Copy, Debug, PartialEq, Eq)]
+#[derive(Clone, Copy)]
 pub struct Line {
     /// The index from which on this holds.
     pub start: usize,
@@ -126,7 +126,7 @@ pub struct Line {
 }
 
 /// Where an attempt goes on, and what it goes back to.
-#[derive(Clone, Copy, Debug, PartialEq, Eq)]
+#[derive(Clone, Copy)]
 pub struct Frame {
     pub ok: State,
     pub nok: State,

@@ -5,7 +5,7 @@ ghost use Rattle.md_program.specs.Sets.{IsWithoutMdx, options_of, set_asked_for,
 use md_engine::configuration::ParseOptions;
 
 /// A set of constructs.
-#[derive(Clone, Copy, Debug, PartialEq, Eq)]
+#[derive(Clone, Copy)]
 pub enum Set {
     /// CommonMark alone.
     CommonMark,

@@ -6,14 +6,14 @@ ghost use Rattle.md_seam.specs.Lent.{columns_behind, columns_in_front, lent, who
 use md_engine::event::Point;
 
 /// Where a part begins, and where it has ended.
-#[derive(Clone, Copy, Debug, PartialEq, Eq)]
+#[derive(Clone, Copy)]
 pub struct Position {
     pub start: Point,
     pub end: Point,
 }
 
 /// What stands between two points.
-#[derive(Clone, Copy, Debug)]
+#[derive(Clone, Copy)]
 pub struct Slice<'a> {
     /// The virtual spaces before the bytes: columns of a tab that begins before the part.
     pub before: usize,

@@ -1,7 +1,7 @@
 // States of a blank line.
 
 /// Names of the states of a blank line.
-#[derive(Clone, Copy, Debug, PartialEq, Eq)]
+#[derive(Clone, Copy)]
 pub enum State {
     Start,
     After,

@@ -1,7 +1,7 @@
 // States of a block quote.
 
 /// Names of the states of a block quote.
-#[derive(Clone, Copy, Debug, PartialEq, Eq)]
+#[derive(Clone, Copy)]
 pub enum State {
     Start,
     ContStart,

@@ -1,7 +1,7 @@
 // States of indented code.
 
 /// Names of the states of indented code.
-#[derive(Clone, Copy, Debug, PartialEq, Eq)]
+#[derive(Clone, Copy)]
 pub enum State {
     Start,
     AtBreak,

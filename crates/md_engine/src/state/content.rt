@@ -1,7 +1,7 @@
 // States of content.
 
 /// Names of the states of content.
-#[derive(Clone, Copy, Debug, PartialEq, Eq)]
+#[derive(Clone, Copy)]
 pub enum State {
     ChunkStart,
     ChunkInside,

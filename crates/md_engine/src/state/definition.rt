@@ -1,7 +1,7 @@
 // States of a definition.
 
 /// Names of the states of a definition.
-#[derive(Clone, Copy, Debug, PartialEq, Eq)]
+#[derive(Clone, Copy)]
 pub enum State {
     Start,
     Before,

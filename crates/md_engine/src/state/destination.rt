@@ -1,7 +1,7 @@
 // States of a destination.
 
 /// Names of the states of a destination.
-#[derive(Clone, Copy, Debug, PartialEq, Eq)]
+#[derive(Clone, Copy)]
 pub enum State {
     Start,
     EnclosedBefore,

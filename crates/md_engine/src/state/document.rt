@@ -1,7 +1,7 @@
 // States of the document.
 
 /// Names of the states of the document.
-#[derive(Clone, Copy, Debug, PartialEq, Eq)]
+#[derive(Clone, Copy)]
 pub enum State {
     Start,
     BeforeFrontmatter,

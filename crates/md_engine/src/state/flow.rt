@@ -1,7 +1,7 @@
 // States of flow.
 
 /// Names of the states of flow.
-#[derive(Clone, Copy, Debug, PartialEq, Eq)]
+#[derive(Clone, Copy)]
 pub enum State {
     Start,
     BlankLineBefore,

@@ -1,7 +1,7 @@
 // States of frontmatter.
 
 /// Names of the states of frontmatter.
-#[derive(Clone, Copy, Debug, PartialEq, Eq)]
+#[derive(Clone, Copy)]
 pub enum State {
     Start,
     OpenSequence,

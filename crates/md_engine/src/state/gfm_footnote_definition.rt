@@ -1,7 +1,7 @@
 // States of a footnote definition.
 
 /// Names of the states of a footnote definition.
-#[derive(Clone, Copy, Debug, PartialEq, Eq)]
+#[derive(Clone, Copy)]
 pub enum State {
     Start,
     LabelBefore,

@@ -1,7 +1,7 @@
 // States of a table.
 
 /// Names of the states of a table.
-#[derive(Clone, Copy, Debug, PartialEq, Eq)]
+#[derive(Clone, Copy)]
 pub enum State {
     Start,
     HeadRowBefore,

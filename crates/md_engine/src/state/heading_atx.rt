@@ -1,7 +1,7 @@
 // States of an ATX heading.
 
 /// Names of the states of an ATX heading.
-#[derive(Clone, Copy, Debug, PartialEq, Eq)]
+#[derive(Clone, Copy)]
 pub enum State {
     Start,
     Before,

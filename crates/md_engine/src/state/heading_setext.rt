@@ -1,7 +1,7 @@
 // States of a setext heading.
 
 /// Names of the states of a setext heading.
-#[derive(Clone, Copy, Debug, PartialEq, Eq)]
+#[derive(Clone, Copy)]
 pub enum State {
     Start,
     Before,

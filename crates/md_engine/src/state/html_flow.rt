@@ -1,7 +1,7 @@
 // States of HTML.
 
 /// Names of the states of HTML.
-#[derive(Clone, Copy, Debug, PartialEq, Eq)]
+#[derive(Clone, Copy)]
 pub enum State {
     Start,
     Before,

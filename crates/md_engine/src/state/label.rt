@@ -1,7 +1,7 @@
 // States of a label.
 
 /// Names of the states of a label.
-#[derive(Clone, Copy, Debug, PartialEq, Eq)]
+#[derive(Clone, Copy)]
 pub enum State {
     Start,
     AtBreak,

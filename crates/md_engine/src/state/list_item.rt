@@ -1,7 +1,7 @@
 // States of a list item.
 
 /// Names of the states of a list item.
-#[derive(Clone, Copy, Debug, PartialEq, Eq)]
+#[derive(Clone, Copy)]
 pub enum State {
     Start,
     Before,

@@ -1,7 +1,7 @@
 // States of a paragraph.
 
 /// Names of the states of a paragraph.
-#[derive(Clone, Copy, Debug, PartialEq, Eq)]
+#[derive(Clone, Copy)]
 pub enum State {
     Start,
     LineStart,

@@ -1,7 +1,7 @@
 // States of fenced code and math.
 
 /// Names of the states of fenced code and math.
-#[derive(Clone, Copy, Debug, PartialEq, Eq)]
+#[derive(Clone, Copy)]
 pub enum State {
     Start,
     BeforeSequenceOpen,

@@ -1,7 +1,7 @@
 // States of whitespace.
 
 /// Names of the states of whitespace.
-#[derive(Clone, Copy, Debug, PartialEq, Eq)]
+#[derive(Clone, Copy)]
 pub enum State {
     Start,
     Inside,

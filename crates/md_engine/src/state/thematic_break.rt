@@ -1,7 +1,7 @@
 // States of a thematic break.
 
 /// Names of the states of a thematic break.
-#[derive(Clone, Copy, Debug, PartialEq, Eq)]
+#[derive(Clone, Copy)]
 pub enum State {
     Start,
     Before,

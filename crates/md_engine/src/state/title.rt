@@ -1,7 +1,7 @@
 // States of a title.
 
 /// Names of the states of a title.
-#[derive(Clone, Copy, Debug, PartialEq, Eq)]
+#[derive(Clone, Copy)]
 pub enum State {
     Start,
     Begin,

@@ -9,7 +9,7 @@ pub mod name;
 pub use crate::tokenizer::container::name::ContainerKind;
 
 /// A container that is open.
-#[derive(Clone, Copy, Debug, PartialEq, Eq)]
+#[derive(Clone, Copy)]
 pub struct Container {
     /// The columns that a further line of a list item has to lose (CommonMark 5.2).
     pub width: usize,

@@ -2,7 +2,7 @@
 
 /// The leaf block that is open: what the next line goes on, or ends. Of a leaf of several lines this holds what is kept
 /// of it from line to line.
-#[derive(Clone, Copy, Debug, PartialEq, Eq)]
+#[derive(Clone, Copy)]
 pub enum HeldLeaf {
     /// None: the last one has ended.
     None,

@@ -6,7 +6,7 @@ ghost use Rattle.md_engine.specs.ContainerName.{name_of};
 use crate::event::Name;
 
 /// The kinds of containers.
-#[derive(Clone, Copy, Debug, PartialEq, Eq)]
+#[derive(Clone, Copy)]
 pub enum ContainerKind {
     BlockQuote,
     ListItem,
