@@ -165,14 +165,7 @@ existing_before_steps B feed w options next false (Some c) has s is e k =
           ∙ (container-laws c.kind).continues_looked options _ _ first.0 is first.1 first.2;
     })
 
-existing_leaf_after_steps : (B : Behaviour) (feed : Feed) (w : World) (options : ParseOptions) (next : Rule) →
-    HasFlow B options next →
-    Steps B feed (Next (n.Flow flow.LeafAfter)) w (leaf_after_transition w).to (leaf_after_transition w).world
-leaf_after_steps B feed w options next has =
-    passes B feed _ _ w (leaf_after_transition w).world refl refl
-    (has.leaves flow.LeafAfter _ _ ∙ sym (has.containers document.FlowEnd _ _))
-
-after_steps : (B : Behaviour) (feed : Feed) (w : World) (options : ParseOptions) (next : Rule) →
+existing_after_steps : (B : Behaviour) (feed : Feed) (w : World) (options : ParseOptions) (next : Rule) →
     HasFlow B options next →
     Steps B feed (Next (n.Document document.ContainerExistingAfter)) w (existing_after_transition w).to
     (existing_after_transition w).world
@@ -203,14 +196,7 @@ new_before_steps k B feed w options next has s is =
     })
 
 -- where containers end no attempt is around, so none goes back to events before these ends
-new_leaf_after_steps : (B : Behaviour) (feed : Feed) (w : World) (options : ParseOptions) (next : Rule) →
-    HasFlow B options next →
-    Steps B feed (Next (n.Flow flow.LeafAfter)) w (leaf_after_transition w).to (leaf_after_transition w).world
-leaf_after_steps B feed w options next has =
-    passes B feed _ _ w (leaf_after_transition w).world refl refl
-    (has.leaves flow.LeafAfter _ _ ∙ sym (has.containers document.FlowEnd _ _))
-
-after_steps : (B : Behaviour) (feed : Feed) (w : World) (options : ParseOptions) (next : Rule) →
+new_after_steps : (B : Behaviour) (feed : Feed) (w : World) (options : ParseOptions) (next : Rule) →
     HasFlow B options next → w.frames ≡ [] →
     Steps B feed (Next (n.Document document.ContainerNewAfter)) w (new_after_transition w).to
     (new_after_transition w).world
@@ -218,14 +204,7 @@ new_after_steps B feed w options next has none =
     changes B feed _ _ w (new_after_transition w).world none none
     (has.containers document.ContainerNewAfter _ _ ∙ sym (opening_left B options next has _ _))
 
-containers_leaf_after_steps : (B : Behaviour) (feed : Feed) (w : World) (options : ParseOptions) (next : Rule) →
-    HasFlow B options next →
-    Steps B feed (Next (n.Flow flow.LeafAfter)) w (leaf_after_transition w).to (leaf_after_transition w).world
-leaf_after_steps B feed w options next has =
-    passes B feed _ _ w (leaf_after_transition w).world refl refl
-    (has.leaves flow.LeafAfter _ _ ∙ sym (has.containers document.FlowEnd _ _))
-
-after_steps : (B : Behaviour) (feed : Feed) (w : World) (options : ParseOptions) (next : Rule) →
+containers_after_steps : (B : Behaviour) (feed : Feed) (w : World) (options : ParseOptions) (next : Rule) →
     HasFlow B options next →
     Steps B feed (Next (n.Document document.ContainersAfter)) w (containers_after_transition w).to
     (containers_after_transition w).world
@@ -302,14 +281,7 @@ before_content_steps B feed w options next has =
     (has.leaves flow.After) (λ s g. refl)
     ∙ ap (resume B feed w.events f) (sym (has.chunk.each content.ChunkStart _ _)))
 
-blank_line_leaf_after_steps : (B : Behaviour) (feed : Feed) (w : World) (options : ParseOptions) (next : Rule) →
-    HasFlow B options next →
-    Steps B feed (Next (n.Flow flow.LeafAfter)) w (leaf_after_transition w).to (leaf_after_transition w).world
-leaf_after_steps B feed w options next has =
-    passes B feed _ _ w (leaf_after_transition w).world refl refl
-    (has.leaves flow.LeafAfter _ _ ∙ sym (has.containers document.FlowEnd _ _))
-
-after_steps : (B : Behaviour) (feed : Feed) (w : World) (options : ParseOptions) (next : Rule) →
+blank_line_after_steps : (B : Behaviour) (feed : Feed) (w : World) (options : ParseOptions) (next : Rule) →
     HasFlow B options next →
     Steps B feed (Next (n.Flow flow.BlankLineAfter)) w (blank_line_after_transition w).to
     (blank_line_after_transition w).world

@@ -1,18 +1,17 @@
 -- A paragraph over the cells of its lines is these lines, whose text is not read yet. Each ends behind its ending, and
 -- the next begins behind the prefixes of its containers.
 use Rattle.std.proofs.Common.{◌≡◌, ℕ, zero, suc, ◌+◌, ◌-◌, ◌^◌, ◌<◌, ◌≤◌, Bool, true, false, cond, List, [], ◌∷◌, ◌++◌}
-use Rattle.std.proofs.Common.{length, drop, refl, ap, sym, ◌∙◌, subst, append_assoc, append-nil, drop-drop}
+use Rattle.std.proofs.Common.{length, drop, refl, ap, sym, ◌∙◌, subst}
 use Rattle.std.proofs.Common.{length-append, length-drop, arith}
-use Rattle.std.specs.Prelude.{◌==◌, ◌&&◌, Option, Some, nat_le, nat_lt, slice_get, slice_index}
+use Rattle.std.specs.Prelude.{◌==◌, ◌&&◌, Some, nat_lt, slice_get, slice_index}
 use Rattle.std.proofs.lemmas.Bool.{eqb-true, or_parts}
-use Rattle.std.proofs.lemmas.Bool.Decides.{nat_tests}
 use Rattle.md_engine.specs.declared.configuration.ParseOptions.{ParseOptions}
 use Rattle.md_engine.specs.declared.event.Event.{Event}
 use Rattle.md_engine.specs.declared.event.Name.TheVariants as n
 use Rattle.md_engine.specs.declared.event.Point.{Point}
 use Rattle.md_engine.specs.declared.tokenizer.Line.{Line}
 use Rattle.md_engine.specs.Meaning.{Cell}
-use Rattle.md_engine.specs.Place.{begun_at, is_ending, next_point, seen_at}
+use Rattle.md_engine.specs.Place.{is_ending, next_point, seen_at}
 use Rattle.md_engine.specs.TextFeed.{text_feed}
 use Rattle.md_engine.specs.World.{Setting, World, after, fresh, line_begun, skipping}
 use Rattle.md_content.specs.ContentReads.{content_events, end_of, first_of, paragraph_over, part_world, settled}
@@ -23,7 +22,6 @@ use Rattle.md_content.proofs.ContentReadsLemmas.{skipping-same}
 use Rattle.md_content.proofs.SettledLemmas.{settled-none, settled-other}
 use Rattle.md_content.proofs.WholeLinesLemmas.{SameRest, begins, begun-next, drop-next, get-at, same-then, skip-here}
 use Rattle.md_content.proofs.WholeLinesLemmas.{skip-later, skips-are}
-use Rattle.md_seam.specs.declared.inline.Chunk.{Chunk}
 use Rattle.md_seam.specs.Ahead.{point_after}
 use Rattle.md_seam.specs.Events.Places.{past_byte, past_text}
 use Rattle.md_seam.specs.Events.Nested.{around, enter, enter_link, exit}

@@ -6,6 +6,7 @@ ghost use Rattle.md_definition.specs.Outline.{entry_of};
 ghost use Rattle.md_program.specs.Printed.{head, open_mark, printed, printed_labels, printed_line};
 
 use crate::body::Outlined;
+use crate::streams::ROOM;
 use md_definition::outline::{OutlineLine, Word};
 use md_engine::message::Message;
 use std::alloc::{AllocError, Global};
@@ -16,7 +17,9 @@ use std::alloc::{AllocError, Global};
 pub fn print(alloc: Global, outlined: &Outlined) -> Result<String, Message>
     ensures { IfOk result (λ text. string_bytes text ≡ printed (listing_of outlined.now)) }
 {
-    let mut text = String::new(alloc);
+    let Ok(mut text) = String::with_capacity(alloc, ROOM) else {
+        return Err(Message);
+    };
     match push_all(&mut text, outlined) {
         Ok(()) => Ok(text),
         Err(_) => Err(Message),

@@ -12,6 +12,9 @@ use std::io::{Read, Write};
 // The bytes of one read.
 const CHUNK: usize = 8192;
 
+// Room for so many bytes is asked for at once: a list of this size grows in its place, and a smaller one is copied.
+pub(crate) const ROOM: usize = 1 << 18;
+
 // All that the input has left. It reads until a read gives nothing or more than the size was read.
 pub(crate) fn read_whole<R: Read>(alloc: Global, input: &mut R) -> Result<Vec<u8>, Failure>
     ensures { MatchResult result
@@ -19,6 +22,7 @@ pub(crate) fn read_whole<R: Read>(alloc: Global, input: &mut R) -> Result<Vec<u8
         (λ failure. FailsRead (R.remaining input.old) failure) }
 {
     let mut bytes = Vec::new(alloc);
+    bytes.reserve(ROOM)?;
     let mut chunk = [0u8; CHUNK];
     loop {
         let count = match input.read(&mut chunk) {
