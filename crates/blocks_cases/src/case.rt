@@ -5,7 +5,7 @@ use md_engine::configuration::Constructs;
 use std::alloc::{AllocError, Global};
 
 /// A text and what it must give.
-#[derive(Debug, Drop)]
+#[derive(Drop)]
 pub struct Case<'a> {
     /// Where the standard says it.
     pub section: &'a str,
@@ -19,7 +19,7 @@ pub struct Case<'a> {
 }
 
 /// Why a row can't be read.
-#[derive(Clone, Copy, Debug, PartialEq, Eq)]
+#[derive(Clone, Copy)]
 pub enum CaseError {
     /// Memory ran out.
     Memory,

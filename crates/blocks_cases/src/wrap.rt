@@ -4,7 +4,7 @@ use crate::case::{CaseError, unquoted};
 use std::alloc::Global;
 
 /// A text, and what it is as a quote and as an item.
-#[derive(Debug, Drop)]
+#[derive(Drop)]
 pub struct Wrap {
     pub text: String,
     /// With `> ` before each line.
