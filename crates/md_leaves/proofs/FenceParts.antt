@@ -1,8 +1,8 @@
 -- Info and meta of an opening fence by the cells of its line are those of the definition of lines.
-use Rattle.std.proofs.Common.{◌≡◌, ℕ, zero, suc, ◌+◌, ◌-◌, ◌^◌, ◌<◌, ◌≤◌, Bool, true, false, cond, ◌&&◌, List, []}
-use Rattle.std.proofs.Common.{◌∷◌, ◌++◌, length, take, drop, Some, None, refl, sym, ◌∙◌, ap, arith, append_assoc, subst}
+use Rattle.std.proofs.Common.{◌≡◌, ℕ, zero, suc, ◌+◌, ◌^◌, ◌<◌, ◌≤◌, Bool, true, false, cond, ◌&&◌, List, []}
+use Rattle.std.proofs.Common.{◌∷◌, ◌++◌, length, take, drop, refl, sym, ◌∙◌, ap, arith, append_assoc, subst}
 use Rattle.std.specs.Prelude.{not, ◌==◌}
-use Rattle.std.specs.List.{prefix_len, take_while}
+use Rattle.std.specs.List.{prefix_len}
 use Rattle.std.proofs.lemmas.Bool.Decides.{nat_tests}
 use Rattle.std.proofs.lemmas.List.{length-append, take-append-drop}
 use Rattle.std.proofs.lemmas.List.Sums.{take_while-cons}
@@ -24,7 +24,7 @@ use Rattle.md_leaves.proofs.FenceFurther.{indent-trims, is_nothing, nothing-end}
 use Rattle.md_seam.specs.Ahead.{white_end, white_rest}
 use Rattle.md_seam.specs.Events.Places.{past_byte, past_text}
 use Rattle.md_seam.specs.Spaces.{any_size}
-use Rattle.md_seam.proofs.FeedLines.{Stops, past-next, spread, stops-white}
+use Rattle.md_seam.proofs.FeedLines.{Stops, past-next, past_text-column, past_text-whole, spread, stops-white}
 use Rattle.md_seam.proofs.RestCells.{Bare, Cut, HasIndent, RestAt, bare, cells_by, indent-length, indent-taken, rest_cells}
 use Rattle.md_seam.proofs.RestCells.{white-length}
 
@@ -35,14 +35,6 @@ at-drop : (text : List ℕ) (xs rest : List ℕ) (p : Point) → drop p.index te
 at-drop text [] rest p e = e
 at-drop text (x ∷ xs) rest p e = at-drop text xs rest (past_byte x p) (past-next p.index text x (xs ++ rest) e)
 
-past-whole : (xs : List ℕ) (p : Point) → p.vs ≡ 0 → (past_text xs p).vs ≡ 0
-past-whole [] p e = e
-past-whole (x ∷ xs) p e = past-whole xs (past_byte x p) refl
-
-past-column : (xs : List ℕ) (p : Point) → 1 ≤ p.column → 1 ≤ (past_text xs p).column
-past-column [] p e = e
-past-column (x ∷ xs) p e = past-column xs (past_byte x p) (omega arith)
-
 -- these bytes stand at a point that cuts no tab
 abbrev pub Stands : List ℕ → List ℕ → List ℕ → Point → Type 0
 Stands text behind bytes p = RestAt text behind (bytes_at bytes p) p × (1 ≤ p.column)
@@ -50,10 +42,10 @@ Stands text behind bytes p = RestAt text behind (bytes_at bytes p) p × (1 ≤ p
 stands-behind : (text behind xs ys : List ℕ) (p : Point) → Stands text behind (xs ++ ys) p →
     Stands text behind ys (past_text xs p)
 stands-behind text behind xs ys p is =
-    let one = past-column xs p is.1 in (
+    let one = past_text-column xs p is.1 in (
       record {
         column = omega (arith, one);
-        cut = past-whole xs p is.0.cut;
+        cut = past_text-whole xs p is.0.cut;
         text_is = at-drop text xs (ys ++ behind) p (is.0.text_is ∙ append_assoc xs ys behind);
       },
       one,
@@ -219,18 +211,17 @@ info-is : (m : ℕ) (line : Line) (text behind bytes : List ℕ) (p : Point) (st
     (part_of part.CodeFencedFenceInfo (nonempty (first_word bytes)) p ++ between line bytes p stop
     ++ part_of (meta_name m) (nonempty (behind_word bytes)) (meta_point line bytes p stop))) ×
     Stands text behind (behind_word bytes) (meta_point line bytes p stop)
-info-is m line text behind bytes p stop is h k dark short =
-    (
-      ap (λ (q : Point). cond (is_end cells) [] (parts q (run_rest is_word cells))) run_to
-          ∙ ap (λ (l : List Cell). cond (is_end cells) [] (parts u l)) run_left
-          ∙ ap (λ (es : List Event). cond (is_end cells) [] (info ++ between line bytes p stop ++ es)) meta
-          ∙ ap
-          (λ (x : Bool). cond x []
-          (info ++ between line bytes p stop ++ part_of (meta_name m) (nonempty (behind_word bytes)) v))
-          (nothing-end line (bytes_at bytes p) p stop h k)
-          ∙ info-some m line bytes p stop k dark,
-      taken.stands,
-    )
+info-is m line text behind bytes p stop is h k dark short = (
+  ap (λ (q : Point). cond (is_end cells) [] (parts q (run_rest is_word cells))) run_to
+      ∙ ap (λ (l : List Cell). cond (is_end cells) [] (parts u l)) run_left
+      ∙ ap (λ (es : List Event). cond (is_end cells) [] (info ++ between line bytes p stop ++ es)) meta
+      ∙ ap
+      (λ (x : Bool). cond x []
+      (info ++ between line bytes p stop ++ part_of (meta_name m) (nonempty (behind_word bytes)) v))
+      (nothing-end line (bytes_at bytes p) p stop h k)
+      ∙ info-some m line bytes p stop k dark,
+  taken.stands,
+)
   where
     u : Point
     u = past_text (first_word bytes) p
