@@ -5,17 +5,17 @@
 //     closing  ::= small_indent sequence *space_or_tab
 //     sequence ::= 3*'`' | 3*'~' | 2*'$'
 //
-// A block of tildes or backticks is fenced code, one of dollars is math, which has no `info`: all behind its sequence is
-// `meta`. Neither holds the marker, unless that is a tilde. A closing sequence has the marker of the opening one, and at
-// least as many. Each other line loses as many columns of whitespace as stood in front of the opening sequence, or as
-// many as it has.
+// A block of tildes or backticks is fenced code, one of dollars is math, which has no `info`: all behind its sequence
+// is `meta`. Neither holds the marker, unless that is a tilde. A closing sequence has the marker of the opening one,
+// and at least as many. Each other line loses as many columns of whitespace as stood in front of the opening sequence,
+// or as many as it has.
 //
 // A block is read one line at a time: `start` is the first state of its opening line, `at_non_lazy_break` that of each
-// further line. What is kept between them is `HeldLeaf::Fence`. The states add `CodeFenced` from the opening sequence to
-// the end of the closing one, where there is one; `CodeFencedFence` around a sequence and what follows it on its line:
-// `CodeFencedFenceSequence`, `SpaceOrTab`, and around linked `Data` `CodeFencedFenceInfo` and `CodeFencedFenceMeta`; and
-// `CodeFlowChunk` over what a line has left, if anything. Indents are `SpaceOrTab` in front of these. In math all names
-// begin with `MathFlow`.
+// further line. What is kept between them is `HeldLeaf::Fence`. The states add `CodeFenced` from the opening sequence
+// to the end of the closing one, where there is one; `CodeFencedFence` around a sequence and what follows it on its
+// line: `CodeFencedFenceSequence`, `SpaceOrTab`, and around linked `Data` `CodeFencedFenceInfo` and
+// `CodeFencedFenceMeta`; and `CodeFlowChunk` over what a line has left, if anything. Indents are `SpaceOrTab` in front
+// of these. In math all names begin with `MathFlow`.
 
 ghost use Rattle.std.specs.Prelude.{◌≡◌, ◌≢◌, IfSome};
 ghost use Rattle.md_definition.specs.Leaves.{is_fence_marker, least_size};
