@@ -1,9 +1,6 @@
 pub mod Blank
 pub mod Bom
 pub mod Break
-pub mod Code
-pub mod Further
-pub mod Fence
 pub mod Heading
 pub mod HeadingText
 pub mod HeadingWords
@@ -16,11 +13,6 @@ pub mod NonLazy
 pub mod BlankRule
 pub mod BomRule
 pub mod BreakRule
-pub mod CodeRule
-pub mod CodeLine
-pub mod FenceLine
-pub mod FenceParts
-pub mod FenceRule
 pub mod HeadingRule
 pub mod HeadingTitle
 pub mod NonLazyRule

@@ -2,14 +2,11 @@
 #![tactic(auto)]
 
 pub mod blank_line;
-pub mod code_indented;
-pub mod further;
 pub mod heading_atx;
 pub mod heading_text;
 mod leaf_start;
 pub mod partial_bom;
 pub mod partial_non_lazy_continuation;
-pub mod raw_flow;
 mod rewriting;
 pub mod spans;
 pub mod thematic_break;

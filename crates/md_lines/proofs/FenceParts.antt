@@ -15,12 +15,12 @@ use Rattle.md_engine.specs.Place.{is_ending}
 use Rattle.md_definition.specs.Leaves.{behind_word, first_word, nonempty}
 use Rattle.md_definition.specs.Rest.{Rest, behind_indent, cut_tab, indent, is_white, trim_start}
 use Rattle.md_definition.proofs.TextsLemmas.{NoEnding, no_ending-drop}
-use Rattle.md_leaves.specs.Fence.{meta_name}
-use Rattle.md_leaves.specs.FenceLine.{behind_events, info_events, later_part, meta_events, spaces}
-use Rattle.md_leaves.specs.FenceParts.{bytes_at, part_of, parts_of}
-use Rattle.md_leaves.specs.FenceRule.{is_end, is_line, is_word, run_end, run_rest}
-use Rattle.md_leaves.proofs.FenceCells.{RunOf, line-all, prefix-none, prefix-one, rest-past, run-length, run-walk}
-use Rattle.md_leaves.proofs.FenceFurther.{indent-trims, is_nothing, nothing-end}
+use Rattle.md_lines.specs.Fence.{meta_name}
+use Rattle.md_lines.specs.FenceLine.{behind_events, info_events, later_part, meta_events, spaces}
+use Rattle.md_lines.specs.FenceParts.{bytes_at, part_of, parts_of}
+use Rattle.md_lines.specs.FenceRule.{is_end, is_line, is_word, run_end, run_rest}
+use Rattle.md_lines.proofs.FenceCells.{RunOf, line-all, prefix-none, prefix-one, rest-past, run-length, run-walk}
+use Rattle.md_lines.proofs.FenceFurther.{indent-trims, is_nothing, nothing-end}
 use Rattle.md_seam.specs.Ahead.{white_end, white_rest}
 use Rattle.md_seam.specs.Events.Places.{past_byte, past_text}
 use Rattle.md_seam.specs.Spaces.{any_size}

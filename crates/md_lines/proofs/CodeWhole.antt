@@ -10,10 +10,10 @@ use Rattle.md_engine.specs.declared.tokenizer.Scratch.{Scratch}
 use Rattle.md_engine.specs.declared.tokenizer.held_leaf.HeldLeaf.{HeldLeaf}
 use Rattle.md_engine.specs.declared.tokenizer.held_leaf.HeldLeaf.TheVariants as held_leaf
 use Rattle.md_engine.specs.Meaning.{Accepts, Cell, Here, Refuses}
-use Rattle.md_leaves.specs.Code.{begin_of, may_open}
-use Rattle.md_leaves.specs.CodeRule.{at_break, behind_columns, blank_adds, code_adds, code_adds_on, code_at}
-use Rattle.md_leaves.specs.CodeRule.{code_begins, code_further, code_goes, further_after, further_begin, further_inside, in_blank}
-use Rattle.md_leaves.specs.CodeRule.{in_text, is_indented, line_by, or_blank, then_here}
+use Rattle.md_lines.specs.Code.{begin_of, may_open}
+use Rattle.md_lines.specs.CodeRule.{at_break, behind_columns, blank_adds, code_adds, code_adds_on, code_at}
+use Rattle.md_lines.specs.CodeRule.{code_begins, code_further, code_goes, further_after, further_begin, further_inside, in_blank}
+use Rattle.md_lines.specs.CodeRule.{in_text, is_indented, line_by, or_blank, then_here}
 use Rattle.md_seam.specs.Ahead.{begins_white, from_ending, line_bytes, line_cells, line_end, white_end}
 use Rattle.md_seam.specs.Ahead.{white_rest}
 use Rattle.md_seam.specs.Events.Nested.{enter, exit, pair}

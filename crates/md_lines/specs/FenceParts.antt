@@ -6,8 +6,8 @@ use Rattle.md_engine.specs.declared.event.Name.TheVariants as part
 use Rattle.md_engine.specs.declared.event.Point.{Point}
 use Rattle.md_definition.specs.Leaves.{behind_word, first_word, nonempty}
 use Rattle.md_definition.specs.Rest.{Rest}
-use Rattle.md_leaves.specs.Fence.{meta_name}
-use Rattle.md_leaves.specs.FenceLine.{later_part}
+use Rattle.md_lines.specs.Fence.{meta_name}
+use Rattle.md_lines.specs.FenceLine.{later_part}
 use Rattle.md_seam.specs.Events.Places.{past_text}
 
 -- these bytes, from a point on that cuts no tab

@@ -14,16 +14,16 @@ use Rattle.md_engine.specs.declared.tokenizer.held_leaf.HeldLeaf.TheVariants as 
 use Rattle.md_engine.specs.Meaning.{Accepts, Cell, Here, Outcome, Refuses}
 use Rattle.md_definition.specs.Leaves.{is_fence_marker, least_size}
 use Rattle.md_definition.specs.Rest.{is_white}
-use Rattle.md_leaves.specs.Fence.{cleared, fence_name, is_on, is_refused, may_begin, sequence_name}
-use Rattle.md_leaves.specs.FenceLine.{fence_begins, fence_by, fence_opened, info_events, is_opening, marker_at}
-use Rattle.md_leaves.specs.FenceLine.{meta_events, open_events, behind_events}
-use Rattle.md_leaves.specs.FenceRule.{before_info, before_meta, before_sequence, behind_sequence, behind_white_of}
-use Rattle.md_leaves.specs.FenceRule.{block_begun, fence_at, in_info, in_meta, in_sequence, is_end, is_line, is_word}
-use Rattle.md_leaves.specs.FenceRule.{part_begun, part_ended, refuses, run_end, run_has, run_rest, run_size, with_event}
-use Rattle.md_leaves.proofs.FenceCells.{SameLine, line-all, line-done, line-run, line-white, marker-dark, marker-goes, run-length}
-use Rattle.md_leaves.proofs.FenceGoods.{rest-clear}
-use Rattle.md_leaves.proofs.FenceSteps.{line-first, run-has-none}
-use Rattle.md_leaves.proofs.FenceWhole.{behind_spaces, white-joined}
+use Rattle.md_lines.specs.Fence.{cleared, fence_name, is_on, is_refused, may_begin, sequence_name}
+use Rattle.md_lines.specs.FenceLine.{fence_begins, fence_by, fence_opened, info_events, is_opening, marker_at}
+use Rattle.md_lines.specs.FenceLine.{meta_events, open_events, behind_events}
+use Rattle.md_lines.specs.FenceRule.{before_info, before_meta, before_sequence, behind_sequence, behind_white_of}
+use Rattle.md_lines.specs.FenceRule.{block_begun, fence_at, in_info, in_meta, in_sequence, is_end, is_line, is_word}
+use Rattle.md_lines.specs.FenceRule.{part_begun, part_ended, refuses, run_end, run_has, run_rest, run_size, with_event}
+use Rattle.md_lines.proofs.FenceCells.{SameLine, line-all, line-done, line-run, line-white, marker-dark, marker-goes, run-length}
+use Rattle.md_lines.proofs.FenceGoods.{rest-clear}
+use Rattle.md_lines.proofs.FenceSteps.{line-first, run-has-none}
+use Rattle.md_lines.proofs.FenceWhole.{behind_spaces, white-joined}
 use Rattle.md_seam.specs.Ahead.{begins_white, from_ending, line_end, white_rest}
 use Rattle.md_seam.specs.Events.Nested.{exit}
 use Rattle.md_seam.specs.Look.{first_seen}

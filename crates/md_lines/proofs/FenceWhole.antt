@@ -10,15 +10,15 @@ use Rattle.md_engine.specs.declared.event.Point.{Point}
 use Rattle.md_engine.specs.declared.tokenizer.Scratch.{Scratch}
 use Rattle.md_engine.specs.declared.tokenizer.held_leaf.HeldLeaf.TheVariants as held_leaf
 use Rattle.md_engine.specs.Meaning.{Accepts, Cell, Here, Outcome, Refuses}
-use Rattle.md_leaves.specs.Fence.{chunk_name, cleared, fence_name, held_indent, held_marker, held_size}
-use Rattle.md_leaves.specs.Fence.{sequence_name}
-use Rattle.md_leaves.specs.FenceLine.{chunk_events, closes_here, closing_end, closing_events, further_taken}
-use Rattle.md_leaves.specs.FenceLine.{is_closing, spaces}
-use Rattle.md_leaves.specs.FenceRule.{before_chunk, before_close, behind_columns, behind_white_of, close_at, close_end}
-use Rattle.md_leaves.specs.FenceRule.{closed_or_content, content_at, further_at, in_chunk, in_close, is_end, is_line}
-use Rattle.md_leaves.specs.FenceRule.{refuses, run_end, run_rest, run_size, with_event}
-use Rattle.md_leaves.proofs.FenceGoods.{rest-clear}
-use Rattle.md_leaves.proofs.FenceSteps.{line-first, run-none}
+use Rattle.md_lines.specs.Fence.{chunk_name, cleared, fence_name, held_indent, held_marker, held_size}
+use Rattle.md_lines.specs.Fence.{sequence_name}
+use Rattle.md_lines.specs.FenceLine.{chunk_events, closes_here, closing_end, closing_events, further_taken}
+use Rattle.md_lines.specs.FenceLine.{is_closing, spaces}
+use Rattle.md_lines.specs.FenceRule.{before_chunk, before_close, behind_columns, behind_white_of, close_at, close_end}
+use Rattle.md_lines.specs.FenceRule.{closed_or_content, content_at, further_at, in_chunk, in_close, is_end, is_line}
+use Rattle.md_lines.specs.FenceRule.{refuses, run_end, run_rest, run_size, with_event}
+use Rattle.md_lines.proofs.FenceGoods.{rest-clear}
+use Rattle.md_lines.proofs.FenceSteps.{line-first, run-none}
 use Rattle.md_seam.specs.Ahead.{begins_white, white_end, white_rest}
 use Rattle.md_seam.specs.Events.Nested.{enter, exit, pair}
 use Rattle.md_seam.specs.Look.{first_seen}

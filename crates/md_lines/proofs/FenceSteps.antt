@@ -23,20 +23,20 @@ use Rattle.md_engine.specs.World.{World, after}
 use Rattle.md_engine.proofs.StepOf.{Sees, ahead, begins, begins_only, cell_here, moves, passes}
 use Rattle.md_definition.specs.Leaves.{is_fence_marker, least_size}
 use Rattle.md_definition.specs.Rest.{is_white}
-use Rattle.md_leaves.specs.Fence.{after_transition, at_non_lazy_break_code, before_chunk_code, before_close_code}
-use Rattle.md_leaves.specs.Fence.{before_open, before_open_code, behind_part, block_name, chunk_code}
-use Rattle.md_leaves.specs.Fence.{chunk_name, cleared, close_after_code, close_start_code, content_start_code, ends_word}
-use Rattle.md_leaves.specs.Fence.{fence_name, fence_ready, fence_transition, held_indent, held_marker, held_size}
-use Rattle.md_leaves.specs.Fence.{info_before_code, info_code, is_on, is_refused, may_close, meta_before_code, meta_code}
-use Rattle.md_leaves.specs.Fence.{meta_name, sees_refused, sequence_close_code, sequence_name, sequence_open_code}
-use Rattle.md_leaves.specs.Fence.{start_code, string_link}
-use Rattle.md_leaves.specs.FenceRule.{HasFence, before_chunk, before_close, before_info, before_meta, before_sequence}
-use Rattle.md_leaves.specs.FenceRule.{behind_sequence, behind_white_of, block_begun, close_at, close_end}
-use Rattle.md_leaves.specs.FenceRule.{closed_or_content, content_at, fence_at, further_at, in_chunk}
-use Rattle.md_leaves.specs.FenceRule.{in_close, in_info, in_meta, in_sequence, is_end, is_line, is_word, opens}
-use Rattle.md_leaves.specs.FenceRule.{part_begun, part_ended, refuses, run_end, run_has, run_rest, run_size}
-use Rattle.md_leaves.specs.FenceRule.{with_event}
-use Rattle.md_leaves.proofs.FenceGoods.{rest-clear}
+use Rattle.md_lines.specs.Fence.{after_transition, at_non_lazy_break_code, before_chunk_code, before_close_code}
+use Rattle.md_lines.specs.Fence.{before_open, before_open_code, behind_part, block_name, chunk_code}
+use Rattle.md_lines.specs.Fence.{chunk_name, cleared, close_after_code, close_start_code, content_start_code, ends_word}
+use Rattle.md_lines.specs.Fence.{fence_name, fence_ready, fence_transition, held_indent, held_marker, held_size}
+use Rattle.md_lines.specs.Fence.{info_before_code, info_code, is_on, is_refused, may_close, meta_before_code, meta_code}
+use Rattle.md_lines.specs.Fence.{meta_name, sees_refused, sequence_close_code, sequence_name, sequence_open_code}
+use Rattle.md_lines.specs.Fence.{start_code, string_link}
+use Rattle.md_lines.specs.FenceRule.{HasFence, before_chunk, before_close, before_info, before_meta, before_sequence}
+use Rattle.md_lines.specs.FenceRule.{behind_sequence, behind_white_of, block_begun, close_at, close_end}
+use Rattle.md_lines.specs.FenceRule.{closed_or_content, content_at, fence_at, further_at, in_chunk}
+use Rattle.md_lines.specs.FenceRule.{in_close, in_info, in_meta, in_sequence, is_end, is_line, is_word, opens}
+use Rattle.md_lines.specs.FenceRule.{part_begun, part_ended, refuses, run_end, run_has, run_rest, run_size}
+use Rattle.md_lines.specs.FenceRule.{with_event}
+use Rattle.md_lines.proofs.FenceGoods.{rest-clear}
 use Rattle.md_leaves.proofs.LeafSteps.{sees-one, white_frame}
 use Rattle.md_seam.specs.Ahead.{begins_white}
 use Rattle.md_seam.specs.Events.Nested.{enter, enter_link, exit}

@@ -3,11 +3,11 @@ use Rattle.std.proofs.lemmas.Bool.{eqb-true, not-true}
 use Rattle.md_engine.specs.declared.state.Name.TheVariants as n
 use Rattle.md_engine.specs.declared.state.code_indented.State.TheVariants as its
 use Rattle.md_engine.specs.declared.stay.Stay.TheVariants.{Byte, Line}
-use Rattle.md_leaves.specs.Code.{code_transition, further_inside_code, inside_blank_code, inside_code}
+use Rattle.md_lines.specs.Code.{code_transition, further_inside_code, inside_blank_code, inside_code}
 use Rattle.md_definition.specs.Rest.{is_white}
 use Rattle.md_seam.specs.Spaces.{ends_line, sees_white}
 use Rattle.md_seam.specs.Stays.{TakesEach}
-use Rattle.md_leaves.proofs.code_indented.stays.Goals as goal
+use Rattle.md_lines.proofs.code_indented.stays.Goals as goal
 
 -- the spaces at the front of a chunk are taken,
 blank-takes : TakesEach (Byte 32) (n.CodeIndented its.InsideBlank) (code_transition its.InsideBlank)

@@ -18,13 +18,13 @@ use Rattle.md_definition.specs.Rest.{Rest, has_small_indent, indent, is_white, l
 use Rattle.md_definition.specs.Rest.{white_columns}
 use Rattle.md_definition.specs.State.{OpenFence}
 use Rattle.md_definition.proofs.TextsLemmas.{NoEnding, no_ending-drop}
-use Rattle.md_leaves.specs.Fence.{is_on, is_refused, may_begin}
-use Rattle.md_leaves.specs.FenceLine.{fence_begins, fence_opened, is_opening, marker_at}
-use Rattle.md_leaves.specs.FenceRule.{is_line, run_has, run_rest, run_size}
-use Rattle.md_leaves.proofs.FenceCells.{first-spread, marker-dark, marker-ten, not-lt, run-walk, stop-first}
-use Rattle.md_leaves.proofs.FenceFurther.{large-room, small-behind}
-use Rattle.md_leaves.proofs.FenceOpened.{marker-may}
-use Rattle.md_leaves.proofs.FenceSteps.{run-has-none}
+use Rattle.md_lines.specs.Fence.{is_on, is_refused, may_begin}
+use Rattle.md_lines.specs.FenceLine.{fence_begins, fence_opened, is_opening, marker_at}
+use Rattle.md_lines.specs.FenceRule.{is_line, run_has, run_rest, run_size}
+use Rattle.md_lines.proofs.FenceCells.{first-spread, marker-dark, marker-ten, not-lt, run-walk, stop-first}
+use Rattle.md_lines.proofs.FenceFurther.{large-room, small-behind}
+use Rattle.md_lines.proofs.FenceOpened.{marker-may}
+use Rattle.md_lines.proofs.FenceSteps.{run-has-none}
 use Rattle.md_seam.specs.Ahead.{begins_white, white_end, white_rest}
 use Rattle.md_seam.specs.Events.Places.{past_byte, past_text}
 use Rattle.md_seam.specs.Look.{first_seen}

@@ -18,13 +18,13 @@ use Rattle.md_definition.specs.Rest.{Rest, behind_indent, has_small_indent, inde
 use Rattle.md_definition.specs.Rest.{tab_columns, trim_start}
 use Rattle.md_definition.specs.State.{Opening}
 use Rattle.md_definition.proofs.TextsLemmas.{NoEnding, no_ending-drop}
-use Rattle.md_leaves.specs.Fence.{chunk_name, held_indent, held_marker, may_begin}
-use Rattle.md_leaves.specs.FenceLine.{chunk_events, closes_here, closing_end, fence_goes, further_end, further_events}
-use Rattle.md_leaves.specs.FenceLine.{further_rest, is_closing, spaces}
-use Rattle.md_leaves.specs.FenceRule.{is_end, is_line, run_end, run_rest, run_size}
-use Rattle.md_leaves.proofs.FenceCells.{closing-spread, first-spread, line-all, line-done, line-run, line-white}
-use Rattle.md_leaves.proofs.FenceCells.{marker-dark, marker-goes, prefix-none, prefix-one, rest-from, rest-past}
-use Rattle.md_leaves.proofs.FenceWhole.{zero-end, zero-rest}
+use Rattle.md_lines.specs.Fence.{chunk_name, held_indent, held_marker, may_begin}
+use Rattle.md_lines.specs.FenceLine.{chunk_events, closes_here, closing_end, fence_goes, further_end, further_events}
+use Rattle.md_lines.specs.FenceLine.{further_rest, is_closing, spaces}
+use Rattle.md_lines.specs.FenceRule.{is_end, is_line, run_end, run_rest, run_size}
+use Rattle.md_lines.proofs.FenceCells.{closing-spread, first-spread, line-all, line-done, line-run, line-white}
+use Rattle.md_lines.proofs.FenceCells.{marker-dark, marker-goes, prefix-none, prefix-one, rest-from, rest-past}
+use Rattle.md_lines.proofs.FenceWhole.{zero-end, zero-rest}
 use Rattle.md_seam.specs.Ahead.{begins_white, from_ending, line_end, white_end, white_rest}
 use Rattle.md_seam.specs.Events.Nested.{pair}
 use Rattle.md_seam.specs.Look.{first_seen}

@@ -10,10 +10,10 @@ use Rattle.md_engine.specs.declared.tokenizer.Line.{Line}
 use Rattle.md_engine.specs.Meaning.{Cell}
 use Rattle.md_definition.specs.Rest.{Rest, is_blank, is_white, run_len}
 use Rattle.md_definition.proofs.TextsLemmas.{NoEnding, no_ending-drop}
-use Rattle.md_leaves.specs.Fence.{may_begin}
-use Rattle.md_leaves.specs.FenceLine.{is_closing}
-use Rattle.md_leaves.specs.FenceRule.{is_end, is_line, run_end, run_rest, run_size}
-use Rattle.md_leaves.proofs.FenceSteps.{first_is, run-none}
+use Rattle.md_lines.specs.Fence.{may_begin}
+use Rattle.md_lines.specs.FenceLine.{is_closing}
+use Rattle.md_lines.specs.FenceRule.{is_end, is_line, run_end, run_rest, run_size}
+use Rattle.md_lines.proofs.FenceSteps.{first_is, run-none}
 use Rattle.md_seam.specs.Ahead.{from_ending, line_bytes, line_cells, line_end, point_after, white_end, white_rest}
 use Rattle.md_seam.specs.Events.Places.{past_byte, past_text}
 use Rattle.md_seam.specs.Look.{first_seen}

@@ -20,10 +20,10 @@ use Rattle.md_engine.specs.Meaning.{restored}
 use Rattle.md_engine.specs.Meaning.{resume}
 use Rattle.md_engine.specs.World.{World, after}
 use Rattle.md_engine.proofs.StepOf.{Sees, ahead, begins, begins_only, cell_here, moves, passes}
-use Rattle.md_leaves.specs.Code.{begin_of, code_transition, further_after_code, further_begin_code}
-use Rattle.md_leaves.specs.Code.{further_inside_code, inside_blank_code, inside_code, may_open, start_code}
-use Rattle.md_leaves.specs.CodeRule.{HasCode, at_break, behind_columns, code_at, code_ends, further_after}
-use Rattle.md_leaves.specs.CodeRule.{further_begin, further_inside, in_blank, in_text, is_indented, or_blank, then_here}
+use Rattle.md_lines.specs.Code.{begin_of, code_transition, further_after_code, further_begin_code}
+use Rattle.md_lines.specs.Code.{further_inside_code, inside_blank_code, inside_code, may_open, start_code}
+use Rattle.md_lines.specs.CodeRule.{HasCode, at_break, behind_columns, code_at, code_ends, further_after}
+use Rattle.md_lines.specs.CodeRule.{further_begin, further_inside, in_blank, in_text, is_indented, or_blank, then_here}
 use Rattle.md_leaves.proofs.LeafSteps.{sees-one, white_frame}
 use Rattle.md_seam.specs.Ahead.{HasWhite, after_white, begins_white, from_ending, inside_white, line_bytes, white_at}
 use Rattle.md_seam.specs.Ahead.{line_cells, white_end, white_rest, white_size}

@@ -12,7 +12,7 @@ use Rattle.md_engine.specs.declared.tokenizer.held_leaf.HeldLeaf.{HeldLeaf}
 use Rattle.md_engine.specs.declared.tokenizer.held_leaf.HeldLeaf.TheVariants as held_leaf
 use Rattle.md_engine.specs.Scheme.{Rank, Scheme, Spot, ranked}
 use Rattle.md_engine.specs.World.{World}
-use Rattle.md_leaves.specs.Further.{further_link}
+use Rattle.md_lines.specs.Further.{further_link}
 use Rattle.md_seam.specs.Events.Nested.{enter, enter_link}
 use Rattle.md_seam.specs.Spaces.{ends_line, rest_ready, sees_white, white_then}
 use Rattle.md_seam.specs.Transition.{Transition, entered, exited, taken, tried}

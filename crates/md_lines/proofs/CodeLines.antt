@@ -17,10 +17,10 @@ use Rattle.md_definition.specs.Rest.{Rest, indent, is_blank, line_of, lose, tab_
 use Rattle.md_definition.specs.State.{OpenCode}
 use Rattle.md_definition.specs.Tree.{Line}
 use Rattle.md_definition.proofs.TextsLemmas.{NoEnding}
-use Rattle.md_leaves.specs.Code.{may_open}
-use Rattle.md_leaves.specs.CodeLine.{KeepsCode, chunk_line, told_line}
-use Rattle.md_leaves.specs.CodeRule.{code_begins, code_goes, is_indented}
-use Rattle.md_leaves.proofs.LostColumns.{HasLost, blank-cells, lose-walk, stops-line}
+use Rattle.md_lines.specs.Code.{may_open}
+use Rattle.md_lines.specs.CodeLine.{KeepsCode, chunk_line, told_line}
+use Rattle.md_lines.specs.CodeRule.{code_begins, code_goes, is_indented}
+use Rattle.md_lines.proofs.LostColumns.{HasLost, blank-cells, lose-walk, stops-line}
 use Rattle.md_seam.specs.Ahead.{line_bytes, line_cells, line_end, point_after, white_end, white_rest, white_size}
 use Rattle.md_seam.specs.Events.Places.{past_byte, past_text}
 use Rattle.md_seam.specs.Events.Spelled.{byte_at, columns_left, empty_line}

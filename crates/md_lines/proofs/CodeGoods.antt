@@ -10,8 +10,8 @@ use Rattle.md_engine.specs.World.{World, looks}
 use Rattle.md_engine.proofs.Falls.{later, later_at}
 use Rattle.md_engine.proofs.Local.{accepts, begins_try, consumes, refuses, turns}
 use Rattle.md_engine.proofs.Points.{stays, takes}
-use Rattle.md_leaves.specs.Code.{code_scheme, code_transition, further_after_code, further_begin_code}
-use Rattle.md_leaves.specs.Code.{further_inside_code, inside_blank_code, inside_code, opened, start_code}
+use Rattle.md_lines.specs.Code.{code_scheme, code_transition, further_after_code, further_begin_code}
+use Rattle.md_lines.specs.Code.{further_inside_code, inside_blank_code, inside_code, opened, start_code}
 use Rattle.md_seam.specs.Spaces.{IsRest, ends_line, rest_ready, sees_white}
 use Rattle.md_seam.specs.Transition.{entered, exited, taken}
 use Rattle.md_seam.proofs.SpacesGoods.{Does, WhiteFits, goes-on, rest-calm, rest-none, seen-in, white_try}

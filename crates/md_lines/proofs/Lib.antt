@@ -1,0 +1,13 @@
+pub mod CodeGoods
+pub mod CodeSteps
+pub mod CodeWhole
+pub mod CodeLines
+pub mod LostColumns
+pub mod FenceCells
+pub mod FenceFurther
+pub mod FenceGoods
+pub mod FenceOpened
+pub mod FenceOpens
+pub mod FenceParts
+pub mod FenceSteps
+pub mod FenceWhole

@@ -1,0 +1,8 @@
+pub mod Code
+pub mod Further
+pub mod Fence
+pub mod CodeRule
+pub mod CodeLine
+pub mod FenceLine
+pub mod FenceParts
+pub mod FenceRule

@@ -1,0 +1,6 @@
+// Leaf blocks of several lines, each read a line at a time.
+#![tactic(auto)]
+
+pub mod code_indented;
+pub mod further;
+pub mod raw_flow;
