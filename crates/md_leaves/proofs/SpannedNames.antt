@@ -1,5 +1,5 @@
 -- Parts that get another name between the lines of a block, or behind it: what is kept.
-use Rattle.std.proofs.Common.{◌≡◌, Bool, true, false, not, ◌&&◌, List, [], ◌∷◌, refl, ap, sym, subst, ◌∙◌}
+use Rattle.std.proofs.Common.{◌≡◌, Bool, true, false, not, ◌&&◌, List, [], ◌∷◌, ◌++◌, refl, ap, sym, subst, ◌∙◌}
 use Rattle.std.specs.Prelude.{map}
 use Rattle.md_engine.specs.declared.event.Event.{Event}
 use Rattle.md_engine.specs.declared.event.Kind.{Kind}
@@ -12,6 +12,7 @@ use Rattle.md_leaves.specs.declared.spans.Place.TheVariants.{Between, Inside, Ou
 use Rattle.md_leaves.specs.Spanned.{has_lines, is_renamed, name_at, passes, renamed}
 use Rattle.md_leaves.proofs.SpannedLemmas.{name-same}
 use Rattle.md_leaves.proofs.SpannedLines.{Pass}
+use Rattle.md_seam.specs.Events.Inline.{Covers, piece_of, pieces, pieces_from}
 use Rattle.md_seam.specs.Events.Nested.{Balanced, Fits, Forward, Matches, last_point, open_after, open_behind}
 use Rattle.md_seam.specs.Events.Spelled.{role}
 use Rattle.md_seam.specs.Events.Tiles.{is_part, part_kind}
@@ -83,6 +84,27 @@ pub forward-renamed : (p : Point) (place : Place) (es : List Event) → Forward 
     Forward p (map (renamed place) es)
 forward-renamed p place [] h = tt
 forward-renamed p place (e ∷ es) h = (h.0, forward-renamed e.point place es h.1)
+
+-- What was covered still is.
+covers-from : (p q : Point) (place : Place) (e : Event) (es : List Event) → Covers p (pieces_from e es) q →
+    Covers p (pieces_from (renamed place e) (map (renamed place) es)) q
+covers-from p q place e [] h = h
+covers-from p q place e (f ∷ es) h = go e.kind f.kind (λ (r : Point). covers-from r q place f es) h
+  where
+    go : (x y : Kind) →
+        ((r : Point) → Covers r (pieces_from f es) q →
+        Covers r (pieces_from (renamed place f) (map (renamed place) es)) q) →
+        Covers p (piece_of e f x y ++ pieces_from f es) q →
+        Covers p
+        (piece_of (renamed place e) (renamed place f) x y ++ pieces_from (renamed place f) (map (renamed place) es)) q
+    go Enter Exit behind k = (k.0, behind f.point k.1)
+    go Enter Enter behind k = behind p k
+    go Exit y behind k = behind p k
+
+pub covers-renamed : (p q : Point) (place : Place) (es : List Event) → Covers p (pieces es) q →
+    Covers p (pieces (map (renamed place) es)) q
+covers-renamed p q place [] h = h
+covers-renamed p q place (e ∷ es) h = covers-from p q place e es h
 
 -- Text parts keep their names, and nothing else gets the name of one.
 
