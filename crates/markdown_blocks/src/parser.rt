@@ -69,10 +69,10 @@ impl<I: Inline> Reader for TextReader<'_, '_, I> {
         alloc: Global,
         content: Content,
         chunks: &[Chunk],
-        spare: Vec<Event>,
+        _spare: Vec<Event>,
     ) -> Result<Vec<Event>, Message> {
         self.inline
-            .read(alloc, kind_of(content), chunks, self.state, spare)
+            .read(alloc, kind_of(content), chunks, self.state)
     }
 }
 

@@ -33,15 +33,13 @@ pub trait Inline {
     /// What it may give for a part of a text.
     ghost reads: { Self → List ℕ → Part → List Event → Type 0 };
 
-    /// The events of a text part that stands in these chunks, which may be written into `spare`; what stands there means
-    /// nothing.
+    /// The events of a text part that stands in these chunks.
     fn read(
         &self,
         alloc: Global,
         kind: PartKind,
         chunks: &[Chunk],
         state: &ParseState,
-        spare: Vec<Event>,
     ) -> Result<Vec<Event>, Message>
         requires { AreChunks state.now.bytes.now chunks.now }
         ensures placed { IfOk result (λ events. ArePlaced state.now.bytes.now events.items) }

@@ -17,6 +17,9 @@ use md_engine::parse_state::ParseState;
 use md_engine::tokenizer::Tokenizer;
 use std::alloc::Global;
 
+/// How many events stand in the place of a chunk at most: those of its line and of its ending.
+const MOST: usize = 4;
+
 /// Reads a text part as lines: `Data` over each line, if it is not empty, and `LineEnding` over its ending.
 pub struct Plain;
 
@@ -94,14 +97,16 @@ fn push(events: &mut Vec<Event>, kind: Kind, point: Point) -> Result<(), Message
     Ok(())
 }
 
-/// `Data` over a chunk, written into `spare`.
-fn whole_chunk(chunk: &Chunk, mut spare: Vec<Event>) -> Result<Vec<Event>, Message>
+/// `Data` over a chunk.
+fn whole_chunk(alloc: Global, chunk: &Chunk) -> Result<Vec<Event>, Message>
     ensures { IfOk result (λ events. events.items ≡ pair Name.Data chunk.now.first chunk.now.after) }
 {
-    spare.clear();
-    push(&mut spare, Kind::Enter, chunk.first)?;
-    push(&mut spare, Kind::Exit, chunk.after)?;
-    Ok(spare)
+    let Ok(mut events) = Vec::with_capacity(alloc, 2) else {
+        return Err(Message);
+    };
+    push(&mut events, Kind::Enter, chunk.first)?;
+    push(&mut events, Kind::Exit, chunk.after)?;
+    Ok(events)
 }
 
 impl Inline for Plain {
@@ -113,14 +118,15 @@ impl Inline for Plain {
         _kind: PartKind,
         chunks: &[Chunk],
         state: &ParseState,
-        mut spare: Vec<Event>,
     ) -> Result<Vec<Event>, Message> {
         if chunks.len() == 1 && is_without_ending(state.bytes, &chunks[0]) {
-            return whole_chunk(&chunks[0], spare);
+            return whole_chunk(alloc, &chunks[0]);
         }
         let mut tokenizer = Tokenizer::new(alloc, chunks[0].first, state.bytes, state.options);
-        spare.clear();
-        tokenizer.set_events(spare, Vec::new(alloc));
+        let Ok(events) = Vec::with_capacity(alloc, chunks.len().saturating_mul(MOST)) else {
+            return Err(Message);
+        };
+        tokenizer.set_events(events, Vec::new(alloc));
         for chunk in chunks {
             read_chunk(&mut tokenizer, chunk)?;
         }
