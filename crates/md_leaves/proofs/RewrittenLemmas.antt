@@ -36,15 +36,3 @@ held-fewer events done read count le =
     (ap (λ (n : ℕ). drop count (take n (drop done events))) (omega arith)
     ∙ drop-take count m (drop done events)
     ∙ ap (take m) (drop-drop count done events ∙ ap (λ (n : ℕ). drop n events) (omega arith)))
-
--- so many more are held
-pub held-many : (events : List Event) (done read count : ℕ) → done ≤ read →
-    take (read + count - done) (drop done events)
-    ≡ take (read - done) (drop done events) ++ take count (drop read events)
-held-many events done read count le =
-    let k = read - done in
-    let at : drop k (drop done events) ≡ drop read events = drop-drop k done events
-    ∙ ap (λ (n : ℕ). drop n events) (omega arith) in
-    ap (λ (n : ℕ). take n (drop done events)) (omega arith)
-    ∙ take-add k count (drop done events)
-    ∙ ap (λ (es : List Event). take k (drop done events) ++ take count es) at
