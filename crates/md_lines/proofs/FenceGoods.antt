@@ -22,7 +22,7 @@ use Rattle.md_lines.specs.Fence.{before_open, before_open_code, behind_part, blo
 use Rattle.md_lines.specs.Fence.{chunk_code, cleared, close_after_code, close_start_code, content_start_code}
 use Rattle.md_lines.specs.Fence.{ends_word, fence_rank, fence_ready, fence_scheme, fence_transition}
 use Rattle.md_lines.specs.Fence.{fence_level, fence_tries, held_indent, held_marker, in_fence, info_before_code, info_code}
-use Rattle.md_lines.specs.Fence.{marked, meta_before_code, meta_code, meta_name, opened, part_entered, part_exited}
+use Rattle.md_lines.specs.Fence.{line_entered, marked, meta_before_code, meta_code, meta_name, opened, part_entered, part_exited}
 use Rattle.md_lines.specs.Fence.{sequence_close_code, sequence_name, sequence_open_code, start_code}
 use Rattle.md_seam.specs.Spaces.{IsRest, any_size, calmed, ends_line, is_current, rest_ready, sees_white, small_indent}
 use Rattle.md_seam.specs.Transition.{exited}
@@ -282,12 +282,12 @@ good_further : (T : Scheme) (w : World) (x : Bool) → FenceFits T → rest_read
     Does T (n.RawFlow its.AtNonLazyBreak) w (at_non_lazy_break_code w x)
 good_further T w true has r = (
   begins_try T fence_scheme fence_scheme (n.RawFlow its.AtNonLazyBreak) (n.RawFlow its.CloseStart) w IsRest IsRest
-      w.events (record w.scratch { marker = held_marker w.flags.leaf })
+      (line_entered w).events (record w.scratch { marker = held_marker w.flags.leaf })
       (record {
         ok = Next (n.RawFlow its.After);
         nok = Next (n.RawFlow its.ContentStart);
         is_check = false;
-        events_len = length w.events;
+        events_len = length (line_entered w).events;
         point = w.point;
       })
       (has.each its.AtNonLazyBreak) (has.each its.CloseStart) (has.each its.After) (has.each its.ContentStart) refl
@@ -311,8 +311,8 @@ good_further T w true has r = (
   refl,
 )
 good_further T w false has r = (
-  turns T fence_scheme _ (n.RawFlow its.ContentStart) w w.events w.scratch (has.each its.AtNonLazyBreak)
-      (has.each its.ContentStart) r (omega arith) (omega arith),
+  turns T fence_scheme _ (n.RawFlow its.ContentStart) w (line_entered w).events w.scratch
+      (has.each its.AtNonLazyBreak) (has.each its.ContentStart) r (omega arith) (omega arith),
   refl,
 )
 
@@ -379,7 +379,7 @@ good_content_start T w false has r = (
 
 good_before_chunk : (T : Scheme) (w : World) (x : Bool) → FenceFits T → rest_ready (spot w) (after_all T w.frames) →
     ends_line (seen (spot w)) ≡ x → Does T (n.RawFlow its.BeforeContentChunk) w (before_chunk_code w x)
-good_before_chunk T w true has r e = (accepts T _ w _ _ w.events w.scratch r.1 r.0, refl)
+good_before_chunk T w true has r e = (accepts T _ w _ _ (before_chunk_code w true).world.events w.scratch r.1 r.0, refl)
 good_before_chunk T w false has r e = (
   turns T fence_scheme _ (n.RawFlow its.ContentChunk) w (before_chunk_code w false).world.events w.scratch
       (has.each its.BeforeContentChunk) (has.each its.ContentChunk) r (omega arith) (rw e (omega arith)),

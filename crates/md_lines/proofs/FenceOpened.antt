@@ -14,7 +14,7 @@ use Rattle.md_engine.specs.declared.tokenizer.held_leaf.HeldLeaf.TheVariants as 
 use Rattle.md_engine.specs.Meaning.{Accepts, Cell, Here, Outcome, Refuses}
 use Rattle.md_definition.specs.Leaves.{is_fence_marker, least_size}
 use Rattle.md_definition.specs.Rest.{is_white}
-use Rattle.md_lines.specs.Fence.{cleared, fence_name, is_on, is_refused, may_begin, sequence_name}
+use Rattle.md_lines.specs.Fence.{block_name, cleared, fence_name, is_on, is_refused, may_begin, sequence_name}
 use Rattle.md_lines.specs.FenceLine.{fence_begins, fence_by, fence_opened, info_events, is_opening, marker_at}
 use Rattle.md_lines.specs.FenceLine.{meta_events, open_events, behind_events}
 use Rattle.md_lines.specs.FenceRule.{before_info, before_meta, before_sequence, behind_sequence, behind_white_of}
@@ -106,7 +106,9 @@ opened_with es cells k =
 
 abbrev opened_at : List Event → List Cell → Here → Outcome
 opened_at es cells k =
-    opened_with (k.events ++ es ++ exit (fence_name k.scratch.marker) (line_end cells k.point) ∷ []) cells k
+    let e = line_end cells k.point in
+    opened_with
+    (k.events ++ es ++ exit (fence_name k.scratch.marker) e ∷ exit (block_name k.scratch.marker) e ∷ []) cells k
 
 meta-whole : (cells : List Cell) (k : Here) → begins_white cells ≡ false →
     before_meta cells k ≡
@@ -129,12 +131,12 @@ meta-whole cells k dark = go (is_end cells) refl
         rw (e, none, done.0, done.1)
         (ap (λ (es : List Event). Accepts
         (record {
-          events = es ++ exit (fence_name m) k.point ∷ [];
+          events = es;
           point = k.point;
           scratch = cleared k.scratch;
           flags = record k.flags { leaf = held_leaf.Fence m k.scratch.size k.scratch.size_c };
         })
-        cells) (sym (append-nil k.events)))
+        cells) (simp append_assoc))
     go false e =
         let all = line-all cells k.point in
         rw (e, dark, all.0, all.1)
@@ -210,12 +212,12 @@ info-whole cells k dark is calm short = go (is_end cells) refl
         rw (e, none, done.0, done.1)
         (ap (λ (es : List Event). Accepts
         (record {
-          events = es ++ exit (fence_name m) k.point ∷ [];
+          events = es;
           point = k.point;
           scratch = cleared k.scratch;
           flags = record k.flags { leaf = held_leaf.Fence m k.scratch.size k.scratch.size_c };
         })
-        cells) (sym (append-nil k.events)))
+        cells) (simp append_assoc))
     go false e =
         begins e
         ∙ ap (cond (run_has (is_refused m) is_word cells) (refuses k))
@@ -246,7 +248,7 @@ abbrev sequence_events : ℕ → List Cell → Point → List Event
 sequence_events m cells p =
     let q = run_end (λ b. b == m) cells p in
     exit (sequence_name m) q ∷ behind_events m (run_rest (λ b. b == m) cells) q
-    ++ exit (fence_name m) (line_end cells p) ∷ []
+    ++ exit (fence_name m) (line_end cells p) ∷ exit (block_name m) (line_end cells p) ∷ []
 
 sequence-whole : (cells : List Cell) (k : Here) → k.scratch.size ≡ 0 → may_begin k.scratch.marker ≡ true →
     calmed k.scratch ≡ k.scratch → length cells ≤ any_size →

@@ -20,22 +20,23 @@ use Rattle.md_engine.specs.Meaning.{Accepts, Behaviour, Cell, Fails, Feed, Here,
 use Rattle.md_engine.specs.Meaning.{resume}
 use Rattle.md_engine.specs.Scheme.{After, spot}
 use Rattle.md_engine.specs.World.{World, after}
-use Rattle.md_engine.proofs.StepOf.{Sees, ahead, begins, begins_only, cell_here, moves, passes}
+use Rattle.md_engine.proofs.StepOf.{Sees, ahead, begins, cell_here, moves, passes}
 use Rattle.md_definition.specs.Leaves.{is_fence_marker, least_size}
 use Rattle.md_definition.specs.Rest.{is_white}
 use Rattle.md_lines.specs.Fence.{after_transition, at_non_lazy_break_code, before_chunk_code, before_close_code}
 use Rattle.md_lines.specs.Fence.{before_open, before_open_code, behind_part, block_name, chunk_code}
 use Rattle.md_lines.specs.Fence.{chunk_name, cleared, close_after_code, close_start_code, content_start_code, ends_word}
 use Rattle.md_lines.specs.Fence.{fence_name, fence_ready, fence_transition, held_indent, held_marker, held_size}
-use Rattle.md_lines.specs.Fence.{info_before_code, info_code, is_on, is_refused, may_close, meta_before_code, meta_code}
-use Rattle.md_lines.specs.Fence.{meta_name, sees_refused, sequence_close_code, sequence_name, sequence_open_code}
+use Rattle.md_lines.specs.Fence.{info_before_code, info_code, is_on, is_refused, line_entered, may_close}
+use Rattle.md_lines.specs.Fence.{meta_before_code, meta_code, meta_name, sees_refused, sequence_close_code, sequence_name, sequence_open_code}
 use Rattle.md_lines.specs.Fence.{start_code, string_link}
 use Rattle.md_lines.specs.FenceRule.{HasFence, before_chunk, before_close, before_info, before_meta, before_sequence}
 use Rattle.md_lines.specs.FenceRule.{behind_sequence, behind_white_of, block_begun, close_at, close_end}
 use Rattle.md_lines.specs.FenceRule.{closed_or_content, content_at, fence_at, further_at, in_chunk}
-use Rattle.md_lines.specs.FenceRule.{in_close, in_info, in_meta, in_sequence, is_end, is_line, is_word, opens}
-use Rattle.md_lines.specs.FenceRule.{part_begun, part_ended, refuses, run_end, run_has, run_rest, run_size}
-use Rattle.md_lines.specs.FenceRule.{with_event}
+use Rattle.md_lines.specs.FenceRule.{in_close, in_info, in_meta, in_sequence, is_end, is_line, is_word, line_begun}
+use Rattle.md_lines.specs.FenceRule.{line_done, opens, part_begun, part_ended, refuses, run_end, run_has, run_rest}
+use Rattle.md_lines.specs.FenceRule.{run_size, with_event}
+use Rattle.md_lines.specs.Further.{further_link}
 use Rattle.md_lines.proofs.FenceGoods.{rest-clear}
 use Rattle.md_leaves.proofs.LeafSteps.{sees-one, white_frame}
 use Rattle.md_seam.specs.Ahead.{begins_white}
@@ -332,7 +333,9 @@ info_before_steps : (B : Behaviour) (feed : Feed) (w : World) (x y : Bool) → H
     Sees feed w → ends_line w.current ≡ x → sees_white w.current ≡ y →
     Steps B feed (Next (n.RawFlow its.InfoBefore)) w (info_before_code w x y).to (info_before_code w x y).world
 info_before_steps B feed w true y has s e f =
-    moves B feed _ _ w (info_before_code w true y).world (exit (fence_name w.scratch.marker) w.point ∷ []) refl refl
+    moves B feed _ _ w (info_before_code w true y).world
+    (exit (fence_name w.scratch.marker) w.point ∷ exit (block_name w.scratch.marker) w.point ∷ []) refl
+    (two-more w.events _ _)
     (has.each its.InfoBefore _ _ ∙ info-end (feed w.point) (here w) (ap ends_line (first-seen feed w s) ∙ e))
 info_before_steps B feed w false true has s e f =
     passes B feed _ _ w (info_before_code w false true).world refl refl
@@ -465,7 +468,8 @@ abbrev closing : Here → Here
 closing h = record h { scratch = record h.scratch { marker = held_marker h.flags.leaf } }
 
 further-is : (options : ParseOptions) (cells : List Cell) (h : Here) →
-    further_at options cells h ≡ closed_or_content (close_at options cells (closing h)) cells h
+    further_at options cells h ≡
+    closed_or_content (close_at options cells (closing (line_begun h))) cells (line_begun h)
 unfolding further_at
 further-is options cells h = refl
 
@@ -498,19 +502,20 @@ close-none options (c ∷ cs) h e f = rw (e, f) refl
 
 further-content : (options : ParseOptions) (cells : List Cell) (h : Here) → IsRest h.scratch →
     may_close h.flags.leaf (first_seen cells) ≡ false → begins_white cells ≡ sees_white (first_seen cells) →
-    further_at options cells h ≡ content_at cells h
+    further_at options cells h ≡ content_at cells (line_begun h)
 further-content options cells h is e white = go (sees_white (first_seen cells)) refl e
   where
     none : is_current (held_marker h.flags.leaf) (first_seen cells) ≡ false → sees_white (first_seen cells) ≡ false →
-        further_at options cells h ≡ content_at cells h
+        further_at options cells h ≡ content_at cells (line_begun h)
     none f g =
         further-is options cells h
-        ∙ ap (λ (o : Outcome). closed_or_content o cells h) (close-none options cells (closing h) (white ∙ g) f)
-        ∙ ap (λ (s : Scratch). content_at cells (record h { scratch = s })) (rest-clear h.scratch is)
+        ∙ ap (λ (o : Outcome). closed_or_content o cells (line_begun h))
+        (close-none options cells (closing (line_begun h)) (white ∙ g) f)
+        ∙ ap (λ (s : Scratch). content_at cells (record (line_begun h) { scratch = s })) (rest-clear h.scratch is)
 
     go : (x : Bool) → sees_white (first_seen cells) ≡ x →
         x || is_current (held_marker h.flags.leaf) (first_seen cells) ≡ false →
-        further_at options cells h ≡ content_at cells h
+        further_at options cells h ≡ content_at cells (line_begun h)
     go true g f = cc
     go false g f = none f g
 
@@ -519,19 +524,22 @@ further_steps : (B : Behaviour) (feed : Feed) (w : World) (x : Bool) → HasFenc
     Steps B feed (Next (n.RawFlow its.AtNonLazyBreak)) w (at_non_lazy_break_code w x).to
     (at_non_lazy_break_code w x).world
 further_steps B feed w true has s is e =
+    let begun : World = line_entered w in
     let f : Frame = record {
       ok = Next (n.RawFlow its.After);
       nok = Next (n.RawFlow its.ContentStart);
       is_check = false;
-      events_len = length w.events;
+      events_len = length begun.events;
       point = w.point;
     } in
-    begins_only B feed _ _ w (at_non_lazy_break_code w true).world f refl refl
+    begins B feed _ _ w (at_non_lazy_break_code w true).world
+    (enter_link (block_name (held_marker w.flags.leaf)) w.point further_link ∷ []) f refl refl
     (has.each its.AtNonLazyBreak _ _ ∙ further-is w.setting.options (feed w.point) (here w)
-    ∙ closed-resumes B feed w f (close_at w.setting.options (feed w.point) (closing (here w))) has refl
-    ∙ ap (resume B feed w.events f) (sym (has.each its.CloseStart _ _)))
+    ∙ closed-resumes B feed begun f (close_at w.setting.options (feed w.point) (closing (here begun))) has refl
+    ∙ ap (resume B feed begun.events f) (sym (has.each its.CloseStart _ _)))
 further_steps B feed w false has s is e =
-    passes B feed _ _ w w refl refl
+    moves B feed _ _ w (line_entered w)
+    (enter_link (block_name (held_marker w.flags.leaf)) w.point further_link ∷ []) refl refl
     (has.each its.AtNonLazyBreak _ _
     ∙ further-content w.setting.options (feed w.point) (here w) is
     (ap (may_close w.flags.leaf) (first-seen feed w s) ∙ e)
@@ -684,7 +692,8 @@ content_start_steps B feed w false has s e =
     (ap (λ (x : Bool). nat_lt 0 (held_indent w.flags.leaf) && x) (begins-seen feed w s) ∙ e)
     ∙ sym (has.each its.BeforeContentChunk _ _))
 
-chunk-end : (cells : List Cell) (h : Here) → is_end cells ≡ true → before_chunk cells h ≡ Accepts h cells
+chunk-end : (cells : List Cell) (h : Here) → is_end cells ≡ true →
+    before_chunk cells h ≡ Accepts (line_done h h.point) cells
 unfolding before_chunk
 chunk-end cells h e = rw e refl
 
@@ -697,7 +706,8 @@ before_chunk_steps : (B : Behaviour) (feed : Feed) (w : World) (x : Bool) → Ha
     Sees feed w → ends_line w.current ≡ x →
     Steps B feed (Next (n.RawFlow its.BeforeContentChunk)) w (before_chunk_code w x).to (before_chunk_code w x).world
 before_chunk_steps B feed w true has s e =
-    passes B feed _ _ w w refl refl
+    moves B feed _ _ w (before_chunk_code w true).world (exit (block_name (held_marker w.flags.leaf)) w.point ∷ []) refl
+    refl
     (has.each its.BeforeContentChunk _ _
     ∙ chunk-end (feed w.point) (here w) (ap ends_line (first-seen feed w s) ∙ e))
 before_chunk_steps B feed w false has s e =
@@ -713,7 +723,8 @@ unfolding in_chunk
 chunk-more c cs h e = rw e refl
 
 chunk-done : (cells : List Cell) (h : Here) → is_end cells ≡ true →
-    in_chunk cells h ≡ Accepts (with_event h (exit (chunk_name (held_marker h.flags.leaf)) h.point)) cells
+    in_chunk cells h ≡
+    Accepts (line_done (with_event h (exit (chunk_name (held_marker h.flags.leaf)) h.point)) h.point) cells
 unfolding in_chunk
 chunk-done cells h e =
     let none = run-none is_line cells h.point (line-first (first_seen cells) e) in rw (none.end, none.rest) refl

@@ -10,17 +10,18 @@ use Rattle.md_engine.specs.declared.event.Point.{Point}
 use Rattle.md_engine.specs.declared.tokenizer.Scratch.{Scratch}
 use Rattle.md_engine.specs.declared.tokenizer.held_leaf.HeldLeaf.TheVariants as held_leaf
 use Rattle.md_engine.specs.Meaning.{Accepts, Cell, Here, Outcome, Refuses}
-use Rattle.md_lines.specs.Fence.{chunk_name, cleared, fence_name, held_indent, held_marker, held_size}
+use Rattle.md_lines.specs.Fence.{block_name, chunk_name, cleared, fence_name, held_indent, held_marker, held_size}
 use Rattle.md_lines.specs.Fence.{sequence_name}
-use Rattle.md_lines.specs.FenceLine.{chunk_events, closes_here, closing_end, closing_events, further_taken}
-use Rattle.md_lines.specs.FenceLine.{is_closing, spaces}
+use Rattle.md_lines.specs.FenceLine.{chunk_events, closes_here, closing_end, closing_events, content_events}
+use Rattle.md_lines.specs.FenceLine.{further_taken, is_closing, spaces}
 use Rattle.md_lines.specs.FenceRule.{before_chunk, before_close, behind_columns, behind_white_of, close_at, close_end}
 use Rattle.md_lines.specs.FenceRule.{closed_or_content, content_at, further_at, in_chunk, in_close, is_end, is_line}
-use Rattle.md_lines.specs.FenceRule.{refuses, run_end, run_rest, run_size, with_event}
+use Rattle.md_lines.specs.FenceRule.{line_begun, refuses, run_end, run_rest, run_size, with_event}
+use Rattle.md_lines.specs.Further.{further_link}
 use Rattle.md_lines.proofs.FenceGoods.{rest-clear}
 use Rattle.md_lines.proofs.FenceSteps.{line-first, run-none}
 use Rattle.md_seam.specs.Ahead.{begins_white, white_end, white_rest}
-use Rattle.md_seam.specs.Events.Nested.{enter, exit, pair}
+use Rattle.md_seam.specs.Events.Nested.{enter, enter_link, exit, pair}
 use Rattle.md_seam.specs.Look.{first_seen}
 use Rattle.md_seam.specs.Spaces.{IsRest, any_size, calmed, small_indent}
 use Rattle.md_seam.proofs.AheadLemmas.{none-end, none-rest, small-some}
@@ -70,7 +71,8 @@ chunk-whole : (cells : List Cell) (h : Here) →
     before_chunk cells h ≡
     Accepts
     (record h {
-      events = h.events ++ chunk_events (held_marker h.flags.leaf) cells h.point;
+      events = h.events ++ chunk_events (held_marker h.flags.leaf) cells h.point
+          ++ exit (block_name (held_marker h.flags.leaf)) (run_end is_line cells h.point) ∷ [];
       point = run_end is_line cells h.point;
     })
     (run_rest is_line cells)
@@ -81,19 +83,28 @@ chunk-whole cells h = go (is_end cells) refl
         before_chunk cells h ≡
         Accepts
         (record h {
-          events = h.events ++ chunk_events (held_marker h.flags.leaf) cells h.point;
+          events = h.events ++ chunk_events (held_marker h.flags.leaf) cells h.point
+              ++ exit (block_name (held_marker h.flags.leaf)) (run_end is_line cells h.point) ∷ [];
           point = run_end is_line cells h.point;
         })
         (run_rest is_line cells)
     go true e =
         let none = run-none is_line cells h.point (line-first (first_seen cells) e) in
         rw (e, none.end, none.rest)
-        (ap (λ (es : List Event). Accepts (record h { events = es }) cells) (sym (append-nil h.events)))
+        (ap
+        (λ (es : List Event).
+        Accepts (record h { events = es ++ exit (block_name (held_marker h.flags.leaf)) h.point ∷ [] }) cells)
+        (sym (append-nil h.events)))
     go false e =
         rw e
         (ap
         (λ (es : List Event).
-        Accepts (record h { events = es; point = run_end is_line cells h.point }) (run_rest is_line cells))
+        Accepts
+        (record h {
+          events = es ++ exit (block_name (held_marker h.flags.leaf)) (run_end is_line cells h.point) ∷ [];
+          point = run_end is_line cells h.point;
+        })
+        (run_rest is_line cells))
         (append_assoc h.events (enter (chunk_name (held_marker h.flags.leaf)) h.point ∷ []) _))
 
 content-joined : (cells : List Cell) (h : Here) → calmed h.scratch ≡ h.scratch →
@@ -125,7 +136,8 @@ content-whole : (cells : List Cell) (h : Here) → calmed h.scratch ≡ h.scratc
     Accepts
     (record h {
       events = h.events
-          ++ spaces room cells h.point ++ chunk_events (held_marker h.flags.leaf) (white_rest room cells) p;
+          ++ spaces room cells h.point ++ chunk_events (held_marker h.flags.leaf) (white_rest room cells) p
+          ++ exit (block_name (held_marker h.flags.leaf)) (run_end is_line (white_rest room cells) p) ∷ [];
       point = run_end is_line (white_rest room cells) p;
     })
     (run_rest is_line (white_rest room cells))
@@ -250,8 +262,8 @@ pub further-whole : (options : ParseOptions) (cells : List Cell) (h : Here) → 
     further_at options cells h ≡ further_taken options cells h
 unfolding further_at
 further-whole options cells h is =
-    ap (λ (o : Outcome). closed_or_content o cells h)
-    (close-joined options cells (closing h) calm
+    ap (λ (o : Outcome). closed_or_content o cells (line_begun h))
+    (close-joined options cells (closing (line_begun h)) calm
     ∙ before-whole rest k (rest-size h.scratch is) (ap (λ (s : Scratch). calmed (cleared s)) is ∙ sym (ap cleared is))
     refl)
     ∙ go (closes_here options h.flags.leaf cells)
@@ -263,7 +275,7 @@ further-whole options cells h is =
     rest = white_rest room cells
 
     k : Here
-    k = behind_spaces room cells (closing h)
+    k = behind_spaces room cells (closing (line_begun h))
 
     m : ℕ
     m = held_marker h.flags.leaf
@@ -278,13 +290,13 @@ further-whole options cells h is =
     lost = held_indent h.flags.leaf
 
     go : (x : Bool) →
-        closed_or_content (cond x (Accepts (close_here m rest k) last) (refuses k)) cells h ≡
+        closed_or_content (cond x (Accepts (close_here m rest k) last) (refuses k)) cells (line_begun h) ≡
         Accepts
         (record h {
-          events = h.events
-              ++ cond x (spaces room cells h.point ++ closing_events m rest (white_end room cells h.point))
+          events = h.events ++ enter_link (block_name m) h.point further_link
+              ∷ cond x (spaces room cells h.point ++ closing_events m rest (white_end room cells h.point))
               (spaces lost cells h.point
-              ++ chunk_events m (white_rest lost cells) (white_end lost cells h.point));
+              ++ content_events m (white_rest lost cells) (white_end lost cells h.point));
           point = cond x (closing_end m rest (white_end room cells h.point))
               (run_end is_line (white_rest lost cells) (white_end lost cells h.point));
           flags = record h.flags { leaf = cond x held_leaf.None h.flags.leaf };
@@ -303,11 +315,11 @@ further-whole options cells h is =
         last)
         (simp append_assoc))
     go false =
-        ap (λ (s : Scratch). content_at cells (record h { scratch = s })) (rest-clear h.scratch is)
-        ∙ content-whole cells h (rest-calm h.scratch is ∙ sym is)
+        ap (λ (s : Scratch). content_at cells (record (line_begun h) { scratch = s })) (rest-clear h.scratch is)
+        ∙ content-whole cells (line_begun h) (rest-calm h.scratch is ∙ sym is)
         ∙ ap
         (λ (es : List Event).
         Accepts
         (record h { events = es; point = run_end is_line (white_rest lost cells) (white_end lost cells h.point) })
         (run_rest is_line (white_rest lost cells)))
-        (append_assoc h.events (spaces lost cells h.point) _)
+        (simp append_assoc)

@@ -17,6 +17,7 @@ use Rattle.md_engine.specs.declared.tokenizer.held_leaf.HeldLeaf.TheVariants as 
 use Rattle.md_engine.specs.Scheme.{After, Ends, Rank, Scheme, Spot, cells_before, ranked, seen}
 use Rattle.md_engine.specs.World.{World}
 use Rattle.md_definition.specs.Leaves.{is_fence_marker, least_size}
+use Rattle.md_lines.specs.Further.{further_link}
 use Rattle.md_seam.specs.Spaces.{any_size, ends_line, IsRest, is_current, rest_ready, sees_white, small_indent, white_then}
 use Rattle.md_seam.specs.Transition.{Transition, entered, entered_link, exited, taken, tried}
 
@@ -123,7 +124,7 @@ sequence_open_code w false false white =
 
 -- the block is open behind the line
 abbrev pub opened : World → World
-opened w = record (exited w (fence_name w.scratch.marker)) {
+opened w = record (exited (exited w (fence_name w.scratch.marker)) (block_name w.scratch.marker)) {
   scratch = cleared w.scratch;
   flags = record w.flags { leaf = held_leaf.Fence w.scratch.marker w.scratch.size w.scratch.size_c };
 }
@@ -163,16 +164,20 @@ meta_code w false false = record { to = Next (n.RawFlow its.Meta); world = taken
 
 -- A further line.
 
+-- it is linked to the line before
+abbrev pub line_entered : World → World
+line_entered w = entered_link w (block_name (held_marker w.flags.leaf)) further_link
+
 -- by whether a closing fence may begin here
 abbrev pub at_non_lazy_break_code : World → Bool → Transition
 at_non_lazy_break_code w true =
     record {
       to = Retry (n.RawFlow its.CloseStart);
-      world = record (tried w (Next (n.RawFlow its.After)) (Next (n.RawFlow its.ContentStart))) {
+      world = record (tried (line_entered w) (Next (n.RawFlow its.After)) (Next (n.RawFlow its.ContentStart))) {
         scratch = record w.scratch { marker = held_marker w.flags.leaf };
       };
     }
-at_non_lazy_break_code w false = record { to = Retry (n.RawFlow its.ContentStart); world = w }
+at_non_lazy_break_code w false = record { to = Retry (n.RawFlow its.ContentStart); world = line_entered w }
 
 -- by whether whitespace stands here
 abbrev pub close_start_code : World → Bool → Transition
@@ -210,7 +215,7 @@ content_start_code w false = record { to = Retry (n.RawFlow its.BeforeContentChu
 
 -- by whether the line ends here
 abbrev pub before_chunk_code : World → Bool → Transition
-before_chunk_code w true = record { to = Ok; world = w }
+before_chunk_code w true = record { to = Ok; world = exited w (block_name (held_marker w.flags.leaf)) }
 before_chunk_code w false =
     record { to = Retry (n.RawFlow its.ContentChunk); world = entered w (chunk_name (held_marker w.flags.leaf)) }
 

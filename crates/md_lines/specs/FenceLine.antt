@@ -13,6 +13,7 @@ use Rattle.md_definition.specs.Leaves.{is_fence_marker, least_size}
 use Rattle.md_lines.specs.Fence.{block_name, chunk_name, fence_name, held_indent, held_marker, held_size, is_on}
 use Rattle.md_lines.specs.Fence.{is_refused, meta_name, sequence_name, string_link}
 use Rattle.md_lines.specs.FenceRule.{is_end, is_line, is_word, run_end, run_has, run_rest, run_size}
+use Rattle.md_lines.specs.Further.{further_link}
 use Rattle.md_seam.specs.Ahead.{begins_white, from_ending, line_end, white_end, white_rest}
 use Rattle.md_seam.specs.Events.Nested.{enter, enter_link, exit, pair}
 use Rattle.md_seam.specs.Look.{first_seen}
@@ -51,13 +52,13 @@ behind_events m cells p =
     let rest = white_rest any_size cells in
     spaces any_size cells p ++ (if m == 36 then meta_events m rest q else info_events m rest q)
 
--- the fence of a block, behind its indent
+-- the opening line of a block, behind its indent
 abbrev pub open_events : ℕ → List Cell → Point → List Event
 open_events m cells p =
     let q = run_end (λ b. b == m) cells p in
     enter (block_name m) p ∷ enter (fence_name m) p ∷ pair (sequence_name m) p q
     ++ behind_events m (run_rest (λ b. b == m) cells) q
-    ++ exit (fence_name m) (line_end cells p) ∷ []
+    ++ exit (fence_name m) (line_end cells p) ∷ exit (block_name m) (line_end cells p) ∷ []
 
 -- whether a fence of this marker stands here: enough of it, and behind it none that is refused
 abbrev pub is_opening : ℕ → List Cell → Bool
@@ -98,6 +99,10 @@ closing_events m cells p =
 abbrev pub chunk_events : ℕ → List Cell → Point → List Event
 chunk_events m cells p = if is_end cells then [] else pair (chunk_name m) p (run_end is_line cells p)
 
+-- and the end of the line behind it
+abbrev pub content_events : ℕ → List Cell → Point → List Event
+content_events m cells p = chunk_events m cells p ++ exit (block_name m) (run_end is_line cells p) ∷ []
+
 -- What is kept of the block behind the line, and what the line adds.
 
 abbrev pub fence_goes : ParseOptions → HeldLeaf → List Cell → HeldLeaf
@@ -105,12 +110,13 @@ fence_goes options leaf cells = if closes_here options leaf cells then held_leaf
 
 abbrev pub further_events : ParseOptions → HeldLeaf → List Cell → Point → List Event
 further_events options leaf cells p =
+    let m = held_marker leaf in
     let room = small_indent options in
     let lost = held_indent leaf in
-    if closes_here options leaf cells
-    then spaces room cells p
-    ++ closing_events (held_marker leaf) (white_rest room cells) (white_end room cells p)
-    else spaces lost cells p ++ chunk_events (held_marker leaf) (white_rest lost cells) (white_end lost cells p)
+    enter_link (block_name m) p further_link
+    ∷ (if closes_here options leaf cells
+    then spaces room cells p ++ closing_events m (white_rest room cells) (white_end room cells p)
+    else spaces lost cells p ++ content_events m (white_rest lost cells) (white_end lost cells p))
 
 -- where the line ends
 abbrev pub further_end : ParseOptions → HeldLeaf → List Cell → Point → Point

@@ -15,6 +15,7 @@ use Rattle.md_definition.specs.Leaves.{is_fence_marker, least_size}
 use Rattle.md_definition.specs.Rest.{is_white}
 use Rattle.md_lines.specs.Fence.{block_name, chunk_name, cleared, fence_name, held_indent, held_marker, held_size, is_on}
 use Rattle.md_lines.specs.Fence.{is_refused, meta_name, sequence_name, string_link}
+use Rattle.md_lines.specs.Further.{further_link}
 use Rattle.md_seam.specs.Ahead.{HasWhite, begins_white, white_end, white_rest}
 use Rattle.md_seam.specs.Events.Nested.{enter, enter_link, exit, pair}
 use Rattle.md_seam.specs.Look.{first_seen}
@@ -76,8 +77,8 @@ refuses h = Refuses (cleared h.scratch) h.flags
 abbrev pub opens : List Cell → Here → Outcome
 opens cells h =
     Accepts
-    (record h {
-      events = h.events ++ exit (fence_name h.scratch.marker) h.point ∷ [];
+    (record (with_event (with_event h (exit (fence_name h.scratch.marker) h.point))
+    (exit (block_name h.scratch.marker) h.point)) {
       scratch = cleared h.scratch;
       flags = record h.flags { leaf = held_leaf.Fence h.scratch.marker h.scratch.size h.scratch.size_c };
     })
@@ -199,18 +200,22 @@ before_close (c ∷ cs) h =
 unfoldable pub close_at : ParseOptions → List Cell → Here → Outcome
 close_at options cells h = behind_white_of (small_indent options) before_close cells h
 
+-- where a line ends
+abbrev pub line_done : Here → Point → Here
+line_done h p = with_event h (exit (block_name (held_marker h.flags.leaf)) p)
+
 -- what is left of a line, to its end
 unfoldable pub in_chunk : List Cell → Here → Outcome
 in_chunk cells h =
     let p = run_end is_line cells h.point in
     Accepts
-    (record h { events = h.events ++ exit (chunk_name (held_marker h.flags.leaf)) p ∷ []; point = p })
+    (record (line_done (with_event h (exit (chunk_name (held_marker h.flags.leaf)) p)) p) { point = p })
     (run_rest is_line cells)
 
 -- behind the columns that do not belong to it
 unfoldable pub before_chunk : List Cell → Here → Outcome
 before_chunk cells h =
-    if is_end cells then Accepts h cells
+    if is_end cells then Accepts (line_done h h.point) cells
     else in_chunk cells
     (record h { events = h.events ++ enter (chunk_name (held_marker h.flags.leaf)) h.point ∷ [] })
 
@@ -238,13 +243,17 @@ closed_or_content (Accepts k rest) cells h = shuts rest k
 closed_or_content (Refuses s g) cells h = content_at cells (record h { scratch = s; flags = g })
 closed_or_content Fails cells h = Fails
 
+-- where a further line begins, linked to the line before
+abbrev pub line_begun : Here → Here
+line_begun h = with_event h (enter_link (block_name (held_marker h.flags.leaf)) h.point further_link)
+
 -- the whole rule of a further line: a closing fence, or else a line of the block
 unfoldable pub further_at : ParseOptions → List Cell → Here → Outcome
 further_at options cells h =
     closed_or_content
     (close_at options cells
-    (record h { scratch = record h.scratch { marker = held_marker h.flags.leaf } }))
-    cells h
+    (record (line_begun h) { scratch = record h.scratch { marker = held_marker h.flags.leaf } }))
+    cells (line_begun h)
 
 -- what is left at each state
 abbrev pub fence_behaves : ParseOptions → RawState → List Cell → Here → Outcome

@@ -11,11 +11,12 @@
 // or as many as it has.
 //
 // A block is read one line at a time: `start` is the first state of its opening line, `at_non_lazy_break` that of each
-// further line. What is kept between them is `HeldLeaf::Fence`. The states add `CodeFenced` from the opening sequence
-// to the end of the closing one, where there is one; `CodeFencedFence` around a sequence and what follows it on its
-// line: `CodeFencedFenceSequence`, `SpaceOrTab`, and around linked `Data` `CodeFencedFenceInfo` and
-// `CodeFencedFenceMeta`; and `CodeFlowChunk` over what a line has left, if anything. Indents are `SpaceOrTab` in front
-// of these. In math all names begin with `MathFlow`.
+// further line. What is kept between them is `HeldLeaf::Fence`. Each line is a `CodeFenced` of its own, to the end of
+// the line: the opening one from its sequence on, a further one from its begin, and linked to the line before. A
+// resolver makes one block of them. In it stand `CodeFencedFence` around a sequence and what follows it on its line:
+// `CodeFencedFenceSequence`, `SpaceOrTab`, and around linked `Data` `CodeFencedFenceInfo` and `CodeFencedFenceMeta`; and
+// `CodeFlowChunk` over what a line has left, if anything. Indents are `SpaceOrTab` in front of these. In math the names
+// of the block, its fences and its lines begin with `MathFlow`.
 
 ghost use Rattle.std.specs.Prelude.{◌≡◌, ◌≢◌, IfSome};
 ghost use Rattle.md_definition.specs.Leaves.{is_fence_marker, least_size};
@@ -37,6 +38,7 @@ ghost use Rattle.md_seam.specs.Spaces.{sees_white};
 ghost use Rattle.md_seam.specs.Stays.{TakesEach};
 ghost use Rattle.md_seam.specs.Transition.{IsAt};
 
+use crate::further::FURTHER;
 use md_engine::configuration::ParseOptions;
 use md_engine::event::{Content, Link, Name};
 use md_engine::or_error;
@@ -319,6 +321,7 @@ pub fn info_before(tokenizer: &mut Tokenizer) -> State
                 ..
             } = tokenizer.scratch;
             or_error!(tokenizer.exit(fence_name(marker)));
+            or_error!(tokenizer.exit(block_name(marker)));
             tokenizer.flags.leaf = HeldLeaf::Fence {
                 marker,
                 size,
@@ -433,7 +436,8 @@ pub fn meta(tokenizer: &mut Tokenizer) -> State
     }
 }
 
-/// Before a further line: a closing fence, which begins with whitespace or the marker, or else content.
+/// Before a further line: a closing fence, which begins with whitespace or the marker, or else content. Either goes on
+/// the block of the line before.
 ///
 /// ```markdown
 ///   | ~~~js
@@ -449,6 +453,7 @@ pub fn at_non_lazy_break(tokenizer: &mut Tokenizer) -> State
         world tokenizer.new ≡ (at_non_lazy_break_transition (world tokenizer.old)).world }
 {
     let marker = held_marker(tokenizer.flags.leaf);
+    or_error!(tokenizer.enter_link(block_name(marker), FURTHER));
     if is_space_or_tab(tokenizer.current) || tokenizer.current == Some(marker) {
         or_error!(tokenizer.attempt(
             State::Next(StateName::RawFlow(RawState::After)),
@@ -595,7 +600,7 @@ pub fn content_start(tokenizer: &mut Tokenizer) -> State
     }
 }
 
-/// Before what is left of a line, or at its end.
+/// Before what is left of a line, or at its end, where the line is done.
 ///
 /// ```markdown
 ///   | ~~~js
@@ -610,7 +615,11 @@ pub fn before_content_chunk(tokenizer: &mut Tokenizer) -> State
         world tokenizer.new ≡ (before_content_chunk_transition (world tokenizer.old)).world }
 {
     match tokenizer.current {
-        None | Some(b'\n') => State::Ok,
+        None | Some(b'\n') => {
+            let name = block_name(held_marker(tokenizer.flags.leaf));
+            or_error!(tokenizer.exit(name));
+            State::Ok
+        }
         Some(_) => {
             let name = chunk_name(held_marker(tokenizer.flags.leaf));
             or_error!(tokenizer.enter(name));
