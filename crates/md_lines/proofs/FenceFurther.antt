@@ -20,7 +20,7 @@ use Rattle.md_definition.specs.State.{Opening}
 use Rattle.md_definition.proofs.TextsLemmas.{NoEnding, no_ending-drop}
 use Rattle.md_lines.specs.Fence.{block_name, chunk_name, held_indent, held_marker, may_begin}
 use Rattle.md_lines.specs.FenceLine.{chunk_events, closes_here, closing_end, fence_goes, further_end, further_events}
-use Rattle.md_lines.specs.FenceLine.{further_rest, is_closing, spaces}
+use Rattle.md_lines.specs.FenceLine.{further_inside, further_rest, is_closing, spaces}
 use Rattle.md_lines.specs.FenceRule.{is_end, is_line, run_end, run_rest, run_size}
 use Rattle.md_lines.specs.Further.{further_link}
 use Rattle.md_lines.proofs.FenceCells.{closing-spread, first-spread, line-all, line-done, line-run, line-white}
@@ -338,8 +338,9 @@ chunk-agrees m line text behind r p stop is h k =
     ((line-all (rest_cells line r p ++ stop) p).0 ∙ rest-past line r p stop h k (omega (arith, is.column)))
     ∙ ap (λ (x : Bool). cond x [] (pair (chunk_name m) p (past_rest r p))) (nothing-end line r p stop h k)
 
--- A further line: by its cells the block ends where the definition has a closing fence. Any other line adds a linked pair
--- around what is left of it there, and so much whitespace in front as it loses. All of the line is taken.
+-- A further line: by its cells the block ends where the definition has a closing fence. All of the line is taken, and
+-- it adds one linked pair. In the pair of any other line stands what is left of it there, and so much whitespace in
+-- front as it loses.
 pub record FurtherAgrees (options : ParseOptions) (o : Opening) (line : Line) (text behind : List ℕ) (r : Rest)
     (p : Point) (stop : List Cell) : Type 0 where
   pub goes : fence_goes options (held_leaf.Fence o.marker o.size o.indent) (rest_cells line r p ++ stop) ≡
@@ -347,10 +348,13 @@ pub record FurtherAgrees (options : ParseOptions) (o : Opening) (line : Line) (t
   -- where what is left of the line begins
   pub at : Point
   pub stands : RestAt text behind (lose o.indent r) at
-  pub adds : closes options o r ≡ false →
-      further_events options (held_leaf.Fence o.marker o.size o.indent) (rest_cells line r p ++ stop) p ≡
-      (enter_link (block_name o.marker) p further_link ∷ spaces o.indent (rest_cells line r p ++ stop) p
-      ++ (left_part o.marker (lose o.indent r) at ++ exit (block_name o.marker) (past_rest r p) ∷ []))
+  pub adds : further_events options (held_leaf.Fence o.marker o.size o.indent) (rest_cells line r p ++ stop) p ≡
+      (enter_link (block_name o.marker) p further_link
+      ∷ further_inside options (held_leaf.Fence o.marker o.size o.indent) (rest_cells line r p ++ stop) p
+      ++ exit (block_name o.marker) (past_rest r p) ∷ [])
+  pub inside : closes options o r ≡ false →
+      further_inside options (held_leaf.Fence o.marker o.size o.indent) (rest_cells line r p ++ stop) p ≡
+      spaces o.indent (rest_cells line r p ++ stop) p ++ left_part o.marker (lose o.indent r) at
   pub ends : further_end options (held_leaf.Fence o.marker o.size o.indent) (rest_cells line r p ++ stop) p ≡
       past_rest r p
   pub rest : further_rest options (held_leaf.Fence o.marker o.size o.indent) (rest_cells line r p ++ stop) ≡ stop
@@ -366,21 +370,21 @@ further-agrees options o line text behind r p stop marker some is h k short =
     let lost = lose-walk line text behind o.indent r p stop is k in
     let q = white_end o.indent cells p in
     let end = further-end options leaf cells p marker in
-    let m = o.marker in
-    let left = white_rest o.indent cells in
-    let begin = enter_link (block_name m) p further_link ∷ spaces o.indent cells p in
-    let to = (line-all left q).0 ∙ (line-white o.indent cells p).end
-    ∙ rest-past line r p stop h k (omega (arith, is.column)) in
+    let ends = end.0 ∙ rest-past line r p stop h k (omega (arith, is.column)) in
     record {
       goes = ap (λ (x : Bool). cond x held_leaf.None leaf) closed;
       at = q;
       stands = lost.stands;
-      adds = λ e.
+      adds =
+          ap
+          (λ (x : Point).
+          enter_link (block_name o.marker) p further_link ∷ further_inside options leaf cells p
+          ++ exit (block_name o.marker) x ∷ []) ends;
+      inside = λ e.
           rw (closed ∙ e)
-          (ap (λ (x : Point). begin ++ (chunk_events m left q ++ exit (block_name m) x ∷ [])) to
-          ∙ ap (λ (l : List Cell). begin ++ (chunk_events m l q ++ exit (block_name m) (past_rest r p) ∷ [])) lost.left
-          ∙ ap (λ (es : List Event). begin ++ (es ++ exit (block_name m) (past_rest r p) ∷ []))
-          (chunk-agrees m line text behind (lose o.indent r) q stop lost.stands (lose-no_ending o.indent r h) k));
-      ends = end.0 ∙ rest-past line r p stop h k (omega (arith, is.column));
+          (ap (λ (l : List Cell). spaces o.indent cells p ++ chunk_events o.marker l q) lost.left
+          ∙ ap (λ (es : List Event). spaces o.indent cells p ++ es)
+          (chunk-agrees o.marker line text behind (lose o.indent r) q stop lost.stands (lose-no_ending o.indent r h) k));
+      ends = ends;
       rest = end.1 ∙ rest-from line r p stop h k;
     }

@@ -12,7 +12,7 @@ use Rattle.md_engine.specs.declared.tokenizer.held_leaf.HeldLeaf.TheVariants as 
 use Rattle.md_engine.specs.Meaning.{Accepts, Cell, Here, Outcome, Refuses}
 use Rattle.md_lines.specs.Fence.{block_name, chunk_name, cleared, fence_name, held_indent, held_marker, held_size}
 use Rattle.md_lines.specs.Fence.{sequence_name}
-use Rattle.md_lines.specs.FenceLine.{chunk_events, closes_here, closing_end, closing_events, content_events}
+use Rattle.md_lines.specs.FenceLine.{chunk_events, closes_here, closing_end, closing_events}
 use Rattle.md_lines.specs.FenceLine.{further_taken, is_closing, spaces}
 use Rattle.md_lines.specs.FenceRule.{before_chunk, before_close, behind_columns, behind_white_of, close_at, close_end}
 use Rattle.md_lines.specs.FenceRule.{closed_or_content, content_at, further_at, in_chunk, in_close, is_end, is_line}
@@ -147,17 +147,10 @@ content-whole cells h calm =
 
 -- A closing fence.
 
--- the events of one in front of the exit of the block
-abbrev close_events : ℕ → List Cell → Point → List Event
-close_events m cells p =
-    let q = run_end (λ b. b == m) cells p in
-    enter (fence_name m) p ∷ pair (sequence_name m) p q
-    ++ spaces any_size (run_rest (λ b. b == m) cells) q ++ exit (fence_name m) (closing_end m cells p) ∷ []
-
 -- where it comes to
 abbrev close_here : ℕ → List Cell → Here → Here
 close_here m cells h = record h {
-  events = h.events ++ close_events m cells h.point;
+  events = h.events ++ closing_events m cells h.point;
   point = closing_end m cells h.point;
   scratch = cleared h.scratch;
 }
@@ -293,10 +286,13 @@ further-whole options cells h is =
         closed_or_content (cond x (Accepts (close_here m rest k) last) (refuses k)) cells (line_begun h) ≡
         Accepts
         (record h {
-          events = h.events ++ enter_link (block_name m) h.point further_link
+          events = h.events ++ (enter_link (block_name m) h.point further_link
               ∷ cond x (spaces room cells h.point ++ closing_events m rest (white_end room cells h.point))
               (spaces lost cells h.point
-              ++ content_events m (white_rest lost cells) (white_end lost cells h.point));
+              ++ chunk_events m (white_rest lost cells) (white_end lost cells h.point))
+              ++ exit (block_name m)
+              (cond x (closing_end m rest (white_end room cells h.point))
+              (run_end is_line (white_rest lost cells) (white_end lost cells h.point))) ∷ []);
           point = cond x (closing_end m rest (white_end room cells h.point))
               (run_end is_line (white_rest lost cells) (white_end lost cells h.point));
           flags = record h.flags { leaf = cond x held_leaf.None h.flags.leaf };

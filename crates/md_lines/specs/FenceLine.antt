@@ -91,34 +91,18 @@ closing_end m cells p =
 abbrev pub closing_events : ℕ → List Cell → Point → List Event
 closing_events m cells p =
     let q = run_end (λ b. b == m) cells p in
-    let e = closing_end m cells p in
     enter (fence_name m) p ∷ pair (sequence_name m) p q
-    ++ spaces any_size (run_rest (λ b. b == m) cells) q ++ exit (fence_name m) e ∷ exit (block_name m) e ∷ []
+    ++ spaces any_size (run_rest (λ b. b == m) cells) q ++ exit (fence_name m) (closing_end m cells p) ∷ []
 
 -- what is left of a line
 abbrev pub chunk_events : ℕ → List Cell → Point → List Event
 chunk_events m cells p = if is_end cells then [] else pair (chunk_name m) p (run_end is_line cells p)
 
--- and the end of the line behind it
-abbrev pub content_events : ℕ → List Cell → Point → List Event
-content_events m cells p = chunk_events m cells p ++ exit (block_name m) (run_end is_line cells p) ∷ []
-
--- What is kept of the block behind the line, and what the line adds.
+-- What is kept of the block behind the line, and where the line ends.
 
 abbrev pub fence_goes : ParseOptions → HeldLeaf → List Cell → HeldLeaf
 fence_goes options leaf cells = if closes_here options leaf cells then held_leaf.None else leaf
 
-abbrev pub further_events : ParseOptions → HeldLeaf → List Cell → Point → List Event
-further_events options leaf cells p =
-    let m = held_marker leaf in
-    let room = small_indent options in
-    let lost = held_indent leaf in
-    enter_link (block_name m) p further_link
-    ∷ (if closes_here options leaf cells
-    then spaces room cells p ++ closing_events m (white_rest room cells) (white_end room cells p)
-    else spaces lost cells p ++ content_events m (white_rest lost cells) (white_end lost cells p))
-
--- where the line ends
 abbrev pub further_end : ParseOptions → HeldLeaf → List Cell → Point → Point
 further_end options leaf cells p =
     let room = small_indent options in
@@ -126,6 +110,23 @@ further_end options leaf cells p =
     if closes_here options leaf cells
     then closing_end (held_marker leaf) (white_rest room cells) (white_end room cells p)
     else run_end is_line (white_rest lost cells) (white_end lost cells p)
+
+-- What the line adds: a linked pair, from its begin to its end.
+
+abbrev pub further_inside : ParseOptions → HeldLeaf → List Cell → Point → List Event
+further_inside options leaf cells p =
+    let room = small_indent options in
+    let lost = held_indent leaf in
+    if closes_here options leaf cells
+    then spaces room cells p
+    ++ closing_events (held_marker leaf) (white_rest room cells) (white_end room cells p)
+    else spaces lost cells p ++ chunk_events (held_marker leaf) (white_rest lost cells) (white_end lost cells p)
+
+abbrev pub further_events : ParseOptions → HeldLeaf → List Cell → Point → List Event
+further_events options leaf cells p =
+    let name = block_name (held_marker leaf) in
+    enter_link name p further_link ∷ further_inside options leaf cells p
+    ++ exit name (further_end options leaf cells p) ∷ []
 
 abbrev pub further_rest : ParseOptions → HeldLeaf → List Cell → List Cell
 further_rest options leaf cells =

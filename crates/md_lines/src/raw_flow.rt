@@ -14,9 +14,9 @@
 // further line. What is kept between them is `HeldLeaf::Fence`. Each line is a `CodeFenced` of its own, to the end of
 // the line: the opening one from its sequence on, a further one from its begin, and linked to the line before. A
 // resolver makes one block of them. In it stand `CodeFencedFence` around a sequence and what follows it on its line:
-// `CodeFencedFenceSequence`, `SpaceOrTab`, and around linked `Data` `CodeFencedFenceInfo` and `CodeFencedFenceMeta`; and
-// `CodeFlowChunk` over what a line has left, if anything. Indents are `SpaceOrTab` in front of these. In math the names
-// of the block, its fences and its lines begin with `MathFlow`.
+// `CodeFencedFenceSequence`, `SpaceOrTab`, and around linked `Data` `CodeFencedFenceInfo` and `CodeFencedFenceMeta`;
+// and `CodeFlowChunk` over what a line has left, if anything. Indents are `SpaceOrTab` in front of these. In math all
+// names begin with `MathFlow`.
 
 ghost use Rattle.std.specs.Prelude.{◌≡◌, ◌≢◌, IfSome};
 ghost use Rattle.md_definition.specs.Leaves.{is_fence_marker, least_size};
