@@ -22,8 +22,8 @@ use Rattle.md_lines.specs.Fence.{before_open, before_open_code, behind_part, blo
 use Rattle.md_lines.specs.Fence.{chunk_code, cleared, close_after_code, close_start_code, content_start_code}
 use Rattle.md_lines.specs.Fence.{ends_word, fence_rank, fence_ready, fence_scheme, fence_transition}
 use Rattle.md_lines.specs.Fence.{fence_level, fence_tries, held_indent, held_marker, in_fence, info_before_code, info_code}
-use Rattle.md_lines.specs.Fence.{line_entered, marked, meta_before_code, meta_code, meta_name, opened, part_entered, part_exited}
-use Rattle.md_lines.specs.Fence.{sequence_close_code, sequence_name, sequence_open_code, start_code}
+use Rattle.md_lines.specs.Fence.{line_entered, marked, meta_before_code, meta_code, meta_name, opened, part_entered}
+use Rattle.md_lines.specs.Fence.{part_exited, sequence_close_code, sequence_name, sequence_open_code, start_code}
 use Rattle.md_seam.specs.Spaces.{IsRest, any_size, calmed, ends_line, is_current, rest_ready, sees_white, small_indent}
 use Rattle.md_seam.specs.Transition.{exited}
 use Rattle.md_seam.proofs.SpacesGoods.{Does, WhiteFits, rest-calm, rest-none, rest-size, seen-in, white_try}

@@ -28,8 +28,8 @@ use Rattle.md_lines.specs.Fence.{before_open, before_open_code, behind_part, blo
 use Rattle.md_lines.specs.Fence.{chunk_name, cleared, close_after_code, close_start_code, content_start_code, ends_word}
 use Rattle.md_lines.specs.Fence.{fence_name, fence_ready, fence_transition, held_indent, held_marker, held_size}
 use Rattle.md_lines.specs.Fence.{info_before_code, info_code, is_on, is_refused, line_entered, may_close}
-use Rattle.md_lines.specs.Fence.{meta_before_code, meta_code, meta_name, sees_refused, sequence_close_code, sequence_name, sequence_open_code}
-use Rattle.md_lines.specs.Fence.{start_code, string_link}
+use Rattle.md_lines.specs.Fence.{meta_before_code, meta_code, meta_name, sees_refused, sequence_close_code}
+use Rattle.md_lines.specs.Fence.{sequence_name, sequence_open_code, start_code, string_link}
 use Rattle.md_lines.specs.FenceRule.{HasFence, before_chunk, before_close, before_info, before_meta, before_sequence}
 use Rattle.md_lines.specs.FenceRule.{behind_sequence, behind_white_of, block_begun, close_at, close_end}
 use Rattle.md_lines.specs.FenceRule.{closed_or_content, content_at, fence_at, further_at, in_chunk}
