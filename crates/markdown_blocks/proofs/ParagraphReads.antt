@@ -1,17 +1,18 @@
 -- A paragraph over the cells of its lines is these lines, whose text is not read yet. Each ends behind its ending, and
 -- the next begins behind the prefixes of its containers.
 use Rattle.std.proofs.Common.{◌≡◌, ℕ, zero, suc, ◌+◌, ◌-◌, ◌^◌, ◌<◌, ◌≤◌, Bool, true, false, cond, List, [], ◌∷◌, ◌++◌}
-use Rattle.std.proofs.Common.{length, drop, refl, ap, sym, ◌∙◌, subst}
+use Rattle.std.proofs.Common.{length, drop, refl, ap, sym, ◌∙◌, subst, append_assoc, append-nil, drop-drop}
 use Rattle.std.proofs.Common.{length-append, length-drop, arith}
-use Rattle.std.specs.Prelude.{◌==◌, ◌&&◌, Some, nat_lt, slice_get, slice_index}
+use Rattle.std.specs.Prelude.{◌==◌, ◌&&◌, Option, Some, nat_le, nat_lt, slice_get, slice_index}
 use Rattle.std.proofs.lemmas.Bool.{eqb-true, or_parts}
+use Rattle.std.proofs.lemmas.Bool.Decides.{nat_tests}
 use Rattle.md_engine.specs.declared.configuration.ParseOptions.{ParseOptions}
 use Rattle.md_engine.specs.declared.event.Event.{Event}
 use Rattle.md_engine.specs.declared.event.Name.TheVariants as n
 use Rattle.md_engine.specs.declared.event.Point.{Point}
 use Rattle.md_engine.specs.declared.tokenizer.Line.{Line}
 use Rattle.md_engine.specs.Meaning.{Cell}
-use Rattle.md_engine.specs.Place.{is_ending, next_point, seen_at}
+use Rattle.md_engine.specs.Place.{begun_at, is_ending, next_point, seen_at}
 use Rattle.md_engine.specs.TextFeed.{text_feed}
 use Rattle.md_engine.specs.World.{Setting, World, after, fresh, line_begun, skipping}
 use Rattle.md_content.specs.ContentReads.{content_events, end_of, first_of, paragraph_over, part_world, settled}
@@ -20,8 +21,7 @@ use Rattle.md_content.specs.Paragraph.{text_link}
 use Rattle.md_content.specs.ParagraphRule.{line_events}
 use Rattle.md_content.proofs.ContentReadsLemmas.{skipping-same}
 use Rattle.md_content.proofs.SettledLemmas.{settled-none, settled-other}
-use Rattle.md_content.proofs.WholeLinesLemmas.{SameRest, begins, begun-next, drop-next, get-at, same-then, skip-here}
-use Rattle.md_content.proofs.WholeLinesLemmas.{skip-later, skips-are}
+use Rattle.md_seam.specs.declared.inline.Chunk.{Chunk}
 use Rattle.md_seam.specs.Ahead.{point_after}
 use Rattle.md_seam.specs.Events.Places.{past_byte, past_text}
 use Rattle.md_seam.specs.Events.Nested.{around, enter, enter_link, exit}
@@ -72,6 +72,14 @@ last-within options bytes row [] h = row-within options bytes h.0 row h.1 h.2
 last-within options bytes row (next ∷ rows) h = last-within options bytes next rows h.7
 
 -- What is fed of them.
+
+-- what is read of two points of a text is the same
+record SameRest (x : Setting) (p q : Point) : Type 0 where
+  lines : line_events (text_feed x p) p ≡ line_events (text_feed x q) q
+  end : point_after (text_feed x p) p ≡ point_after (text_feed x q) q
+
+same-then : (x : Setting) (p q r : Point) → SameRest x p q → SameRest x q r → SameRest x p r
+same-then x p q r h k = record { lines = h.lines ∙ k.lines; end = h.end ∙ k.end }
 
 -- in the columns of a tab stand no events
 tab-events : (line : Line) (n byte : ℕ) (p q : Point) (cells : List Cell) → (byte == 10) ≡ false →
@@ -197,6 +205,15 @@ record AreRead (x : Setting) (bytes : List ℕ) (k : ℕ) (row : Row) (rows : Li
   skips : drop k x.skips ≡ row.first ∷ firsts rows
   line : row.first.line ≡ x.first_line + k
 
+get-at : (k : ℕ) (l : List Point) (p : Point) (rest : List Point) → drop k l ≡ p ∷ rest → slice_get l k ≡ Some p
+get-at zero [] p rest e = cc
+get-at zero (q ∷ l) p rest e = cc
+get-at (suc k) [] p rest e = cc
+get-at (suc k) (q ∷ l) p rest e = get-at k l p rest e
+
+drop-next : (k : ℕ) (l : List Point) (p : Point) (rest : List Point) → drop k l ≡ p ∷ rest → drop (k + 1) l ≡ rest
+drop-next k l p rest e = sym (drop-drop 1 k l) ∙ ap (drop 1) e
+
 -- the next line is the one behind it
 next-line : (options : ParseOptions) (bytes : List ℕ) (row next : Row) (rows : List Row) →
     AreLines options bytes row (next ∷ rows) → next.first.line ≡ row.first.line + 1
@@ -204,6 +221,16 @@ next-line options bytes row next rows h =
     let front = fronts-line bytes [] h.3 next.first next.front h.6 in
     let end = ap (λ (p : Point). p.line) h.1.end ∙ past_text-line h.0 row.first in
     omega (arith, h.5.line)
+
+-- behind the ending of a line the next one begins, behind the prefixes in front of it
+begun-next : (x : Setting) (p s : Point) → slice_get x.skips (s.line - x.first_line) ≡ Some s → p.line ≡ s.line →
+    p.index ≤ s.index → line_begun x p ≡ s
+begun-next x p s at line le =
+    let some : slice_get x.skips (p.line - x.first_line) ≡
+    Some s = ap (λ (l : ℕ). slice_get x.skips (l - x.first_line)) line
+    ∙ at in
+    let further : nat_le p.index s.index ≡ true = grind (arith, nat_tests) in
+    ap (λ (o : Option Point). begun_at o p) some ∙ ap (λ (t : Bool). cond t s p) further
 
 -- each line is one part, which ends where its chunk does
 lines-read : (options : ParseOptions) (bytes : List ℕ) (x : Setting) (k : ℕ) (row : Row) (rows : List Row)
@@ -265,6 +292,18 @@ lines-read options bytes x k row (next ∷ rows) behind h r =
 
 -- Where they are read.
 
+-- a skip where the tokenizer stands leaves it there, and so does one of a later line
+skip-here : (w : World) (p : Point) → w.point ≡ p → (skipping w p).point ≡ p
+skip-here w p e = go (w.point.line == p.line) (nat_le w.point.index p.index)
+  where
+    go : (t s : Bool) → cond t (cond s p w.point) w.point ≡ p
+    go true true = refl
+    go true false = e
+    go false s = e
+
+skip-later : (w : World) (p : Point) → w.point.line < p.line → (skipping w p).point ≡ w.point
+skip-later w p lt = let other : (w.point.line == p.line) ≡ false = grind (arith, nat_tests) in rw other refl
+
 -- the lines of a text are skipped as its first is
 skips-first : (options : ParseOptions) (bytes : List ℕ) (w : World) (row : Row) (rows : List Row) →
     AreLines options bytes row rows →
@@ -286,6 +325,15 @@ skips-here options bytes w row rows h e =
     let here = skip-here w row.first e in
     let line = ap (λ (p : Point). p.line) here in
     skips-first options bytes w row rows h (omega (arith, line)) ∙ here
+
+abbrev begins : List Chunk → List Point
+begins [] = []
+begins (chunk ∷ chunks) = chunk.first ∷ begins chunks
+
+skips-are : (w : World) (chunks : List Chunk) → (skipping_all w chunks).setting.skips ≡ w.setting.skips ++ begins chunks
+skips-are w [] = sym (append-nil w.setting.skips)
+skips-are w (chunk ∷ chunks) =
+    skips-are (skipping w chunk.first) chunks ∙ append_assoc w.setting.skips (chunk.first ∷ []) (begins chunks)
 
 begins-are : (row : Row) (rows : List Row) → begins (chunks_of row rows) ≡ row.first ∷ firsts rows
 begins-are row [] = refl

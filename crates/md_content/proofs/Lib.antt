@@ -6,4 +6,3 @@ pub mod ContentRuns
 pub mod JoinedLemmas
 pub mod ContentReadsLemmas
 pub mod SettledLemmas
-pub mod WholeLinesLemmas

@@ -6,4 +6,3 @@ pub mod ParagraphRule
 pub mod Resolves
 pub mod Joined
 pub mod ContentReads
-pub mod WholeLines

@@ -28,7 +28,6 @@ ghost use Rattle.md_seam.specs.Spaces.{ends_line};
 ghost use Rattle.md_seam.specs.Stays.{TakesEach};
 ghost use Rattle.md_seam.specs.Transition.{IsAt, NeedsNothing};
 
-use crate::lines::{are_whole, whole_lines};
 use crate::paragraph;
 use md_engine::configuration::ParseOptions;
 use md_engine::event::{Content, Event, Kind, Link, Name};
@@ -199,9 +198,6 @@ impl Reader for ContentReader<'_> {
         chunks: &[Chunk],
         spare: Vec<Event>,
     ) -> Result<Vec<Event>, Message> {
-        if are_whole(chunks) {
-            return whole_lines(chunks, spare);
-        }
         self.read_part(alloc, chunks, spare)
     }
 }

@@ -2,5 +2,4 @@
 #![tactic(auto)]
 
 pub mod content;
-mod lines;
 pub mod paragraph;
