@@ -11,5 +11,9 @@ pub enum HeldLeaf {
     /// Indented code.
     Code,
     /// Fenced code or math: the byte of its marker, how many of it, and the columns in front of them.
-    Fence { marker: u8, size: usize, indent: usize },
+    Fence {
+        marker: u8,
+        size: usize,
+        indent: usize,
+    },
 }
