@@ -12,7 +12,7 @@ use Rattle.md_definition.specs.State.{Container}
 use Rattle.md_outline.specs.Between.{is_between}
 use Rattle.markdown_blocks.specs.Change.{ends_of}
 use Rattle.markdown_blocks.specs.Fronted.{contained, rest_from, rest_line}
-use Rattle.markdown_blocks.specs.Rows.{leaf_behind, final_row, first_row, group_done, group_events, group_kind}
+use Rattle.markdown_blocks.specs.Rows.{final_row, first_row, group_done, group_events, group_kind}
 use Rattle.markdown_blocks.specs.Rows.{ending_of, Group, Lines, Row, Single, behind_row, ending_events, groups}
 use Rattle.markdown_blocks.specs.Rows.{groups_events, tail_events}
 use Rattle.markdown_blocks.proofs.EachRow.{EachGroup, EachRow, OfGroup, groups-each, last-each}
@@ -123,7 +123,7 @@ rows-stand options bytes open_before still p (line ∷ next ∷ lines) (row ∷ 
         end = end;
         behind = subst (λ (q : Point). is_between bytes q.index ≡ true) (sym behind) after;
       },
-      rows-stand options bytes (behind_line options open_before still p line) (leaf_behind row.kind) are.2
+      rows-stand options bytes (behind_line options open_before still p line) row.behind are.2
           (next ∷ lines) (below ∷ rows) after are.5,
     )
 rows-stand options bytes open_before still p lines rows from are = absurd are

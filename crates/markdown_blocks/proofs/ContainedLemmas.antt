@@ -9,7 +9,7 @@ use Rattle.md_engine.specs.declared.configuration.ParseOptions.{ParseOptions}
 use Rattle.md_definition.specs.Containers.{Taken, continues, footnote_continues, item_continues, opens, quote_taken}
 use Rattle.md_definition.specs.Rest.{Rest}
 use Rattle.md_definition.specs.State.{Container, InFootnote, InItem, InQuote}
-use Rattle.markdown_blocks.specs.Change.{change_by, interrupts, is_none, others_of}
+use Rattle.markdown_blocks.specs.Change.{change_by, interrupts, is_none, met, others_of}
 use Rattle.markdown_blocks.specs.Registry.{container_kind, shape_of}
 use Rattle.markdown_blocks.specs.Fronted.{Prefixed, contained, no_prefix, one_more, prefixes_new, prefixes_on}
 use Rattle.markdown_blocks.specs.Rows.{RowKind, is_lazy, line_kind}
@@ -49,7 +49,7 @@ contained-same : {A : Type 0} (f : Container → A) (options : ParseOptions) →
     (cs : List Container) (still : HeldLeaf) (r : Rest) →
     map f ((contained options cs still r).change.stays ++ (contained options cs still r).change.closes) ≡ map f cs
 unfolding contained
-contained-same f options keeps cs still r = go (is_lazy still new.containers (line_kind options new.rest))
+contained-same f options keeps cs still r = go (is_lazy still new.containers (line_kind options (met still (others_of cs on.containers) new.containers) new.rest))
   where
     on : Prefixed
     on = prefixes_on options cs r

@@ -1,5 +1,6 @@
 -- Flow takes every text to its end.
 use Rattle.std.proofs.Common.{◌≡◌, ℕ, zero, suc, ◌<◌, ◌≤◌, Bool, true, false, List, [], ◌∷◌, length, Option, Some, None, refl, arith}
+use Rattle.markdown_blocks.specs.FlowRule.{behind_leaf}
 use Rattle.md_engine.specs.declared.configuration.ParseOptions.{ParseOptions}
 use Rattle.md_engine.specs.declared.tokenizer.container.Container.{Container}
 use Rattle.md_engine.specs.declared.tokenizer.Scratch.{Scratch}
@@ -13,7 +14,7 @@ use Rattle.md_seam.specs.Spaces.{ends_line}
 use Rattle.md_seam.proofs.FeedLines.{Stops}
 use Rattle.markdown_blocks.specs.FlowRule.{Rule, asking_here, behind_containers, blank_ended, content_of, ended, ended_to}
 use Rattle.markdown_blocks.specs.FlowRule.{existing_at, existing_by, existing_from, opens_of}
-use Rattle.markdown_blocks.specs.FlowRule.{flow_at, flow_lines, leaf_ended, leaf_of, leaves_of, line_ended, line_then}
+use Rattle.markdown_blocks.specs.FlowRule.{flow_at, flow_lines, leaf_of, leaves_of, line_ended, line_then}
 use Rattle.markdown_blocks.specs.FlowRule.{new_from}
 use Rattle.markdown_blocks.specs.FlowRule.{new_of, opened, tried}
 use Rattle.markdown_blocks.specs.LineFlags.{begun_line, blanked, ended_on, next_container, shut_leaf, stays}
@@ -77,9 +78,14 @@ leaves-finish : (options : ParseOptions) (next : Rule) (ls : List LeafName) (cel
     Finishes (leaves_of options next ls cells h)
 leaves-finish options next [] cells h ends = content-finishes next cells h ends
 leaves-finish options next (l ∷ ls) cells h ends =
-    tried-finishes _ (leaf_ended next) _ ((leaf l).trial options cells h) ((laws l).shrinks options cells h)
-    (λ rest k at le. line_ended-finishes _ next ends rest (record k { flags = shut_leaf k.flags }) at le)
+    tried-finishes _ (behind_leaf (leaf l).ends next) _ ((leaf l).trial options cells h)
+    ((laws l).shrinks options cells h) (behind (leaf l).ends)
     (λ s g. leaves-finish options next ls cells (record h { scratch = s; flags = g }) ends)
+  where
+    behind : (x : Bool) (rest : List Cell) (k : Here) → Stops rest → length rest ≤ length cells →
+        Finishes (behind_leaf x next rest k)
+    behind true rest k at le = line_ended-finishes _ next ends rest (record k { flags = shut_leaf k.flags }) at le
+    behind false rest k at le = line_ended-finishes _ next ends rest k at le
 
 leaf-finishes : (options : ParseOptions) (next : Rule) (cells : List Cell) (h : Here) → Ends (length cells) next →
     Finishes (leaf_of options next cells h)

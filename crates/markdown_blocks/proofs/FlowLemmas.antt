@@ -1,5 +1,6 @@
 -- Flow goes line by line.
 use Rattle.std.proofs.Common.{◌≡◌, ℕ, zero, suc, ◌<◌, ◌≤◌, Bool, true, false, cond, nat_eq, List, [], ◌∷◌, length, Option, Some, None}
+use Rattle.markdown_blocks.specs.FlowRule.{behind_leaf}
 use Rattle.std.proofs.Common.{refl, ap, arith}
 use Rattle.md_engine.specs.declared.configuration.ParseOptions.{ParseOptions}
 use Rattle.md_engine.specs.declared.tokenizer.container.Container.{Container}
@@ -74,6 +75,11 @@ tried-shorter n f g agree (Accepts h rest) a b lt same = agree rest h lt
 tried-shorter n f g agree (Refuses s t) a b lt same = same s t
 tried-shorter n f g agree Fails a b lt same = refl
 
+behind_leaf-same : (n : ℕ) (f g : Rule) (ends : Bool) → Agree n f g →
+    AgreeAt n (behind_leaf ends f) (behind_leaf ends g)
+behind_leaf-same n f g true agree = leaf_ended-same n f g agree
+behind_leaf-same n f g false agree = line_ended-same n f g agree
+
 -- leaves that are tried one after another, and content behind them
 leaves_of-same : (options : ParseOptions) (f g : Rule) (ls : List LeafName) (cells : List Cell) (h : Here) →
     Agree (length cells) f g →
@@ -82,7 +88,8 @@ leaves_of-same options f g [] cells h agree =
     tried-same _ (line_ended f) (line_ended g) (line_ended-same _ f g agree) (chunk_at cells h) Refuses Refuses
     (chunk_at-shrinks cells h) (λ s t. refl)
 leaves_of-same options f g (l ∷ ls) cells h agree =
-    tried-same _ (leaf_ended f) (leaf_ended g) (leaf_ended-same _ f g agree) ((leaf l).trial options cells h) _ _
+    tried-same _ (behind_leaf (leaf l).ends f) (behind_leaf (leaf l).ends g) (behind_leaf-same _ f g (leaf l).ends agree)
+    ((leaf l).trial options cells h) _ _
     ((laws l).shrinks options cells h)
     (λ s t. leaves_of-same options f g ls cells (record h { scratch = s; flags = t }) agree)
 

@@ -1,5 +1,7 @@
 -- Each state of flow takes one step of what flow means.
 use Rattle.std.proofs.Common.{◌≡◌, ◌⊎◌, inl, inr, ℕ, Bool, true, false, cond, nat_eq, List, [], ◌∷◌, ◌++◌, length, take}
+use Rattle.markdown_blocks.specs.FlowRule.{behind_leaf}
+use Rattle.markdown_blocks.specs.Flow.{leaf_end}
 use Rattle.std.proofs.Common.{Option, Some, None, refl, sym, ◌∙◌, ap, subst, arith, append_assoc}
 use Rattle.std.proofs.lemmas.List.{take_all}
 use Rattle.md_engine.specs.declared.configuration.ParseOptions.{ParseOptions}
@@ -48,7 +50,7 @@ use Rattle.markdown_blocks.specs.Flow.{flow_end_transition, flow_own_transition,
 use Rattle.markdown_blocks.specs.Flow.{leaf_transition, new_after_transition}
 use Rattle.markdown_blocks.specs.Flow.{new_before_transition, opener_transition, start_transition, trial_code}
 use Rattle.markdown_blocks.specs.FlowRule.{HasFlow, Rule, blank_ended, ended, ended_to, existing_at, existing_by}
-use Rattle.markdown_blocks.specs.FlowRule.{flow_at, leaf_ended, leaves_of, line_ended, line_then, new_of, nonblank_of}
+use Rattle.markdown_blocks.specs.FlowRule.{flow_at, leaves_of, line_ended, line_then, new_of, nonblank_of}
 use Rattle.markdown_blocks.specs.FlowRule.{opened, openers_of}
 use Rattle.markdown_blocks.specs.FlowRule.{tried}
 use Rattle.markdown_blocks.specs.LineFlags as flags
@@ -249,6 +251,13 @@ blank_line_before_steps B feed w options next false has s e =
           has.blank.each blank_line.Start _ _ ∙ blank-refused _ (here w) first.0 first.1 first.2;
     })
 
+-- behind a leaf, whether it always ends on its line or not
+flow-ends : (B : Behaviour) (options : ParseOptions) (next : Rule) → HasFlow B options next → (ends : Bool)
+    (cells : List Cell) (h : Here) →
+    B (n.Flow (leaf_end ends)) cells h ≡ behind_leaf ends next cells h
+flow-ends B options next has true cells h = has.leaves flow.LeafAfter cells h
+flow-ends B options next has false cells h = has.leaves flow.After cells h
+
 before_steps : (l : LeafName) (B : Behaviour) (feed : Feed) (w : World) (options : ParseOptions) (next : Rule) →
     HasFlow B options next → Sees feed w → IsRest w.scratch →
     Steps B feed (Next (n.Flow (leaf l).before)) w (before_transition l w).to (before_transition l w).world
@@ -256,17 +265,17 @@ before_steps l B feed w options next has s is =
     let otherwise : Scratch → Flags → Outcome =
     λ s g. leaves_of options next (behind l) (feed w.point) (record (here w) { scratch = s; flags = g }) in
     trial_steps B feed w w.flags _ _ _ _ (may_with (leaf l).may_begin (looks_behind w)) (record {
-      onward = leaf_ended next;
+      onward = behind_leaf (leaf l).ends next;
       otherwise = otherwise;
       from_is =
           has.leaves (leaf l).before _ _ ∙ left-before options next l _ _
-          ∙ ap (λ (o : Outcome). tried o (leaf_ended next) otherwise) (sym (has.starts l _ _));
-      ok_is = has.leaves flow.LeafAfter;
+          ∙ ap (λ (o : Outcome). tried o (behind_leaf (leaf l).ends next) otherwise) (sym (has.starts l _ _));
+      ok_is = flow-ends B options next has (leaf l).ends;
       nok_is = λ s g. has.leaves (next_of l) _ _ ∙ left-next options next l _ _;
       looked = λ no.
           let first = refused-first (leaf l).may_begin feed w s no in
           has.starts l _ _
-          ∙ (laws l).refused options _ (here w) is ((laws l).looked options _ first.0 first.1 first.2);
+          ∙ (laws l).refused options _ (here w) is ((laws l).looked options _ _ first.0 first.1 first.2);
     })
 
 before_content_steps : (B : Behaviour) (feed : Feed) (w : World) (options : ParseOptions) (next : Rule) →

@@ -3,6 +3,12 @@ use Rattle.markdown_blocks.specs.HeldLeaf.{takes_lazy}
 use Rattle.md_engine.specs.declared.tokenizer.held_leaf.HeldLeaf.TheVariants as held_leaf
 use Rattle.md_engine.specs.declared.tokenizer.held_leaf.HeldLeaf.{HeldLeaf}
 use Rattle.std.proofs.Common.{◌≡◌, ℕ, zero, suc, ◌+◌, ◌<◌, ◌≤◌, Bool, true, false, cond, ◌&&◌, nat_eq, List, [], ◌∷◌}
+use Rattle.std.specs.Prelude.{not}
+use Rattle.markdown_blocks.specs.Rows.{behind_held}
+use Rattle.markdown_blocks.proofs.LeafLaws.{left_open}
+use Rattle.markdown_blocks.specs.FlowRule.{behind_leaf}
+use Rattle.markdown_blocks.specs.Change.{met}
+use Rattle.markdown_blocks.specs.HeldLeaf.{met_by}
 use Rattle.std.proofs.Common.{◌++◌, length, take, drop, Option, Some, None, refl, sym, ◌∙◌, ap, ap₂, subst, arith}
 use Rattle.std.proofs.Common.{append_assoc, append-nil, length-append}
 use Rattle.std.specs.Option.{option_or}
@@ -34,7 +40,7 @@ use Rattle.md_seam.specs.Spaces.{IsRest, ends_line}
 use Rattle.md_definition.specs.State.{Container}
 use Rattle.markdown_blocks.specs.Change.{Change, change_by, ends_of, interrupts, is_none, open_behind, others_of}
 use Rattle.markdown_blocks.specs.FlowRule.{Rule, asking_here, behind_containers, blank_ended, ended, ended_to, existing_by}
-use Rattle.markdown_blocks.specs.FlowRule.{existing_at, existing_from, flow_at, flow_lines, leaf_ended, leaf_of}
+use Rattle.markdown_blocks.specs.FlowRule.{existing_at, existing_from, flow_at, flow_lines, leaf_of}
 use Rattle.markdown_blocks.specs.FlowRule.{leaves_of, line_ended}
 use Rattle.markdown_blocks.specs.FlowRule.{line_then, new_from, new_of, nonblank_of, opened, opens_of, tried}
 use Rattle.markdown_blocks.specs.LineFlags.{asks, begun_line, ended_on, ending_name, next_container, next_line, over_end, stays}
@@ -57,60 +63,91 @@ use Rattle.markdown_blocks.proofs.RegistryContainers.{known-name, opening-is, op
 -- The leaf of a line, by its kind.
 
 -- what it adds
-abbrev pub added_by : ParseOptions → List Cell → Point → RowKind → List Event
-added_by options cells p TextRow = enter_link n.Content p content_link ∷ exit n.Content (line_end cells p) ∷ []
-added_by options cells p kind = inside_of options cells p kind
+abbrev pub added_by : ParseOptions → HeldLeaf → List Cell → Point → RowKind → List Event
+added_by options on cells p TextRow = enter_link n.Content p content_link ∷ exit n.Content (line_end cells p) ∷ []
+added_by options on cells p kind = inside_of options on cells p kind
 
 -- whether the line is blank, where it was known to be or not
 abbrev pub blank_by : RowKind → Bool → Bool
 blank_by BlankRow b = true
 blank_by _ b = b
 
--- behind it
+-- behind it, where the flags say which leaf it meets
 abbrev leaf_here : ParseOptions → List Cell → Here → RowKind → Here
 leaf_here options cells h k = record h {
-  events = h.events ++ added_by options cells h.point k;
+  events = h.events ++ added_by options h.flags.leaf cells h.point k;
   point = line_end cells h.point;
-  flags = record h.flags { leaf = leaf_behind k; blank = blank_by k h.flags.blank };
+  flags =
+      record h.flags {
+        leaf = leaf_behind options h.flags.leaf cells h.point k;
+        blank = blank_by k h.flags.blank;
+      };
 }
 
 -- of these leaves, the one that takes these cells
-abbrev taker : ParseOptions → List Cell → List LeafName → Option LeafName
-taker options cells ls = first_of (λ l. (leaf l).takes options cells) ls
+abbrev taker : ParseOptions → HeldLeaf → List Cell → List LeafName → Option LeafName
+taker options on cells ls = first_of (λ l. (leaf l).takes options on cells) ls
 
 -- the kind of a line, where it is known whether it is blank
-kind-by : (options : ParseOptions) (cells : List Cell) (x : Bool) → is_blank (line_bytes cells) ≡ x →
-    row_kind options cells ≡ cond x BlankRow (kind_of (taker options cells trials))
-kind-by options cells x e = ap (λ (y : Bool). cond y BlankRow (kind_of (taker options cells trials))) e
+kind-by : (options : ParseOptions) (on : HeldLeaf) (cells : List Cell) (x : Bool) → is_blank (line_bytes cells) ≡ x →
+    row_kind options on cells ≡ cond x BlankRow (kind_of (taker options on cells trials))
+kind-by options on cells x e = ap (λ (y : Bool). cond y BlankRow (kind_of (taker options on cells trials))) e
+
+-- behind a leaf that took a line, what is held is what it keeps: flow shuts one that always ends there
+leaf-left : (options : ParseOptions) (next : Rule) (l : LeafName) (cells : List Cell) (h : Here) (ends : Bool) →
+    (leaf l).ends ≡ ends →
+    behind_leaf ends next (from_ending cells)
+    (record h {
+      events = h.events ++ (leaf l).adds options h.flags.leaf cells h.point;
+      point = line_end cells h.point;
+      flags = record h.flags {
+        leaf = left_open ends ((leaf l).keeps options h.flags.leaf cells h.point) h.flags.leaf;
+      };
+    }) ≡
+    line_ended next (from_ending cells) (leaf_here options cells h (LeafRow l))
+leaf-left options next l cells h true e =
+    ap
+    (λ (kept : HeldLeaf).
+    line_ended next (from_ending cells)
+    (record h {
+      events = h.events ++ (leaf l).adds options h.flags.leaf cells h.point;
+      point = line_end cells h.point;
+      flags = record h.flags { leaf = kept };
+    })) (sym (((laws l).shut e options h.flags.leaf).0 cells h.point))
+leaf-left options next l cells h false e = refl
 
 -- of leaves that are tried one after another, the first that takes the line has it; if none does, it is text
 leaves-are : (options : ParseOptions) (next : Rule) (ls : List LeafName) (cells : List Cell) (h : Here) →
     IsRest h.scratch →
     leaves_of options next ls cells h ≡
-    line_ended next (from_ending cells) (leaf_here options cells h (kind_of (taker options cells ls)))
+    line_ended next (from_ending cells) (leaf_here options cells h (kind_of (taker options h.flags.leaf cells ls)))
 leaves-are options next [] cells h is = ap (λ (o : Outcome). tried o (line_ended next) Refuses) (chunk-took cells h)
 leaves-are options next (l ∷ ls) cells h is =
-    go ((leaf l).takes options cells) refl (leaves-are options next ls cells h is)
+    go ((leaf l).takes options h.flags.leaf cells) refl (leaves-are options next ls cells h is)
   where
     onward : Outcome → Outcome
-    onward o = tried o (leaf_ended next) (λ s g. leaves_of options next ls cells (record h { scratch = s; flags = g }))
+    onward o =
+        tried o (behind_leaf (leaf l).ends next)
+        (λ s g. leaves_of options next ls cells (record h { scratch = s; flags = g }))
 
     Done : Option LeafName → Type 0
     Done o =
         leaves_of options next (l ∷ ls) cells h ≡
         line_ended next (from_ending cells) (leaf_here options cells h (kind_of o))
 
-    go : (x : Bool) → (leaf l).takes options cells ≡ x →
+    go : (x : Bool) → (leaf l).takes options h.flags.leaf cells ≡ x →
         leaves_of options next ls cells h ≡
-        line_ended next (from_ending cells) (leaf_here options cells h (kind_of (taker options cells ls))) →
-        Done (cond x (Some l) (taker options cells ls))
-    go true takes more = ap onward ((laws l).took options cells h is takes)
+        line_ended next (from_ending cells)
+        (leaf_here options cells h (kind_of (taker options h.flags.leaf cells ls))) →
+        Done (cond x (Some l) (taker options h.flags.leaf cells ls))
+    go true takes more =
+        ap onward ((laws l).took options cells h is takes) ∙ leaf-left options next l cells h (leaf l).ends refl
     go false takes more = ap onward ((laws l).refused options cells h is takes) ∙ more
 
 -- the rest of a line is what its kind says
 leaf-is : (options : ParseOptions) (next : Rule) (cells : List Cell) (h : Here) → IsRest h.scratch →
     leaf_of options next cells h ≡
-    line_ended next (from_ending cells) (leaf_here options cells h (row_kind options cells))
+    line_ended next (from_ending cells) (leaf_here options cells h (row_kind options h.flags.leaf cells))
 leaf-is options next cells h is = go (is_blank (line_bytes cells)) refl
   where
     onward : Outcome → Outcome
@@ -119,11 +156,12 @@ leaf-is options next cells h is = go (is_blank (line_bytes cells)) refl
     behind : RowKind → Outcome
     behind k = line_ended next (from_ending cells) (leaf_here options cells h k)
 
-    go : (x : Bool) → is_blank (line_bytes cells) ≡ x → leaf_of options next cells h ≡ behind (row_kind options cells)
-    go true e = ap onward (blank-took cells h e) ∙ ap behind (sym (kind-by options cells true e))
+    go : (x : Bool) → is_blank (line_bytes cells) ≡ x →
+        leaf_of options next cells h ≡ behind (row_kind options h.flags.leaf cells)
+    go true e = ap onward (blank-took cells h e) ∙ ap behind (sym (kind-by options h.flags.leaf cells true e))
     go false e =
         ap onward (blank-refused cells h e) ∙ leaves-are options next trials cells h is
-        ∙ ap behind (sym (kind-by options cells false e))
+        ∙ ap behind (sym (kind-by options h.flags.leaf cells false e))
 
 -- The containers that the tokenizer holds.
 
@@ -722,11 +760,11 @@ pub record Done (next : Rule) (options : ParseOptions) (front tail : List Event)
   pub events : new.events ≡
       front
       ++ (ends_of x.change.closes p
-      ++ (tail ++ (x.front ++ added_by options x.cells x.point (row_kind options x.cells))))
+      ++ (tail ++ (x.front ++ added_by options x.on x.cells x.point (row_kind options x.on x.cells))))
   pub point : new.point ≡ line_end x.cells x.point
   pub containers : AreOpen new.flags.containers (open_behind x.change)
-  pub leaf : new.flags.leaf ≡ leaf_behind (row_kind options x.cells)
-  pub blank : new.flags.blank ≡ blank_by (row_kind options x.cells) false
+  pub leaf : new.flags.leaf ≡ behind_held options x
+  pub blank : new.flags.blank ≡ blank_by (row_kind options x.on x.cells) false
 
 -- behind the containers that went on
 record Between (front tail : List Event) (p : Point) (cs : List Container) (still : HeldLeaf) (w : Front)
@@ -763,10 +801,41 @@ lazy-none held_leaf.Code k = refl
 lazy-none (held_leaf.Fence marker size indent) k = refl
 
 -- and such a line leaves a leaf that takes one
-lazy-behind : (k : RowKind) → takes_lazy (leaf_behind k) ≡ is_text k
-lazy-behind BlankRow = refl
-lazy-behind (LeafRow l) = refl
-lazy-behind TextRow = refl
+lazy-behind : (options : ParseOptions) (on : HeldLeaf) (cells : List Cell) (p : Point) (k : RowKind) →
+    takes_lazy (leaf_behind options on cells p k) ≡ is_text k
+lazy-behind options on cells p BlankRow = refl
+lazy-behind options on cells p (LeafRow l) = ((laws l).not_lazy options on).0 cells p
+lazy-behind options on cells p TextRow = refl
+
+-- Where no leaf is open, none is met.
+met-none : (all : Bool) → met_by all held_leaf.None ≡ held_leaf.None
+met-none true = refl
+met-none false = refl
+
+-- what the flags say that a line meets behind its containers, where none opens
+meets-is : (still : HeldLeaf) (went others : List Container) (g : Flags) → g.leaf ≡ still →
+    AreOpen g.containers (went ++ others) → g.continued ≡ length went →
+    (begun_line g).leaf ≡ met still others []
+meets-is still went others g leaf are continued =
+    ap₂ met_by (go others (open-length g.containers (went ++ others) are ∙ length-append went others)) leaf
+  where
+    go : (others : List Container) → length g.containers ≡ length went + length others →
+        not (nat_lt g.continued (length g.containers)) ≡ is_none others
+    go [] size =
+        let low : nat_lt g.continued (length g.containers) ≡ false = grind (arith, nat_tests) in ap not low
+    go (c ∷ cs) size =
+        let low : nat_lt g.continued (length g.containers) ≡ true = grind (arith, nat_tests) in ap not low
+
+-- behind the containers of a line, where it meets this leaf
+abbrev met_here : HeldLeaf → Here → Here
+met_here on h = record h { flags = record h.flags { leaf_before = h.flags.leaf; leaf = on } }
+
+begun-is : (options : ParseOptions) (next : Rule) (cells : List Cell) (h : Here) (on : HeldLeaf) → IsRest h.scratch →
+    (begun_line h.flags).leaf ≡ on →
+    behind_containers options next cells h ≡
+    line_ended next (from_ending cells) (leaf_here options cells (met_here on h) (row_kind options on cells))
+begun-is options next cells h on is meets =
+    ap (λ (x : HeldLeaf). leaf_of options next cells (met_here x h)) meets ∙ leaf-is options next cells (met_here on h) is
 
 -- those that stay, and those that end, are all that went on or did not
 change-parts : (x : Bool) (went others : List Container) → let c =
@@ -799,7 +868,7 @@ done-none : (options : ParseOptions) (next : Rule) (front tail : List Event) (p 
     (behind_containers options next cells h)
 done-none options next front tail p cs still w cells h b = record {
   new = ended_to keep leaf.flags.line_end leaf;
-  is = leaf-is options next cells (record h { flags = begun_line h.flags }) b.rest;
+  is = begun-is options next cells h on b.rest (meets-is still w.containers (others_of cs w.containers) h.flags b.leaf b.containers b.continued);
   rest = b.rest;
   events =
       closed-ends front tail
@@ -814,25 +883,28 @@ done-none options next front tail p cs still w cells h b = record {
   blank = ap (λ (x : Bool). blank_by k x) b.blank;
 }
   where
+    on : HeldLeaf
+    on = met still (others_of cs w.containers) []
+
     k : RowKind
-    k = row_kind options cells
+    k = row_kind options on cells
 
     added : List Event
-    added = added_by options cells h.point (row_kind options cells)
+    added = added_by options on cells h.point (row_kind options on cells)
 
     leaf : Here
-    leaf = leaf_here options cells (record h { flags = begun_line h.flags }) (row_kind options cells)
+    leaf = leaf_here options cells (met_here on h) (row_kind options on cells)
 
     keep : ℕ
     keep = stays leaf.flags
 
     c : Change
-    c = change_by (is_lazy still [] (row_kind options cells)) w.containers (others_of cs w.containers) []
+    c = change_by (is_lazy still [] (row_kind options on cells)) w.containers (others_of cs w.containers) []
 
     kept : keep ≡ length c.stays
     kept =
         ap₂ (λ (x : HeldLeaf) (y : Bool). cond (takes_lazy x && y) (length h.flags.containers) h.flags.continued) b.leaf
-        (lazy-behind k)
+        (lazy-behind options on cells h.point k)
         ∙ ap₂ (λ (x y : ℕ). cond (takes_lazy still && is_text k) x y)
         (open-length h.flags.containers (w.containers ++ others_of cs w.containers) b.containers) b.continued
         ∙ ap (λ (x : Bool). cond x (length (w.containers ++ others_of cs w.containers)) (length w.containers))
@@ -857,32 +929,36 @@ done-some : (options : ParseOptions) (next : Rule) (front tail : List Event) (p 
 done-some options next front tail p cs still w f t h out b o =
     subst P (sym (lazy-some still t.container f.containers k)) (record {
       new = ended_to keep leaf.flags.line_end leaf;
-      is = o.is ∙ leaf-is options next f.cells (record o.new { flags = begun_line o.new.flags }) o.rest;
+      is =
+          o.is
+          ∙ begun-is options next f.cells o.new held_leaf.None o.rest
+          (ap (met_by (not (nat_lt o.new.flags.continued (length o.new.flags.containers)))) o.leaf
+          ∙ met-none (not (nat_lt o.new.flags.continued (length o.new.flags.containers))));
       rest = o.rest;
       events = closed-none keep leaf.flags.line_end o.new.flags.containers leaf.events leaf.point (omega (arith, kept))
-          ∙ ap₂ (λ (es : List Event) (q : Point). es ++ added_by options f.cells q k)
+          ∙ ap₂ (λ (es : List Event) (q : Point). es ++ added_by options held_leaf.None f.cells q k)
           (o.events ∙ ap (λ (es : List Event). es ++ f.events) first) o.point
           ∙ regroup-line front (ends_of (others_of cs w.containers) p) tail w.events t.events f.events
-          (added_by options f.cells f.point k);
+          (added_by options held_leaf.None f.cells f.point k);
       point = ap (λ (q : Point). line_end f.cells q) o.point;
       containers =
           open-all keep o.new.flags.containers (w.containers ++ t.container ∷ f.containers) kept
           (subst Q (append_assoc w.containers (t.container ∷ []) f.containers) o.containers);
-      leaf = refl;
+      leaf = ap (λ (q : Point). leaf_behind options held_leaf.None f.cells q k) o.point;
       blank = ap (λ (x : Bool). blank_by k x) (o.blank ∙ b.blank);
     })
   where
     k : RowKind
-    k = row_kind options f.cells
+    k = row_kind options held_leaf.None f.cells
 
     P : Bool → Type 0
-    P lazy = Done next options front tail p (held_by cs lazy w (in_front t f)) out
+    P lazy = Done next options front tail p (held_by cs lazy held_leaf.None w (in_front t f)) out
 
     Q : List Container → Type 0
     Q l = AreOpen o.new.flags.containers l
 
     leaf : Here
-    leaf = leaf_here options f.cells (record o.new { flags = begun_line o.new.flags }) (row_kind options f.cells)
+    leaf = leaf_here options f.cells (met_here held_leaf.None o.new) (row_kind options held_leaf.None f.cells)
 
     keep : ℕ
     keep = stays leaf.flags
@@ -891,7 +967,7 @@ done-some options next front tail p cs still w f t h out b o =
     kept =
         ap
         (λ (x : HeldLeaf).
-        cond (takes_lazy x && takes_lazy (leaf_behind k)) (length o.new.flags.containers) o.new.flags.continued) o.leaf
+        cond (takes_lazy x && takes_lazy (leaf_behind options held_leaf.None f.cells o.new.point k)) (length o.new.flags.containers) o.new.flags.continued) o.leaf
         ∙ o.all
 
     ended : AreOpen (drop h.flags.continued h.flags.containers) (others_of cs w.containers)
@@ -1045,8 +1121,8 @@ line-done options next front tail p cs still cells h b =
 
 -- what a row says of its leaf is what is added
 leaf-added : (options : ParseOptions) (x : Held) (ls : List Container) (below : List Row) (k : RowKind) →
-    leaf_events k (record (row_of options x below) { leaves = ls; inside = inside_of options x.cells x.point k }) ≡
-    added_by options x.cells x.point k
+    leaf_events k (record (row_of options x below) { leaves = ls; inside = inside_of options x.on x.cells x.point k }) ≡
+    added_by options x.on x.cells x.point k
 leaf-added options x ls below BlankRow = refl
 leaf-added options x ls below (LeafRow l) = refl
 leaf-added options x ls below TextRow = refl
@@ -1171,7 +1247,7 @@ row-adds next options front tail p x o d ls left below more e =
     ∙ ap₂
     (λ (es : List Event) (name : Name). es ++ behind (from_ending x.cells) (line_end x.cells x.point) name) d.events
     (ap ending_name d.blank ∙ ending-named k)
-    ∙ regroup-row front (ends_of x.change.closes p) tail x.front (added_by options x.cells x.point k)
+    ∙ regroup-row front (ends_of x.change.closes p) tail x.front (added_by options x.on x.cells x.point k)
     (ends_of ls (line_end x.cells x.point))
     (ending_here (ending_of k) (line_end x.cells x.point) (from_ending x.cells)) more
     ∙ ap₂
@@ -1182,7 +1258,7 @@ row-adds next options front tail p x o d ls left below more e =
     (sym (leaf-added options x ls below k)) (ending-same (ending_of k) (line_end x.cells x.point) (from_ending x.cells))
   where
     k : RowKind
-    k = row_kind options x.cells
+    k = row_kind options x.on x.cells
 
     behind : List Cell → Point → Name → List Event
     behind cells q name = ends_of ls q ++ (ending_here name q cells ++ more)
@@ -1194,7 +1270,7 @@ unfolding flow_lines
 flow-adds options zero front tail p cs still cells h new rest fits b e = absurd (omega arith)
 flow-adds options (suc m) front tail p cs still cells h new rest fits b e =
     ended-adds options m (flow_lines options m) (flow-adds options m) (open_behind x.change)
-    (leaf_behind k) left d.new new rest
+    (behind_held options x) left d.new new rest
     (omega (arith, from_ending-shrinks x.cells, held-shorter options cs still cells h.point)) d.rest d.leaf d.containers
     (sym d.is ∙ e)
     ∙ row-adds (flow_lines options m) options front tail p x (line_then options (flow_lines options m) cells h) d
@@ -1207,14 +1283,11 @@ flow-adds options (suc m) front tail p cs still cells h new rest fits b e =
     x : Held
     x = held_at options cs still cells h.point
 
-    k : RowKind
-    k = row_kind options (held_at options cs still cells h.point).cells
-
     left : List Cell
     left = from_ending (held_at options cs still cells h.point).cells
 
     below : List Row
-    below = rows_below options m (open_behind x.change) (leaf_behind k) left
+    below = rows_below options m (open_behind x.change) (behind_held options x) left
 
 -- before the first line no container ends
 pub no-closes : (options : ParseOptions) (cells : List Cell) (p : Point) →

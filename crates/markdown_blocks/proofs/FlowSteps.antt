@@ -2,6 +2,7 @@
 -- matter whether it ran.
 use Rattle.md_engine.specs.declared.tokenizer.held_leaf.HeldLeaf.{HeldLeaf}
 use Rattle.std.proofs.Common.{◌≡◌, ◌≢◌, ℕ, zero, suc, Bool, true, false, cond, List, [], ◌∷◌, ◌++◌, length}
+use Rattle.markdown_blocks.specs.Rows.{behind_held}
 use Rattle.std.proofs.Common.{refl, ap, sym, ◌∙◌, subst, append-nil}
 use Rattle.std.specs.Prelude.{Option, Some, None}
 use Rattle.std.proofs.lemmas.Bool.{or_parts}
@@ -21,7 +22,7 @@ use Rattle.md_seam.specs.Substituted.{Readings, Substituted}
 use Rattle.markdown_blocks.proofs.ContainerNames.{is_front}
 use Rattle.markdown_blocks.specs.Change.{interrupts, open_behind, others_of}
 use Rattle.markdown_blocks.specs.FlowReads.{has_text}
-use Rattle.markdown_blocks.specs.Rows.{leaf_behind, BlankRow, Front, Held, Row, RowKind, TextRow, ending_of, held_at}
+use Rattle.markdown_blocks.specs.Rows.{BlankRow, Front, Held, Row, RowKind, TextRow, ending_of, held_at}
 use Rattle.markdown_blocks.specs.Rows.{in_front, inside_of, is_text, leaf_events, new_front, no_front, row_events}
 use Rattle.markdown_blocks.specs.Rows.{row_kind, rows_at, rows_by, rows_events, tail_events, went_front, LeafRow}
 use Rattle.markdown_blocks.proofs.EachEvent.{Each, each-behind, each-front, joined-each, each-append}
@@ -86,11 +87,11 @@ white-outside true p q = (refl, (refl, tt))
 white-outside false p q = tt
 
 -- where nothing ends in a line that a resolver rewrites, nothing begins
-inside-own : (options : ParseOptions) (cells : List Cell) (p : Point) (kind : RowKind) →
-    NoEnds is_own (inside_of options cells p kind) → AreOutside (inside_of options cells p kind)
-inside-own options cells p BlankRow h = white-outside (begins_white cells) p (line_end cells p)
-inside-own options cells p (LeafRow l) h = (laws l).own options cells p h
-inside-own options cells p TextRow h = tt
+inside-own : (options : ParseOptions) (on : HeldLeaf) (cells : List Cell) (p : Point) (kind : RowKind) →
+    NoEnds is_own (inside_of options on cells p kind) → AreOutside (inside_of options on cells p kind)
+inside-own options on cells p BlankRow h = white-outside (begins_white cells) p (line_end cells p)
+inside-own options on cells p (LeafRow l) h = (laws l).own options on cells p h
+inside-own options on cells p TextRow h = tt
 
 -- prefixes and begins of containers stand in front of a line, and in it begins nothing of a resolver that does not end
 -- there
@@ -106,12 +107,12 @@ rows_by-framed : (options : ParseOptions) (h : Held)
     EachRow IsFramed (further open_before still cells p)) →
     EachRow IsFramed (rows_by options h further)
 rows_by-framed options h further front each = (
-  record { front = front; own = inside-own options h.cells h.point (row_kind options h.cells) },
+  record { front = front; own = inside-own options h.on h.cells h.point (row_kind options h.on h.cells) },
   go (from_ending h.cells),
 )
   where
     still : HeldLeaf
-    still = leaf_behind (row_kind options h.cells)
+    still = behind_held options h
 
     go : (rest : List Cell) →
         EachRow IsFramed (elim rest [ [] ↦ [] | c ∷ cs ↦ further (open_behind h.change) still cs c.after ])

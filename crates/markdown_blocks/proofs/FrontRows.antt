@@ -2,6 +2,7 @@
 -- line, and what is left of it.
 use Rattle.md_engine.specs.declared.tokenizer.held_leaf.HeldLeaf.{HeldLeaf}
 use Rattle.std.proofs.Common.{◌≡◌, ℕ, zero, suc, ◌^◌, ◌<◌, ◌≤◌, Bool, true, false, List, [], ◌∷◌, ◌++◌, length, Option}
+use Rattle.markdown_blocks.specs.Change.{met}
 use Rattle.std.proofs.Common.{Some, None, refl, sym, ap, ap₂, ◌∙◌, subst, arith, append_assoc}
 use Rattle.md_engine.specs.declared.configuration.ParseOptions.{ParseOptions}
 use Rattle.md_engine.specs.declared.event.Event.{Event}
@@ -262,6 +263,7 @@ new-is options interrupting line text past (suc room) (suc size) r stop p built 
 pub record HasHeld (line : Line) (text past : List ℕ) (p end : Point) (stop cells : List Cell) (h : Held)
     (c : Contained) : Type 0 where
   pub change : h.change ≡ c.change
+  pub on : h.on ≡ c.on
   pub read : AreRead (open_behind h.change)
   pub fed : h.cells ≡ rest_cells line c.rest h.point ++ stop
   pub stands : RestAt text past c.rest h.point
@@ -276,11 +278,12 @@ read-behind true went others opens a b c = read-append (went ++ others) opens (r
 read-behind false went others opens a b c = read-append went opens a c
 
 held-by : (line : Line) (text past : List ℕ) (p end : Point) (stop cells : List Cell) (cs : List Container)
-    (lazy : Bool) (went new : Front) (on more : Prefixed) →
-    AreRead cs → HasWent line text past p end stop cells went on →
+    (lazy : Bool) (leaf kept : HeldLeaf) (went new : Front) (on more : Prefixed) →
+    AreRead cs → leaf ≡ kept → HasWent line text past p end stop cells went on →
     HasNew line text past went.point (past_rest on.rest went.point) stop went.cells new more →
-    HasHeld line text past p end stop cells (held_by cs lazy went new) (contained_by cs lazy on more)
-held-by line text past p end stop cells cs lazy went new on more read a b = record {
+    HasHeld line text past p end stop cells (held_by cs lazy leaf went new) (contained_by cs lazy kept on more)
+held-by line text past p end stop cells cs lazy leaf kept went new on more read same a b = record {
+  on = same;
   change = ap₂ (λ (w o : List Container). change_by lazy w (others_of cs w) o) a.front.containers b.front.containers;
   read =
       read-behind lazy went.containers (others_of cs went.containers) new.containers a.front.read
@@ -319,12 +322,16 @@ held-behind options line text past p end stop cells cs still went on built read 
     (omega (arith, le, size, short)) (omega arith) (omega arith)) in
     let shorter = opened.front.shorter in
     let few = ap length opened.front.fed in
-    let kind : row_kind options new.cells ≡ line_kind options more.rest =
-    ap (row_kind options) opened.front.fed
-    ∙ kind-rest options line text past more.rest new.point stop opened.front.stands opened.front.no_ending k
+    let leaf : HeldLeaf = met still (others_of cs went.containers) new.containers in
+    let kept : HeldLeaf = met still (others_of cs on.containers) more.containers in
+    let meets : leaf ≡ kept =
+    ap₂ (λ (w o : List Container). met still (others_of cs w) o) is.front.containers opened.front.containers in
+    let kind : row_kind options leaf new.cells ≡ line_kind options kept more.rest =
+    ap₂ (row_kind options) meets opened.front.fed
+    ∙ kind-rest options kept line text past more.rest new.point stop opened.front.stands opened.front.no_ending k
     (omega (arith, le, shorter, few, short)) in
-    let lazy : is_lazy still new.containers (row_kind options new.cells) ≡
-    is_lazy still more.containers (line_kind options more.rest) = ap₂
+    let lazy : is_lazy still new.containers (row_kind options leaf new.cells) ≡
+    is_lazy still more.containers (line_kind options kept more.rest) = ap₂
     (is_lazy still) opened.front.containers kind in
     let behind : contained_of options cs still on more ≡ contained_behind options cs still on =
     ap
@@ -333,9 +340,9 @@ held-behind options line text past p end stop cells cs still went on built read 
     (prefixes_new options (interrupts still (others_of cs w)) (length on.rest.bytes) on.rest)) is.front.containers in
     subst (HasHeld line text past p end stop cells (held_behind options cs still went)) behind
     (subst (λ (x : Bool). HasHeld line text past p end stop cells (held_behind options cs still went)
-    (contained_by cs x on more)) lazy
+    (contained_by cs x kept on more)) lazy
     (held-by line text past p end stop cells cs
-    (is_lazy still new.containers (row_kind options new.cells)) went new on more read is opened))
+    (is_lazy still new.containers (row_kind options leaf new.cells)) leaf kept went new on more read meets is opened))
 
 -- which containers go on and open on a line, what stands in front of it, and what is left of it
 pub held-is : (options : ParseOptions) (line : Line) (text past : List ℕ) (cs : List Container) (still : HeldLeaf)

@@ -1,5 +1,6 @@
 -- Flow stands and ends in any table that has it.
 use Rattle.std.proofs.Common.{◌≡◌, ℕ, ◌<◌, Bool, true, false, nat_eq, Option, Some, None, length, refl, arith}
+use Rattle.markdown_blocks.specs.Flow.{leaf_end}
 use Rattle.md_engine.specs.declared.state.Name.{Name as StateName}
 use Rattle.md_engine.specs.declared.state.Name.TheVariants as n
 use Rattle.md_engine.specs.declared.state.document.State.TheVariants as document
@@ -42,7 +43,7 @@ pub record LeafFits (T : Scheme) (l : LeafName) : Type 1 where
   pub next : Fits T flow_scheme (n.Flow (next_of l))
   pub falls : (flow_scheme.tries (n.Flow (next_of l))).number < (flow_rank (n.Flow (leaf l).before)).number
   pub next_low : (flow_rank (n.Flow (next_of l))).number < (flow_scheme.tries (n.Flow (next_of l))).number
-  pub behind_low : (flow_rank (n.Flow flow.LeafAfter)).number < (flow_scheme.tries (n.Flow (next_of l))).number
+  pub behind_low : 1 < (flow_scheme.tries (n.Flow (next_of l))).number
 
 -- what is known of the spot where a container is tried, and of the one where an open one is asked: there the line does
 -- not end
@@ -216,6 +217,15 @@ good_blank_line_before T w false has inner r =
       refl,
     )
 
+-- where one goes on behind a leaf
+ends-fit : (T : Scheme) → FlowFits T → (ends : Bool) → Fits T flow_scheme (n.Flow (leaf_end ends))
+ends-fit T has true = has.behind_leaf
+ends-fit T has false = has.behind
+
+ends-low : {size : ℕ} (ends : Bool) → 1 < size → (flow_rank (n.Flow (leaf_end ends))).number < size
+ends-low true low = low
+ends-low false low = low
+
 -- in front of a leaf
 pub good_before : (T : Scheme) (l : LeafName) (w : World) → FlowFits T → LeafFits T l →
     flow_ready (spot w) (after_all T w.frames) →
@@ -225,9 +235,9 @@ good_before T l w has inner r =
     let b = inner.next_low in
     looked T _ _ _ _ w w.flags (may_with (leaf l).may_begin (looks_behind w)) inner.front inner.next r (omega (arith, a, b)) (
       begins_try T flow_scheme inner.own (n.Flow (leaf l).before) (leaf l).start w IsRest IsRest
-          w.events w.scratch _ inner.front inner.starts has.behind_leaf inner.next refl
-          (flow_tries (n.Flow flow.LeafAfter) (n.Flow (next_of l)) w
-          (after_all T w.frames) r inner.behind_low inner.next_low (λ x. refl) (λ x. refl))
+          w.events w.scratch _ inner.front inner.starts (ends-fit T has (leaf l).ends) inner.next refl
+          (flow_tries (n.Flow (leaf_end (leaf l).ends)) (n.Flow (next_of l)) w
+          (after_all T w.frames) r (ends-low (leaf l).ends inner.behind_low) inner.next_low (λ x. refl) (λ x. refl))
           (λ K e. inner.ready _ K (r.0.0, e)) inner.level (omega arith) inner.falls,
       refl,
     )

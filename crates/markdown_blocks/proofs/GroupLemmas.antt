@@ -31,7 +31,7 @@ use Rattle.markdown_blocks.specs.Change.{ends_of}
 use Rattle.markdown_blocks.specs.Change as change
 use Rattle.markdown_blocks.specs.Registry.{container_name, first_of, leaf as line_leaf, LeafName, resolved, text_leaf}
 use Rattle.markdown_blocks.specs.Registry.{trials}
-use Rattle.markdown_blocks.specs.Rows.{leaf_behind, BlankRow, Group, LeafRow, Lines, Row, RowKind, Single, TextRow}
+use Rattle.markdown_blocks.specs.Rows.{BlankRow, Group, LeafRow, Lines, Row, RowKind, Single, TextRow}
 use Rattle.markdown_blocks.specs.Rows.{behind_row, blank_line, chunks_of, ending_events, ending_of, goes_on}
 use Rattle.markdown_blocks.specs.Rows.{group_events, groups, groups_events, kind_of, last_row, leaf_done}
 use Rattle.markdown_blocks.specs.Rows.{leaf_events, leaf_unread, line_kind, onto_groups, read_lines, row_events}
@@ -201,7 +201,7 @@ groups-are options bytes open_before still p (line ∷ []) (row ∷ below ∷ ro
 groups-are options bytes open_before still p (line ∷ next ∷ lines) (row ∷ []) h k = absurd h
 groups-are options bytes open_before still p (line ∷ next ∷ lines) (row ∷ below ∷ rows) h k =
     let open_next = behind_line options open_before still p line in
-    let still_next = leaf_behind row.kind in
+    let still_next = row.behind in
     onto-are options bytes (rest_line (contained options open_before still (rest_from p line)).rest) p row h.2
     (groups (below ∷ rows)) (line-begun options bytes open_before still p line row h.0 k.0) h.3 h.4
     (onto-front bytes h.2 below below.kind (groups rows)
@@ -219,7 +219,7 @@ rows-end options bytes open_before still p (line ∷ []) (row ∷ below ∷ rows
 rows-end options bytes open_before still p (line ∷ next ∷ lines) (row ∷ below ∷ rows) h = (
   h.2,
   h.3,
-  rows-end options bytes (behind_line options open_before still p line) (leaf_behind row.kind) h.2 (next ∷ lines)
+  rows-end options bytes (behind_line options open_before still p line) row.behind h.2 (next ∷ lines)
       (below ∷ rows) h.5,
 )
 
@@ -234,7 +234,7 @@ rows-front options bytes open_before still p (line ∷ next ∷ lines) (row ∷ 
 rows-front options bytes open_before still p (line ∷ []) (row ∷ below ∷ rows) h = absurd h
 rows-front options bytes open_before still p (line ∷ next ∷ lines) (row ∷ below ∷ rows) h = (
   (p, h.0.front),
-  rows-front options bytes (behind_line options open_before still p line) (leaf_behind row.kind) h.2
+  rows-front options bytes (behind_line options open_before still p line) row.behind h.2
       (next ∷ lines) (below ∷ rows) h.5,
 )
 
@@ -249,23 +249,23 @@ row-line options bytes line row is =
 -- The chunks of a text are lines.
 
 -- a line of text is not empty
-rest-some : (options : ParseOptions) (r : LineRest) (bytes : List ℕ) → r.bytes ≡ bytes → line_kind options r ≡ TextRow →
-    0 < length bytes
-rest-some options r [] e h =
+rest-some : (options : ParseOptions) (on : HeldLeaf) (r : LineRest) (bytes : List ℕ) → r.bytes ≡ bytes →
+    line_kind options on r ≡ TextRow → 0 < length bytes
+rest-some options on r [] e h =
     let blank : BlankRow ≡
     TextRow = sym
     (ap
     (λ (l : List ℕ).
-    cond (is_blank l) BlankRow (kind_of (first_of (λ (l : LeafName). (line_leaf l).starts options r) trials))) e)
+    cond (is_blank l) BlankRow (kind_of (first_of (λ (l : LeafName). (line_leaf l).starts options on r) trials))) e)
     ∙ h in
     cc
-rest-some options r (b ∷ bs) e h = omega arith
+rest-some options on r (b ∷ bs) e h = omega arith
 
 pub text-some : (options : ParseOptions) (bytes line : List ℕ) (row : Row) → IsRow options bytes line row →
     row.kind ≡ TextRow → 0 < length line
 text-some options bytes line row is text =
     let r : LineRest = is.rest in
-    let some = rest-some options r r.bytes refl (sym is.kind ∙ text) in
+    let some = rest-some options row.on r r.bytes refl (sym is.kind ∙ text) in
     let size = ap length is.line_is ∙ length-append (cut_tab r.spaces) r.bytes in
     omega arith
 
@@ -537,8 +537,8 @@ single-set options bytes row es is kind e =
         outside-passes row.inside es (subst AreOutside (sym (is.is.blank e)) (blank-outside is.line row.first))
     leaf (LeafRow l) e es =
         ap (λ (added : List Event). resolved (added ++ es))
-        (is.is.leaf_is l e ∙ ap (λ (line : List ℕ). (line_leaf l).added line row.first) is.is.line_is)
-        ∙ (laws l).set options is.is.rest row.first es (kind-starts options is.is.rest l (sym is.is.kind ∙ e))
+        (is.is.leaf_is l e ∙ ap (λ (line : List ℕ). (line_leaf l).added options row.on line row.first) is.is.line_is)
+        ∙ (laws l).set options row.on is.is.rest row.first es (kind-starts options row.on is.is.rest l (sym is.is.kind ∙ e))
         ∙ ap (λ (line : List ℕ). (line_leaf l).unread line row.first ++ resolved es)
         (sym is.is.line_is ∙ sym is.is.text)
     leaf TextRow e es = absurd (is.other e)

@@ -1,6 +1,7 @@
 -- Lines of text that follow one another, joined.
 use Rattle.md_engine.specs.declared.tokenizer.held_leaf.HeldLeaf.{HeldLeaf}
 use Rattle.std.proofs.Common.{◌≡◌, ◌≢◌, ℕ, zero, suc, Bool, true, false, cond, ◌&&◌, List, [], ◌∷◌, ◌++◌, refl, ap, sym}
+use Rattle.markdown_blocks.specs.Rows.{behind_held}
 use Rattle.std.proofs.Common.{◌∙◌, subst, append_assoc}
 use Rattle.std.specs.Prelude.{Option, Some, None}
 use Rattle.std.proofs.lemmas.Bool.{and_right}
@@ -51,11 +52,11 @@ white-no_content wants true p q = (refl, refl, (refl, refl, tt))
 white-no_content wants false p q = tt
 
 inside-no_content : (wants : Content → Bool) → wants content.Text ≡ false →
-    (options : ParseOptions) (cells : List Cell) (p : Point) (kind : RowKind) →
-    NoContent wants (inside_of options cells p kind)
-inside-no_content wants w options cells p BlankRow = white-no_content wants (begins_white cells) p (line_end cells p)
-inside-no_content wants w options cells p (LeafRow l) = (laws l).no_content wants w options cells p
-inside-no_content wants w options cells p TextRow = tt
+    (options : ParseOptions) (on : HeldLeaf) (cells : List Cell) (p : Point) (kind : RowKind) →
+    NoContent wants (inside_of options on cells p kind)
+inside-no_content wants w options on cells p BlankRow = white-no_content wants (begins_white cells) p (line_end cells p)
+inside-no_content wants w options on cells p (LeafRow l) = (laws l).no_content wants w options on cells p
+inside-no_content wants w options on cells p TextRow = tt
 
 -- no content stands inside the lines that flow reads
 pub rows_at-no_content : (options : ParseOptions) (size : ℕ) (open_before : List Container) (still : HeldLeaf)
@@ -70,7 +71,7 @@ rows_at-no_content options (suc size) open_before still cells p =
         (h : Held) → EachNoContent (rows_by options h (rows_at options size))
     by further h = (
       λ wants w.
-          inside-no_content wants w options h.cells h.point (row_kind options h.cells),
+          inside-no_content wants w options h.on h.cells h.point (row_kind options h.on h.cells),
       go (from_ending h.cells),
     )
       where
@@ -78,10 +79,10 @@ rows_at-no_content options (suc size) open_before still cells p =
             EachNoContent
             (elim rest [
               | [] ↦ []
-              | c ∷ cs ↦ rows_at options size (open_behind h.change) (leaf_behind (row_kind options h.cells)) cs c.after
+              | c ∷ cs ↦ rows_at options size (open_behind h.change) (behind_held options h) cs c.after
             ])
         go [] = tt
-        go (c ∷ cs) = further (open_behind h.change) (leaf_behind (row_kind options h.cells)) cs c.after
+        go (c ∷ cs) = further (open_behind h.change) (behind_held options h) cs c.after
 
 -- Their events.
 

@@ -1,6 +1,7 @@
 -- What a line is by its kind, whichever leaves there are.
 use Rattle.std.proofs.Common.{◌≡◌, Bool, true, false, cond, List, [], ◌∷◌, Option, Some, None, refl, ap₂}
 use Rattle.md_engine.specs.declared.configuration.ParseOptions.{ParseOptions}
+use Rattle.md_engine.specs.declared.tokenizer.held_leaf.HeldLeaf.{HeldLeaf}
 use Rattle.md_definition.specs.Rest.{Rest, is_blank}
 use Rattle.markdown_blocks.specs.Registry.{LeafName, first_of, leaf, trials}
 use Rattle.markdown_blocks.specs.Rows.{BlankRow, LeafRow, kind_of, line_kind}
@@ -40,11 +41,12 @@ kind-found false None l e = cc
 kind-found false (Some k) l e = cc
 
 -- so the line is blank, or its leaf starts there
-pub kind-blank : (options : ParseOptions) (r : Rest) → line_kind options r ≡ BlankRow → is_blank r.bytes ≡ true
-kind-blank options r e = kind-is_blank (is_blank r.bytes) (first_of (λ l. (leaf l).starts options r) trials) e
+pub kind-blank : (options : ParseOptions) (on : HeldLeaf) (r : Rest) → line_kind options on r ≡ BlankRow →
+    is_blank r.bytes ≡ true
+kind-blank options on r e = kind-is_blank (is_blank r.bytes) (first_of (λ l. (leaf l).starts options on r) trials) e
 
-pub kind-starts : (options : ParseOptions) (r : Rest) (l : LeafName) → line_kind options r ≡ LeafRow l →
-    (leaf l).starts options r ≡ true
-kind-starts options r l e =
-    let found : Option LeafName = first_of (λ k. (leaf k).starts options r) trials in
-    first-passes (λ k. (leaf k).starts options r) trials l (kind-found (is_blank r.bytes) found l e)
+pub kind-starts : (options : ParseOptions) (on : HeldLeaf) (r : Rest) (l : LeafName) →
+    line_kind options on r ≡ LeafRow l → (leaf l).starts options on r ≡ true
+kind-starts options on r l e =
+    let found : Option LeafName = first_of (λ k. (leaf k).starts options on r) trials in
+    first-passes (λ k. (leaf k).starts options on r) trials l (kind-found (is_blank r.bytes) found l e)

@@ -1,5 +1,6 @@
 -- The laws of a leaf on one line: what the frame asks of each (`LineLeaf`), and of the registry.
 use Rattle.std.proofs.Common.{◌≡◌, ℕ, ◌^◌, ◌<◌, ◌≤◌, Bool, true, false, cond, List, ◌++◌, length}
+use Rattle.markdown_blocks.specs.HeldLeaf.{takes_lazy}
 use Rattle.std.specs.Prelude.{Some}
 use Rattle.md_engine.specs.declared.configuration.ParseOptions.{ParseOptions}
 use Rattle.md_engine.specs.declared.event.Content.{Content}
@@ -7,6 +8,8 @@ use Rattle.md_engine.specs.declared.event.Content.TheVariants as content
 use Rattle.md_engine.specs.declared.event.Event.{Event}
 use Rattle.md_engine.specs.declared.event.Point.{Point}
 use Rattle.md_engine.specs.declared.tokenizer.Line.{Line}
+use Rattle.md_engine.specs.declared.tokenizer.held_leaf.HeldLeaf.{HeldLeaf}
+use Rattle.md_engine.specs.declared.tokenizer.held_leaf.HeldLeaf.TheVariants as held_leaf
 use Rattle.md_engine.specs.Meaning.{Accepts, Cell, Fails, Here, Outcome, Refuses}
 use Rattle.md_seam.specs.Ahead.{from_ending, line_end}
 use Rattle.md_seam.specs.Look.{seen_behind}
@@ -24,10 +27,21 @@ use Rattle.markdown_blocks.proofs.SubstitutedLemmas.{Becomes}
 use Rattle.md_seam.specs.Substituted.{Readings}
 use Rattle.markdown_blocks.proofs.ContentFacts.{NoContent}
 
+-- what its trial leaves open: one that always ends on its line leaves that to flow, and all as it was
+abbrev pub left_open : Bool → HeldLeaf → HeldLeaf → HeldLeaf
+left_open true kept leaf = leaf
+left_open false kept leaf = kept
+
 -- a line that ends with what was added
-abbrev pub whole_line : List Event → List Cell → Here → Outcome
-whole_line added cells h =
-    Accepts (record h { events = h.events ++ added; point = line_end cells h.point }) (from_ending cells)
+abbrev pub whole_line : List Event → HeldLeaf → List Cell → Here → Outcome
+whole_line added held cells h =
+    Accepts
+    (record h {
+      events = h.events ++ added;
+      point = line_end cells h.point;
+      flags = record h.flags { leaf = held };
+    })
+    (from_ending cells)
 
 -- a line is taken or refused; what is left of one that is taken is no longer than what there was, and begins with an
 -- ending
@@ -43,37 +57,58 @@ cond-shrinks n false a b p q = q
 
 pub record LeafLaws (l : LineLeaf) : Type 1 where
   -- It takes no line where what it may not begin with stands first behind whitespace.
-  pub looked : (options : ParseOptions) (cells : List Cell) (b : ℕ) → seen_behind cells ≡ Some b →
-      l.may_begin b ≡ false → l.takes options cells ≡ false
+  pub looked : (options : ParseOptions) (on : HeldLeaf) (cells : List Cell) (b : ℕ) → seen_behind cells ≡ Some b →
+      l.may_begin b ≡ false → l.takes options on cells ≡ false
   -- Its trial takes a line to its end, or refuses it and leaves all as it was.
-  pub took : (options : ParseOptions) (cells : List Cell) (h : Here) → IsRest h.scratch → l.takes options cells ≡ true →
-      l.trial options cells h ≡ whole_line (l.adds options cells h.point) cells h
+  pub took : (options : ParseOptions) (cells : List Cell) (h : Here) → IsRest h.scratch →
+      l.takes options h.flags.leaf cells ≡ true →
+      l.trial options cells h ≡
+      whole_line (l.adds options h.flags.leaf cells h.point)
+      (left_open l.ends (l.keeps options h.flags.leaf cells h.point) h.flags.leaf) cells h
   pub refused : (options : ParseOptions) (cells : List Cell) (h : Here) → IsRest h.scratch →
-      l.takes options cells ≡ false → l.trial options cells h ≡ Refuses h.scratch h.flags
+      l.takes options h.flags.leaf cells ≡ false → l.trial options cells h ≡ Refuses h.scratch h.flags
   pub shrinks : (options : ParseOptions) (cells : List Cell) (h : Here) →
       Shrinks (length cells) (l.trial options cells h)
   -- It takes the lines that the line definition says, and adds what it says of their bytes.
-  pub fits : (options : ParseOptions) (said : Line) (text behind : List ℕ) (r : Rest) (p : Point) (stop : List Cell) →
-      RestAt text behind r p → NoEnding r.bytes → Stops stop → length (rest_cells said r p ++ stop) < 2 ^ 63 →
-      l.takes options (rest_cells said r p ++ stop) ≡ l.starts options r
-  pub adds_is : (options : ParseOptions) (said : Line) (text behind : List ℕ) (r : Rest) (p : Point)
+  pub fits : (options : ParseOptions) (on : HeldLeaf) (said : Line) (text behind : List ℕ) (r : Rest) (p : Point)
       (stop : List Cell) →
       RestAt text behind r p → NoEnding r.bytes → Stops stop → length (rest_cells said r p ++ stop) < 2 ^ 63 →
-      l.starts options r ≡ true → l.adds options (rest_cells said r p ++ stop) p ≡ l.added (rest_line r) p
+      l.takes options on (rest_cells said r p ++ stop) ≡ l.starts options on r
+  pub adds_is : (options : ParseOptions) (on : HeldLeaf) (said : Line) (text behind : List ℕ) (r : Rest) (p : Point)
+      (stop : List Cell) →
+      RestAt text behind r p → NoEnding r.bytes → Stops stop → length (rest_cells said r p ++ stop) < 2 ^ 63 →
+      l.starts options on r ≡ true →
+      l.adds options on (rest_cells said r p ++ stop) p ≡ l.added options on (rest_line r) p
+  -- What is held behind it is what the line definition has there; nothing, where it always ends on its line.
+  pub keeps_is : (options : ParseOptions) (on : HeldLeaf) (said : Line) (text behind : List ℕ) (r : Rest) (p : Point)
+      (stop : List Cell) →
+      RestAt text behind r p → NoEnding r.bytes → Stops stop → length (rest_cells said r p ++ stop) < 2 ^ 63 →
+      l.starts options on r ≡ true → l.keeps options on (rest_cells said r p ++ stop) p ≡ l.holds options on r
+  pub shut : l.ends ≡ true → (options : ParseOptions) (on : HeldLeaf) →
+      ((cells : List Cell) (p : Point) → l.keeps options on cells p ≡ held_leaf.None)
+      × ((r : Rest) → l.holds options on r ≡ held_leaf.None)
+  -- No line goes on it lazily.
+  pub not_lazy : (options : ParseOptions) (on : HeldLeaf) →
+      ((cells : List Cell) (p : Point) → takes_lazy (l.keeps options on cells p) ≡ false)
+      × ((r : Rest) → takes_lazy (l.holds options on r) ≡ false)
   -- No content stands in what it adds, and its links are to text.
   pub no_content : (wants : Content → Bool) → wants content.Text ≡ false →
-      (options : ParseOptions) (cells : List Cell) (p : Point) → NoContent wants (l.adds options cells p)
+      (options : ParseOptions) (on : HeldLeaf) (cells : List Cell) (p : Point) →
+      NoContent wants (l.adds options on cells p)
   -- Where no part ends in what it adds that a resolver rewrites, so that none is registered, none begins there.
-  pub own : (options : ParseOptions) (cells : List Cell) (p : Point) → NoEnds is_own (l.adds options cells p) →
-      AreOutside (l.adds options cells p)
+  pub own : (options : ParseOptions) (on : HeldLeaf) (cells : List Cell) (p : Point) →
+      NoEnds is_own (l.adds options on cells p) → AreOutside (l.adds options on cells p)
   -- Resolvers set what is its own.
-  pub set : (options : ParseOptions) (r : Rest) (p : Point) (es : List Event) → l.starts options r ≡ true →
-      resolved (l.added (rest_line r) p ++ es) ≡ l.unread (rest_line r) p ++ resolved es
+  pub set : (options : ParseOptions) (on : HeldLeaf) (r : Rest) (p : Point) (es : List Event) →
+      l.starts options on r ≡ true →
+      resolved (l.added options on (rest_line r) p ++ es) ≡ l.unread (rest_line r) p ++ resolved es
   -- Its events are known, and show its block.
-  pub facts : (options : ParseOptions) (bytes : List ℕ) (r : Rest) (p q : Point) → l.starts options r ≡ true →
+  pub facts : (options : ParseOptions) (on : HeldLeaf) (bytes : List ℕ) (r : Rest) (p q : Point) →
+      l.starts options on r ≡ true →
       LineAt bytes r (rest_line r) p q →
       LeafFacts bytes (Some (l.block r)) p q (l.unread (rest_line r) p) (l.done bytes (rest_line r) p)
-  pub becomes : (options : ParseOptions) (bytes : List ℕ) (r : Rest) (p q : Point) → l.starts options r ≡ true →
+  pub becomes : (options : ParseOptions) (on : HeldLeaf) (bytes : List ℕ) (r : Rest) (p q : Point) →
+      l.starts options on r ≡ true →
       LineAt bytes r (rest_line r) p q →
       (wants : Content → Bool) (reads : Readings) → wants content.Text ≡ true → ReadsText bytes reads →
       Becomes wants reads (l.unread (rest_line r) p) (l.done bytes (rest_line r) p)

@@ -20,18 +20,18 @@ use Rattle.md_definition.specs.Tree.{Blocks, End}
 use Rattle.md_definition.proofs.ColumnLemmas.{opened_by, step_by}
 use Rattle.md_definition.proofs.ContainerLemmas.{opens-leaves}
 use Rattle.md_definition.proofs.TakenLemmas.{LeavesFewer}
-use Rattle.markdown_blocks.specs.Change.{Change, change_by, interrupts, is_none, open_behind, others_of}
+use Rattle.markdown_blocks.specs.Change.{Change, change_by, interrupts, is_none, met, open_behind, others_of}
 use Rattle.markdown_blocks.specs.Fronted.{Contained, Prefixed, contained, no_prefix, one_more, prefixes_new}
 use Rattle.markdown_blocks.specs.Fronted.{prefixes_on}
 use Rattle.markdown_blocks.specs.Parsed.{IsBuilt}
 use Rattle.markdown_blocks.specs.Registry.{LeafName, leaf, text_leaf}
-use Rattle.markdown_blocks.specs.Rows.{leaf_behind, BlankRow, LeafRow, RowKind, TextRow, is_lazy, is_text, kind_of}
+use Rattle.markdown_blocks.specs.Rows.{BlankRow, LeafRow, RowKind, TextRow, is_lazy, is_text, kind_of, line_behind}
 use Rattle.markdown_blocks.specs.Rows.{line_kind}
-use Rattle.markdown_blocks.specs.HeldLeaf.{IsBuiltLeaf, kind_of_leaf}
+use Rattle.markdown_blocks.specs.HeldLeaf.{IsBuiltLeaf, kind_of_leaf, met_by}
 use Rattle.markdown_blocks.specs.Stands.{IsPlain, containers_of, still_of}
 use Rattle.markdown_blocks.specs.Leaf.Paragraph.{held_of}
 use Rattle.markdown_blocks.proofs.ContainedLemmas.{change-opens, contained-size, lazy-opens, lazy-some}
-use Rattle.markdown_blocks.proofs.Registry.{came_of, leaf_at, text-laws}
+use Rattle.markdown_blocks.proofs.Registry.{came_of, laws, leaf-ends, leaf_at, text-laws}
 use Rattle.markdown_blocks.proofs.RegistryFound.{starts-found, table-off, underline-off}
 
 -- Lines, one after another.
@@ -44,9 +44,10 @@ spot_by bs held r TextRow = with_line bs held r
 
 -- a line where nothing is open
 pub fresh-found : (options : ParseOptions) (bs : Blocks) (r : Rest) → IsBuilt options →
-    fresh_line options bs r ≡ spot_by bs [] r (line_kind options r)
+    fresh_line options bs r ≡ spot_by bs [] r (line_kind options held_leaf.None r)
 unfolding fresh_line
-fresh-found options bs r built = rw (starts-found options NoText r built) (go (is_blank r.bytes) (leaf_at options r))
+fresh-found options bs r built =
+    rw (starts-found options held_leaf.None NoText r built) (go (is_blank r.bytes) (leaf_at options held_leaf.None r))
   where
     go : (x : Bool) (o : Option LeafName) →
         cond x (spot_of bs) (fresh_by bs r (came_of r o)) ≡ spot_by bs [] r (cond x BlankRow (kind_of o))
@@ -56,15 +57,15 @@ fresh-found options bs r built = rw (starts-found options NoText r built) (go (i
 
 -- a line where text is open
 text-found : (options : ParseOptions) (bs : Blocks) (lines : List Kept) (k : Kept) (r : Rest) → IsBuilt options →
-    text_line options bs (k ∷ lines) r ≡ spot_by bs (k ∷ lines) r (line_kind options r)
+    text_line options bs (k ∷ lines) r ≡ spot_by bs (k ∷ lines) r (line_kind options held_leaf.Text r)
 unfolding text_line
 text-found options bs lines k r built =
     rw (
       underline-off options r built,
-      starts-found options Text r built,
+      starts-found options held_leaf.Text Text r built,
       text-laws.shut options bs (k ∷ lines) built.definition,
     )
-    (go (is_blank r.bytes) (leaf_at options r))
+    (go (is_blank r.bytes) (leaf_at options held_leaf.Text r))
   where
     go : (x : Bool) (o : Option LeafName) →
         cond x (spot_of (text_leaf.behind bs (texts (k ∷ lines)))) (text_by options bs (k ∷ lines) r (came_of r o)) ≡
@@ -158,18 +159,19 @@ abbrev pub behind_path : Path → (Blocks → Path) → Path
 behind_path (At s) f = f s.here
 behind_path (Within before container p) f = Within before container (behind_path p f)
 
--- these new containers, and in the innermost a line where nothing is open
-abbrev pub new_line : ParseOptions → List Container → Rest → Blocks → Path
-new_line options [] r bs = At (fresh_line options bs r)
-new_line options (c ∷ cs) r bs = Within bs c (new_line options cs r End)
+-- these new containers, and in the innermost a line of its kind, where it meets this leaf
+abbrev pub new_line : ParseOptions → HeldLeaf → List Container → Rest → Blocks → Path
+new_line options on [] r bs = At (spot_by bs [] r (line_kind options on r))
+new_line options on (c ∷ cs) r bs = Within bs c (new_line options on cs r End)
 
 -- What a line does where these containers went on, and these open on it: it goes on the open text, and all containers
 -- stay, or all else is closed, and it begins in the new ones.
 abbrev pub stepped : ParseOptions → Path → List Container → Prefixed → Path
 stepped options p went new =
-    cond (is_lazy (still_of p) new.containers (line_kind options new.rest))
+    let on = met (still_of p) (others_of (containers_of p) went) new.containers in
+    cond (is_lazy (still_of p) new.containers (line_kind options on new.rest))
     (longer (renewed (went ++ others_of (containers_of p) went) p) (kept new.rest ∷ []))
-    (behind_path (kept_to options went p) (new_line options new.containers new.rest))
+    (behind_path (kept_to options went p) (new_line options on new.containers new.rest))
 
 renewed-same : (p : Path) → renewed (containers_of p) p ≡ p
 renewed-same (At s) = refl
@@ -182,33 +184,36 @@ renewed-spot (c ∷ cs) (Within before container p) = renewed-spot cs p
 
 stepped-more : (options : ParseOptions) (p : Path) (went : List Container) (c : Container) (new : Prefixed) →
     stepped options p went (one_more c new) ≡
-    behind_path (kept_to options went p) (new_line options (c ∷ new.containers) new.rest)
+    behind_path (kept_to options went p) (new_line options held_leaf.None (c ∷ new.containers) new.rest)
 stepped-more options p went c new =
     ap
     (λ (x : Bool).
     cond x (longer (renewed (went ++ others_of (containers_of p) went) p) (kept new.rest ∷ []))
-    (behind_path (kept_to options went p) (new_line options (c ∷ new.containers) new.rest)))
-    (lazy-some (still_of p) c new.containers (line_kind options new.rest))
+    (behind_path (kept_to options went p) (new_line options held_leaf.None (c ∷ new.containers) new.rest)))
+    (lazy-some (still_of p) c new.containers (line_kind options held_leaf.None new.rest))
 
 -- the containers that open in a new one
-opened-new : (options : ParseOptions) (n : ℕ) (r : Rest) →
+opened-new : (options : ParseOptions) (n : ℕ) (r : Rest) → IsBuilt options →
     opened options n r ≡
-    new_line options (prefixes_new options false n r).containers (prefixes_new options false n r).rest End
-opened-new options zero r = refl
-opened-new options (suc n) r = go (opened-new options n) (opens options false r)
+    new_line options held_leaf.None (prefixes_new options false n r).containers (prefixes_new options false n r).rest End
+opened-new options zero r built = ap At (fresh-found options End r built)
+opened-new options (suc n) r built = go (λ s. opened-new options n s built) (opens options false r)
   where
     go : ((s : Rest) →
         opened options n s ≡
-        new_line options (prefixes_new options false n s).containers (prefixes_new options false n s).rest End) →
+        new_line options held_leaf.None (prefixes_new options false n s).containers
+        (prefixes_new options false n s).rest End) →
         (o : Option Taken) →
-        opened_by options n r o ≡ new_line options (new_by options n r o).containers (new_by options n r o).rest End
-    go below None = refl
+        opened_by options n r o ≡
+        new_line options held_leaf.None (new_by options n r o).containers (new_by options n r o).rest End
+    go below None = ap At (fresh-found options End r built)
     go below (Some t) = ap (Within End t.container) (below t.rest)
 
-entered-new : (options : ParseOptions) (bs : Blocks) (t : Taken) →
+entered-new : (options : ParseOptions) (bs : Blocks) (t : Taken) → IsBuilt options →
     entered options bs t ≡
-    new_line options (t.container ∷ (all_new options false t.rest).containers) (all_new options false t.rest).rest bs
-entered-new options bs t = ap (Within bs t.container) (opened-new options (length t.rest.bytes) t.rest)
+    new_line options held_leaf.None (t.container ∷ (all_new options false t.rest).containers)
+    (all_new options false t.rest).rest bs
+entered-new options bs t built = ap (Within bs t.container) (opened-new options (length t.rest.bytes) t.rest built)
 
 -- One line.
 
@@ -220,7 +225,8 @@ leaf-stepped options bs leaf r built plain =
     text-laws.cases
     (λ (leaf : Leaf).
     At (leaf_line options (record { here = bs; leaf = leaf }) r) ≡
-    stepped options (At (record { here = bs; leaf = leaf })) [] (no_prefix r)) refl text leaf plain
+    stepped options (At (record { here = bs; leaf = leaf })) [] (no_prefix r)) (ap At (fresh-found options bs r built))
+    text leaf plain
   where
     by : Kept → List Kept → RowKind → Spot → Path
     by k ks kind s = cond (is_lazy held_leaf.Text [] kind) (At (with_line bs (k ∷ ks) r)) (At s)
@@ -236,11 +242,11 @@ leaf-stepped options bs leaf r built plain =
         stepped options (At (record { here = bs; leaf = text_leaf.held (k ∷ ks) })) [] (no_prefix r)
     text k ks =
         ap At (text-found options bs ks k r built)
-        ∙ go k ks (line_kind options r)
+        ∙ go k ks (line_kind options held_leaf.Text r)
         ∙ sym
-        (ap (by k ks (line_kind options r))
-        (ap (λ (x : Blocks). fresh_line options x r) (text-laws.shut options bs (k ∷ ks) built.definition)
-        ∙ fresh-found options (text_leaf.behind bs (texts (k ∷ ks))) r built))
+        (ap (by k ks (line_kind options held_leaf.Text r))
+        (ap (λ (x : Blocks). spot_by x [] r (line_kind options held_leaf.Text r))
+        (text-laws.shut options bs (k ∷ ks) built.definition)))
 
 -- where all containers go on
 step-at : (options : ParseOptions) (s : Spot) (r : Rest) → IsBuilt options → IsBuiltLeaf s.leaf →
@@ -267,7 +273,7 @@ step-at options s r built plain =
     go : (o : Option Taken) → all_continued_by options s r o ≡ stepped options (At s) [] (found_by options r o)
     go None = leaf-stepped options s.here s.leaf r built plain
     go (Some t) =
-        entered-new options (shut options s) t
+        entered-new options (shut options s) t built
         ∙ sym (stepped-more options (At s) [] t.container (all_new options false t.rest))
 
 at_spot-longer : (p : Path) (lines more : List Kept) → (spot p).leaf ≡ text_leaf.held lines →
@@ -280,30 +286,40 @@ at_spot-longer (Within before container p) lines more e = ap (Within before cont
 lazy-stepped : (options : ParseOptions) (before : Blocks) (c : Container) (p : Path) (r : Rest) → IsBuilt options →
     (leaf : Leaf) → (spot p).leaf ≡ leaf → IsBuiltLeaf leaf →
     lazy_by options before c p r (with_lazy options leaf r) ≡
-    cond (is_lazy (kind_of_leaf leaf) [] (line_kind options r))
+    cond (is_lazy (kind_of_leaf leaf) [] (line_kind options (met_by false (kind_of_leaf leaf)) r))
     (Within before c (longer (renewed (containers_of p) p) (kept r ∷ [])))
-    (At (fresh_line options (then_block before (container_block c (closed options p))) r))
-lazy-stepped options before c p r built leaf e plain = text-laws.cases By (λ e. refl) text leaf plain e
+    (At
+    (spot_by (then_block before (container_block c (closed options p))) [] r
+    (line_kind options (met_by false (kind_of_leaf leaf)) r)))
+lazy-stepped options before c p r built leaf e plain = text-laws.cases By (λ e. fresh) text leaf plain e
   where
-    other : Path
-    other = At (fresh_line options (then_block before (container_block c (closed options p))) r)
+    bs : Blocks
+    bs = then_block before (container_block c (closed options p))
+
+    other : RowKind → Path
+    other kind = At (spot_by bs [] r kind)
+
+    fresh : At (fresh_line options bs r) ≡ other (line_kind options held_leaf.None r)
+    fresh = ap At (fresh-found options bs r built)
 
     longer_by : HeldLeaf → RowKind → Path
     longer_by still kind =
-        cond (is_lazy still [] kind) (Within before c (longer (renewed (containers_of p) p) (kept r ∷ []))) other
+        cond (is_lazy still [] kind) (Within before c (longer (renewed (containers_of p) p) (kept r ∷ []))) (other kind)
 
     By : Leaf → Type 0
     By leaf =
         (spot p).leaf ≡ leaf →
-        lazy_by options before c p r (with_lazy options leaf r) ≡ longer_by (kind_of_leaf leaf) (line_kind options r)
+        lazy_by options before c p r (with_lazy options leaf r) ≡
+        longer_by (kind_of_leaf leaf) (line_kind options (met_by false (kind_of_leaf leaf)) r)
 
     go : (k : Kept) (ks : List Kept) → (spot p).leaf ≡ text_leaf.held (k ∷ ks) → (x : Bool) (o : Option LeafName) →
+        At (fresh_line options bs r) ≡ other (cond x BlankRow (kind_of o)) →
         lazy_by options before c p r
         (cond (x || is_some (came_of r o)) None (Some (text_leaf.held (k ∷ ks ++ kept r ∷ [])))) ≡
         longer_by held_leaf.Text (cond x BlankRow (kind_of o))
-    go k ks e true o = refl
-    go k ks e false (Some l) = refl
-    go k ks e false None =
+    go k ks e true o same = same
+    go k ks e false (Some l) same = same
+    go k ks e false None same =
         ap (Within before c)
         (at_spot-longer p (k ∷ ks) (kept r ∷ []) e ∙ ap (λ (q : Path). longer q (kept r ∷ [])) (sym (renewed-same p)))
 
@@ -313,8 +329,8 @@ lazy-stepped options before c p r built leaf e plain = text-laws.cases By (λ e.
         (λ (o : Option Came).
         lazy_by options before c p r
         (cond (is_blank r.bytes || is_some o) None (Some (text_leaf.held (k ∷ ks ++ kept r ∷ [])))))
-        (starts-found options LazyText r built)
-        ∙ go k ks e (is_blank r.bytes) (leaf_at options r)
+        (starts-found options held_leaf.Text LazyText r built)
+        ∙ go k ks e (is_blank r.bytes) (leaf_at options held_leaf.Text r) fresh
 
 step-stopped : (options : ParseOptions) (before : Blocks) (c : Container) (p : Path) (r : Rest) → IsBuilt options →
     IsPlain p →
@@ -337,19 +353,22 @@ step-stopped options before c p r built plain =
         stopped_by options before c p r o ≡ stepped options (Within before c p) [] (found_by options r o)
     go None = lazy-stepped options before c p r built (spot p).leaf refl plain
     go (Some t) =
-        entered-new options (then_block before (container_block c (closed options p))) t
+        entered-new options (then_block before (container_block c (closed options p))) t built
         ∙ sym (stepped-more options (Within before c p) [] t.container (all_new options false t.rest))
 
 stepped-within : (options : ParseOptions) (before : Blocks) (c d : Container) (p : Path) (went : List Container)
     (new : Prefixed) →
     Within before d (stepped options p went new) ≡ stepped options (Within before c p) (d ∷ went) new
-stepped-within options before c d p went new = go (is_lazy (still_of p) new.containers (line_kind options new.rest))
+stepped-within options before c d p went new = go (is_lazy (still_of p) new.containers (line_kind options on new.rest))
   where
+    on : HeldLeaf
+    on = met (still_of p) (others_of (containers_of p) went) new.containers
+
     lazy : Path
     lazy = longer (renewed (went ++ others_of (containers_of p) went) p) (kept new.rest ∷ [])
 
     other : Path
-    other = behind_path (kept_to options went p) (new_line options new.containers new.rest)
+    other = behind_path (kept_to options went p) (new_line options on new.containers new.rest)
 
     go : (x : Bool) → Within before d (cond x lazy other) ≡ cond x (Within before d lazy) (Within before d other)
     go true = refl
@@ -385,11 +404,11 @@ contained_at options p r = contained options (containers_of p) (still_of p) r
 
 -- whether a line goes on the open text
 abbrev pub goes_lazy : ParseOptions → Path → Contained → Bool
-goes_lazy options p c = is_lazy (still_of p) c.change.opens (line_kind options c.rest)
+goes_lazy options p c = is_lazy (still_of p) c.change.opens (line_kind options c.on c.rest)
 
--- where it does not: some containers stay, and behind them it opens others, and is a line where nothing is open
+-- where it does not: some containers stay, and behind them it opens others, and begins in the innermost
 abbrev pub new_path : ParseOptions → Path → Contained → Path
-new_path options p c = behind_path (kept_to options c.change.stays p) (new_line options c.change.opens c.rest)
+new_path options p c = behind_path (kept_to options c.change.stays p) (new_line options c.on c.change.opens c.rest)
 
 -- What a line does to the containers and the text that are open, by its containers.
 pub step-contained : (options : ParseOptions) (p : Path) (r : Rest) → IsBuilt options → IsPlain p →
@@ -400,7 +419,7 @@ unfolding contained
 step-contained options p r built plain =
     step-new options p r built plain ∙ go lazy
     ∙ sym
-    (ap (λ (opens : List Container). by (is_lazy (still_of p) opens (line_kind options new.rest)) lazy)
+    (ap (λ (opens : List Container). by (is_lazy (still_of p) opens (line_kind options leaf new.rest)) lazy)
     (change-opens lazy on.containers others new.containers))
   where
     on : Prefixed
@@ -412,18 +431,21 @@ step-contained options p r built plain =
     new : Prefixed
     new = all_new options (interrupts (still_of p) others) on.rest
 
+    leaf : HeldLeaf
+    leaf = met (still_of p) others new.containers
+
     lazy : Bool
-    lazy = is_lazy (still_of p) new.containers (line_kind options new.rest)
+    lazy = is_lazy (still_of p) new.containers (line_kind options leaf new.rest)
 
     by : Bool → Bool → Path
     by x y =
         let change : Change = change_by y on.containers others new.containers in
         cond x (longer (renewed change.stays p) (kept new.rest ∷ []))
-        (behind_path (kept_to options change.stays p) (new_line options change.opens new.rest))
+        (behind_path (kept_to options change.stays p) (new_line options leaf change.opens new.rest))
 
     go : (x : Bool) →
         cond x (longer (renewed (on.containers ++ others) p) (kept new.rest ∷ []))
-        (behind_path (kept_to options on.containers p) (new_line options new.containers new.rest)) ≡
+        (behind_path (kept_to options on.containers p) (new_line options leaf new.containers new.rest)) ≡
         by x x
     go true = refl
     go false = refl
@@ -435,7 +457,7 @@ unfolding contained
 contained-lazy options p r h =
     go lazy
     (sym
-    (ap (λ (opens : List Container). is_lazy (still_of p) opens (line_kind options new.rest))
+    (ap (λ (opens : List Container). is_lazy (still_of p) opens (line_kind options leaf new.rest))
     (change-opens lazy on.containers others new.containers))
     ∙ h)
   where
@@ -448,8 +470,11 @@ contained-lazy options p r h =
     new : Prefixed
     new = all_new options (interrupts (still_of p) others) on.rest
 
+    leaf : HeldLeaf
+    leaf = met (still_of p) others new.containers
+
     lazy : Bool
-    lazy = is_lazy (still_of p) new.containers (line_kind options new.rest)
+    lazy = is_lazy (still_of p) new.containers (line_kind options leaf new.rest)
 
     go : (x : Bool) → x ≡ true → (change_by x on.containers others new.containers).closes ≡ []
     go true e = refl
@@ -472,20 +497,15 @@ plain-behind : (p : Path) (f : Blocks → Path) → ((bs : Blocks) → IsPlain (
 plain-behind (At s) f each = each s.here
 plain-behind (Within before container p) f each = plain-behind p f each
 
-plain-fresh : (options : ParseOptions) (bs : Blocks) (r : Rest) → IsBuilt options →
-    IsBuiltLeaf (fresh_line options bs r).leaf
-plain-fresh options bs r built =
-    subst (λ (s : Spot). IsBuiltLeaf s.leaf) (sym (fresh-found options bs r built)) (go (line_kind options r))
-  where
-    go : (kind : RowKind) → IsBuiltLeaf (spot_by bs [] r kind).leaf
-    go BlankRow = tt
-    go (LeafRow l) = tt
-    go TextRow = tt
+plain-by : (bs : Blocks) (r : Rest) (kind : RowKind) → IsBuiltLeaf (spot_by bs [] r kind).leaf
+plain-by bs r BlankRow = tt
+plain-by bs r (LeafRow l) = tt
+plain-by bs r TextRow = tt
 
-plain-new_line : (options : ParseOptions) (cs : List Container) (r : Rest) (bs : Blocks) → IsBuilt options →
-    IsPlain (new_line options cs r bs)
-plain-new_line options [] r bs built = plain-fresh options bs r built
-plain-new_line options (c ∷ cs) r bs built = plain-new_line options cs r End built
+plain-new_line : (options : ParseOptions) (on : HeldLeaf) (cs : List Container) (r : Rest) (bs : Blocks) →
+    IsPlain (new_line options on cs r bs)
+plain-new_line options on [] r bs = plain-by bs r (line_kind options on r)
+plain-new_line options on (c ∷ cs) r bs = plain-new_line options on cs r End
 
 pub plain-step : (options : ParseOptions) (p : Path) (r : Rest) → IsBuilt options → IsPlain p →
     IsPlain (step options p r)
@@ -498,8 +518,8 @@ plain-step options p r built plain =
     go : (x : Bool) → IsPlain (cond x (longer (renewed c.change.stays p) (kept c.rest ∷ [])) (new_path options p c))
     go true = plain-longer (renewed c.change.stays p) (kept c.rest) [] (plain-renewed c.change.stays p plain)
     go false =
-        plain-behind (kept_to options c.change.stays p) (new_line options c.change.opens c.rest)
-        (λ bs. plain-new_line options c.change.opens c.rest bs built)
+        plain-behind (kept_to options c.change.stays p) (new_line options c.on c.change.opens c.rest)
+        (plain-new_line options c.on c.change.opens c.rest)
 
 -- a line that goes on the open text is text
 pub lazy-text : (still : HeldLeaf) (opens : List Container) (kind : RowKind) → is_lazy still opens kind ≡ true →
@@ -534,10 +554,11 @@ containers-renewed (c ∷ cs) (At s) e = absurd (omega arith)
 containers-renewed (c ∷ cs) (Within before container p) e =
     ap (λ (l : List Container). c ∷ l) (containers-renewed cs p (omega arith))
 
-containers-new_line : (options : ParseOptions) (cs : List Container) (r : Rest) (bs : Blocks) →
-    containers_of (new_line options cs r bs) ≡ cs
-containers-new_line options [] r bs = refl
-containers-new_line options (c ∷ cs) r bs = ap (λ (l : List Container). c ∷ l) (containers-new_line options cs r End)
+containers-new_line : (options : ParseOptions) (on : HeldLeaf) (cs : List Container) (r : Rest) (bs : Blocks) →
+    containers_of (new_line options on cs r bs) ≡ cs
+containers-new_line options on [] r bs = refl
+containers-new_line options on (c ∷ cs) r bs =
+    ap (λ (l : List Container). c ∷ l) (containers-new_line options on cs r End)
 
 pub containers-step : (options : ParseOptions) (p : Path) (r : Rest) → IsBuilt options → IsPlain p →
     containers_of (step options p r) ≡ open_behind (contained_at options p r).change
@@ -559,19 +580,20 @@ containers-step options p r built plain =
         (let none : length c.change.closes ≡ 0 = ap length (contained-lazy options p r e) in omega (arith, sizes))
         ∙ sym (append-nil c.change.stays)
         ∙ ap (λ (l : List Container). c.change.stays ++ l)
-        (sym (lazy-opens (still_of p) c.change.opens (line_kind options c.rest) e))
+        (sym (lazy-opens (still_of p) c.change.opens (line_kind options c.on c.rest) e))
     go false e =
-        containers-behind (kept_to options c.change.stays p) (new_line options c.change.opens c.rest) c.change.opens
-        (λ bs. containers-new_line options c.change.opens c.rest bs)
+        containers-behind (kept_to options c.change.stays p) (new_line options c.on c.change.opens c.rest) c.change.opens
+        (λ bs. containers-new_line options c.on c.change.opens c.rest bs)
         ∙ ap (λ (l : List Container). l ++ c.change.opens)
         (containers-kept options c.change.stays p (omega (arith, sizes)))
 
 -- The leaf that is open behind a line.
 
-text-behind : (kind : RowKind) → is_text kind ≡ true → leaf_behind kind ≡ held_leaf.Text
-text-behind BlankRow e = cc
-text-behind (LeafRow l) e = cc
-text-behind TextRow e = refl
+text-behind : (options : ParseOptions) (on : HeldLeaf) (r : Rest) (kind : RowKind) → is_text kind ≡ true →
+    line_behind options on r kind ≡ held_leaf.Text
+text-behind options on r BlankRow e = cc
+text-behind options on r (LeafRow l) e = cc
+text-behind options on r TextRow e = refl
 
 still-longer : (p : Path) (ks : List Kept) → still_of (longer p ks) ≡ held_leaf.Text
 still-longer (At s) ks = refl
@@ -582,19 +604,20 @@ still-behind : (p : Path) (f : Blocks → Path) (x : HeldLeaf) → ((bs : Blocks
 still-behind (At s) f x each = each s.here
 still-behind (Within before container p) f x each = still-behind p f x each
 
-still-new_line : (options : ParseOptions) (cs : List Container) (r : Rest) (bs : Blocks) → IsBuilt options →
-    still_of (new_line options cs r bs) ≡ leaf_behind (line_kind options r)
-still-new_line options [] r bs built =
-    ap (λ (s : Spot). kind_of_leaf s.leaf) (fresh-found options bs r built) ∙ go (line_kind options r)
-  where
-    go : (kind : RowKind) → kind_of_leaf (spot_by bs [] r kind).leaf ≡ leaf_behind kind
-    go BlankRow = refl
-    go (LeafRow l) = refl
-    go TextRow = refl
-still-new_line options (c ∷ cs) r bs built = still-new_line options cs r End built
+still-by : (options : ParseOptions) (on : HeldLeaf) (bs : Blocks) (r : Rest) (kind : RowKind) →
+    kind_of_leaf (spot_by bs [] r kind).leaf ≡ line_behind options on r kind
+still-by options on bs r BlankRow = refl
+still-by options on bs r (LeafRow l) = sym (((laws l).shut (leaf-ends l) options on).1 r)
+still-by options on bs r TextRow = refl
+
+still-new_line : (options : ParseOptions) (on : HeldLeaf) (cs : List Container) (r : Rest) (bs : Blocks) →
+    still_of (new_line options on cs r bs) ≡ line_behind options on r (line_kind options on r)
+still-new_line options on [] r bs = still-by options on bs r (line_kind options on r)
+still-new_line options on (c ∷ cs) r bs = still-new_line options on cs r End
 
 pub still-step : (options : ParseOptions) (p : Path) (r : Rest) → IsBuilt options → IsPlain p →
-    still_of (step options p r) ≡ leaf_behind (line_kind options (contained_at options p r).rest)
+    let c = contained_at options p r in
+    still_of (step options p r) ≡ line_behind options c.on c.rest (line_kind options c.on c.rest)
 still-step options p r built plain =
     ap still_of (step-contained options p r built plain) ∙ go (goes_lazy options p c) refl
   where
@@ -602,14 +625,14 @@ still-step options p r built plain =
     c = contained_at options p r
 
     kind : RowKind
-    kind = line_kind options c.rest
+    kind = line_kind options c.on c.rest
 
     go : (x : Bool) → goes_lazy options p c ≡ x →
         still_of (cond x (longer (renewed c.change.stays p) (kept c.rest ∷ [])) (new_path options p c)) ≡
-        leaf_behind kind
+        line_behind options c.on c.rest kind
     go true e =
         still-longer (renewed c.change.stays p) (kept c.rest ∷ [])
-        ∙ sym (text-behind kind (lazy-text (still_of p) c.change.opens kind e))
+        ∙ sym (text-behind options c.on c.rest kind (lazy-text (still_of p) c.change.opens kind e))
     go false e =
-        still-behind (kept_to options c.change.stays p) (new_line options c.change.opens c.rest) (leaf_behind kind)
-        (λ bs. still-new_line options c.change.opens c.rest bs built)
+        still-behind (kept_to options c.change.stays p) (new_line options c.on c.change.opens c.rest)
+        (line_behind options c.on c.rest kind) (still-new_line options c.on c.change.opens c.rest)

@@ -1,6 +1,7 @@
 -- Lines on which one look tells that no container opens and no leaf begins: what is passed at once is what the states
 -- refuse one after another.
 use Rattle.std.proofs.Common.{◌≡◌, ◌≢◌, ℕ, Bool, true, false, cond, ◌||◌, nat_eq, List, [], ◌∷◌, Option, Some, None}
+use Rattle.markdown_blocks.specs.Flow.{leaf_end}
 use Rattle.std.proofs.Common.{◌<◌, ◌⊎◌, inl, length, refl, sym, ◌∙◌, ap, ap₂, subst}
 use Rattle.std.specs.List.{list_any}
 use Rattle.std.specs.Prelude.{slice_range}
@@ -131,7 +132,7 @@ leaves-refuse is_name is_end s v (l ∷ ls) w next none seen within came =
     let x : FlowState = (leaf l).before in
     let is : flow_own_transition x w ≡ record { to = Retry (n.Flow (front_of ls)); world = w } =
     at-leaf x l w (leaf-states l).tried
-    ∙ ap (trial_code (leaf l).start (n.Flow flow.LeafAfter) (n.Flow (next_of l)) w)
+    ∙ ap (trial_code (leaf l).start (n.Flow (leaf_end (leaf l).ends)) (n.Flow (next_of l)) w)
     (refused-first (λ (m : LeafName). (leaf m).may_begin) l ls w none)
     ∙ ap (λ (ms : List LeafName). record { to = Retry (n.Flow (front_of ms)); world = w }) next in
     leaves-refuse is_name is_end s v ls w (subst NextIs next (leaf-states l).next)
@@ -253,7 +254,7 @@ blank-leaves w = go (ends_line w.current)
 
 pub leaf-leaves : (l : LeafName) (w : World) → Leaves (before_transition l w) w
 leaf-leaves l w =
-    trial-leaves (leaf l).start (n.Flow flow.LeafAfter) (n.Flow (next_of l)) w w
+    trial-leaves (leaf l).start (n.Flow (leaf_end (leaf l).ends)) (n.Flow (next_of l)) w w
     (may_with (leaf l).may_begin (looks_behind w)) refl refl refl
 
 pub chunk-leaves : (is_name : ResolveName → Bool) (w : World) (x : Bool) → Leaves (chunk_inside_code is_name w x) w

@@ -37,8 +37,8 @@ use Rattle.markdown_blocks.specs.Change.{ends_of, open_behind}
 use Rattle.markdown_blocks.specs.Fed.{fed, feeds, flow_begins, line_begins, not_left, place_behind}
 use Rattle.markdown_blocks.specs.FlowRule.{Rule, ended, line_then}
 use Rattle.markdown_blocks.specs.LineFlags.{ending_name}
-use Rattle.markdown_blocks.specs.Rows.{leaf_behind, Held, Row, after_ending, behind_row, closes_before, held_at}
-use Rattle.markdown_blocks.specs.Rows.{onto_rows, row_events, row_kind, row_of, rows_at, rows_events}
+use Rattle.markdown_blocks.specs.Rows.{behind_held, Held, Row, after_ending, behind_row, closes_before, held_at}
+use Rattle.markdown_blocks.specs.Rows.{onto_rows, row_events, row_of, rows_at, rows_events}
 use Rattle.markdown_blocks.specs.Stands.{AreOpen}
 use Rattle.markdown_blocks.specs.States.{FlowStep, flow_behaves_by, flow_table_scheme, flow_transition}
 use Rattle.markdown_blocks.specs.TextRows.{text_cells, text_rows, text_setting}
@@ -57,7 +57,7 @@ open_after cs (row ∷ rows) = open_after (open_behind row.change) rows
 -- and the leaf that is open behind them
 abbrev pub leaf_after : HeldLeaf → List Row → HeldLeaf
 leaf_after still [] = still
-leaf_after still (row ∷ rows) = leaf_after (leaf_behind row.kind) rows
+leaf_after still (row ∷ rows) = leaf_after row.behind rows
 
 -- the last of them says these, and where the next begins
 open-last : (cs : List Container) (rows : List Row) (row : Row) →
@@ -66,9 +66,9 @@ open-last cs [] row = refl
 open-last cs (first ∷ rows) row = open-last (open_behind first.change) rows row
 
 leaf-last : (still : HeldLeaf) (rows : List Row) (row : Row) →
-    leaf_after still (rows ++ row ∷ []) ≡ leaf_behind row.kind
+    leaf_after still (rows ++ row ∷ []) ≡ row.behind
 leaf-last still [] row = refl
-leaf-last still (first ∷ rows) row = leaf-last (leaf_behind first.kind) rows row
+leaf-last still (first ∷ rows) row = leaf-last first.behind rows row
 
 place-last : (p : Point) (rows : List Row) (row : Row) → place_behind p (rows ++ row ∷ []) ≡ behind_row row
 place-last p [] row = refl
@@ -157,7 +157,7 @@ line-next options from all n left h l rest new is = by l.size l.fits l.rows
     behind = open_behind (held_at options l.containers l.still left h.point).change
 
     text : HeldLeaf
-    text = leaf_behind (row_kind options (held_at options l.containers l.still left h.point).cells)
+    text = behind_held options (held_at options l.containers l.still left h.point)
 
     -- behind the line, with the ends of these containers
     added : (c : Cell) (xs : List Cell) (below : List Row) (ls : List Container) → from_ending x.cells ≡ c ∷ xs →
@@ -551,7 +551,7 @@ line-last options from all n left h l new is = by l.size l.fits l.rows
     behind = open_behind (held_at options l.containers l.still left h.point).change
 
     text : HeldLeaf
-    text = leaf_behind (row_kind options (held_at options l.containers l.still left h.point).cells)
+    text = behind_held options (held_at options l.containers l.still left h.point)
 
     by : (size : ℕ) → length left < size → drop n all ≡ rows_at options size l.containers l.still left h.point →
         suc n ≡ length all

@@ -16,7 +16,7 @@ use Rattle.md_seam.proofs.NestedLemmas.{at_or_before-refl, balanced-none, forwar
 use Rattle.md_seam.proofs.NestedLemmas.{open_after-append}
 use Rattle.markdown_blocks.specs.Change.{Change, ends_of, is_none, open_behind}
 use Rattle.markdown_blocks.specs.Fronted.{contained, rest_from, rest_line}
-use Rattle.markdown_blocks.specs.Rows.{leaf_behind, final_row, first_row, group_done, group_kind, LeafRow, ending_of}
+use Rattle.markdown_blocks.specs.Rows.{final_row, first_row, group_done, group_kind, LeafRow, ending_of}
 use Rattle.markdown_blocks.specs.Rows.{BlankRow, Group, Lines, Row, RowKind, Single, TextRow, behind_row, closes_before}
 use Rattle.markdown_blocks.specs.Rows.{ending_events, goes_on, groups, groups_events, last_row, onto_groups}
 use Rattle.markdown_blocks.specs.Rows.{tail_events}
@@ -302,7 +302,7 @@ lines-hold options bytes P by cs still p (line ∷ next ∷ lines) (row ∷ belo
     let ends : IsTrue (at_or_before row.end (behind_row row)) = subst (λ (q : Point). IsTrue (at_or_before row.end q))
     (sym behind) (ending-order bytes row.end are.2 are.4) in
     let more : Hold options bytes P many are.2 (below ∷ rows) = lines-hold options bytes P by many
-    (leaf_behind row.kind) are.2 (next ∷ lines) (below ∷ rows) are.5 in
+    row.behind are.2 (next ∷ lines) (below ∷ rows) are.5 in
     line-holds options bytes P by cs still p line row (below ∷ rows) more.names are.0 ends
     (more.left ∙ ap (λ (l : List Container). open_names l ++ more.names) (sym are.1))
     (ended (groups (below ∷ rows)))

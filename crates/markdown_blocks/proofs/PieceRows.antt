@@ -21,7 +21,7 @@ use Rattle.markdown_blocks.specs.Registry.{container_name}
 use Rattle.markdown_blocks.specs.Change.{ends_of}
 use Rattle.markdown_blocks.specs.Document.{body_point, mark_end, mark_events}
 use Rattle.markdown_blocks.specs.Fronted.{contained, rest_from, rest_line}
-use Rattle.markdown_blocks.specs.Rows.{leaf_behind, final_row, first_row, group_done, group_kind, BlankRow, Group}
+use Rattle.markdown_blocks.specs.Rows.{final_row, first_row, group_done, group_kind, BlankRow, Group}
 use Rattle.markdown_blocks.specs.Rows.{Lines, Row, RowKind, Single, TextRow, ending_events, group_events, groups}
 use Rattle.markdown_blocks.specs.Rows.{groups_events, tail_events, LeafRow, ending_of}
 use Rattle.markdown_blocks.specs.Unread.{group_unread, listed_group, listed_groups}
@@ -101,7 +101,7 @@ rows-stand options bytes open_before still p (line ∷ next ∷ lines) (row ∷ 
     let is : IsLine options bytes open_before still p line row = are.0 in (
       line-stands options bytes (rest_line (contained options open_before still (rest_from p line)).rest) row
           (Some are.2) is.is are.3 are.4,
-      rows-stand options bytes (behind_line options open_before still p line) (leaf_behind row.kind) are.2
+      rows-stand options bytes (behind_line options open_before still p line) row.behind are.2
           (next ∷ lines) (below ∷ rows) are.5,
     )
 rows-stand options bytes open_before still p lines rows are = absurd are

@@ -19,7 +19,7 @@ use Rattle.md_outline.specs.Between.{is_between}
 use Rattle.md_outline.specs.Outlined.{IsUnlisted, tells_between}
 use Rattle.markdown_blocks.specs.Change.{Change, ends_of}
 use Rattle.markdown_blocks.specs.Fronted.{contained, rest_from, rest_line}
-use Rattle.markdown_blocks.specs.Rows.{leaf_behind, final_row, first_row, group_done, group_kind, BlankRow, Group}
+use Rattle.markdown_blocks.specs.Rows.{final_row, first_row, group_done, group_kind, BlankRow, Group}
 use Rattle.markdown_blocks.specs.Rows.{Lines, Row, RowKind, Single, TextRow, ending_events, group_events, groups}
 use Rattle.markdown_blocks.specs.Rows.{groups_events, tail_events, LeafRow, ending_of}
 use Rattle.markdown_blocks.specs.Registry.{container_name, shape_of}
@@ -167,10 +167,10 @@ plain-rows options bytes open_before still p (line ∷ []) (row ∷ []) h shown 
 plain-rows options bytes open_before still p (line ∷ next ∷ lines) (row ∷ below ∷ rows) h shown =
     let behind : List Container = behind_line options open_before still p line in
     let here = line-shown options bytes open_before still p line row h.0 shown in
-    let there = line-shown options bytes behind (leaf_behind row.kind) h.2 next below
-    (first-line options bytes behind (leaf_behind row.kind) h.2 next lines below rows h.5) here.1 in (
+    let there = line-shown options bytes behind row.behind h.2 next below
+    (first-line options bytes behind row.behind h.2 next lines below rows h.5) here.1 in (
       line-plain options bytes open_before still p line row h.0 (subst AreShown (sym h.1) there.0),
-      plain-rows options bytes behind (leaf_behind row.kind) h.2 (next ∷ lines) (below ∷ rows) h.5 here.1,
+      plain-rows options bytes behind row.behind h.2 (next ∷ lines) (below ∷ rows) h.5 here.1,
     )
 plain-rows options bytes open_before still p lines rows h shown = absurd h
 

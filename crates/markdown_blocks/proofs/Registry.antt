@@ -1,6 +1,7 @@
 -- The laws of the constructs that are built, and what the table has of them: the one place of the frame's proofs that
 -- names them.
 use Rattle.std.proofs.Common.{◌≡◌, ◌<◌, Bool, true, false, cond, List, [], ◌∷◌, ◌++◌, refl, ◌∙◌, ap, ap₂, arith}
+use Rattle.md_engine.specs.declared.tokenizer.held_leaf.HeldLeaf.{HeldLeaf}
 use Rattle.std.specs.Option.{option_or}
 use Rattle.std.specs.Prelude.{Option, Some, None}
 use Rattle.md_engine.specs.declared.configuration.ParseOptions.{ParseOptions}
@@ -78,8 +79,8 @@ laws HeadingAtx = heading-laws
 laws ThematicBreak = break-laws
 
 -- the leaf that takes the rest of a line, if one does
-abbrev pub leaf_at : ParseOptions → Rest → Option LeafName
-leaf_at options r = first_of (λ l. (leaf l).starts options r) trials
+abbrev pub leaf_at : ParseOptions → HeldLeaf → Rest → Option LeafName
+leaf_at options on r = first_of (λ l. (leaf l).starts options on r) trials
 
 -- what it comes to
 abbrev pub came_of : Rest → Option LeafName → Option Came
@@ -87,11 +88,11 @@ came_of r None = None
 came_of r (Some l) = Some (Finished ((leaf l).block r))
 
 -- of the leaves of the line definition these alone are built, in this order
-pub leaves-found : (options : ParseOptions) (r : Rest) →
-    option_or (heading_at options r) (break_at options r) ≡ came_of r (leaf_at options r)
-leaves-found options r =
+pub leaves-found : (options : ParseOptions) (on : HeldLeaf) (r : Rest) →
+    option_or (heading_at options r) (break_at options r) ≡ came_of r (leaf_at options on r)
+leaves-found options on r =
     ap₂ (λ (x y : Option Came). option_or x y) (heading-found options r) (break-found options r)
-    ∙ go (heading_leaf.starts options r) (break_leaf.starts options r)
+    ∙ go (heading_leaf.starts options on r) (break_leaf.starts options on r)
   where
     -- a leaf, if it starts
     one : Bool → LeafName → Option Came
@@ -105,10 +106,15 @@ leaves-found options r =
     go false false = refl
 
 -- an outline can show the block of each
-pub leaf-shallow : (l : LeafName) (options : ParseOptions) (r : Rest) → (leaf l).starts options r ≡ true →
-    is_shallow ((leaf l).block r) ≡ true
-leaf-shallow HeadingAtx options r h = heading-shallow options r h
-leaf-shallow ThematicBreak options r h = refl
+pub leaf-shallow : (l : LeafName) (options : ParseOptions) (on : HeldLeaf) (r : Rest) →
+    (leaf l).starts options on r ≡ true → is_shallow ((leaf l).block r) ≡ true
+leaf-shallow HeadingAtx options on r h = heading-shallow options r h
+leaf-shallow ThematicBreak options on r h = refl
+
+-- each that is built always ends on its line
+pub leaf-ends : (l : LeafName) → (leaf l).ends ≡ true
+leaf-ends HeadingAtx = refl
+leaf-ends ThematicBreak = refl
 
 -- In the table of flow.
 

@@ -1,5 +1,6 @@
 -- Which leaves of the line definition start on a line: of those that are built the first of the registry, and no other.
 use Rattle.std.proofs.Common.{◌≡◌, ℕ, Bool, true, false, cond, ◌==◌, ◌&&◌, ◌||◌, List, [], ◌∷◌, refl}
+use Rattle.md_engine.specs.declared.tokenizer.held_leaf.HeldLeaf.{HeldLeaf}
 use Rattle.std.specs.Prelude.{None}
 use Rattle.md_engine.specs.declared.configuration.ParseOptions.{ParseOptions}
 use Rattle.md_definition.specs.Leaves.{ParagraphContext, code_at, fence_at, fence_from, html_at, is_fence_marker}
@@ -58,13 +59,13 @@ unfolding table_at
 table-off options bs lines r built = rw built.gfm_table refl
 
 -- The first leaf that starts on a line, other than text, is the first of the registry that does.
-pub starts-found : (options : ParseOptions) (against : ParagraphContext) (r : Rest) → IsBuilt options →
-    starts options against r ≡ came_of r (leaf_at options r)
+pub starts-found : (options : ParseOptions) (on : HeldLeaf) (against : ParagraphContext) (r : Rest) → IsBuilt options →
+    starts options against r ≡ came_of r (leaf_at options on r)
 unfolding starts
-starts-found options against r built =
+starts-found options on against r built =
     rw (
       code-off options against r built.code_indented,
       fence-off options r built.code_fenced built.math_flow,
       html-off options against r built.html_flow,
     )
-    (leaves-found options r)
+    (leaves-found options on r)

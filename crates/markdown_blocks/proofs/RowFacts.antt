@@ -14,7 +14,7 @@ use Rattle.markdown_blocks.specs.Change.{open_behind}
 use Rattle.markdown_blocks.proofs.LeafFacts.{LineAt}
 use Rattle.md_definition.specs.Rest.{Rest}
 use Rattle.markdown_blocks.specs.Fronted.{contained, rest_from, rest_line}
-use Rattle.markdown_blocks.specs.Rows.{leaf_behind, BlankRow, LeafRow, Row, TextRow, blank_line, line_kind}
+use Rattle.markdown_blocks.specs.Rows.{BlankRow, LeafRow, Row, TextRow, blank_line, line_behind, line_kind}
 use Rattle.markdown_blocks.proofs.FrontFacts.{LinePrefix}
 use Rattle.markdown_blocks.proofs.PieceFacts.{CutsFirst}
 
@@ -22,7 +22,8 @@ use Rattle.markdown_blocks.proofs.PieceFacts.{CutsFirst}
 pub record IsRow (options : ParseOptions) (bytes line : List ℕ) (row : Row) : Type 0 where
   pub rest : Rest
   pub line_is : line ≡ rest_line rest
-  pub kind : row.kind ≡ line_kind options rest
+  pub kind : row.kind ≡ line_kind options row.on rest
+  pub behind : row.behind ≡ line_behind options row.on rest row.kind
   pub no_ending : NoEnding line
   -- it stands between the first point and the end; a tab that a prefix has cut is its first byte
   pub text : slice_range bytes row.first.index row.end.index ≡ line
@@ -34,7 +35,7 @@ pub record IsRow (options : ParseOptions) (bytes line : List ℕ) (row : Row) : 
   pub cut : Cut rest.spaces row.first
   -- what flow adds for it
   pub blank : row.kind ≡ BlankRow → row.inside ≡ blank_line line row.first
-  pub leaf_is : (l : LeafName) → row.kind ≡ LeafRow l → row.inside ≡ (leaf l).added line row.first
+  pub leaf_is : (l : LeafName) → row.kind ≡ LeafRow l → row.inside ≡ (leaf l).added options row.on line row.first
   pub no_inside : row.kind ≡ TextRow → row.inside ≡ []
 
 -- where it stands
@@ -60,6 +61,7 @@ pub record IsLine (options : ParseOptions) (bytes : List ℕ) (open_before : Lis
   pub rest_is : is.rest ≡ (contained options open_before still (rest_from p line)).rest
   pub front : LinePrefix bytes row.change.opens p row.first row.front
   pub change : row.change ≡ (contained options open_before still (rest_from p line)).change
+  pub on : row.on ≡ (contained options open_before still (rest_from p line)).on
   -- where the line begins no tab is cut
   pub whole : p.vs ≡ 0
   pub column : 1 ≤ p.column
@@ -78,7 +80,7 @@ AreRows options bytes open_before still p (line ∷ []) (row ∷ []) =
 AreRows options bytes open_before still p (line ∷ next ∷ lines) (row ∷ below ∷ rows) =
     (is : IsLine options bytes open_before still p line row) × (leaves : row.leaves ≡ below.change.closes) ×
     (q : Point) × (after : row.after ≡ Some q) × (ending : IsEnding bytes row.end q)
-    × AreRows options bytes (behind_line options open_before still p line) (leaf_behind row.kind) q (next ∷ lines)
+    × AreRows options bytes (behind_line options open_before still p line) row.behind q (next ∷ lines)
     (below ∷ rows)
 AreRows options bytes open_before still p _ _ = ⊥
 

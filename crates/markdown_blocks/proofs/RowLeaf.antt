@@ -50,15 +50,16 @@ row-facts options bytes line row is other = go row.kind refl
     go BlankRow e =
         subst (Facts bytes row is.rest) (sym e)
         (subst (λ (es : List Event). LeafFacts bytes None row.first row.end es es) (sym (is.blank e))
-        (blank-facts bytes line is.rest row.first row.end (kind-blank options is.rest (sym is.kind ∙ e))
+        (blank-facts bytes line is.rest row.first row.end (kind-blank options row.on is.rest (sym is.kind ∙ e))
         (line-at options bytes line row is)))
     go (LeafRow l) e =
-        let starts : (leaf l).starts options is.rest ≡ true = kind-starts options is.rest l (sym is.kind ∙ e) in
+        let starts : (leaf l).starts options row.on is.rest ≡ true =
+        kind-starts options row.on is.rest l (sym is.kind ∙ e) in
         subst (Facts bytes row is.rest) (sym e)
         (subst (λ (own : List ℕ). LeafFacts bytes (Some ((leaf l).block is.rest)) row.first row.end
         ((leaf l).unread own row.first) ((leaf l).done bytes own row.first))
         (sym (row-text options bytes line row is))
-        ((laws l).facts options bytes is.rest row.first row.end starts (leaf-at options bytes line row is)))
+        ((laws l).facts options row.on bytes is.rest row.first row.end starts (leaf-at options bytes line row is)))
     go TextRow e = absurd (other e)
 
 -- so much alone, whichever block it shows
@@ -87,10 +88,11 @@ row-becomes options bytes line row is other wants reads text read = go row.kind 
         (becomes-same wants reads (blank_line line row.first)
         (no_links-unwanted wants (blank_line line row.first) (blank-unlinked line row.first))))
     go (LeafRow l) e =
-        let starts : (leaf l).starts options is.rest ≡ true = kind-starts options is.rest l (sym is.kind ∙ e) in
+        let starts : (leaf l).starts options row.on is.rest ≡ true =
+        kind-starts options row.on is.rest l (sym is.kind ∙ e) in
         subst By (sym e)
         (subst (λ (own : List ℕ). Becomes wants reads ((leaf l).unread own row.first)
         ((leaf l).done bytes own row.first)) (sym (row-text options bytes line row is))
-        ((laws l).becomes options bytes is.rest row.first row.end starts
+        ((laws l).becomes options row.on bytes is.rest row.first row.end starts
         (leaf-at options bytes line row is) wants reads text read))
     go TextRow e = absurd (other e)

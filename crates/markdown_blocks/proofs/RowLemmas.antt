@@ -28,13 +28,14 @@ use Rattle.markdown_blocks.specs.Change.{open_behind}
 use Rattle.markdown_blocks.specs.FlowReads.{text_cells, text_rows, text_setting}
 use Rattle.markdown_blocks.specs.Fronted.{Contained, contained, rest_from, rest_line}
 use Rattle.markdown_blocks.specs.Parsed.{IsBuilt}
-use Rattle.markdown_blocks.specs.Rows.{leaf_behind, Held, Row, RowKind, after_ending, closes_before, held_at, inside_of}
+use Rattle.markdown_blocks.specs.Rows.{behind_held, leaf_behind, Held, Row, RowKind, after_ending, closes_before}
+use Rattle.markdown_blocks.specs.Rows.{held_at, inside_of}
 use Rattle.markdown_blocks.specs.Rows.{line_kind, onto_rows, row_kind, row_of, rows_at, rows_by}
 use Rattle.markdown_blocks.proofs.FrontRows.{HasHeld, held-is}
 use Rattle.markdown_blocks.proofs.RestFacts.{rest-line_end, rest-no_ending}
 use Rattle.markdown_blocks.proofs.RestRows.{rest-cut, rest-ending, rest-past, rest-whole}
 use Rattle.markdown_blocks.proofs.RowFacts.{AreRows, IsEnding, IsLine, IsRow, behind_line}
-use Rattle.markdown_blocks.proofs.RowKinds.{blank-inside, kind-rest, leaf-inside}
+use Rattle.markdown_blocks.proofs.RowKinds.{behind-rest, blank-inside, kind-rest, leaf-inside}
 use Rattle.markdown_blocks.proofs.RegistryRead.{AreRead}
 
 -- A row.
@@ -54,11 +55,11 @@ held-row options bytes behind said r stop h below fed short is none k =
     let one : 1 ≤ p.column = let column = is.column in omega (arith, column) in
     let size = ap length fed in
     let few : length (rest_cells said r p ++ stop) < 2 ^ 63 = omega (arith, short, size) in
-    let kind : row_kind options h.cells ≡ line_kind options r = ap (row_kind options) fed
-    ∙ kind-rest options said bytes behind r p stop is none k few in
+    let kind : row_kind options h.on h.cells ≡ line_kind options h.on r = ap (row_kind options h.on) fed
+    ∙ kind-rest options h.on said bytes behind r p stop is none k few in
     let inside : (kind : RowKind) →
-    inside_of options h.cells p kind ≡ inside_of options (rest_cells said r p ++ stop) p kind =
-    λ kind. ap (λ (l : List Cell). inside_of options l p kind) fed in
+    inside_of options h.on h.cells p kind ≡ inside_of options h.on (rest_cells said r p ++ stop) p kind =
+    λ kind. ap (λ (l : List Cell). inside_of options h.on l p kind) fed in
     let end : line_end h.cells p ≡ past_text (rest_line r) p = ap (λ (l : List Cell). line_end l p) fed
     ∙ rest-line_end said r p stop none k one is.cut in
     let index : (line_end h.cells p).index ≡ p.index + length (rest_line r) = ap (λ (q : Point). q.index) end
@@ -67,6 +68,9 @@ held-row options bytes behind said r stop h below fed short is none k =
       rest = r;
       line_is = refl;
       kind = kind;
+      behind =
+          ap (λ (l : List Cell). leaf_behind options h.on l p (row_kind options h.on h.cells)) fed
+          ∙ behind-rest options h.on said bytes behind r p stop (row_kind options h.on h.cells) is none k few kind;
       no_ending = rest-no_ending r none;
       text = slice-front bytes p.index (line_end h.cells p).index (rest_line r) behind is.text_is index;
       size = index;
@@ -76,12 +80,12 @@ held-row options bytes behind said r stop h below fed short is none k =
       cut_first = rest-cut r p is.cut;
       cut = is.cut;
       blank =
-          λ e. inside (row_kind options h.cells)
-          ∙ blank-inside options said bytes behind r p stop (row_kind options h.cells) is none k kind e;
+          λ e. inside (row_kind options h.on h.cells)
+          ∙ blank-inside options h.on said bytes behind r p stop (row_kind options h.on h.cells) is none k kind e;
       leaf_is =
-          λ l e. inside (row_kind options h.cells)
-          ∙ leaf-inside options said bytes behind r p stop (row_kind options h.cells) is none k few kind l e;
-      no_inside = λ e. ap (inside_of options h.cells p) e;
+          λ l e. inside (row_kind options h.on h.cells)
+          ∙ leaf-inside options h.on said bytes behind r p stop (row_kind options h.on h.cells) is none k few kind l e;
+      no_inside = λ e. ap (inside_of options h.on h.cells p) e;
     } in
     (row, refl)
 
@@ -170,19 +174,19 @@ rows-last options h further e =
     ap
     (λ (l : List Cell).
     onto_rows options h
-    (elim l [ [] ↦ [] | c ∷ cs ↦ further (open_behind h.change) (leaf_behind (row_kind options h.cells)) cs c.after ]))
+    (elim l [ [] ↦ [] | c ∷ cs ↦ further (open_behind h.change) (behind_held options h) cs c.after ]))
     e
 
 rows-next : (options : ParseOptions) (h : Held) (further : List Container → HeldLeaf → List Cell → Point → List Row)
     (c : Cell) (cs : List Cell) →
     from_ending h.cells ≡ c ∷ cs →
     rows_by options h further ≡
-    onto_rows options h (further (open_behind h.change) (leaf_behind (row_kind options h.cells)) cs c.after)
+    onto_rows options h (further (open_behind h.change) (behind_held options h) cs c.after)
 rows-next options h further c cs e =
     ap
     (λ (l : List Cell).
     onto_rows options h
-    (elim l [ [] ↦ [] | c ∷ cs ↦ further (open_behind h.change) (leaf_behind (row_kind options h.cells)) cs c.after ]))
+    (elim l [ [] ↦ [] | c ∷ cs ↦ further (open_behind h.change) (behind_held options h) cs c.after ]))
     e
 
 -- a line with its containers
@@ -222,6 +226,7 @@ has-row options bytes behind said open_before still line p stop built read short
             rest_is = (row below).1;
             front = held.front;
             change = held.change;
+            on = held.on;
             whole = whole;
             column = one;
           };
@@ -237,7 +242,7 @@ rows-onto : (options : ParseOptions) (bytes line : List ℕ) (open_before : List
     IsLine options bytes open_before still p line row →
     row.leaves ≡ closes_before (behind_line options open_before still p line) rows →
     row.after ≡ Some q → IsEnding bytes row.end q →
-    AreRows options bytes (behind_line options open_before still p line) (leaf_behind row.kind) q lines rows →
+    AreRows options bytes (behind_line options open_before still p line) row.behind q lines rows →
     AreRows options bytes open_before still p (line ∷ lines) (row ∷ rows)
 rows-onto options bytes line open_before still row p q [] [] is leaves after ending h = absurd h
 rows-onto options bytes line open_before still row p q [] (below ∷ rows) is leaves after ending h = absurd h
@@ -299,15 +304,15 @@ next-rows options n bytes said open_before still line ending rest p q cells more
     let has : HasRow options bytes open_before still p line stop h = has-row options bytes
     (ending_bytes ending ++ rest) said open_before still line p stop built read small none refl vs one
     (text ∙ append_assoc line (ending_bytes ending) rest) in
-    let below : List Row = rows_at options n (open_behind h.change) (leaf_behind (row_kind options h.cells)) more q in
+    let below : List Row = rows_at options n (open_behind h.change) (behind_held options h) more q in
     let row : Row = row_of options h below in
     let lines : List (List ℕ) = split_lines (drop q.index bytes) in
     let ends : IsEnding bytes (line_end h.cells h.point) q = subst (λ (r : Point). IsEnding bytes r q)
     (sym has.end) is_ending in
     let those : AreRows options bytes (behind_line options open_before still p line)
-    (leaf_behind row.kind) q lines below =
-    subst (λ (cs : List Container). AreRows options bytes cs (leaf_behind row.kind) q lines below) has.open_is
-    (further (open_behind h.change) (leaf_behind row.kind) has.read) in
+    row.behind q lines below =
+    subst (λ (cs : List Container). AreRows options bytes cs row.behind q lines below) has.open_is
+    (further (open_behind h.change) row.behind has.read) in
     let rows : AreRows options bytes open_before still p (line ∷ lines) (row ∷ below) =
     rows-onto options bytes line open_before still row p q lines below (has.is below)
     (ap (λ (cs : List Container). closes_before cs below) has.open_is) (ap after_ending has.stops) ends those in

@@ -107,7 +107,7 @@ text-filled : (options : ParseOptions) (bytes line : List ℕ) (row : Row) → (
     row.kind ≡ TextRow → IsFilled is.rest.bytes
 text-filled options bytes line row is text = record {
   no_ending = go is.rest.spaces (subst NoEnding is.line_is is.no_ending);
-  filled = by (is_blank is.rest.bytes) (leaf_at options is.rest) (sym is.kind ∙ text);
+  filled = by (is_blank is.rest.bytes) (leaf_at options row.on is.rest) (sym is.kind ∙ text);
 }
   where
     go : (n : ℕ) → NoEnding (cut_tab n ++ is.rest.bytes) → NoEnding is.rest.bytes

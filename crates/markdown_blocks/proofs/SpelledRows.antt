@@ -3,6 +3,9 @@
 use Rattle.md_engine.specs.declared.tokenizer.held_leaf.HeldLeaf.TheVariants as held_leaf
 use Rattle.md_engine.specs.declared.tokenizer.held_leaf.HeldLeaf.{HeldLeaf}
 use Rattle.std.proofs.Common.{◌≡◌, ◌≢◌, ℕ, zero, suc, ◌+◌, ◌-◌, Bool, true, false, cond, ◌&&◌, List, [], ◌∷◌, ◌++◌}
+use Rattle.std.proofs.lemmas.Bool.{and_parts}
+use Rattle.markdown_blocks.specs.Rows.{line_behind}
+use Rattle.markdown_blocks.specs.HeldLeaf.{takes_lazy}
 use Rattle.std.proofs.Common.{length, map, take, refl, ap, ap₂, sym, ◌∙◌, subst, append_assoc, take_all, inl, inr, ◌⊎◌}
 use Rattle.std.proofs.Common.{arith}
 use Rattle.std.specs.Prelude.{None}
@@ -25,18 +28,18 @@ use Rattle.markdown_blocks.specs.Change.{Change, ends_of, is_none}
 use Rattle.markdown_blocks.specs.Fed.{last_leaves, close_containers, rests_from}
 use Rattle.markdown_blocks.specs.Fronted.{Contained, contained, rest_from, rest_line}
 use Rattle.markdown_blocks.specs.Parsed.{IsBuilt}
-use Rattle.markdown_blocks.specs.Rows.{leaf_behind, BlankRow, Group, LeafRow, Lines, Row, RowKind, Single, TextRow}
+use Rattle.markdown_blocks.specs.Rows.{BlankRow, Group, LeafRow, Lines, Row, RowKind, Single, TextRow}
 use Rattle.markdown_blocks.specs.Rows.{ending_events, ending_of, goes_on, groups, groups_events, is_lazy, is_text}
 use Rattle.markdown_blocks.specs.Rows.{last_row, leaf_done, line_kind, onto_groups, onto_lines, read_lines, tail_events}
 use Rattle.markdown_blocks.specs.Stands.{IsPlain, around_of, containers_of, final, final_on, still_of, outer_on}
 use Rattle.markdown_blocks.specs.Stands.{reading, reading_on}
 use Rattle.markdown_blocks.proofs.ContainedLemmas.{contained-shapes, lazy-opens}
 use Rattle.markdown_blocks.proofs.FrontFacts.{Behind, Begins, LinePrefix, Goes}
-use Rattle.markdown_blocks.proofs.LineSteps.{behind_path, contained-lazy, contained_at, containers-step, fresh-found}
+use Rattle.markdown_blocks.proofs.LineSteps.{behind_path, contained-lazy, contained_at, containers-step}
 use Rattle.markdown_blocks.proofs.LineSteps.{still-step, goes_lazy, kept_to, lazy-text, longer, new_line, new_path}
 use Rattle.markdown_blocks.proofs.LineSteps.{plain-step, renewed, spot_by, step-contained}
 use Rattle.markdown_blocks.specs.Leaf.Paragraph.{held_of}
-use Rattle.markdown_blocks.proofs.Registry.{text-laws}
+use Rattle.markdown_blocks.proofs.Registry.{laws, text-laws}
 use Rattle.markdown_blocks.proofs.RowFacts as f
 use Rattle.markdown_blocks.proofs.LeafFacts.{shown}
 use Rattle.markdown_blocks.proofs.LeafStands.{ending-roles}
@@ -189,21 +192,21 @@ behind-ap : (p : Path) (f g : Blocks → Path) → ((bs : Blocks) → f bs ≡ g
 behind-ap (At x) f g each = each x.here
 behind-ap (Within before container p) f g each = ap (Within before container) (behind-ap p f g each)
 
-new-with : (options : ParseOptions) (opens : List Container) (r : Rest) (bs : Blocks) → IsBuilt options →
-    new_line options opens r bs ≡ with_spot (new_none opens bs) (λ cs. spot_by cs [] r (line_kind options r))
-new-with options [] r bs built = ap At (fresh-found options bs r built)
-new-with options (c ∷ opens) r bs built = ap (Within bs c) (new-with options opens r End built)
+new-with : (options : ParseOptions) (on : HeldLeaf) (opens : List Container) (r : Rest) (bs : Blocks) →
+    new_line options on opens r bs ≡ with_spot (new_none opens bs) (λ cs. spot_by cs [] r (line_kind options on r))
+new-with options on [] r bs = refl
+new-with options on (c ∷ opens) r bs = ap (Within bs c) (new-with options on opens r End)
 
 -- what a line begins stands behind its containers
-new-path : (options : ParseOptions) (p : Path) (c : Contained) (kind : RowKind) → IsBuilt options →
-    line_kind options c.rest ≡ kind →
+new-path : (options : ParseOptions) (p : Path) (c : Contained) (kind : RowKind) →
+    line_kind options c.on c.rest ≡ kind →
     new_path options p c ≡ with_spot (open_path options p c) (λ bs. spot_by bs [] c.rest kind)
-new-path options p c kind built e =
+new-path options p c kind e =
     let k : Path = kept_to options c.change.stays p in
-    behind-ap k (new_line options c.change.opens c.rest)
+    behind-ap k (new_line options c.on c.change.opens c.rest)
     (λ bs. with_spot (new_none c.change.opens bs) (λ cs. spot_by cs [] c.rest kind))
     (λ bs.
-    new-with options c.change.opens c.rest bs built
+    new-with options c.on c.change.opens c.rest bs
     ∙ ap (λ (x : RowKind). with_spot (new_none c.change.opens bs) (λ cs. spot_by cs [] c.rest x)) e)
     ∙ sym (behind-behind k (new_none c.change.opens) (λ bs. spot_by bs [] c.rest kind))
 
@@ -465,17 +468,28 @@ other-kind TextRow other = absurd (other refl)
 line-is : (options : ParseOptions) (bytes : List ℕ) (cs : List Container) (still : HeldLeaf) (p : Point) (line : List ℕ)
     (row : Row) →
     f.IsLine options bytes cs still p line row →
-    row.kind ≡ line_kind options (contained options cs still (rest_from p line)).rest
-line-is options bytes cs still p line row is = is.is.kind ∙ ap (λ (r : Rest). line_kind options r) is.rest_is
+    let c = contained options cs still (rest_from p line) in row.kind ≡ line_kind options c.on c.rest
+line-is options bytes cs still p line row is = is.is.kind ∙ ap₂ (line_kind options) is.on is.rest_is
 
--- and the leaf that is open behind it
+-- and what is open behind it
+line-behind : (options : ParseOptions) (bytes : List ℕ) (cs : List Container) (still : HeldLeaf) (p : Point)
+    (line : List ℕ) (row : Row) →
+    f.IsLine options bytes cs still p line row →
+    let c = contained options cs still (rest_from p line) in
+    row.behind ≡ line_behind options c.on c.rest (line_kind options c.on c.rest)
+line-behind options bytes cs still p line row is =
+    is.is.behind
+    ∙ ap₂ (λ (on : HeldLeaf) (r : Rest). line_behind options on r row.kind) is.on is.rest_is
+    ∙ ap (line_behind options (contained options cs still (rest_from p line)).on
+    (contained options cs still (rest_from p line)).rest) (line-is options bytes cs still p line row is)
+
 pub still-line : (options : ParseOptions) (bytes : List ℕ) (a : Path) (p : Point) (line : List ℕ) (row : Row) →
     IsBuilt options →
     IsPlain a → f.IsLine options bytes (containers_of a) (still_of a) p line row →
-    still_of (step options a (rest_from p line)) ≡ leaf_behind row.kind
+    still_of (step options a (rest_from p line)) ≡ row.behind
 still-line options bytes a p line row built plain is =
     still-step options a (rest_from p line) built plain
-    ∙ ap leaf_behind (sym (line-is options bytes (containers_of a) (still_of a) p line row is))
+    ∙ sym (line-behind options bytes (containers_of a) (still_of a) p line row is)
 
 -- the ending of a line opens no line of a leaf
 ending-role : (kind : RowKind) → Between (role (ending_of kind))
@@ -508,7 +522,7 @@ row-means options bytes p a line row gs last built plain is follows = go (goes_l
     c : Contained
     c = contained_at options p (rest_from a line)
 
-    kind-is : row.kind ≡ line_kind options c.rest
+    kind-is : row.kind ≡ line_kind options c.on c.rest
     kind-is = line-is options bytes (containers_of p) (still_of p) a line row is
 
     stepped : (x : Bool) → goes_lazy options p c ≡ x →
@@ -589,7 +603,7 @@ row-means options bytes p a line row gs last built plain is follows = go (goes_l
         Means options bytes p (is_lazy (still_of p) row.change.opens row.kind) row (onto_groups row row.kind gs) last
     go true e =
         let text : is_text row.kind ≡ true = ap is_text kind-is
-        ∙ lazy-text (still_of p) c.change.opens (line_kind options c.rest) e in
+        ∙ lazy-text (still_of p) c.change.opens (line_kind options c.on c.rest) e in
         let is_row : row.kind ≡ TextRow = text-kind row.kind text in
         subst (λ (x : Bool). Means options bytes p x row (onto_groups row row.kind gs) last) (sym (same ∙ e))
         (subst (λ (k : RowKind). StartsLines options bytes p row (onto_groups row k gs) last) (sym is_row)
@@ -602,7 +616,7 @@ row-means options bytes p a line row gs last built plain is follows = go (goes_l
         subst (λ (x : Bool). Means options bytes p x row (onto_groups row row.kind gs) last) (sym (same ∙ e))
         (by row.kind refl
         (subst (λ (x : Path). Follows options bytes x row gs last)
-        (stepped false e ∙ new-path options p c row.kind built (sym kind-is)) follows))
+        (stepped false e ∙ new-path options p c row.kind (sym kind-is)) follows))
 
 -- where nothing follows
 row-ends : (options : ParseOptions) (bytes : List ℕ) (p : Path) (a : Point) (line : List ℕ) (row : Row) →
@@ -672,16 +686,26 @@ not-joined row below gs lazy = go below.kind lazy
     go (LeafRow l) e = refl
     go TextRow e = onto gs (opens (is_none below.change.opens) e)
 
+-- behind a line one may go on lazily if it is text
+behind-lazy : (options : ParseOptions) (bytes line : List ℕ) (row : Row) → f.IsRow options bytes line row →
+    takes_lazy row.behind ≡ is_text row.kind
+behind-lazy options bytes line row is = ap takes_lazy is.behind ∙ go row.kind
+  where
+    go : (kind : RowKind) → takes_lazy (line_behind options row.on is.rest kind) ≡ is_text kind
+    go BlankRow = refl
+    go (LeafRow l) = ((laws l).not_lazy options row.on).1 is.rest
+    go TextRow = refl
+
 -- what follows a line, by what is read of the lines below
 follows-below : (options : ParseOptions) (bytes : List ℕ) (p : Path) (row below : Row) (gs : List Group) (q : Point)
     (line : List ℕ) (last : Reading) →
-    IsBuilt options → IsPlain p → still_of p ≡ leaf_behind row.kind →
+    IsBuilt options → IsPlain p → takes_lazy row.behind ≡ is_text row.kind → still_of p ≡ row.behind →
     row.leaves ≡ below.change.closes → f.IsEnding bytes row.end q →
     f.IsLine options bytes (containers_of p) (still_of p) q line below →
     (x : Bool) → is_lazy (still_of p) below.change.opens below.kind ≡ x →
     Means options bytes p x below (onto_groups below below.kind gs) last →
     Follows options bytes p row (onto_groups below below.kind gs) last
-follows-below options bytes p row below gs q line last built plain still leaves ending is true lazy means =
+follows-below options bytes p row below gs q line last built plain lazily still leaves ending is true lazy means =
     let c : Contained = contained_at options p (rest_from q line) in
     let kind_is = line-is options bytes (containers_of p) (still_of p) q line below is in
     let goes : goes_lazy options p c ≡ true =
@@ -690,8 +714,9 @@ follows-below options bytes p row below gs q line last built plain still leaves 
     let none : below.change.opens ≡ [] = lazy-opens (still_of p) below.change.opens below.kind lazy in
     inr (record {
       text =
-          lazy-row row.kind below.change.opens below.kind
-          (ap (λ (x : HeldLeaf). is_lazy x below.change.opens below.kind) (sym still) ∙ lazy);
+          sym lazily ∙ ap takes_lazy (sym still)
+          ∙ (and_parts (takes_lazy (still_of p)) (is_none below.change.opens)
+          (and_parts (takes_lazy (still_of p) && is_none below.change.opens) (is_text below.kind) lazy).0).0;
       next = below;
       starts = means;
       leaves = leaves ∙ ap (λ (x : Change). x.closes) is.change ∙ contained-lazy options p (rest_from q line) goes;
@@ -700,17 +725,13 @@ follows-below options bytes p row below gs q line last built plain still leaves 
       ending = ending;
       fronts = subst (λ (cs : List Container). LinePrefix bytes cs q below.first below.front) none is.front;
     })
-  where
-    lazy-row : (k : RowKind) (opens : List Container) (kind : RowKind) → is_lazy (leaf_behind k) opens kind ≡ true →
-        is_text k ≡ true
-    lazy-row BlankRow opens kind e = cc
-    lazy-row (LeafRow l) opens kind e = cc
-    lazy-row TextRow opens kind e = refl
-follows-below options bytes p row below gs q line last built plain still leaves ending is false lazy means =
+follows-below options bytes p row below gs q line last built plain lazily still leaves ending is false lazy means =
     inl (record {
       apart =
           λ text. not-joined row below gs
-          (ap (λ (x : HeldLeaf). is_lazy x below.change.opens below.kind) (sym (still ∙ ap leaf_behind text)) ∙ lazy);
+          (ap (λ (x : Bool). x && is_none below.change.opens && is_text below.kind)
+          (sym (ap takes_lazy still ∙ lazily ∙ ap is_text text))
+          ∙ lazy);
       reads =
           ap
           (λ (cs : List Container).
@@ -737,7 +758,7 @@ rows-below options bytes a p line next lines row below rows built plain are =
     let b : Path = step options a r in
     let containers : containers_of b ≡
     f.behind_line options (containers_of a) (still_of a) p line = containers-step options a r built plain in
-    let still : still_of b ≡ leaf_behind row.kind = still-line options bytes a p line row built plain are.0 in
+    let still : still_of b ≡ row.behind = still-line options bytes a p line row built plain are.0 in
     subst (λ (cs : List Container). f.AreRows options bytes cs (still_of b) are.2 (next ∷ lines) (below ∷ rows))
     (sym containers)
     (subst
@@ -770,7 +791,7 @@ rows-mean options bytes a p (suc n) (line ∷ next ∷ lines) (row ∷ below ∷
     let r : Rest = rest_from p line in
     let b : Path = step options a r in
     let q : Point = are.2 in
-    let still : still_of b ≡ leaf_behind row.kind = still-line options bytes a p line row built plain are.0 in
+    let still : still_of b ≡ row.behind = still-line options bytes a p line row built plain are.0 in
     let plain_b : IsPlain b = plain-step options a r built plain in
     let are_b = rows-below options bytes a p line next lines row below rows built plain are in
     let further : Came options bytes b n (rests_from q (next ∷ lines)) (below ∷ rows) = rows-mean options bytes b q n
@@ -779,7 +800,8 @@ rows-mean options bytes a p (suc n) (line ∷ next ∷ lines) (row ∷ below ∷
     let last : Reading = close_containers (length (last_leaves (below ∷ some)))
     (reading options (steps options b (take (suc n) (map (rest_at 0) (next ∷ lines))))) in
     row-means options bytes a p line row (groups (below ∷ some)) last built plain are.0
-    (follows-below options bytes b row below (groups some) q next last built plain_b still are.1 are.4
+    (follows-below options bytes b row below (groups some) q next last built plain_b
+    (behind-lazy options bytes (rest_line (contained_at options a r).rest) row are.0.is) still are.1 are.4
     (first-line options bytes (containers_of b) (still_of b) q (next ∷ lines) (below ∷ rows) are_b)
     (is_lazy (still_of b) below.change.opens below.kind) refl
     (subst (λ (rests : List Rest). Came options bytes b n rests (below ∷ rows))

@@ -22,7 +22,7 @@ use Rattle.markdown_blocks.specs.Registry.{container_name, text_leaf}
 use Rattle.markdown_blocks.specs.Change.{ends_of}
 use Rattle.markdown_blocks.specs.Document.{body_point, mark_end, mark_events}
 use Rattle.markdown_blocks.specs.Fronted.{contained, rest_from, rest_line}
-use Rattle.markdown_blocks.specs.Rows.{leaf_behind, LeafRow, ending_of, leaf_unread, BlankRow, Group, Lines, Row}
+use Rattle.markdown_blocks.specs.Rows.{LeafRow, ending_of, leaf_unread, BlankRow, Group, Lines, Row}
 use Rattle.markdown_blocks.specs.Rows.{RowKind, Single, TextRow, behind_row, ending_events, goes_on as joins_on, groups}
 use Rattle.markdown_blocks.specs.Rows.{last_row, onto_groups, tail_events}
 use Rattle.markdown_blocks.specs.Unread.{listed_group, listed_groups, listed_row_by, unread_lines}
@@ -140,7 +140,7 @@ groups-laid options bytes open_before still p (line ∷ next ∷ lines) (row ∷
     (row-facts options bytes
     (rest_line (contained options open_before still (rest_from p line)).rest) row is.is other).tiled)
     (subst (λ (q : Point). Laid bytes q end (groups (below ∷ rows))) (sym (behind-is row are.2 are.3))
-    (groups-laid options bytes (behind_line options open_before still p line) (leaf_behind row.kind) are.2
+    (groups-laid options bytes (behind_line options open_before still p line) row.behind are.2
     (next ∷ lines) (below ∷ rows) are.5)) row.kind refl
 groups-laid options bytes open_before still p lines rows are = absurd are
 

@@ -3,6 +3,7 @@
 use Rattle.md_engine.specs.declared.tokenizer.held_leaf.HeldLeaf.TheVariants as held_leaf
 use Rattle.md_engine.specs.declared.tokenizer.held_leaf.HeldLeaf.{HeldLeaf}
 use Rattle.std.proofs.Common.{◌≡◌, ℕ, zero, suc, ◌-◌, Bool, true, false, cond, not, ◌==◌, ◌&&◌, ◌||◌, List, [], ◌∷◌}
+use Rattle.markdown_blocks.specs.Change.{met}
 use Rattle.std.proofs.Common.{◌++◌, map, length, drop, take, refl, ap, sym, ◌∙◌, subst, inl, inr, ◌⊎◌}
 use Rattle.std.specs.Prelude.{Option, Some, None}
 use Rattle.std.specs.List.{onto_first}
@@ -21,7 +22,7 @@ use Rattle.md_definition.specs.Rest.{Rest}
 use Rattle.md_seam.specs.Events.Spelled.{spelled}
 use Rattle.md_definition.specs.State.{At, Container, Kept, Leaf, Path, Spot, Within, closed, container_block, kept}
 use Rattle.md_definition.specs.State.{shut, texts, then_block, then_leaf}
-use Rattle.md_definition.specs.Step.{fresh_line, spot_of, step, steps}
+use Rattle.md_definition.specs.Step.{spot_of, step, steps}
 use Rattle.md_definition.specs.Texts.{split_lines}
 use Rattle.md_definition.specs.Tree.{Blocks, End}
 use Rattle.md_definition.proofs.LinesLemmas.{without_ending-onto}
@@ -38,7 +39,7 @@ use Rattle.markdown_blocks.specs.HeldLeaf.{IsBuiltLeaf}
 use Rattle.markdown_blocks.specs.Stands.{IsPlain, containers_of, still_of}
 use Rattle.markdown_blocks.proofs.ContainedLemmas.{contained-kinds}
 use Rattle.markdown_blocks.proofs.KindLemmas.{kind-starts}
-use Rattle.markdown_blocks.proofs.LineSteps.{behind_path, contained_at, fresh-found, goes_lazy, kept_to, longer}
+use Rattle.markdown_blocks.proofs.LineSteps.{behind_path, contained_at, goes_lazy, kept_to, longer}
 use Rattle.markdown_blocks.proofs.LineSteps.{new_line, new_path, plain-step, renewed, spot_by, step-contained, step-new}
 use Rattle.markdown_blocks.proofs.LineSteps.{stepped_on}
 use Rattle.markdown_blocks.proofs.MarkLemmas.{without-mark}
@@ -77,7 +78,8 @@ read-new options interrupting (suc n) r built =
 read-open : (options : ParseOptions) (cs : List Container) (still : HeldLeaf) (r : Rest) → IsBuilt options →
     AreRead (contained options cs still r).change.opens
 unfolding contained
-read-open options cs still r built = go (is_lazy still new.containers (line_kind options new.rest))
+read-open options cs still r built =
+    go (is_lazy still new.containers (line_kind options (met still (others_of cs on.containers) new.containers) new.rest))
   where
     on : Prefixed
     on = prefixes_on options cs r
@@ -142,21 +144,20 @@ shallow-behind : (p : Path) (f : Blocks → Path) → HoldsShallow p →
 shallow-behind (At s) f h each = each s.here h
 shallow-behind (Within before container p) f h each = (h.0, h.1, shallow-behind p f h.2 each)
 
-shallow-fresh : (options : ParseOptions) (bs : Blocks) (r : Rest) → IsBuilt options → are_shallow bs ≡ true →
-    are_shallow (fresh_line options bs r).here ≡ true
-shallow-fresh options bs r built h =
-    subst (λ (s : Spot). are_shallow s.here ≡ true) (sym (fresh-found options bs r built))
-    (go (line_kind options r) refl)
+shallow-line : (options : ParseOptions) (on : HeldLeaf) (bs : Blocks) (r : Rest) → are_shallow bs ≡ true →
+    are_shallow (spot_by bs [] r (line_kind options on r)).here ≡ true
+shallow-line options on bs r h = go (line_kind options on r) refl
   where
-    go : (kind : RowKind) → line_kind options r ≡ kind → are_shallow (spot_by bs [] r kind).here ≡ true
+    go : (kind : RowKind) → line_kind options on r ≡ kind → are_shallow (spot_by bs [] r kind).here ≡ true
     go BlankRow e = h
-    go (LeafRow l) e = shallow-then bs ((leaf l).block r) h (leaf-shallow l options r (kind-starts options r l e))
+    go (LeafRow l) e =
+        shallow-then bs ((leaf l).block r) h (leaf-shallow l options on r (kind-starts options on r l e))
     go TextRow e = h
 
-shallow-new_line : (options : ParseOptions) (cs : List Container) (r : Rest) (bs : Blocks) → IsBuilt options →
-    AreRead cs → are_shallow bs ≡ true → HoldsShallow (new_line options cs r bs)
-shallow-new_line options [] r bs built read h = shallow-fresh options bs r built h
-shallow-new_line options (c ∷ cs) r bs built read h = (h, read.0, shallow-new_line options cs r End built read.1 refl)
+shallow-new_line : (options : ParseOptions) (on : HeldLeaf) (cs : List Container) (r : Rest) (bs : Blocks) →
+    AreRead cs → are_shallow bs ≡ true → HoldsShallow (new_line options on cs r bs)
+shallow-new_line options on [] r bs read h = shallow-line options on bs r h
+shallow-new_line options on (c ∷ cs) r bs read h = (h, read.0, shallow-new_line options on cs r End read.1 refl)
 
 shallow-step : (options : ParseOptions) (p : Path) (r : Rest) → IsBuilt options → IsPlain p → HoldsShallow p →
     HoldsShallow (step options p r)
@@ -176,9 +177,9 @@ shallow-step options p r built plain h =
         HoldsShallow (cond x (longer (renewed c.change.stays p) (kept c.rest ∷ [])) (new_path options p c))
     go true = shallow-longer (renewed c.change.stays p) (kept c.rest ∷ []) (shallow-renewed c.change.stays p stay h)
     go false =
-        shallow-behind (kept_to options c.change.stays p) (new_line options c.change.opens c.rest)
+        shallow-behind (kept_to options c.change.stays p) (new_line options c.on c.change.opens c.rest)
         (shallow-kept options c.change.stays p built plain stay h)
-        (λ bs k. shallow-new_line options c.change.opens c.rest bs built open_new k)
+        (λ bs k. shallow-new_line options c.on c.change.opens c.rest bs open_new k)
 
 plain-steps : (options : ParseOptions) (p : Path) (rs : List Rest) → IsBuilt options → IsPlain p →
     IsPlain (steps options p rs)
@@ -230,17 +231,15 @@ on-empty options (c ∷ cs) column read =
     go false e more = (0, ap by e)
 
 -- behind such a line all is as it was, once it is closed
-closed-empty : (options : ParseOptions) (n : ℕ) (p : Path) (column : ℕ) → IsBuilt options →
+closed-empty : (options : ParseOptions) (n : ℕ) (p : Path) (column : ℕ) →
     closed options
     (behind_path (kept_to options (take n (containers_of p)) p)
-    (λ (bs : Blocks). At (fresh_line options bs (rest_at column [])))) ≡
+    (λ (bs : Blocks). At (spot_by bs [] (rest_at column []) BlankRow))) ≡
     closed options p
-closed-empty options zero p column built =
-    ap (λ (s : Spot). closed options (At s)) (fresh-found options (closed options p) (rest_at column []) built)
-closed-empty options (suc n) (At s) column built =
-    ap (λ (x : Spot). closed options (At x)) (fresh-found options (closed options (At s)) (rest_at column []) built)
-closed-empty options (suc n) (Within before c p) column built =
-    ap (λ (bs : Blocks). then_block before (container_block c bs)) (closed-empty options n p column built)
+closed-empty options zero p column = refl
+closed-empty options (suc n) (At s) column = refl
+closed-empty options (suc n) (Within before c p) column =
+    ap (λ (bs : Blocks). then_block before (container_block c bs)) (closed-empty options n p column)
 
 step-empty : (options : ParseOptions) (p : Path) (column : ℕ) → IsBuilt options → IsPlain p →
     AreRead (containers_of p) → closed options (step options p (rest_at column [])) ≡ closed options p
@@ -248,7 +247,7 @@ step-empty options p column built plain read =
     ap (closed options) (step-new options p r built plain)
     ∙ ap (λ (on : Prefixed). closed options (stepped_on options p on)) on.1
     ∙ go (still_of p)
-    ∙ closed-empty options on.0 p column built
+    ∙ closed-empty options on.0 p column
   where
     r : Rest
     r = rest_at column []
@@ -262,7 +261,7 @@ step-empty options p column built plain read =
     other : Path
     other =
         behind_path (kept_to options (take on.0 (containers_of p)) p)
-        (λ (bs : Blocks). At (fresh_line options bs (rest_at column [])))
+        (λ (bs : Blocks). At (spot_by bs [] (rest_at column []) BlankRow))
 
     go : (x : HeldLeaf) →
         closed options

@@ -80,7 +80,7 @@ fits-front (m ∷ ms) = fits-before m
 record Falls (l : LeafName) (next : FlowState) : Type 0 where
   falls : (flow_tries (n.Flow next)).number < (flow_rank (n.Flow (leaf l).before)).number
   next_low : (flow_rank (n.Flow next)).number < (flow_tries (n.Flow next)).number
-  behind_low : (flow_rank (n.Flow flow.LeafAfter)).number < (flow_tries (n.Flow next)).number
+  behind_low : 1 < (flow_tries (n.Flow next)).number
 
 falls-to : (l : LeafName) (ls : List LeafName) → behind l ≡ ls → NextIs ls → Falls l (front_of ls)
 falls-to l ls e is = go ls (ap length e) is

@@ -1,7 +1,9 @@
 -- What a line does to the containers that are open before it.
 use Rattle.md_containers.specs.Interrupts.{is_interrupted}
+use Rattle.markdown_blocks.specs.HeldLeaf.{met_by}
+use Rattle.md_engine.specs.declared.tokenizer.held_leaf.HeldLeaf.TheVariants as held_leaf
 use Rattle.md_engine.specs.declared.tokenizer.held_leaf.HeldLeaf.{HeldLeaf}
-use Rattle.std.specs.Prelude.{Bool, true, false, ◌&&◌, List, [], ◌∷◌, ◌++◌, length, drop}
+use Rattle.std.specs.Prelude.{Bool, true, false, ◌&&◌, if◌then◌else◌, List, [], ◌∷◌, ◌++◌, length, drop}
 use Rattle.md_engine.specs.declared.event.Event.{Event}
 use Rattle.md_engine.specs.declared.event.Point.{Point}
 use Rattle.md_seam.specs.Events.Nested.{exit}
@@ -38,6 +40,11 @@ is_none (c ∷ cs) = false
 -- whether a container that opens would interrupt the open leaf: all containers went on
 abbrev pub interrupts : HeldLeaf → List Container → Bool
 interrupts still others = is_interrupted still && is_none others
+
+-- the leaf that a line meets, which it may go on or stands against: of the open one, where these containers did not go
+-- on, and these open
+abbrev pub met : HeldLeaf → List Container → List Container → HeldLeaf
+met still others opens = if is_none opens then met_by (is_none others) still else held_leaf.None
 
 -- the ends of containers at a point, the innermost first
 abbrev pub ends_of : List Container → Point → List Event

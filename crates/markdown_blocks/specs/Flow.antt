@@ -45,10 +45,15 @@ abbrev pub blank_line_before_transition : World → Transition
 blank_line_before_transition w =
     blank_line_code w (ends_line w.current) (may_with blank.may_begin (looks_behind w))
 
+-- where one goes on behind a leaf: one that always ends on its line is shut
+abbrev pub leaf_end : Bool → FlowState
+leaf_end true = flow.LeafAfter
+leaf_end false = flow.After
+
 -- in front of a leaf
 abbrev pub before_transition : LeafName → World → Transition
 before_transition l w =
-    trial_code (leaf l).start (s.Flow flow.LeafAfter) (s.Flow (next_of l)) w
+    trial_code (leaf l).start (s.Flow (leaf_end (leaf l).ends)) (s.Flow (next_of l)) w
     (may_with (leaf l).may_begin (looks_behind w))
 
 abbrev pub before_content_transition : World → Transition

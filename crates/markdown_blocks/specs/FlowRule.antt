@@ -54,6 +54,11 @@ line_ended next cells h = ended next cells (ended_to (stays h.flags) h.flags.lin
 abbrev pub leaf_ended : Rule → Rule
 leaf_ended next cells h = line_ended next cells (record h { flags = shut_leaf h.flags })
 
+-- behind a leaf, by whether it always ends on its line
+abbrev pub behind_leaf : Bool → Rule → Rule
+behind_leaf true next cells h = leaf_ended next cells h
+behind_leaf false next cells h = line_ended next cells h
+
 -- behind a blank line no paragraph is open
 abbrev pub blank_ended : Rule → Rule
 blank_ended next cells h = line_ended next cells (record h { flags = blanked h.flags })
@@ -72,7 +77,7 @@ content_of next cells h = tried (chunk_at cells h) (line_ended next) Refuses
 abbrev pub leaves_of : ParseOptions → Rule → List LeafName → Rule
 leaves_of options next [] cells h = content_of next cells h
 leaves_of options next (l ∷ ls) cells h =
-    tried ((leaf l).trial options cells h) (leaf_ended next)
+    tried ((leaf l).trial options cells h) (behind_leaf (leaf l).ends next)
     (λ s g. leaves_of options next ls cells (record h { scratch = s; flags = g }))
 
 abbrev pub nonblank_of : ParseOptions → Rule → Rule

@@ -7,7 +7,7 @@ use Rattle.md_definition.specs.Containers.{continues, opens}
 pub use Rattle.md_definition.specs.Rest.{cut_tab}
 use Rattle.md_definition.specs.Rest.{Rest}
 use Rattle.md_definition.specs.State.{Container}
-use Rattle.markdown_blocks.specs.Change.{Change, change_by, interrupts, others_of}
+use Rattle.markdown_blocks.specs.Change.{Change, change_by, interrupts, met, others_of}
 use Rattle.markdown_blocks.specs.Rows.{is_lazy, line_kind}
 
 -- containers that have a prefix on a line, and its rest behind them
@@ -45,20 +45,23 @@ rest_line r = cut_tab r.spaces ++ r.bytes
 abbrev pub rest_from : Point → List ℕ → Rest
 rest_from p line = record { column = p.column - 1; spaces = 0; bytes = line }
 
--- what a line does to the containers, and its rest behind them
+-- what a line does to the containers, the leaf that it meets behind them, and its rest
 pub record Contained : Type 0 where
   pub change : Change
+  pub on : HeldLeaf
   pub rest : Rest
 
-abbrev pub contained_by : List Container → Bool → Prefixed → Prefixed → Contained
-contained_by cs lazy went new = record {
+abbrev pub contained_by : List Container → Bool → HeldLeaf → Prefixed → Prefixed → Contained
+contained_by cs lazy on went new = record {
   change = change_by lazy went.containers (others_of cs went.containers) new.containers;
+  on = on;
   rest = new.rest;
 }
 
 abbrev pub contained_of : ParseOptions → List Container → HeldLeaf → Prefixed → Prefixed → Contained
 contained_of options cs still went new =
-    contained_by cs (is_lazy still new.containers (line_kind options new.rest)) went new
+    let on = met still (others_of cs went.containers) new.containers in
+    contained_by cs (is_lazy still new.containers (line_kind options on new.rest)) on went new
 
 abbrev pub contained_behind : ParseOptions → List Container → HeldLeaf → Prefixed → Contained
 contained_behind options cs still went =

@@ -4,7 +4,7 @@
 -- ends) keeps it in
 -- `HeldLeaf`; what it is by the line definition is said here, and so is whether containers may open in it, once one may
 -- not. Whether a container that opens interrupts it, containers ask themselves (`is_interrupted` of `Interrupts`).
-use Rattle.std.specs.Prelude.{◌≡◌, Bool, true, false}
+use Rattle.std.specs.Prelude.{◌≡◌, Bool, true, false, ◌||◌, if◌then◌else◌}
 use Rattle.md_engine.specs.declared.tokenizer.held_leaf.HeldLeaf.{HeldLeaf}
 use Rattle.md_engine.specs.declared.tokenizer.held_leaf.HeldLeaf.TheVariants as held_leaf
 use Rattle.md_definition.specs.State.{Leaf, NoLeaf, OpenParagraph}
@@ -14,6 +14,11 @@ use Rattle.markdown_blocks.specs.Leaf.Paragraph.{IsOpenText}
 abbrev pub takes_lazy : HeldLeaf → Bool
 takes_lazy held_leaf.Text = true
 takes_lazy _ = false
+
+-- what a line meets of a leaf, where no container opens: the leaf is left where all containers went on, or where it
+-- takes lazy lines; else it has ended with its containers
+abbrev pub met_by : Bool → HeldLeaf → HeldLeaf
+met_by all leaf = if takes_lazy leaf || all then leaf else held_leaf.None
 
 -- the kind of an open leaf of the line definition
 abbrev pub kind_of_leaf : Leaf → HeldLeaf

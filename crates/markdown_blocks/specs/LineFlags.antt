@@ -1,6 +1,6 @@
 -- What the document knows of its containers, and how each step of a line changes it.
-use Rattle.markdown_blocks.specs.HeldLeaf.{takes_lazy}
-use Rattle.std.specs.Prelude.{ℕ, suc, ◌+◌, Bool, true, false, ◌&&◌, nat_lt, if◌then◌else◌, List, [], ◌∷◌, ◌++◌}
+use Rattle.markdown_blocks.specs.HeldLeaf.{met_by, takes_lazy}
+use Rattle.std.specs.Prelude.{ℕ, suc, ◌+◌, Bool, true, false, ◌&&◌, not, nat_lt, if◌then◌else◌, List, [], ◌∷◌, ◌++◌}
 use Rattle.std.specs.Prelude.{drop, length, slice_get, slice_set, Option}
 use Rattle.md_engine.specs.declared.event.Name.{Name}
 use Rattle.md_engine.specs.declared.event.Name.TheVariants.{BlankLineEnding, LineEnding}
@@ -44,9 +44,10 @@ with_container g = record g {
   leaf = held_leaf.None;
 }
 
--- behind the containers of a line
+-- behind the containers of a line: a leaf that has ended with its containers is open no more
 abbrev pub begun_line : Flags → Flags
-begun_line g = record g { leaf_before = g.leaf }
+begun_line g =
+    record g { leaf_before = g.leaf; leaf = met_by (not (nat_lt g.continued (length g.containers))) g.leaf }
 
 -- behind a leaf on one line none is open
 abbrev pub shut_leaf : Flags → Flags

@@ -21,7 +21,7 @@ use Rattle.md_definition.specs.Rest.{Rest, is_blank}
 use Rattle.md_definition.specs.State.{Container}
 use Rattle.markdown_blocks.specs.Passed.{Passed}
 use Rattle.markdown_blocks.specs.Registry.{LeafName, first_of, goes_at, leaf, opens_at, text_leaf, trials}
-use Rattle.markdown_blocks.specs.Change.{Change, change_by, ends_of, interrupts, is_none, open_behind, others_of}
+use Rattle.markdown_blocks.specs.Change.{Change, change_by, ends_of, interrupts, is_none, met, open_behind, others_of}
 
 -- what the rest of a line is, behind the prefixes of its containers
 pub data RowKind : Type 0 where
@@ -32,6 +32,9 @@ pub data RowKind : Type 0 where
 -- A line that was read.
 pub record Row : Type 0 where
   pub kind : RowKind
+  -- the leaf that it meets, and the one that is open behind it
+  pub on : HeldLeaf
+  pub behind : HeldLeaf
   -- what stands in front of it: the prefixes of its containers, and the begins of those that open on it
   pub front : List Event
   -- what it does to the containers that were open before it
@@ -50,14 +53,26 @@ abbrev pub kind_of : Option LeafName → RowKind
 kind_of None = TextRow
 kind_of (Some l) = LeafRow l
 
--- By the rest of a line, as the line definition has it.
-abbrev pub line_kind : ParseOptions → Rest → RowKind
-line_kind options r = if is_blank r.bytes then BlankRow else kind_of (first_of (λ l. (leaf l).starts options r) trials)
+-- By the rest of a line, as the line definition has it, where it meets this leaf: its kind, and what is open behind a line
+-- of a kind.
+abbrev pub line_kind : ParseOptions → HeldLeaf → Rest → RowKind
+line_kind options on r =
+    if is_blank r.bytes then BlankRow else kind_of (first_of (λ l. (leaf l).starts options on r) trials)
+
+abbrev pub line_behind : ParseOptions → HeldLeaf → Rest → RowKind → HeldLeaf
+line_behind options on r BlankRow = held_leaf.None
+line_behind options on r (LeafRow l) = (leaf l).holds options on r
+line_behind options on r TextRow = held_leaf.Text
 
 -- By its cells.
-abbrev pub row_kind : ParseOptions → List Cell → RowKind
-row_kind options cells =
-    if is_blank (line_bytes cells) then BlankRow else kind_of (first_of (λ l. (leaf l).takes options cells) trials)
+abbrev pub row_kind : ParseOptions → HeldLeaf → List Cell → RowKind
+row_kind options on cells =
+    if is_blank (line_bytes cells) then BlankRow else kind_of (first_of (λ l. (leaf l).takes options on cells) trials)
+
+abbrev pub leaf_behind : ParseOptions → HeldLeaf → List Cell → Point → RowKind → HeldLeaf
+leaf_behind options on cells p BlankRow = held_leaf.None
+leaf_behind options on cells p (LeafRow l) = (leaf l).keeps options on cells p
+leaf_behind options on cells p TextRow = held_leaf.Text
 
 -- by the bytes of a blank line, its whitespace
 abbrev pub blank_line : List ℕ → Point → List Event
@@ -65,10 +80,10 @@ blank_line [] p = []
 blank_line (b ∷ bs) p = pair n.SpaceOrTab p (past_text (b ∷ bs) p)
 
 -- what flow adds for a line that is no text
-abbrev pub inside_of : ParseOptions → List Cell → Point → RowKind → List Event
-inside_of options cells p BlankRow = blank_events cells p
-inside_of options cells p (LeafRow l) = (leaf l).adds options cells p
-inside_of options cells p TextRow = []
+abbrev pub inside_of : ParseOptions → HeldLeaf → List Cell → Point → RowKind → List Event
+inside_of options on cells p BlankRow = blank_events cells p
+inside_of options on cells p (LeafRow l) = (leaf l).adds options on cells p
+inside_of options on cells p TextRow = []
 
 -- where the cells behind an ending begin
 abbrev pub after_ending : List Cell → Option Point
@@ -108,9 +123,10 @@ new_front options interrupting (suc size) cells p =
       | Some t ↦ in_front t (new_front options false size t.cells t.point)
     ]
 
--- What a line does to the containers that are open before it, and what is left of it.
+-- What a line does to the containers that are open before it, the leaf that it meets, and what is left of it.
 pub record Held : Type 0 where
   pub change : Change
+  pub on : HeldLeaf
   pub front : List Event
   pub cells : List Cell
   pub point : Point
@@ -119,26 +135,23 @@ abbrev pub is_text : RowKind → Bool
 is_text TextRow = true
 is_text _ = false
 
--- the leaf that is open behind a line: lines of text are, and a leaf on one line has ended
-abbrev pub leaf_behind : RowKind → HeldLeaf
-leaf_behind BlankRow = held_leaf.None
-leaf_behind (LeafRow l) = held_leaf.None
-leaf_behind TextRow = held_leaf.Text
-
 -- whether a line goes on the open text, whatever containers go on (CommonMark 5.1, "laziness")
 abbrev pub is_lazy : HeldLeaf → List Container → RowKind → Bool
 is_lazy still opens kind = takes_lazy still && is_none opens && is_text kind
 
-abbrev pub held_by : List Container → Bool → Front → Front → Held
-held_by cs lazy went new = record {
+abbrev pub held_by : List Container → Bool → HeldLeaf → Front → Front → Held
+held_by cs lazy on went new = record {
   change = change_by lazy went.containers (others_of cs went.containers) new.containers;
+  on = on;
   front = went.events ++ new.events;
   cells = new.cells;
   point = new.point;
 }
 
 abbrev pub held_of : ParseOptions → List Container → HeldLeaf → Front → Front → Held
-held_of options cs still went new = held_by cs (is_lazy still new.containers (row_kind options new.cells)) went new
+held_of options cs still went new =
+    let on = met still (others_of cs went.containers) new.containers in
+    held_by cs (is_lazy still new.containers (row_kind options on new.cells)) on went new
 
 abbrev pub held_behind : ParseOptions → List Container → HeldLeaf → Front → Held
 held_behind options cs still went =
@@ -156,14 +169,20 @@ abbrev pub closes_before : List Container → List Row → List Container
 closes_before cs [] = cs
 closes_before cs (row ∷ rows) = row.change.closes
 
+-- the leaf that is open behind it
+abbrev pub behind_held : ParseOptions → Held → HeldLeaf
+behind_held options h = leaf_behind options h.on h.cells h.point (row_kind options h.on h.cells)
+
 abbrev pub row_of : ParseOptions → Held → List Row → Row
 row_of options h below = record {
-  kind = row_kind options h.cells;
+  kind = row_kind options h.on h.cells;
+  on = h.on;
+  behind = behind_held options h;
   front = h.front;
   change = h.change;
   leaves = closes_before (open_behind h.change) below;
   first = h.point;
-  inside = inside_of options h.cells h.point (row_kind options h.cells);
+  inside = inside_of options h.on h.cells h.point (row_kind options h.on h.cells);
   end = line_end h.cells h.point;
   after = after_ending (from_ending h.cells);
 }
@@ -177,7 +196,7 @@ rows_by options h further =
     onto_rows options h
     (elim (from_ending h.cells) [
       | [] ↦ []
-      | c ∷ cs ↦ further (open_behind h.change) (leaf_behind (row_kind options h.cells)) cs c.after
+      | c ∷ cs ↦ further (open_behind h.change) (behind_held options h) cs c.after
     ])
 
 -- At most so many lines, where these containers and this leaf are open; behind the last ending stands an empty line.

@@ -1,4 +1,5 @@
 -- A heading by the cells of its line: it stands where the line definition says, and adds what its bytes say.
+use Rattle.md_engine.specs.declared.tokenizer.held_leaf.HeldLeaf.TheVariants as held_leaf
 use Rattle.std.proofs.Common.{◌≡◌, ℕ, zero, suc, ◌^◌, ◌<◌, ◌≤◌, Bool, true, false, cond, List, [], ◌∷◌, ◌++◌, length}
 use Rattle.std.proofs.Common.{map, refl, sym, ap, ap₂, ◌∙◌, subst, arith, ◌+◌, ◌&&◌}
 use Rattle.std.specs.Prelude.{◌==◌, nat_le}
@@ -132,7 +133,7 @@ white-none (c ∷ cs) e = go (c.byte == 10)
 pub heading-fits : (options : ParseOptions) (said : Line) (text behind : List ℕ) (r : Rest) (p : Point)
     (stop : List Cell) →
     RestAt text behind r p → NoEnding r.bytes → Stops stop → length (rest_cells said r p ++ stop) < 2 ^ 63 →
-    is_heading_line options (rest_cells said r p ++ stop) ≡ heading_leaf.starts options r
+    is_heading_line options (rest_cells said r p ++ stop) ≡ heading_leaf.starts options held_leaf.None r
 heading-fits options said text behind r p stop is h k short = go (has_small_indent options r) refl
   where
     on : Bool
@@ -149,7 +150,7 @@ heading-fits options said text behind r p stop is h k short = go (has_small_inde
     yes true x = refl
     yes false x = refl
 
-    go : (t : Bool) → has_small_indent options r ≡ t → is_heading_line options cells ≡ heading_leaf.starts options r
+    go : (t : Bool) → has_small_indent options r ≡ t → is_heading_line options cells ≡ heading_leaf.starts options held_leaf.None r
     go true e =
         let small : Indented options said r p stop = small-indented options said text behind r p stop is h k short e in
         ap (λ (x : Bool). on && x)
@@ -296,8 +297,8 @@ spread-runs run line (b ∷ bs) p one =
 pub heading-adds : (options : ParseOptions) (said : Line) (text behind : List ℕ) (r : Rest) (p : Point)
     (stop : List Cell) →
     RestAt text behind r p → NoEnding r.bytes → Stops stop → length (rest_cells said r p ++ stop) < 2 ^ 63 →
-    heading_leaf.starts options r ≡ true →
-    heading_leaf.adds options (rest_cells said r p ++ stop) p ≡ heading_leaf.added (rest_line r) p
+    heading_leaf.starts options held_leaf.None r ≡ true →
+    heading_leaf.adds options held_leaf.None (rest_cells said r p ++ stop) p ≡ heading_leaf.added options held_leaf.None (rest_line r) p
 heading-adds options said text behind r p stop is h k short starts =
     ap (λ (q : Point). around HeadingAtx p q (heading_inside options cells p))
     (rest-line_end said r p stop h k one is.cut)

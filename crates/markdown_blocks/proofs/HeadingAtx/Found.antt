@@ -1,4 +1,5 @@
 -- Where the line definition has an ATX heading, and that an outline can show its block.
+use Rattle.md_engine.specs.declared.tokenizer.held_leaf.HeldLeaf.TheVariants as held_leaf
 use Rattle.std.proofs.Common.{◌≡◌, ℕ, ◌+◌, Bool, true, false, cond, ◌&&◌, drop, refl, ap, ◌∙◌, arith}
 use Rattle.std.specs.Prelude.{nat_le, Option, Some, None}
 use Rattle.std.proofs.lemmas.Bool.{and_parts}
@@ -11,7 +12,7 @@ use Rattle.md_outline.specs.HeadingDepths.{is_shallow}
 
 -- a heading starts where its leaf says, and comes to its block
 pub heading-found : (options : ParseOptions) (r : Rest) →
-    heading_at options r ≡ cond (heading_leaf.starts options r) (Some (Finished (heading_block r))) None
+    heading_at options r ≡ cond (heading_leaf.starts options held_leaf.None r) (Some (Finished (heading_block r))) None
 unfolding heading_at
 heading-found options r =
     let text = trim_start r.bytes in
@@ -31,7 +32,7 @@ heading-found options r =
     go true true b c d e = ap (λ (z : Bool). z && d) e
 
 -- it is not deeper than 6
-pub heading-shallow : (options : ParseOptions) (r : Rest) → heading_leaf.starts options r ≡ true →
+pub heading-shallow : (options : ParseOptions) (r : Rest) → heading_leaf.starts options held_leaf.None r ≡ true →
     is_shallow (heading_block r) ≡ true
 heading-shallow options r h =
     let text = trim_start r.bytes in

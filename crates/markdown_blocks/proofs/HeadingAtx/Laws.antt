@@ -1,4 +1,5 @@
 -- The laws of ATX headings.
+use Rattle.md_engine.specs.declared.tokenizer.held_leaf.HeldLeaf.TheVariants as held_leaf
 use Rattle.std.proofs.Common.{◌≡◌, ℕ, true, List, ◌&&◌, refl, sym, ap, ◌∙◌, subst}
 use Rattle.std.specs.Prelude.{Some}
 use Rattle.std.proofs.lemmas.Bool.{and_parts}
@@ -39,7 +40,7 @@ use Rattle.markdown_blocks.proofs.SubstitutedLemmas.{becomes-around}
 use Rattle.markdown_blocks.proofs.HeadingAtx.Outside.{heading-own}
 
 -- the line of a heading begins with its markers, behind whitespace
-line-begins : (options : ParseOptions) (r : Rest) → heading_leaf.starts options r ≡ true →
+line-begins : (options : ParseOptions) (r : Rest) → heading_leaf.starts options held_leaf.None r ≡ true →
     is_heading (trim_start (rest_line r)) ≡ true
 line-begins options r starts =
     ap is_heading (rest-trim r)
@@ -48,7 +49,7 @@ line-begins options r starts =
 
 -- what is known of its events
 heading-facts : (options : ParseOptions) (bytes : List ℕ) (r : Rest) (p q : Point) →
-    heading_leaf.starts options r ≡ true → LineAt bytes r (rest_line r) p q →
+    heading_leaf.starts options held_leaf.None r ≡ true → LineAt bytes r (rest_line r) p q →
     LeafFacts bytes (Some (heading_leaf.block r)) p q (heading_leaf.unread (rest_line r) p)
     (heading_leaf.done bytes (rest_line r) p)
 heading-facts options bytes r p q starts is = record {
@@ -96,19 +97,22 @@ heading-facts options bytes r p q starts is = record {
 -- All that the frame asks of headings.
 pub heading-laws : LeafLaws heading_leaf
 heading-laws = record {
-  looked = trial-looked;
+  looked = λ options on. trial-looked options;
   took = trial-took;
   refused = trial-refused;
   shrinks = trial-shrinks;
-  fits = heading-fits;
-  adds_is = heading-adds;
-  no_content = heading-no_content;
+  fits = λ options on. heading-fits options;
+  adds_is = λ options on. heading-adds options;
+  keeps_is = λ options on said text behind r p stop at none ends short starts. refl;
+  shut = λ ends options on. (λ cells p. refl, λ r. refl);
+  not_lazy = λ options on. (λ cells p. refl, λ r. refl);
+  no_content = λ wants text options on. heading-no_content wants text options;
   set =
-      λ options r p es starts. heading-resolved (rest_line r) p (past_text (rest_line r) p) es
+      λ options on r p es starts. heading-resolved (rest_line r) p (past_text (rest_line r) p) es
       (line-begins options r starts);
-  own = heading-own;
-  facts = heading-facts;
-  becomes = λ options bytes r p q starts is wants reads w rt.
+  own = λ options on. heading-own options;
+  facts = λ options on. heading-facts options;
+  becomes = λ options on bytes r p q starts is wants reads w rt.
       becomes-around wants reads n.HeadingAtx p (past_text (rest_line r) p) (unread_title (title_of (rest_line r) p))
       (read_title bytes (title_of (rest_line r) p))
       (title-becomes bytes r (rest_line r) p q is wants reads w rt);

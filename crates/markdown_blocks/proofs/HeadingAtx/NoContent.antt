@@ -1,4 +1,5 @@
 -- No content stands in a heading, and its links are to text.
+use Rattle.md_engine.specs.declared.tokenizer.held_leaf.HeldLeaf.TheVariants as held_leaf
 use Rattle.std.proofs.Common.{◌≡◌, Bool, true, false, cond, List, [], ◌∷◌, ◌++◌, refl, ap}
 use Rattle.std.specs.Prelude.{Some, None}
 use Rattle.md_engine.specs.declared.configuration.ParseOptions.{ParseOptions}
@@ -52,7 +53,7 @@ runs-no_content wants w run (c ∷ cs) p =
 
 -- what a heading adds
 pub heading-no_content : (wants : Content → Bool) → wants content.Text ≡ false →
-    (options : ParseOptions) (cells : List Cell) (p : Point) → NoContent wants (heading_leaf.adds options cells p)
+    (options : ParseOptions) (cells : List Cell) (p : Point) → NoContent wants (heading_leaf.adds options held_leaf.None cells p)
 heading-no_content wants w options cells p =
     let room = small_indent options in
     let end : Point = white_end room cells p in

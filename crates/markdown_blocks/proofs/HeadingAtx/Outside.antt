@@ -1,4 +1,5 @@
 -- The resolver of headings passes events in which no heading begins; and none begins in a heading that does not end.
+use Rattle.md_engine.specs.declared.tokenizer.held_leaf.HeldLeaf.TheVariants as held_leaf
 use Rattle.std.proofs.Common.{◌≡◌, Bool, true, false, cond, List, [], ◌∷◌, ◌++◌, refl, ap, ◌∙◌}
 use Rattle.md_engine.specs.declared.configuration.ParseOptions.{ParseOptions}
 use Rattle.md_engine.specs.declared.event.Event.{Event}
@@ -29,7 +30,7 @@ front-heading _ h = refl
 
 -- a heading that begins on a line ends there too
 pub heading-own : (options : ParseOptions) (cells : List Cell) (p : Point) →
-    NoEnds is_own (heading_leaf.adds options cells p) → AreOutside (heading_leaf.adds options cells p)
+    NoEnds is_own (heading_leaf.adds options held_leaf.None cells p) → AreOutside (heading_leaf.adds options held_leaf.None cells p)
 heading-own options cells p h =
     let bad : true ≡
     false = (each-behind (IsNoEnd is_own) (heading_inside options cells p)

@@ -1,4 +1,5 @@
 -- The trial of a heading takes a line to its end, or refuses it.
+use Rattle.md_engine.specs.declared.tokenizer.held_leaf.HeldLeaf.TheVariants as held_leaf
 use Rattle.std.proofs.Common.{◌≡◌, ℕ, ◌≤◌, true, false, List, Some, length, refl, sym, ◌∙◌, arith}
 use Rattle.std.proofs.lemmas.Bool.Decides.{nat_tests}
 use Rattle.md_engine.specs.declared.configuration.ParseOptions.{ParseOptions}
@@ -27,7 +28,7 @@ trial-looked options cells b seen e =
 -- a line that holds a heading is taken
 pub trial-took : (options : ParseOptions) (cells : List Cell) (h : Here) → IsRest h.scratch →
     is_heading_line options cells ≡ true →
-    heading_at options cells h ≡ whole_line (heading_leaf.adds options cells h.point) cells h
+    heading_at options cells h ≡ whole_line (heading_leaf.adds options held_leaf.None cells h.point) h.flags.leaf cells h
 trial-took options cells h is e = heading-taken options cells h (rest-calm h.scratch is ∙ sym is) e
 
 -- any other line is refused

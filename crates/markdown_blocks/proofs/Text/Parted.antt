@@ -3,6 +3,7 @@ use Rattle.markdown_blocks.proofs.FrontStands.{fronts-parted}
 use Rattle.markdown_blocks.proofs.Reached.{Fine, Reaches, begins-fine, cut-white, reaches-ended, reaches-fine}
 use Rattle.markdown_blocks.proofs.Text.Order.{first-text}
 use Rattle.std.proofs.Common.{◌≡◌, ℕ, zero, suc, ◌+◌, ◌-◌, ◌<◌, ◌≤◌, Bool, true, false, cond, List}
+use Rattle.md_engine.specs.declared.tokenizer.held_leaf.HeldLeaf.{HeldLeaf}
 use Rattle.std.proofs.Common.{[], ◌∷◌, ◌++◌, length, get_or, drop, slice_range, refl, ap, sym, ◌∙◌, subst, append_assoc}
 use Rattle.std.proofs.Common.{arith}
 use Rattle.std.specs.Prelude.{◌==◌, not, slice_index, Some, None}
@@ -73,10 +74,11 @@ rest-clear options bytes line row is =
     (is.size ∙ ap (λ (l : List ℕ). row.first.index + length l) is.line_is)
 
 -- a line of text is not blank
-pub text-nonblank : (options : ParseOptions) (r : Rest) → line_kind options r ≡ TextRow → is_blank r.bytes ≡ false
-text-nonblank options r = go (is_blank r.bytes)
+pub text-nonblank : (options : ParseOptions) (on : HeldLeaf) (r : Rest) → line_kind options on r ≡ TextRow →
+    is_blank r.bytes ≡ false
+text-nonblank options on r = go (is_blank r.bytes)
   where
-    go : (x : Bool) → cond x BlankRow (kind_of (first_of (λ l. (leaf l).starts options r) trials)) ≡ TextRow → x ≡ false
+    go : (x : Bool) → cond x BlankRow (kind_of (first_of (λ l. (leaf l).starts options on r) trials)) ≡ TextRow → x ≡ false
     go true h = cc
     go false h = refl
 
@@ -128,7 +130,7 @@ pub text-begins : (options : ParseOptions) (bytes line : List ℕ) (row : Row) �
 text-begins options bytes line row is e =
     line-begins bytes row is.rest.spaces is.rest.bytes is.cut (is.text ∙ is.line_is)
     (is.size ∙ ap (λ (l : List ℕ). row.first.index + length l) is.line_is)
-    (text-nonblank options is.rest (sym is.kind ∙ e)) (subst NoEnding is.line_is is.no_ending)
+    (text-nonblank options row.on is.rest (sym is.kind ∙ e)) (subst NoEnding is.line_is is.no_ending)
 
 -- the last line of a text
 core-alone : (bytes : List ℕ) (row : Row) (ys : List Event) → are_parted bytes None ys ≡ true →

@@ -1,4 +1,5 @@
 -- What is known of the events of a thematic break, by the bytes of its line.
+use Rattle.md_engine.specs.declared.tokenizer.held_leaf.HeldLeaf.TheVariants as held_leaf
 use Rattle.std.proofs.Common.{◌≡◌, ℕ, suc, ◌+◌, Bool, true, false, cond, ◌&&◌, ◌||◌, List, [], ◌∷◌, ◌++◌, length, drop}
 use Rattle.std.proofs.Common.{refl, ap, sym, ◌∙◌, subst, append_assoc, arith}
 use Rattle.std.specs.Prelude.{◌==◌, nat_le, count_by, Some}
@@ -258,7 +259,7 @@ break-word text m (b ∷ bs) p mark first = go (b == m) refl
 
 -- The whole break.
 pub break-facts : (options : ParseOptions) (bytes : List ℕ) (r : Rest) (p q : Point) →
-    break_leaf.starts options r ≡ true → LineAt bytes r (rest_line r) p q →
+    break_leaf.starts options held_leaf.None r ≡ true → LineAt bytes r (rest_line r) p q →
     LeafFacts bytes (Some Break) p q (break_line (rest_line r) p) (break_line (rest_line r) p)
 break-facts options bytes r p q starts at =
     subst

@@ -1,4 +1,5 @@
 -- Which lines are breaks: by their cells those that are by their bytes.
+use Rattle.md_engine.specs.declared.tokenizer.held_leaf.HeldLeaf.TheVariants as held_leaf
 use Rattle.std.proofs.Common.{◌≡◌, ℕ, zero, suc, ◌+◌, Bool, true, false, cond, ◌&&◌, ◌||◌, List, [], ◌∷◌, ◌++◌, length}
 use Rattle.std.proofs.Common.{drop, ◌<◌, ◌^◌, refl, sym, ap, ◌∙◌, subst, arith}
 use Rattle.std.specs.Prelude.{◌==◌, nat_le, count_by}
@@ -117,7 +118,7 @@ white-no_rule (c ∷ cs) e = rw (white-no_ending c.byte e) (rule-none c.byte (li
 pub break-fits :
     (options : ParseOptions) (said : Line) (text behind : List ℕ) (r : Rest) (p : Point) (stop : List Cell) →
     RestAt text behind r p → NoEnding r.bytes → Stops stop → length (rest_cells said r p ++ stop) < 2 ^ 63 →
-    is_break options (rest_cells said r p ++ stop) ≡ break_leaf.starts options r
+    is_break options (rest_cells said r p ++ stop) ≡ break_leaf.starts options held_leaf.None r
 break-fits options said text behind r p stop is h k short = go (has_small_indent options r) refl
   where
     left : List Cell

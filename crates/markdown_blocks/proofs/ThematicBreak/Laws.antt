@@ -1,4 +1,5 @@
 -- The laws of thematic breaks.
+use Rattle.std.proofs.Common.{refl}
 use Rattle.markdown_blocks.specs.Fronted.{rest_line}
 use Rattle.markdown_blocks.specs.Leaf.ThematicBreak.{break_leaf}
 use Rattle.markdown_blocks.proofs.LeafLaws.{LeafLaws}
@@ -11,17 +12,20 @@ use Rattle.markdown_blocks.proofs.ThematicBreak.Outside.{break-own}
 
 pub break-laws : LeafLaws break_leaf
 break-laws = record {
-  looked = break-looked;
+  looked = λ options on. break-looked options;
   took = break-took;
   refused = break-refused;
   shrinks = break-shrinks;
-  fits = break-fits;
-  adds_is = break-adds;
-  no_content = λ wants text. break-no_content wants;
-  own = break-own;
-  set = λ options r p es starts. break-set (rest_line r) p es;
-  facts = break-facts;
-  becomes = λ options bytes r p q starts at wants reads text read.
+  fits = λ options on. break-fits options;
+  adds_is = λ options on. break-adds options;
+  keeps_is = λ options on said text behind r p stop at none ends short starts. refl;
+  shut = λ ends options on. (λ cells p. refl, λ r. refl);
+  not_lazy = λ options on. (λ cells p. refl, λ r. refl);
+  no_content = λ wants text options on. break-no_content wants options;
+  own = λ options on. break-own options;
+  set = λ options on r p es starts. break-set (rest_line r) p es;
+  facts = λ options on. break-facts options;
+  becomes = λ options on bytes r p q starts at wants reads text read.
       becomes-same wants reads (break_leaf.unread (rest_line r) p)
       (no_links-unwanted wants (break_leaf.unread (rest_line r) p) (break-unlinked (rest_line r) p));
 }

@@ -1,4 +1,5 @@
 -- Nothing begins in a thematic break that a resolver rewrites.
+use Rattle.md_engine.specs.declared.tokenizer.held_leaf.HeldLeaf.TheVariants as held_leaf
 use Rattle.std.proofs.Common.{ℕ, Bool, true, false, cond, List, [], ◌∷◌, refl}
 use Rattle.std.specs.Prelude.{◌==◌}
 use Rattle.md_engine.specs.declared.configuration.ParseOptions.{ParseOptions}
@@ -50,7 +51,7 @@ indent-outside false p q = tt
 
 -- a whole break
 pub break-own : (options : ParseOptions) (cells : List Cell) (p : Point) →
-    NoEnds is_own (break_leaf.adds options cells p) → AreOutside (break_leaf.adds options cells p)
+    NoEnds is_own (break_leaf.adds options held_leaf.None cells p) → AreOutside (break_leaf.adds options held_leaf.None cells p)
 break-own options cells p h =
     let q : Point = white_end (small_indent options) cells p in
     let rest : List Cell = white_rest (small_indent options) cells in (

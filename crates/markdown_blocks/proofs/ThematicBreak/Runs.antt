@@ -1,4 +1,5 @@
 -- The events of a thematic break by the cells of its line are those by its bytes.
+use Rattle.md_engine.specs.declared.tokenizer.held_leaf.HeldLeaf.TheVariants as held_leaf
 use Rattle.std.proofs.Common.{◌≡◌, ℕ, zero, suc, ◌<◌, ◌≤◌, ◌^◌, Bool, true, false, cond, ◌&&◌, List, [], ◌∷◌, ◌++◌}
 use Rattle.std.proofs.Common.{length, refl, ap, ap₂, sym, ◌∙◌, subst, arith}
 use Rattle.std.specs.Prelude.{◌==◌}
@@ -241,8 +242,8 @@ spread-first line (m ∷ bytes) p e =
 pub break-adds :
     (options : ParseOptions) (said : Line) (text behind : List ℕ) (r : Rest) (p : Point) (stop : List Cell) →
     RestAt text behind r p → NoEnding r.bytes → Stops stop → length (rest_cells said r p ++ stop) < 2 ^ 63 →
-    break_leaf.starts options r ≡ true →
-    break_leaf.adds options (rest_cells said r p ++ stop) p ≡ break_leaf.added (rest_line r) p
+    break_leaf.starts options held_leaf.None r ≡ true →
+    break_leaf.adds options held_leaf.None (rest_cells said r p ++ stop) p ≡ break_leaf.added options held_leaf.None (rest_line r) p
 break-adds options said text behind r p stop is h k short starts =
     ap₂ (λ (q : Point) (es : List Event). around n.ThematicBreak p q es)
     (rest-line_end said r p stop h k one is.cut) inside
@@ -320,7 +321,7 @@ runs-no_content wants break.White m (c ∷ cs) p =
     (runs-no_content wants break.White m cs c.after)
 
 pub break-no_content : (wants : Content → Bool) (options : ParseOptions) (cells : List Cell) (p : Point) →
-    NoContent wants (break_leaf.adds options cells p)
+    NoContent wants (break_leaf.adds options held_leaf.None cells p)
 break-no_content wants options cells p =
     let q : Point = white_end (small_indent options) cells p in
     let left : List Cell = white_rest (small_indent options) cells in

@@ -1,11 +1,12 @@
 -- ATX headings (CommonMark 4.2), as a leaf on one line.
-use Rattle.std.specs.Prelude.{ℕ, ◌&&◌, List, [], ◌∷◌, ◌++◌, drop, Option, Some, None}
+use Rattle.std.specs.Prelude.{ℕ, true, ◌&&◌, List, [], ◌∷◌, ◌++◌, drop, Option, Some, None}
 use Rattle.md_engine.specs.declared.event.Event.{Event}
 use Rattle.md_engine.specs.declared.event.Name.TheVariants as n
 use Rattle.md_engine.specs.declared.event.Point.{Point}
 use Rattle.md_engine.specs.declared.state.Name.TheVariants as s
 use Rattle.md_engine.specs.declared.state.flow.State.TheVariants as flow
 use Rattle.md_engine.specs.declared.state.heading_atx.State.TheVariants as its
+use Rattle.md_engine.specs.declared.tokenizer.held_leaf.HeldLeaf.TheVariants as held_leaf
 use Rattle.md_leaves.specs.Heading.{may_begin}
 use Rattle.md_leaves.specs.HeadingRule.{Apart, heading_at, heading_inside, is_heading, is_heading_line}
 use Rattle.md_leaves.specs.HeadingTitle.{Title, line_runs, title_of, unread_title}
@@ -45,13 +46,16 @@ abbrev pub heading_leaf : LineLeaf
 heading_leaf = record {
   start = s.HeadingAtx its.Start;
   before = flow.BeforeHeadingAtx;
+  ends = true;
   may_begin = may_begin;
   trial = heading_at;
-  takes = is_heading_line;
-  adds = λ options cells p. around n.HeadingAtx p (line_end cells p) (heading_inside options cells p);
-  starts = λ options r. options.constructs.heading_atx && has_small_indent options r && is_heading (trim_start r.bytes);
+  takes = λ options on cells. is_heading_line options cells;
+  adds = λ options on cells p. around n.HeadingAtx p (line_end cells p) (heading_inside options cells p);
+  keeps = λ options on cells p. held_leaf.None;
+  starts = λ options on r. options.constructs.heading_atx && has_small_indent options r && is_heading (trim_start r.bytes);
+  holds = λ options on r. held_leaf.None;
   block = heading_block;
-  added = λ line p. heading_around line p (line_runs Apart line p);
+  added = λ options on line p. heading_around line p (line_runs Apart line p);
   unread = λ line p. heading_around line p (unread_title (title_of line p));
   done = λ bytes line p. heading_around line p (read_title bytes (title_of line p));
 }

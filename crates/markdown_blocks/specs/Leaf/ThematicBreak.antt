@@ -1,5 +1,5 @@
 -- Thematic breaks (CommonMark 4.1), as a leaf on one line.
-use Rattle.std.specs.Prelude.{ℕ, Bool, ◌&&◌, if◌then◌else◌, List, [], ◌∷◌, ◌++◌}
+use Rattle.std.specs.Prelude.{ℕ, Bool, true, ◌&&◌, if◌then◌else◌, List, [], ◌∷◌, ◌++◌}
 use Rattle.md_engine.specs.declared.configuration.ParseOptions.{ParseOptions}
 use Rattle.md_engine.specs.declared.event.Event.{Event}
 use Rattle.md_engine.specs.declared.event.Name.TheVariants as n
@@ -7,6 +7,7 @@ use Rattle.md_engine.specs.declared.event.Point.{Point}
 use Rattle.md_engine.specs.declared.state.Name.TheVariants as s
 use Rattle.md_engine.specs.declared.state.flow.State.TheVariants as flow
 use Rattle.md_engine.specs.declared.state.thematic_break.State.TheVariants as its
+use Rattle.md_engine.specs.declared.tokenizer.held_leaf.HeldLeaf.TheVariants as held_leaf
 use Rattle.md_engine.specs.Meaning.{Cell}
 use Rattle.md_leaves.specs.Break.{may_begin}
 use Rattle.md_leaves.specs.BreakRule.{Apart, break_at, runs}
@@ -58,13 +59,16 @@ abbrev pub break_leaf : LineLeaf
 break_leaf = record {
   start = s.ThematicBreak its.Start;
   before = flow.BeforeThematicBreak;
+  ends = true;
   may_begin = may_begin;
   trial = break_at;
-  takes = is_break;
-  adds = λ options cells p. around n.ThematicBreak p (line_end cells p) (break_inside options cells p);
-  starts = λ options r. options.constructs.thematic_break && has_small_indent options r && is_rule (trim_start r.bytes);
+  takes = λ options on cells. is_break options cells;
+  adds = λ options on cells p. around n.ThematicBreak p (line_end cells p) (break_inside options cells p);
+  keeps = λ options on cells p. held_leaf.None;
+  starts = λ options on r. options.constructs.thematic_break && has_small_indent options r && is_rule (trim_start r.bytes);
+  holds = λ options on r. held_leaf.None;
   block = λ r. Break;
-  added = break_line;
+  added = λ options on line p. break_line line p;
   unread = break_line;
   done = λ bytes line p. break_line line p;
 }

@@ -22,13 +22,13 @@ ghost use Rattle.markdown_blocks.specs.Flow.{containers_after_transition, existi
 ghost use Rattle.markdown_blocks.specs.Flow.{existing_before_transition, flow_end_transition, new_after_transition};
 ghost use Rattle.markdown_blocks.specs.Flow.{new_before_transition};
 ghost use Rattle.md_engine.specs.declared.tokenizer.container.name.ContainerKind.{ContainerKind};
-ghost use Rattle.markdown_blocks.specs.LineFlags.{asking, ended_on, ending_name, next_container, stays};
+ghost use Rattle.markdown_blocks.specs.LineFlags.{asking, begun_line, ended_on, ending_name, next_container, stays};
 ghost use Rattle.markdown_blocks.specs.AtOnce.{GoesAtOnce, asking_next, openers_passed};
 ghost use Rattle.md_containers.specs.PlainBullet.{IsPlainBullet};
 ghost use Rattle.markdown_blocks.specs.Registry.{opener_front, openers};
 ghost use Rattle.markdown_blocks.specs.States.{FlowStep};
 ghost use Rattle.md_engine.specs.declared.resolve.name.Name.{Name as ResolveName};
-ghost use Rattle.markdown_blocks.specs.HeldLeaf.{takes_lazy};
+ghost use Rattle.markdown_blocks.specs.HeldLeaf.{met_by, takes_lazy};
 ghost use Rattle.markdown_blocks.specs.Document.{before_frontmatter_transition, document_own_transition};
 ghost use Rattle.markdown_blocks.specs.Document.{document_table_scheme, document_transition, start_transition};
 ghost use Rattle.md_seam.specs.Transition.{IsAt, NeedsNothing};
@@ -245,7 +245,7 @@ pub fn pass_openers(tokenizer: &mut Tokenizer)
     ensures { world tokenizer.new ≡ openers_passed (world tokenizer.old) }
 {
     ask(tokenizer, Container::new(registry::last_opener()));
-    tokenizer.flags.leaf_before = tokenizer.flags.leaf;
+    begin_line(tokenizer);
 }
 
 /// Before the first container that may open, where one opens with a prefix that can be taken at once: it opens, as by
@@ -315,8 +315,18 @@ pub fn containers_after(tokenizer: &mut Tokenizer) -> State
     ensures to { result ≡ (containers_after_transition (world tokenizer.old)).to }
     ensures world { world tokenizer.new ≡ (containers_after_transition (world tokenizer.old)).world }
 {
-    tokenizer.flags.leaf_before = tokenizer.flags.leaf;
+    begin_line(tokenizer);
     State::Retry(StateName::Flow(FlowState::Start))
+}
+
+/// Keeps the leaf that is open behind the containers of a line, and what the line meets of it.
+#[inline(always)]
+fn begin_line(tokenizer: &mut Tokenizer)
+    ensures { world tokenizer.new ≡ record (world tokenizer.old) { flags = begun_line (world tokenizer.old).flags } }
+{
+    let all = !(tokenizer.flags.continued < tokenizer.containers.len());
+    tokenizer.flags.leaf_before = tokenizer.flags.leaf;
+    tokenizer.flags.leaf = met(tokenizer.flags.leaf, all);
 }
 
 /// Whether a line that starts no other leaf goes on this one, although not all containers went on (CommonMark 5.1,
@@ -327,6 +337,17 @@ fn takes_lazy(leaf: HeldLeaf) -> bool
     match leaf {
         HeldLeaf::Text => true,
         _ => false,
+    }
+}
+
+/// What a line meets of the leaf that is open, where no container opens, by whether all went on.
+fn met(leaf: HeldLeaf, all: bool) -> HeldLeaf
+    ensures { result ≡ met_by all leaf }
+{
+    if takes_lazy(leaf) || all {
+        leaf
+    } else {
+        HeldLeaf::None
     }
 }
 

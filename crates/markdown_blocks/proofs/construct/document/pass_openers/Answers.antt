@@ -7,5 +7,6 @@ use Rattle.markdown_blocks.proofs.construct.document.pass_openers.Goals as goal
 pub returns : goal.returns
 returns c =
     let w = world c.args.tokenizer.now in
-    ap (λ (x : World). record x { flags = begun_line x.flags })
+    c.begin_line.ensures
+    ∙ ap (λ (x : World). record x { flags = begun_line x.flags })
     (c.ask.ensures ∙ ap (λ (k : Container). asking k w) c.new.ensures ∙ sym (c.last_opener.ensures w))
