@@ -1,5 +1,8 @@
 -- Prefixes that are taken at once are what the states of containers take.
 use Rattle.std.proofs.Common.{◌≡◌, ℕ, zero, suc, ◌<◌, Bool, true, false, Option, Some, None, refl, sym, ◌∙◌, ap, arith}
+use Rattle.markdown_blocks.specs.Registry.{insider}
+use Rattle.std.specs.Option.{is_some}
+use Rattle.markdown_blocks.specs.Flow.{behind_all}
 use Rattle.std.proofs.Common.{nat_eq, subst}
 use Rattle.std.specs.Prelude.{slice_range}
 use Rattle.std.proofs.lemmas.Bool.Decides.{nat_tests}
@@ -204,7 +207,12 @@ existing-code-remains : (w : World) (ends : Bool) (o : Option Container) →
     Remains (existing_before_code w ends o).to w (existing_before_code w ends o).world ×
     ((existing_before_code w ends o).world.setting ≡ w.setting)
 existing-code-remains w true o = ((refl, refl), refl)
-existing-code-remains w false None = ((refl, refl), refl)
+existing-code-remains w false None = behind (is_some (insider w.flags.leaf))
+  where
+    behind : (x : Bool) →
+        Remains (Retry (n.Document (behind_all x))) w w × (w.setting ≡ w.setting)
+    behind true = ((refl, refl), refl)
+    behind false = ((refl, refl), refl)
 existing-code-remains w false (Some c) = go (may_with (may_go_on c.kind) (looks_behind w))
   where
     a : Bool → Transition

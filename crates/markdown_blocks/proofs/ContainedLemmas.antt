@@ -9,9 +9,9 @@ use Rattle.md_engine.specs.declared.configuration.ParseOptions.{ParseOptions}
 use Rattle.md_definition.specs.Containers.{Taken, continues, footnote_continues, item_continues, opens, quote_taken}
 use Rattle.md_definition.specs.Rest.{Rest}
 use Rattle.md_definition.specs.State.{Container, InFootnote, InItem, InQuote}
-use Rattle.markdown_blocks.specs.Change.{change_by, interrupts, is_none, met, others_of}
+use Rattle.markdown_blocks.specs.Change.{change_by, is_none, met, others_of}
 use Rattle.markdown_blocks.specs.Registry.{container_kind, shape_of}
-use Rattle.markdown_blocks.specs.Fronted.{Prefixed, contained, no_prefix, one_more, prefixes_new, prefixes_on}
+use Rattle.markdown_blocks.specs.Fronted.{Prefixed, contained, no_prefix, one_more, prefixes_behind, prefixes_on}
 use Rattle.markdown_blocks.specs.Rows.{RowKind, is_lazy, line_kind}
 use Rattle.markdown_blocks.proofs.ContainerNames.{continues-shape}
 
@@ -55,7 +55,7 @@ contained-same f options keeps cs still r = go (is_lazy still new.containers (li
     on = prefixes_on options cs r
 
     new : Prefixed
-    new = prefixes_new options (interrupts still (others_of cs on.containers)) (length on.rest.bytes) on.rest
+    new = prefixes_behind options still (others_of cs on.containers) on
 
     go : (x : Bool) →
         map f

@@ -1,5 +1,7 @@
 -- What the table of the document has read of a text: its mark.
 use Rattle.std.proofs.Common.{◌≡◌, ◌+◌, ◌^◌, ◌<◌, ◌≤◌, ℕ, suc, Bool, true, false, cond, nat_eq, nat_lt, ◌&&◌, ◌||◌}
+use Rattle.markdown_blocks.specs.Flow.{inside_code}
+use Rattle.markdown_blocks.specs.Registry.{LeafName, insider}
 use Rattle.std.proofs.Common.{List, [], ◌∷◌, ◌++◌, length, take, drop, Option, Some, None, refl, sym, ◌∙◌, ap, subst}
 use Rattle.std.proofs.Common.{arith}
 use Rattle.std.specs.Prelude.{◌==◌, slice_index}
@@ -226,6 +228,10 @@ existing-resolvers w true o = refl
 existing-resolvers w false None = refl
 existing-resolvers w false (Some c) = trial-resolvers _ _ _ (asking c w) (may_with (may_go_on c.kind) (looks_behind w))
 
+inside-resolvers : (w : World) (o : Option LeafName) → (inside_code w o).world.resolvers ≡ w.resolvers
+inside-resolvers w None = refl
+inside-resolvers w (Some l) = refl
+
 opener-resolvers : (w : World) (o : Option ContainerKind) → (opener_transition o w).world.resolvers ≡ w.resolvers
 opener-resolvers w None = refl
 opener-resolvers w (Some k) =
@@ -251,6 +257,7 @@ went-resolvers (s.Document document.BeforeFrontmatter) w = refl
 went-resolvers (s.Document document.ContainerExistingAfter) w = refl
 went-resolvers (s.Document document.ContainerNewAfter) w = refl
 went-resolvers (s.Document document.ContainersAfter) w = refl
+went-resolvers (s.Document document.FlowInside) w = inside-resolvers w (insider w.flags.leaf)
 went-resolvers (s.Document state) w = opener-resolvers w (opener_at state)
 went-resolvers _ w = refl
 

@@ -1,5 +1,8 @@
 -- Flow takes every text to its end.
 use Rattle.std.proofs.Common.{◌≡◌, ℕ, zero, suc, ◌<◌, ◌≤◌, Bool, true, false, List, [], ◌∷◌, length, Option, Some, None, refl, arith}
+use Rattle.std.specs.Option.{is_some}
+use Rattle.markdown_blocks.specs.Registry.{insider}
+use Rattle.markdown_blocks.specs.FlowRule.{all_on, inside_by, inside_of}
 use Rattle.markdown_blocks.specs.FlowRule.{behind_leaf}
 use Rattle.md_engine.specs.declared.configuration.ParseOptions.{ParseOptions}
 use Rattle.md_engine.specs.declared.tokenizer.container.Container.{Container}
@@ -94,6 +97,23 @@ leaf-finishes options next cells h ends =
     (λ rest k at le. line_ended-finishes _ next ends rest (record k { flags = blanked k.flags }) at le)
     (λ s g. leaves-finish options next trials cells (record h { scratch = s; flags = g }) ends)
 
+-- and where a leaf is asked first
+inside-finishes : (options : ParseOptions) (next : Rule) (cells : List Cell) (h : Here) → Ends (length cells) next →
+    Finishes (inside_of options next cells h)
+inside-finishes options next cells h ends = go (insider h.flags.leaf)
+  where
+    go : (o : Option LeafName) → Finishes (inside_by options next o cells h)
+    go None = leaf-finishes options next cells h ends
+    go (Some l) =
+        tried-finishes _ (line_ended next) _ ((leaf l).trial options cells h) ((laws l).shrinks options cells h)
+        (λ rest k at le. line_ended-finishes _ next ends rest k at le)
+        (λ s g. leaf-finishes options next cells (record h { scratch = s; flags = g }) ends)
+
+behind-finishes : (options : ParseOptions) (next : Rule) (cells : List Cell) (h : Here) → Ends (length cells) next →
+    Finishes (behind_containers options next cells h)
+behind-finishes options next cells h ends =
+    inside-finishes options next cells (record h { flags = begun_line h.flags }) ends
+
 -- Containers.
 
 tried-shorter : (n : ℕ) (onward : Rule) (otherwise : Scratch → Flags → Outcome) (o : Outcome) → Shortens n o →
@@ -121,13 +141,13 @@ new-finishes : (options : ParseOptions) (next : Rule) (n : ℕ) (cells : List Ce
     Ends (length cells) next → Finishes (new_from options next n cells h)
 unfolding new_from
 new-finishes options next zero cells h ends =
-    leaf-finishes options next cells (record h { flags = begun_line h.flags }) ends
+    behind-finishes options next cells h ends
 new-finishes options next (suc n) cells h ends =
     opens-finish options (λ rest k. new_from options next n rest (opened k)) (behind_containers options next) openers
     cells h
     (λ rest k lt.
     new-finishes options next n rest (opened k) (shorter (length cells) (length rest) next (omega (arith, lt)) ends))
-    (λ k. leaf-finishes options next cells (record k { flags = begun_line k.flags }) ends)
+    (λ k. behind-finishes options next cells k ends)
 
 opened-finishes : (options : ParseOptions) (next : Rule) (cells : List Cell) (h : Here) → Ends (length cells) next →
     Finishes (new_of options next cells h)
@@ -137,7 +157,11 @@ opened-finishes options next cells h ends = new-finishes options next (suc (leng
 asked-finishes : (options : ParseOptions) (next further : Rule) (o : Option Container) (cells : List Cell) (h : Here) →
     ends_line (first_seen cells) ≡ false → Ends (length cells) next → Ends (length cells) further →
     Finishes (existing_by options next further o cells h)
-asked-finishes options next further None cells h e ends more = opened-finishes options next cells h ends
+asked-finishes options next further None cells h e ends more = go (is_some (insider h.flags.leaf))
+  where
+    go : (x : Bool) → Finishes (all_on options next x cells h)
+    go true = behind-finishes options next cells h ends
+    go false = opened-finishes options next cells h ends
 asked-finishes options next further (Some c) cells h e ends more =
     tried-shorter (length cells) _ _ (continues_at options c.kind cells (asking_here c h))
     (continues-shortens options c.kind cells (asking_here c h) e)
@@ -148,7 +172,7 @@ at-finishes : (options : ParseOptions) (next further : Rule) (x : Bool) (cells :
     ends_line (first_seen cells) ≡ x → Ends (length cells) next → Ends (length cells) further →
     Finishes (existing_at options next further x cells h)
 at-finishes options next further true cells h e ends more =
-    leaf-finishes options next cells (record h { flags = begun_line (ended_on h.flags) }) ends
+    behind-finishes options next cells (record h { flags = ended_on h.flags }) ends
 at-finishes options next further false cells h e ends more =
     asked-finishes options next further (next_container h.flags) cells h e ends more
 

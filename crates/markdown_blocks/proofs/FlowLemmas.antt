@@ -1,5 +1,8 @@
 -- Flow goes line by line.
 use Rattle.std.proofs.Common.{◌≡◌, ℕ, zero, suc, ◌<◌, ◌≤◌, Bool, true, false, cond, nat_eq, List, [], ◌∷◌, length, Option, Some, None}
+use Rattle.std.specs.Option.{is_some}
+use Rattle.markdown_blocks.specs.Registry.{insider}
+use Rattle.markdown_blocks.specs.FlowRule.{all_on, inside_by, inside_of}
 use Rattle.markdown_blocks.specs.FlowRule.{behind_leaf}
 use Rattle.std.proofs.Common.{refl, ap, arith}
 use Rattle.md_engine.specs.declared.configuration.ParseOptions.{ParseOptions}
@@ -100,6 +103,23 @@ leaf_of-same options f g cells h agree =
     (blank_at-shrinks cells h)
     (λ s t. leaves_of-same options f g trials cells (record h { scratch = s; flags = t }) agree)
 
+-- and the leaf that is asked first
+inside_of-same : (options : ParseOptions) (f g : Rule) (cells : List Cell) (h : Here) → Agree (length cells) f g →
+    inside_of options f cells h ≡ inside_of options g cells h
+inside_of-same options f g cells h agree = go (insider h.flags.leaf)
+  where
+    go : (o : Option LeafName) → inside_by options f o cells h ≡ inside_by options g o cells h
+    go None = leaf_of-same options f g cells h agree
+    go (Some l) =
+        tried-same _ (line_ended f) (line_ended g) (line_ended-same _ f g agree) ((leaf l).trial options cells h) _ _
+        ((laws l).shrinks options cells h)
+        (λ s t. leaf_of-same options f g cells (record h { scratch = s; flags = t }) agree)
+
+behind_containers-same : (options : ParseOptions) (f g : Rule) (cells : List Cell) (h : Here) →
+    Agree (length cells) f g → behind_containers options f cells h ≡ behind_containers options g cells h
+behind_containers-same options f g cells h agree =
+    inside_of-same options f g cells (record h { flags = begun_line h.flags }) agree
+
 -- Containers.
 
 -- those that are tried one after another, where it is the same behind one that opens, and where none does
@@ -116,12 +136,12 @@ new_from-same : (options : ParseOptions) (f g : Rule) (n : ℕ) (cells : List Ce
     Agree (length cells) f g → new_from options f n cells h ≡ new_from options g n cells h
 unfolding new_from
 new_from-same options f g zero cells h agree =
-    leaf_of-same options f g cells (record h { flags = begun_line h.flags }) agree
+    behind_containers-same options f g cells h agree
 new_from-same options f g (suc n) cells h agree =
     opens_of-same options (λ rest k. new_from options f n rest (opened k)) (λ rest k. new_from options g n rest (opened k))
     (behind_containers options f) (behind_containers options g) openers cells h
     (λ rest k lt. new_from-same options f g n rest (opened k) (λ cs j less. agree cs j (omega (arith, less, lt))))
-    (λ k. leaf_of-same options f g cells (record k { flags = begun_line k.flags }) agree)
+    (λ k. behind_containers-same options f g cells k agree)
 
 -- more containers than cells change nothing
 new_from-enough : (options : ParseOptions) (next : Rule) (n m : ℕ) (cells : List Cell) (h : Here) → length cells < n →
@@ -156,7 +176,11 @@ existing_by-same : (options : ParseOptions) (f g further other : Rule) (o : Opti
     (h : Here) →
     ends_line (first_seen cells) ≡ false → Agree (length cells) f g → Agree (length cells) further other →
     existing_by options f further o cells h ≡ existing_by options g other o cells h
-existing_by-same options f g further other None cells h ends agree more = new_of-same options f g cells h agree
+existing_by-same options f g further other None cells h ends agree more = go (is_some (insider h.flags.leaf))
+  where
+    go : (x : Bool) → all_on options f x cells h ≡ all_on options g x cells h
+    go true = behind_containers-same options f g cells h agree
+    go false = new_of-same options f g cells h agree
 existing_by-same options f g further other (Some c) cells h ends agree more =
     tried-shorter (length cells) _ _ (λ rest k lt. more rest (record k { flags = went_on k.flags }) lt)
     (continues_at options c.kind cells (asking_here c h)) _ _ (continues-shortens options c.kind cells (asking_here c h) ends)
@@ -167,7 +191,7 @@ existing_at-same : (options : ParseOptions) (f g further other : Rule) (x : Bool
     ends_line (first_seen cells) ≡ x → Agree (length cells) f g → Agree (length cells) further other →
     existing_at options f further x cells h ≡ existing_at options g other x cells h
 existing_at-same options f g further other true cells h e agree more =
-    leaf_of-same options f g cells (record h { flags = begun_line (ended_on h.flags) }) agree
+    behind_containers-same options f g cells (record h { flags = ended_on h.flags }) agree
 existing_at-same options f g further other false cells h e agree more =
     existing_by-same options f g further other (next_container h.flags) cells h e agree more
 

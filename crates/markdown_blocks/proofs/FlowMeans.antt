@@ -1,5 +1,10 @@
 -- Each state of flow takes one step of what flow means.
 use Rattle.std.proofs.Common.{◌≡◌, ◌⊎◌, inl, inr, ℕ, Bool, true, false, cond, nat_eq, List, [], ◌∷◌, ◌++◌, length, take}
+use Rattle.markdown_blocks.specs.FlowRule.{leaf_of}
+use Rattle.markdown_blocks.specs.FlowRule.{all_on, inside_by, inside_of}
+use Rattle.markdown_blocks.specs.Flow.{behind_all, inside_code, leaf_front}
+use Rattle.markdown_blocks.specs.Registry.{insider}
+use Rattle.std.specs.Option.{is_some}
 use Rattle.markdown_blocks.specs.FlowRule.{behind_leaf}
 use Rattle.markdown_blocks.specs.Flow.{leaf_end}
 use Rattle.std.proofs.Common.{Option, Some, None, refl, sym, ◌∙◌, ap, subst, arith, append_assoc}
@@ -135,6 +140,13 @@ existing_left B feed w options next ends has s e =
     ∙ ap (λ (x : Bool). existing_at options next (line_then options next) x (feed w.point) (here w))
     (ap ends_line (first-seen feed w s) ∙ e)
 
+-- where all containers went on
+all_left : (B : Behaviour) (options : ParseOptions) (next : Rule) → HasFlow B options next → (x : Bool)
+    (cells : List Cell) (h : Here) →
+    B (n.Document (behind_all x)) cells h ≡ all_on options next x cells h
+all_left B options next has true cells h = has.containers document.ContainersAfter cells h
+all_left B options next has false cells h = opening_left B options next has cells h
+
 existing_before_steps : (B : Behaviour) (feed : Feed) (w : World) (options : ParseOptions) (next : Rule) (ends : Bool)
     (o : Option Container) →
     HasFlow B options next → Sees feed w → IsRest w.scratch → ends_line w.current ≡ ends → next_container w.flags ≡ o →
@@ -147,7 +159,7 @@ existing_before_steps B feed w options next false None has s is e k =
     passes B feed _ _ w w refl refl
     (existing_left B feed w options next false has s e
     ∙ ap (λ (o : Option Container). existing_by options next (line_then options next) o (feed w.point) (here w)) k
-    ∙ sym (opening_left B options next has (feed w.point) (here w)))
+    ∙ sym (all_left B options next has (is_some (insider w.flags.leaf)) (feed w.point) (here w)))
 existing_before_steps B feed w options next false (Some c) has s is e k =
     let onward : Rule = λ rest k. line_then options next rest (record k { flags = went_on k.flags }) in
     let otherwise : Scratch → Flags → Outcome =
@@ -206,13 +218,48 @@ new_after_steps B feed w options next has none =
     changes B feed _ _ w (new_after_transition w).world none none
     (has.containers document.ContainerNewAfter _ _ ∙ sym (opening_left B options next has _ _))
 
+-- where a leaf may be asked first
+front_left : (B : Behaviour) (options : ParseOptions) (next : Rule) → HasFlow B options next → (cells : List Cell)
+    (h : Here) →
+    B (leaf_front (is_some (insider h.flags.leaf))) cells h ≡ inside_of options next cells h
+front_left B options next has cells h = go (insider h.flags.leaf) refl
+  where
+    go : (o : Option LeafName) → insider h.flags.leaf ≡ o →
+        B (leaf_front (is_some o)) cells h ≡ inside_by options next o cells h
+    go None e = has.leaves flow.Start cells h
+    go (Some l) e =
+        has.containers document.FlowInside cells h ∙ ap (λ (o : Option LeafName). inside_by options next o cells h) e
+
 containers_after_steps : (B : Behaviour) (feed : Feed) (w : World) (options : ParseOptions) (next : Rule) →
     HasFlow B options next →
     Steps B feed (Next (n.Document document.ContainersAfter)) w (containers_after_transition w).to
     (containers_after_transition w).world
 containers_after_steps B feed w options next has =
     passes B feed _ _ w (containers_after_transition w).world refl refl
-    (has.containers document.ContainersAfter _ _ ∙ sym (has.leaves flow.Start _ _))
+    (has.containers document.ContainersAfter _ _ ∙ sym (front_left B options next has _ _))
+
+inside_steps : (B : Behaviour) (feed : Feed) (w : World) (options : ParseOptions) (next : Rule) (o : Option LeafName) →
+    HasFlow B options next → insider w.flags.leaf ≡ o →
+    Steps B feed (Next (n.Document document.FlowInside)) w (inside_code w o).to (inside_code w o).world
+inside_steps B feed w options next None has e =
+    passes B feed _ _ w w refl refl
+    (has.containers document.FlowInside _ _
+    ∙ ap (λ (o : Option LeafName). inside_by options next o (feed w.point) (here w)) e
+    ∙ sym (has.leaves flow.Start _ _))
+inside_steps B feed w options next (Some l) has e =
+    let otherwise : Scratch → Flags → Outcome =
+    λ s g. leaf_of options next (feed w.point) (record (here w) { scratch = s; flags = g }) in
+    trial_steps B feed w w.flags _ _ _ _ true (record {
+      onward = line_ended next;
+      otherwise = otherwise;
+      from_is =
+          has.containers document.FlowInside _ _
+          ∙ ap (λ (o : Option LeafName). inside_by options next o (feed w.point) (here w)) e
+          ∙ ap (λ (o : Outcome). tried o (line_ended next) otherwise) (sym (has.starts l _ _));
+      ok_is = has.leaves flow.After;
+      nok_is = λ s g. has.leaves flow.Start _ _;
+      looked = λ no. cc;
+    })
 
 -- The leaf of a line.
 
@@ -405,6 +452,7 @@ containers_steps B feed next document.ContainerExistingAfter w has s at on = exi
 containers_steps B feed next document.ContainerNewAfter w has s at on =
     new_after_steps B feed w _ _ has (outermost-frames flow_table_scheme w.frames at.1)
 containers_steps B feed next document.ContainersAfter w has s at on = containers_after_steps B feed w _ _ has
+containers_steps B feed next document.FlowInside w has s at on = inside_steps B feed w _ _ _ has refl
 containers_steps B feed next document.FlowEnd w has s at on =
     flow_end_steps B feed w _ _ has s (outermost-frames flow_table_scheme w.frames at.1) on
 containers_steps B feed next document.Start w has s at on = absurd at

@@ -3,6 +3,11 @@ use Rattle.markdown_blocks.specs.HeldLeaf.{takes_lazy}
 use Rattle.md_engine.specs.declared.tokenizer.held_leaf.HeldLeaf.TheVariants as held_leaf
 use Rattle.md_engine.specs.declared.tokenizer.held_leaf.HeldLeaf.{HeldLeaf}
 use Rattle.std.proofs.Common.{◌≡◌, ℕ, zero, suc, ◌+◌, ◌<◌, ◌≤◌, Bool, true, false, cond, ◌&&◌, nat_eq, List, [], ◌∷◌}
+use Rattle.std.specs.Option.{is_some}
+use Rattle.markdown_blocks.specs.Rows.{inside_or, is_inside}
+use Rattle.markdown_blocks.specs.Registry.{insider}
+use Rattle.markdown_blocks.specs.FlowRule.{all_on, inside_by}
+use Rattle.markdown_blocks.specs.FlowRule.{inside_of as asked_inside}
 use Rattle.std.specs.Prelude.{not}
 use Rattle.markdown_blocks.specs.Rows.{behind_held}
 use Rattle.markdown_blocks.proofs.LeafLaws.{left_open}
@@ -56,7 +61,7 @@ use Rattle.markdown_blocks.specs.Stands.{AreOpen}
 use Rattle.markdown_blocks.proofs.ContainedLemmas.{lazy-some}
 use Rattle.markdown_blocks.proofs.FromEnding.{from_ending-shrinks}
 use Rattle.markdown_blocks.proofs.LeafRows.{blank-refused, blank-took, chunk-took}
-use Rattle.markdown_blocks.proofs.Registry.{laws}
+use Rattle.markdown_blocks.proofs.Registry.{insider-open, laws}
 use Rattle.markdown_blocks.proofs.RegistryContainers.{further-is, goes-over, goes-same, goes-shorter, goes-within}
 use Rattle.markdown_blocks.proofs.RegistryContainers.{known-name, opening-is, opens-ended, opens-same, opens-shorter}
 
@@ -88,9 +93,12 @@ leaf_here options cells h k = record h {
 abbrev taker : ParseOptions → HeldLeaf → List Cell → List LeafName → Option LeafName
 taker options on cells ls = first_of (λ l. (leaf l).takes options on cells) ls
 
--- the kind of a line, where it is known whether it is blank
+-- the kind of a line that goes on no leaf which is asked first, and where it is known whether it is blank
+abbrev outer_kind : ParseOptions → HeldLeaf → List Cell → RowKind
+outer_kind options on cells = cond (is_blank (line_bytes cells)) BlankRow (kind_of (taker options on cells trials))
+
 kind-by : (options : ParseOptions) (on : HeldLeaf) (cells : List Cell) (x : Bool) → is_blank (line_bytes cells) ≡ x →
-    row_kind options on cells ≡ cond x BlankRow (kind_of (taker options on cells trials))
+    outer_kind options on cells ≡ cond x BlankRow (kind_of (taker options on cells trials))
 kind-by options on cells x e = ap (λ (y : Bool). cond y BlankRow (kind_of (taker options on cells trials))) e
 
 -- behind a leaf that took a line, what is held is what it keeps: flow shuts one that always ends there
@@ -144,10 +152,10 @@ leaves-are options next (l ∷ ls) cells h is =
         ap onward ((laws l).took options cells h is takes) ∙ leaf-left options next l cells h (leaf l).ends refl
     go false takes more = ap onward ((laws l).refused options cells h is takes) ∙ more
 
--- the rest of a line is what its kind says
+-- the rest of a line is what its kind says, where no leaf is asked first,
 leaf-is : (options : ParseOptions) (next : Rule) (cells : List Cell) (h : Here) → IsRest h.scratch →
     leaf_of options next cells h ≡
-    line_ended next (from_ending cells) (leaf_here options cells h (row_kind options h.flags.leaf cells))
+    line_ended next (from_ending cells) (leaf_here options cells h (outer_kind options h.flags.leaf cells))
 leaf-is options next cells h is = go (is_blank (line_bytes cells)) refl
   where
     onward : Outcome → Outcome
@@ -157,11 +165,49 @@ leaf-is options next cells h is = go (is_blank (line_bytes cells)) refl
     behind k = line_ended next (from_ending cells) (leaf_here options cells h k)
 
     go : (x : Bool) → is_blank (line_bytes cells) ≡ x →
-        leaf_of options next cells h ≡ behind (row_kind options h.flags.leaf cells)
+        leaf_of options next cells h ≡ behind (outer_kind options h.flags.leaf cells)
     go true e = ap onward (blank-took cells h e) ∙ ap behind (sym (kind-by options h.flags.leaf cells true e))
     go false e =
         ap onward (blank-refused cells h e) ∙ leaves-are options next trials cells h is
         ∙ ap behind (sym (kind-by options h.flags.leaf cells false e))
+
+-- and where one is
+inside-is : (options : ParseOptions) (next : Rule) (cells : List Cell) (h : Here) → IsRest h.scratch →
+    asked_inside options next cells h ≡
+    line_ended next (from_ending cells) (leaf_here options cells h (row_kind options h.flags.leaf cells))
+inside-is options next cells h is = by (insider h.flags.leaf) refl
+  where
+    other : RowKind
+    other = outer_kind options h.flags.leaf cells
+
+    to : RowKind → Outcome
+    to k = line_ended next (from_ending cells) (leaf_here options cells h k)
+
+    takes : LeafName → Bool
+    takes l = (leaf l).takes options h.flags.leaf cells
+
+    onward : Outcome → Outcome
+    onward o = tried o (line_ended next) (λ s g. leaf_of options next cells (record h { scratch = s; flags = g }))
+
+    by : (o : Option LeafName) → insider h.flags.leaf ≡ o → inside_by options next o cells h ≡ to (inside_or takes o other)
+    by None e = leaf-is options next cells h is
+    by (Some l) e = go (takes l) refl
+      where
+        held : Bool → HeldLeaf
+        held ends = left_open ends ((leaf l).keeps options h.flags.leaf cells h.point) h.flags.leaf
+
+        go : (t : Bool) → takes l ≡ t → onward ((leaf l).trial options cells h) ≡ to (cond t (LeafRow l) other)
+        go true e' =
+            ap onward ((laws l).took options cells h is e')
+            ∙ ap
+            (λ (ends : Bool).
+            line_ended next (from_ending cells)
+            (record h {
+              events = h.events ++ (leaf l).adds options h.flags.leaf cells h.point;
+              point = line_end cells h.point;
+              flags = record h.flags { leaf = held ends };
+            })) (insider-open h.flags.leaf l e)
+        go false e' = ap onward ((laws l).refused options cells h is e') ∙ leaf-is options next cells h is
 
 -- The containers that the tokenizer holds.
 
@@ -306,17 +352,33 @@ new-shorter options interrupting (suc size) cells p =
 abbrev asked_at : Known → ℕ → Here → Here
 asked_at c column h = record h { flags = asks c column h.flags }
 
--- by whether the line ends here: then none opens
-abbrev left_of : ParseOptions → Rule → Bool → Rule
-left_of options next true cells h = behind_containers options next cells h
-left_of options next false cells h = new_of options next cells h
+-- by whether the line ends here: then none opens; nor does one where all went on, and a leaf is open in which none does
+abbrev left_of : ParseOptions → Rule → Bool → Bool → Rule
+left_of options next true inside cells h = behind_containers options next cells h
+left_of options next false inside cells h = all_on options next inside cells h
+
+-- whether such a leaf is open
+inside-all : (still : HeldLeaf) → is_inside still [] ≡ is_some (insider still)
+inside-all still = go (is_some (insider still))
+  where
+    go : (x : Bool) → (x && true) ≡ x
+    go true = refl
+    go false = refl
+
+inside-some : (still : HeldLeaf) (c : Container) (cs : List Container) → is_inside still (c ∷ cs) ≡ false
+inside-some still c cs = go (is_some (insider still))
+  where
+    go : (x : Bool) → (x && false) ≡ false
+    go true = refl
+    go false = refl
 
 -- what is left behind the containers that went on, of those behind some that did: the tokenizer holds them, and the
 -- others that are open
 record Gone (options : ParseOptions) (next : Rule) (done cs : List Container) (w : Front) (h : Here)
     (o : Outcome) : Type 0 where
   new : Here
-  is : o ≡ left_of options next (ends_line (first_seen w.cells)) w.cells new
+  is : o ≡
+      left_of options next (ends_line (first_seen w.cells)) (is_inside h.flags.leaf (others_of cs w.containers)) w.cells new
   rest : IsRest new.scratch
   events : new.events ≡ h.events ++ w.events
   point : new.point ≡ w.point
@@ -330,12 +392,16 @@ record Gone (options : ParseOptions) (next : Rule) (done cs : List Container) (w
 -- none does
 gone-none : (options : ParseOptions) (next : Rule) (done cs : List Container) (cells : List Cell) (h : Here)
     (o : Outcome) (c : Known) (column : ℕ) →
-    ends_line (first_seen cells) ≡ false → o ≡ new_of options next cells (asked_at c column h) → IsRest h.scratch → h.flags.continued ≡ length done →
+    ends_line (first_seen cells) ≡ false →
+    o ≡ all_on options next (is_inside h.flags.leaf cs) cells (asked_at c column h) →
+    IsRest h.scratch → h.flags.continued ≡ length done →
     AreOpen h.flags.containers (done ++ cs) →
     Gone options next done cs (no_front cells h.point) h o
 gone-none options next done cs cells h o c column going is rest at are = record {
   new = asked_at c column h;
-  is = is ∙ sym (ap (λ (x : Bool). left_of options next x cells (asked_at c column h)) going);
+  is =
+      is
+      ∙ sym (ap (λ (x : Bool). left_of options next x (is_inside h.flags.leaf cs) cells (asked_at c column h)) going);
   rest = rest;
   events = sym (append-nil h.events);
   point = refl;
@@ -400,8 +466,8 @@ gone-ended : (options : ParseOptions) (next : Rule) (done cs : List Container) (
 gone-ended options next done cs cells h o ends is rest at are = record {
   new = new;
   is =
-      is ∙ sym (ap (λ (x : Bool). left_of options next x cells new) ends)
-      ∙ sym (ap (λ (l : List Cell). left_of options next (ends_line (first_seen l)) l new) over.cells_are);
+      is ∙ sym (ap (λ (x : Bool). left_of options next x inside cells new) ends)
+      ∙ sym (ap (λ (l : List Cell). left_of options next (ends_line (first_seen l)) inside l new) over.cells_are);
   rest = rest;
   events = sym (append-nil h.events) ∙ sym (ap (λ (es : List Event). h.events ++ es) over.events);
   point = sym over.point;
@@ -424,6 +490,9 @@ gone-ended options next done cs cells h o ends is rest at are = record {
 
     new : Here
     new = record h { flags = ended_on h.flags }
+
+    inside : Bool
+    inside = is_inside h.flags.leaf (others_of cs f.containers)
 
     parts : AreOpen (take (length done) h.flags.containers) done × AreOpen (drop (length done) h.flags.containers) cs
     parts = open-parts h.flags.containers done cs are
@@ -459,7 +528,8 @@ asked-is options next m further reads done [] cells h going is some at are =
     let past : slice_get h.flags.containers h.flags.continued ≡
     None = slice_get_past h.flags.containers h.flags.continued (omega (arith, all, same, at)) in
     gone-none options next done [] cells h _ h.flags.asked h.flags.asked_column going
-    (ap (λ (o : Option Known). existing_by options next further o cells h) past) is at are
+    (ap (λ (o : Option Known). existing_by options next further o cells h) past
+    ∙ ap (λ (x : Bool). all_on options next x cells h) (sym (inside-all h.flags.leaf))) is at are
 asked-is options next m further reads done (c ∷ cs) cells h going is some at are =
     go
     (λ t lt e.
@@ -518,7 +588,10 @@ asked-is options next m further reads done (c ∷ cs) cells h going is some at a
         Result (elim x [ None ↦ no_front cells h.point | Some t ↦ in_front t (went_front options cs t.cells t.point) ])
     go more None e =
         gone-none options next done (c ∷ cs) cells h (existing_by options next further (next_container h.flags) cells h) first.held
-        h.point.column going (begins ∙ ap (λ (x : Option Passed). onward (passed_by x asked)) e) is at are
+        h.point.column going
+        (begins ∙ ap (λ (x : Option Passed). onward (passed_by x asked)) e
+        ∙ ap (λ (x : Bool). all_on options next x cells (asked_at first.held h.point.column h))
+        (sym (inside-some h.flags.leaf c cs))) is at are
     go more (Some t) e =
         let f : Front = went_front options cs t.cells t.point in
         let g = more t (omega (arith, goes-shorter options c cells h.point t e going)) e in
@@ -835,7 +908,8 @@ begun-is : (options : ParseOptions) (next : Rule) (cells : List Cell) (h : Here)
     behind_containers options next cells h ≡
     line_ended next (from_ending cells) (leaf_here options cells (met_here on h) (row_kind options on cells))
 begun-is options next cells h on is meets =
-    ap (λ (x : HeldLeaf). leaf_of options next cells (met_here x h)) meets ∙ leaf-is options next cells (met_here on h) is
+    ap (λ (x : HeldLeaf). asked_inside options next cells (met_here x h)) meets
+    ∙ inside-is options next cells (met_here on h) is
 
 -- those that stay, and those that end, are all that went on or did not
 change-parts : (x : Bool) (went others : List Container) → let c =
@@ -1072,7 +1146,13 @@ pub line-done : (options : ParseOptions) (next : Rule) (front tail : List Event)
     Done next options front tail p (held_at options cs still cells h.point) (line_then options next cells h)
 unfolding line_then new_of held_at
 line-done options next front tail p cs still cells h b =
-    done-same options next front tail p _ _ _ g.is (subst P g.point (by (ends_line (first_seen w.cells)) refl))
+    done-same options next front tail p _ _ _
+    (g.is
+    ∙ ap
+    (λ (x : HeldLeaf).
+    left_of options next (ends_line (first_seen w.cells)) (is_inside x (others_of cs w.containers)) w.cells g.new) b.leaf)
+    (subst P g.point
+    (by (ends_line (first_seen w.cells)) refl (is_inside still (others_of cs w.containers))))
   where
     w : Front
     w = went_front options cs cells h.point
@@ -1096,22 +1176,31 @@ line-done options next front tail p cs still cells h b =
     interrupting : Bool
     interrupting = interrupts still (others_of cs w.containers)
 
+    opening : Point → Front
+    opening q = new_front options interrupting (length w.cells) w.cells q
+
     P : Point → Type 0
     P q =
         Done next options front tail p
-        (held_of options cs still w (new_front options interrupting (length w.cells) w.cells q))
-        (left_of options next (ends_line (first_seen w.cells)) w.cells g.new)
+        (held_of options cs still w
+        (cond (is_inside still (others_of cs w.containers)) (no_front w.cells q) (opening q)))
+        (left_of options next (ends_line (first_seen w.cells)) (is_inside still (others_of cs w.containers)) w.cells g.new)
 
-    by : (x : Bool) → ends_line (first_seen w.cells) ≡ x →
+    none : Done next options front tail p (held_of options cs still w (no_front w.cells g.new.point))
+        (behind_containers options next w.cells g.new)
+    none = done-none options next front tail p cs still w w.cells g.new between
+
+    by : (x : Bool) → ends_line (first_seen w.cells) ≡ x → (y : Bool) →
         Done next options front tail p
-        (held_of options cs still w (new_front options interrupting (length w.cells) w.cells g.new.point))
-        (left_of options next x w.cells g.new)
-    by true ends =
+        (held_of options cs still w (cond y (no_front w.cells g.new.point) (opening g.new.point)))
+        (left_of options next x y w.cells g.new)
+    by true ends true = none
+    by true ends false =
         let D : Front → Type 0 = λ f.
         Done next options front tail p (held_of options cs still w f) (behind_containers options next w.cells g.new) in
-        subst D (sym (front-ended options interrupting (length w.cells) w.cells g.new.point ends))
-        (done-none options next front tail p cs still w w.cells g.new between)
-    by false going =
+        subst D (sym (front-ended options interrupting (length w.cells) w.cells g.new.point ends)) none
+    by false going true = none
+    by false going false =
         new-done options next front tail p cs still interrupting w (length w.cells) (length w.cells) w.cells g.new
         between
         (interrupts-is still w.containers (others_of cs w.containers) g.new.flags between.leaf between.containers
@@ -1219,11 +1308,16 @@ pub held-shorter : (options : ParseOptions) (cs : List Container) (still : HeldL
 unfolding held_at
 held-shorter options cs still cells p =
     let w = went_front options cs cells p in
-    omega (
-      arith,
-      went-shorter options cs cells p,
-      new-shorter options (interrupts still (others_of cs w.containers)) (length w.cells) w.cells w.point,
-    )
+    let most = went-shorter options cs cells p in
+    go (is_inside still (others_of cs w.containers)) most
+    (new-shorter options (interrupts still (others_of cs w.containers)) (length w.cells) w.cells w.point)
+  where
+    go : (x : Bool) → length (went_front options cs cells p).cells ≤ length cells →
+        let w = went_front options cs cells p in
+        let f = new_front options (interrupts still (others_of cs w.containers)) (length w.cells) w.cells w.point in
+        length f.cells ≤ length w.cells → length (cond x (no_front w.cells w.point) f).cells ≤ length cells
+    go true le more = le
+    go false le more = omega (arith, le, more)
 
 ending-same : (name : Name) (p : Point) (left : List Cell) →
     ending_here name p left ≡ elim (after_ending left) [ None ↦ [] | Some q ↦ pair name p q ]

@@ -2,6 +2,7 @@
 -- matter whether it ran.
 use Rattle.md_engine.specs.declared.tokenizer.held_leaf.HeldLeaf.{HeldLeaf}
 use Rattle.std.proofs.Common.{◌≡◌, ◌≢◌, ℕ, zero, suc, Bool, true, false, cond, List, [], ◌∷◌, ◌++◌, length}
+use Rattle.markdown_blocks.specs.Rows.{is_inside, new_behind}
 use Rattle.markdown_blocks.specs.Rows.{behind_held}
 use Rattle.std.proofs.Common.{refl, ap, sym, ◌∙◌, subst, append-nil}
 use Rattle.std.specs.Prelude.{Option, Some, None}
@@ -68,16 +69,26 @@ new-are options interrupting (suc size) cells p =
     (λ t. new-are options false size t.cells t.point) tt
     (opens_at options interrupting cells p) (opens-front options interrupting cells p)
 
+behind-are : (options : ParseOptions) (still : HeldLeaf) (others : List Container) (went : Front) →
+    AreFront (new_behind options still others went).events
+behind-are options still others went = go (is_inside still others)
+  where
+    go : (x : Bool) →
+        AreFront
+        (cond x (no_front went.cells went.point)
+        (new_front options (interrupts still others) (length went.cells) went.cells went.point)).events
+    go true = tt
+    go false = new-are options (interrupts still others) (length went.cells) went.cells went.point
+
 -- all of it
 held-are : (options : ParseOptions) (cs : List Container) (still : HeldLeaf) (cells : List Cell) (p : Point) →
     AreFront (held_at options cs still cells p).front
 unfolding held_at
 held-are options cs still cells p =
     let went : Front = went_front options cs cells p in
-    let new : Front = new_front options (interrupts still (others_of cs went.containers))
-    (length went.cells) went.cells went.point in
+    let new : Front = new_behind options still (others_of cs went.containers) went in
     each-append (IsNamed is_front) went.events new.events (went-are options cs cells p)
-    (new-are options (interrupts still (others_of cs went.containers)) (length went.cells) went.cells went.point)
+    (behind-are options still (others_of cs went.containers) went)
 
 -- Lines.
 

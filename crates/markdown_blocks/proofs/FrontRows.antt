@@ -1,7 +1,9 @@
 -- The containers of a line that flow reads are those of its bytes: which go on and open, what stands in front of the
 -- line, and what is left of it.
 use Rattle.md_engine.specs.declared.tokenizer.held_leaf.HeldLeaf.{HeldLeaf}
-use Rattle.std.proofs.Common.{◌≡◌, ℕ, zero, suc, ◌^◌, ◌<◌, ◌≤◌, Bool, true, false, List, [], ◌∷◌, ◌++◌, length, Option}
+use Rattle.std.proofs.Common.{◌≡◌, ℕ, zero, suc, ◌^◌, ◌<◌, ◌≤◌, Bool, true, false, List, [], ◌∷◌, ◌++◌, length, Option, cond}
+use Rattle.markdown_blocks.specs.Rows.{is_inside, new_behind}
+use Rattle.markdown_blocks.specs.Fronted.{prefixes_behind}
 use Rattle.markdown_blocks.specs.Change.{met}
 use Rattle.std.proofs.Common.{Some, None, refl, sym, ap, ap₂, ◌∙◌, subst, arith, append_assoc}
 use Rattle.md_engine.specs.declared.configuration.ParseOptions.{ParseOptions}
@@ -299,6 +301,21 @@ held-by line text past p end stop cells cs lazy leaf kept went new on more read 
   shorter = let le = a.front.shorter in let ge = b.front.shorter in omega arith;
 }
 
+-- where none may open
+new-inside : (line : Line) (text past : List ℕ) (went : Front) (on : Prefixed) (stop : List Cell) (new : Front)
+    (more : Prefixed) →
+    went.cells ≡ rest_cells line on.rest went.point ++ stop → RestAt text past on.rest went.point →
+    NoEnding on.rest.bytes → (inside : Bool) →
+    HasNew line text past went.point (past_rest on.rest went.point) stop went.cells new more →
+    HasNew line text past went.point (past_rest on.rest went.point) stop went.cells
+    (cond inside (no_front went.cells went.point) new) (cond inside (no_prefix on.rest) more)
+new-inside line text past went on stop new more fed at none true has =
+    subst
+    (λ (l : List Cell).
+    HasNew line text past went.point (past_rest on.rest went.point) stop l (no_front l went.point) (no_prefix on.rest))
+    (sym fed) (new-none line text past on.rest stop went.point at none)
+new-inside line text past went on stop new more fed at none false has = has
+
 held-behind : (options : ParseOptions) (line : Line) (text past : List ℕ) (p end : Point) (stop cells : List Cell)
     (cs : List Container) (still : HeldLeaf) (went : Front) (on : Prefixed) →
     IsBuilt options → AreRead cs → Stops stop → length cells < 2 ^ 63 →
@@ -309,17 +326,23 @@ held-behind options line text past p end stop cells cs still went on built read 
     let le = is.front.shorter in
     let size = ap length is.front.fed in
     let interrupting : Bool = interrupts still (others_of cs went.containers) in
-    let new : Front = new_front options interrupting (length went.cells) went.cells went.point in
-    let more : Prefixed = prefixes_new options interrupting (length on.rest.bytes) on.rest in
+    let inside : Bool = is_inside still (others_of cs went.containers) in
+    let new : Front = new_behind options still (others_of cs went.containers) went in
+    let more : Prefixed =
+    cond inside (no_prefix on.rest) (prefixes_new options interrupting (length on.rest.bytes) on.rest) in
     let opened : HasNew line text past went.point (past_rest on.rest went.point) stop went.cells new more =
-    subst
+    new-inside line text past went on stop (new_front options interrupting (length went.cells) went.cells went.point)
+    (prefixes_new options interrupting (length on.rest.bytes) on.rest) is.front.fed is.front.stands is.front.no_ending
+    inside
+    (subst
     (λ (l : List Cell).
     HasNew line text past went.point (past_rest on.rest went.point) stop l
-    (new_front options interrupting (length l) l went.point) more)
+    (new_front options interrupting (length l) l went.point)
+    (prefixes_new options interrupting (length on.rest.bytes) on.rest))
     (sym is.front.fed)
     (new-is options interrupting line text past (length (rest_cells line on.rest went.point ++ stop))
     (length on.rest.bytes) on.rest stop went.point built is.front.stands is.front.no_ending k
-    (omega (arith, le, size, short)) (omega arith) (omega arith)) in
+    (omega (arith, le, size, short)) (omega arith) (omega arith))) in
     let shorter = opened.front.shorter in
     let few = ap length opened.front.fed in
     let leaf : HeldLeaf = met still (others_of cs went.containers) new.containers in
@@ -336,8 +359,7 @@ held-behind options line text past p end stop cells cs still went on built read 
     let behind : contained_of options cs still on more ≡ contained_behind options cs still on =
     ap
     (λ (w : List Container).
-    contained_of options cs still on
-    (prefixes_new options (interrupts still (others_of cs w)) (length on.rest.bytes) on.rest)) is.front.containers in
+    contained_of options cs still on (prefixes_behind options still (others_of cs w) on)) is.front.containers in
     subst (HasHeld line text past p end stop cells (held_behind options cs still went)) behind
     (subst (λ (x : Bool). HasHeld line text past p end stop cells (held_behind options cs still went)
     (contained_by cs x kept on more)) lazy

@@ -1,5 +1,10 @@
 -- Flow stands and ends in any table that has it.
 use Rattle.std.proofs.Common.{◌≡◌, ℕ, ◌<◌, Bool, true, false, nat_eq, Option, Some, None, length, refl, arith}
+use Rattle.md_engine.specs.declared.state.State.TheVariants.{Retry}
+use Rattle.markdown_blocks.specs.LineFlags.{begun_line}
+use Rattle.markdown_blocks.specs.Flow.{behind_all, inside_code, leaf_front}
+use Rattle.markdown_blocks.specs.Registry.{insider}
+use Rattle.std.specs.Option.{is_some}
 use Rattle.markdown_blocks.specs.Flow.{leaf_end}
 use Rattle.md_engine.specs.declared.state.Name.{Name as StateName}
 use Rattle.md_engine.specs.declared.state.Name.TheVariants as n
@@ -76,6 +81,7 @@ pub record FlowFits (T : Scheme) : Type 1 where
   pub first_opener : Fits T flow_scheme (n.Document (opener_front openers))
   pub new_after : Fits T flow_scheme (n.Document document.ContainerNewAfter)
   pub containers_after : Fits T flow_scheme (n.Document document.ContainersAfter)
+  pub inside : Fits T flow_scheme (n.Document document.FlowInside)
   pub flow_end : Fits T flow_scheme (n.Document document.FlowEnd)
   pub start : Fits T flow_scheme (n.Flow flow.Start)
   pub blank_line_before : Fits T flow_scheme (n.Flow flow.BlankLineBefore)
@@ -113,6 +119,19 @@ prefix_tries ok nok w K r low_nok same_nok = record {
   nok_rank = λ s t is up. rw (same_nok (spot_at t w.point s)) (omega (arith, low_nok));
 }
 
+-- where all containers went on
+behind-all : (T : Scheme) (w : World) → FlowFits T → flow_ready (spot w) (after_all T w.frames) → (x : Bool) →
+    Does T (n.Document document.ContainerExistingBefore) w
+    (record { to = Retry (n.Document (behind_all x)); world = w })
+behind-all T w has r true = (
+  turns T flow_scheme _ _ w w.events w.scratch has.existing_before has.containers_after r (omega arith) (omega arith),
+  refl,
+)
+behind-all T w has r false = (
+  turns T flow_scheme _ _ w w.events w.scratch has.existing_before has.first_opener r (omega arith) (omega arith),
+  refl,
+)
+
 pub good_existing_before : (T : Scheme) (w : World) (ends : Bool) (o : Option Container) → FlowFits T →
     ((k : ContainerKind) → ContainerFits T IsWithin (goes_on_with k)) → flow_ready (spot w) (after_all T w.frames) →
     ends_line (seen (spot w)) ≡ ends →
@@ -121,10 +140,7 @@ good_existing_before T w true o has inner r is = (
   turns T flow_scheme _ _ w w.events w.scratch has.existing_before has.containers_after r (omega arith) (omega arith),
   refl,
 )
-good_existing_before T w false None has inner r is = (
-  turns T flow_scheme _ _ w w.events w.scratch has.existing_before has.first_opener r (omega arith) (omega arith),
-  refl,
-)
+good_existing_before T w false None has inner r is = behind-all T w has r (is_some (insider w.flags.leaf))
 good_existing_before T w false (Some c) has inner r is =
     let i : ContainerFits T IsWithin (goes_on_with c.kind) = inner c.kind in
     looked T _ _ _ _ w (asking c w).flags
@@ -172,8 +188,15 @@ good_new_after T w has r = (
 
 pub good_containers_after : (T : Scheme) (w : World) → FlowFits T → flow_ready (spot w) (after_all T w.frames) →
     Does T (n.Document document.ContainersAfter) w (containers_after_transition w)
-good_containers_after T w has r =
-    (turns T flow_scheme _ _ w w.events w.scratch has.containers_after has.start r (omega arith) (omega arith), refl)
+good_containers_after T w has r = go (is_some (insider (begun_line w.flags).leaf))
+  where
+    go : (x : Bool) →
+        Does T (n.Document document.ContainersAfter) w
+        (record { to = Retry (leaf_front x); world = record w { flags = begun_line w.flags } })
+    go true =
+        (turns T flow_scheme _ _ w w.events w.scratch has.containers_after has.inside r (omega arith) (omega arith), refl)
+    go false =
+        (turns T flow_scheme _ _ w w.events w.scratch has.containers_after has.start r (omega arith) (omega arith), refl)
 
 -- The leaf of a line.
 
@@ -199,6 +222,28 @@ flow_tries ok nok w K r low_ok low_nok same_ok same_nok = record {
   nok_level = omega arith;
   nok_rank = λ s t is up. rw (same_nok (spot_at t w.point s)) (omega (arith, low_nok));
 }
+
+-- what a table has of a leaf that is asked first
+pub record InsideFits (T : Scheme) (l : LeafName) : Type 1 where
+  pub own : Scheme
+  pub starts : Fits T own (leaf l).start
+  pub level : own.level (leaf l).start < 3
+  pub ready : (x : Spot) (K : After) → rest_ready x K → own.ready (leaf l).start x K
+
+pub good_inside : (T : Scheme) (w : World) (o : Option LeafName) → FlowFits T → ((l : LeafName) → InsideFits T l) →
+    flow_ready (spot w) (after_all T w.frames) →
+    Does T (n.Document document.FlowInside) w (inside_code w o)
+good_inside T w None has each r =
+    (turns T flow_scheme _ _ w w.events w.scratch has.inside has.start r (omega arith) (omega arith), refl)
+good_inside T w (Some l) has each r =
+    let inner : InsideFits T l = each l in (
+      begins_try T flow_scheme inner.own (n.Document document.FlowInside) (leaf l).start w IsRest IsRest
+          w.events w.scratch _ has.inside inner.starts has.behind has.start refl
+          (flow_tries (n.Flow flow.After) (n.Flow flow.Start) w
+          (after_all T w.frames) r (omega arith) (omega arith) (λ x. refl) (λ x. refl))
+          (λ K e. inner.ready _ K (r.0.0, e)) inner.level (omega arith) (omega arith),
+      refl,
+    )
 
 pub good_blank_line_before : (T : Scheme) (w : World) (ends : Bool) → FlowFits T →
     Fits T blank_scheme (n.BlankLine blank_line.Start) → flow_ready (spot w) (after_all T w.frames) →

@@ -61,7 +61,7 @@ use Rattle.markdown_blocks.proofs.OutsideLemmas.{around-outside, ending-own, has
 use Rattle.markdown_blocks.proofs.OutsideLemmas.{linked-outside, tail-outside}
 use Rattle.markdown_blocks.proofs.Registry.{laws, outside-passes}
 use Rattle.markdown_blocks.proofs.RowLeaf.{row-becomes}
-use Rattle.markdown_blocks.proofs.KindLemmas.{kind-starts}
+use Rattle.markdown_blocks.proofs.KindLemmas.{kind-starts, kind-text}
 
 -- The groups of a text.
 
@@ -257,7 +257,7 @@ rest-some options on r [] e h =
     (ap
     (λ (l : List ℕ).
     cond (is_blank l) BlankRow (kind_of (first_of (λ (l : LeafName). (line_leaf l).starts options on r) trials))) e)
-    ∙ h in
+    ∙ kind-text options on r h in
     cc
 rest-some options on r (b ∷ bs) e h = omega arith
 

@@ -1,10 +1,10 @@
 -- What a line is by its kind, whichever leaves there are.
-use Rattle.std.proofs.Common.{◌≡◌, Bool, true, false, cond, List, [], ◌∷◌, Option, Some, None, refl, ap₂}
+use Rattle.std.proofs.Common.{◌≡◌, Bool, true, false, cond, List, [], ◌∷◌, Option, Some, None, refl, ap, ap₂}
 use Rattle.md_engine.specs.declared.configuration.ParseOptions.{ParseOptions}
 use Rattle.md_engine.specs.declared.tokenizer.held_leaf.HeldLeaf.{HeldLeaf}
 use Rattle.md_definition.specs.Rest.{Rest, is_blank}
-use Rattle.markdown_blocks.specs.Registry.{LeafName, first_of, leaf, trials}
-use Rattle.markdown_blocks.specs.Rows.{BlankRow, LeafRow, kind_of, line_kind}
+use Rattle.markdown_blocks.specs.Registry.{LeafName, first_of, insider, leaf, trials}
+use Rattle.markdown_blocks.specs.Rows.{BlankRow, LeafRow, RowKind, TextRow, inside_or, kind_of, line_kind}
 
 -- Tests of leaves.
 
@@ -40,13 +40,67 @@ kind-found true found l e = cc
 kind-found false None l e = cc
 kind-found false (Some k) l e = cc
 
+-- What is found where a leaf is asked first.
+
+pub inside-agrees : (f g : LeafName → Bool) → ((l : LeafName) → f l ≡ g l) → (o : Option LeafName) (x y : RowKind) →
+    x ≡ y → inside_or f o x ≡ inside_or g o y
+inside-agrees f g same None x y e = e
+inside-agrees f g same (Some l) x y e = ap₂ (λ (t : Bool) (k : RowKind). cond t (LeafRow l) k) (same l) e
+
+-- a blank line, and one of text, that leaf does not take
+inside-blank : (test : LeafName → Bool) (o : Option LeafName) (other : RowKind) → inside_or test o other ≡ BlankRow →
+    other ≡ BlankRow
+inside-blank test None other e = e
+inside-blank test (Some l) other e = go (test l) e
+  where
+    go : (t : Bool) → cond t (LeafRow l) other ≡ BlankRow → other ≡ BlankRow
+    go true e = cc
+    go false e = e
+
+inside-text : (test : LeafName → Bool) (o : Option LeafName) (other : RowKind) → inside_or test o other ≡ TextRow →
+    other ≡ TextRow
+inside-text test None other e = e
+inside-text test (Some l) other e = go (test l) e
+  where
+    go : (t : Bool) → cond t (LeafRow l) other ≡ TextRow → other ≡ TextRow
+    go true e = cc
+    go false e = e
+
+-- a leaf that is found passes, or is another
+inside-leaf : (test : LeafName → Bool) (o : Option LeafName) (other : RowKind) (l : LeafName) →
+    inside_or test o other ≡ LeafRow l → (other ≡ LeafRow l → test l ≡ true) → test l ≡ true
+inside-leaf test None other l e found = found e
+inside-leaf test (Some k) other l e found = go (test k) refl e
+  where
+    go : (t : Bool) → test k ≡ t → cond t (LeafRow k) other ≡ LeafRow l → test l ≡ true
+    go true passes e = cc
+    go false passes e = found e
+
 -- so the line is blank, or its leaf starts there
 pub kind-blank : (options : ParseOptions) (on : HeldLeaf) (r : Rest) → line_kind options on r ≡ BlankRow →
     is_blank r.bytes ≡ true
-kind-blank options on r e = kind-is_blank (is_blank r.bytes) (first_of (λ l. (leaf l).starts options on r) trials) e
+kind-blank options on r e =
+    kind-is_blank (is_blank r.bytes) (first_of (λ l. (leaf l).starts options on r) trials)
+    (inside-blank (λ l. (leaf l).starts options on r) (insider on) _ e)
 
 pub kind-starts : (options : ParseOptions) (on : HeldLeaf) (r : Rest) (l : LeafName) →
     line_kind options on r ≡ LeafRow l → (leaf l).starts options on r ≡ true
 kind-starts options on r l e =
     let found : Option LeafName = first_of (λ k. (leaf k).starts options on r) trials in
-    first-passes (λ k. (leaf k).starts options on r) trials l (kind-found (is_blank r.bytes) found l e)
+    inside-leaf (λ k. (leaf k).starts options on r) (insider on) _ l e
+    (λ k. first-passes (λ j. (leaf j).starts options on r) trials l (kind-found (is_blank r.bytes) found l k))
+
+-- where no leaf is asked first, the line is blank, or the first leaf that starts there, or text
+pub kind-plain : (options : ParseOptions) (on : HeldLeaf) (r : Rest) → insider on ≡ None →
+    line_kind options on r ≡
+    cond (is_blank r.bytes) BlankRow (kind_of (first_of (λ l. (leaf l).starts options on r) trials))
+kind-plain options on r e =
+    ap
+    (λ (o : Option LeafName).
+    inside_or (λ l. (leaf l).starts options on r) o
+    (cond (is_blank r.bytes) BlankRow (kind_of (first_of (λ l. (leaf l).starts options on r) trials)))) e
+
+-- and where it is text, it is not blank, and no leaf starts there
+pub kind-text : (options : ParseOptions) (on : HeldLeaf) (r : Rest) → line_kind options on r ≡ TextRow →
+    cond (is_blank r.bytes) BlankRow (kind_of (first_of (λ l. (leaf l).starts options on r) trials)) ≡ TextRow
+kind-text options on r e = inside-text (λ l. (leaf l).starts options on r) (insider on) _ e

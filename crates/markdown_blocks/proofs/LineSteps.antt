@@ -22,16 +22,17 @@ use Rattle.md_definition.proofs.ContainerLemmas.{opens-leaves}
 use Rattle.md_definition.proofs.TakenLemmas.{LeavesFewer}
 use Rattle.markdown_blocks.specs.Change.{Change, change_by, interrupts, is_none, met, open_behind, others_of}
 use Rattle.markdown_blocks.specs.Fronted.{Contained, Prefixed, contained, no_prefix, one_more, prefixes_new}
-use Rattle.markdown_blocks.specs.Fronted.{prefixes_on}
+use Rattle.markdown_blocks.specs.Fronted.{contained_of, prefixes_behind, prefixes_on}
 use Rattle.markdown_blocks.specs.Parsed.{IsBuilt}
-use Rattle.markdown_blocks.specs.Registry.{LeafName, leaf, text_leaf}
+use Rattle.markdown_blocks.specs.Registry.{LeafName, insider, leaf, text_leaf}
 use Rattle.markdown_blocks.specs.Rows.{BlankRow, LeafRow, RowKind, TextRow, is_lazy, is_text, kind_of, line_behind}
 use Rattle.markdown_blocks.specs.Rows.{line_kind}
 use Rattle.markdown_blocks.specs.HeldLeaf.{IsBuiltLeaf, kind_of_leaf, met_by}
 use Rattle.markdown_blocks.specs.Stands.{IsPlain, containers_of, still_of}
 use Rattle.markdown_blocks.specs.Leaf.Paragraph.{held_of}
 use Rattle.markdown_blocks.proofs.ContainedLemmas.{change-opens, contained-size, lazy-opens, lazy-some}
-use Rattle.markdown_blocks.proofs.Registry.{came_of, laws, leaf-ends, leaf_at, text-laws}
+use Rattle.markdown_blocks.proofs.KindLemmas.{kind-plain}
+use Rattle.markdown_blocks.proofs.Registry.{came_of, insider-none, insider-text, laws, leaf-ends, leaf_at, text-laws}
 use Rattle.markdown_blocks.proofs.RegistryFound.{starts-found, table-off, underline-off}
 
 -- Lines, one after another.
@@ -47,7 +48,9 @@ pub fresh-found : (options : ParseOptions) (bs : Blocks) (r : Rest) → IsBuilt 
     fresh_line options bs r ≡ spot_by bs [] r (line_kind options held_leaf.None r)
 unfolding fresh_line
 fresh-found options bs r built =
-    rw (starts-found options held_leaf.None NoText r built) (go (is_blank r.bytes) (leaf_at options held_leaf.None r))
+    rw (starts-found options held_leaf.None NoText r built)
+    (go (is_blank r.bytes) (leaf_at options held_leaf.None r)
+    ∙ ap (spot_by bs [] r) (sym (kind-plain options held_leaf.None r insider-none)))
   where
     go : (x : Bool) (o : Option LeafName) →
         cond x (spot_of bs) (fresh_by bs r (came_of r o)) ≡ spot_by bs [] r (cond x BlankRow (kind_of o))
@@ -65,7 +68,8 @@ text-found options bs lines k r built =
       starts-found options held_leaf.Text Text r built,
       text-laws.shut options bs (k ∷ lines) built.definition,
     )
-    (go (is_blank r.bytes) (leaf_at options held_leaf.Text r))
+    (go (is_blank r.bytes) (leaf_at options held_leaf.Text r)
+    ∙ ap (spot_by bs (k ∷ lines) r) (sym (kind-plain options held_leaf.Text r insider-text)))
   where
     go : (x : Bool) (o : Option LeafName) →
         cond x (spot_of (text_leaf.behind bs (texts (k ∷ lines)))) (text_by options bs (k ∷ lines) r (came_of r o)) ≡
@@ -330,7 +334,9 @@ lazy-stepped options before c p r built leaf e plain = text-laws.cases By (λ e.
         lazy_by options before c p r
         (cond (is_blank r.bytes || is_some o) None (Some (text_leaf.held (k ∷ ks ++ kept r ∷ [])))))
         (starts-found options held_leaf.Text LazyText r built)
-        ∙ go k ks e (is_blank r.bytes) (leaf_at options held_leaf.Text r) fresh
+        ∙ go k ks e (is_blank r.bytes) (leaf_at options held_leaf.Text r)
+        (fresh ∙ ap other (kind-plain options held_leaf.None r insider-none))
+        ∙ ap (longer_by held_leaf.Text) (sym (kind-plain options held_leaf.Text r insider-text))
 
 step-stopped : (options : ParseOptions) (before : Blocks) (c : Container) (p : Path) (r : Rest) → IsBuilt options →
     IsPlain p →
@@ -398,6 +404,23 @@ step-new options (Within before c p) r built plain = go (λ s. step-new options 
         ∙ stepped-within options before c t.container p on.containers
         (all_new options (interrupts (still_of p) (others_of (containers_of p) on.containers)) on.rest)
 
+-- where nothing is open but text, containers open as often as they do
+plain-new : (options : ParseOptions) (p : Path) (others : List Container) (on : Prefixed) → IsPlain p →
+    prefixes_behind options (still_of p) others on ≡ all_new options (interrupts (still_of p) others) on.rest
+plain-new options p others on plain =
+    text-laws.cases
+    (λ (leaf : Leaf).
+    prefixes_behind options (kind_of_leaf leaf) others on ≡
+    all_new options (interrupts (kind_of_leaf leaf) others) on.rest) (by held_leaf.None insider-none)
+    (λ k ks. by held_leaf.Text insider-text) (spot p).leaf plain
+  where
+    by : (still : HeldLeaf) → insider still ≡ None →
+        prefixes_behind options still others on ≡ all_new options (interrupts still others) on.rest
+    by still e =
+        ap
+        (λ (o : Option LeafName).
+        cond (is_some o && is_none others) (no_prefix on.rest) (all_new options (interrupts still others) on.rest)) e
+
 -- what a line does to the containers, where a path is open
 abbrev pub contained_at : ParseOptions → Path → Rest → Contained
 contained_at options p r = contained options (containers_of p) (still_of p) r
@@ -421,7 +444,12 @@ step-contained options p r built plain =
     ∙ sym
     (ap (λ (opens : List Container). by (is_lazy (still_of p) opens (line_kind options leaf new.rest)) lazy)
     (change-opens lazy on.containers others new.containers))
+    ∙ ap stepping (sym (ap (contained_of options (containers_of p) (still_of p) on) (plain-new options p others on plain)))
   where
+    stepping : Contained → Path
+    stepping c =
+        cond (goes_lazy options p c) (longer (renewed c.change.stays p) (kept c.rest ∷ [])) (new_path options p c)
+
     on : Prefixed
     on = prefixes_on options (containers_of p) r
 
@@ -468,7 +496,7 @@ contained-lazy options p r h =
     others = others_of (containers_of p) on.containers
 
     new : Prefixed
-    new = all_new options (interrupts (still_of p) others) on.rest
+    new = prefixes_behind options (still_of p) others on
 
     leaf : HeldLeaf
     leaf = met (still_of p) others new.containers

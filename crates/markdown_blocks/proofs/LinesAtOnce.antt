@@ -1,6 +1,9 @@
 -- Lines on which one look tells that no container opens and no leaf begins: what is passed at once is what the states
 -- refuse one after another.
 use Rattle.std.proofs.Common.{◌≡◌, ◌≢◌, ℕ, Bool, true, false, cond, ◌||◌, nat_eq, List, [], ◌∷◌, Option, Some, None}
+use Rattle.markdown_blocks.specs.Flow.{inside_code, inside_transition, leaf_front}
+use Rattle.markdown_blocks.specs.Registry.{insider}
+use Rattle.std.specs.Option.{is_some}
 use Rattle.markdown_blocks.specs.Flow.{leaf_end}
 use Rattle.std.proofs.Common.{◌<◌, ◌⊎◌, inl, length, refl, sym, ◌∙◌, ap, ap₂, subst}
 use Rattle.std.specs.List.{list_any}
@@ -83,6 +86,7 @@ at-opener document.ContainerExistingBefore k w e = cc
 at-opener document.ContainerExistingAfter k w e = cc
 at-opener document.ContainerNewAfter k w e = cc
 at-opener document.ContainersAfter k w e = cc
+at-opener document.FlowInside k w e = cc
 at-opener document.FlowEnd k w e = cc
 at-opener _ k w e = ap (λ (o : Option ContainerKind). opener_transition o w) e
 
@@ -176,15 +180,26 @@ begins-none w e = go w.current refl e
         let dark = or_parts (is_white b) any (not-true (is_white b || any) is) in
         record { byte = b; here = looks-dark w b here dark.0; none = dark.1 }
 
--- Behind all containers the line may be blank,
-pub line-begun : (is_name : ResolveName → ResolveName → Bool) (is_end : Bool) (s : State) (v w : World) →
+-- Behind all containers the leaf that is open is asked first, if no container opens in it,
+pub line-front : (is_name : ResolveName → ResolveName → Bool) (is_end : Bool) (s : State) (v w : World) →
     w.current ≡ looks w → Within w → CameTo (FlowStep is_name) is_end s v (n.Document document.ContainersAfter) w →
+    CameTo (FlowStep is_name) is_end s v (leaf_front (is_some (insider (begun_line w.flags).leaf)))
+    (record w { flags = begun_line w.flags })
+line-front is_name is_end s v w seen within came =
+    then-stays (FlowStep is_name) is_end s v (n.Document document.ContainersAfter)
+    (leaf_front (is_some (insider (begun_line w.flags).leaf))) w (record w { flags = begun_line w.flags }) came
+    (record { to_is = refl; new_is = refl }) refl within refl seen
+
+-- and else the line may be blank,
+pub line-begun : (is_name : ResolveName → ResolveName → Bool) (is_end : Bool) (s : State) (v w : World) →
+    is_some (insider (begun_line w.flags).leaf) ≡ false → w.current ≡ looks w → Within w →
+    CameTo (FlowStep is_name) is_end s v (n.Document document.ContainersAfter) w →
     CameTo (FlowStep is_name) is_end s v (n.Flow flow.BlankLineBefore) (record w { flags = begun_line w.flags })
-line-begun is_name is_end s v w seen within came =
+line-begun is_name is_end s v w none seen within came =
     let T = FlowStep is_name in
     let u : World = record w { flags = begun_line w.flags } in
-    let begun = then-stays T is_end s v (n.Document document.ContainersAfter) (n.Flow flow.Start) w u came
-    (record { to_is = refl; new_is = refl }) refl within refl seen in
+    let begun = subst (λ (x : Bool). CameTo T is_end s v (leaf_front x) u) none
+    (line-front is_name is_end s v w seen within came) in
     then-stays T is_end s v (n.Flow flow.Start) (n.Flow flow.BlankLineBefore) u u begun
     (record { to_is = refl; new_is = refl }) refl within refl seen
 
@@ -203,18 +218,30 @@ line-over is_name is_end s v w ends seen within came =
     then-stays T is_end s v (n.Flow flow.BlankLineAfter) (n.Document document.FlowEnd) w
     (record w { flags = blanked w.flags }) blank (record { to_is = refl; new_is = refl }) refl within refl seen
 
--- So one comes to the leaf of the line,
+-- So one comes to the leaf that is asked first,
+pub passes-front : (is_name : ResolveName → ResolveName → Bool) (is_end : Bool) (s : State) (v w : World) →
+    opens_none w.current ≡ true → w.current ≡ looks w → Within w →
+    CameTo (FlowStep is_name) is_end s v (n.Document (opener_front openers)) w →
+    CameTo (FlowStep is_name) is_end s v (leaf_front (is_some (insider (openers_passed w).flags.leaf))) (openers_passed w)
+unfolding looks_behind
+passes-front is_name is_end s v w e seen within came =
+    let is = opens-none w e in
+    line-front is_name is_end s v (all_asked openers w) seen within
+    (openers-refuse is_name is_end s v openers w refl is.refused seen within came)
+
+-- to the leaf of the line,
 pub passes-openers : (is_name : ResolveName → ResolveName → Bool) (is_end : Bool) (s : State) (v w : World) →
+    is_some (insider (openers_passed w).flags.leaf) ≡ false →
     opens_none w.current ≡ true → w.current ≡ looks w → Within w →
     CameTo (FlowStep is_name) is_end s v (n.Document (opener_front openers)) w →
     CameTo (FlowStep is_name) is_end s v (n.Flow (front_of trials)) (openers_passed w)
 unfolding looks_behind
-passes-openers is_name is_end s v w e seen within came =
+passes-openers is_name is_end s v w none e seen within came =
     let T = FlowStep is_name in
     let is = opens-none w e in
     let u : World = openers_passed w in
     let behind = openers-refuse is_name is_end s v openers w refl is.refused seen within came in
-    let start = line-begun is_name is_end s v (all_asked openers w) seen within behind in
+    let start = line-begun is_name is_end s v (all_asked openers w) none seen within behind in
     let no : blank_line_before_transition u ≡ record { to = Retry (n.Flow (front_of trials)); world = u } =
     ap₂ (λ (x y : Bool). blank_line_code u x y) is.not_end is.not_blank in
     then-stays T is_end s v (n.Flow flow.BlankLineBefore) (n.Flow (front_of trials)) u u start
@@ -251,6 +278,13 @@ blank-leaves w = go (ends_line w.current)
     go false =
         trial-leaves (n.BlankLine blank_line.Start) (n.Flow flow.BlankLineAfter) (n.Flow (front_of trials)) w w
         (may_with blank.may_begin (looks_behind w)) refl refl refl
+
+pub inside-leaves : (w : World) → Leaves (inside_transition w) w
+inside-leaves w = go (insider w.flags.leaf)
+  where
+    go : (o : Option LeafName) → Leaves (inside_code w o) w
+    go None = ((refl, refl), refl)
+    go (Some l) = trial-leaves (leaf l).start (n.Flow flow.After) (n.Flow flow.Start) w w true refl refl refl
 
 pub leaf-leaves : (l : LeafName) (w : World) → Leaves (before_transition l w) w
 leaf-leaves l w =

@@ -24,6 +24,7 @@ owned document.ContainerExistingBefore k e = refl
 owned document.ContainerExistingAfter k e = refl
 owned document.ContainerNewAfter k e = refl
 owned document.ContainersAfter k e = refl
+owned document.FlowInside k e = refl
 owned document.FlowEnd k e = refl
 owned _ k e = ap opener_owner e
 
@@ -33,11 +34,13 @@ rank-is document.ContainerExistingBefore k e = cc
 rank-is document.ContainerExistingAfter k e = cc
 rank-is document.ContainerNewAfter k e = cc
 rank-is document.ContainersAfter k e = cc
+rank-is document.FlowInside k e = cc
 rank-is _ k e = ap opener_rank e
 
 tries-are : (x : DocumentState) (k : ContainerKind) → opener_at x ≡ Some k →
     flow_tries (n.Document x) ≡ opener_tries (Some k)
 tries-are document.ContainersAfter k e = cc
+tries-are document.FlowInside k e = cc
 tries-are _ k e = ap opener_tries e
 
 left-tried : (options : ParseOptions) (next : Rule) (x : DocumentState) (k : ContainerKind) (cells : List Cell)
@@ -48,6 +51,7 @@ left-tried options next document.ContainerExistingBefore k cells h e = cc
 left-tried options next document.ContainerExistingAfter k cells h e = cc
 left-tried options next document.ContainerNewAfter k cells h e = cc
 left-tried options next document.ContainersAfter k cells h e = cc
+left-tried options next document.FlowInside k cells h e = cc
 left-tried options next document.FlowEnd k cells h e = cc
 left-tried options next _ k cells h e = ap (λ (o : Option ContainerKind). opener_behaves options next o cells h) e
 
@@ -93,7 +97,7 @@ falls-to k ks e is = go ks (ap length e) is
   where
     rank : (j : ContainerKind) →
         (flow_rank (n.Document (container_rules j).before)).number ≡
-        10 + 2 * length trials + 2 * length (openers_behind j)
+        12 + 2 * length trials + 2 * length (openers_behind j)
     rank j = ap (λ (x : Rank). x.number) (rank-is (container_rules j).before j (container-states j).tried)
 
     go : (ks : List ContainerKind) → length (openers_behind k) ≡ length ks → NextOpener ks → Falls k (opener_front ks)
@@ -102,7 +106,7 @@ falls-to k ks e is = go ks (ap length e) is
         let here = rank k in
         let low = rank j in
         let tries : (flow_tries (n.Document (container_rules j).before)).number ≡
-        suc (10 + 2 * length trials + 2 * length (openers_behind j)) =
+        suc (12 + 2 * length trials + 2 * length (openers_behind j)) =
         ap (λ (x : Rank). x.number) (tries-are (container_rules j).before j (container-states j).tried) in
         let less = ap length is in
         record { falls = omega (arith, here, tries, less, size); next_low = omega (arith, low, tries) }

@@ -1,6 +1,8 @@
 -- The laws of the constructs that are built, and what the table has of them: the one place of the frame's proofs that
 -- names them.
 use Rattle.std.proofs.Common.{◌≡◌, ◌<◌, Bool, true, false, cond, List, [], ◌∷◌, ◌++◌, refl, ◌∙◌, ap, ap₂, arith}
+use Rattle.md_engine.specs.declared.tokenizer.held_leaf.HeldLeaf.TheVariants as held_leaf
+use Rattle.markdown_blocks.specs.Registry.{insider}
 use Rattle.md_engine.specs.declared.tokenizer.held_leaf.HeldLeaf.{HeldLeaf}
 use Rattle.std.specs.Option.{option_or}
 use Rattle.std.specs.Prelude.{Option, Some, None}
@@ -150,6 +152,20 @@ leaf-states HeadingAtx =
     }
 leaf-states ThematicBreak =
     record { tried = refl; next = tt; level = omega arith; ready = λ x K is. is; starts = λ options next cells h. refl }
+
+-- none is asked first where no leaf is open, or text
+pub insider-none : insider held_leaf.None ≡ None
+unfolding insider
+insider-none = refl
+
+pub insider-text : insider held_leaf.Text ≡ None
+unfolding insider
+insider-text = refl
+
+-- one that is asked first does not always end on its line
+pub insider-open : (on : HeldLeaf) (l : LeafName) → insider on ≡ Some l → (leaf l).ends ≡ false
+unfolding insider
+insider-open on l e = cc
 
 -- Lines of text.
 

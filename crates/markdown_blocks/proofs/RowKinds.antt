@@ -11,10 +11,10 @@ use Rattle.md_seam.proofs.FeedLines.{Stops}
 use Rattle.md_seam.proofs.RestCells.{RestAt, rest_cells}
 use Rattle.md_definition.proofs.TextsLemmas.{NoEnding}
 use Rattle.markdown_blocks.specs.Fronted.{rest_line}
-use Rattle.markdown_blocks.specs.Registry.{LeafName, leaf, trials}
+use Rattle.markdown_blocks.specs.Registry.{LeafName, insider, leaf, trials}
 use Rattle.markdown_blocks.specs.Rows.{BlankRow, LeafRow, RowKind, TextRow, blank_line, inside_of, kind_of, leaf_behind}
 use Rattle.markdown_blocks.specs.Rows.{line_behind, line_kind, row_kind}
-use Rattle.markdown_blocks.proofs.KindLemmas.{first-agrees, kind-blank, kind-starts}
+use Rattle.markdown_blocks.proofs.KindLemmas.{first-agrees, inside-agrees, kind-blank, kind-starts}
 use Rattle.markdown_blocks.proofs.Registry.{laws}
 use Rattle.markdown_blocks.proofs.RestRows.{rest-blank, rest-blank_events}
 
@@ -26,10 +26,12 @@ pub kind-rest : (options : ParseOptions) (on : HeldLeaf) (said : Line) (text beh
     row_kind options on (rest_cells said r p ++ stop) ≡ line_kind options on r
 kind-rest options on said text behind r p stop is none k short =
     let cells : List Cell = rest_cells said r p ++ stop in
-    ap₂ (λ (t : Bool) (found : Option LeafName). cond t BlankRow (kind_of found))
+    inside-agrees (λ (l : LeafName). (leaf l).takes options on cells) (λ (l : LeafName). (leaf l).starts options on r)
+    (λ l. (laws l).fits options on said text behind r p stop is none k short) (insider on) _ _
+    (ap₂ (λ (t : Bool) (found : Option LeafName). cond t BlankRow (kind_of found))
     (rest-blank said r p stop none k (let column = is.column in omega (arith, column)) is.cut)
     (first-agrees (λ (l : LeafName). (leaf l).takes options on cells) (λ (l : LeafName). (leaf l).starts options on r)
-    (λ l. (laws l).fits options on said text behind r p stop is none k short) trials)
+    (λ l. (laws l).fits options on said text behind r p stop is none k short) trials))
 
 -- what flow adds for a blank line
 pub blank-inside : (options : ParseOptions) (on : HeldLeaf) (said : Line) (text behind : List ℕ) (r : Rest) (p : Point)

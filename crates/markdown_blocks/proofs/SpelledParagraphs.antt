@@ -1,6 +1,7 @@
 -- What the events of a paragraph are read as, where prefixes of containers stand in front of its lines: its lines
 -- without them.
 use Rattle.std.proofs.Common.{◌≡◌, ℕ, zero, suc, ◌+◌, ◌≤◌, Bool, true, false, cond, List, [], ◌∷◌, ◌++◌, length}
+use Rattle.markdown_blocks.proofs.KindLemmas.{kind-text}
 use Rattle.std.proofs.Common.{slice_range, refl, ap, sym, ◌∙◌, subst, append_assoc, append-nil, arith}
 use Rattle.std.specs.Prelude.{◌==◌, Option, None}
 use Rattle.std.proofs.lemmas.Bool.{and_parts}
@@ -107,7 +108,8 @@ text-filled : (options : ParseOptions) (bytes line : List ℕ) (row : Row) → (
     row.kind ≡ TextRow → IsFilled is.rest.bytes
 text-filled options bytes line row is text = record {
   no_ending = go is.rest.spaces (subst NoEnding is.line_is is.no_ending);
-  filled = by (is_blank is.rest.bytes) (leaf_at options row.on is.rest) (sym is.kind ∙ text);
+  filled = by (is_blank is.rest.bytes) (leaf_at options row.on is.rest)
+      (kind-text options row.on is.rest (sym is.kind ∙ text));
 }
   where
     go : (n : ℕ) → NoEnding (cut_tab n ++ is.rest.bytes) → NoEnding is.rest.bytes

@@ -1,5 +1,6 @@
 -- Each state of flow keeps what its table needs.
 use Rattle.std.proofs.Common.{◌≡◌, Bool, Option, Some, None, refl, ap, sym, subst}
+use Rattle.markdown_blocks.specs.Registry.{insider}
 use Rattle.md_engine.specs.declared.resolve.name.Name.{Name as ResolveName}
 use Rattle.md_engine.specs.declared.resolve.name.Name.TheVariants as r
 use Rattle.md_engine.specs.declared.state.Name.{Name as StateName}
@@ -27,7 +28,7 @@ use Rattle.markdown_blocks.specs.States.{flow_owner, flow_table_scheme, flow_tra
 use Rattle.markdown_blocks.proofs.Goods as goods
 use Rattle.markdown_blocks.proofs.Goods.{FlowFits}
 use Rattle.markdown_blocks.proofs.Openers.{opener-fits}
-use Rattle.markdown_blocks.proofs.Trials.{leaf-fits}
+use Rattle.markdown_blocks.proofs.Trials.{inside_fits, leaf-fits}
 use Rattle.markdown_blocks.proofs.Registry.{blank_fits, construct-does, container-states, opener-before, tried-before}
 use Rattle.markdown_blocks.proofs.Registry.{white_fits}
 
@@ -41,6 +42,7 @@ flow_fits = record {
   first_opener = fits flow_owner (n.Document (opener_front openers));
   new_after = fits flow_owner (n.Document document.ContainerNewAfter);
   containers_after = fits flow_owner (n.Document document.ContainersAfter);
+  inside = fits flow_owner (n.Document document.FlowInside);
   flow_end = fits flow_owner (n.Document document.FlowEnd);
   start = fits flow_owner (n.Flow flow.Start);
   blank_line_before = fits flow_owner (n.Flow flow.BlankLineBefore);
@@ -70,6 +72,8 @@ containers_do document.ContainerExistingBefore w c at =
 containers_do document.ContainerExistingAfter w c at = goods.good_existing_after flow_table_scheme w flow_fits at
 containers_do document.ContainerNewAfter w c at = goods.good_new_after flow_table_scheme w flow_fits at
 containers_do document.ContainersAfter w c at = goods.good_containers_after flow_table_scheme w flow_fits at
+containers_do document.FlowInside w c at =
+    goods.good_inside flow_table_scheme w (insider w.flags.leaf) flow_fits inside_fits at
 containers_do document.FlowEnd w c at = goods.good_flow_end flow_table_scheme w w.current flow_fits at (sym c)
 containers_do document.Start w c at = absurd at
 containers_do document.BeforeFrontmatter w c at = absurd at

@@ -10,6 +10,7 @@ use Rattle.md_engine.specs.declared.state.space_or_tab.State.TheVariants as whit
 use Rattle.md_engine.specs.declared.state.flow.State.{State as FlowState}
 use Rattle.md_engine.specs.declared.state.flow.State.TheVariants as its
 use Rattle.std.proofs.Common.{◌≡◌, ℕ, ◌&&◌, Bool, true, false, nat_eq, nat_lt, nat_le, Option, Some, None, length, refl}
+use Rattle.markdown_blocks.specs.Registry.{insider}
 use Rattle.md_engine.specs.declared.event.Name.TheVariants as n
 use Rattle.md_engine.specs.declared.resolve.name.Name.TheVariants as r
 use Rattle.md_engine.specs.declared.state.Name.{Name as StateName}
@@ -60,6 +61,10 @@ existing-before : (w : World) (ends : Bool) (o : Option Container) → Registers
 existing-before w true o h = h
 existing-before w false None h = h
 existing-before w false (Some c) h = trial _ _ _ (asking c w) (may_with (may_go_on c.kind) (looks_behind w)) h
+
+inside-registers : (o : Option LeafName) (w : World) → Registers w → Registers (flow.inside_code w o).world
+inside-registers None w h = h
+inside-registers (Some l) w h = h
 
 opener-registers : (o : Option ContainerKind) (w : World) → Registers w → Registers (flow.opener_transition o w).world
 opener-registers None w h = h
@@ -112,6 +117,7 @@ containers-register document.Start w h = h
 containers-register document.BeforeFrontmatter w h = h
 containers-register document.ContainerExistingAfter w h = h
 containers-register document.ContainersAfter w h = h
+containers-register document.FlowInside w h = inside-registers (insider w.flags.leaf) w h
 containers-register state w h = opener-registers (opener_at state) w h
 
 leaf-registers : (o : Option LeafName) (w : World) → Registers w → Registers (flow.leaf_transition o w).world

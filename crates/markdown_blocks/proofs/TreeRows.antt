@@ -3,6 +3,13 @@
 use Rattle.md_engine.specs.declared.tokenizer.held_leaf.HeldLeaf.TheVariants as held_leaf
 use Rattle.md_engine.specs.declared.tokenizer.held_leaf.HeldLeaf.{HeldLeaf}
 use Rattle.std.proofs.Common.{◌≡◌, ℕ, zero, suc, ◌-◌, Bool, true, false, cond, not, ◌==◌, ◌&&◌, ◌||◌, List, [], ◌∷◌}
+use Rattle.md_definition.specs.State.{spot}
+use Rattle.markdown_blocks.proofs.Registry.{insider-none, insider-text}
+use Rattle.markdown_blocks.specs.HeldLeaf.{kind_of_leaf, met_by}
+use Rattle.markdown_blocks.specs.Change.{is_none}
+use Rattle.markdown_blocks.specs.Registry.{insider}
+use Rattle.markdown_blocks.specs.Rows.{is_inside}
+use Rattle.markdown_blocks.specs.Fronted.{prefixes_behind}
 use Rattle.markdown_blocks.specs.Change.{met}
 use Rattle.std.proofs.Common.{◌++◌, map, length, drop, take, refl, ap, sym, ◌∙◌, subst, inl, inr, ◌⊎◌}
 use Rattle.std.specs.Prelude.{Option, Some, None}
@@ -38,7 +45,7 @@ use Rattle.markdown_blocks.specs.Rows.{line_kind}
 use Rattle.markdown_blocks.specs.HeldLeaf.{IsBuiltLeaf}
 use Rattle.markdown_blocks.specs.Stands.{IsPlain, containers_of, still_of}
 use Rattle.markdown_blocks.proofs.ContainedLemmas.{contained-kinds}
-use Rattle.markdown_blocks.proofs.KindLemmas.{kind-starts}
+use Rattle.markdown_blocks.proofs.KindLemmas.{kind-plain, kind-starts}
 use Rattle.markdown_blocks.proofs.LineSteps.{behind_path, contained_at, goes_lazy, kept_to, longer}
 use Rattle.markdown_blocks.proofs.LineSteps.{new_line, new_path, plain-step, renewed, spot_by, step-contained, step-new}
 use Rattle.markdown_blocks.proofs.LineSteps.{stepped_on}
@@ -88,11 +95,17 @@ read-open options cs still r built =
     interrupting = interrupts still (others_of cs on.containers)
 
     new : Prefixed
-    new = prefixes_new options interrupting (length on.rest.bytes) on.rest
+    new = prefixes_behind options still (others_of cs on.containers) on
+
+    read : (x : Bool) →
+        AreRead
+        (cond x (no_prefix on.rest) (prefixes_new options interrupting (length on.rest.bytes) on.rest)).containers
+    read true = tt
+    read false = read-new options interrupting (length on.rest.bytes) on.rest built
 
     go : (x : Bool) → AreRead (change_by x on.containers (others_of cs on.containers) new.containers).opens
-    go true = read-new options interrupting (length on.rest.bytes) on.rest built
-    go false = read-new options interrupting (length on.rest.bytes) on.rest built
+    go true = read (is_inside still (others_of cs on.containers))
+    go false = read (is_inside still (others_of cs on.containers))
 
 -- Paths.
 
@@ -241,11 +254,29 @@ closed-empty options (suc n) (At s) column = refl
 closed-empty options (suc n) (Within before c p) column =
     ap (λ (bs : Blocks). then_block before (container_block c bs)) (closed-empty options n p column)
 
+-- where nothing is open but text, no leaf is asked first
+met-plain : (p : Path) (others : List Container) → IsPlain p → insider (met (still_of p) others []) ≡ None
+met-plain p others plain =
+    text-laws.cases (λ (leaf : Leaf). insider (met (kind_of_leaf leaf) others []) ≡ None) (none (is_none others))
+    (λ k ks. insider-text) (spot p).leaf plain
+  where
+    none : (all : Bool) → insider (met_by all held_leaf.None) ≡ None
+    none true = insider-none
+    none false = insider-none
+
 step-empty : (options : ParseOptions) (p : Path) (column : ℕ) → IsBuilt options → IsPlain p →
     AreRead (containers_of p) → closed options (step options p (rest_at column [])) ≡ closed options p
 step-empty options p column built plain read =
     ap (closed options) (step-new options p r built plain)
     ∙ ap (λ (on : Prefixed). closed options (stepped_on options p on)) on.1
+    ∙ ap
+    (λ (k : RowKind).
+    closed options
+    (cond (is_lazy (still_of p) [] k)
+    (longer (renewed (went ++ others_of (containers_of p) went) p) (kept r ∷ []))
+    (behind_path (kept_to options went p) (λ (bs : Blocks). At (spot_by bs [] r k)))))
+    (kind-plain options (met (still_of p) (others_of (containers_of p) went) []) r
+    (met-plain p (others_of (containers_of p) went) plain))
     ∙ go (still_of p)
     ∙ closed-empty options on.0 p column
   where

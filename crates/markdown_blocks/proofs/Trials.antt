@@ -12,7 +12,7 @@ use Rattle.markdown_blocks.specs.Flow.{flow_rank, flow_scheme, flow_tries, leaf_
 use Rattle.markdown_blocks.specs.FlowRule.{Rule, leaf_behaves, leaves_behave, leaves_of}
 use Rattle.markdown_blocks.specs.Registry.{LeafName, behind, front_of, leaf, next_of, rank_of, tried_at, tries_of}
 use Rattle.markdown_blocks.specs.States.{flow_owner, flow_table_scheme, leaf_owner, leaves_owner}
-use Rattle.markdown_blocks.proofs.Goods.{LeafFits}
+use Rattle.markdown_blocks.proofs.Goods.{InsideFits, LeafFits}
 use Rattle.markdown_blocks.proofs.Registry.{NextIs, leaf-states}
 
 -- A state where a leaf is tried: whose it is, its rank and tries, and what is left there.
@@ -36,6 +36,7 @@ rank-is flow.After l e = cc
 rank-is _ l e = ap leaf_rank e
 
 tries-are : (x : FlowState) (l : LeafName) → tried_at x ≡ Some l → flow_tries (n.Flow x) ≡ tries_of l
+tries-are flow.Start l e = cc
 tries-are flow.BeforeContent l e = cc
 tries-are _ l e = ap leaf_tries e
 
@@ -103,6 +104,15 @@ falls-to l ls e is = go ls (ap length e) is
           next_low = omega (arith, low, tries);
           behind_low = omega (arith, tries);
         }
+
+-- and that of a leaf that is asked first
+pub inside_fits : (l : LeafName) → InsideFits flow_table_scheme l
+inside_fits l = record {
+  own = flow_owner (leaf l).start;
+  starts = fits flow_owner (leaf l).start;
+  level = (leaf-states l).level;
+  ready = (leaf-states l).ready;
+}
 
 pub leaf-fits : (l : LeafName) → LeafFits flow_table_scheme l
 leaf-fits l =

@@ -20,7 +20,7 @@ use Rattle.md_seam.specs.Spaces.{rest_ready}
 use Rattle.md_seam.specs.Transition.{Transition, tried}
 use Rattle.markdown_blocks.specs.Flow.{containers_after_transition, existing_after_transition}
 use Rattle.markdown_blocks.specs.Flow.{existing_before_transition, flow_end_transition, new_after_transition}
-use Rattle.markdown_blocks.specs.Flow.{opener_transition}
+use Rattle.markdown_blocks.specs.Flow.{inside_transition, opener_transition}
 use Rattle.markdown_blocks.specs.Registry.{opener_at}
 
 -- States.
@@ -44,6 +44,7 @@ document_own_transition document.ContainerExistingBefore w = existing_before_tra
 document_own_transition document.ContainerExistingAfter w = existing_after_transition w
 document_own_transition document.ContainerNewAfter w = new_after_transition w
 document_own_transition document.ContainersAfter w = containers_after_transition w
+document_own_transition document.FlowInside w = inside_transition w
 document_own_transition document.FlowEnd w = flow_end_transition w
 document_own_transition state w = opener_transition (opener_at state) w
 

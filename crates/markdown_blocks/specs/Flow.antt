@@ -1,5 +1,7 @@
 -- The lines of a text: which containers go on and open on each, and which block starts on the rest of it.
 use Rattle.std.specs.Prelude.{refl, ℕ, Bool, true, false, ◌+◌, ◌*◌, ◌==◌, if◌then◌else◌, length, Option, Some, None}
+use Rattle.md_engine.specs.declared.state.document.State.{State as DocumentState}
+use Rattle.std.specs.Option.{is_some}
 use Rattle.md_engine.specs.declared.state.Name.{Name as StateName}
 use Rattle.md_engine.specs.declared.state.Name.TheVariants as s
 use Rattle.md_engine.specs.declared.state.flow.State.{State as FlowState}
@@ -18,7 +20,7 @@ use Rattle.md_seam.specs.Spaces.{ends_line, rest_ready}
 use Rattle.md_seam.specs.Transition.{Transition, entered, exited, taken, tried}
 use Rattle.markdown_blocks.specs.LineFlags.{asking, begun_line, blanked, ending_name, next_container, next_line, stays}
 use Rattle.markdown_blocks.specs.LineFlags.{ended_on, shut_leaf, went_on, with_container}
-use Rattle.markdown_blocks.specs.Registry.{LeafName, front_of, goes_on_with, leaf, may_go_on, may_open, next_of}
+use Rattle.markdown_blocks.specs.Registry.{LeafName, front_of, goes_on_with, insider, leaf, may_go_on, may_open, next_of}
 use Rattle.markdown_blocks.specs.Registry.{next_opener, opener_at, opener_front, opener_rank, opener_tries, openers}
 use Rattle.markdown_blocks.specs.Registry.{opens_with, rank_of, trials, tried_at, tries_of}
 
@@ -76,11 +78,17 @@ blank_line_after_transition w =
 
 -- Containers.
 
+-- where all containers went on, by whether a leaf is open in which none opens
+abbrev pub behind_all : Bool → DocumentState
+behind_all true = document.ContainersAfter
+behind_all false = opener_front openers
+
 -- by whether the line ends here, where none is asked and none opens, and by the container that may go on
 abbrev pub existing_before_code : World → Bool → Option Container → Transition
 existing_before_code w true o =
     record { to = Retry (s.Document document.ContainersAfter); world = record w { flags = ended_on w.flags } }
-existing_before_code w false None = record { to = Retry (s.Document (opener_front openers)); world = w }
+existing_before_code w false None =
+    record { to = Retry (s.Document (behind_all (is_some (insider w.flags.leaf)))); world = w }
 existing_before_code w false (Some c) =
     trial_code (goes_on_with c.kind) (s.Document document.ContainerExistingAfter)
     (s.Document (opener_front openers)) (asking c w) (may_with (may_go_on c.kind) (looks_behind w))
@@ -111,9 +119,23 @@ new_after_transition w =
       world = record v { flags = with_container v.flags };
     }
 
+-- by whether a leaf is asked first whether the line goes on it
+abbrev pub leaf_front : Bool → StateName
+leaf_front true = s.Document document.FlowInside
+leaf_front false = s.Flow flow.Start
+
 abbrev pub containers_after_transition : World → Transition
 containers_after_transition w =
-    record { to = Retry (s.Flow flow.Start); world = record w { flags = begun_line w.flags } }
+    let g = begun_line w.flags in
+    record { to = Retry (leaf_front (is_some (insider g.leaf))); world = record w { flags = g } }
+
+-- by that leaf
+abbrev pub inside_code : World → Option LeafName → Transition
+inside_code w None = record { to = Retry (s.Flow flow.Start); world = w }
+inside_code w (Some l) = trial_code (leaf l).start (s.Flow flow.After) (s.Flow flow.Start) w true
+
+abbrev pub inside_transition : World → Transition
+inside_transition w = inside_code w (insider w.flags.leaf)
 
 -- where a line ends: by what stands here
 abbrev pub flow_end_code : World → Option ℕ → Transition
@@ -159,10 +181,11 @@ leaf_rank None = ranked 0 refl
 leaf_rank (Some l) = rank_of l
 
 abbrev pub flow_rank : StateName → Rank
-flow_rank (s.Document document.ContainerExistingAfter) = ranked (11 + opening) refl
-flow_rank (s.Document document.ContainerExistingBefore) = ranked (10 + opening) refl
-flow_rank (s.Document document.ContainerNewAfter) = ranked (9 + opening) refl
-flow_rank (s.Document document.ContainersAfter) = ranked (8 + leaves) refl
+flow_rank (s.Document document.ContainerExistingAfter) = ranked (13 + opening) refl
+flow_rank (s.Document document.ContainerExistingBefore) = ranked (12 + opening) refl
+flow_rank (s.Document document.ContainerNewAfter) = ranked (11 + opening) refl
+flow_rank (s.Document document.ContainersAfter) = ranked (10 + leaves) refl
+flow_rank (s.Document document.FlowInside) = ranked (9 + leaves) refl
 flow_rank (s.Document state) = opener_rank (opener_at state)
 flow_rank (s.Flow flow.Start) = ranked (7 + leaves) refl
 flow_rank (s.Flow flow.BlankLineBefore) = ranked (6 + leaves) refl
@@ -178,8 +201,9 @@ leaf_tries None = ranked 2 refl
 leaf_tries (Some l) = tries_of l
 
 abbrev pub flow_tries : StateName → Rank
-flow_tries (s.Document document.ContainersAfter) = ranked (9 + leaves) refl
+flow_tries (s.Document document.ContainersAfter) = ranked (11 + leaves) refl
 flow_tries (s.Document state) = opener_tries (opener_at state)
+flow_tries (s.Flow flow.Start) = ranked (8 + leaves) refl
 flow_tries (s.Flow flow.BeforeContent) = ranked 5 refl
 flow_tries (s.Flow state) = leaf_tries (tried_at state)
 flow_tries _ = ranked 2 refl

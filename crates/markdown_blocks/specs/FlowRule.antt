@@ -1,6 +1,7 @@
 -- What is left at each state of the lines of a text: the lines that are still to come, each by its containers and the
 -- block that takes the rest of it.
 use Rattle.std.specs.Prelude.{◌≡◌, ℕ, zero, suc, Bool, true, false, ◌==◌, Option, Some, None, if◌then◌else◌, List, [], ◌∷◌, ◌++◌, length}
+use Rattle.std.specs.Option.{is_some}
 use Rattle.md_engine.specs.declared.configuration.ParseOptions.{ParseOptions}
 use Rattle.md_engine.specs.declared.state.Name.TheVariants as s
 use Rattle.md_engine.specs.declared.state.document.State.{State as DocumentState}
@@ -17,8 +18,8 @@ use Rattle.md_leaves.specs.BlankRule.{HasBlank, blank_at}
 use Rattle.md_seam.specs.Events.Nested.{pair}
 use Rattle.md_seam.specs.Look.{first_seen}
 use Rattle.md_seam.specs.Spaces.{ends_line}
-use Rattle.markdown_blocks.specs.Registry.{LeafName, begins_at, behind, continues_at, goes_on_with, leaf, opener_at, openers}
-use Rattle.markdown_blocks.specs.Registry.{openers_behind, opens_with, trials, tried_at}
+use Rattle.markdown_blocks.specs.Registry.{LeafName, begins_at, behind, continues_at, goes_on_with, insider, leaf, opener_at}
+use Rattle.markdown_blocks.specs.Registry.{openers, openers_behind, opens_with, trials, tried_at}
 use Rattle.markdown_blocks.specs.LineFlags.{asks, begun_line, blanked, ending_name, next_container, next_line, stays}
 use Rattle.markdown_blocks.specs.LineFlags.{ended_on, shut_leaf, went_on, with_container}
 
@@ -89,11 +90,21 @@ leaf_of options next cells h =
     tried (blank_at cells h) (blank_ended next)
     (λ s g. nonblank_of options next cells (record h { scratch = s; flags = g }))
 
+-- by the leaf that is asked first whether the line goes on it
+abbrev pub inside_by : ParseOptions → Rule → Option LeafName → Rule
+inside_by options next None cells h = leaf_of options next cells h
+inside_by options next (Some l) cells h =
+    tried ((leaf l).trial options cells h) (line_ended next)
+    (λ s g. leaf_of options next cells (record h { scratch = s; flags = g }))
+
+abbrev pub inside_of : ParseOptions → Rule → Rule
+inside_of options next cells h = inside_by options next (insider h.flags.leaf) cells h
+
 -- Containers. Each takes a cell at least, so there are no more of them than cells.
 
 -- behind all containers
 abbrev pub behind_containers : ParseOptions → Rule → Rule
-behind_containers options next cells h = leaf_of options next cells (record h { flags = begun_line h.flags })
+behind_containers options next cells h = inside_of options next cells (record h { flags = begun_line h.flags })
 
 -- this one is asked whether it goes on, or tried
 abbrev pub asking_here : Container → Here → Here
@@ -125,9 +136,14 @@ abbrev pub openers_of : ParseOptions → Rule → List ContainerKind → Rule
 openers_of options next ks cells h =
     opens_of options (λ rest k. new_of options next rest (opened k)) (behind_containers options next) ks cells h
 
+-- where all containers went on, and a leaf is open in which none opens, that leaf is asked
+abbrev pub all_on : ParseOptions → Rule → Bool → Rule
+all_on options next true cells h = behind_containers options next cells h
+all_on options next false cells h = new_of options next cells h
+
 -- each container is asked whether it goes on, from the outermost in, until one does not
 abbrev pub existing_by : ParseOptions → Rule → Rule → Option Container → Rule
-existing_by options next further None cells h = new_of options next cells h
+existing_by options next further None cells h = all_on options next (is_some (insider h.flags.leaf)) cells h
 existing_by options next further (Some c) cells h =
     tried (continues_at options c.kind cells (asking_here c h))
     (λ rest k. further rest (record k { flags = went_on k.flags }))
@@ -170,6 +186,7 @@ containers_behave options next document.ContainerExistingAfter cells h =
     line_then options next cells (record h { flags = went_on h.flags })
 containers_behave options next document.ContainerNewAfter cells h = new_of options next cells (opened h)
 containers_behave options next document.ContainersAfter cells h = behind_containers options next cells h
+containers_behave options next document.FlowInside cells h = inside_of options next cells h
 containers_behave options next document.FlowEnd cells h = line_ended next cells h
 containers_behave options next state cells h = opener_behaves options next (opener_at state) cells h
 

@@ -1,6 +1,6 @@
 -- The containers of a line by its bytes: which go on and open on it, as the line definition says.
 use Rattle.md_engine.specs.declared.tokenizer.held_leaf.HeldLeaf.{HeldLeaf}
-use Rattle.std.specs.Prelude.{ℕ, zero, suc, ◌-◌, Bool, false, List, [], ◌∷◌, ◌++◌, length, Some, None}
+use Rattle.std.specs.Prelude.{ℕ, zero, suc, ◌-◌, Bool, false, if◌then◌else◌, List, [], ◌∷◌, ◌++◌, length, Some, None}
 use Rattle.md_engine.specs.declared.configuration.ParseOptions.{ParseOptions}
 use Rattle.md_engine.specs.declared.event.Point.{Point}
 use Rattle.md_definition.specs.Containers.{continues, opens}
@@ -8,7 +8,7 @@ pub use Rattle.md_definition.specs.Rest.{cut_tab}
 use Rattle.md_definition.specs.Rest.{Rest}
 use Rattle.md_definition.specs.State.{Container}
 use Rattle.markdown_blocks.specs.Change.{Change, change_by, interrupts, met, others_of}
-use Rattle.markdown_blocks.specs.Rows.{is_lazy, line_kind}
+use Rattle.markdown_blocks.specs.Rows.{is_inside, is_lazy, line_kind}
 
 -- containers that have a prefix on a line, and its rest behind them
 pub record Prefixed : Type 0 where
@@ -63,10 +63,14 @@ contained_of options cs still went new =
     let on = met still (others_of cs went.containers) new.containers in
     contained_by cs (is_lazy still new.containers (line_kind options on new.rest)) on went new
 
+abbrev pub prefixes_behind : ParseOptions → HeldLeaf → List Container → Prefixed → Prefixed
+prefixes_behind options still others went =
+    if is_inside still others then no_prefix went.rest
+    else prefixes_new options (interrupts still others) (length went.rest.bytes) went.rest
+
 abbrev pub contained_behind : ParseOptions → List Container → HeldLeaf → Prefixed → Contained
 contained_behind options cs still went =
-    contained_of options cs still went
-    (prefixes_new options (interrupts still (others_of cs went.containers)) (length went.rest.bytes) went.rest)
+    contained_of options cs still went (prefixes_behind options still (others_of cs went.containers) went)
 
 -- where these containers and this leaf are open before it
 unfoldable pub contained : ParseOptions → List Container → HeldLeaf → Rest → Contained

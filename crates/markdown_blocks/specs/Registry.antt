@@ -1,5 +1,6 @@
 -- The constructs that are built, and their order: the one place of the frame's definitions that names them.
 use Rattle.std.specs.Prelude.{◌≡◌, refl, Bool, ℕ, zero, suc, ◌+◌, ◌*◌, nat_lt, true, ◌==◌, if◌then◌else◌}
+use Rattle.md_engine.specs.declared.tokenizer.held_leaf.HeldLeaf.{HeldLeaf}
 use Rattle.std.specs.Option.{option_or}
 use Rattle.std.specs.Prelude.{List, [], ◌∷◌, length, Option, Some, None}
 use Rattle.md_engine.specs.declared.configuration.ParseOptions.{ParseOptions}
@@ -58,6 +59,11 @@ leaf ThematicBreak = break_leaf
 -- the order in which they are tried, behind blank lines and in front of content
 abbrev pub trials : List LeafName
 trials = HeadingAtx ∷ ThematicBreak ∷ []
+
+-- The leaf that is asked, in front of blank lines and all others, whether a line goes on the one that it meets: that of
+-- a leaf in which no container opens (fences, math, HTML).
+unfoldable pub insider : HeldLeaf → Option LeafName
+insider on = None
 
 -- the first of them that passes a test
 abbrev pub first_of : (LeafName → Bool) → List LeafName → Option LeafName
@@ -197,7 +203,7 @@ next_opener k = opener_front (openers_behind k)
 
 -- how far it is from the next byte: by how many are tried behind it, and by the leaves
 abbrev pub opener_weight : ContainerKind → ℕ
-opener_weight k = 10 + 2 * length trials + 2 * length (openers_behind k)
+opener_weight k = 12 + 2 * length trials + 2 * length (openers_behind k)
 
 abbrev pub low_opener : (k : ContainerKind) →
     (nat_lt (opener_weight k) 64 ≡ true) × (nat_lt (suc (opener_weight k)) 64 ≡ true)

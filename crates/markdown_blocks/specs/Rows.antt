@@ -3,6 +3,7 @@ use Rattle.markdown_blocks.specs.HeldLeaf.{takes_lazy}
 use Rattle.md_engine.specs.declared.tokenizer.held_leaf.HeldLeaf.TheVariants as held_leaf
 use Rattle.md_engine.specs.declared.tokenizer.held_leaf.HeldLeaf.{HeldLeaf}
 use Rattle.std.specs.Prelude.{ℕ, zero, suc, Bool, true, false, ◌&&◌, length, if◌then◌else◌, List, [], ◌∷◌, ◌++◌}
+use Rattle.std.specs.Option.{is_some}
 use Rattle.std.specs.Prelude.{slice_range, Option, Some, None}
 use Rattle.md_engine.specs.declared.configuration.ParseOptions.{ParseOptions}
 use Rattle.md_engine.specs.declared.event.Event.{Event}
@@ -20,7 +21,7 @@ use Rattle.md_seam.specs.Events.Nested.{around, enter_link, exit, pair}
 use Rattle.md_definition.specs.Rest.{Rest, is_blank}
 use Rattle.md_definition.specs.State.{Container}
 use Rattle.markdown_blocks.specs.Passed.{Passed}
-use Rattle.markdown_blocks.specs.Registry.{LeafName, first_of, goes_at, leaf, opens_at, text_leaf, trials}
+use Rattle.markdown_blocks.specs.Registry.{LeafName, first_of, goes_at, insider, leaf, opens_at, text_leaf, trials}
 use Rattle.markdown_blocks.specs.Change.{Change, change_by, ends_of, interrupts, is_none, met, open_behind, others_of}
 
 -- what the rest of a line is, behind the prefixes of its containers
@@ -53,11 +54,17 @@ abbrev pub kind_of : Option LeafName → RowKind
 kind_of None = TextRow
 kind_of (Some l) = LeafRow l
 
+-- a further line of the leaf that is asked first, if it passes a test, and else another
+abbrev pub inside_or : (LeafName → Bool) → Option LeafName → RowKind → RowKind
+inside_or test None other = other
+inside_or test (Some l) other = if test l then LeafRow l else other
+
 -- By the rest of a line, as the line definition has it, where it meets this leaf: its kind, and what is open behind a line
 -- of a kind.
 abbrev pub line_kind : ParseOptions → HeldLeaf → Rest → RowKind
 line_kind options on r =
-    if is_blank r.bytes then BlankRow else kind_of (first_of (λ l. (leaf l).starts options on r) trials)
+    inside_or (λ l. (leaf l).starts options on r) (insider on)
+    (if is_blank r.bytes then BlankRow else kind_of (first_of (λ l. (leaf l).starts options on r) trials))
 
 abbrev pub line_behind : ParseOptions → HeldLeaf → Rest → RowKind → HeldLeaf
 line_behind options on r BlankRow = held_leaf.None
@@ -67,7 +74,8 @@ line_behind options on r TextRow = held_leaf.Text
 -- By its cells.
 abbrev pub row_kind : ParseOptions → HeldLeaf → List Cell → RowKind
 row_kind options on cells =
-    if is_blank (line_bytes cells) then BlankRow else kind_of (first_of (λ l. (leaf l).takes options on cells) trials)
+    inside_or (λ l. (leaf l).takes options on cells) (insider on)
+    (if is_blank (line_bytes cells) then BlankRow else kind_of (first_of (λ l. (leaf l).takes options on cells) trials))
 
 abbrev pub leaf_behind : ParseOptions → HeldLeaf → List Cell → Point → RowKind → HeldLeaf
 leaf_behind options on cells p BlankRow = held_leaf.None
@@ -153,10 +161,18 @@ held_of options cs still went new =
     let on = met still (others_of cs went.containers) new.containers in
     held_by cs (is_lazy still new.containers (row_kind options on new.cells)) on went new
 
+-- where a leaf is open in which no container opens, none does unless one did not go on
+abbrev pub is_inside : HeldLeaf → List Container → Bool
+is_inside still others = is_some (insider still) && is_none others
+
+abbrev pub new_behind : ParseOptions → HeldLeaf → List Container → Front → Front
+new_behind options still others went =
+    if is_inside still others then no_front went.cells went.point
+    else new_front options (interrupts still others) (length went.cells) went.cells went.point
+
 abbrev pub held_behind : ParseOptions → List Container → HeldLeaf → Front → Held
 held_behind options cs still went =
-    held_of options cs still went
-    (new_front options (interrupts still (others_of cs went.containers)) (length went.cells) went.cells went.point)
+    held_of options cs still went (new_behind options still (others_of cs went.containers) went)
 
 -- where these containers and this leaf are open before it
 unfoldable pub held_at : ParseOptions → List Container → HeldLeaf → List Cell → Point → Held

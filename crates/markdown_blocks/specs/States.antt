@@ -38,6 +38,7 @@ containers_owner document.ContainerExistingBefore = flow_scheme
 containers_owner document.ContainerExistingAfter = flow_scheme
 containers_owner document.ContainerNewAfter = flow_scheme
 containers_owner document.ContainersAfter = flow_scheme
+containers_owner document.FlowInside = flow_scheme
 containers_owner document.FlowEnd = flow_scheme
 containers_owner state = opener_owner (opener_at state)
 

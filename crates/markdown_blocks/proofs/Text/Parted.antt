@@ -3,6 +3,7 @@ use Rattle.markdown_blocks.proofs.FrontStands.{fronts-parted}
 use Rattle.markdown_blocks.proofs.Reached.{Fine, Reaches, begins-fine, cut-white, reaches-ended, reaches-fine}
 use Rattle.markdown_blocks.proofs.Text.Order.{first-text}
 use Rattle.std.proofs.Common.{◌≡◌, ℕ, zero, suc, ◌+◌, ◌-◌, ◌<◌, ◌≤◌, Bool, true, false, cond, List}
+use Rattle.markdown_blocks.proofs.KindLemmas.{kind-text}
 use Rattle.md_engine.specs.declared.tokenizer.held_leaf.HeldLeaf.{HeldLeaf}
 use Rattle.std.proofs.Common.{[], ◌∷◌, ◌++◌, length, get_or, drop, slice_range, refl, ap, sym, ◌∙◌, subst, append_assoc}
 use Rattle.std.proofs.Common.{arith}
@@ -76,7 +77,7 @@ rest-clear options bytes line row is =
 -- a line of text is not blank
 pub text-nonblank : (options : ParseOptions) (on : HeldLeaf) (r : Rest) → line_kind options on r ≡ TextRow →
     is_blank r.bytes ≡ false
-text-nonblank options on r = go (is_blank r.bytes)
+text-nonblank options on r e = go (is_blank r.bytes) (kind-text options on r e)
   where
     go : (x : Bool) → cond x BlankRow (kind_of (first_of (λ l. (leaf l).starts options on r) trials)) ≡ TextRow → x ≡ false
     go true h = cc

@@ -1,5 +1,5 @@
 -- ATX headings (CommonMark 4.2), as a leaf on one line.
-use Rattle.std.specs.Prelude.{ℕ, true, ◌&&◌, List, [], ◌∷◌, ◌++◌, drop, Option, Some, None}
+use Rattle.std.specs.Prelude.{ℕ, true, false, ◌&&◌, List, [], ◌∷◌, ◌++◌, drop, Option, Some, None}
 use Rattle.md_engine.specs.declared.event.Event.{Event}
 use Rattle.md_engine.specs.declared.event.Name.TheVariants as n
 use Rattle.md_engine.specs.declared.event.Point.{Point}
@@ -47,6 +47,7 @@ heading_leaf = record {
   start = s.HeadingAtx its.Start;
   before = flow.BeforeHeadingAtx;
   ends = true;
+  further = λ on. false;
   may_begin = may_begin;
   trial = heading_at;
   takes = λ options on cells. is_heading_line options cells;

@@ -1,5 +1,5 @@
 -- Thematic breaks (CommonMark 4.1), as a leaf on one line.
-use Rattle.std.specs.Prelude.{ℕ, Bool, true, ◌&&◌, if◌then◌else◌, List, [], ◌∷◌, ◌++◌}
+use Rattle.std.specs.Prelude.{ℕ, Bool, true, false, ◌&&◌, if◌then◌else◌, List, [], ◌∷◌, ◌++◌}
 use Rattle.md_engine.specs.declared.configuration.ParseOptions.{ParseOptions}
 use Rattle.md_engine.specs.declared.event.Event.{Event}
 use Rattle.md_engine.specs.declared.event.Name.TheVariants as n
@@ -60,6 +60,7 @@ break_leaf = record {
   start = s.ThematicBreak its.Start;
   before = flow.BeforeThematicBreak;
   ends = true;
+  further = λ on. false;
   may_begin = may_begin;
   trial = break_at;
   takes = λ options on cells. is_break options cells;

@@ -19,7 +19,10 @@ ghost use Rattle.md_engine.specs.declared.state.Name.{Name as StateName};
 ghost use Rattle.md_engine.specs.declared.state.State.{State};
 ghost use Rattle.md_engine.specs.declared.state.document.State.{State as DocumentState};
 ghost use Rattle.markdown_blocks.specs.Flow.{containers_after_transition, existing_after_transition};
-ghost use Rattle.markdown_blocks.specs.Flow.{existing_before_transition, flow_end_transition, new_after_transition};
+ghost use Rattle.markdown_blocks.specs.Flow.{behind_all, existing_before_transition, flow_end_transition};
+ghost use Rattle.markdown_blocks.specs.Flow.{inside_transition, new_after_transition};
+ghost use Rattle.markdown_blocks.specs.Registry.{insider};
+ghost use Rattle.std.specs.Option.{is_some};
 ghost use Rattle.markdown_blocks.specs.Flow.{new_before_transition};
 ghost use Rattle.md_engine.specs.declared.tokenizer.container.name.ContainerKind.{ContainerKind};
 ghost use Rattle.markdown_blocks.specs.LineFlags.{asking, begun_line, ended_on, ending_name, next_container, stays};
@@ -107,6 +110,17 @@ fn pass_over(tokenizer: &mut Tokenizer)
     }
 }
 
+/// The state where all containers went on: none is tried where a leaf is open in which none opens.
+fn behind_all(tokenizer: &Tokenizer) -> DocumentState
+    ensures { result ≡ behind_all (is_some (insider (world tokenizer.now).flags.leaf)) }
+{
+    if registry::goes_inside(tokenizer.flags.leaf) {
+        DocumentState::ContainersAfter
+    } else {
+        registry::first_opener()
+    }
+}
+
 /// At the begin of a line, or behind the prefix of a container that went on: before the next one that is open.
 ///
 /// ```markdown
@@ -127,7 +141,7 @@ pub fn container_existing_before(tokenizer: &mut Tokenizer) -> State
         return State::Retry(StateName::Document(DocumentState::ContainersAfter));
     }
     match next_container(tokenizer) {
-        None => State::Retry(StateName::Document(registry::first_opener())),
+        None => State::Retry(StateName::Document(behind_all(tokenizer))),
         Some(container) => {
             ask(tokenizer, container);
             if !registry::may_go_on(tokenizer, container.kind) {
@@ -316,7 +330,36 @@ pub fn containers_after(tokenizer: &mut Tokenizer) -> State
     ensures world { world tokenizer.new ≡ (containers_after_transition (world tokenizer.old)).world }
 {
     begin_line(tokenizer);
-    State::Retry(StateName::Flow(FlowState::Start))
+    if registry::goes_inside(tokenizer.flags.leaf) {
+        State::Retry(StateName::Document(DocumentState::FlowInside))
+    } else {
+        State::Retry(StateName::Flow(FlowState::Start))
+    }
+}
+
+/// Behind all containers of a line, where a leaf is open in which none opens: it is asked first whether the line goes on
+/// it.
+///
+/// ```markdown
+///   | ~~~
+/// > | a
+///     ^
+/// ```
+pub fn flow_inside(tokenizer: &mut Tokenizer) -> State
+    requires { IsAt NeedsNothing (StateName.Document DocumentState.FlowInside) (world tokenizer.old) }
+    ensures to { result ≢ State.Error → result ≡ (inside_transition (world tokenizer.old)).to }
+    ensures world { result ≢ State.Error → world tokenizer.new ≡ (inside_transition (world tokenizer.old)).world }
+{
+    match registry::inside_start(tokenizer.flags.leaf) {
+        None => State::Retry(StateName::Flow(FlowState::Start)),
+        Some(start) => {
+            or_error!(tokenizer.attempt(
+                State::Next(StateName::Flow(FlowState::After)),
+                State::Next(StateName::Flow(FlowState::Start))
+            ));
+            State::Retry(start)
+        }
+    }
 }
 
 /// Keeps the leaf that is open behind the containers of a line, and what the line meets of it.
@@ -428,6 +471,7 @@ pub fn call(tokenizer: &mut Tokenizer, state: DocumentState) -> State
         }
         DocumentState::ContainerNewAfter => container_new_after(tokenizer),
         DocumentState::ContainersAfter => containers_after(tokenizer),
+        DocumentState::FlowInside => flow_inside(tokenizer),
         DocumentState::FlowEnd => flow_end(tokenizer),
         _ => State::Nok,
     }

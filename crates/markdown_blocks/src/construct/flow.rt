@@ -272,7 +272,11 @@ fn containers_new(tokenizer: &mut Tokenizer) -> State
 {
     if registry::opens_none(tokenizer.current) {
         document::pass_openers(tokenizer);
-        leaves(tokenizer)
+        if registry::goes_inside(tokenizer.flags.leaf) {
+            document::flow_inside(tokenizer)
+        } else {
+            leaves(tokenizer)
+        }
     } else if registry::opens_plainly(tokenizer) {
         document::opens_at_once(tokenizer)
     } else {
@@ -289,7 +293,9 @@ fn behind_containers(tokenizer: &mut Tokenizer) -> State
     ensures sees { result ≢ State.Error → SeesOn result (world tokenizer.old) (world tokenizer.new) }
 {
     document::containers_after(tokenizer);
-    if blank_line::ends_line(tokenizer.current) {
+    if registry::goes_inside(tokenizer.flags.leaf) {
+        document::flow_inside(tokenizer)
+    } else if blank_line::ends_line(tokenizer.current) {
         blank_line_after(tokenizer);
         document::flow_end(tokenizer)
     } else {

@@ -9,14 +9,14 @@
 ghost use Rattle.std.specs.Prelude.{◌≡◌, ◌≢◌, [], IfOk, None, OnOk, true};
 ghost use Rattle.md_containers.specs.PlainBullet.{IsPlainBullet, bulleted};
 ghost use Rattle.md_engine.specs.declared.tokenizer.container.name.ContainerKind.{ContainerKind};
-ghost use Rattle.std.specs.Option.{option_map};
+ghost use Rattle.std.specs.Option.{is_some, option_map};
 ghost use Rattle.md_engine.specs.Found.{found_in};
 ghost use Rattle.md_engine.specs.Scheme.{stands};
 ghost use Rattle.md_engine.specs.World.{World, container_of, looks, world};
 ghost use Rattle.md_engine.specs.declared.resolve.name.Name.{Name as ResolveName};
 ghost use Rattle.md_engine.specs.declared.state.State.{State};
 ghost use Rattle.markdown_blocks.specs.LineFlags.{asking};
-ghost use Rattle.markdown_blocks.specs.Registry.{construct_transition, goes_on_with};
+ghost use Rattle.markdown_blocks.specs.Registry.{construct_transition, goes_on_with, insider, leaf};
 ghost use Rattle.markdown_blocks.specs.AtOnce.{HasPrefix, all_asked, begins_none, opens_none, prefix_taken};
 ghost use Rattle.markdown_blocks.specs.Registry.{may_go_on, may_open, next_opener, opener_front, openers};
 ghost use Rattle.markdown_blocks.specs.Registry.{opens_with, resolved_by};
@@ -32,7 +32,7 @@ use md_engine::state::document::State as DocumentState;
 use md_engine::state::list_item::State as ItemState;
 use md_engine::state::{Name as StateName, State};
 use md_engine::subtokenize::Subresult;
-use md_engine::tokenizer::{Container, ContainerKind, Tokenizer};
+use md_engine::tokenizer::{Container, ContainerKind, HeldLeaf, Tokenizer};
 use md_leaves::{heading_atx, thematic_break};
 use md_seam::space_or_tab::look_behind;
 
@@ -92,6 +92,22 @@ pub fn begins_none(current: Option<u8>) -> bool
                 || thematic_break::may_begin(current))
         }
     }
+}
+
+/// The first state of a further line of the leaf that is asked first whether a line goes on it.
+#[inline(always)]
+pub fn inside_start(_leaf: HeldLeaf) -> Option<StateName>
+    ensures { result ≡ option_map (λ l. (leaf l).start) (insider _leaf) }
+{
+    None
+}
+
+/// Whether there is such a leaf: then no container opens in it.
+#[inline(always)]
+pub fn goes_inside(leaf: HeldLeaf) -> bool
+    ensures { result ≡ is_some (insider leaf) }
+{
+    inside_start(leaf).is_some()
 }
 
 /// The state of a container where it may open.

@@ -1,4 +1,12 @@
-use Rattle.std.proofs.Common.{◌≡◌, ◌∙◌, Bool, ap, subst, sym, true}
+use Rattle.std.proofs.Common.{◌≡◌, ◌≢◌, ◌∙◌, Bool, ap, false, subst, sym, true}
+use Rattle.std.specs.Option.{is_some}
+use Rattle.md_engine.specs.Going.{SeesOn}
+use Rattle.md_engine.specs.Run.{RunsHere}
+use Rattle.md_engine.specs.declared.state.State.{State}
+use Rattle.md_engine.specs.declared.state.State.TheVariants.{Error}
+use Rattle.markdown_blocks.specs.Flow.{inside_transition, leaf_front}
+use Rattle.markdown_blocks.specs.Registry.{insider}
+use Rattle.md_engine.proofs.Walks.{Within}
 use Rattle.md_engine.specs.World.{World, looks, world}
 use Rattle.md_engine.specs.contracts.resolve.name.NamePartialEq.TheImpl as names
 use Rattle.md_engine.specs.declared.resolve.name.Name.{Name as ResolveName}
@@ -10,12 +18,43 @@ use Rattle.md_engine.proofs.StayLemmas.{within-world}
 use Rattle.md_seam.specs.Spaces.{ends_line}
 use Rattle.markdown_blocks.specs.LineFlags.{begun_line, blanked}
 use Rattle.markdown_blocks.specs.States.{FlowStep}
-use Rattle.markdown_blocks.proofs.LinesAtOnce.{blank-leaves, ends-with, line-begun, line-leaves, line-over}
+use Rattle.markdown_blocks.proofs.LinesAtOnce.{blank-leaves, ends-with, inside-leaves, line-begun}
+use Rattle.markdown_blocks.proofs.LinesAtOnce.{line-front, line-leaves, line-over}
 use Rattle.markdown_blocks.proofs.construct.flow.behind_containers.Goals as goal
 
 -- whether a name that is registered is the one that is looked for
 abbrev is_name : ResolveName → ResolveName → Bool
 is_name target other = names.ghosts.eq other target
+
+-- where the leaf that is open is asked first
+inside : (w u : World) → u ≡ record w { flags = begun_line w.flags } → w.current ≡ looks w → Within w → Within u →
+    (to : State) (new : World) → is_some (insider u.flags.leaf) ≡ true →
+    to ≡ (inside_transition u).to → new ≡ (inside_transition u).world → to ≢ Error →
+    RunsHere (FlowStep is_name) (n.Document document.ContainersAfter) w to new × SeesOn to w new
+inside w u begun seen within there to new asked to_is new_is fine =
+    let first = n.Document document.ContainersAfter in
+    let came : CameHere (FlowStep is_name) first w (n.Document document.FlowInside) u = λ is_end s v named sees may.
+    subst (λ (x : Bool). CameTo (FlowStep is_name) is_end s v (leaf_front x) u) asked
+    (subst
+    (λ (x : World). CameTo (FlowStep is_name) is_end s v (leaf_front (is_some (insider x.flags.leaf))) x) (sym begun)
+    (line-front is_name is_end s v w seen within
+    (came-first (FlowStep is_name) first w is_end s v named sees may))) in
+    ends-with is_name first (n.Document document.FlowInside) w u to new came (inside-leaves u) to_is new_is fine
+    (subst (λ (x : World). x.current ≡ looks x) (sym begun) seen) there (ap (λ (x : World). x.point) begun)
+
+pub returns-then-goes_inside-clause-runs : goal.returns-then-goes_inside-clause-runs
+returns-then-goes_inside-clause-runs c = λ fine.
+    (inside (world c.args.tokenizer.now) (world c.containers_after.new.tokenizer) c.containers_after.ensures.world
+    c.requires.current (within-world c.args.tokenizer.now) (within-world c.containers_after.new.tokenizer)
+    c.flow_inside.result (world c.flow_inside.new.tokenizer) (sym c.goes_inside.ensures ∙ c.if-goes_inside.true)
+    (c.flow_inside.ensures.to fine) (c.flow_inside.ensures.world fine) fine).0
+
+pub returns-then-goes_inside-clause-sees : goal.returns-then-goes_inside-clause-sees
+returns-then-goes_inside-clause-sees c = λ fine.
+    (inside (world c.args.tokenizer.now) (world c.containers_after.new.tokenizer) c.containers_after.ensures.world
+    c.requires.current (within-world c.args.tokenizer.now) (within-world c.containers_after.new.tokenizer)
+    c.flow_inside.result (world c.flow_inside.new.tokenizer) (sym c.goes_inside.ensures ∙ c.if-goes_inside.true)
+    (c.flow_inside.ensures.to fine) (c.flow_inside.ensures.world fine) fine).1
 
 pub returns-then-ends_line-clause-runs : goal.returns-then-ends_line-clause-runs
 returns-then-ends_line-clause-runs c = λ fine.
@@ -25,9 +64,11 @@ returns-then-ends_line-clause-runs c = λ fine.
     let u = world c.containers_after.new.tokenizer in
     let begun : u ≡ record w { flags = begun_line w.flags } = c.containers_after.ensures.world in
     let seen : u.current ≡ looks u = subst (λ (x : World). x.current ≡ looks x) (sym begun) c.requires.current in
+    let outside : is_some (insider (begun_line w.flags).leaf) ≡ false =
+    ap (λ (x : World). is_some (insider x.flags.leaf)) (sym begun) ∙ sym c.goes_inside.ensures ∙ c.if-goes_inside.false in
     let at_line : CameHere T first w (n.Flow flow.BlankLineBefore) u = λ is_end s v named sees may.
     subst (λ (x : World). CameTo T is_end s v (n.Flow flow.BlankLineBefore) x) (sym begun)
-    (line-begun is_name is_end s v w c.requires.current (within-world c.args.tokenizer.now)
+    (line-begun is_name is_end s v w outside c.requires.current (within-world c.args.tokenizer.now)
     (came-first T first w is_end s v named sees may)) in
     let x = world c.blank_line_after.new.tokenizer in
     let ends : ends_line u.current ≡ true = sym c.ends_line.ensures ∙ c.if-ends_line.true in
@@ -49,9 +90,11 @@ returns-else-ends_line-clause-runs c = λ fine.
     let u = world c.containers_after.new.tokenizer in
     let begun : u ≡ record w { flags = begun_line w.flags } = c.containers_after.ensures.world in
     let seen : u.current ≡ looks u = subst (λ (x : World). x.current ≡ looks x) (sym begun) c.requires.current in
+    let outside : is_some (insider (begun_line w.flags).leaf) ≡ false =
+    ap (λ (x : World). is_some (insider x.flags.leaf)) (sym begun) ∙ sym c.goes_inside.ensures ∙ c.if-goes_inside.false in
     let at_line : CameHere T first w (n.Flow flow.BlankLineBefore) u = λ is_end s v named sees may.
     subst (λ (x : World). CameTo T is_end s v (n.Flow flow.BlankLineBefore) x) (sym begun)
-    (line-begun is_name is_end s v w c.requires.current (within-world c.args.tokenizer.now)
+    (line-begun is_name is_end s v w outside c.requires.current (within-world c.args.tokenizer.now)
     (came-first T first w is_end s v named sees may)) in
     (ends-with is_name first (n.Flow flow.BlankLineBefore) w u c.blank_line_before.result
     (world c.blank_line_before.new.tokenizer) at_line (blank-leaves u) (c.blank_line_before.ensures.to fine)
@@ -66,9 +109,11 @@ returns-else-ends_line-clause-sees c = λ fine.
     let u = world c.containers_after.new.tokenizer in
     let begun : u ≡ record w { flags = begun_line w.flags } = c.containers_after.ensures.world in
     let seen : u.current ≡ looks u = subst (λ (x : World). x.current ≡ looks x) (sym begun) c.requires.current in
+    let outside : is_some (insider (begun_line w.flags).leaf) ≡ false =
+    ap (λ (x : World). is_some (insider x.flags.leaf)) (sym begun) ∙ sym c.goes_inside.ensures ∙ c.if-goes_inside.false in
     let at_line : CameHere T first w (n.Flow flow.BlankLineBefore) u = λ is_end s v named sees may.
     subst (λ (x : World). CameTo T is_end s v (n.Flow flow.BlankLineBefore) x) (sym begun)
-    (line-begun is_name is_end s v w c.requires.current (within-world c.args.tokenizer.now)
+    (line-begun is_name is_end s v w outside c.requires.current (within-world c.args.tokenizer.now)
     (came-first T first w is_end s v named sees may)) in
     (ends-with is_name first (n.Flow flow.BlankLineBefore) w u c.blank_line_before.result
     (world c.blank_line_before.new.tokenizer) at_line (blank-leaves u) (c.blank_line_before.ensures.to fine)

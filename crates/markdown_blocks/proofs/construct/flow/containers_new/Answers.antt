@@ -1,4 +1,12 @@
-use Rattle.std.proofs.Common.{◌≡◌, ◌∙◌, Bool, ap, inl, refl, subst, sym, true}
+use Rattle.std.proofs.Common.{◌≡◌, ◌≢◌, ◌∙◌, Bool, ap, false, inl, refl, subst, sym, true}
+use Rattle.std.specs.Option.{is_some}
+use Rattle.md_engine.specs.Going.{SeesOn}
+use Rattle.md_engine.specs.Run.{RunsHere}
+use Rattle.md_engine.specs.declared.state.State.{State}
+use Rattle.md_engine.specs.declared.state.State.TheVariants.{Error}
+use Rattle.md_engine.specs.declared.state.document.State.TheVariants as document
+use Rattle.markdown_blocks.specs.Flow.{inside_transition, leaf_front}
+use Rattle.md_engine.proofs.Walks.{Within}
 use Rattle.md_engine.specs.World.{World, looks, world}
 use Rattle.md_engine.specs.contracts.resolve.name.NamePartialEq.TheImpl as names
 use Rattle.md_engine.specs.declared.resolve.name.Name.{Name as ResolveName}
@@ -7,25 +15,63 @@ use Rattle.md_engine.specs.declared.tokenizer.container.name.ContainerKind.TheVa
 use Rattle.md_engine.proofs.Loops.{CameHere, CameTo, came-first}
 use Rattle.md_engine.proofs.StayLemmas.{within-world}
 use Rattle.markdown_blocks.specs.AtOnce.{opens_none, openers_passed}
-use Rattle.markdown_blocks.specs.Registry.{front_of, opener_front, openers, trials}
+use Rattle.markdown_blocks.specs.Registry.{front_of, insider, opener_front, openers, trials}
 use Rattle.markdown_blocks.specs.States.{FlowStep}
-use Rattle.markdown_blocks.proofs.LinesAtOnce.{ends-with, opener-leaves, passes-openers, runs-on}
+use Rattle.markdown_blocks.proofs.LinesAtOnce.{ends-with, inside-leaves, opener-leaves, passes-front}
+use Rattle.markdown_blocks.proofs.LinesAtOnce.{passes-openers, runs-on}
 use Rattle.markdown_blocks.proofs.construct.flow.containers_new.Goals as goal
 
 -- whether a name that is registered is the one that is looked for
 abbrev is_name : ResolveName → ResolveName → Bool
 is_name target other = names.ghosts.eq other target
 
-pub returns-then-opens_none-clause-runs : goal.returns-then-opens_none-clause-runs
-returns-then-opens_none-clause-runs c = λ fine.
+-- where the leaf that is open is asked first
+inside : (w u : World) → u ≡ openers_passed w → opens_none w.current ≡ true → w.current ≡ looks w → Within w →
+    Within u → (to : State) (new : World) → is_some (insider u.flags.leaf) ≡ true →
+    to ≡ (inside_transition u).to → new ≡ (inside_transition u).world → to ≢ Error →
+    RunsHere (FlowStep is_name) (n.Document (opener_front openers)) w to new × SeesOn to w new
+inside w u passed none seen within there to new asked to_is new_is fine =
+    let first = n.Document (opener_front openers) in
+    let came : CameHere (FlowStep is_name) first w (n.Document document.FlowInside) u = λ is_end s v named sees may.
+    subst (λ (x : Bool). CameTo (FlowStep is_name) is_end s v (leaf_front x) u) asked
+    (subst
+    (λ (x : World). CameTo (FlowStep is_name) is_end s v (leaf_front (is_some (insider x.flags.leaf))) x) (sym passed)
+    (passes-front is_name is_end s v w none seen within
+    (came-first (FlowStep is_name) first w is_end s v named sees may))) in
+    ends-with is_name first (n.Document document.FlowInside) w u to new came (inside-leaves u) to_is new_is fine
+    (subst (λ (x : World). x.current ≡ looks x) (sym passed) seen) there (ap (λ (x : World). x.point) passed)
+
+pub returns-then-goes_inside-clause-runs : goal.returns-then-goes_inside-clause-runs
+returns-then-goes_inside-clause-runs c = λ fine.
+    let w = world c.args.tokenizer.now in
+    let none : opens_none w.current ≡ true = sym c.opens_none.ensures ∙ c.if-opens_none.true in
+    (inside w (world c.pass_openers.new.tokenizer) c.pass_openers.ensures none c.requires.current
+    (within-world c.args.tokenizer.now) (within-world c.pass_openers.new.tokenizer) c.flow_inside.result
+    (world c.flow_inside.new.tokenizer) (sym c.goes_inside.ensures ∙ c.if-goes_inside.true)
+    (c.flow_inside.ensures.to fine) (c.flow_inside.ensures.world fine) fine).0
+
+pub returns-then-goes_inside-clause-sees : goal.returns-then-goes_inside-clause-sees
+returns-then-goes_inside-clause-sees c = λ fine.
+    let w = world c.args.tokenizer.now in
+    let none : opens_none w.current ≡ true = sym c.opens_none.ensures ∙ c.if-opens_none.true in
+    (inside w (world c.pass_openers.new.tokenizer) c.pass_openers.ensures none c.requires.current
+    (within-world c.args.tokenizer.now) (within-world c.pass_openers.new.tokenizer) c.flow_inside.result
+    (world c.flow_inside.new.tokenizer) (sym c.goes_inside.ensures ∙ c.if-goes_inside.true)
+    (c.flow_inside.ensures.to fine) (c.flow_inside.ensures.world fine) fine).1
+
+pub returns-else-goes_inside-clause-runs : goal.returns-else-goes_inside-clause-runs
+returns-else-goes_inside-clause-runs c = λ fine.
     let first = n.Document (opener_front openers) in
     let w = world c.args.tokenizer.now in
     let u = world c.pass_openers.new.tokenizer in
     let none : opens_none w.current ≡ true = sym c.opens_none.ensures ∙ c.if-opens_none.true in
     let passed : u ≡ openers_passed w = c.pass_openers.ensures in
+    let outside : is_some (insider (openers_passed w).flags.leaf) ≡ false =
+    ap (λ (x : World). is_some (insider x.flags.leaf)) (sym passed)
+    ∙ sym c.goes_inside.ensures ∙ c.if-goes_inside.false in
     let came : CameHere (FlowStep is_name) first w (n.Flow (front_of trials)) u = λ is_end s v named sees may.
     subst (λ (x : World). CameTo (FlowStep is_name) is_end s v (n.Flow (front_of trials)) x) (sym passed)
-    (passes-openers is_name is_end s v w none c.requires.current (within-world c.args.tokenizer.now)
+    (passes-openers is_name is_end s v w outside none c.requires.current (within-world c.args.tokenizer.now)
     (came-first (FlowStep is_name) first w is_end s v named sees may)) in
     (runs-on is_name first (n.Flow (front_of trials)) w u c.leaves.result (world c.leaves.new.tokenizer) came
     (c.leaves.ensures.runs fine) (c.leaves.ensures.sees fine)
