@@ -31,7 +31,7 @@ ghost use Rattle.md_containers.specs.PlainBullet.{IsPlainBullet};
 ghost use Rattle.markdown_blocks.specs.Registry.{opener_front, openers};
 ghost use Rattle.markdown_blocks.specs.States.{FlowStep};
 ghost use Rattle.md_engine.specs.declared.resolve.name.Name.{Name as ResolveName};
-ghost use Rattle.markdown_blocks.specs.HeldLeaf.{met_by, takes_lazy};
+ghost use Rattle.markdown_blocks.specs.HeldLeaf.{takes_lazy};
 ghost use Rattle.markdown_blocks.specs.Document.{before_frontmatter_transition, document_own_transition};
 ghost use Rattle.markdown_blocks.specs.Document.{document_table_scheme, document_transition, start_transition};
 ghost use Rattle.md_seam.specs.Transition.{IsAt, NeedsNothing};
@@ -111,6 +111,7 @@ fn pass_over(tokenizer: &mut Tokenizer)
 }
 
 /// The state where all containers went on: none is tried where a leaf is open in which none opens.
+#[inline(always)]
 fn behind_all(tokenizer: &Tokenizer) -> DocumentState
     ensures { result ≡ behind_all (is_some (insider (world tokenizer.now).flags.leaf)) }
 {
@@ -324,6 +325,7 @@ pub fn container_new_after(tokenizer: &mut Tokenizer) -> State
 /// > | > a
 ///       ^
 /// ```
+#[inline(always)]
 pub fn containers_after(tokenizer: &mut Tokenizer) -> State
     requires { IsAt NeedsNothing (StateName.Document DocumentState.ContainersAfter) (world tokenizer.old) }
     ensures to { result ≡ (containers_after_transition (world tokenizer.old)).to }
@@ -369,28 +371,20 @@ fn begin_line(tokenizer: &mut Tokenizer)
 {
     let all = !(tokenizer.flags.continued < tokenizer.containers.len());
     tokenizer.flags.leaf_before = tokenizer.flags.leaf;
-    tokenizer.flags.leaf = met(tokenizer.flags.leaf, all);
+    if !(takes_lazy(tokenizer.flags.leaf) || all) {
+        tokenizer.flags.leaf = HeldLeaf::None;
+    }
 }
 
 /// Whether a line that starts no other leaf goes on this one, although not all containers went on (CommonMark 5.1,
 /// "laziness").
+#[inline(always)]
 fn takes_lazy(leaf: HeldLeaf) -> bool
     ensures { result ≡ takes_lazy leaf }
 {
     match leaf {
         HeldLeaf::Text => true,
         _ => false,
-    }
-}
-
-/// What a line meets of the leaf that is open, where no container opens, by whether all went on.
-fn met(leaf: HeldLeaf, all: bool) -> HeldLeaf
-    ensures { result ≡ met_by all leaf }
-{
-    if takes_lazy(leaf) || all {
-        leaf
-    } else {
-        HeldLeaf::None
     }
 }
 
