@@ -23,10 +23,10 @@ REQUESTS = 60
 MOST: dict[str, tuple[int, int]] = {
     "paragraphs of long lines": (7, 8),
     "one long line": (99, 130),
-    "headings of some words": (41, 28),
-    "quotes of long lines": (36, 66),
+    "headings of some words": (45, 28),
+    "quotes of long lines": (37, 66),
     "quotes in quotes in quotes": (35, 92),
-    "blank lines": (625, 5_492),
+    "blank lines": (718, 5_492),
     "one line of tabs": (500, 5_492),
     "one line of spaces": (2_500, 5_492),
     "one line of `*`": (1_950, 5_492),

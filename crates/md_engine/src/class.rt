@@ -28,6 +28,10 @@ impl Class {
     pub fn has(self, byte: u8) -> bool
         ensures { result ≡ has self byte }
     {
+        // Most bytes come behind all that a class may lack.
+        if byte > b' ' {
+            return true;
+        }
         match self {
             Class::Text => !matches!(byte, b'\n' | b'\r' | b'\t'),
             Class::Word => !matches!(byte, b'\n' | b'\r' | b'\t' | b' '),

@@ -13,6 +13,7 @@ pub mod HeadingWords
 pub mod BomSteps
 pub mod NonLazyGoods
 pub mod NonLazySteps
+pub mod HeadingHeldLemmas
 pub mod HeadingWalkLemmas
 pub mod RewrittenLemmas
 pub mod SpannedLemmas

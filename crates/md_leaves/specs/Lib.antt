@@ -2,6 +2,7 @@ pub mod Blank
 pub mod Bom
 pub mod Break
 pub mod Heading
+pub mod HeadingHeld
 pub mod HeadingText
 pub mod HeadingWords
 pub mod HeadingWalk

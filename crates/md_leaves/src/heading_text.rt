@@ -4,8 +4,8 @@ ghost use Rattle.std.specs.Prelude.{◌≡◌, false, ℕ, List, [], ◌++◌, I
 ghost use Rattle.std.specs.List.{prefix_len};
 ghost use Rattle.md_leaves.specs.Rewritten.{IsFirst, held_of, left_of, written_of};
 ghost use Rattle.md_leaves.specs.HeadingText.{begins, ends, headings_resolved, is_heading, is_outside, is_run};
-ghost use Rattle.md_leaves.specs.HeadingText.{is_sequence};
-ghost use Rattle.md_leaves.specs.HeadingText.{text_between};
+ghost use Rattle.md_leaves.specs.HeadingText.{is_sequence, text_between};
+ghost use Rattle.md_leaves.specs.HeadingHeld.{MayHold};
 ghost use Rattle.md_seam.specs.Parts.{ArePlaced};
 ghost use Rattle.md_seam.specs.Events.Tiles.{is_data};
 
@@ -60,6 +60,24 @@ fn ends_data(event: &Event) -> bool
     ensures { result ≡ ends is_data event.now }
 {
     matches!(event.kind, Kind::Exit) && matches!(event.name, Name::Data)
+}
+
+/// How many of the events that are left in a heading, from its first further run on, may be held at once: those in
+/// front of the last end of text before the next end of a run of `#` or of the heading, or all in front of that one
+/// where no text ends before it.
+fn until_end(events: &[Event]) -> usize
+    ensures holds { MayHold result events.now }
+    ensures within { result ≤ length events.now }
+{
+    let mut text = None;
+    for (at, event) in events.iter().enumerate() {
+        if ends_data(event) {
+            text = Some(at);
+        } else if ends_sequence(event) || ends_heading(event) {
+            return text.unwrap_or(at);
+        }
+    }
+    text.unwrap_or(events.len())
 }
 
 /// An event without a link.
@@ -233,24 +251,23 @@ impl Walk {
         Ok(())
     }
 
-    /// Whether it stands in a heading.
-    fn is_in_heading(&self) -> bool
-        ensures { result ≡ false → self.now.stage ≡ Stage.Outside }
-    {
-        !matches!(self.stage, Stage::Outside)
-    }
-
-    /// Goes over events in front of the next heading at once.
+    /// Goes over events at once that are only held: those in front of the next heading, or within its text.
     fn pass(&mut self)
         ensures same { in_all (walk_of self.new) (left_of self.new.all) ≡
             in_all (walk_of self.old) (left_of self.old.all) }
         ensures fewer { length (left_of self.new.all) ≤ length (left_of self.old.all) }
     {
-        if self.is_in_heading() {
-            return;
+        match self.stage {
+            Stage::Outside => {
+                let many = until_heading(self.all.left());
+                self.all.hold_many(many);
+            }
+            Stage::Within => {
+                let many = until_end(self.all.left());
+                self.all.hold_many(many);
+            }
+            Stage::Before | Stage::Opened => {}
         }
-        let many = until_heading(self.all.left());
-        self.all.hold_many(many);
     }
 
     /// Goes on with the event that is left first.

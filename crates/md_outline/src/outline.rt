@@ -206,10 +206,10 @@ impl<'a> Reading<'a> {
             state_of self.new ≡ state_by self.old.bytes.now event.now.kind (shown_as (spelled.role event.now.name))
             event.now.point (state_of self.old)) }
     {
-        let role = role_of(event.name);
-        match event.kind {
-            Kind::Enter => self.enter(role, event.point),
-            Kind::Exit => self.exit(role, event.point),
+        match (role_of(event.name), event.kind) {
+            (Role::Quiet, _) => Ok(()),
+            (role, Kind::Enter) => self.enter(role, event.point),
+            (role, Kind::Exit) => self.exit(role, event.point),
         }
     }
 }

@@ -5,7 +5,8 @@ ghost use Rattle.md_engine.specs.World.{world};
 ghost use Rattle.md_engine.specs.declared.event.Name.{Name};
 ghost use Rattle.md_seam.specs.Events.Inline.{PlainReads, ends_whole, is_line, pair_unless_empty, plain_chunk};
 ghost use Rattle.md_definition.specs.Lines.{is_ending, without_ending};
-ghost use Rattle.md_seam.specs.Parts.{IsChunk};
+ghost use Rattle.md_seam.specs.Parts.{AreChunks, ArePlaced, IsChunk};
+ghost use Rattle.md_seam.specs.declared.inline.PartKind.{PartKind};
 ghost use Rattle.md_seam.specs.Events.Nested.{pair};
 ghost use Rattle.md_seam.specs.Events.Places.{past_text};
 
@@ -109,6 +110,27 @@ fn whole_chunk(alloc: Global, chunk: &Chunk) -> Result<Vec<Event>, Message>
     Ok(events)
 }
 
+/// The events of a part, line by line. Most parts are one line without an ending, and need no tokenizer: so it stands
+/// apart from them.
+#[inline(never)]
+fn read_lines(alloc: Global, chunks: &[Chunk], state: &ParseState) -> Result<Vec<Event>, Message>
+    requires { AreChunks state.now.bytes.now chunks.now }
+    ensures placed { IfOk result (λ events. ArePlaced state.now.bytes.now events.items) }
+    ensures reading { IfOk result
+        (λ events. (kind : PartKind) →
+        PlainReads state.now.bytes.now (record { kind = kind; chunks = chunks.now }) events.items) }
+{
+    let mut tokenizer = Tokenizer::new(alloc, chunks[0].first, state.bytes, state.options);
+    let Ok(events) = Vec::with_capacity(alloc, chunks.len().saturating_mul(MOST)) else {
+        return Err(Message);
+    };
+    tokenizer.set_events(events, Vec::new(alloc));
+    for chunk in chunks {
+        read_chunk(&mut tokenizer, chunk)?;
+    }
+    Ok(tokenizer.events)
+}
+
 impl Inline for Plain {
     ghost reads = { λ plain. PlainReads };
 
@@ -122,14 +144,6 @@ impl Inline for Plain {
         if chunks.len() == 1 && is_without_ending(state.bytes, &chunks[0]) {
             return whole_chunk(alloc, &chunks[0]);
         }
-        let mut tokenizer = Tokenizer::new(alloc, chunks[0].first, state.bytes, state.options);
-        let Ok(events) = Vec::with_capacity(alloc, chunks.len().saturating_mul(MOST)) else {
-            return Err(Message);
-        };
-        tokenizer.set_events(events, Vec::new(alloc));
-        for chunk in chunks {
-            read_chunk(&mut tokenizer, chunk)?;
-        }
-        Ok(tokenizer.events)
+        read_lines(alloc, chunks, state)
     }
 }

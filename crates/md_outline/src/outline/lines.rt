@@ -3,7 +3,6 @@
 ghost use Rattle.std.specs.Prelude.{◌≡◌, ◌≤◌, ◌+◌, ◌-◌, ◌∷◌, [], ◌++◌, true, length, slice_range, IfOk, OnOk};
 ghost use Rattle.std.specs.List.{prefix_len};
 ghost use Rattle.std.specs.Str.{IsUtf8};
-ghost use Rattle.md_definition.specs.Lines.{is_ending};
 ghost use Rattle.md_definition.specs.Outline.{entries_of, entry_with};
 ghost use Rattle.md_definition.specs.Rest.{is_white, trim_start};
 ghost use Rattle.md_definition.specs.Texts.{first_byte, split_lines, trim_each};
@@ -152,23 +151,16 @@ pub fn push_lines<'a>(
     push(lines, depth, Word::Line, line_text(rest))
 }
 
-/// Whether a line ends at this byte.
-fn ends_line(byte: u8) -> bool
-    ensures { result ≡ is_ending byte }
-{
-    byte == b'\n' || byte == b'\r'
-}
-
-/// Whether no line ends in a text, which is short.
+/// Whether a text, which is short, is seen to be one line: each of its bytes comes behind CR. All are
+/// looked at, so that no look waits for the one before.
 fn is_one_line(text: &[u8]) -> bool
     ensures { result ≡ true → line_len text.now ≡ length text.now }
 {
+    let mut is_one = true;
     for byte in text {
-        if ends_line(*byte) {
-            return false;
-        }
+        is_one &= *byte > b'\r';
     }
-    true
+    is_one
 }
 
 /// Whether a text is one line without an ending that begins with neither a space nor a tab.

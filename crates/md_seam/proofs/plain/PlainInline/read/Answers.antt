@@ -1,8 +1,5 @@
-use Rattle.std.proofs.Common.{ap, ◌∙◌, arith, get_or}
-use Rattle.std.proofs.lemmas.List.Elements.{All-nil}
-use Rattle.md_engine.specs.World.{Setting, World}
+use Rattle.std.proofs.Common.{get_or}
 use Rattle.md_seam.specs.declared.inline.Chunk.{Chunk}
-use Rattle.md_seam.proofs.PlainSteps.{chunks-all, chunks-more}
 use Rattle.md_seam.proofs.PlainWhole.{if_ok-map, whole-placed, whole-reads}
 use Rattle.md_seam.proofs.plain.PlainInline.read.Goals as goal
 
@@ -11,47 +8,6 @@ abbrev unset : Chunk
 unset = record {
   first = record { line = 0; column = 0; index = 0; vs = 0 };
   after = record { line = 0; column = 0; index = 0; vs = 0 };
-}
-
-pub new-tokenizer-requires : goal.new-tokenizer-requires
-new-tokenizer-requires c = (c.requires.each 0 _ c.requires.some).first
-
-pub set_events-requires-clause-frames : goal.set_events-requires-clause-frames
-set_events-requires-clause-frames c = ap (λ (w : World). w.frames) c.new-tokenizer.ensures
-
-pub set_events-requires-clause-placed : goal.set_events-requires-clause-placed
-set_events-requires-clause-placed c = rw c.in-Ok.ensures.items (All-nil _)
-
-pub loop-chunk-init : goal.loop-chunk-init
-loop-chunk-init c = record {
-  bytes = ap (λ (w : World). w.setting.bytes) c.set_events.ensures
-      ∙ ap (λ (w : World). w.setting.bytes) c.new-tokenizer.ensures;
-  skips = ap (λ (w : World). w.setting.skips) c.set_events.ensures
-      ∙ ap (λ (w : World). w.setting.skips) c.new-tokenizer.ensures;
-  events = λ end lines whole. ap (λ (w : World). w.events) c.set_events.ensures ∙ c.in-Ok.ensures.items;
-}
-
-pub read_chunk-requires-clause-chunk : goal.read_chunk-requires-clause-chunk
-read_chunk-requires-clause-chunk c =
-    rw c.loop-chunk.invariant.bytes (c.requires.each c.loop-chunk.chunk-index _ (omega arith))
-
-pub loop-chunk-preserved : goal.loop-chunk-preserved
-loop-chunk-preserved c = record {
-  bytes = ap (λ (x : Setting). x.bytes) c.in_ok-read_chunk.ensures.setting ∙ c.loop-chunk.invariant.bytes;
-  skips = ap (λ (x : Setting). x.skips) c.in_ok-read_chunk.ensures.setting ∙ c.loop-chunk.invariant.skips;
-  events =
-      chunks-more c.args.state.now.bytes.now c.loop-chunk.tokenizer.bytes.now c.args.chunks.now c.loop-chunk.chunk-index
-      unset c.loop-chunk.tokenizer.events.items c.read_chunk.new.tokenizer.events.items
-      (omega arith) c.loop-chunk.invariant.bytes c.loop-chunk.invariant.events c.in_ok-read_chunk.ensures.events;
-}
-
-pub returns : goal.returns
-returns c = record {
-  placed = rw c.loop-chunk.invariant.bytes at c.loop-chunk.tokenizer.sound.right;
-  reading =
-      chunks-all c.args.state.now.bytes.now c.args._kind c.args.chunks.now c.loop-chunk.chunk-index
-      c.loop-chunk.tokenizer.events.items
-      (omega arith) c.loop-chunk.invariant.events;
 }
 
 pub returns-then-is_without_ending-clause-placed : goal.returns-then-is_without_ending-clause-placed
@@ -69,3 +25,7 @@ returns-then-is_without_ending-clause-reading c =
     whole-reads c.args.state.now.bytes.now c.args._kind c.args.chunks.now unset events.items c.if-chunks-eq1.true
     (c.is_without_ending.ensures c.if-is_without_ending.true) is)
     c.whole_chunk.ensures
+
+pub returns-clause-reading : goal.returns-clause-reading
+returns-clause-reading c =
+    if_ok-map c.read_lines.result (λ events is. is c.args._kind) c.read_lines.ensures.reading

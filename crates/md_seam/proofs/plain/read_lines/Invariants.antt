@@ -1,6 +1,6 @@
 use Rattle.std.proofs.Common.{◌≡◌, []}
 use Rattle.md_seam.proofs.PlainSteps.{ReadChunks}
-use Rattle.md_seam.proofs.plain.PlainInline.read.Given as goal
+use Rattle.md_seam.proofs.plain.read_lines.Given as goal
 
 abbrev pub invariant-loop-chunk : goal.invariant-loop-chunk
 invariant-loop-chunk l = record {
