@@ -1,25 +1,23 @@
--- The cells of the rest of a line: what so many columns of whitespace leave of it, also from within a cut tab, and that
--- they are blank where its bytes are.
-use Rattle.std.proofs.Common.{◌≡◌, ℕ, zero, suc, ◌+◌, ◌<◌, ◌≤◌, Bool, true, false, cond, ◌&&◌, ◌||◌, List, [], ◌∷◌}
-use Rattle.std.proofs.Common.{◌++◌, drop, slice_range, refl, sym, ap, ◌∙◌, subst, arith, append_assoc}
+-- What so many columns of whitespace leave of the rest of a line, also from within a cut tab.
+use Rattle.std.proofs.Common.{◌≡◌, ℕ, zero, suc, ◌+◌, ◌<◌, ◌≤◌, Bool, true, false, cond, ◌&&◌, List, [], ◌∷◌, ◌++◌}
+use Rattle.std.proofs.Common.{drop, slice_range, refl, sym, ap, ◌∙◌, subst, arith}
 use Rattle.std.specs.Prelude.{IsTrue, ◌==◌}
-use Rattle.std.proofs.lemmas.Bool.{eqb-true, or_parts}
+use Rattle.std.proofs.lemmas.Bool.{eqb-true}
 use Rattle.std.proofs.lemmas.Bool.Decides.{nat_tests}
 use Rattle.std.proofs.lemmas.List.Folds.{list_all-append}
 use Rattle.md_engine.specs.declared.event.Point.{Point}
 use Rattle.md_engine.specs.declared.tokenizer.Line.{Line}
 use Rattle.md_engine.specs.Meaning.{Cell}
 use Rattle.md_definition.specs.Rest.{Rest, indent, is_blank, is_white, lose, white_columns}
-use Rattle.md_definition.proofs.TextsLemmas.{NoEnding}
-use Rattle.md_seam.specs.Ahead.{begins_white, line_bytes, line_cells, white_end, white_rest, white_size}
+use Rattle.md_seam.specs.Ahead.{begins_white, white_end, white_rest, white_size}
 use Rattle.md_seam.specs.Events.Places.{at_or_before, past_byte, same_place}
-use Rattle.md_seam.proofs.AheadLemmas.{none-end, none-rest, none-size, white-no_ending}
-use Rattle.md_seam.proofs.FeedLines.{Stops, behind_last, byte_cells, bytes_of, cell, columns_more, next_column}
-use Rattle.md_seam.proofs.FeedLines.{slice-front, slice-split, spread, tab_cells, tab_end}
+use Rattle.md_seam.proofs.AheadLemmas.{none-end, none-rest, none-size}
+use Rattle.md_seam.proofs.FeedLines.{Stops, behind_last, cell, columns_more, next_column, slice-front, slice-split}
+use Rattle.md_seam.proofs.FeedLines.{spread, tab_cells}
 use Rattle.md_seam.proofs.NestedLemmas.{at_or_before-refl, at_or_before-trans}
 use Rattle.md_seam.proofs.PlainSteps.{range-none}
-use Rattle.md_seam.proofs.RestCells.{HasColumn, RestAt, bare-cells, bare-same, cells_by, column-end, column-first}
-use Rattle.md_seam.proofs.RestCells.{past_rest, rest_cells, without_first}
+use Rattle.md_seam.proofs.RestCells.{HasColumn, RestAt, bare-cells, bare-same, column-end, column-first, past_rest}
+use Rattle.md_seam.proofs.RestCells.{rest_cells, without_first}
 
 -- Whitespace between two points.
 
@@ -254,57 +252,3 @@ lose-walk line text behind (suc m) r p stop is k =
           white = step.white;
           apart = λ some white. step.apart;
         })
-
--- What does not tell tabs from spaces.
-
-pub stops-line : (stop : List Cell) → Stops stop → line_cells stop ≡ []
-stops-line [] h = refl
-stops-line (c ∷ cs) h = rw h refl
-
-stops-blank : (stop : List Cell) → Stops stop → is_blank (line_bytes stop) ≡ true
-stops-blank stop h = ap (λ (l : List Cell). is_blank (bytes_of l)) (stops-line stop h)
-
-blank-tab : (line : Line) (n byte : ℕ) (p : Point) (more : List Cell) → is_white byte ≡ true →
-    is_blank (line_bytes (tab_cells line n byte p ++ more)) ≡ is_blank (line_bytes more)
-blank-tab line zero byte p more e = rw (white-no_ending byte e, e) refl
-blank-tab line (suc n) byte p more e =
-    rw (white-no_ending byte e, e) (blank-tab line n 32 (next_column p) more refl)
-
-blank-byte : (line : Line) (b : ℕ) (p : Point) (more : List Cell) → (b == 10) ≡ false →
-    is_blank (line_bytes (byte_cells line b p ++ more)) ≡ is_white b && is_blank (line_bytes more)
-blank-byte line b p more on = go (b == 9) refl
-  where
-    white : (t : Bool) → (t || true) ≡ true
-    white true = refl
-    white false = refl
-
-    go : (t : Bool) → (b == 9) ≡ t →
-        is_blank (line_bytes (cond t (tab_cells line (columns_more p) 9 p) (cell b (past_byte b p) line ∷ []) ++ more)) ≡
-        is_white b && is_blank (line_bytes more)
-    go true e =
-        let tab : is_white b ≡ true = rw e (white (b == 32)) in
-        blank-tab line (columns_more p) 9 p more refl
-        ∙ ap (λ (t : Bool). t && is_blank (line_bytes more)) (sym tab)
-    go false e = rw on refl
-
-pub blank-spread : (line : Line) (bytes : List ℕ) (p : Point) (stop : List Cell) → NoEnding bytes → Stops stop →
-    is_blank (line_bytes (spread line bytes p ++ stop)) ≡ is_blank bytes
-blank-spread line [] p stop h k = stops-blank stop k
-blank-spread line (b ∷ bs) p stop h k =
-    ap (λ (l : List Cell). is_blank (line_bytes l))
-    (append_assoc (byte_cells line b p) (spread line bs (past_byte b p)) stop)
-    ∙ blank-byte line b p (spread line bs (past_byte b p) ++ stop) (or_parts (b == 10) (b == 13) h.0).0
-    ∙ ap (λ (t : Bool). is_white b && t) (blank-spread line bs (past_byte b p) stop h.1 k)
-
--- the cells of a rest are blank where its bytes are
-pub blank-cells : (line : Line) (r : Rest) (p : Point) (stop : List Cell) → NoEnding r.bytes → Stops stop →
-    is_blank (line_bytes (rest_cells line r p ++ stop)) ≡ is_blank r.bytes
-blank-cells line r p stop h k = go r.spaces
-  where
-    go : (spaces : ℕ) → is_blank (line_bytes (cells_by line spaces r.bytes p ++ stop)) ≡ is_blank r.bytes
-    go zero = blank-spread line r.bytes p stop h k
-    go (suc n) =
-        ap (λ (l : List Cell). is_blank (line_bytes l))
-        (append_assoc (tab_cells line n 32 p) (spread line r.bytes (tab_end n p)) stop)
-        ∙ blank-tab line n 32 p (spread line r.bytes (tab_end n p) ++ stop) refl
-        ∙ blank-spread line r.bytes (tab_end n p) stop h k
