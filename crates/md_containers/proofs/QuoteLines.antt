@@ -56,6 +56,12 @@ pub record IsPrefix (bytes : List ℕ) (p q : Point) (es : List Event) : Type 0 
   -- all on one line
   pub line : q.line ≡ p.line
 
+-- these events, by whether there is no whitespace in front of `>`, and none behind it
+abbrev pub prefix_by : Bool → Bool → Point → Point → Point → Point → List Event
+prefix_by none same p marker behind q =
+    cond none [] (pair n.SpaceOrTab p marker) ++ enter n.BlockQuotePrefix marker ∷ enter n.BlockQuoteMarker marker
+    ∷ exit n.BlockQuoteMarker behind ∷ cond same [] (pair n.SpaceOrTab behind q) ++ exit n.BlockQuotePrefix q ∷ []
+
 abbrev rest : ℕ → ℕ → List ℕ → Rest
 rest column spaces bytes = record { column = column; spaces = spaces; bytes = bytes }
 
