@@ -4,9 +4,10 @@
 #
 # Each file of scripts/wrong-bodies has lines `file:`, `old:` (standing once in that file) and `new:`. All are applied to one copy of
 # the crates, where a body is wrong only for the number that stands for it: `is_wrong()` in a `new:` line asks that of the constructs,
-# in which the constructs of MDX, off in each program, give the number. The copy of `bench` then tries the rows with the number
-# of its argument, and 0 stands for the bodies as they are. An edit of a crate of the plain program changes that body, each other the
-# parser.
+# which have a field for it in the copy, or in `md_program` of the program's name. The copy of `bench` then tries the rows with the
+# number of its argument, and 0 stands for the bodies as they are. It also tells the events of a text, by a sum of what is printed of
+# them, and the status of a run with an argument that is none. An edit of a crate of the plain program changes that body, each
+# other the parser.
 set -euo pipefail
 cd "$(dirname "$0")/.."
 work=$(mktemp -d)
@@ -18,8 +19,7 @@ python3 - "$work" scripts/wrong-bodies/*.edit <<'PYTHON'
 import sys
 
 work, *edits = sys.argv[1:]
-FLAGS = ["mdx_esm", "mdx_expression_flow", "mdx_expression_text", "mdx_jsx_flow", "mdx_jsx_text"]
-if len(edits) >= 2 ** len(FLAGS):
+if len(edits) >= 256:
     sys.exit("too many wrong bodies for one program")
 
 
@@ -38,32 +38,53 @@ for number, edit in enumerate(edits, 1):
         (_, name), (_, old), (_, new) = lines[:3]
         lines = lines[3:]
         tells = tells or "is_wrong()" in new
-        replaced(name, old, new.replace("is_wrong()", f"is_wrong({number})"), edit)
+        asked = f'(name == "Blocks{number}")' if "/md_program/" in name else f"is_wrong({number})"
+        replaced(name, old, new.replace("is_wrong()", asked), edit)
     if not tells:
         sys.exit(f"{edit}: no `new:` asks is_wrong()")
     bodies.append((number, "Plain" if name.split("/")[1] in ("plain_grammars", "md_plain", "plain_body") else "Blocks"))
 
 # which body is wrong
-places = " + ".join(f"(self.{flag} as u8) * {2 ** at}" for at, flag in enumerate(FLAGS))
-with open(f"{work}/crates/md_engine/src/configuration.rt", "a") as it:
-    it.write(f"\nimpl Constructs {{\n    pub fn is_wrong(&self, number: u8) -> bool {{\n        {places} == number\n    }}\n}}\n")
+options = "crates/md_engine/src/configuration.rt"
+text = open(f"{work}/{options}").read()
+text = text.replace("    pub mdx_jsx_text: bool,\n", "    pub mdx_jsx_text: bool,\n    pub wrong: u8,\n")
+text = text.replace("        mdx_jsx_text: false,\n", "        mdx_jsx_text: false,\n        wrong: 0,\n")
+text += "\nimpl Constructs {\n    pub fn is_wrong(&self, number: u8) -> bool {\n        self.wrong == number\n    }\n}\n"
+open(f"{work}/{options}", "w").write(text)
+kept = "let wrong = options.constructs.wrong; let mut options = Blocks::built(options); options.constructs.wrong = wrong;"
+replaced("crates/events_body/src/lib.rt", "let options = Blocks::built(options);", kept, "events")
+replaced("crates.txt", "\nbench: ", "\nbench: events_body ", "bench")
 
-# a body a number, which turns on the constructs of MDX that give the number
+# a body a number
 main = """#![tactic(auto)]
 ghost use Rattle.std.specs.Prelude.{Unit};
 use blocks_body::Blocks;
+use events_body::Events;
 use blocks_vectors::report::Report;
 use blocks_vectors::rows::try_rows;
 use md_engine::configuration::{Constructs, ParseOptions};
 use md_engine::message::Message;
 use md_program::body::{Body, Outlined};
+use md_program::printing::{OutlineOf, Printing};
+use md_program::run::run;
 use plain_body::Plain;
 use std::alloc::Global;
 use std::{env, io};
+
+// each kind of block, prefixes of one and of two columns, a cut tab, and an item that started blank
+const TEXT: &str = "\\u{feff}> a\\n\\tb\\n>\\n# c #\\n\\t\\n***\\n\\n1. d\\n\\n   >  > e\\n2. f\\n\\n-\\n\\tg\\n\\n\\th";
+
+/// A sum of what is printed of the events of a text.
+fn events<B: Body>(alloc: Global) -> Result<u64, Message> {
+    let mut sum: u64 = 0;
+    for byte in Events::output(alloc, TEXT, B::built(ParseOptions::GFM))?.bytes() {
+        sum = sum.wrapping_mul(31).wrapping_add(byte as u64);
+    }
+    Ok(sum)
+}
 """
-arms = ""
+arms = sums = ""
 for number, body in bodies:
-    flags = "".join(f"{flag}: {str(bool(number >> at & 1)).lower()}, " for at, flag in enumerate(FLAGS))
     main += f"""
 struct {body}{number};
 impl Body for {body}{number} {{
@@ -71,8 +92,8 @@ impl Body for {body}{number} {{
     ghost outlines = {{ λ _ _ _. Unit {{0}} }};
     ghost built = {{ λ options. options }};
     fn built(options: ParseOptions) -> ParseOptions {{
-        let all = {body}::built(ParseOptions {{ constructs: Constructs {{ {flags}..options.constructs }} }});
-        ParseOptions {{ constructs: Constructs {{ {flags}..all.constructs }} }}
+        let all = {body}::built(ParseOptions {{ constructs: Constructs {{ wrong: {number}, ..options.constructs }} }});
+        ParseOptions {{ constructs: Constructs {{ wrong: {number}, ..all.constructs }} }}
     }}
     fn outlined<'a>(alloc: Global, text: &'a str, options: &'a ParseOptions) -> Result<Outlined<'a>, Message> {{
         {body}::outlined(alloc, text, options)
@@ -80,19 +101,31 @@ impl Body for {body}{number} {{
 }}
 """
     case = f"{body}{number}"
-    arms += f'            "{case}" => try_rows::<{case}>(rt.alloc(), rows, &mut report).is_err(),\n'
+    arms += f'                "{case}" => try_rows::<{case}>(rt.alloc(), rows, &mut report).is_err(),\n'
+    if body == "Blocks":
+        sums += f'            "{case}" => events::<{case}>(rt.alloc()),\n'
     open(f"{work}/cases/{case}", "w").close()
     open(f"{work}/cases/{case}.args", "w").write(case + "\n")
 main += f"""
 fn main(rt: HostRuntime) -> io::Result<()> {{
+    let mut args = Vec::new(rt.alloc());
+    for arg in env::args(&rt)?.skip(1) {{
+        args.push(arg)?;
+    }}
     let mut report = Report::new(rt.alloc());
     let mut ran_out = false;
-    for arg in env::args(&rt)?.skip(1) {{
+    for arg in &args {{
         for rows in blocks_cases::all() {{
             ran_out |= match arg.as_str() {{
 {arms}                _ => true,
             }};
         }}
+        let sum = match arg.as_str() {{
+{sums}            _ => Ok(0),
+        }};
+        let status = run::<OutlineOf<Blocks>, _, _, _>(
+            rt.alloc(), arg.as_str(), &args, &mut rt.stdin(), &mut rt.stdout(), &mut rt.stderr());
+        println!(rt; "events {{}}, status {{status}}", sum.unwrap_or(1))?;
     }}
     println!(rt; "{{}} tried, {{}} wrong{{}}", report.tried, report.wrong, if ran_out {{ ", memory ran out" }} else {{ "" }})
 }}
@@ -108,12 +141,12 @@ ends = open(f"{work}/ends", errors="replace").read()
 parts = re.split(r"^== (Blocks|Plain)(\d+)\n", open(f"{work}/said", errors="replace").read(), flags=re.M)
 said = dict(zip(zip(parts[1::3], map(int, parts[2::3])), (it.strip() for it in parts[3::3])))
 for body in ("Blocks", "Plain"):
-    if not re.fullmatch(r"[1-9]\d* tried, 0 wrong", said.get((body, 0), "")):
+    if not re.fullmatch(r"events \d+, status \d+\n[1-9]\d* tried, 0 wrong", said.get((body, 0), "")):
         sys.exit(f"wrong bodies: {body} as it is: {said.get((body, 0), 'no result')}\n{ends[-3000:]}")
 failed = 0
 for number, edit in enumerate(edits, 1):
     body, found = next(((it[0], said[it]) for it in said if it[1] == number), ("", "no result"))
-    if not re.match(r"\d+ tried, ", found) or found == said.get((body, 0)):
+    if not re.search(r"^\d+ tried, ", found, re.M) or found == said.get((body, 0)):
         print(f"{edit}: no row changes ({found})")
         failed += 1
 print(f"wrong bodies: {len(edits) - failed} passed, {failed} failed")

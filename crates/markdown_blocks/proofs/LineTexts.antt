@@ -1,8 +1,7 @@
 -- The bytes of a line: its parts, its ending, and where it stands in a text.
-use Rattle.std.proofs.Common.{◌≡◌, ℕ, suc, ◌+◌, ◌-◌, ◌<◌, ◌≤◌, Bool, true, false, cond, List, [], ◌∷◌, ◌++◌, length}
+use Rattle.std.proofs.Common.{◌≡◌, ℕ, ◌-◌, ◌<◌, ◌≤◌, Bool, true, cond, List, [], ◌∷◌, ◌++◌, length}
 use Rattle.std.proofs.Common.{drop, slice_range, refl, ap, sym, ◌∙◌, append-nil, drop-drop, arith}
 use Rattle.std.specs.Prelude.{not}
-use Rattle.std.specs.List.{prefix_len}
 use Rattle.std.proofs.lemmas.List.{take-append-drop}
 use Rattle.std.proofs.lemmas.List.Sums.{take_while-cons}
 use Rattle.md_engine.specs.declared.event.Point.{Point}
@@ -15,14 +14,6 @@ use Rattle.md_seam.proofs.FeedLines.{past_text-whole}
 use Rattle.md_definition.proofs.TextsLemmas.{Both, Ending, EndsBefore, LineFeed, NoEnding, Return, ending_bytes}
 use Rattle.md_definition.proofs.TextsLemmas.{split-line, split-next}
 use Rattle.markdown_blocks.proofs.LeafFacts.{LineAt}
-
--- how many bytes pass a test at the front: one more, and none
-pub count-one : (test : ℕ → Bool) (b : ℕ) (bs : List ℕ) → test b ≡ true →
-    prefix_len test (b ∷ bs) ≡ suc (prefix_len test bs)
-count-one test b bs e = ap (λ (t : Bool). cond t (1 + prefix_len test bs) 0) e ∙ omega arith
-
-pub count-none : (test : ℕ → Bool) (b : ℕ) (bs : List ℕ) → test b ≡ false → prefix_len test (b ∷ bs) ≡ 0
-count-none test b bs e = ap (λ (t : Bool). cond t (1 + prefix_len test bs) 0) e
 
 -- the parts of a line without endings have none
 pub no_ending-parts : (xs ys : List ℕ) → NoEnding (xs ++ ys) → NoEnding xs × NoEnding ys

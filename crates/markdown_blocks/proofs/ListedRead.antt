@@ -15,9 +15,11 @@ use Rattle.md_engine.specs.declared.event.Link.{Link}
 use Rattle.md_engine.specs.declared.event.Name.TheVariants as n
 use Rattle.md_containers.specs.Listed.{Begins, Ends, Place, Stays, Turn, given, given_by, goes_on, is_item, list_begin}
 use Rattle.md_containers.specs.Listed.{list_end, list_name, listed, listed_from, marker_ahead, next_item, outside}
-use Rattle.md_containers.specs.Listed.{place_after, place_by, turn}
+use Rattle.md_containers.specs.Listed.{place_after, turn}
 use Rattle.md_containers.proofs.ListedFilled.{Chunked, SameAhead, ahead-more, chunk-quiet, first-of, further-of}
-use Rattle.md_containers.proofs.ListedFilled.{inline-ahead, inline-item, inline-listed, inline-one, plain-inline, stand-chunked}
+use Rattle.md_containers.proofs.ListedFilled.{given-same}
+use Rattle.md_containers.proofs.ListedFilled.{inline-ahead, inline-item, inline-listed, inline-one, plain-inline}
+use Rattle.md_containers.proofs.ListedFilled.{stand-chunked}
 use Rattle.md_containers.proofs.ListedKept.{item-name}
 use Rattle.md_containers.proofs.ListedLemmas.{passes-given}
 use Rattle.md_seam.specs.declared.inline.Chunk.{Chunk}
@@ -248,21 +250,6 @@ keeps-one : (wants : Content → Bool) (reads : Readings) (left : List Event) (c
 keeps-one wants reads left chunks e [] out h s = ap (λ (l : List Event). e ∷ l) s
 keeps-one wants reads left chunks e (f ∷ es) out h s =
     subst (SubstitutedBy wants reads left chunks e f es (e ∷ out)) (sym h) (out, refl, s)
-
--- an event is given the same in front of events with the same ahead
-given-same : (bytes : List ℕ) (place : Place) (e : Event) (es read : List Event) → SameAhead bytes read es →
-    given bytes place e es ++ listed_from bytes (place_after bytes place e es) read ≡ listed_from bytes place (e ∷ read)
-given-same bytes place e es read same =
-    let t : Turn = turn e.kind (role e.name) in
-    ap
-    (λ (m : ℕ).
-    given_by t place m (next_item bytes es) e ++ listed_from bytes (place_by t place m (next_item bytes es)) read)
-    (sym same.0)
-    ∙ ap
-    (λ (o : Option ℕ).
-    given_by t place (marker_ahead bytes read) o e
-    ++ listed_from bytes (place_by t place (marker_ahead bytes read) o) read)
-    (sym same.1)
 
 -- an event that no chunk begins with
 other-step : (wants : Content → Bool) (reads : Readings) (bytes : List ℕ) (place : Place) (left : List Event)

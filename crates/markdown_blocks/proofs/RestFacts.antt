@@ -1,41 +1,26 @@
 -- The rest of a line by its cells: where it ends, and what stands behind its indent.
-use Rattle.std.proofs.Common.{◌≡◌, ℕ, zero, suc, ◌+◌, ◌-◌, ◌^◌, ◌<◌, ◌≤◌, Bool, true, false, cond, ◌||◌, List, [], ◌∷◌}
-use Rattle.std.proofs.Common.{◌++◌, length, drop, refl, sym, ap, ◌∙◌, append-nil, arith}
-use Rattle.std.specs.Prelude.{◌==◌}
+use Rattle.std.proofs.Common.{◌≡◌, ℕ, zero, suc, ◌+◌, ◌^◌, ◌<◌, ◌≤◌, true, false, List, ◌∷◌}
+use Rattle.std.proofs.Common.{◌++◌, length, refl, ap, ◌∙◌, arith}
 use Rattle.std.specs.List.{prefix_len}
 use Rattle.std.proofs.lemmas.List.{length-append}
 use Rattle.md_engine.specs.declared.configuration.ParseOptions.{ParseOptions}
 use Rattle.md_engine.specs.declared.event.Point.{Point}
 use Rattle.md_engine.specs.declared.tokenizer.Line.{Line}
 use Rattle.md_engine.specs.Meaning.{Cell}
-use Rattle.md_containers.proofs.QuoteLines.{large-room, small-room}
-use Rattle.md_seam.specs.Ahead.{begins_white, line_bytes, line_cells, line_end, point_after, white_end, white_rest}
+use Rattle.md_seam.specs.Ahead.{begins_white, line_bytes, line_end, point_after, white_end, white_rest}
 use Rattle.md_seam.specs.Events.Places.{past_byte, past_text}
 use Rattle.md_seam.specs.Spaces.{small_indent}
-use Rattle.md_definition.specs.Rest.{Rest, behind_indent, cut_tab, has_small_indent, indent, is_white, lose}
-use Rattle.md_definition.specs.Rest.{tab_columns, trim_start}
-use Rattle.md_seam.proofs.FeedLines.{Stops, behind_last, bytes_of, cell, columns_more, line_cells-append, next_column}
-use Rattle.md_seam.proofs.FeedLines.{no_feed-spread, spread, spread-end, tab_cells, tab_end, tab_end-stop}
-use Rattle.md_seam.proofs.RestCells.{Bare, Cut, HasIndent, RestAt, bare, bare-cells, cells_by, indent-length}
-use Rattle.md_seam.proofs.RestCells.{indent-over, indent-taken, rest_cells, without_first}
+use Rattle.md_definition.specs.Rest.{Rest, behind_indent, cut_tab, has_small_indent, indent, is_white}
+use Rattle.md_definition.specs.Rest.{trim_start}
+use Rattle.md_seam.proofs.FeedLines.{Stops, behind_last, bytes_of, cell, columns_more, next_column}
+use Rattle.md_seam.proofs.FeedLines.{spread, spread-end, tab_cells, tab_end, tab_end-stop}
+use Rattle.md_seam.proofs.RestCells.{Cut, HasIndent, RestAt, bare-cells, cells_by, indent-length}
+use Rattle.md_seam.proofs.RestCells.{indent-over, indent-taken, rest_cells}
+use Rattle.md_seam.proofs.RestLines.{bare-spread, indent-trims, large-room, small-room, spread-line, trim-white}
 use Rattle.md_definition.proofs.TextsLemmas.{NoEnding, no_ending-drop}
 use Rattle.markdown_blocks.specs.Fronted.{rest_line}
-use Rattle.markdown_blocks.proofs.LineTexts.{count-none, count-one}
 
 -- Bytes that are fed, up to the end of their line.
-
--- where a line stops it has no cell left
-stops-line : (stop : List Cell) → Stops stop → line_cells stop ≡ []
-stops-line [] h = refl
-stops-line (c ∷ cs) h = rw h refl
-
--- their cells, without what follows
-pub spread-line : (line : Line) (bytes : List ℕ) (p : Point) (rest : List Cell) → NoEnding bytes → Stops rest →
-    line_cells (spread line bytes p ++ rest) ≡ spread line bytes p
-spread-line line bytes p rest h k =
-    line_cells-append (spread line bytes p) rest (no_feed-spread line bytes p h)
-    ∙ ap (λ (l : List Cell). spread line bytes p ++ l) (stops-line rest k)
-    ∙ append-nil (spread line bytes p)
 
 -- where they end
 pub spread-line_end : (line : Line) (bytes : List ℕ) (p : Point) (rest : List Cell) → NoEnding bytes → Stops rest →
@@ -87,72 +72,13 @@ rest-line_end said r p stop h k one cut =
 
 -- Its indent.
 
--- whitespace that is lost in front of bytes does not count where all of it is dropped
-trim-white : (b : ℕ) (bs : List ℕ) → is_white b ≡ true → trim_start (b ∷ bs) ≡ trim_start bs
-trim-white b bs e = ap (λ (n : ℕ). drop n (b ∷ bs)) (count-one is_white b bs e)
-
-trim-none : (b : ℕ) (bs : List ℕ) → is_white b ≡ false → trim_start (b ∷ bs) ≡ b ∷ bs
-trim-none b bs e = ap (λ (n : ℕ). drop n (b ∷ bs)) (count-none is_white b bs e)
-
--- of a tab that is cut
+-- a tab that is cut does not count where all whitespace in front is dropped
 pub rest-trim : (r : Rest) → trim_start (rest_line r) ≡ trim_start r.bytes
 rest-trim r = go r.spaces
   where
     go : (spaces : ℕ) → trim_start (cut_tab spaces ++ r.bytes) ≡ trim_start r.bytes
     go zero = refl
     go (suc k) = trim-white 9 r.bytes refl
-
--- and of a column
-trim-without : (r : Rest) → trim_start (without_first r).bytes ≡ trim_start r.bytes
-trim-without r = go r.spaces r.bytes
-  where
-    rest : ℕ → ℕ → List ℕ → Rest
-    rest column spaces bytes = record { column = column; spaces = spaces; bytes = bytes }
-
-    go : (spaces : ℕ) (bytes : List ℕ) →
-        trim_start (without_first (rest r.column spaces bytes)).bytes ≡ trim_start bytes
-    go (suc n) bytes = refl
-    go zero [] = refl
-    go zero (b ∷ bs) = by (b == 9) refl (b == 32) refl
-      where
-        Same : Rest → Type 0
-        Same s = trim_start s.bytes ≡ trim_start (b ∷ bs)
-
-        by : (t : Bool) → (b == 9) ≡ t → (s : Bool) → (b == 32) ≡ s →
-            Same
-            (cond t (rest (r.column + 1) (tab_columns r.column - 1) bs)
-            (cond s (rest (r.column + 1) 0 bs) (rest r.column 0 (b ∷ bs))))
-        by true e s f = sym (trim-white b bs (rw e (last (b == 32))))
-          where
-            last : (x : Bool) → (x || true) ≡ true
-            last true = refl
-            last false = refl
-        by false e true f = sym (trim-white b bs (rw f refl))
-        by false e false f = refl
-
--- of so many columns
-trim-lose : (n : ℕ) (r : Rest) → trim_start (lose n r).bytes ≡ trim_start r.bytes
-trim-lose zero r = refl
-trim-lose (suc n) r = trim-lose n (without_first r) ∙ trim-without r
-
--- where no indent is left, the bytes behind it are all but the whitespace in front
-indent-trims : (r : Rest) → indent (behind_indent r) ≡ 0 → (behind_indent r).bytes ≡ trim_start r.bytes
-indent-trims r none =
-    sym (bare-trims (behind_indent r).spaces (behind_indent r).bytes (bare (behind_indent r) none))
-    ∙ trim-lose (indent r) r
-  where
-    bare-trims : (spaces : ℕ) (bytes : List ℕ) → Bare spaces bytes → trim_start bytes ≡ bytes
-    bare-trims (suc n) bytes h = absurd h
-    bare-trims zero [] h = refl
-    bare-trims zero (b ∷ bs) h = trim-none b bs h
-
--- and its cells are those of these bytes
-bare-spread : (said : Line) (r : Rest) (p : Point) → indent r ≡ 0 → rest_cells said r p ≡ spread said r.bytes p
-bare-spread said r p none = go r.spaces r.bytes (bare r none)
-  where
-    go : (spaces : ℕ) (bytes : List ℕ) → Bare spaces bytes → cells_by said spaces bytes p ≡ spread said bytes p
-    go (suc n) bytes h = absurd h
-    go zero bytes h = refl
 
 -- The cells behind a small indent: no whitespace is left, and they are fed as the bytes without whitespace in front.
 pub record Indented (options : ParseOptions) (said : Line) (r : Rest) (p : Point) (stop : List Cell) : Type 0 where

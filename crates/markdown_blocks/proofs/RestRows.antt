@@ -20,7 +20,8 @@ use Rattle.md_definition.proofs.TextsLemmas.{NoEnding}
 use Rattle.markdown_blocks.specs.Fronted.{rest_line}
 use Rattle.markdown_blocks.specs.Rows.{blank_line}
 use Rattle.markdown_blocks.proofs.PieceFacts.{CutsFirst, whole-first}
-use Rattle.markdown_blocks.proofs.RestFacts.{rest-no_ending, rest-same, spread-line, spread-line_end}
+use Rattle.markdown_blocks.proofs.RestFacts.{rest-no_ending, rest-same, spread-line_end}
+use Rattle.md_seam.proofs.RestLines.{spread-line}
 
 -- Its bytes.
 

@@ -26,6 +26,7 @@ use Rattle.md_seam.specs.Ahead.{begins_white, line_bytes, white_end, white_rest}
 use Rattle.md_seam.specs.Events.Nested.{enter, exit, pair}
 use Rattle.md_seam.specs.Spaces.{IsRest, small_indent}
 use Rattle.md_seam.proofs.AheadLemmas.{none-end, none-rest}
+use Rattle.md_seam.proofs.LostColumns.{zero-end, zero-rest}
 
 -- behind these events, where an item is tried that began here
 abbrev at : Here → List Event → Point → Scratch → Here
@@ -86,14 +87,6 @@ closed-is h digits byte front false cells p e =
     (append_assoc h.events front (exit ListItemPrefix p ∷ [])) e
 
 -- The padding.
-
-pub zero-rest : (cells : List Cell) → white_rest 0 cells ≡ cells
-zero-rest [] = refl
-zero-rest (c ∷ cs) = refl
-
-pub zero-end : (cells : List Cell) (p : Point) → white_end 0 cells p ≡ p
-zero-end [] p = refl
-zero-end (c ∷ cs) p = refl
 
 -- whitespace that was taken here, with these events before it
 taken-is : (h : Here) (digits : List ℕ) (byte : ℕ) (front : List Event) (room : ℕ) (cells : List Cell) (p : Point) →

@@ -9,9 +9,10 @@ use Rattle.md_engine.specs.declared.tokenizer.Line.{Line}
 use Rattle.md_engine.specs.Meaning.{Cell}
 use Rattle.md_containers.specs.ItemPrefix.{ItemPassed, Padded, item_further, item_indented, item_same, padding}
 use Rattle.md_containers.specs.ItemPrefix.{padding_room}
-use Rattle.md_containers.proofs.ItemColumns.{HasLost, blank-cells, lose-walk}
 use Rattle.md_containers.proofs.ItemFurther.{blank-white, size-white}
-use Rattle.md_containers.proofs.QuoteLines.{White, white-none, white-walk}
+use Rattle.md_containers.proofs.QuoteLines.{white-walk}
+use Rattle.md_seam.proofs.LostColumns.{HasLost, White, lose-walk, white-none}
+use Rattle.md_seam.proofs.RestLines.{blank-cells}
 use Rattle.md_definition.specs.Containers.{Taken, item_continues, item_padding}
 use Rattle.md_definition.specs.Rest.{Rest, behind_indent, indent, is_blank, is_parted, is_white, lose}
 use Rattle.md_definition.specs.State.{InItem}
@@ -185,7 +186,9 @@ further-agrees digits marker width blank some line text past r stop p is h k =
         (cond (nat_le width (white_size width cells)) (Some (item_indented digits marker width cells p)) None)
         (cond t (Some left) None)) size
         (either (nat_le width (white_size width cells))
-        (λ on. size-white width cells (let le : width ≤ white_size width cells = grind (arith, nat_tests) in omega (arith, le, some)))))
+        (λ on.
+        size-white width cells
+        (let le : width ≤ white_size width cells = grind (arith, nat_tests) in omega (arith, le, some)))))
 
 -- The padding.
 

@@ -1,6 +1,7 @@
 -- A list item from its marker on, by the cells of a line and by the definition of lines.
 use Rattle.std.proofs.Common.{◌≡◌, ℕ, suc, ◌+◌, ◌-◌, ◌<◌, ◌≤◌, Bool, true, false, cond, not, ◌&&◌, ◌||◌, List, []}
-use Rattle.std.proofs.Common.{◌∷◌, ◌++◌, length, Option, Some, None, refl, sym, ap, ap₂, ◌∙◌, subst, arith, append_assoc, nat_eq}
+use Rattle.std.proofs.Common.{◌∷◌, ◌++◌, length, Option, Some, None, refl, sym, ap, ap₂, ◌∙◌, subst, arith}
+use Rattle.std.proofs.Common.{append_assoc, nat_eq}
 use Rattle.std.proofs.lemmas.Bool.Decides.{nat_tests}
 use Rattle.md_engine.specs.declared.configuration.ParseOptions.{ParseOptions}
 use Rattle.md_engine.specs.declared.event.Event.{Event}
@@ -12,7 +13,7 @@ use Rattle.md_containers.specs.Item.{at_least_one, width_here}
 use Rattle.md_containers.specs.ItemPrefix.{ItemPassed, Padded, item_marked, item_padded, padding}
 use Rattle.md_containers.proofs.ItemDigits.{byte-behind, spread-one}
 use Rattle.md_containers.proofs.ItemLines.{HasPadding, ItemAgrees, LeavesRest, PaddingIs, padding-is}
-use Rattle.md_containers.proofs.QuoteLines.{White}
+use Rattle.md_seam.proofs.LostColumns.{White}
 use Rattle.md_definition.specs.Containers.{Marker, Taken, item_padding, item_with, may_interrupt}
 use Rattle.md_definition.specs.Leaves.{is_rule}
 use Rattle.md_definition.specs.Rest.{Rest, behind, is_blank, is_parted, is_white, lose}
@@ -49,7 +50,8 @@ pub record MayMark (options : ParseOptions) (interrupting : Bool) (from : Rest) 
     (bytes : List ℕ) : Type 0 where
   pub after : behind (length digits + 1) from ≡ rest (column + 1) bytes
   pub no_break : options.constructs.thematic_break && is_rule from.bytes ≡ false
-  pub interrupts : (not interrupting || may_interrupt (record { digits = digits; byte = byte }) (rest (column + 1) bytes)) ≡
+  pub interrupts :
+      (not interrupting || may_interrupt (record { digits = digits; byte = byte }) (rest (column + 1) bytes)) ≡
       (not interrupting || not (is_blank bytes))
 
 pub marked-agrees : (options : ParseOptions) (interrupting : Bool) (line : Line) (text past : List ℕ)
@@ -62,7 +64,8 @@ pub marked-agrees : (options : ParseOptions) (interrupting : Bool) (line : Line)
     (spread line bytes (past_byte byte q) ++ stop) q)
     (item_with options interrupting before from (behind (length digits + 1) from)
     (record { digits = digits; byte = byte }))
-marked-agrees options interrupting line text past column byte bytes q stop p before from digits front is h k dark at may =
+marked-agrees options interrupting line text past column byte bytes q stop p before from digits front is h k dark at
+    may =
     subst
     (λ (r : Rest).
     Agrees (item_marked interrupting p digits front (cell byte q' line) cells q)

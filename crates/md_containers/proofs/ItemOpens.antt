@@ -1,6 +1,7 @@
 -- A list item opens by the cells of a line where it does by the definition of lines, and leaves what that says.
 use Rattle.std.proofs.Common.{◌≡◌, ℕ, zero, suc, ◌+◌, ◌^◌, ◌<◌, ◌≤◌, Bool, true, false, cond, not, ◌&&◌, ◌||◌}
-use Rattle.std.proofs.Common.{List, [], ◌∷◌, ◌++◌, length, drop, Option, Some, None, refl, sym, ap, ap₂, ◌∙◌, subst, arith}
+use Rattle.std.proofs.Common.{List, [], ◌∷◌, ◌++◌, length, drop, Option, Some, None, refl, sym, ap, ap₂, ◌∙◌, subst}
+use Rattle.std.proofs.Common.{arith}
 use Rattle.std.proofs.Common.{append_assoc, nat_lt}
 use Rattle.std.specs.Prelude.{◌==◌, nat_le}
 use Rattle.std.specs.List.{list_all, take_while}
@@ -18,19 +19,22 @@ use Rattle.md_containers.specs.ItemPrefix.{ItemPassed, digits_of, item_behind, i
 use Rattle.md_containers.specs.ItemPrefix.{item_valued}
 use Rattle.md_containers.specs.ItemRule.{digits_end, digits_rest, digits_size}
 use Rattle.md_containers.specs.QuoteRule.{indent_events}
-use Rattle.md_containers.proofs.ItemColumns.{lose-walk, rule-spread}
+use Rattle.md_containers.proofs.ItemBreak.{rule-spread}
 use Rattle.md_containers.proofs.ItemDigits.{HasDigits, TakesDigits, digits-walk, spread-one, starts, starts-spread}
 use Rattle.md_containers.proofs.ItemDigits.{starts-stop}
 use Rattle.md_containers.proofs.ItemLines.{ItemAgrees, LeavesRest}
 use Rattle.md_containers.proofs.ItemMarker.{HasItemMarker, marked-agrees}
 use Rattle.md_containers.proofs.ItemShorter.{digits-length}
 use Rattle.md_containers.proofs.ItemSteps.{bullet-dark}
-use Rattle.md_containers.proofs.QuoteLines.{White, large-room, small-room, white-walk}
+use Rattle.md_containers.proofs.QuoteLines.{white-walk}
+use Rattle.md_seam.proofs.LostColumns.{White, lose-walk}
+use Rattle.md_seam.proofs.RestLines.{large-room, small-room}
 use Rattle.md_definition.specs.Containers.{Marker, Taken, is_bullet, is_digit, item_by, item_with, list_marker}
 use Rattle.md_definition.specs.Containers.{marker_behind, may_interrupt, opens_item}
 use Rattle.md_definition.specs.Leaves.{is_rule, is_rule_marker}
 use Rattle.md_definition.specs.Lines.{begins_with}
-use Rattle.md_definition.specs.Rest.{Rest, behind, behind_indent, has_small_indent, indent, is_blank, is_parted, is_white}
+use Rattle.md_definition.specs.Rest.{Rest, behind, behind_indent, has_small_indent, indent, is_blank, is_parted}
+use Rattle.md_definition.specs.Rest.{is_white}
 use Rattle.md_definition.specs.State.{InItem}
 use Rattle.md_definition.proofs.TextsLemmas.{NoEnding, no_ending-drop}
 use Rattle.md_seam.specs.Ahead.{begins_white, line_bytes, white_end, white_rest}
@@ -139,7 +143,8 @@ bullet-agrees options interrupting line text past column b bs q stop p before fr
     front' = front ++ enter n.ListItemPrefix q ∷ []
 
     marked : Option ItemPassed
-    marked = item_marked interrupting p [] front' (cell b (past_byte b q) line) (spread line bs (past_byte b q) ++ stop) q
+    marked =
+        item_marked interrupting p [] front' (cell b (past_byte b q) line) (spread line bs (past_byte b q) ++ stop) q
 
     by : (o : Option ItemPassed) (t : Option Taken) →
         ItemAgrees (HasItemMarker line text past [] b bs q stop front') o t →
@@ -237,7 +242,8 @@ numbered-agrees options interrupting line text past column m ms q stop p before 
     go i [] at some first after = absurd (omega (arith, some))
     go false (d ∷ ds) at some first after = marks false (d ∷ ds) at after refl
     go true (d ∷ []) at some first after =
-        marks true (d ∷ []) at after (ap (λ (x : Bool). not (is_blank ms) && x) first ∙ and-true true (not (is_blank ms)))
+        marks true (d ∷ []) at after
+        (ap (λ (x : Bool). not (is_blank ms) && x) first ∙ and-true true (not (is_blank ms)))
     go true (d ∷ c ∷ ds) at some first after =
         let two : nat_lt (length (d ∷ c ∷ ds)) 2 ≡ false = grind (arith, nat_tests) in
         let none = refused-by options before from (behind (length (d ∷ c ∷ ds) + 1) from)

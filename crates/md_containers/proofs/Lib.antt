@@ -9,7 +9,7 @@ pub mod ItemSteps
 pub mod ItemShorter
 pub mod ItemCells
 pub mod ItemFurther
-pub mod ItemColumns
+pub mod ItemBreak
 pub mod ItemLines
 pub mod GroupedLemmas
 pub mod ListedOpen

@@ -9,9 +9,9 @@ use Rattle.md_engine.specs.declared.event.Kind.TheVariants.{Enter, Exit}
 use Rattle.md_engine.specs.declared.event.Name.{Name}
 use Rattle.md_engine.specs.declared.event.Name.TheVariants as n
 use Rattle.md_engine.specs.declared.event.Point.{Point}
-use Rattle.md_containers.specs.Listed.{Begins, Ends, Place, Stays, Turn, given_by, goes_on, is_item, list_begin, list_end}
-use Rattle.md_containers.specs.Listed.{list_name, listed, listed_from, marker_ahead, marker_by, next_by, next_item, outside}
-use Rattle.md_containers.specs.Listed.{place_by, turn}
+use Rattle.md_containers.specs.Listed.{Begins, Ends, Place, Stays, Turn, given, given_by, goes_on, is_item, list_begin}
+use Rattle.md_containers.specs.Listed.{list_end, list_name, listed, listed_from, marker_ahead, marker_by, next_by}
+use Rattle.md_containers.specs.Listed.{next_item, outside, place_after, place_by, turn}
 use Rattle.md_containers.proofs.ListedLemmas.{passes-given}
 use Rattle.md_containers.proofs.ListedParts.{listed-parts}
 use Rattle.md_seam.specs.declared.inline.Chunk.{Chunk}
@@ -19,7 +19,8 @@ use Rattle.md_seam.specs.Events.Inline.{Part, is_linked, line_end, pair_unless_e
 use Rattle.md_seam.specs.Events.Nested.{exit, is_exit, pair}
 use Rattle.md_seam.specs.Events.Places.{same_place}
 use Rattle.md_seam.specs.Events.Spelled.{IsEnding, IsQuiet, Role, role}
-use Rattle.md_seam.specs.Events.Tiles.{chunks_stand, depth_behind, filled, filled_from, first_list, further_lists, is_chunk}
+use Rattle.md_seam.specs.Events.Tiles.{chunks_stand, depth_behind, filled, filled_from, first_list, further_lists}
+use Rattle.md_seam.specs.Events.Tiles.{is_chunk}
 use Rattle.md_seam.specs.Events.Tiles.{is_data, is_part, parts, plain_lists, plain_read, stands_in_part}
 use Rattle.md_seam.proofs.FilledLemmas.{EachInline}
 use Rattle.md_seam.proofs.SpelledLemmas.{QuietOrEnding, Roles, roles-append}
@@ -201,6 +202,21 @@ filled-given Ends place m next e h es lists =
     ∙ ap (λ (l : List Event). e ∷ l) (filled-end place.markers next e.point es lists)
 filled-given Stays place m next e h es lists = filled-one e h es lists
 
+-- an event is given the same in front of events with the same ahead
+pub given-same : (bytes : List ℕ) (place : Place) (e : Event) (es read : List Event) → SameAhead bytes read es →
+    given bytes place e es ++ listed_from bytes (place_after bytes place e es) read ≡ listed_from bytes place (e ∷ read)
+given-same bytes place e es read same =
+    let t : Turn = turn e.kind (role e.name) in
+    ap
+    (λ (m : ℕ).
+    given_by t place m (next_item bytes es) e ++ listed_from bytes (place_by t place m (next_item bytes es)) read)
+    (sym same.0)
+    ∙ ap
+    (λ (o : Option ℕ).
+    given_by t place (marker_ahead bytes read) o e
+    ++ listed_from bytes (place_by t place (marker_ahead bytes read) o) read)
+    (sym same.1)
+
 -- Lists may be put around items before chunks are read or behind:
 
 -- in front of an event that is no chunk,
@@ -217,15 +233,7 @@ filled-other bytes place e es h l lists each rec =
     let now : Place = place_by t place (marker_ahead bytes es) (next_item bytes es) in
     filled-given t place (marker_ahead bytes es) (next_item bytes es) e l (listed_from bytes now es) lists
     ∙ ap (λ (l : List Event). given_by t place (marker_ahead bytes es) (next_item bytes es) e ++ l) (rec now)
-    ∙ ap
-    (λ (m : ℕ).
-    given_by t place m (next_item bytes es) e ++ listed_from bytes (place_by t place m (next_item bytes es)) read)
-    (sym same.0)
-    ∙ ap
-    (λ (o : Option ℕ).
-    given_by t place (marker_ahead bytes read) o e
-    ++ listed_from bytes (place_by t place (marker_ahead bytes read) o) read)
-    (sym same.1)
+    ∙ given-same bytes place e es read same
     ∙ ap (listed_from bytes place) (sym (filled-one e l es lists))
 
 -- and in front of all
@@ -273,7 +281,8 @@ filled-listed bytes place (e ∷ f ∷ es) h lists each =
 
 -- The plain layer.
 
-unless-inline : (name : Name) → QuietOrEnding (role name) → (p q : Point) → Roles QuietOrEnding (pair_unless_empty name p q)
+unless-inline : (name : Name) → QuietOrEnding (role name) → (p q : Point) →
+    Roles QuietOrEnding (pair_unless_empty name p q)
 unless-inline name h p q = go (same_place p q)
   where
     go : (x : Bool) → Roles QuietOrEnding (if x then [] else pair name p q)

@@ -1,12 +1,11 @@
 -- What the prefix of a quote takes of a line is what the definition of lines takes.
-use Rattle.std.proofs.Common.{◌≡◌, ℕ, zero, suc, ◌+◌, ◌^◌, ◌<◌, ◌≤◌, Bool, true, false, cond, ◌&&◌, ◌||◌, List, [], ◌∷◌}
+use Rattle.std.proofs.Common.{◌≡◌, ℕ, zero, suc, ◌+◌, ◌^◌, ◌<◌, ◌≤◌, Bool, true, false, cond, List, [], ◌∷◌}
 use Rattle.std.proofs.Common.{◌++◌, length, drop, slice_range, Option, Some, None, refl, sym, ap, ◌∙◌, subst, arith}
 use Rattle.std.proofs.Common.{append_assoc}
-use Rattle.std.specs.Prelude.{IsTrue, ◌==◌, not, nat_le, slice_get}
+use Rattle.std.specs.Prelude.{IsTrue, ◌==◌, slice_get}
 use Rattle.std.proofs.lemmas.Bool.{eqb-true}
 use Rattle.std.proofs.lemmas.Bool.Decides.{nat_tests}
 use Rattle.std.proofs.lemmas.List.{length-append}
-use Rattle.std.proofs.lemmas.List.Folds.{list_all-append}
 use Rattle.md_engine.specs.declared.configuration.ParseOptions.{ParseOptions}
 use Rattle.md_engine.specs.declared.event.Event.{Event}
 use Rattle.md_engine.specs.declared.event.Name.TheVariants as n
@@ -20,20 +19,19 @@ use Rattle.md_definition.specs.Containers.{Taken, quote_taken}
 use Rattle.md_seam.specs.Events.Inline.{pair_unless_empty}
 use Rattle.md_definition.specs.Lines.{begins_with}
 use Rattle.md_seam.specs.Events.Nested.{enter, exit, pair}
-use Rattle.md_seam.specs.Events.Places.{at_or_before, past_byte, past_text, same_place}
+use Rattle.md_seam.specs.Events.Places.{at_or_before, past_byte, past_text}
 use Rattle.md_definition.specs.Rest.{Rest, behind, behind_indent, has_small_indent, indent, is_blank, is_white, lose}
-use Rattle.md_definition.specs.Rest.{white_columns}
-use Rattle.md_seam.specs.Spaces.{any_size, small_indent}
+use Rattle.md_seam.specs.Spaces.{small_indent}
 use Rattle.md_definition.specs.State.{InQuote}
 use Rattle.md_seam.proofs.AheadLemmas.{none-end}
-use Rattle.md_seam.proofs.FeedLines.{Stops, behind_last, byte-one, cell, columns_more, next_column, past-next}
-use Rattle.md_seam.proofs.FeedLines.{slice-front, slice-split, spread, tab_cells}
+use Rattle.md_seam.proofs.FeedLines.{Stops, byte-one, cell, past-next}
+use Rattle.md_seam.proofs.FeedLines.{spread}
 use Rattle.md_seam.proofs.InlineLemmas.{same-refl}
-use Rattle.md_seam.proofs.NestedLemmas.{at_or_before-refl, at_or_before-trans}
-use Rattle.md_seam.proofs.PlainSteps.{range-none}
-use Rattle.md_seam.proofs.RestCells.{Bare, HasColumn, RestAt, bare, bare-cells, bare-same, behind-no_ending, cells_by}
+use Rattle.md_seam.proofs.LostColumns.{Step, White, column-step, step-append, white-none}
+use Rattle.md_seam.proofs.RestCells.{Bare, RestAt, bare, bare-cells, bare-same, behind-no_ending, cells_by}
 use Rattle.md_seam.proofs.RestCells.{column-end, column-first, indent-length, indent-over, indent-taken, lose-no_ending}
 use Rattle.md_seam.proofs.RestCells.{past_cut, past_rest, rest_cells, white-length, without_first}
+use Rattle.md_seam.proofs.RestLines.{large-room, small-room}
 use Rattle.md_definition.proofs.TextsLemmas.{NoEnding}
 
 -- The prefix of a quote, from a point to a point: whitespace, `>`, and at most one column of whitespace.
@@ -58,117 +56,18 @@ pub record IsPrefix (bytes : List ℕ) (p q : Point) (es : List Event) : Type 0 
   -- all on one line
   pub line : q.line ≡ p.line
 
--- Whitespace between two points.
-
--- only whitespace stands from a point to another one of the line
-pub record White (text : List ℕ) (p q : Point) : Type 0 where
-  pub onward : IsTrue (at_or_before p q)
-  pub index : p.index ≤ q.index
-  pub line : q.line ≡ p.line
-  pub blank : is_blank (slice_range text p.index q.index) ≡ true
-
-pub white-none : (text : List ℕ) (p : Point) → White text p p
-white-none text p = record {
-  onward = at_or_before-refl p;
-  index = omega arith;
-  line = refl;
-  blank = ap is_blank (range-none text p.index p.index (omega arith));
-}
-
-pub white-append : (text : List ℕ) (p q r : Point) → White text p q → White text q r → White text p r
-white-append text p q r a b = record {
-  onward = at_or_before-trans p q r a.onward b.onward;
-  index = let h = a.index in let k = b.index in omega arith;
-  line = b.line ∙ a.line;
-  blank = ap is_blank (slice-split text p.index q.index r.index a.index b.index)
-      ∙ list_all-append is_white (slice_range text p.index q.index) (slice_range text q.index r.index)
-      ∙ ap (λ (t : Bool). t && is_blank (slice_range text q.index r.index)) a.blank
-      ∙ b.blank;
-}
-
--- a step further
-pub record Step (text : List ℕ) (p q : Point) : Type 0 where
-  pub white : White text p q
-  pub apart : same_place p q ≡ false
-
-step-byte : (text rest : List ℕ) (b : ℕ) (p q : Point) → drop p.index text ≡ b ∷ rest → is_white b ≡ true →
-    q.index ≡ p.index + 1 → q.line ≡ p.line → Step text p q
-step-byte text rest b p q e w index line = record {
-  white = record {
-    onward = grind (arith, nat_tests);
-    index = omega arith;
-    line = line;
-    blank = ap is_blank (slice-front text p.index q.index (b ∷ []) rest e index) ∙ ap (λ (t : Bool). t && true) w;
-  };
-  apart = grind (arith, nat_tests);
-}
-
-step-column : (text : List ℕ) (p : Point) → Step text p (next_column p)
-step-column text p = record {
-  white = record {
-    onward = grind (arith, nat_tests);
-    index = omega arith;
-    line = refl;
-    blank = ap is_blank (range-none text p.index p.index (omega arith));
-  };
-  apart = grind (arith, nat_tests);
-}
-
-apart-more : (p q r : Point) → same_place p q ≡ false → IsTrue (at_or_before p q) → IsTrue (at_or_before q r) →
-    same_place p r ≡ false
-apart-more p q r a b c = grind (arith, nat_tests)
-
-pub step-append : (text : List ℕ) (p q r : Point) → Step text p q → White text q r → Step text p r
-step-append text p q r a b = record {
-  white = white-append text p q r a.white b;
-  apart = apart-more p q r a.apart a.white.onward b.onward;
-}
-
--- where the first cell ends
-abbrev first_after : Point → List Cell → Point
-first_after p [] = p
-first_after p (c ∷ cs) = c.after
+-- these events, by whether there is no whitespace in front of `>`, and none behind it
+abbrev pub prefix_by : Bool → Bool → Point → Point → Point → Point → List Event
+prefix_by none same p marker behind q =
+    cond none [] (pair n.SpaceOrTab p marker) ++ enter n.BlockQuotePrefix marker ∷ enter n.BlockQuoteMarker marker
+    ∷ exit n.BlockQuoteMarker behind ∷ cond same [] (pair n.SpaceOrTab behind q) ++ exit n.BlockQuotePrefix q ∷ []
 
 abbrev rest : ℕ → ℕ → List ℕ → Rest
 rest column spaces bytes = record { column = column; spaces = spaces; bytes = bytes }
 
--- one column of whitespace is a step
-pub column-step : (line : Line) (text behind : List ℕ) (r : Rest) (p : Point) → RestAt text behind r p → 0 < indent r →
-    (first : HasColumn line text behind r p) → Step text p first.at
-column-step line text behind r p is lt first = go r.column r.spaces r.bytes is lt (ap (first_after p) first.cells)
-  where
-    at : Point
-    at = first.at
+-- The indent.
 
-    go : (column spaces : ℕ) (bytes : List ℕ) → RestAt text behind (rest column spaces bytes) p →
-        0 < indent (rest column spaces bytes) → first_after p (rest_cells line (rest column spaces bytes) p) ≡ at →
-        Step text p at
-    go column (suc zero) bytes h lt e =
-        subst (Step text p) e (step-byte text (bytes ++ behind) 9 p (behind_last p) h.text_is refl refl refl)
-    go column (suc (suc n)) bytes h lt e = subst (Step text p) e (step-column text p)
-    go column zero [] h lt e = absurd (omega (arith, lt))
-    go column zero (b ∷ bs) h lt e = by (b == 9) refl (b == 32) refl h e
-      where
-        Has : ℕ → Type 0
-        Has c =
-            RestAt text behind (rest column 0 (c ∷ bs)) p →
-            first_after p (rest_cells line (rest column 0 (c ∷ bs)) p) ≡ at → Step text p at
-
-        tab : (k : ℕ) → drop p.index text ≡ 9 ∷ bs ++ behind →
-            first_after p (tab_cells line k 9 p ++ spread line bs (past_byte 9 p)) ≡ at → Step text p at
-        tab zero is e = subst (Step text p) e (step-byte text (bs ++ behind) 9 p (behind_last p) is refl refl refl)
-        tab (suc k) is e = subst (Step text p) e (step-column text p)
-
-        by : (t : Bool) → (b == 9) ≡ t → (s : Bool) → (b == 32) ≡ s → Has b
-        by true f s g = subst Has (sym (eqb-true b 9 f)) (λ is. tab (columns_more p) is.text_is)
-        by false f true g =
-            subst Has (sym (eqb-true b 32 g))
-            (λ is e.
-            subst (Step text p) e (step-byte text (bs ++ behind) 32 p (past_byte 32 p) is.text_is refl refl refl))
-        by false f false g =
-            let none : white_columns (column + 0) (b ∷ bs) ≡ 0 = rw (f, g) refl in absurd (omega (arith, lt, none))
-
--- an indent is whitespace, and a step if there is one
+-- it is whitespace, and a step if there is one
 pub record HasWhite (text : List ℕ) (cells : List Cell) (p q : Point) : Type 0 where
   pub white : White text p q
   pub events : cond (begins_white cells) (pair n.SpaceOrTab p q) [] ≡ pair_unless_empty n.SpaceOrTab p q
@@ -403,23 +302,6 @@ abbrev pub PrefixIs : ParseOptions → Line → (text past : List ℕ) → Point
 PrefixIs options line text past end stop cells p (Some taken) =
     HasPrefix options line text past end stop cells p taken.rest
 PrefixIs options line text past end stop cells p None = takes_prefix options cells ≡ false
-
--- a small indent fits, where there are not too many cells
-pub small-room : (options : ParseOptions) (r : Rest) (size : ℕ) → has_small_indent options r ≡ true → indent r ≤ size →
-    size < 2 ^ 63 → indent r ≤ small_indent options
-small-room options r size e le lt = go options.constructs.code_indented e
-  where
-    go : (t : Bool) → (not t || nat_le (indent r) 3) ≡ true → indent r ≤ cond t 3 any_size
-    go true small = grind (arith, nat_tests, small)
-    go false small = omega (arith, le, lt)
-
-pub large-room : (options : ParseOptions) (r : Rest) → has_small_indent options r ≡ false →
-    small_indent options < indent r
-large-room options r e = go options.constructs.code_indented e
-  where
-    go : (t : Bool) → (not t || nat_le (indent r) 3) ≡ false → cond t 3 any_size < indent r
-    go true large = grind (arith, nat_tests, large)
-    go false large = cc
 
 -- the definition takes what stands behind the indent, if that is small
 taken-small : (options : ParseOptions) (r : Rest) → has_small_indent options r ≡ true →

@@ -1,7 +1,6 @@
 -- What indented code takes of a line is what the definition of lines takes, for any rest of a line.
 use Rattle.std.proofs.Common.{◌≡◌, ℕ, zero, suc, ◌+◌, ◌-◌, ◌<◌, ◌≤◌, Bool, true, false, cond, ◌&&◌, ◌||◌, List, [], ◌∷◌}
-use Rattle.std.proofs.Common.{◌++◌, slice_range, Some, None, refl, sym, ap, ap₂, ◌∙◌, arith, append_assoc}
-use Rattle.std.proofs.Common.{append-nil}
+use Rattle.std.proofs.Common.{◌++◌, slice_range, Some, None, refl, sym, ap, ap₂, ◌∙◌, arith}
 use Rattle.std.specs.Prelude.{◌==◌, nat_le, not}
 use Rattle.std.proofs.lemmas.Bool.{or_parts}
 use Rattle.std.proofs.lemmas.Bool.Decides.{nat_tests}
@@ -20,50 +19,18 @@ use Rattle.md_definition.proofs.TextsLemmas.{NoEnding}
 use Rattle.md_lines.specs.Code.{may_open}
 use Rattle.md_lines.specs.CodeLine.{KeepsCode, chunk_line, told_line}
 use Rattle.md_lines.specs.CodeRule.{code_begins, code_goes, is_indented}
-use Rattle.md_lines.proofs.LostColumns.{HasLost, blank-cells, lose-walk, stops-line}
-use Rattle.md_seam.specs.Ahead.{line_bytes, line_cells, line_end, point_after, white_end, white_rest, white_size}
+use Rattle.md_seam.specs.Ahead.{line_bytes, line_end, white_end, white_rest, white_size}
 use Rattle.md_seam.specs.Events.Places.{past_byte, past_text}
 use Rattle.md_seam.specs.Events.Spelled.{byte_at, columns_left, empty_line}
-use Rattle.md_seam.proofs.FeedLines.{Stops, cell, columns_more, line_cells-append, next_column}
-use Rattle.md_seam.proofs.FeedLines.{no_feed-spread, past-next, slice-front, spread, tab_cells, tab_end}
+use Rattle.md_seam.proofs.FeedLines.{Stops, cell, columns_more}
+use Rattle.md_seam.proofs.FeedLines.{past-next, slice-front, spread, tab_cells, tab_end}
 use Rattle.md_seam.proofs.InlineLemmas.{past-index}
-use Rattle.md_seam.proofs.RestCells.{RestAt, cells_by, lose-no_ending, past_cut, past_rest, rest-end, rest_cells}
+use Rattle.md_seam.proofs.LostColumns.{HasLost, lose-walk}
+use Rattle.md_seam.proofs.RestCells.{RestAt, cells_by, lose-no_ending, past_cut, past_rest, rest_cells}
 use Rattle.md_seam.proofs.RestCells.{without_first}
+use Rattle.md_seam.proofs.RestLines.{blank-cells, rest-past}
 
--- The end of a line.
-
-tab-line : (line : Fed) (n byte : ℕ) (p : Point) (more : List Cell) → (byte == 10) ≡ false →
-    line_cells (tab_cells line n byte p ++ more) ≡ tab_cells line n byte p ++ line_cells more
-tab-line line zero byte p more e = rw e refl
-tab-line line (suc n) byte p more e =
-    rw e (ap (λ (l : List Cell). cell byte (next_column p) line ∷ l) (tab-line line n 32 (next_column p) more refl))
-
-spread-line : (line : Fed) (bytes : List ℕ) (p : Point) (stop : List Cell) → NoEnding bytes → Stops stop →
-    line_cells (spread line bytes p ++ stop) ≡ spread line bytes p
-spread-line line bytes p stop h k =
-    line_cells-append (spread line bytes p) stop (no_feed-spread line bytes p h)
-    ∙ ap (λ (l : List Cell). spread line bytes p ++ l) (stops-line stop k)
-    ∙ append-nil (spread line bytes p)
-
--- the cells of a rest are those of the line
-rest-line : (line : Fed) (r : Rest) (p : Point) (stop : List Cell) → NoEnding r.bytes → Stops stop →
-    line_cells (rest_cells line r p ++ stop) ≡ rest_cells line r p
-rest-line line r p stop h k = go r.spaces
-  where
-    go : (spaces : ℕ) → line_cells (cells_by line spaces r.bytes p ++ stop) ≡ cells_by line spaces r.bytes p
-    go zero = spread-line line r.bytes p stop h k
-    go (suc n) =
-        let more = spread line r.bytes (tab_end n p) in
-        ap line_cells (append_assoc (tab_cells line n 32 p) more stop)
-        ∙ tab-line line n 32 p (more ++ stop) refl
-        ∙ ap (λ (l : List Cell). tab_cells line n 32 p ++ l) (spread-line line r.bytes (tab_end n p) stop h k)
-
-pub line-ends : (line : Fed) (r : Rest) (p : Point) (stop : List Cell) → 1 ≤ p.column → NoEnding r.bytes → Stops stop →
-    line_end (rest_cells line r p ++ stop) p ≡ past_rest r p
-line-ends line r p stop one h k =
-    ap (λ (l : List Cell). point_after l p) (rest-line line r p stop h k) ∙ rest-end line r p one
-
--- where nothing comes before it, the rest is empty
+-- where the line ends before any cell, the rest is empty
 end-empty : (line : Fed) (r : Rest) (p : Point) (stop : List Cell) → NoEnding r.bytes → Stops stop →
     is_end (line_bytes (rest_cells line r p ++ stop)) ≡ true → line_of r ≡ empty_line
 end-empty line r p stop h k e = go r.spaces r.bytes h e
@@ -156,7 +123,7 @@ told-line line text past r p stop is h k = go (is_end (line_bytes (white_rest 4 
     go false e =
         ap (λ (x : Bool). cond x empty_line (chunk_line text q (line_end cells p))) e
         ∙ ap (chunk_line text q)
-        (line-ends line r p stop (let at = is.column in omega arith) h k ∙ sym lost.ends)
+        (rest-past line r p stop h k (let at = is.column in omega arith) ∙ sym lost.ends)
         ∙ chunk-reads text past (lose 4 r) q lost.stands
 
 -- it is indented by its cells where it is by its bytes

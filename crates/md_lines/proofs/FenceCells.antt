@@ -1,6 +1,6 @@
 -- Runs and whitespace by the cells of a line, and by its bytes.
 use Rattle.std.proofs.Common.{◌≡◌, ℕ, zero, suc, ◌≤◌, Bool, true, false, cond, ◌&&◌, nat_eq, nat_lt, List}
-use Rattle.std.proofs.Common.{[], ◌∷◌, ◌++◌, length, take, drop, Option, Some, refl, sym, ◌∙◌, ap, arith, append-nil}
+use Rattle.std.proofs.Common.{[], ◌∷◌, ◌++◌, length, take, drop, Option, Some, refl, sym, ◌∙◌, ap, arith}
 use Rattle.std.specs.Prelude.{not, nat_le, ◌==◌}
 use Rattle.std.specs.List.{prefix_len}
 use Rattle.std.proofs.lemmas.Bool.{eqb-true}
@@ -8,7 +8,7 @@ use Rattle.std.proofs.lemmas.Bool.Decides.{nat_tests}
 use Rattle.md_engine.specs.declared.event.Point.{Point}
 use Rattle.md_engine.specs.declared.tokenizer.Line.{Line}
 use Rattle.md_engine.specs.Meaning.{Cell}
-use Rattle.md_definition.specs.Rest.{Rest, is_blank, is_white, run_len}
+use Rattle.md_definition.specs.Rest.{is_blank, is_white, run_len}
 use Rattle.md_definition.proofs.TextsLemmas.{NoEnding, no_ending-drop}
 use Rattle.md_lines.specs.Fence.{may_begin}
 use Rattle.md_lines.specs.FenceLine.{is_closing}
@@ -18,10 +18,9 @@ use Rattle.md_seam.specs.Ahead.{from_ending, line_bytes, line_cells, line_end, p
 use Rattle.md_seam.specs.Events.Places.{past_byte, past_text}
 use Rattle.md_seam.specs.Look.{first_seen}
 use Rattle.md_seam.specs.Spaces.{any_size, is_current}
-use Rattle.md_seam.proofs.FeedLines.{NoFeed, Stops, all-spread, byte-one, bytes_of, cell, columns_more}
-use Rattle.md_seam.proofs.FeedLines.{from_ending-append, line_cells-append, next_column, no_feed-spread, spread, tab_cells}
-use Rattle.md_seam.proofs.FeedLines.{tab_end}
-use Rattle.md_seam.proofs.RestCells.{cells_by, past_rest, rest-end, rest_cells}
+use Rattle.md_seam.proofs.FeedLines.{Stops, byte-one, cell, columns_more}
+use Rattle.md_seam.proofs.FeedLines.{spread, tab_cells}
+use Rattle.md_seam.proofs.RestLines.{blank-spread, count-none, count-one}
 
 -- The end of a line.
 
@@ -72,48 +71,7 @@ line-all (c ∷ cs) p = go (c.byte == 10) (line-all cs c.after)
     go true next = (refl, refl)
     go false next = next
 
-stops-line : (stop : List Cell) → Stops stop → line_cells stop ≡ []
-stops-line [] h = refl
-stops-line (c ∷ cs) h = rw h refl
-
-stops-from : (stop : List Cell) → Stops stop → from_ending stop ≡ stop
-stops-from [] h = refl
-stops-from (c ∷ cs) h = rw h refl
-
-no_feed-columns : (line : Line) (n : ℕ) (p : Point) (cs : List Cell) → NoFeed cs → NoFeed (tab_cells line n 32 p ++ cs)
-no_feed-columns line zero p cs h = (refl, h)
-no_feed-columns line (suc n) p cs h = (refl, no_feed-columns line n (next_column p) cs h)
-
-no_feed-rest : (line : Line) (r : Rest) (p : Point) → NoEnding r.bytes → NoFeed (rest_cells line r p)
-no_feed-rest line r p h = go r.spaces
-  where
-    go : (spaces : ℕ) → NoFeed (cells_by line spaces r.bytes p)
-    go zero = no_feed-spread line r.bytes p h
-    go (suc n) =
-        no_feed-columns line n p (spread line r.bytes (tab_end n p)) (no_feed-spread line r.bytes (tab_end n p) h)
-
--- the line of a rest
-pub rest-past : (line : Line) (r : Rest) (p : Point) (stop : List Cell) → NoEnding r.bytes → Stops stop →
-    1 ≤ p.column → line_end (rest_cells line r p ++ stop) p ≡ past_rest r p
-rest-past line r p stop h k one =
-    ap (λ (l : List Cell). point_after l p)
-    (line_cells-append (rest_cells line r p) stop (no_feed-rest line r p h)
-    ∙ ap (λ (l : List Cell). rest_cells line r p ++ l) (stops-line stop k)
-    ∙ append-nil (rest_cells line r p))
-    ∙ rest-end line r p one
-
-pub rest-from : (line : Line) (r : Rest) (p : Point) (stop : List Cell) → NoEnding r.bytes → Stops stop →
-    from_ending (rest_cells line r p ++ stop) ≡ stop
-rest-from line r p stop h k =
-    from_ending-append (rest_cells line r p) stop (no_feed-rest line r p h) ∙ stops-from stop k
-
 -- Bytes.
-
-pub prefix-one : (t : ℕ → Bool) (b : ℕ) (bs : List ℕ) → t b ≡ true → prefix_len t (b ∷ bs) ≡ suc (prefix_len t bs)
-prefix-one t b bs e = rw e (omega arith)
-
-pub prefix-none : (t : ℕ → Bool) (b : ℕ) (bs : List ℕ) → t b ≡ false → prefix_len t (b ∷ bs) ≡ 0
-prefix-none t b bs e = rw e refl
 
 -- what comes first
 pub first-spread : (line : Line) (b : ℕ) (bs : List ℕ) (q : Point) (cs : List Cell) →
@@ -158,7 +116,7 @@ run-walk t dark ten line (b ∷ bs) q stop k = go (t b) refl (run-walk t dark te
         let one : spread line (b ∷ bs) q ++ stop ≡
         cell b (past_byte b q) line ∷ left = ap (λ (l : List Cell). (l ++ spread line bs (past_byte b q)) ++ stop)
         (byte-one line b q (dark b e)) in
-        let more = sym (prefix-one t b bs e) in
+        let more = sym (count-one t b bs e) in
         record {
           size = ap (run_size t) one ∙ rw e (ap suc next.size) ∙ more;
           end = ap (λ (l : List Cell). run_end t l q) one ∙ rw e next.end
@@ -167,8 +125,9 @@ run-walk t dark ten line (b ∷ bs) q stop k = go (t b) refl (run-walk t dark te
               ∙ ap (λ (n : ℕ). spread line (drop n (b ∷ bs)) (past_text (take n (b ∷ bs)) q) ++ stop) more;
         }
     go false e next =
-        let none = run-none t (spread line (b ∷ bs) q ++ stop) q (ap (first_is t) (first-spread line b bs q stop) ∙ e) in
-        let zero_long = sym (prefix-none t b bs e) in
+        let none = run-none t (spread line (b ∷ bs) q ++ stop) q
+        (ap (first_is t) (first-spread line b bs q stop) ∙ e) in
+        let zero_long = sym (count-none t b bs e) in
         record {
           size = none.size ∙ zero_long;
           end = none.end ∙ ap (λ (n : ℕ). past_text (take n (b ∷ bs)) q) zero_long;
@@ -194,15 +153,6 @@ end-blank (suc room) (c ∷ cs) le = go (is_white c.byte) refl (end-blank room c
         is_end (cond x (white_rest room cs) (c ∷ cs)) ≡ is_blank (line_bytes (c ∷ cs))
     go true e next = rw (white-goes c.byte e, e) next
     go false e next = dark (c.byte == 10) e refl
-
-pub blank-spread : (line : Line) (bytes : List ℕ) (q : Point) (stop : List Cell) → NoEnding bytes → Stops stop →
-    is_blank (line_bytes (spread line bytes q ++ stop)) ≡ is_blank bytes
-blank-spread line bytes q stop h k =
-    ap (λ (l : List Cell). is_blank (bytes_of l))
-    (line_cells-append (spread line bytes q) stop (no_feed-spread line bytes q h)
-    ∙ ap (λ (l : List Cell). spread line bytes q ++ l) (stops-line stop k)
-    ∙ append-nil (spread line bytes q))
-    ∙ all-spread is_white refl line bytes q
 
 -- Closing fences.
 
@@ -240,7 +190,8 @@ pub closing-spread : (m size : ℕ) (line : Line) (bytes : List ℕ) (q : Point)
 closing-spread m size line bytes q stop is some h k short =
     ap
     (λ (n : ℕ).
-    is_current m (first_seen cells) && not (nat_lt n size) && is_end (white_rest any_size (run_rest (λ b. b == m) cells)))
+    is_current m (first_seen cells) && not (nat_lt n size)
+    && is_end (white_rest any_size (run_rest (λ b. b == m) cells)))
     run.size
     ∙ ap
     (λ (x : Bool).
@@ -299,4 +250,4 @@ closing-spread m size line bytes q stop is some h k short =
             x && nat_le size (run_len m (b ∷ bs)) && is_blank (drop (run_len m (b ∷ bs)) (b ∷ bs))) e
         go false e =
             never (Some b) (run_len m (b ∷ bs)) (is_blank (drop (run_len m (b ∷ bs)) (b ∷ bs)))
-            (prefix-none (λ c. c == m) b bs e)
+            (count-none (λ c. c == m) b bs e)

@@ -1,7 +1,7 @@
 -- A further line of fenced code or math closes the block, or goes on it, where the definition of lines says, and leaves
 -- what that says.
-use Rattle.std.proofs.Common.{◌≡◌, ℕ, zero, suc, ◌+◌, ◌-◌, ◌^◌, ◌<◌, ◌≤◌, Bool, true, false, cond, ◌&&◌, ◌||◌, nat_lt}
-use Rattle.std.proofs.Common.{List, [], ◌∷◌, ◌++◌, length, drop, refl, sym, ◌∙◌, ap, append_assoc, arith, subst}
+use Rattle.std.proofs.Common.{◌≡◌, ℕ, zero, suc, ◌^◌, ◌<◌, ◌≤◌, Bool, true, false, cond, ◌&&◌, nat_lt}
+use Rattle.std.proofs.Common.{List, [], ◌∷◌, ◌++◌, length, drop, refl, sym, ◌∙◌, ap, append_assoc, arith}
 use Rattle.std.specs.Prelude.{not, nat_le, ◌==◌}
 use Rattle.std.specs.List.{prefix_len}
 use Rattle.std.proofs.lemmas.Bool.Decides.{nat_tests}
@@ -15,7 +15,7 @@ use Rattle.md_engine.specs.declared.tokenizer.held_leaf.HeldLeaf.TheVariants as 
 use Rattle.md_engine.specs.Meaning.{Cell}
 use Rattle.md_definition.specs.Leaves.{closes}
 use Rattle.md_definition.specs.Rest.{Rest, behind_indent, has_small_indent, indent, is_blank, is_white, lose, run_len}
-use Rattle.md_definition.specs.Rest.{tab_columns, trim_start}
+use Rattle.md_definition.specs.Rest.{trim_start}
 use Rattle.md_definition.specs.State.{Opening}
 use Rattle.md_definition.proofs.TextsLemmas.{NoEnding, no_ending-drop}
 use Rattle.md_lines.specs.Fence.{block_name, chunk_name, held_indent, held_marker, may_begin}
@@ -24,18 +24,18 @@ use Rattle.md_lines.specs.FenceLine.{further_inside, further_rest, is_closing, s
 use Rattle.md_lines.specs.FenceRule.{is_end, is_line, run_end, run_rest, run_size}
 use Rattle.md_lines.specs.Further.{further_link}
 use Rattle.md_lines.proofs.FenceCells.{closing-spread, first-spread, line-all, line-done, line-run, line-white}
-use Rattle.md_lines.proofs.FenceCells.{marker-dark, marker-goes, prefix-none, prefix-one, rest-from, rest-past}
-use Rattle.md_lines.proofs.FenceWhole.{zero-end, zero-rest}
+use Rattle.md_lines.proofs.FenceCells.{marker-dark, marker-goes}
 use Rattle.md_seam.specs.Ahead.{begins_white, from_ending, line_end, white_end, white_rest}
 use Rattle.md_seam.specs.Events.Nested.{enter_link, exit, pair}
 use Rattle.md_seam.specs.Look.{first_seen}
 use Rattle.md_engine.specs.Place.{is_ending}
 use Rattle.md_seam.specs.Spaces.{any_size, ends_line, is_current, small_indent}
-use Rattle.md_seam.proofs.AheadLemmas.{none-end, none-rest}
-use Rattle.md_seam.proofs.FeedLines.{Stops, cell, spread, tab_cells, tab_end}
-use Rattle.md_seam.proofs.RestCells.{Bare, HasColumn, RestAt, bare, bare-cells, bare-same, cells_by}
-use Rattle.md_seam.proofs.RestCells.{column-end, column-first, indent-length, indent-over, indent-taken, lose-no_ending}
-use Rattle.md_seam.proofs.RestCells.{past_rest, rest_cells, white-length, without_first}
+use Rattle.md_seam.proofs.FeedLines.{Stops, spread, tab_cells, tab_end}
+use Rattle.md_seam.proofs.LostColumns.{lose-walk}
+use Rattle.md_seam.proofs.RestCells.{RestAt, cells_by}
+use Rattle.md_seam.proofs.RestCells.{indent-length, indent-over, indent-taken, lose-no_ending}
+use Rattle.md_seam.proofs.RestCells.{past_rest, rest_cells, white-length}
+use Rattle.md_seam.proofs.RestLines.{bare-spread, indent-trims, large-room, rest-from, rest-past, small-room}
 
 -- Where the line ends, by its cells.
 
@@ -86,78 +86,6 @@ further-end options leaf cells p is = go (closes_here options leaf cells) refl
         (all.0 ∙ first.end, all.1 ∙ first.from)
 
 -- The indent.
-
--- a small indent is one that is taken, since no line is longer than any size
-pub small-room : (options : ParseOptions) (r : Rest) (n : ℕ) → has_small_indent options r ≡ true → indent r ≤ n →
-    n < 2 ^ 63 → indent r ≤ small_indent options
-small-room options r n e le short = go options.constructs.code_indented e
-  where
-    go : (code : Bool) → not code || nat_le (indent r) 3 ≡ true → indent r ≤ cond code 3 any_size
-    go true e = grind (arith, nat_tests)
-    go false e = omega (arith, le, short)
-
-pub large-room : (options : ParseOptions) (r : Rest) → has_small_indent options r ≡ false →
-    small_indent options < indent r
-large-room options r e = go options.constructs.code_indented e
-  where
-    go : (code : Bool) → not code || nat_le (indent r) 3 ≡ false → cond code 3 any_size < indent r
-    go true e = grind (arith, nat_tests)
-    go false e = cc
-
-trim-white : (b : ℕ) (bs : List ℕ) → is_white b ≡ true → trim_start (b ∷ bs) ≡ trim_start bs
-trim-white b bs e = ap (λ (n : ℕ). drop n (b ∷ bs)) (prefix-one is_white b bs e)
-
-trim-none : (b : ℕ) (bs : List ℕ) → is_white b ≡ false → trim_start (b ∷ bs) ≡ b ∷ bs
-trim-none b bs e = ap (λ (n : ℕ). drop n (b ∷ bs)) (prefix-none is_white b bs e)
-
-abbrev rest_of : ℕ → ℕ → List ℕ → Rest
-rest_of column spaces bytes = record { column = column; spaces = spaces; bytes = bytes }
-
-trim-without : (r : Rest) → trim_start (without_first r).bytes ≡ trim_start r.bytes
-trim-without r = go r.spaces r.bytes
-  where
-    go : (spaces : ℕ) (bytes : List ℕ) →
-        trim_start (without_first (rest_of r.column spaces bytes)).bytes ≡ trim_start bytes
-    go (suc n) bytes = refl
-    go zero [] = refl
-    go zero (b ∷ bs) = by (b == 9) refl (b == 32) refl
-      where
-        Same : Rest → Type 0
-        Same s = trim_start s.bytes ≡ trim_start (b ∷ bs)
-
-        by : (t : Bool) → (b == 9) ≡ t → (s : Bool) → (b == 32) ≡ s →
-            Same
-            (cond t (rest_of (r.column + 1) (tab_columns r.column - 1) bs)
-            (cond s (rest_of (r.column + 1) 0 bs) (rest_of r.column 0 (b ∷ bs))))
-        by true e s f = sym (trim-white b bs (rw e (last (b == 32))))
-          where
-            last : (x : Bool) → (x || true) ≡ true
-            last true = refl
-            last false = refl
-        by false e true f = sym (trim-white b bs (rw f refl))
-        by false e false f = refl
-
-trim-lose : (n : ℕ) (r : Rest) → trim_start (lose n r).bytes ≡ trim_start r.bytes
-trim-lose zero r = refl
-trim-lose (suc n) r = trim-lose n (without_first r) ∙ trim-without r
-
--- without its indent, a rest has the bytes behind it
-pub indent-trims : (r : Rest) → indent (behind_indent r) ≡ 0 → (behind_indent r).bytes ≡ trim_start r.bytes
-indent-trims r none =
-    sym (bare-trims (behind_indent r).spaces (behind_indent r).bytes (bare (behind_indent r) none))
-    ∙ trim-lose (indent r) r
-  where
-    bare-trims : (spaces : ℕ) (bytes : List ℕ) → Bare spaces bytes → trim_start bytes ≡ bytes
-    bare-trims (suc n) bytes h = absurd h
-    bare-trims zero [] h = refl
-    bare-trims zero (b ∷ bs) h = trim-none b bs h
-
-bare-spread : (line : Line) (r : Rest) (p : Point) → indent r ≡ 0 → rest_cells line r p ≡ spread line r.bytes p
-bare-spread line r p none = go r.spaces r.bytes (bare r none)
-  where
-    go : (spaces : ℕ) (bytes : List ℕ) → Bare spaces bytes → cells_by line spaces bytes p ≡ spread line bytes p
-    go (suc n) bytes h = absurd h
-    go zero bytes h = refl
 
 -- the cells behind a small indent are those of the bytes behind it
 pub record Behind (options : ParseOptions) (line : Line) (text behind : List ℕ) (r : Rest) (p : Point)
@@ -231,68 +159,6 @@ closes-agrees options o line text behind r p stop marker some is h k short = go 
 
 -- What the line has left.
 
--- so many columns are taken, or as many as there are: behind them the rest without them
-pub record HasLost (line : Line) (text behind : List ℕ) (m : ℕ) (r : Rest) (p : Point) (stop : List Cell) : Type 0 where
-  pub left : white_rest m (rest_cells line r p ++ stop) ≡
-      rest_cells line (lose m r) (white_end m (rest_cells line r p ++ stop) p) ++ stop
-  pub stands : RestAt text behind (lose m r) (white_end m (rest_cells line r p ++ stop) p)
-  pub ends : past_rest (lose m r) (white_end m (rest_cells line r p ++ stop) p) ≡ past_rest r p
-
-lose-bare : (m : ℕ) (r : Rest) → indent r ≡ 0 → lose m r ≡ r
-lose-bare zero r e = refl
-lose-bare (suc m) r e = ap (lose m) (bare-same r e) ∙ lose-bare m r e
-
-lost-bare : (line : Line) (text behind : List ℕ) (m : ℕ) (r : Rest) (p : Point) (stop : List Cell) →
-    RestAt text behind r p → Stops stop → indent r ≡ 0 → HasLost line text behind m r p stop
-lost-bare line text behind m r p stop is k e =
-    let cells : List Cell = rest_cells line r p ++ stop in
-    let dark = bare-cells line r p stop e k in
-    let end = sym (none-end m cells p dark) in
-    let same : r ≡ lose m r = sym (lose-bare m r e) in
-    record {
-      left = none-rest m cells dark ∙ ap (λ (s : Rest). rest_cells line s p ++ stop) same
-          ∙ ap (λ (q : Point). rest_cells line (lose m r) q ++ stop) end;
-      stands =
-          subst (λ (q : Point). RestAt text behind (lose m r) q) end
-          (subst (λ (s : Rest). RestAt text behind s p) same is);
-      ends = ap (past_rest (lose m r)) (sym end) ∙ ap (λ (s : Rest). past_rest s p) (sym same);
-    }
-
-pub lose-walk : (line : Line) (text behind : List ℕ) (m : ℕ) (r : Rest) (p : Point) (stop : List Cell) →
-    RestAt text behind r p → Stops stop → HasLost line text behind m r p stop
-lose-walk line text behind zero r p stop is k =
-    let end = sym (zero-end (rest_cells line r p ++ stop) p) in
-    record {
-      left = zero-rest (rest_cells line r p ++ stop) ∙ ap (λ (q : Point). rest_cells line r q ++ stop) end;
-      stands = subst (λ (q : Point). RestAt text behind r q) end is;
-      ends = ap (past_rest r) (sym end);
-    }
-lose-walk line text behind (suc m) r p stop is k =
-    go (indent r) refl (λ first. lose-walk line text behind m (without_first r) first.at stop first.stands k)
-  where
-    go : (n : ℕ) → indent r ≡ n →
-        ((first : HasColumn line text behind r p) → HasLost line text behind m (without_first r) first.at stop) →
-        HasLost line text behind (suc m) r p stop
-    go zero e next = lost-bare line text behind (suc m) r p stop is k e
-    go (suc n) e more =
-        let first = column-first line text behind r p is (omega (arith, e)) in
-        let further = more first in
-        let cs = rest_cells line (without_first r) first.at ++ stop in
-        let cells : rest_cells line r p ++ stop ≡
-        cell first.byte first.at line ∷ cs = ap (λ (l : List Cell). l ++ stop) first.cells in
-        let end : white_end (suc m) (rest_cells line r p ++ stop) p ≡
-        white_end m cs first.at = ap (λ (l : List Cell). white_end (suc m) l p) cells
-        ∙ ap (λ (t : Bool). cond t (white_end m cs first.at) p) first.white in
-        record {
-          left = ap (white_rest (suc m)) cells
-              ∙ ap (λ (t : Bool). cond t (white_rest m cs) (cell first.byte first.at line ∷ cs)) first.white
-              ∙ further.left
-              ∙ ap (λ (q : Point). rest_cells line (lose m (without_first r)) q ++ stop) (sym end);
-          stands = subst (λ (q : Point). RestAt text behind (lose m (without_first r)) q) (sym end) further.stands;
-          ends =
-              ap (past_rest (lose m (without_first r))) end ∙ further.ends ∙ column-end line text behind r p is first;
-        }
-
 -- whether nothing is left of a line
 abbrev pub is_nothing : Rest → Bool
 is_nothing r = nothing r.spaces r.bytes
@@ -321,7 +187,8 @@ nothing-end line r p stop h k = go r.spaces r.bytes h
     dark b e = grind (arith, nat_tests)
 
     go : (spaces : ℕ) (bytes : List ℕ) → NoEnding bytes →
-        is_end (cells_by line spaces bytes p ++ stop) ≡ is_nothing (rest_of r.column spaces bytes)
+        is_end (cells_by line spaces bytes p ++ stop) ≡
+        is_nothing (record { column = r.column; spaces = spaces; bytes = bytes })
     go (suc n) bytes e =
         ap is_end (append_assoc (tab_cells line n 32 p) (spread line bytes (tab_end n p)) stop)
         ∙ columns n (spread line bytes (tab_end n p) ++ stop)
@@ -384,7 +251,8 @@ further-agrees options o line text behind r p stop marker some is h k short =
           rw (closed ∙ e)
           (ap (λ (l : List Cell). spaces o.indent cells p ++ chunk_events o.marker l q) lost.left
           ∙ ap (λ (es : List Event). spaces o.indent cells p ++ es)
-          (chunk-agrees o.marker line text behind (lose o.indent r) q stop lost.stands (lose-no_ending o.indent r h) k));
+          (chunk-agrees o.marker line text behind (lose o.indent r) q stop lost.stands
+          (lose-no_ending o.indent r h) k));
       ends = ends;
       rest = end.1 ∙ rest-from line r p stop h k;
     }

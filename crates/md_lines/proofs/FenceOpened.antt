@@ -19,8 +19,10 @@ use Rattle.md_lines.specs.FenceLine.{fence_begins, fence_by, fence_opened, info_
 use Rattle.md_lines.specs.FenceLine.{meta_events, open_events, behind_events}
 use Rattle.md_lines.specs.FenceRule.{before_info, before_meta, before_sequence, behind_sequence, behind_white_of}
 use Rattle.md_lines.specs.FenceRule.{block_begun, fence_at, in_info, in_meta, in_sequence, is_end, is_line, is_word}
-use Rattle.md_lines.specs.FenceRule.{part_begun, part_ended, refuses, run_end, run_has, run_rest, run_size, with_event}
-use Rattle.md_lines.proofs.FenceCells.{SameLine, line-all, line-done, line-run, line-white, marker-dark, marker-goes, run-length}
+use Rattle.md_lines.specs.FenceRule.{opens, part_begun, part_ended, refuses, run_end, run_has, run_rest, run_size}
+use Rattle.md_lines.specs.FenceRule.{with_event}
+use Rattle.md_lines.proofs.FenceCells.{SameLine, line-all, line-done, line-run, line-white, marker-dark, marker-goes}
+use Rattle.md_lines.proofs.FenceCells.{run-length}
 use Rattle.md_lines.proofs.FenceGoods.{rest-clear}
 use Rattle.md_lines.proofs.FenceSteps.{line-first, run-has-none}
 use Rattle.md_lines.proofs.FenceWhole.{behind_spaces, white-joined}
@@ -110,6 +112,23 @@ opened_at es cells k =
     opened_with
     (k.events ++ es ++ exit (fence_name k.scratch.marker) e ∷ exit (block_name k.scratch.marker) e ∷ []) cells k
 
+-- where the line ends here
+end-whole : (cells : List Cell) (k : Here) → is_end cells ≡ true →
+    opens cells k ≡
+    cond (run_has (is_refused k.scratch.marker) is_line cells) (refuses k) (opened_at [] cells k)
+end-whole cells k e =
+    let none = run-has-none (is_refused k.scratch.marker) is_line cells (line-first (first_seen cells) e) in
+    let done = line-done cells k.point e in
+    rw (none, done.0, done.1)
+    (ap (λ (es : List Event). Accepts
+    (record {
+      events = es;
+      point = k.point;
+      scratch = cleared k.scratch;
+      flags = record k.flags { leaf = held_leaf.Fence k.scratch.marker k.scratch.size k.scratch.size_c };
+    })
+    cells) (simp append_assoc))
+
 meta-whole : (cells : List Cell) (k : Here) → begins_white cells ≡ false →
     before_meta cells k ≡
     cond (run_has (is_refused k.scratch.marker) is_line cells) (refuses k)
@@ -125,22 +144,14 @@ meta-whole cells k dark = go (is_end cells) refl
 
     go : (x : Bool) → is_end cells ≡ x →
         before_meta cells k ≡ cond bad (refuses k) (opened_at (meta_events m cells k.point) cells k)
-    go true e =
-        let none = run-has-none (is_refused m) is_line cells (line-first (first_seen cells) e) in
-        let done = line-done cells k.point e in
-        rw (e, none, done.0, done.1)
-        (ap (λ (es : List Event). Accepts
-        (record {
-          events = es;
-          point = k.point;
-          scratch = cleared k.scratch;
-          flags = record k.flags { leaf = held_leaf.Fence m k.scratch.size k.scratch.size_c };
-        })
-        cells) (simp append_assoc))
+    go true e = rw e (end-whole cells k e)
     go false e =
         let all = line-all cells k.point in
         rw (e, dark, all.0, all.1)
         (ap (λ (es : List Event). cond bad (refuses k) (opened_with es cells k)) (simp append_assoc))
+
+not-ten : (b : ℕ) → is_line b ≡ true → nat_eq b 10 ≡ false
+not-ten b e = grind (arith, nat_tests)
 
 info-whole : (cells : List Cell) (k : Here) → begins_white cells ≡ false → may_begin k.scratch.marker ≡ true →
     calmed k.scratch ≡ k.scratch → length cells ≤ any_size →
@@ -177,21 +188,14 @@ info-whole cells k dark is calm short = go (is_end cells) refl
         ∙ ap (λ (x : Bool). run_has (is_refused m) is_word cells || x)
         (sym (has-white (is_refused m) (λ b e. refused-dark m b is e) any_size left))
 
+    on : SameLine cells left k.point q
+    on = line-run is_word (λ b e. not-ten b (word-line b e)) cells k.point
+
     ends : line_end last behind.point ≡ line_end cells k.point
-    ends =
-        (line-white any_size left q).end
-        ∙ (line-run is_word (λ b e. not-ten b (word-line b e)) cells k.point).end
-      where
-        not-ten : (b : ℕ) → is_line b ≡ true → nat_eq b 10 ≡ false
-        not-ten b e = grind (arith, nat_tests)
+    ends = (line-white any_size left q).end ∙ on.end
 
     from : from_ending last ≡ from_ending cells
-    from =
-        (line-white any_size left q).from
-        ∙ (line-run is_word (λ b e. not-ten b (word-line b e)) cells k.point).from
-      where
-        not-ten : (b : ℕ) → is_line b ≡ true → nat_eq b 10 ≡ false
-        not-ten b e = grind (arith, nat_tests)
+    from = (line-white any_size left q).from ∙ on.from
 
     meta : before_meta last behind ≡
         cond (run_has (is_refused m) is_line last) (refuses k)
@@ -206,18 +210,7 @@ info-whole cells k dark is calm short = go (is_end cells) refl
 
     go : (x : Bool) → is_end cells ≡ x →
         before_info cells k ≡ cond bad (refuses k) (opened_at (info_events m cells k.point) cells k)
-    go true e =
-        let none = run-has-none (is_refused m) is_line cells (line-first (first_seen cells) e) in
-        let done = line-done cells k.point e in
-        rw (e, none, done.0, done.1)
-        (ap (λ (es : List Event). Accepts
-        (record {
-          events = es;
-          point = k.point;
-          scratch = cleared k.scratch;
-          flags = record k.flags { leaf = held_leaf.Fence m k.scratch.size k.scratch.size_c };
-        })
-        cells) (simp append_assoc))
+    go true e = rw e (end-whole cells k e)
     go false e =
         begins e
         ∙ ap (cond (run_has (is_refused m) is_word cells) (refuses k))
@@ -315,7 +308,8 @@ sequence-whole cells k none is calm short =
     behind false =
         let le = run-length (λ b. b == m) cells in
         let less = white-length any_size left in
-        info-whole last end dark is (ap (λ (s : Scratch). record s { size = size }) calm) (omega (arith, le, less, short))
+        info-whole last end dark is (ap (λ (s : Scratch). record s { size = size }) calm)
+        (omega (arith, le, less, short))
 
     ends : line_end last end.point ≡ line_end cells k.point
     ends =

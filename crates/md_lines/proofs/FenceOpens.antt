@@ -1,6 +1,7 @@
 -- Fenced code and math open by the cells of a line where they do by the definition of lines, and are held as that says.
-use Rattle.std.proofs.Common.{◌≡◌, ℕ, zero, suc, ◌+◌, ◌-◌, ◌^◌, ◌<◌, ◌≤◌, Bool, true, false, cond, ◌&&◌, ◌||◌, nat_lt}
-use Rattle.std.proofs.Common.{List, [], ◌∷◌, ◌++◌, length, take, drop, Option, Some, None, refl, sym, ◌∙◌, ap, arith, append_assoc, subst}
+use Rattle.std.proofs.Common.{◌≡◌, ℕ, zero, suc, ◌-◌, ◌^◌, ◌<◌, ◌≤◌, Bool, true, false, cond, ◌&&◌, ◌||◌, nat_lt}
+use Rattle.std.proofs.Common.{List, [], ◌∷◌, ◌++◌, length, take, drop, Option, Some, None, refl, sym, ◌∙◌, ap, arith}
+use Rattle.std.proofs.Common.{append_assoc, subst}
 use Rattle.std.specs.Prelude.{not, nat_le, ◌==◌}
 use Rattle.std.specs.List.{list_any, prefix_len}
 use Rattle.std.proofs.lemmas.Bool.{eqb-true}
@@ -14,15 +15,14 @@ use Rattle.md_engine.specs.Meaning.{Cell}
 use Rattle.md_engine.specs.Place.{is_ending}
 use Rattle.md_definition.specs.Leaves.{Came, Opened, allows, fence_at, fence_from, is_fence_marker, least_size}
 use Rattle.md_definition.specs.Leaves.{opening}
-use Rattle.md_definition.specs.Rest.{Rest, has_small_indent, indent, is_white, lose, run_len, trim_start}
-use Rattle.md_definition.specs.Rest.{white_columns}
+use Rattle.md_definition.specs.Rest.{Rest, has_small_indent, indent, is_white, run_len, trim_start}
 use Rattle.md_definition.specs.State.{OpenFence}
 use Rattle.md_definition.proofs.TextsLemmas.{NoEnding, no_ending-drop}
 use Rattle.md_lines.specs.Fence.{is_on, is_refused, may_begin}
 use Rattle.md_lines.specs.FenceLine.{fence_begins, fence_opened, is_opening, marker_at}
 use Rattle.md_lines.specs.FenceRule.{is_line, run_has, run_rest, run_size}
 use Rattle.md_lines.proofs.FenceCells.{first-spread, marker-dark, marker-ten, not-lt, run-walk, stop-first}
-use Rattle.md_lines.proofs.FenceFurther.{large-room, small-behind}
+use Rattle.md_lines.proofs.FenceFurther.{small-behind}
 use Rattle.md_lines.proofs.FenceOpened.{marker-may}
 use Rattle.md_lines.proofs.FenceSteps.{run-has-none}
 use Rattle.md_seam.specs.Ahead.{begins_white, white_end, white_rest}
@@ -30,10 +30,12 @@ use Rattle.md_seam.specs.Events.Places.{past_byte, past_text}
 use Rattle.md_seam.specs.Look.{first_seen}
 use Rattle.md_seam.specs.Spaces.{small_indent}
 use Rattle.md_seam.proofs.FeedLines.{Stops, cell, columns_more, next_column, spread, tab_cells}
-use Rattle.md_seam.proofs.RestCells.{RestAt, column-first, indent-over, rest_cells, without_first}
+use Rattle.md_seam.proofs.LostColumns.{lose-walk}
+use Rattle.md_seam.proofs.RestCells.{RestAt, indent-over, rest_cells}
+use Rattle.md_seam.proofs.RestLines.{large-room}
 
--- A block that opens, by the cells of a line and by the definition: with the same marker, as many of it, and an indent of
--- as many columns. It is marked so that further lines agree.
+-- A block that opens, by the cells of a line and by the definition: with the same marker, as many of it, and an indent
+-- of as many columns. It is marked so that further lines agree.
 abbrev pub HeldAs : Option HeldLeaf → Option Came → Type 0
 HeldAs None None = Unit {0}
 HeldAs (Some leaf) (Some (Opened (OpenFence o lines))) =
@@ -121,7 +123,9 @@ opening-spread m line bytes q stop is h k =
     let after = drop n bytes in
     let cells = spread line bytes q ++ stop in (
       run.size,
-      ap (λ (s : ℕ). not (nat_lt s (least_size m)) && not (run_has (is_refused m) is_line (run_rest (λ b. b == m) cells)))
+      ap
+          (λ (s : ℕ).
+          not (nat_lt s (least_size m)) && not (run_has (is_refused m) is_line (run_rest (λ b. b == m) cells)))
           run.size
           ∙ ap (λ (x : Bool). x && not (run_has (is_refused m) is_line (run_rest (λ b. b == m) cells)))
           (not-lt n (least_size m))
@@ -137,7 +141,8 @@ marker_of : ParseOptions → Option ℕ → Option ℕ
 marker_of options None = None
 marker_of options (Some b) = cond (is_fence_marker options b) (Some b) None
 
-marker-first : (options : ParseOptions) (cells : List Cell) → marker_at options cells ≡ marker_of options (first_seen cells)
+marker-first : (options : ParseOptions) (cells : List Cell) →
+    marker_at options cells ≡ marker_of options (first_seen cells)
 unfolding marker_of
 marker-first options [] = refl
 marker-first options (c ∷ cs) = refl
@@ -248,37 +253,6 @@ spread-agrees options line (b ∷ bs) q stop columns h k =
 
 -- The whole line.
 
-abbrev rest_of : ℕ → ℕ → List ℕ → Rest
-rest_of column spaces bytes = record { column = column; spaces = spaces; bytes = bytes }
-
--- behind a column of whitespace a rest begins a column further,
-column-next : (r : Rest) → 0 < indent r → (without_first r).column ≡ r.column + 1
-column-next r = go r.spaces r.bytes
-  where
-    go : (spaces : ℕ) (bytes : List ℕ) → 0 < indent (rest_of r.column spaces bytes) →
-        (without_first (rest_of r.column spaces bytes)).column ≡ r.column + 1
-    go (suc n) bytes lt = refl
-    go zero [] lt = absurd (omega (arith, lt))
-    go zero (b ∷ bs) lt = by (b == 9) refl (b == 32) refl
-      where
-        by : (t : Bool) → (b == 9) ≡ t → (s : Bool) → (b == 32) ≡ s →
-            (without_first (rest_of r.column zero (b ∷ bs))).column ≡ r.column + 1
-        by true f s g = rw f refl
-        by false f true g = rw (f, g) refl
-        by false f false g =
-            let none : white_columns (r.column + 0) (b ∷ bs) ≡ 0 = rw (f, g) refl in absurd (omega (arith, lt, none))
-
--- and behind so many so many
-lose-column : (line : Line) (text behind : List ℕ) (m : ℕ) (r : Rest) (p : Point) → RestAt text behind r p →
-    m ≤ indent r → (lose m r).column ≡ r.column + m
-lose-column line text behind zero r p is le = omega arith
-lose-column line text behind (suc m) r p is le =
-    let first = column-first line text behind r p is (omega (arith, le)) in
-    let next = lose-column line text behind m (without_first r) first.at first.stands
-    (let columns = first.columns in omega (arith, le, columns)) in
-    let one = column-next r (omega (arith, le)) in
-    omega (arith, next, one)
-
 pub opens-agrees : (options : ParseOptions) (line : Line) (text behind : List ℕ) (r : Rest) (p : Point)
     (stop : List Cell) →
     RestAt text behind r p → NoEnding r.bytes → Stops stop → length (rest_cells line r p ++ stop) < 2 ^ 63 →
@@ -307,8 +281,9 @@ opens-agrees options line text behind r p stop is h k short = go (has_small_inde
     go true small =
         let taken = small-behind options line text behind r p stop is k short small in
         let q = white_end room cells p in
-        let column = lose-column line text behind (indent r) r p is (omega arith) in
-        let columns : q.column - p.column ≡ indent r = omega (arith, column, taken.stands.column, is.column) in
+        let lost = lose-walk line text behind (indent r) r p stop is k in
+        let columns : q.column - p.column ≡ indent r = omega
+        (arith, lost.column, lost.all (omega arith), taken.stands.column, is.column) in
         rw (opened-is options cells p (marker_at options (white_rest room cells)))
         (subst (λ (n : ℕ). Agrees (white_rest room cells) n) (sym columns)
         (subst (λ (l : List Cell). Agrees l (indent r)) (sym taken.cells)

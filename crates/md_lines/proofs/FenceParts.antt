@@ -19,14 +19,15 @@ use Rattle.md_lines.specs.Fence.{meta_name}
 use Rattle.md_lines.specs.FenceLine.{behind_events, info_events, later_part, meta_events, spaces}
 use Rattle.md_lines.specs.FenceParts.{bytes_at, part_of, parts_of}
 use Rattle.md_lines.specs.FenceRule.{is_end, is_line, is_word, run_end, run_rest}
-use Rattle.md_lines.proofs.FenceCells.{RunOf, line-all, prefix-none, prefix-one, rest-past, run-length, run-walk}
-use Rattle.md_lines.proofs.FenceFurther.{indent-trims, is_nothing, nothing-end}
+use Rattle.md_lines.proofs.FenceCells.{RunOf, line-all, run-length, run-walk}
+use Rattle.md_lines.proofs.FenceFurther.{is_nothing, nothing-end}
 use Rattle.md_seam.specs.Ahead.{white_end, white_rest}
 use Rattle.md_seam.specs.Events.Places.{past_byte, past_text}
 use Rattle.md_seam.specs.Spaces.{any_size}
 use Rattle.md_seam.proofs.FeedLines.{Stops, past-next, past_text-column, past_text-whole, spread, stops-white}
-use Rattle.md_seam.proofs.RestCells.{Bare, Cut, HasIndent, RestAt, bare, cells_by, indent-length, indent-taken, rest_cells}
+use Rattle.md_seam.proofs.RestCells.{Bare, Cut, HasIndent, RestAt, bare, indent-length, indent-taken}
 use Rattle.md_seam.proofs.RestCells.{white-length}
+use Rattle.md_seam.proofs.RestLines.{bare-spread, count-none, count-one, indent-trims, rest-past}
 
 -- Where bytes stand.
 
@@ -62,7 +63,7 @@ trimmed : (line : Line) (text behind bytes : List ℕ) (p : Point) (stop : List 
     Stops stop → length (spread line bytes p ++ stop) < 2 ^ 63 → Behind line text behind bytes p stop
 trimmed line text behind bytes p stop is k short =
     record {
-      cells = taken.cells ∙ ap (λ (l : List Cell). l ++ stop) (bare-spread left q (bare left taken.none))
+      cells = taken.cells ∙ ap (λ (l : List Cell). l ++ stop) (bare-spread line left q taken.none)
           ∙ ap (λ (l : List ℕ). spread line l q ++ stop) trims;
       stands = (
         record {
@@ -97,13 +98,6 @@ trimmed line text behind bytes p stop is k short =
 
     trims : left.bytes ≡ trim_start bytes
     trims = indent-trims r taken.none
-
-    bare-spread : (s : Rest) (x : Point) → Bare s.spaces s.bytes → rest_cells line s x ≡ spread line s.bytes x
-    bare-spread s x = go s.spaces
-      where
-        go : (n : ℕ) → Bare n s.bytes → cells_by line n s.bytes x ≡ spread line s.bytes x
-        go zero h = refl
-        go (suc n) h = absurd h
 
     first : (n : ℕ) → Bare n left.bytes → Bare 0 left.bytes
     first zero h = h
@@ -161,9 +155,9 @@ prefix-take t (b ∷ bs) = go (t b) refl (prefix-take t bs)
     go : (x : Bool) → t b ≡ x → length (take (prefix_len t bs) bs) ≡ prefix_len t bs →
         length (take (prefix_len t (b ∷ bs)) (b ∷ bs)) ≡ prefix_len t (b ∷ bs)
     go true e next =
-        ap (λ (n : ℕ). length (take n (b ∷ bs))) (prefix-one t b bs e) ∙ ap suc next ∙ sym (prefix-one t b bs e)
+        ap (λ (n : ℕ). length (take n (b ∷ bs))) (count-one t b bs e) ∙ ap suc next ∙ sym (count-one t b bs e)
     go false e next =
-        ap (λ (n : ℕ). length (take n (b ∷ bs))) (prefix-none t b bs e) ∙ sym (prefix-none t b bs e)
+        ap (λ (n : ℕ). length (take n (b ∷ bs))) (count-none t b bs e) ∙ sym (count-none t b bs e)
 
 -- what is left behind info
 abbrev pub behind_info : List ℕ → List ℕ

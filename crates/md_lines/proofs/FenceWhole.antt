@@ -25,6 +25,7 @@ use Rattle.md_seam.specs.Events.Nested.{enter, enter_link, exit, pair}
 use Rattle.md_seam.specs.Look.{first_seen}
 use Rattle.md_seam.specs.Spaces.{IsRest, any_size, calmed, small_indent}
 use Rattle.md_seam.proofs.AheadLemmas.{none-end, none-rest, small-some}
+use Rattle.md_seam.proofs.LostColumns.{zero-end, zero-rest}
 use Rattle.md_seam.proofs.SpacesGoods.{rest-calm, rest-size}
 
 -- Whitespace that comes first, if any does.
@@ -46,24 +47,19 @@ white-joined room behind cells h calm some = go (begins_white cells) refl
         behind (white_rest room cells)
         (record h {
           events = h.events
-              ++ cond (nat_lt 0 room && begins_white cells) (pair part.SpaceOrTab h.point (white_end room cells h.point))
+              ++ cond (nat_lt 0 room && begins_white cells)
+              (pair part.SpaceOrTab h.point (white_end room cells h.point))
               [];
           point = white_end room cells h.point;
         })
     go true e =
         rw (fits, e)
-        (ap (λ (s : Scratch). behind (white_rest room cells) (record (behind_columns room cells h) { scratch = s })) calm)
+        (ap
+        (λ (s : Scratch).
+        behind (white_rest room cells) (record (behind_columns room cells h) { scratch = s })) calm)
     go false e =
         rw (fits, e, none-rest room cells e, none-end room cells h.point e)
         (ap (λ (es : List Event). behind cells (record h { events = es })) (sym (append-nil h.events)))
-
-pub zero-rest : (cells : List Cell) → white_rest 0 cells ≡ cells
-zero-rest [] = refl
-zero-rest (c ∷ cs) = refl
-
-pub zero-end : (cells : List Cell) (p : Point) → white_end 0 cells p ≡ p
-zero-end [] p = refl
-zero-end (c ∷ cs) p = refl
 
 -- A line of the block.
 

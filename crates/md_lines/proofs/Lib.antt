@@ -2,7 +2,6 @@ pub mod CodeGoods
 pub mod CodeSteps
 pub mod CodeWhole
 pub mod CodeLines
-pub mod LostColumns
 pub mod FenceCells
 pub mod FenceFurther
 pub mod FenceGoods

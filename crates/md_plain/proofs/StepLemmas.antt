@@ -66,6 +66,21 @@ stopped-opened options [] p x t some e = absurd (omega (arith, some))
 stopped-opened options (f ∷ fs) p x t some e =
     ap (stopped_by options (meanings f.before.items) (container_meaning f.container) (within fs p) x) e
 
+-- no container opens there: the line is lazy, or the others are closed
+stopped-none : (options : ParseOptions) (f : Frame) (fs : List Frame) (y : s.Spot) (x : r.Rest) →
+    opens options false x ≡ None →
+    stopped_in options (f ∷ fs) (s.At y) x ≡
+    lazy_by options (meanings f.before.items) (container_meaning f.container) (within fs (s.At y)) x
+    (with_lazy options y.leaf x)
+unfolding stopped
+stopped-none options f fs y x e =
+    ap (stopped_by options (meanings f.before.items) (container_meaning f.container) (within fs (s.At y)) x) e
+    ∙ ap
+    (λ (z : s.Spot).
+    lazy_by options (meanings f.before.items) (container_meaning f.container) (within fs (s.At y)) x
+    (with_lazy options z.leaf x))
+    (spot-within fs (s.At y))
+
 -- the open paragraph takes a lazy line
 pub stopped-lazy : (options : ParseOptions) (fs : List Frame) (y : s.Spot) (x : r.Rest) → 0 < length fs →
     opens options false x ≡ None → true ≡ is_some (with_lazy options y.leaf x) →
@@ -73,12 +88,7 @@ pub stopped-lazy : (options : ParseOptions) (fs : List Frame) (y : s.Spot) (x : 
 unfolding stopped
 stopped-lazy options [] y x some e takes = absurd (omega (arith, some))
 stopped-lazy options (f ∷ fs) y x some e takes =
-    ap (stopped_by options (meanings f.before.items) (container_meaning f.container) (within fs (s.At y)) x) e
-    ∙ ap
-    (λ (z : s.Spot).
-    lazy_by options (meanings f.before.items) (container_meaning f.container) (within fs (s.At y)) x
-    (with_lazy options z.leaf x))
-    (spot-within fs (s.At y))
+    stopped-none options f fs y x e
     ∙ ap (lazy_by options (meanings f.before.items) (container_meaning f.container) (within fs (s.At y)) x)
     (with_lazy-more options y.leaf x takes)
     ∙ ap
@@ -94,12 +104,7 @@ pub stopped-fresh : (options : ParseOptions) (fs : List Frame) (y : s.Spot) (x :
 unfolding stopped
 stopped-fresh options [] y x some e takes = absurd (omega (arith, some))
 stopped-fresh options (f ∷ fs) y x some e takes =
-    ap (stopped_by options (meanings f.before.items) (container_meaning f.container) (within fs (s.At y)) x) e
-    ∙ ap
-    (λ (z : s.Spot).
-    lazy_by options (meanings f.before.items) (container_meaning f.container) (within fs (s.At y)) x
-    (with_lazy options z.leaf x))
-    (spot-within fs (s.At y))
+    stopped-none options f fs y x e
     ∙ ap (lazy_by options (meanings f.before.items) (container_meaning f.container) (within fs (s.At y)) x)
     (none-of (with_lazy options y.leaf x) takes)
 

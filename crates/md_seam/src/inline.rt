@@ -11,7 +11,7 @@ use md_engine::parse_state::ParseState;
 use std::alloc::Global;
 
 /// What a text part may hold.
-#[derive(Clone, Copy)]
+#[derive(Clone, Copy, Debug, PartialEq, Eq)]
 pub enum PartKind {
     /// Any inline content: a paragraph, a heading or a cell of a table.
     Text,
@@ -20,7 +20,7 @@ pub enum PartKind {
 }
 
 /// What a text part has on one line, with the line's ending where the part goes on behind it.
-#[derive(Clone, Copy)]
+#[derive(Clone, Copy, Debug, PartialEq, Eq)]
 pub struct Chunk {
     /// Where it begins.
     pub first: Point,

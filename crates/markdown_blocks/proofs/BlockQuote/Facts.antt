@@ -22,7 +22,7 @@ use Rattle.md_seam.proofs.SpelledLemmas.{Between, QuietOrPrefix, read-prefixes}
 use Rattle.md_seam.specs.Events.Grammar.{behind_block, blocks}
 use Rattle.md_containers.proofs.UnlistedLemmas.{NoListing, among, stands-append, unlists-same}
 use Rattle.markdown_blocks.proofs.LeafStands.{between-stand, between-unlisted}
-use Rattle.md_containers.proofs.QuoteLines.{IsPrefix}
+use Rattle.md_containers.proofs.QuoteLines.{IsPrefix, prefix_by}
 use Rattle.markdown_blocks.proofs.SpanLemmas.{Spans, order-grows}
 use Rattle.markdown_blocks.proofs.PartsStand.{Inside}
 use Rattle.markdown_blocks.proofs.PartedFacts.{Still, sits-still}
@@ -136,13 +136,7 @@ pub prefix-inside : (bytes : List ℕ) (p q : Point) (es : List Event) → IsPre
 prefix-inside bytes p q es is =
     subst (Inside bytes []) (sym is.events) (go (same_place p is.marker) (same_place is.behind q))
   where
-    prefix : Bool → Bool → List Event
-    prefix x y =
-        cond x [] (pair n.SpaceOrTab p is.marker) ++ enter n.BlockQuotePrefix is.marker
-        ∷ enter n.BlockQuoteMarker is.marker ∷ exit n.BlockQuoteMarker is.behind
-        ∷ cond y [] (pair n.SpaceOrTab is.behind q) ++ exit n.BlockQuotePrefix q ∷ []
-
-    go : (x y : Bool) → Inside bytes [] (prefix x y)
+    go : (x y : Bool) → Inside bytes [] (prefix_by x y p is.marker is.behind q)
     go true true = record {
       outside = (refl, (refl, (refl, (refl, tt))));
       ends = refl;

@@ -1,15 +1,14 @@
 -- The pieces of the prefix of a block quote stand over their bytes.
-use Rattle.std.proofs.Common.{◌≡◌, ℕ, zero, suc, ◌-◌, Bool, true, false, cond, List, [], ◌∷◌, ◌++◌, take, drop}
+use Rattle.std.proofs.Common.{◌≡◌, ℕ, zero, suc, ◌-◌, Bool, true, false, List, [], ◌∷◌, take, drop}
 use Rattle.std.proofs.Common.{slice_range, refl, ap, sym, ◌∙◌, subst, arith}
 use Rattle.std.specs.Prelude.{◌==◌, Some, slice_get}
 use Rattle.std.proofs.lemmas.Bool.{and_from, or_right}
 use Rattle.md_engine.specs.declared.event.Event.{Event}
 use Rattle.md_engine.specs.declared.event.Name.TheVariants as n
 use Rattle.md_engine.specs.declared.event.Point.{Point}
-use Rattle.md_seam.specs.Events.Nested.{enter, exit, pair}
 use Rattle.md_seam.specs.Events.Pieces.{piece_stands, stands_over}
 use Rattle.md_seam.specs.Events.Places.{same_place}
-use Rattle.md_containers.proofs.QuoteLines.{IsPrefix}
+use Rattle.md_containers.proofs.QuoteLines.{IsPrefix, prefix_by}
 use Rattle.markdown_blocks.proofs.PieceFacts.{Stood, begins-cut, begins-whole, over-stands, piece-stands, span}
 
 -- one byte of a text
@@ -49,12 +48,6 @@ pub prefix-stood : (bytes : List ℕ) (p q : Point) (es : List Event) → IsPref
 prefix-stood bytes p q es is =
     subst (Stood bytes) (sym is.events) (go (same_place p is.marker) refl (same_place is.behind q) refl)
   where
-    prefix : Bool → Bool → List Event
-    prefix x y =
-        cond x [] (pair n.SpaceOrTab p is.marker) ++ enter n.BlockQuotePrefix is.marker
-        ∷ enter n.BlockQuoteMarker is.marker ∷ exit n.BlockQuoteMarker is.behind
-        ∷ cond y [] (pair n.SpaceOrTab is.behind q) ++ exit n.BlockQuotePrefix q ∷ []
-
     marker : piece_stands bytes (span n.BlockQuoteMarker is.marker is.behind) ≡ true
     marker = marker-stands bytes p q es is
 
@@ -64,7 +57,8 @@ prefix-stood bytes p q es is =
     behind : same_place is.behind q ≡ false → piece_stands bytes (span n.SpaceOrTab is.behind q) ≡ true
     behind e = white-stands bytes is.behind q e is.white_behind
 
-    go : (x : Bool) → same_place p is.marker ≡ x → (y : Bool) → same_place is.behind q ≡ y → Stood bytes (prefix x y)
+    go : (x : Bool) → same_place p is.marker ≡ x → (y : Bool) → same_place is.behind q ≡ y →
+        Stood bytes (prefix_by x y p is.marker is.behind q)
     go true e true f = record { ends = refl; stand = and_from _ true marker refl }
     go true e false f = record { ends = refl; stand = and_from _ _ marker (and_from _ true (behind f) refl) }
     go false e true f = record { ends = refl; stand = and_from _ _ (before e) (and_from _ true marker refl) }

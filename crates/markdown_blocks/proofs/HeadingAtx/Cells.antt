@@ -27,7 +27,8 @@ use Rattle.md_definition.proofs.TextsLemmas.{NoEnding}
 use Rattle.markdown_blocks.specs.Fronted.{rest_line}
 use Rattle.markdown_blocks.specs.Leaf.HeadingAtx.{heading_leaf}
 use Rattle.markdown_blocks.proofs.RestFacts.{Indented, large-white, rest-line_end, rest-no_ending, rest-same}
-use Rattle.markdown_blocks.proofs.RestFacts.{small-indented, spread-line}
+use Rattle.markdown_blocks.proofs.RestFacts.{small-indented}
+use Rattle.md_seam.proofs.RestLines.{spread-line}
 
 -- Where it stands.
 

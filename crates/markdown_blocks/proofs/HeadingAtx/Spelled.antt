@@ -31,11 +31,11 @@ use Rattle.md_seam.proofs.FeedLines.{past_text-whole, slice-inside}
 use Rattle.md_seam.proofs.InlineLemmas.{past-index}
 use Rattle.md_seam.proofs.SpelledLemmas.{Between, Quiet, QuietOrEnding, Roles, read-from, read-quiet, text-inline}
 use Rattle.md_seam.proofs.SpelledLemmas.{text_after}
+use Rattle.md_seam.proofs.RestLines.{count-none, count-one}
 use Rattle.md_definition.proofs.TextsLemmas.{NoEnding, split-line}
 use Rattle.markdown_blocks.specs.Leaf.HeadingAtx.{heading_around, heading_block, read_text, read_title}
 use Rattle.markdown_blocks.proofs.HeadingAtx.Places.{IsTitle, title-is}
 use Rattle.markdown_blocks.proofs.LeafFacts.{LineAt}
-use Rattle.markdown_blocks.proofs.LineTexts.{count-none, count-one}
 use Rattle.markdown_blocks.proofs.PieceFacts.{CutsFirst}
 use Rattle.markdown_blocks.proofs.PlainRoles.{plain-roles}
 use Rattle.markdown_blocks.proofs.RestFacts.{rest-trim}
@@ -131,7 +131,8 @@ read-markers bytes r first p t l =
       text = None;
       leaf =
           option_map
-          (noted AsMarkers (record { spaces = columns_left first; text = slice_range bytes (byte_at first) p.index })) x;
+          (noted AsMarkers
+          (record { spaces = columns_left first; text = slice_range bytes (byte_at first) p.index })) x;
     }) l
 
 -- from inside the run on

@@ -1,6 +1,7 @@
 -- What stands in front of an item's content nests, goes forward, stands between characters, and has names that an
 -- outline knows.
-use Rattle.std.proofs.Common.{◌≡◌, ◌≢◌, ℕ, ◌+◌, ◌-◌, Bool, true, false, cond, ◌||◌, not, List, [], ◌∷◌, ◌++◌, refl, ap, sym}
+use Rattle.std.proofs.Common.{◌≡◌, ◌≢◌, ℕ, ◌+◌, ◌-◌, Bool, true, false, cond, ◌||◌, not, List, [], ◌∷◌, ◌++◌, refl, ap}
+use Rattle.std.proofs.Common.{sym}
 use Rattle.std.proofs.Common.{◌∙◌, subst, arith}
 use Rattle.std.specs.Prelude.{IsTrue, slice_index}
 use Rattle.std.proofs.lemmas.Bool.{or_right}
@@ -10,7 +11,7 @@ use Rattle.md_engine.specs.declared.event.Name.{Name}
 use Rattle.md_engine.specs.declared.event.Name.TheVariants as n
 use Rattle.md_engine.specs.declared.event.Point.{Point}
 use Rattle.md_containers.specs.Item.{is_item_marker}
-use Rattle.md_containers.proofs.QuoteLines.{White}
+use Rattle.md_seam.proofs.LostColumns.{White}
 use Rattle.md_seam.specs.Events.Inline.{pair_unless_empty}
 use Rattle.md_seam.specs.Events.Nested.{around, exit, pair}
 use Rattle.md_seam.specs.Events.Places.{at_or_before, same_place}
@@ -20,7 +21,8 @@ use Rattle.md_seam.proofs.NestedLemmas.{at_or_before-refl, balanced-none}
 use Rattle.md_seam.proofs.SpelledLemmas.{Quiet, Roles}
 use Rattle.md_outline.specs.Between.{is_between}
 use Rattle.md_outline.specs.Roles.{is_plain, is_told}
-use Rattle.markdown_blocks.proofs.BetweenFacts.{AreBetween, around-between, between-append, between-before, between-behind}
+use Rattle.markdown_blocks.proofs.BetweenFacts.{AreBetween, around-between, between-append, between-before}
+use Rattle.markdown_blocks.proofs.BetweenFacts.{between-behind}
 use Rattle.markdown_blocks.proofs.BetweenFacts.{between-pair, between-unless, is_low, white-between}
 use Rattle.markdown_blocks.proofs.BlockQuote.Facts.{pair-prefixes}
 use Rattle.markdown_blocks.proofs.ContainerNames.{is_front}
@@ -169,7 +171,8 @@ front-between bytes digits byte p q es is from =
           (around-between bytes n.ListItemPrefix is.start q (value ++ (marker ++ white)) before.1 behind.1
           (between-append bytes value (marker ++ white)
           (value-between bytes (no_digits digits) is.start is.marker before.1 at)
-          (between-append bytes marker white (between-pair bytes n.ListItemMarker is.marker is.behind at past) behind.0)))),
+          (between-append bytes marker white
+          (between-pair bytes n.ListItemMarker is.marker is.behind at past) behind.0)))),
       behind.1,
     )
 

@@ -9,7 +9,7 @@ use Rattle.md_engine.specs.declared.event.Event.{Event}
 use Rattle.md_engine.specs.declared.event.Name.TheVariants as n
 use Rattle.md_engine.specs.declared.event.Point.{Point}
 use Rattle.md_containers.proofs.ItemOpens.{IsMarker}
-use Rattle.md_containers.proofs.QuoteLines.{White}
+use Rattle.md_seam.proofs.LostColumns.{White}
 use Rattle.md_containers.specs.Item.{is_item_marker}
 use Rattle.md_definition.specs.Containers.{is_digit}
 use Rattle.md_seam.specs.Events.Inline.{pair_unless_empty}
@@ -45,7 +45,8 @@ over-value d byte ds h =
 pub white-stood : (bytes : List ℕ) (p q : Point) → White bytes p q → Stood bytes (pair_unless_empty n.SpaceOrTab p q)
 white-stood bytes p q white =
     stood-unless_empty bytes n.SpaceOrTab p q
-    (λ apart. piece-stands bytes n.SpaceOrTab p q apart (begins-cut n.SpaceOrTab p refl) (or_right (q.vs == 0) true refl)
+    (λ apart.
+    piece-stands bytes n.SpaceOrTab p q apart (begins-cut n.SpaceOrTab p refl) (or_right (q.vs == 0) true refl)
     white.blank)
 
 -- The digits, if there are some.
@@ -80,7 +81,8 @@ inside-starts : (none same : Bool) (a m b q : Point) → Starts (inside_by none 
 inside-starts true same a m b q = refl
 inside-starts false same a m b q = refl
 
-pub front-stood : (bytes digits : List ℕ) (byte : ℕ) (p q : Point) (es : List Event) → IsFront bytes digits byte p q es →
+pub front-stood : (bytes digits : List ℕ) (byte : ℕ) (p q : Point) (es : List Event) →
+    IsFront bytes digits byte p q es →
     Stood bytes es
 front-stood bytes digits byte p q es is =
     let value : List Event = cond (no_digits digits) [] (pair n.ListItemValue is.start is.marker) in
@@ -98,7 +100,8 @@ front-stood bytes digits byte p q es is =
     (stood-pair bytes n.ListItemMarker is.marker is.behind (marker-stands bytes digits byte p q es is))
     (white-stood bytes is.behind q is.white_behind)))))
 
-pub front-tiled : (bytes digits : List ℕ) (byte : ℕ) (p q : Point) (es : List Event) → IsFront bytes digits byte p q es →
+pub front-tiled : (bytes digits : List ℕ) (byte : ℕ) (p q : Point) (es : List Event) →
+    IsFront bytes digits byte p q es →
     Tiled p q es
 front-tiled bytes digits byte p q es is =
     let value : List Event = cond (no_digits digits) [] (pair n.ListItemValue is.start is.marker) in

@@ -8,7 +8,7 @@ use Rattle.md_engine.specs.declared.event.Event.{Event}
 use Rattle.md_engine.specs.declared.event.Name.TheVariants as n
 use Rattle.md_engine.specs.declared.event.Point.{Point}
 use Rattle.md_containers.proofs.ItemOpens.{IsMarker}
-use Rattle.md_containers.proofs.QuoteLines.{White}
+use Rattle.md_seam.proofs.LostColumns.{White}
 use Rattle.md_definition.specs.Rest.{is_blank}
 use Rattle.md_seam.specs.Events.Inline.{pair_unless_empty}
 use Rattle.md_seam.specs.Events.Nested.{around, pair}

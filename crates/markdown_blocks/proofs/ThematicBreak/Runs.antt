@@ -30,7 +30,7 @@ use Rattle.markdown_blocks.specs.MarkRuns.{Apart, Marks, Run, White, mark_runs}
 use Rattle.markdown_blocks.proofs.ContentFacts.{NoContent, no_content-append}
 use Rattle.markdown_blocks.proofs.SpanLemmas.{either}
 use Rattle.markdown_blocks.proofs.RestFacts.{rest-line_end, rest-no_ending, rest-same, rest-trim, small-indented}
-use Rattle.markdown_blocks.proofs.RestFacts.{spread-line}
+use Rattle.md_seam.proofs.RestLines.{spread-line}
 use Rattle.markdown_blocks.proofs.ThematicBreak.Kinds.{marker-black, rule-first, rule-spread}
 
 -- a tab lies in whitespace as a whole
