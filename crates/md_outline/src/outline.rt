@@ -281,6 +281,9 @@ impl<'a> Reading<'a> {
             event.now.point (state_of self.old)) }
     {
         let role = role_of(event.name);
+        if let Role::Quiet = role {
+            return Ok(());
+        }
         match event.kind {
             Kind::Enter => self.enter(role, event.point),
             Kind::Exit => self.exit(role, event.point),
