@@ -1,5 +1,5 @@
 -- Leaf blocks of several lines: an outline shows their lines as they come.
-use Rattle.std.proofs.Common.{◌≡◌, ℕ, ◌+◌, Bool, true, false, cond, ◌==◌, not, ◌&&◌, List, [], ◌∷◌, ◌++◌, length, map}
+use Rattle.std.proofs.Common.{◌≡◌, ℕ, ◌+◌, Bool, true, false, cond, ◌==◌, not, ◌&&◌, List, [], ◌∷◌, ◌++◌, length}
 use Rattle.std.proofs.Common.{slice_range, refl, sym, ◌∙◌, ap, subst, append_assoc, arith}
 use Rattle.std.specs.Prelude.{Option, Some, None, nat_lt, option_map}
 use Rattle.std.proofs.lemmas.Bool.{eqb-true, true≢false}
@@ -25,8 +25,8 @@ use Rattle.md_outline.specs.HeadingDepths.{are_shallow}
 use Rattle.md_outline.specs.LinedState.{begin_lines, closed_word, filled_line, marked_word, with_head, without_end}
 use Rattle.md_outline.specs.LinesStand.{AtEnd, AtEnding, AtInfo, AtLine, AtMarkers, AtMeta, HasFences, HasInfo, HasLines}
 use Rattle.md_outline.specs.LinesStand.{InEnd, InMarkers, InText, LinesStand, MayStand, Outside, SameText, Site}
-use Rattle.md_outline.specs.LinesStand.{begun_site, ending_site, site_by, text_site}
-use Rattle.md_outline.specs.ListsBegin.{AllTold, AtItem, AtMarker, InMarker, MayFollow, Stage, stage_by}
+use Rattle.md_outline.specs.LinesStand.{site_by, text_site}
+use Rattle.md_outline.specs.ListsBegin.{AllTold, MayFollow, Stage, stage_by}
 use Rattle.md_outline.specs.Outlined.{is_unparted, parts_by}
 use Rattle.md_outline.specs.OutlineSteps.{OutlineState, fence_begun, head_marked, line_ended, parted_at, state_by}
 use Rattle.md_outline.specs.OutlineSteps.{state_enter, state_exit, told, told_at, told_leaf}
@@ -715,9 +715,6 @@ from-here : (p : Point) (s : OutlineState) (r : Reading) →
 from-here p s r = record { span = refl; text = refl; spaces = refl }
 
 -- a text of it ends
-abbrev BehindText : LeafKind → spelled.Purpose → OutlineState → Reading → Type 0
-BehindText kind x s r = AgreesIn (text_site kind x) s r
-
 text-agrees : (bytes : List ℕ) (kind : LeafKind) (y x : spelled.Purpose) (p : Point) (s : OutlineState)
     (r : Reading) → SameText y x → InPart kind y s r × ((q : Point) × TextFrom q s r) →
     AgreesWithin (text_site kind y) AllTold (state_exit bytes (shown_as (Tells x)) p s) (read_exit bytes (Tells x) p r)
@@ -878,10 +875,6 @@ stage-stays bytes site Enter (Holds OrderedShape) p s r may is = absurd may
 stage-stays bytes site Enter (Holds UnorderedShape) p s r may is = absurd may
 stage-stays bytes site Enter x p s r may is = refl
 stage-stays bytes site Exit x p s r may is = refl
-
-within-in : (site : Site) (s : OutlineState) (r : Reading) → AgreesIn site s r → AgreesWithin site AllTold s r
-within-in Outside s r is = absurd is
-within-in site s r is = is
 
 -- it begins in no text
 no-span : (bytes : List ℕ) (kind : LeafKind) (p : Point) (span : Option Span) → has_lines kind ≡ true →

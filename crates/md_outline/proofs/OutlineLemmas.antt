@@ -1,7 +1,7 @@
 -- What an outline has read of some events is what the events spell out.
 use Rattle.std.proofs.Common.{◌≡◌, ℕ, ◌+◌, ◌<◌, ◌≤◌, Bool, true, ◌||◌, not, List, [], ◌∷◌, ◌++◌, length}
-use Rattle.std.proofs.Common.{cond, drop, get_or, slice_range, Result, Ok, Err, refl, sym, ◌∙◌, ap, subst}
-use Rattle.std.specs.Prelude.{Option, Some, None, nat_lt, option_map, OnOk}
+use Rattle.std.proofs.Common.{drop, get_or, slice_range, Result, Ok, Err, refl, sym, ◌∙◌, ap, subst}
+use Rattle.std.specs.Prelude.{Option, Some, None, option_map, OnOk}
 use Rattle.std.specs.List.{list_all}
 use Rattle.std.specs.Str.{IsUtf8}
 use Rattle.std.proofs.lemmas.Bool.{and_from, and_parts, true≢false}
@@ -13,8 +13,7 @@ use Rattle.md_engine.specs.declared.event.Kind.{Kind}
 use Rattle.md_engine.specs.declared.event.Kind.TheVariants.{Enter, Exit}
 use Rattle.md_engine.specs.declared.event.Point.{Point}
 use Rattle.md_definition.specs.declared.outline.Word.TheVariants as word
-use Rattle.md_definition.specs.Outline.{Entry, entry, outline}
-use Rattle.md_definition.specs.Texts.{first_byte}
+use Rattle.md_definition.specs.Outline.{Entry, outline}
 use Rattle.md_seam.specs.Events.Nested.{Balanced}
 use Rattle.md_seam.specs.Events.Spelled.{AsInfo, AsLine, AsMeta, Holds, IsFence, IsPrefix, OfCode, OfFence, OfMath}
 use Rattle.md_seam.specs.Events.Spelled.{OpenLeaf, Opens, OrderedShape, Reading, Shape, Tells, Text}
@@ -30,13 +29,11 @@ use Rattle.md_outline.specs.Outlined.{IsOutlined, IsUnlisted, are_parted, has_li
 use Rattle.md_outline.specs.Outlined.{has_shown_name, parts_by, span_by, tells_between}
 use Rattle.md_outline.specs.OutlineSteps.{BeginsBetween, IsCutAt, OutlineState, before_all, leaf_ended, parted_at}
 use Rattle.md_outline.specs.OutlineSteps.{state_after, state_by, told_at, told_leaf}
-use Rattle.md_outline.specs.LinedState.{closed_word, marked_word, with_head, without_end}
 use Rattle.md_outline.specs.LinesStand.{LinesStand, Outside, Site, site_by}
-use Rattle.md_outline.specs.OutlineSteps.{fence_begun, head_marked, line_ended, marked_at, told}
+use Rattle.md_outline.specs.OutlineSteps.{head_marked, marked_at, told}
 use Rattle.md_outline.specs.ParagraphState.{begin_entries}
 use Rattle.md_outline.specs.Roles.{is_listed, is_plain, is_shown, is_told, shown_as}
 use Rattle.md_outline.specs.TextLines.{full_entries, text_entries}
-use Rattle.md_outline.specs.declared.outline.lined.Lined.{Lined}
 use Rattle.md_outline.specs.declared.outline.role.Note.{Note}
 use Rattle.md_outline.specs.declared.outline.role.Note.TheVariants as note
 use Rattle.md_outline.specs.declared.outline.role.Purpose.{Purpose}
