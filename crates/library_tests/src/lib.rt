@@ -6,6 +6,8 @@ mod grammars;
 #[cfg(test)]
 mod heading_text;
 #[cfg(test)]
+mod lined;
+#[cfg(test)]
 mod lists;
 #[cfg(test)]
 mod outlines;

@@ -34,10 +34,10 @@ use Rattle.md_outline.specs.Between.{is_between}
 use Rattle.md_outline.specs.HeadingDepths.{are_shallow}
 use Rattle.md_outline.specs.ListsBegin.{AllTold, AtItem, AtMarker, InMarker, ListsBegin, MayFollow, Stage, marks}
 use Rattle.md_outline.specs.ListsBegin.{stage_by}
-use Rattle.md_outline.specs.Outlined.{IsOutlined, IsUnlisted, TextSpan as Span, are_parted, has_shown_name, is_unparted}
+use Rattle.md_outline.specs.Outlined.{IsOutlined, IsUnlisted, TextSpan as Span, are_parted, has_listed_name, is_unparted}
 use Rattle.md_outline.specs.Outlined.{parts_by, span_by, tells_between}
-use Rattle.md_outline.specs.Roles.{is_shown, is_told}
-use Rattle.md_outline.proofs.OutlineLemmas.{names-plain}
+use Rattle.md_outline.specs.Roles.{is_listed, is_told}
+use Rattle.md_outline.proofs.OutlineLemmas.{lines-none, names-listed, names-plain}
 use Rattle.markdown_blocks.proofs.GroupedDepths.{grouped-shallow}
 
 -- What holds of all events.
@@ -82,10 +82,10 @@ listed-holds P bytes place (e ∷ es) of h =
     (listed-holds P bytes (place_after bytes place e es) es of parts.1)
 
 -- a list is shown, and no text
-list-shown : (m : ℕ) → is_shown (role (list_name m)) ≡ true
+list-shown : (m : ℕ) → is_listed (role (list_name m)) ≡ true
 list-shown m = go (is_ordered m)
   where
-    go : (x : Bool) → is_shown (role (if x then n.ListOrdered else n.ListUnordered)) ≡ true
+    go : (x : Bool) → is_listed (role (if x then n.ListOrdered else n.ListUnordered)) ≡ true
     go true = refl
     go false = refl
 
@@ -363,9 +363,7 @@ pub listed-outlined : (bytes : List ℕ) (events : List Event) → IsUnlisted ev
     IsOutlined (listed bytes events) bytes
 listed-outlined bytes events is stands nested held depths = record {
   balanced = (listed-nested bytes events nested held).balanced;
-  names =
-      listed-holds has_shown_name bytes outside events (λ m e h. (list-shown m, list-shown m))
-      (names-plain events is.names);
+  names = names-listed (listed bytes events) listed_names;
   text = is.text;
   between =
       listed-holds (λ (e : Event). is_between bytes e.point.index) bytes outside events (λ m e h. (h, h)) is.between;
@@ -374,6 +372,12 @@ listed-outlined bytes events is stands nested held depths = record {
       (λ m e h. (list-untold bytes m e.point, list-untold bytes m e.point)) is.texts;
   parted = parted-kept bytes None outside events is.parted;
   lists = lists-begun bytes AllTold root outside events stands tt;
+  lines = lines-none bytes (listed bytes events) listed_names;
   depths =
       ap are_shallow (listed-spelled bytes events stands) ∙ grouped-shallow (spelled events bytes) depths;
 }
+  where
+    listed_names : list_all has_listed_name (listed bytes events) ≡ true
+    listed_names =
+        listed-holds has_listed_name bytes outside events (λ m e h. (list-shown m, list-shown m))
+        (names-plain events is.names)

@@ -2,6 +2,8 @@ pub mod BlocksStay
 pub mod ClosedTrees
 pub mod FirstLine
 pub mod HeadingLemmas
+pub mod LinedLemmas
+pub mod LinedLines
 pub mod ListLemmas
 pub mod OutlineAgrees
 pub mod OutlineDepths

@@ -14,14 +14,14 @@ use Rattle.md_definition.specs.Texts.{first_byte}
 use Rattle.md_definition.specs.Tree.{Block, Blocks, End, Item, More}
 use Rattle.md_seam.specs.Events.Spelled.{Around, AsDigits, AsItemMarker, Holds, IsQuiet, ItemShape, OrderedShape}
 use Rattle.md_seam.specs.Events.Spelled.{Reading, Shape, Tells, Text, UnorderedShape, begun, block_around, byte_at}
-use Rattle.md_seam.specs.Events.Spelled.{first_told, read_by, read_enter, read_exit, text_to}
+use Rattle.md_seam.specs.Events.Spelled.{columns_left, first_told, read_by, read_enter, read_exit, text_to}
 use Rattle.md_seam.specs.Events.Spelled as spelled
 use Rattle.md_outline.specs.HeadingDepths.{are_shallow}
 use Rattle.md_outline.specs.ListsBegin.{AllTold, AtItem, AtMarker, InMarker, MayFollow, Stage, marks, stage_by}
 use Rattle.md_outline.specs.Outlined.{is_unparted, parts_by}
 use Rattle.md_outline.specs.OutlineSteps.{OutlineState, state_by, state_enter, told_at, with_marker}
 use Rattle.md_outline.specs.OutlineSteps.{marked_at}
-use Rattle.md_outline.specs.Roles.{is_shown, shown_as}
+use Rattle.md_outline.specs.Roles.{is_listed, shown_as}
 use Rattle.md_outline.specs.declared.outline.role.Purpose.TheVariants as purpose
 use Rattle.md_outline.specs.declared.outline.role.Role.TheVariants as role
 use Rattle.md_outline.specs.declared.outline.Span.{Span}
@@ -102,6 +102,7 @@ pub record AwaitsItem (shape : Shape) (s : OutlineState) (r : Reading) : Type 0 
   pub words : HaveWords outer before
   pub depth : s.depth ≡ depth_of outer + 1
   pub untold : s.untold ≡ Some (length (shown outer before))
+  pub lined : s.lined ≡ None
   pub leaf : s.leaf ≡ r.leaf
   pub known : KnowsOpen r.leaf
   pub text : TextIs (shown outer before ++ entry (depth_of outer) (word.List 0) ∷ []) s.depth s.lines s.text r.text
@@ -118,6 +119,7 @@ pub record AwaitsMarker (shape : Shape) (s : OutlineState) (r : Reading) : Type 
   pub words : HaveWords outer before
   pub depth : s.depth ≡ (depth_of outer + 1) + 1
   pub untold : s.untold ≡ Some (length (shown outer before))
+  pub lined : s.lined ≡ None
   pub leaf : s.leaf ≡ r.leaf
   pub known : KnowsOpen r.leaf
   pub text :
@@ -148,6 +150,7 @@ list-begins bytes shape p s r h k is =
       depth = ap (λ d. d + 1) is.depth;
       untold = ap (λ (l : List Entry). Some (length l)) same;
       leaf = is.leaf;
+      lined = is.lined;
       known = is.known;
       text =
           text-stays (shown r.outer r.here) (shown r.outer r.here ++ entry (depth_of r.outer) (word.List 0) ∷ [])
@@ -179,6 +182,7 @@ item-begins bytes shape m d p s r zero k is =
       depth = ap (λ d. d + 1) is.depth;
       untold = is.untold;
       leaf = is.leaf;
+      lined = is.lined;
       known = is.known;
       text =
           text-stays (before ++ list ∷ []) (before ++ list ∷ entry (depth_of is.outer + 1) word.Item ∷ []) s.depth
@@ -193,7 +197,8 @@ item-begins bytes shape m d p s r zero k is =
 -- a text begins in front of its marker
 front-begins : (shape : Shape) (p : Point) (s : OutlineState) (r : Reading) → is_unparted s.text ≡ true →
     AwaitsMarker shape s r →
-    AwaitsMarker shape (record s { text = Some (record { from = byte_at p; is_parted = false }) })
+    AwaitsMarker shape
+    (record s { text = Some (record { from = byte_at p; is_parted = false }); spaces = columns_left p })
     (record r { text = Some (begun p) })
 front-begins shape p s r k is = record {
   list = is.list;
@@ -206,6 +211,7 @@ front-begins shape p s r k is = record {
   depth = is.depth;
   untold = is.untold;
   leaf = is.leaf;
+  lined = is.lined;
   known = is.known;
   text = (
     refl,
@@ -241,6 +247,7 @@ digits-end bytes shape p s r (Some span) (Some text) is h k = record {
   depth = is.depth;
   untold = is.untold;
   leaf = is.leaf;
+  lined = is.lined;
   known = is.known;
   text =
       text-lines
@@ -275,6 +282,7 @@ marked-agrees shape now s r is same m =
       words = (tt, (item-told shape b is.digits is.list m, words-then is.outer is.before list is.words));
       untold = refl;
       leaf = is.leaf;
+      lined = is.lined;
       known = is.known;
       text =
           ap (with_marker (length before) now) same
@@ -342,7 +350,7 @@ marker-ends bytes shape p q s r (Some span) (Some text) is e h k m =
 
 -- what agrees still does behind an event
 pub agrees-stage : (bytes : List ℕ) (stage : Stage) (kind : Kind) (x : spelled.Role) (p : Point) (s : OutlineState)
-    (r : Reading) → is_shown x ≡ true → parts_by bytes kind x p s.text ≡ true →
+    (r : Reading) → is_listed x ≡ true → parts_by bytes kind x p s.text ≡ true →
     are_shallow (read_by bytes kind x p r).here ≡ true → MayFollow bytes stage kind x p → AgreesAt stage s r →
     AgreesAt (stage_by stage kind x p) (state_by bytes kind (shown_as x) p s) (read_by bytes kind x p r)
 agrees-stage bytes AllTold Enter (Holds OrderedShape) p s r h k d may is =

@@ -11,9 +11,10 @@ use Rattle.md_definition.specs.declared.outline.Word.{Word}
 use Rattle.md_definition.specs.Outline.{Entry, block_entries, entry}
 use Rattle.md_seam.specs.Events.Places.{last_line}
 use Rattle.md_definition.specs.Rest.{is_blank}
-use Rattle.md_seam.specs.Events.Spelled.{Around, AsDigits, AsItemMarker, Holds, IsPrefix, OpenLeaf, Opens, Reading}
+use Rattle.md_seam.specs.Events.Spelled.{Around, AsDigits, AsItemMarker, AsMarkers, Holds, IsPrefix, OpenLeaf, Opens, Reading}
 use Rattle.md_seam.specs.Events.Spelled.{Shape, Tells, Text}
 use Rattle.md_seam.specs.Events.Spelled.{after_prefix, at_ending, before_prefix, begun, block_around, block_of, byte_at}
+use Rattle.md_seam.specs.Events.Spelled.{columns_left}
 use Rattle.md_seam.specs.Events.Spelled.{finished, left, next_line, on_leaf, read, read_by, read_enter, read_exit}
 use Rattle.md_seam.specs.Events.Spelled.{named, on_shape, text_to}
 use Rattle.md_seam.specs.Events.Spelled as spelled
@@ -23,13 +24,14 @@ use Rattle.md_definition.specs.Tree.{Block, End, Line}
 use Rattle.md_seam.proofs.ThroughoutLemmas.{all-then}
 use Rattle.md_outline.specs.HeadingDepths.{are_shallow, fits}
 use Rattle.md_outline.specs.Outlined.{begins_line, is_unparted, parts_by}
-use Rattle.md_outline.specs.OutlineSteps.{OutlineState, leaf_ended, parted_at}
+use Rattle.md_outline.specs.OutlineSteps.{OutlineState, head_marked, leaf_ended, line_ended, parted_at}
 use Rattle.md_outline.specs.OutlineSteps.{state_by, state_enter, state_exit, told_at, told_leaf}
 use Rattle.md_outline.specs.OutlineSteps.{marked_at}
 use Rattle.md_outline.specs.ParagraphState.{begin_entries, text_block}
 use Rattle.md_outline.specs.Roles.{is_plain, leaf_entries, noted, shown_as}
 use Rattle.md_outline.specs.TextLines.{full_entries}
 use Rattle.md_outline.specs.declared.outline.role.Note.{Note}
+use Rattle.md_outline.specs.declared.outline.role.Note.TheVariants as note
 use Rattle.md_outline.specs.declared.outline.role.Purpose.TheVariants as purpose
 use Rattle.md_outline.specs.declared.outline.role.Role.{Role}
 use Rattle.md_outline.specs.declared.outline.role.Role.TheVariants as role
@@ -60,6 +62,7 @@ pub record Agrees (s : OutlineState) (r : Reading) : Type 0 where
   pub depth : s.depth ≡ depth_of r.outer
   pub words : HaveWords r.outer r.here
   pub untold : s.untold ≡ None
+  pub lined : s.lined ≡ None
   pub leaf : s.leaf ≡ r.leaf
   pub known : KnowsOpen r.leaf
   pub text : TextIs (shown r.outer r.here) s.depth s.lines s.text r.text
@@ -98,6 +101,7 @@ agrees-leaf s r (Some leaf) k d is =
       words = words-then r.outer r.here b is.words;
       untold = is.untold;
       leaf = refl;
+      lined = is.lined;
       known = tt;
       text =
           text-stays (shown r.outer r.here) (shown r.outer (then_block r.here b)) s.depth s.depth s.lines
@@ -146,6 +150,7 @@ agrees-block bytes x p s r (Some span) (Some text) by h k is =
       words = words-then r.outer r.here (text_block line.text) is.words;
       untold = is.untold;
       leaf = is.leaf;
+      lined = is.lined;
       known = is.known;
       text =
           pieces-last (shown r.outer r.here) s.depth s.lines span.is_parted text.front piece
@@ -175,9 +180,24 @@ agrees-note bytes x y p s r (Some span) (Some text) by h k is =
       words = is.words;
       untold = is.untold;
       leaf = ap (option_map (noted y piece)) is.leaf ∙ ap (λ t. option_map (noted y t) r.leaf) (sym whole);
+      lined = is.lined;
       known = known-noted y line.text r.leaf is.known;
       text = text-lines (shown r.outer r.here) s.depth s.lines (Some span) (Some text) k h;
     })
+
+-- as the markers of a heading
+agrees-markers : (bytes : List ℕ) (x : spelled.Purpose) (p : Point) (s : OutlineState) (r : Reading)
+    (span : Option Span) (text : Option Text) → IsNote x note.Markers →
+    TextIs (shown r.outer r.here) s.depth s.lines span text → is_unparted span ≡ true →
+    Agrees s r → Agrees (told_at bytes purpose.Markers p.index span s) (spelled.told_at bytes x p text r)
+agrees-markers bytes x p s r None text by h k is = agrees-note bytes x note.Markers p s r None text by h k is
+agrees-markers bytes x p s r (Some span) text by h k is =
+    let piece : List ℕ = slice_range bytes span.from p.index in
+    subst
+    (λ lined.
+    Agrees (head_marked lined piece (told_leaf note.Markers piece (record s { text = None })))
+    (spelled.told_at bytes x p text r))
+    (sym is.lined) (agrees-note bytes x note.Markers p s r (Some span) text by h k is)
 
 -- a text that says something of a container
 agrees-named : (f : Shape → Shape) (s : OutlineState) (r : Reading) (span : Span) (text : Text) →
@@ -189,6 +209,7 @@ agrees-named f s r span text stays h k is = record {
   words = stays.words;
   untold = is.untold;
   leaf = is.leaf;
+  lined = is.lined;
   known = is.known;
   text = text-lines (shown r.outer r.here) s.depth s.lines (Some span) (Some text) k h ∙ sym stays.lines;
 }
@@ -232,6 +253,7 @@ agrees-prefix bytes p s r None None e h k is = record {
   words = is.words;
   untold = is.untold;
   leaf = is.leaf;
+  lined = is.lined;
   known = is.known;
   text = subst (λ x. TextIs (shown r.outer r.here) s.depth s.lines x None) (sym e) h;
 }
@@ -246,6 +268,7 @@ agrees-prefix bytes p s r (Some span) (Some text) e h k is =
       words = is.words;
       untold = is.untold;
       leaf = is.leaf;
+      lined = is.lined;
       known = is.known;
       text = (
         h.0,
@@ -276,6 +299,7 @@ agrees-left s r [] e h is =
       words = is.words;
       untold = is.untold;
       leaf = is.leaf;
+      lined = is.lined;
       known = is.known;
       text =
           text-stays (shown r.outer r.here) (shown r.outer r.here) s.depth (s.depth - 1) s.lines s.lines s.text r.text h
@@ -288,6 +312,7 @@ agrees-left s r (around ∷ outer) e h is =
       words = (subst (λ o. HaveWords o r.here) e is.words).1;
       untold = is.untold;
       leaf = is.leaf;
+      lined = is.lined;
       known = is.known;
       text =
           text-stays (shown r.outer r.here)
@@ -306,6 +331,7 @@ agrees-line s r is =
       words = is.words;
       untold = is.untold;
       leaf = is.leaf ∙ sym same;
+      lined = is.lined;
       known = subst KnowsOpen (sym same) is.known;
       text = is.text;
     }
@@ -319,13 +345,14 @@ apart bytes kind x p (Some span) by h = sym (by span) ∙ h
 
 -- the step of one event, by what it means
 agrees-begun : (p : Point) (s : OutlineState) (r : Reading) → is_unparted s.text ≡ true → Agrees s r →
-    Agrees (record s { text = Some (record { from = byte_at p; is_parted = false }) })
+    Agrees (record s { text = Some (record { from = byte_at p; is_parted = false }); spaces = columns_left p })
     (record r { text = Some (begun p) })
 agrees-begun p s r k is = record {
   depth = is.depth;
   words = is.words;
   untold = is.untold;
   leaf = is.leaf;
+  lined = is.lined;
   known = is.known;
   text = (refl, (text-lines (shown r.outer r.here) s.depth s.lines s.text r.text k is.text, refl));
 }
@@ -339,6 +366,7 @@ agrees-container bytes shape w p s r by k is = record {
   words = (by.none, words-then r.outer r.here (block_around shape End) is.words);
   untold = is.untold;
   leaf = is.leaf;
+  lined = is.lined;
   known = is.known;
   text =
       text-stays (shown r.outer r.here) (shown r.outer (then_block r.here (block_around shape End))) s.depth
@@ -369,11 +397,13 @@ agrees-enter bytes p = record {
         words = is.words;
         untold = is.untold;
         leaf = ap Some by.same;
+        lined = is.lined;
         known = by.known;
         text = is.text;
       };
   block = λ x by s r k is. agrees-begun p s r (apart bytes Enter (Tells x) p s.text (λ t. refl) k) is;
   note = λ x y by s r k is. agrees-begun p s r (apart bytes Enter (Tells x) p s.text (λ t. refl) k) is;
+  markers = λ by s r k is. agrees-begun p s r (apart bytes Enter (Tells AsMarkers) p s.text (λ t. refl) k) is;
   digits = λ s r k is. agrees-begun p s r (apart bytes Enter (Tells AsDigits) p s.text (λ t. refl) k) is;
   marker = λ s r k is. agrees-begun p s r (apart bytes Enter (Tells AsItemMarker) p s.text (λ t. refl) k) is;
   ending = λ s r k is. is;
@@ -395,6 +425,7 @@ agrees-exit bytes p = record {
     words = is.words;
     untold = is.untold;
     leaf = is.leaf;
+    lined = is.lined;
     known = is.known;
     text = agrees-gone_on p (shown r.outer r.here) s.depth s.lines s.text r.text is.text;
   };
@@ -405,11 +436,16 @@ agrees-exit bytes p = record {
   note = λ x y by s r k d is.
       agrees-note bytes x y p s r s.text r.text by is.text (apart bytes Exit (Tells x) p s.text (by.whole bytes p) k)
       is;
+  markers = λ by s r k d is.
+      agrees-markers bytes AsMarkers p s r s.text r.text by is.text
+      (apart bytes Exit (Tells AsMarkers) p s.text (by.whole bytes p) k) is;
   digits = λ s r k d is.
       agrees-digits bytes p s r s.text r.text is.text (apart bytes Exit (Tells AsDigits) p s.text (λ t. refl) k) is;
   marker = λ s r k d is.
       agrees-marker bytes p s r s.text r.text is.text (apart bytes Exit (Tells AsItemMarker) p s.text (λ t. refl) k) is;
-  ending = λ s r k d is. by-ending (Agrees s) bytes p r.text r is (agrees-line s r is);
+  ending = λ s r k d is.
+      subst (λ lined. Agrees (line_ended bytes p.index lined s.text s) (at_ending bytes p r.text r)) (sym is.lined)
+      (by-ending (Agrees s) bytes p r.text r is (agrees-line s r is));
   quiet = λ s r k d is. is;
 }
 

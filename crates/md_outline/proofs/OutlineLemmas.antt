@@ -12,9 +12,11 @@ use Rattle.md_engine.specs.declared.event.Event.{Event}
 use Rattle.md_engine.specs.declared.event.Kind.{Kind}
 use Rattle.md_engine.specs.declared.event.Kind.TheVariants.{Enter, Exit}
 use Rattle.md_engine.specs.declared.event.Point.{Point}
+use Rattle.md_definition.specs.declared.outline.Word.TheVariants as word
 use Rattle.md_definition.specs.Outline.{Entry, outline}
 use Rattle.md_seam.specs.Events.Nested.{Balanced}
-use Rattle.md_seam.specs.Events.Spelled.{Holds, IsPrefix, OpenLeaf, OrderedShape, Reading, Shape, Tells, Text}
+use Rattle.md_seam.specs.Events.Spelled.{AsInfo, AsLine, AsMeta, Holds, IsFence, IsPrefix, OfCode, OfFence, OfMath}
+use Rattle.md_seam.specs.Events.Spelled.{OpenLeaf, Opens, OrderedShape, Reading, Shape, Tells, Text}
 use Rattle.md_seam.specs.Events.Spelled.{UnorderedShape}
 use Rattle.md_seam.specs.Events.Spelled.{after_prefix, at_ending, before_prefix, begun, block_around, block_of, byte_at}
 use Rattle.md_seam.specs.Events.Spelled.{finished, left, next_line, on_leaf, read, read_by, read_enter, read_exit}
@@ -23,21 +25,24 @@ use Rattle.md_seam.specs.Events.Spelled as spelled
 use Rattle.md_outline.specs.Between.{is_between}
 use Rattle.md_outline.specs.HeadingDepths.{are_shallow, fits}
 use Rattle.md_outline.specs.ListsBegin.{AllTold, ListsBegin, Stage, stage_by}
-use Rattle.md_outline.specs.Outlined.{IsOutlined, IsUnlisted, are_parted, has_plain_name, has_shown_name, parts_by}
-use Rattle.md_outline.specs.Outlined.{span_by, tells_between}
+use Rattle.md_outline.specs.Outlined.{IsOutlined, IsUnlisted, are_parted, has_listed_name, has_plain_name}
+use Rattle.md_outline.specs.Outlined.{has_shown_name, parts_by, span_by, tells_between}
 use Rattle.md_outline.specs.OutlineSteps.{BeginsBetween, IsCutAt, OutlineState, before_all, leaf_ended, parted_at}
 use Rattle.md_outline.specs.OutlineSteps.{state_after, state_by, told_at, told_leaf}
-use Rattle.md_outline.specs.OutlineSteps.{marked_at}
+use Rattle.md_outline.specs.LinesStand.{LinesStand, Outside, Site, site_by}
+use Rattle.md_outline.specs.OutlineSteps.{head_marked, marked_at, told}
 use Rattle.md_outline.specs.ParagraphState.{begin_entries}
-use Rattle.md_outline.specs.Roles.{is_plain, is_shown, is_told, shown_as}
+use Rattle.md_outline.specs.Roles.{is_listed, is_plain, is_shown, is_told, shown_as}
 use Rattle.md_outline.specs.TextLines.{full_entries, text_entries}
 use Rattle.md_outline.specs.declared.outline.role.Note.{Note}
+use Rattle.md_outline.specs.declared.outline.role.Note.TheVariants as note
 use Rattle.md_outline.specs.declared.outline.role.Purpose.{Purpose}
 use Rattle.md_outline.specs.declared.outline.role.Purpose.TheVariants as purpose
 use Rattle.md_outline.specs.declared.outline.role.Role.{Role}
 use Rattle.md_outline.specs.declared.outline.Span.{Span}
 use Rattle.md_outline.proofs.BlocksStay.{AllHold, blocks-stay, outer_hold}
-use Rattle.md_outline.proofs.ListLemmas.{AgreesAt, agrees-stage, lines-closed}
+use Rattle.md_outline.proofs.LinedLemmas.{AgreesWithin, agrees-site, site-listed, sites-closed, span-fenced}
+use Rattle.md_outline.proofs.LinedLemmas.{span-headed, span-line, stands-listed}
 use Rattle.md_outline.proofs.OutlineDepths.{all-closed}
 use Rattle.md_outline.proofs.RoleLemmas.{ByRole, by-role}
 use Rattle.md_outline.proofs.TextCuts.{utf8-part}
@@ -59,6 +64,11 @@ span-told bytes y i None s e = e
 span-told bytes purpose.Block i (Some span) s e = refl
 span-told bytes (purpose.Note y) i (Some span) s e = refl
 span-told bytes purpose.Digits i (Some span) s e = refl
+span-told bytes purpose.Markers i (Some span) s e =
+    span-headed s.lined (slice_range bytes span.from i)
+    (told_leaf note.Markers (slice_range bytes span.from i) (record s { text = None }))
+span-told bytes (purpose.Part w) i (Some span) s e = refl
+span-told bytes purpose.Line i (Some span) s e = refl
 span-told bytes purpose.Marker i (Some span) s e =
     span-marked s.untold (slice_range bytes span.from i) (record s { text = None })
 
@@ -75,6 +85,7 @@ span-enter bytes p s = record {
   prefix = span-parted bytes p.index s.text s refl;
   begins = λ kind l by. refl;
   block = λ x by. refl;
+  markers = λ by. refl;
   note = λ x y by. refl;
   digits = refl;
   marker = refl;
@@ -89,9 +100,10 @@ span-exit bytes p s = record {
   begins = λ kind l by. span-leaf s.leaf s;
   block = λ x by. span-told bytes purpose.Block p.index s.text s refl;
   note = λ x y by. span-told bytes (purpose.Note y) p.index s.text s refl;
+  markers = λ by. span-told bytes purpose.Markers p.index s.text s refl;
   digits = span-told bytes purpose.Digits p.index s.text s refl;
   marker = span-told bytes purpose.Marker p.index s.text s refl;
-  ending = refl;
+  ending = span-line bytes p.index s.lined s.text s;
   quiet = refl;
 }
 
@@ -101,6 +113,20 @@ span-step bytes Enter (Holds OrderedShape) p s h = refl
 span-step bytes Enter (Holds UnorderedShape) p s h = refl
 span-step bytes Exit (Holds OrderedShape) p s h = refl
 span-step bytes Exit (Holds UnorderedShape) p s h = refl
+span-step bytes Enter (Opens OfCode) p s h = refl
+span-step bytes Enter (Opens OfFence) p s h = refl
+span-step bytes Enter (Opens OfMath) p s h = refl
+span-step bytes Enter IsFence p s h = span-fenced s.lined s
+span-step bytes Enter (Tells AsLine) p s h = refl
+span-step bytes Enter (Tells AsInfo) p s h = refl
+span-step bytes Enter (Tells AsMeta) p s h = refl
+span-step bytes Exit (Opens OfCode) p s h = refl
+span-step bytes Exit (Opens OfFence) p s h = refl
+span-step bytes Exit (Opens OfMath) p s h = refl
+span-step bytes Exit IsFence p s h = refl
+span-step bytes Exit (Tells AsLine) p s h = span-told bytes purpose.Line p.index s.text s refl
+span-step bytes Exit (Tells AsInfo) p s h = span-told bytes (purpose.Part word.Info) p.index s.text s refl
+span-step bytes Exit (Tells AsMeta) p s h = span-told bytes (purpose.Part word.Meta) p.index s.text s refl
 span-step bytes Enter x p s h = by-role (SameSpan bytes Enter p s) x (span-enter bytes p s) h
 span-step bytes Exit x p s h = by-role (SameSpan bytes Exit p s) x (span-exit bytes p s) h
 
@@ -115,19 +141,22 @@ parted-step bytes e events s h k =
     (parts.0, ap (λ x. are_parted bytes x events) (span-step bytes e.kind (spelled.role e.name) e.point s h) ∙ parts.1)
 
 -- all events: then no text is parted
-agrees-all : (bytes : List ℕ) (events : List Event) (stage : Stage) (s : OutlineState) (r : Reading) →
+agrees-all : (bytes : List ℕ) (events : List Event) (site : Site) (stage : Stage) (s : OutlineState) (r : Reading) →
     list_all has_shown_name events ≡ true → are_parted bytes s.text events ≡ true → ListsBegin bytes stage events →
-    AllHold fits (read bytes r events) → (read bytes r events).outer ≡ [] → AgreesAt stage s r →
+    LinesStand bytes site events → AllHold fits (read bytes r events) → (read bytes r events).outer ≡ [] →
+    AgreesWithin site stage s r →
     (state_after bytes s events).lines ≡ outline 0 (read bytes r events).here
-agrees-all bytes [] stage s r h k lists d e is = lines-closed stage s r e k is
-agrees-all bytes (e ∷ events) stage s r h k lists d closed is =
+agrees-all bytes [] site stage s r h k lists lines d e is = sites-closed bytes site stage s r e k lines is
+agrees-all bytes (e ∷ events) site stage s r h k lists lines d closed is =
     let names = and_parts (has_shown_name e) (list_all has_shown_name events) h in
     let parts = parted-step bytes e events s names.0 k in
     let x : spelled.Role = spelled.role e.name in
     let next : Reading = read_by bytes e.kind x e.point r in
-    agrees-all bytes events (stage_by stage e.kind x e.point) (state_by bytes e.kind (shown_as x) e.point s) next
-    names.1 parts.1 lists.1 d closed
-    (agrees-stage bytes stage e.kind x e.point s r names.0 parts.0 (blocks-stay fits bytes events next d).0 lists.0 is)
+    agrees-all bytes events (site_by bytes site e.kind x e.point) (stage_by stage e.kind x e.point)
+    (state_by bytes e.kind (shown_as x) e.point s) next
+    names.1 parts.1 lists.1 lines.1 d closed
+    (agrees-site bytes site stage e.kind x e.point s r names.0 parts.0 (blocks-stay fits bytes events next d).0
+    lists.0 lines.0 is)
 
 -- the lines that all events add are those of the tree that they spell out
 pub outline-spelled : (bytes : List ℕ) (events : List Event) → IsOutlined events bytes →
@@ -135,9 +164,9 @@ pub outline-spelled : (bytes : List ℕ) (events : List Event) → IsOutlined ev
 unfolding spelled
 outline-spelled bytes events out =
     let closed : (read bytes unread events).outer ≡ [] = all-closed bytes events out.balanced in
-    agrees-all bytes events AllTold before_all unread out.names out.parted out.lists
+    agrees-all bytes events Outside AllTold before_all unread out.names out.parted out.lists out.lines
     (out.depths, ap (outer_hold fits) closed) closed
-    (record { depth = refl; words = tt; untold = refl; leaf = refl; known = tt; text = refl })
+    (record { depth = refl; words = tt; untold = refl; lined = refl; leaf = refl; known = tt; text = refl })
 
 -- Events without lists.
 
@@ -147,17 +176,48 @@ stays-told Enter (Holds UnorderedShape) p h = absurd (true≢false (sym h))
 stays-told Enter _ p h = refl
 stays-told Exit _ p h = refl
 
-shown-plain : (x : spelled.Role) → is_plain x ≡ true → is_shown x ≡ true
-shown-plain (Holds OrderedShape) h = refl
-shown-plain (Holds UnorderedShape) h = refl
-shown-plain x h = h
+listed-plain : (x : spelled.Role) → is_plain x ≡ true → is_listed x ≡ true
+listed-plain (Holds OrderedShape) h = refl
+listed-plain (Holds UnorderedShape) h = refl
+listed-plain x h = h
 
-pub names-plain : (events : List Event) → list_all has_plain_name events ≡ true → list_all has_shown_name events ≡ true
-names-plain [] h = refl
-names-plain (e ∷ events) h =
-    let names = and_parts (has_plain_name e) (list_all has_plain_name events) h in
-    and_from (has_shown_name e) (list_all has_shown_name events) (shown-plain (spelled.role e.name) names.0)
-    (names-plain events names.1)
+shown-listed : (x : spelled.Role) → is_listed x ≡ true → is_shown x ≡ true
+shown-listed (Opens OfCode) h = refl
+shown-listed (Opens OfFence) h = refl
+shown-listed (Opens OfMath) h = refl
+shown-listed IsFence h = refl
+shown-listed (Tells AsLine) h = refl
+shown-listed (Tells AsInfo) h = refl
+shown-listed (Tells AsMeta) h = refl
+shown-listed x h = h
+
+names-stay : (p q : spelled.Role → Bool) (events : List Event) → ((x : spelled.Role) → p x ≡ true → q x ≡ true) →
+    list_all (λ (e : Event). p (spelled.role e.name)) events ≡ true →
+    list_all (λ (e : Event). q (spelled.role e.name)) events ≡ true
+names-stay p q [] f h = refl
+names-stay p q (e ∷ events) f h =
+    let names = and_parts (p (spelled.role e.name)) (list_all (λ (e : Event). p (spelled.role e.name)) events) h in
+    and_from (q (spelled.role e.name)) (list_all (λ (e : Event). q (spelled.role e.name)) events)
+    (f (spelled.role e.name) names.0) (names-stay p q events f names.1)
+
+pub names-plain : (events : List Event) → list_all has_plain_name events ≡ true →
+    list_all has_listed_name events ≡ true
+names-plain events h = names-stay is_plain is_listed events listed-plain h
+
+pub names-listed : (events : List Event) → list_all has_listed_name events ≡ true →
+    list_all has_shown_name events ≡ true
+names-listed events h = names-stay is_listed is_shown events shown-listed h
+
+-- no leaf block of several lines stands among such events
+pub lines-none : (bytes : List ℕ) (events : List Event) → list_all has_listed_name events ≡ true →
+    LinesStand bytes Outside events
+lines-none bytes [] h = tt
+lines-none bytes (e ∷ events) h =
+    let names = and_parts (has_listed_name e) (list_all has_listed_name events) h in (
+      stands-listed bytes e.kind (spelled.role e.name) e.point names.0,
+      subst (λ site. LinesStand bytes site events)
+          (sym (site-listed bytes e.kind (spelled.role e.name) e.point names.0)) (lines-none bytes events names.1),
+    )
 
 lists-plain : (bytes : List ℕ) (events : List Event) → list_all has_plain_name events ≡ true →
     ListsBegin bytes AllTold events
@@ -174,12 +234,13 @@ pub unlisted-outlined : (bytes : List ℕ) (events : List Event) → IsUnlisted 
     are_shallow (spelled events bytes) ≡ true → IsOutlined events bytes
 unlisted-outlined bytes events is balanced depths = record {
   balanced = balanced;
-  names = names-plain events is.names;
+  names = names-listed events (names-plain events is.names);
   text = is.text;
   between = is.between;
   texts = is.texts;
   parted = is.parted;
   lists = lists-plain bytes events is.names;
+  lines = lines-none bytes events (names-plain events is.names);
   depths = depths;
 }
 
@@ -225,6 +286,31 @@ pub note-end : (bytes part : List ℕ) (span : Span) (end : ℕ) (text : Option 
 note-end bytes part span end text x y s next is same cut epart reads =
     reads (part-is_text bytes part span end text is cut epart)
     ∙ ap (λ t. told_leaf y t (record s { text = None })) epart
+    ∙ sym (ap (λ t. told_at bytes x end t s) is ∙ ap (λ z. told_at bytes z end (Some span) s) same)
+
+-- a run of markers ends
+pub markers-end : (bytes part : List ℕ) (span : Span) (end : ℕ) (text : Option Span) (x : Purpose)
+    (s middle next : OutlineState) → text ≡ Some span → x ≡ purpose.Markers → IsCutAt bytes text end →
+    part ≡ slice_range bytes span.from end →
+    (IsUtf8 part → middle ≡ told_leaf note.Markers part (record s { text = None })) →
+    next ≡ head_marked middle.lined part middle → next ≡ told_at bytes x end text s
+markers-end bytes part span end text x s middle next is same cut epart reads marks =
+    marks
+    ∙ ap (λ (m : OutlineState). head_marked m.lined part m) (reads (part-is_text bytes part span end text is cut epart))
+    ∙ ap (λ t. head_marked s.lined t (told_leaf note.Markers t (record s { text = None }))) epart
+    ∙ sym (ap (λ t. told_at bytes x end t s) is ∙ ap (λ z. told_at bytes z end (Some span) s) same)
+
+-- a text of a leaf block of several lines ends, which is shown by its lines
+pub part-end : (bytes part : List ℕ) (span : Span) (end : ℕ) (text : Option Span) (x y : Purpose) (s : OutlineState)
+    (lines : List Entry) (shows : List ℕ → List Entry) → text ≡ Some span → x ≡ y → IsCutAt bytes text end →
+    part ≡ slice_range bytes span.from end → (IsUtf8 part → lines ≡ shows part) →
+    record s { text = None; lines = shows (slice_range bytes span.from end) }
+    ≡ told y span.is_parted (slice_range bytes span.from end) (record s { text = None }) →
+    record s { text = None; lines = lines } ≡ told_at bytes x end text s
+part-end bytes part span end text x y s lines shows is same cut epart elines told_so =
+    let with_lines : List Entry → OutlineState = λ es. record s { text = None; lines = es } in
+    ap with_lines (elines (part-is_text bytes part span end text is cut epart) ∙ ap shows epart)
+    ∙ told_so
     ∙ sym (ap (λ t. told_at bytes x end t s) is ∙ ap (λ z. told_at bytes z end (Some span) s) same)
 
 -- a prefix has begun in a text

@@ -74,16 +74,17 @@ pub record IsNote (x : spelled.Purpose) (y : Note) : Type 0 where
   pub tree : (line : Line) (r : Reading) → spelled.told x line r ≡ on_leaf (noted y line.text) r
   pub whole : (bytes : List ℕ) (p : Point) (text : Span) → parts_exit bytes (Tells x) p text ≡ not text.is_parted
 
--- What is known of each role that an outline shows, but of lists.
+-- What is known of each role that an outline shows, but of lists and of leaf blocks of several lines.
 pub record ByRole (P : spelled.Role → Role → Type 0) : Type 0 where
   pub container : (shape : Shape) (w : Word) → IsShownBy shape w → P (Holds shape) (role.Container w)
   pub prefix : P IsPrefix role.Prefix
   pub begins : (kind : LeafKind) (l : Leaf) → IsBegun kind l → P (Opens kind) (role.Leaf l)
   pub block : (x : spelled.Purpose) → IsBlock x → P (Tells x) (role.Text purpose.Block)
+  pub markers : IsNote AsMarkers note.Markers → P (Tells AsMarkers) (role.Text purpose.Markers)
   pub note : (x : spelled.Purpose) (y : Note) → IsNote x y → P (Tells x) (role.Text (purpose.Note y))
   pub digits : P (Tells AsDigits) (role.Text purpose.Digits)
   pub marker : P (Tells AsItemMarker) (role.Text purpose.Marker)
-  pub ending : P IsEnding role.Quiet
+  pub ending : P IsEnding role.Ending
   pub quiet : P IsQuiet role.Quiet
 
 -- so it is known of all that are shown
@@ -98,7 +99,7 @@ by-role P (Opens OfHeadingAtx) by h =
 by-role P (Tells AsParagraph) by h =
     by.block AsParagraph (record { tree = λ line r. refl; parted = λ bytes p text. refl })
 by-role P (Tells AsMarkers) by h =
-    by.note AsMarkers note.Markers (record { tree = λ line r. refl; whole = λ bytes p text. refl })
+    by.markers (record { tree = λ line r. refl; whole = λ bytes p text. refl })
 by-role P (Tells AsHeading) by h =
     by.note AsHeading note.Title (record { tree = λ line r. refl; whole = λ bytes p text. refl })
 by-role P (Tells AsDigits) by h = by.digits

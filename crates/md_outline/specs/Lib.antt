@@ -1,6 +1,8 @@
 pub mod Between
 pub mod HeadingDepths
 pub mod HeadingState
+pub mod LinedState
+pub mod LinesStand
 pub mod ListsBegin
 pub mod Outlined
 pub mod OutlineSteps

@@ -1,23 +1,26 @@
 -- What an outline has read between two events.
 use Rattle.std.specs.Prelude.{◌≡◌, ℕ, ◌+◌, ◌-◌, ◌++◌, Bool, true, false, List, [], ◌∷◌, slice_range, Option, Some, None}
-use Rattle.std.specs.Prelude.{get_or, length, option_map, set}
+use Rattle.std.specs.Prelude.{get_or, if◌then◌else◌, length, nat_lt, option_map, set}
 use Rattle.std.specs.Str.{IsUtf8}
 use Rattle.md_engine.specs.declared.event.Event.{Event}
 use Rattle.md_engine.specs.declared.event.Kind.{Kind}
 use Rattle.md_engine.specs.declared.event.Kind.TheVariants.{Enter, Exit}
 use Rattle.md_engine.specs.declared.event.Point.{Point}
-use Rattle.md_definition.specs.Outline.{Entry, entries_of, entry}
+use Rattle.md_definition.specs.Outline.{Entry, entries_of, entry, entry_with}
 use Rattle.md_definition.specs.Texts.{first_byte}
 use Rattle.md_definition.specs.declared.outline.Word.TheVariants as word
 use Rattle.md_seam.specs.Events.Spelled.{OpenLeaf}
 use Rattle.md_seam.specs.Events.Spelled as spelled
 use Rattle.md_outline.specs.Between.{is_between}
+use Rattle.md_outline.specs.LinedState.{begin_lines, closed_word, filled_line, marked_word, with_head, without_end}
 use Rattle.md_outline.specs.ParagraphState.{begin_entries}
 use Rattle.md_outline.specs.Roles.{leaf_entries, leaf_of, noted, shown_as}
 use Rattle.md_outline.specs.TextLines.{full_entries, text_entries}
 use Rattle.md_outline.specs.declared.outline.Reading.{Reading}
 use Rattle.md_outline.specs.declared.outline.Span.{Span}
+use Rattle.md_outline.specs.declared.outline.lined.Lined.{Lined}
 use Rattle.md_outline.specs.declared.outline.role.Note.{Note}
+use Rattle.md_outline.specs.declared.outline.role.Note.TheVariants as note
 use Rattle.md_outline.specs.declared.outline.role.Purpose.{Purpose}
 use Rattle.md_outline.specs.declared.outline.role.Purpose.TheVariants as purpose
 use Rattle.md_outline.specs.declared.outline.role.Role.{Role}
@@ -29,6 +32,10 @@ pub record OutlineState : Type 0 where
   pub depth : ℕ
   pub leaf : Option OpenLeaf
   pub text : Option Span
+  -- the virtual spaces in front of it
+  pub spaces : ℕ
+  -- the leaf block of several lines that is open
+  pub lined : Option Lined
   -- the line of a list that has begun, as long as its marker is not known
   pub untold : Option ℕ
   pub lines : List Entry
@@ -38,13 +45,15 @@ state_of r = record {
   depth = r.depth;
   leaf = option_map leaf_of r.leaf;
   text = r.text;
+  spaces = r.spaces;
+  lined = r.lined;
   untold = r.untold;
   lines = entries_of r.lines.items;
 }
 
 -- before the first event
 abbrev pub before_all : OutlineState
-before_all = record { depth = 0; leaf = None; text = None; untold = None; lines = [] }
+before_all = record { depth = 0; leaf = None; text = None; spaces = 0; lined = None; untold = None; lines = [] }
 
 abbrev pub leaf_ended : Option OpenLeaf → OutlineState → OutlineState
 leaf_ended None s = s
@@ -67,11 +76,36 @@ marked_at (Some place) text s = record s { untold = None; lines = with_marker pl
 abbrev pub told_marker : List ℕ → OutlineState → OutlineState
 told_marker text s = marked_at s.untold text s
 
+-- a leaf block of several lines is told the markers of its first fence
+abbrev pub head_marked : Option Lined → List ℕ → OutlineState → OutlineState
+head_marked None text s = s
+head_marked (Some lined) text s = if lined.is_fenced then s else record s {
+  lined = Some (record lined { is_fenced = true });
+  lines = with_head (marked_word (first_byte text)) lined.place s.lines;
+}
+
+-- a fence begins: a further one closes it, and the line on which it stands is none
+abbrev pub fence_begun : Option Lined → OutlineState → OutlineState
+fence_begun None s = s
+fence_begun (Some lined) s =
+    if lined.is_fenced then record s { lines = with_head closed_word lined.place (without_end s.lines) } else s
+
+-- a line ending opens a line of it, if the text goes on behind that, and no text is read
+abbrev pub line_ended : List ℕ → ℕ → Option Lined → Option Span → OutlineState → OutlineState
+line_ended bytes end None text s = s
+line_ended bytes end (Some lined) (Some text) s = s
+line_ended bytes end (Some lined) None s =
+    if nat_lt end (length bytes) then record s { lines = s.lines ++ entry (s.depth + 1) word.Line ∷ [] } else s
+
 -- a text has ended, with this piece
 abbrev pub told : Purpose → Bool → List ℕ → OutlineState → OutlineState
 told purpose.Block is_shown text s =
     record s { lines = s.lines ++ begin_entries s.depth is_shown ++ text_entries (s.depth + 1) text }
 told (purpose.Note x) is_shown text s = told_leaf x text s
+told purpose.Markers is_shown text s = head_marked s.lined text (told_leaf note.Markers text s)
+told (purpose.Part w) is_shown text s = record s { lines = s.lines ++ entry_with (s.depth + 1) w text ∷ [] }
+told purpose.Line is_shown text s =
+    record s { lines = without_end s.lines ++ filled_line (s.depth + 1) s.spaces text ∷ [] }
 told purpose.Marker is_shown text s = told_marker text s
 told purpose.Digits is_shown text s = s
 
@@ -101,10 +135,18 @@ state_enter bytes role.List p s = record s {
 }
 state_enter bytes role.Prefix p s = parted_at bytes p.index s.text s
 state_enter bytes (role.Leaf leaf) p s = record s { leaf = Some (leaf_of leaf) }
+state_enter bytes (role.Lined w) p s = record s {
+  leaf = None;
+  lined = Some (record { place = length s.lines; is_fenced = false });
+  lines = s.lines ++ begin_lines s.depth w;
+}
+state_enter bytes role.Fence p s = fence_begun s.lined s
 state_enter bytes (role.Text purpose) p s = record s {
   text = Some
       (record { from = spelled.byte_at p; is_parted = false });
+  spaces = spelled.columns_left p;
 }
+state_enter bytes role.Ending p s = s
 state_enter bytes role.Quiet p s = s
 
 abbrev pub state_exit : List ℕ → Role → Point → OutlineState → OutlineState
@@ -115,6 +157,9 @@ state_exit bytes role.Prefix p s = record s {
       (λ (t : Span). record t { from = spelled.byte_at p }) s.text;
 }
 state_exit bytes (role.Leaf leaf) p s = leaf_ended s.leaf s
+state_exit bytes (role.Lined w) p s = record s { lined = None }
+state_exit bytes role.Fence p s = s
+state_exit bytes role.Ending p s = line_ended bytes p.index s.lined s.text s
 state_exit bytes (role.Text purpose) p s = told_at bytes purpose p.index s.text s
 state_exit bytes role.Quiet p s = s
 

@@ -13,12 +13,13 @@ use Rattle.md_seam.specs.Events.Nested.{Balanced}
 use Rattle.md_definition.specs.Outline.{entries_of, outline}
 use Rattle.md_seam.specs.Events.Places.{last_line}
 use Rattle.md_definition.specs.Rest.{is_blank}
-use Rattle.md_seam.specs.Events.Spelled.{IsEnding, IsPrefix, IsQuiet, Role, Tells, byte_at, role, spelled}
+use Rattle.md_seam.specs.Events.Spelled.{IsEnding, IsPrefix, IsQuiet, Opens, Role, Tells, byte_at, role, spelled}
 use Rattle.md_definition.specs.Texts.{split_lines}
 use Rattle.md_outline.specs.Between.{is_between}
 use Rattle.md_outline.specs.HeadingDepths.{are_shallow}
 use Rattle.md_outline.specs.ListsBegin.{AllTold, ListsBegin}
-use Rattle.md_outline.specs.Roles.{is_block, is_plain, is_shown, is_told}
+use Rattle.md_outline.specs.LinesStand.{LinesStand, Outside}
+use Rattle.md_outline.specs.Roles.{has_lines, is_block, is_listed, is_plain, is_shown, is_told}
 use Rattle.md_outline.specs.declared.outline.Span.{Span}
 
 -- whether an event is of such a block, or of what the tree does not show
@@ -32,6 +33,10 @@ has_plain_name e = is_plain (role e.name)
 -- whether a text begins between characters here, behind a tab that is cut
 abbrev pub tells_between : List ℕ → Event → Bool
 tells_between bytes e = not (is_told (role e.name)) || is_between bytes (byte_at e.point)
+
+-- and of no leaf block of several lines (`is_listed`)
+abbrev pub has_listed_name : Event → Bool
+has_listed_name e = is_listed (role e.name)
 
 -- Container prefixes in a text: they part it into pieces, which an outline shows one by one. So each line of the text
 -- has to lie in one piece.
@@ -71,12 +76,13 @@ is_unparted (Some text) = not text.is_parted
 
 -- whether an event may stand in a text: a prefix begins where a line does, with nothing but spaces and tabs in front of
 -- it, and ends between characters; no text is parted but one that is a block, and from its first prefix to its end
--- nothing else begins or ends that the tree shows
+-- nothing else begins or ends that the tree shows; and no leaf block of several lines begins in a text
 abbrev pub parts_enter : List ℕ → Role → Point → Span → Bool
 parts_enter bytes IsPrefix p text =
     begins_line text (piece_to bytes p text) && is_blank (last_line (split_lines (piece_to bytes p text)))
 parts_enter bytes IsEnding p text = true
 parts_enter bytes IsQuiet p text = true
+parts_enter bytes (Opens kind) p text = not (has_lines kind) && not text.is_parted
 parts_enter bytes _ p text = not text.is_parted
 
 abbrev pub parts_exit : List ℕ → Role → Point → Span → Bool
@@ -118,6 +124,8 @@ pub record IsOutlined (events : List Event) (bytes : List ℕ) : Type 0 where
   pub parted : are_parted bytes None events ≡ true
   -- each list begins with an item that begins with its marker
   pub lists : ListsBegin bytes AllTold events
+  -- each leaf block of several lines has its parts in the order of the grammar
+  pub lines : LinesStand bytes Outside events
   pub depths : are_shallow (spelled events bytes) ≡ true
 
 -- the lines are those of the tree that the events spell out

@@ -8,12 +8,15 @@
 --   `mark` in code, and `ListsBegin` and `ListLemmas`.
 -- - A leaf block: the same three, and what is known of it: `leaf_of` here, `Leaf` with `noted` and `push_leaf` in code,
 --   `Knows` with its two laws in the lemmas.
+-- - A leaf block of several lines (`has_lines`): `is_shown` and `shown_as` here, `role_of` in code; its lines are shown
+--   as they come (`LinedState`), where they may (`LinesStand`), and `LinedLemmas` has what is proved of it.
 -- - A text that tells a leaf block something: the same three, and `told_as` here, `Note` in code, `knows-noted` in the
 --   lemmas.
 use Rattle.std.specs.Prelude.{ℕ, Bool, true, false, List, None}
 use Rattle.md_definition.specs.declared.outline.Word.TheVariants as word
 use Rattle.md_definition.specs.Outline.{Entry, block_entries}
-use Rattle.md_seam.specs.Events.Spelled.{AsDigits, AsHeading, AsItemMarker, AsMarkers, AsParagraph, BreakLeaf}
+use Rattle.md_seam.specs.Events.Spelled.{AsDigits, AsHeading, AsInfo, AsItemMarker, AsLine, AsMarkers, AsMeta}
+use Rattle.md_seam.specs.Events.Spelled.{AsParagraph, BreakLeaf, IsFence, LeafKind, OfCode, OfFence, OfMath}
 use Rattle.md_seam.specs.Events.Spelled.{HeadingAtxLeaf, Holds, IsEnding, IsPrefix, IsQuiet, ItemShape, OfBreak}
 use Rattle.md_seam.specs.Events.Spelled.{OfHeadingAtx, OpenLeaf, Opens, OrderedShape, QuoteShape, Tells}
 use Rattle.md_seam.specs.Events.Spelled.{UnorderedShape, block_of}
@@ -45,10 +48,28 @@ is_plain IsQuiet = true
 is_plain _ = false
 
 -- these, and those of lists
+abbrev pub is_listed : spelled.Role → Bool
+is_listed (Holds OrderedShape) = true
+is_listed (Holds UnorderedShape) = true
+is_listed x = is_plain x
+
+-- the leaf blocks of several lines that an outline shows
+abbrev pub has_lines : LeafKind → Bool
+has_lines OfCode = true
+has_lines OfFence = true
+has_lines OfMath = true
+has_lines _ = false
+
+-- those above, and those of such leaf blocks and their parts
 abbrev pub is_shown : spelled.Role → Bool
-is_shown (Holds OrderedShape) = true
-is_shown (Holds UnorderedShape) = true
-is_shown x = is_plain x
+is_shown (Opens OfCode) = true
+is_shown (Opens OfFence) = true
+is_shown (Opens OfMath) = true
+is_shown IsFence = true
+is_shown (Tells AsLine) = true
+is_shown (Tells AsInfo) = true
+is_shown (Tells AsMeta) = true
+is_shown x = is_listed x
 
 -- what a text is read from
 abbrev pub is_told : spelled.Role → Bool
@@ -70,10 +91,18 @@ shown_as IsPrefix = role.Prefix
 shown_as (Opens OfBreak) = role.Leaf leaf.Break
 shown_as (Opens OfHeadingAtx) = role.Leaf (leaf.Heading (record { markers = None; text = None }))
 shown_as (Tells AsParagraph) = role.Text purpose.Block
-shown_as (Tells AsMarkers) = role.Text (purpose.Note note.Markers)
+shown_as (Tells AsMarkers) = role.Text purpose.Markers
 shown_as (Tells AsHeading) = role.Text (purpose.Note note.Title)
 shown_as (Tells AsDigits) = role.Text purpose.Digits
 shown_as (Tells AsItemMarker) = role.Text purpose.Marker
+shown_as (Opens OfCode) = role.Lined word.Code
+shown_as (Opens OfFence) = role.Lined (word.Fence 0 false)
+shown_as (Opens OfMath) = role.Lined (word.Math false)
+shown_as IsFence = role.Fence
+shown_as (Tells AsInfo) = role.Text (purpose.Part word.Info)
+shown_as (Tells AsMeta) = role.Text (purpose.Part word.Meta)
+shown_as (Tells AsLine) = role.Text purpose.Line
+shown_as IsEnding = role.Ending
 shown_as _ = role.Quiet
 
 -- what is known of a leaf block, as the tree has it

@@ -4,16 +4,21 @@ ghost use Rattle.std.specs.Prelude.{◌≡◌, true, Option, option_map, IfOk, O
 ghost use Rattle.std.specs.Str.{IsUtf8};
 ghost use Rattle.md_seam.specs.Events.Spelled as spelled;
 ghost use Rattle.md_outline.specs.Outlined.{Outlines};
-ghost use Rattle.md_outline.specs.OutlineSteps.{IsCutAt, leaf_ended, parted_at, state_by, state_enter, state_exit};
+ghost use Rattle.md_outline.specs.OutlineSteps.{IsCutAt, fence_begun, head_marked, leaf_ended, line_ended, parted_at};
+ghost use Rattle.md_outline.specs.OutlineSteps.{state_by, state_enter, state_exit};
 ghost use Rattle.md_outline.specs.OutlineSteps.{state_of, told_at, told_leaf, told_marker};
 ghost use Rattle.md_outline.specs.Roles.{shown_as};
 ghost use Rattle.md_outline.specs.declared.outline.Span.{Span};
 
 mod heading;
+mod lined;
 mod lines;
 mod paragraph;
 mod role;
 
+use crate::outline::lined::{
+    Lined, close_head, fill_line, mark_head, push_begun, push_line, push_part, spaces_at,
+};
 use crate::outline::lines::{first_of, next, part, push};
 use crate::outline::paragraph::{push_block, push_piece};
 use crate::outline::role::{Leaf, Note, Purpose, Role, push_leaf, role_of};
@@ -40,6 +45,10 @@ struct Reading<'a> {
     depth: usize,
     leaf: Option<Leaf<'a>>,
     text: Option<Span>,
+    /// The virtual spaces in front of it.
+    spaces: usize,
+    /// The leaf block of several lines that is open.
+    lined: Option<Lined>,
     /// The line of a list that has begun, as long as its marker is not known.
     untold: Option<usize>,
     lines: Vec<OutlineLine<'a>>,
@@ -81,6 +90,49 @@ impl<'a> Reading<'a> {
         }
     }
 
+    /// Tells a leaf block of several lines the markers of its first fence.
+    fn mark_lined(&mut self, text: &[u8])
+        ensures bytes { self.new.bytes ≡ self.old.bytes }
+        ensures read { state_of self.new ≡ head_marked (state_of self.old).lined text.now (state_of self.old) }
+    {
+        let Some(Lined { place, is_fenced }) = self.lined else {
+            return;
+        };
+        if is_fenced {
+            return;
+        }
+        self.lined = Some(Lined {
+            place,
+            is_fenced: true,
+        });
+        mark_head(&mut self.lines, place, first_of(text));
+    }
+
+    /// Reads the begin of a fence, which may close a leaf block.
+    fn begin_fence(&mut self)
+        ensures bytes { self.new.bytes ≡ self.old.bytes }
+        ensures read { state_of self.new ≡ fence_begun (state_of self.old).lined (state_of self.old) }
+    {
+        let Some(Lined { place, is_fenced }) = self.lined else {
+            return;
+        };
+        if is_fenced {
+            close_head(&mut self.lines, place);
+        }
+    }
+
+    /// Reads a line ending, which may open a line of a leaf block.
+    fn end_line(&mut self, end: usize) -> Result<(), Message>
+        ensures bytes { self.new.bytes ≡ self.old.bytes }
+        ensures read { OnOk result (state_of self.new ≡
+            line_ended self.old.bytes.now end (state_of self.old).lined self.old.text (state_of self.old)) }
+    {
+        match (self.lined, self.text) {
+            (Some(_), None) if end < self.bytes.len() => push_line(&mut self.lines, self.depth),
+            _ => Ok(()),
+        }
+    }
+
     /// Adds the leaf that ends here, if one is open.
     fn end_leaf(&mut self) -> Result<(), Message>
         ensures bytes { self.new.bytes ≡ self.old.bytes }
@@ -110,6 +162,13 @@ impl<'a> Reading<'a> {
                 self.note(note, text);
                 Ok(())
             }
+            Purpose::Markers => {
+                self.note(Note::Markers, text);
+                self.mark_lined(text);
+                Ok(())
+            }
+            Purpose::Part(word) => push_part(&mut self.lines, self.depth, word, text),
+            Purpose::Line => fill_line(&mut self.lines, self.depth, self.spaces, text),
             Purpose::Marker => {
                 self.mark(text);
                 Ok(())
@@ -167,13 +226,23 @@ impl<'a> Reading<'a> {
             }
             Role::Prefix => self.part_text(point.index)?,
             Role::Leaf(leaf) => self.leaf = Some(leaf),
+            Role::Lined(word) => {
+                self.leaf = None;
+                self.lined = Some(Lined {
+                    place: self.lines.len(),
+                    is_fenced: false,
+                });
+                push_begun(&mut self.lines, self.depth, word)?;
+            }
+            Role::Fence => self.begin_fence(),
             Role::Text(_) => {
+                self.spaces = spaces_at(point);
                 self.text = Some(Span {
                     from: byte_at(point)?,
                     is_parted: false,
                 });
             }
-            Role::Quiet => {}
+            Role::Ending | Role::Quiet => {}
         }
         Ok(())
     }
@@ -194,8 +263,13 @@ impl<'a> Reading<'a> {
                 Ok(())
             }
             Role::Leaf(_) => self.end_leaf(),
+            Role::Lined(_) => {
+                self.lined = None;
+                Ok(())
+            }
+            Role::Ending => self.end_line(point.index),
             Role::Text(purpose) => self.end_text(purpose, point.index),
-            Role::Quiet => Ok(()),
+            Role::Fence | Role::Quiet => Ok(()),
         }
     }
 
@@ -206,10 +280,13 @@ impl<'a> Reading<'a> {
             state_of self.new ≡ state_by self.old.bytes.now event.now.kind (shown_as (spelled.role event.now.name))
             event.now.point (state_of self.old)) }
     {
-        match (role_of(event.name), event.kind) {
-            (Role::Quiet, _) => Ok(()),
-            (role, Kind::Enter) => self.enter(role, event.point),
-            (role, Kind::Exit) => self.exit(role, event.point),
+        let role = role_of(event.name);
+        if let Role::Quiet = role {
+            return Ok(());
+        }
+        match event.kind {
+            Kind::Enter => self.enter(role, event.point),
+            Kind::Exit => self.exit(role, event.point),
         }
     }
 }
@@ -229,6 +306,8 @@ pub fn outline<'a>(
         depth: 0,
         leaf: None,
         text: None,
+        spaces: 0,
+        lined: None,
         untold: None,
         lines: Vec::new(alloc),
     };

@@ -27,6 +27,12 @@ pub enum Purpose {
     /// A block of its own, shown with its lines as they come.
     Block,
     Note(Note),
+    /// A run of markers of a heading or of a fence.
+    Markers,
+    /// What the first fence of a leaf block says, shown with this word.
+    Part(Word),
+    /// The text of a line of a leaf block.
+    Line,
     /// The marker of an item, which a list is shown with.
     Marker,
     /// The digits of an item, which are not shown.
@@ -51,6 +57,12 @@ pub enum Role<'a> {
     Prefix,
     /// A leaf block, as it begins.
     Leaf(Leaf<'a>),
+    /// A leaf block of several lines, with the word that shows it as it begins.
+    Lined(Word),
+    /// A fence of one.
+    Fence,
+    /// A line ending, which may open a line of one.
+    Ending,
     Text(Purpose),
     Quiet,
 }
@@ -76,8 +88,22 @@ pub fn role_of<'a>(name: Name) -> Role<'a>
         | Name::HeadingAtxSequence
         | Name::HeadingSetextUnderlineSequence
         | Name::CodeFencedFenceSequence
-        | Name::MathFlowFenceSequence => Role::Text(Purpose::Note(Note::Markers)),
+        | Name::MathFlowFenceSequence => Role::Text(Purpose::Markers),
         Name::HeadingAtxText | Name::HeadingSetextText => Role::Text(Purpose::Note(Note::Title)),
+        Name::CodeIndented => Role::Lined(Word::Code),
+        Name::CodeFenced => Role::Lined(Word::Fence {
+            marker: 0,
+            closed: false,
+        }),
+        Name::MathFlow => Role::Lined(Word::Math { closed: false }),
+        Name::FrontmatterFence | Name::CodeFencedFence | Name::MathFlowFence => Role::Fence,
+        Name::CodeFencedFenceInfo => Role::Text(Purpose::Part(Word::Info)),
+        Name::CodeFencedFenceMeta | Name::MathFlowFenceMeta => {
+            Role::Text(Purpose::Part(Word::Meta))
+        }
+        Name::FrontmatterChunk | Name::CodeFlowChunk | Name::MathFlowChunk | Name::HtmlFlowData =>
+            Role::Text(Purpose::Line),
+        Name::LineEnding => Role::Ending,
         _ => Role::Quiet,
     }
 }

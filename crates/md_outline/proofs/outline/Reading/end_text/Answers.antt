@@ -1,6 +1,9 @@
-use Rattle.md_definition.specs.Outline.{entries_of}
+use Rattle.std.proofs.Common.{◌+◌, ◌∷◌, [], ◌++◌, refl}
+use Rattle.md_definition.specs.Outline.{entries_of, entry_with}
+use Rattle.md_outline.specs.LinedState.{filled_line, without_end}
 use Rattle.md_outline.specs.OutlineSteps.{state_of}
-use Rattle.md_outline.proofs.OutlineLemmas.{block-end, note-end, on_ok-map}
+use Rattle.md_outline.proofs.OutlineLemmas.{block-end, markers-end, note-end, on_ok-map, part-end}
+use Rattle.md_outline.specs.declared.outline.role.Purpose.TheVariants as purpose
 use Rattle.md_outline.proofs.outline.Reading.end_text.Goals as goal
 
 pub returns-in-Block-clause-read : goal.returns-in-Block-clause-read
@@ -18,3 +21,35 @@ returns-in-Note-clause-read c = λ cut.
     note-end c.args.self.now.bytes.now c.part-text.result.now c.in-Some.span c.args.end
     c.args.self.now.text c.args.purpose c.in-Note.note (state_of c.args.self.now) (state_of c.note.new.self)
     c.in-Some.is c.in-Note.is cut c.part-text.ensures c.note.ensures.read
+
+pub returns-in-Markers-clause-read : goal.returns-in-Markers-clause-read
+returns-in-Markers-clause-read c = λ cut.
+    markers-end c.args.self.now.bytes.now c.part-text.result.now c.in-Some.span c.args.end
+    c.args.self.now.text c.args.purpose (state_of c.args.self.now) (state_of c.note-in-Markers.new.self)
+    (state_of c.mark_lined.new.self)
+    c.in-Some.is c.in-Markers.is cut c.part-text.ensures c.note-in-Markers.ensures.read c.mark_lined.ensures.read
+
+pub returns-in-Part-clause-read : goal.returns-in-Part-clause-read
+returns-in-Part-clause-read c =
+    on_ok-map c.push_part.result
+    (λ reads cut.
+    part-end c.args.self.now.bytes.now c.part-text.result.now c.in-Some.span c.args.end c.args.self.now.text
+    c.args.purpose (purpose.Part c.in-Part.word)
+    (state_of c.args.self.now) (entries_of c.push_part.new.lines.items)
+    (λ text.
+    entries_of c.args.self.now.lines.items ++ entry_with (c.args.self.now.depth + 1) c.in-Part.word text ∷ [])
+    c.in-Some.is c.in-Part.is cut c.part-text.ensures reads refl)
+    c.push_part.ensures
+
+pub returns-in-Line-clause-read : goal.returns-in-Line-clause-read
+returns-in-Line-clause-read c =
+    on_ok-map c.fill_line.result
+    (λ reads cut.
+    part-end c.args.self.now.bytes.now c.part-text.result.now c.in-Some.span c.args.end c.args.self.now.text
+    c.args.purpose purpose.Line
+    (state_of c.args.self.now) (entries_of c.fill_line.new.lines.items)
+    (λ text.
+    without_end (entries_of c.args.self.now.lines.items)
+    ++ filled_line (c.args.self.now.depth + 1) c.args.self.now.spaces text ∷ [])
+    c.in-Some.is c.in-Line.is cut c.part-text.ensures reads refl)
+    c.fill_line.ensures

@@ -1,0 +1,233 @@
+// The outline of leaf blocks of several lines, on events as a parse adds them.
+
+use markdown_blocks::outline::outline;
+use md_definition::outline::Word;
+use md_engine::configuration::ParseOptions;
+use md_engine::event::{Event, Kind, Name, Point};
+use md_engine::message::Message;
+use md_engine::parse_state::ParseState;
+use std::alloc::{AllocError, Global};
+use std::process::Abort;
+
+// What a letter begins, if it is upper case, or ends.
+fn name(letter: u8) -> Name {
+    match letter.to_ascii_uppercase() {
+        b'C' => Name::CodeIndented,
+        b'F' => Name::CodeFenced,
+        b'M' => Name::MathFlow,
+        b'G' => Name::CodeFencedFence,
+        b'H' => Name::MathFlowFence,
+        b'S' => Name::CodeFencedFenceSequence,
+        b'R' => Name::MathFlowFenceSequence,
+        b'I' => Name::CodeFencedFenceInfo,
+        b'J' => Name::CodeFencedFenceMeta,
+        b'K' => Name::MathFlowFenceMeta,
+        b'X' => Name::CodeFlowChunk,
+        b'Y' => Name::MathFlowChunk,
+        b'L' => Name::LineEnding,
+        b'B' => Name::BlankLineEnding,
+        b'Q' => Name::BlockQuote,
+        b'O' => Name::BlockQuotePrefix,
+        b'P' => Name::Paragraph,
+        _ => Name::SpaceOrTab,
+    }
+}
+
+// The point in front of a byte, of which a tab was cut at `vs` columns.
+fn point(text: &[u8], index: usize, vs: usize) -> Point {
+    let mut point = Point {
+        line: 1,
+        column: 1,
+        index,
+        vs,
+    };
+    for byte in text.iter().take(index) {
+        match *byte {
+            b'\n' => {
+                point.line = point.line.saturating_add(1);
+                point.column = 1;
+            }
+            b'\t' => {
+                point.column = (point.column.saturating_add(3) / 4)
+                    .saturating_mul(4)
+                    .saturating_add(1);
+            }
+            _ => point.column = point.column.saturating_add(1),
+        }
+    }
+    point.column = point.column.saturating_add(vs);
+    point
+}
+
+// The events of a list: each a letter and the byte it stands at, as a letter from `a` on. A digit behind that says how
+// many columns of a tab there were taken.
+fn all(alloc: Global, text: &[u8], list: &str) -> Result<Vec<Event>, AllocError> {
+    let mut events = Vec::new(alloc);
+    for part in list.split(' ') {
+        let (letter, index, vs) = match part.as_bytes() {
+            [letter, index] => (*letter, *index, b'0'),
+            [letter, index, vs] => (*letter, *index, *vs),
+            _ => (b'W', b'a', b'0'),
+        };
+        events.push(Event {
+            kind: if letter.is_ascii_uppercase() {
+                Kind::Enter
+            } else {
+                Kind::Exit
+            },
+            name: name(letter),
+            point: point(
+                text,
+                usize::from(index.saturating_sub(b'a')),
+                usize::from(vs.saturating_sub(b'0')),
+            ),
+            link: None,
+        })?;
+    }
+    Ok(events)
+}
+
+// The outline of such events: a leaf block as a word, what its fence says behind `i` and `m`, and each line of text
+// between bars, behind a dot for each virtual space.
+fn shown(alloc: Global, text: &str, list: &str) -> Result<String, Message> {
+    let Ok(events) = all(alloc, text.as_bytes(), list) else {
+        return Err(Message);
+    };
+    let state = ParseState {
+        options: &ParseOptions::NONE,
+        bytes: text.as_bytes(),
+        definitions: Vec::new(alloc),
+        gfm_footnote_definitions: Vec::new(alloc),
+    };
+    let lines = outline(alloc, &events, &state)?;
+    let mut shown = String::new(alloc);
+    for line in lines.iter() {
+        if add(&mut shown, line.word, line.spaces, line.text).is_err() {
+            return Err(Message);
+        }
+    }
+    Ok(shown)
+}
+
+fn add(shown: &mut String, word: Word, spaces: usize, text: &str) -> Result<(), AllocError> {
+    match word {
+        Word::Code => shown.push_str("code"),
+        Word::Fence { marker, closed } => {
+            shown.push_str(if closed { "closed" } else { "open" })?;
+            shown.push(char::from(marker))
+        }
+        Word::Math { closed } => shown.push_str(if closed { "closed$" } else { "open$" }),
+        Word::Quote => shown.push_str("q"),
+        Word::Paragraph => shown.push_str("p"),
+        _ => {
+            shown.push_str(match word {
+                Word::Info => "i",
+                Word::Meta => "m",
+                _ => "",
+            })?;
+            shown.push_str("|")?;
+            for _ in 0..spaces {
+                shown.push_str(".")?;
+            }
+            shown.push_str(text)?;
+            shown.push_str("|")
+        }
+    }
+}
+
+// A run that is refused memory answers so, and the next run is given it.
+fn check(rt: &impl Abort, alloc: Global, text: &str, list: &str, want: &str) {
+    let all = match shown(alloc, text, list) {
+        Ok(all) => Ok(all),
+        Err(Message) => shown(alloc, text, list),
+    };
+    assert!(rt;
+        matches!(all, Ok(ref all) if all.as_str() == want),
+        "of {text:?}"
+    );
+}
+
+// CommonMark 4.4
+#[test]
+fn shows_indented_code(rt: HostRuntime) {
+    for (text, list, want) in [
+        ("    a", "Wa we Ce Xe xf cf", "code|a|"),
+        // A line of spaces, and an empty one
+        (
+            "    a\n      \n\n\tb\nc",
+            "Ca Wa we Xe xf Lf lg Wg wk Xk xm Lm ln Ln lo Wo wp Xp xq cq Lq lr Pr ps",
+            "code|a||  ||||b|p|c|",
+        ),
+        // A tab that the prefix of a quote begins, and the indent ends in
+        (">\t\ta", "Qa Oa ob1 Cb1 Wb1 wc2 Xc2 xe ce qe", "qcode|..a|"),
+        // The prefixes of a quote between its lines
+        (
+            ">     a\n>     b",
+            "Qa Oa oc Wc wg Cg Xg xh Lh li Oi ok Wk wo Xo xp cp qp",
+            "qcode|a||b|",
+        ),
+    ] {
+        check(&rt, rt.alloc(), text, list, want);
+    }
+}
+
+// CommonMark 4.5
+#[test]
+fn shows_fenced_code(rt: HostRuntime) {
+    for (text, list, want) in [
+        ("```", "Fa Ga Sa sd gd fd", "open`"),
+        // The ending of the text opens no line
+        ("~~~\n", "Fa Ga Sa sd gd Ld le fe", "open~"),
+        // Closed: without lines, with one, and with lines that are empty
+        ("~~~\n~~~", "Fa Ga Sa sd gd Ld le Ge Se sh gh fh", "closed~"),
+        (
+            "```\na\n````",
+            "Fa Ga Sa sd gd Ld le Xe xf Lf lg Gg Sg sk gk fk",
+            "closed`|a|",
+        ),
+        (
+            "```\n\n\n```\nb",
+            "Fa Ga Sa sd gd Ld le Le lf Lf lg Gg Sg sj gj fj Lj lk Pk pl",
+            "closed`||||p|b|",
+        ),
+        // What its fence says
+        (
+            "``` a b c\nd",
+            "Fa Ga Sa sd Wd we Ie if Wf wg Jg jj gj Lj lk Xk xl fl",
+            "open`i|a|m|b c||d|",
+        ),
+        (
+            "~~~a \n~~~ ",
+            "Fa Ga Sa sd Id ie We wf gf Lf lg Gg Sg sj Wj wk gk fk",
+            "closed~i|a|",
+        ),
+        // A tab of which the indent of the fence takes one column
+        (
+            " ```\n\ta",
+            "Wa wb Fb Gb Sb se ge Le lf Wf wf1 Xf1 xh fh",
+            "open`|...a|",
+        ),
+        // The end of a quote ends it
+        (
+            "> ```\n> a\nb",
+            "Qa Oa oc Fc Gc Sc sf gf Lf lg Og oi Xi xj fj qj Lj lk Pk pl",
+            "qopen`|a|p|b|",
+        ),
+    ] {
+        check(&rt, rt.alloc(), text, list, want);
+    }
+}
+
+#[test]
+fn shows_math(rt: HostRuntime) {
+    for (text, list, want) in [
+        ("$$", "Ma Ha Ra rc hc mc", "open$"),
+        (
+            "$$ a b\nc\n$$",
+            "Ma Ha Ra rc Wc wd Kd kg hg Lg lh Yh yi Li lj Hj Rj rl hl ml",
+            "closed$m|a b||c|",
+        ),
+    ] {
+        check(&rt, rt.alloc(), text, list, want);
+    }
+}

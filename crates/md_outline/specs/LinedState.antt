@@ -1,0 +1,38 @@
+-- What an outline shows of a leaf block of several lines that is open.
+use Rattle.std.specs.Prelude.{ℕ, ◌+◌, ◌-◌, true, List, [], ◌∷◌, length, take, set, get_or}
+use Rattle.md_definition.specs.declared.outline.Word.{Word}
+use Rattle.md_definition.specs.declared.outline.Word.TheVariants as word
+use Rattle.md_definition.specs.Outline.{Entry, entry}
+
+-- it begins: code with its first line, which is empty yet
+abbrev pub first_lines : ℕ → Word → List Entry
+first_lines depth word.Code = entry depth word.Line ∷ []
+first_lines depth _ = []
+
+abbrev pub begin_lines : ℕ → Word → List Entry
+begin_lines depth w = entry depth w ∷ first_lines (depth + 1) w
+
+-- its first fence has this marker
+abbrev pub marked_word : ℕ → Word → Word
+marked_word b (word.Fence marker closed) = word.Fence b closed
+marked_word b w = w
+
+-- a further fence closes it
+abbrev pub closed_word : Word → Word
+closed_word (word.Fence marker closed) = word.Fence marker true
+closed_word (word.Math closed) = word.Math true
+closed_word w = w
+
+-- the line of its word is told that
+abbrev pub with_head : (Word → Word) → ℕ → List Entry → List Entry
+with_head f place lines =
+    set lines place
+    (record (get_or lines place (entry 0 word.Item)) { word = f (get_or lines place (entry 0 word.Item)).word })
+
+-- without its last line
+abbrev pub without_end : List Entry → List Entry
+without_end lines = take (length lines - 1) lines
+
+-- a line with its text
+abbrev pub filled_line : ℕ → ℕ → List ℕ → Entry
+filled_line depth spaces text = record { depth = depth; word = word.Line; spaces = spaces; text = text }

@@ -1,0 +1,136 @@
+-- Leaf blocks of several lines as an outline can show them: each has its parts in the order of the grammar, and one
+-- piece of text a line at the most.
+--
+-- A walk over the events by their roles, which knows where in such a leaf block it is.
+use Rattle.std.specs.Prelude.{◌≡◌, ◌==◌, ℕ, false, if◌then◌else◌, nat_lt, List, [], ◌∷◌, length, slice_range}
+use Rattle.md_engine.specs.declared.event.Event.{Event}
+use Rattle.md_engine.specs.declared.event.Kind.{Kind}
+use Rattle.md_engine.specs.declared.event.Kind.TheVariants.{Enter, Exit}
+use Rattle.md_engine.specs.declared.event.Point.{Point}
+use Rattle.md_definition.specs.Texts.{first_byte}
+use Rattle.md_seam.specs.Events.Spelled.{AsInfo, AsLine, AsMarkers, AsMeta, IsEnding, IsFence, IsPrefix, IsQuiet}
+use Rattle.md_seam.specs.Events.Spelled.{LeafKind, OfCode, OfFence, OfMath, Opens, Purpose, Role, Tells, byte_at, role}
+
+-- Where in a leaf block of several lines one is, with its kind.
+pub data Site : Type 0 where
+  -- in none
+  Outside : Site
+  -- in front of its markers, and in them, from this point on
+  AtMarkers : LeafKind → Site
+  InMarkers : LeafKind → Point → Site
+  -- behind them, in its first fence: in front of `info`, or behind that, in front of `meta`
+  AtInfo : LeafKind → Site
+  AtMeta : LeafKind → Site
+  -- in a text of this purpose
+  InText : LeafKind → Purpose → Site
+  -- on a line that has all it may have
+  AtEnding : LeafKind → Site
+  -- on a line that is empty yet
+  AtLine : LeafKind → Site
+  -- in a further fence, or behind it, and in its markers
+  AtEnd : LeafKind → Site
+  InEnd : LeafKind → Site
+
+-- where a leaf block begins: code with a line
+abbrev pub begun_site : LeafKind → Site
+begun_site OfCode = AtLine OfCode
+begun_site OfFence = AtMarkers OfFence
+begun_site OfMath = AtMarkers OfMath
+begun_site kind = Outside
+
+-- behind a line ending, which opens a line if the text goes on
+abbrev pub ending_site : List ℕ → Point → LeafKind → Site → Site
+ending_site bytes p kind site = if nat_lt p.index (length bytes) then AtLine kind else site
+
+abbrev pub text_site : LeafKind → Purpose → Site
+text_site kind AsInfo = AtMeta kind
+text_site kind _ = AtEnding kind
+
+-- where one is behind an event
+abbrev pub site_by : List ℕ → Site → Kind → Role → Point → Site
+site_by bytes Outside Enter (Opens kind) p = begun_site kind
+site_by bytes (AtMarkers kind) Enter (Tells AsMarkers) p = InMarkers kind p
+site_by bytes (InMarkers kind q) Exit (Tells AsMarkers) p = AtInfo kind
+site_by bytes (AtInfo kind) Enter (Tells purpose) p = InText kind purpose
+site_by bytes (AtInfo kind) Exit IsFence p = AtEnding kind
+site_by bytes (AtMeta kind) Enter (Tells purpose) p = InText kind purpose
+site_by bytes (AtMeta kind) Exit IsFence p = AtEnding kind
+site_by bytes (InText kind purpose) Exit (Tells x) p = text_site kind purpose
+site_by bytes (AtEnding kind) Exit IsEnding p = ending_site bytes p kind (AtEnding kind)
+site_by bytes (AtEnding kind) Exit (Opens x) p = Outside
+site_by bytes (AtLine kind) Enter (Tells AsLine) p = InText kind AsLine
+site_by bytes (AtLine kind) Enter IsFence p = AtEnd kind
+site_by bytes (AtLine kind) Exit (Opens x) p = Outside
+site_by bytes (AtEnd kind) Enter (Tells AsMarkers) p = InEnd kind
+site_by bytes (AtEnd kind) Exit (Opens x) p = Outside
+site_by bytes (InEnd kind) Exit (Tells AsMarkers) p = AtEnd kind
+site_by bytes site kind x p = site
+
+-- which leaf blocks have fences, and which an `info`
+abbrev pub HasFences : LeafKind → Type 0
+HasFences OfFence = Unit {0}
+HasFences OfMath = Unit {0}
+HasFences _ = ⊥
+
+abbrev pub HasInfo : LeafKind → Type 0
+HasInfo OfFence = Unit {0}
+HasInfo _ = ⊥
+
+-- a leaf block that is open ends as one of several lines
+abbrev pub HasLines : LeafKind → Type 0
+HasLines OfCode = Unit {0}
+HasLines OfFence = Unit {0}
+HasLines OfMath = Unit {0}
+HasLines _ = ⊥
+
+-- a text ends as what it begins as
+abbrev pub SameText : Purpose → Purpose → Type 0
+SameText AsInfo AsInfo = Unit {0}
+SameText AsMeta AsMeta = Unit {0}
+SameText AsLine AsLine = Unit {0}
+SameText _ _ = ⊥
+
+-- what may stand there
+abbrev pub MayStand : List ℕ → Site → Kind → Role → Point → Type 0
+MayStand bytes Outside Enter (Opens x) p = Unit {0}
+MayStand bytes Outside Exit (Opens OfCode) p = ⊥
+MayStand bytes Outside Exit (Opens OfFence) p = ⊥
+MayStand bytes Outside Exit (Opens OfMath) p = ⊥
+MayStand bytes Outside kind IsFence p = ⊥
+MayStand bytes Outside kind (Tells AsLine) p = ⊥
+MayStand bytes Outside kind (Tells AsInfo) p = ⊥
+MayStand bytes Outside kind (Tells AsMeta) p = ⊥
+MayStand bytes Outside kind x p = Unit {0}
+MayStand bytes site kind IsQuiet p = Unit {0}
+MayStand bytes (AtMarkers kind) Enter IsFence p = Unit {0}
+MayStand bytes (AtMarkers kind) Enter (Tells AsMarkers) p = Unit {0}
+MayStand bytes (InMarkers kind q) Exit (Tells AsMarkers) p =
+    (first_byte (slice_range bytes (byte_at q) p.index) == 0) ≡ false
+MayStand bytes (AtInfo kind) Enter (Tells AsInfo) p = HasInfo kind
+MayStand bytes (AtInfo kind) Enter (Tells AsMeta) p = Unit {0}
+MayStand bytes (AtInfo kind) Exit IsFence p = Unit {0}
+MayStand bytes (AtMeta kind) Enter (Tells AsMeta) p = Unit {0}
+MayStand bytes (AtMeta kind) Exit IsFence p = Unit {0}
+MayStand bytes (InText kind purpose) Exit (Tells x) p = SameText purpose x
+MayStand bytes (AtEnding kind) x IsPrefix p = Unit {0}
+MayStand bytes (AtEnding kind) x IsEnding p = Unit {0}
+MayStand bytes (AtEnding kind) Exit IsFence p = Unit {0}
+MayStand bytes (AtEnding kind) Exit (Opens x) p = HasLines x
+MayStand bytes (AtLine kind) x IsPrefix p = Unit {0}
+MayStand bytes (AtLine kind) x IsEnding p = Unit {0}
+MayStand bytes (AtLine kind) Enter (Tells AsLine) p = Unit {0}
+MayStand bytes (AtLine kind) Enter IsFence p = HasFences kind
+MayStand bytes (AtLine kind) Exit (Opens x) p = HasLines x
+MayStand bytes (AtEnd kind) Enter (Tells AsMarkers) p = Unit {0}
+MayStand bytes (AtEnd kind) Exit IsFence p = Unit {0}
+MayStand bytes (AtEnd kind) Exit (Opens x) p = HasLines x
+MayStand bytes (InEnd kind) Exit (Tells AsMarkers) p = Unit {0}
+MayStand bytes site kind x p = ⊥
+
+-- whether leaf blocks of several lines have their parts so from here on, and end
+abbrev pub LinesStand : List ℕ → Site → List Event → Type 0
+LinesStand bytes Outside [] = Unit {0}
+LinesStand bytes site [] = ⊥
+LinesStand bytes site (e ∷ es) =
+    MayStand bytes site e.kind (role e.name) e.point
+    × LinesStand bytes (site_by bytes site e.kind (role e.name) e.point) es

@@ -1,0 +1,145 @@
+// What an outline knows of a leaf block of several lines that is open, and what it shows of it: indented code, fenced
+// code and math. Its lines are shown as they come, and the line of its word is told later what its fences say.
+
+ghost use Rattle.std.specs.Prelude.{◌≡◌, ◌+◌, ◌∷◌, [], ◌++◌, if◌then◌else◌, OnOk};
+ghost use Rattle.std.specs.Str.{IsUtf8};
+ghost use Rattle.md_definition.specs.Outline.{entries_of, entry, entry_with};
+ghost use Rattle.md_definition.specs.declared.outline.Word.TheVariants as word;
+ghost use Rattle.md_seam.specs.Events.Spelled as spelled;
+ghost use Rattle.md_outline.specs.LinedState.{begin_lines, closed_word, filled_line, marked_word, with_head};
+ghost use Rattle.md_outline.specs.LinedState.{without_end};
+
+use crate::outline::lines::{next, push, text_of};
+use md_definition::outline::{OutlineLine, Word};
+use md_engine::event::Point;
+use md_engine::message::Message;
+
+/// A leaf block of several lines that is open.
+#[derive(Clone, Copy)]
+pub struct Lined {
+    /// The line of the outline that has its word.
+    pub place: usize,
+    /// Whether it has a fence that told its markers: a further one closes it.
+    pub is_fenced: bool,
+}
+
+/// The virtual spaces of a text that begins at a point: what is left of a tab that is cut.
+pub fn spaces_at(point: Point) -> usize
+    ensures { result ≡ spelled.columns_left point }
+{
+    if point.vs == 0 {
+        0
+    } else {
+        4 - point.column.saturating_sub(1) % 4
+    }
+}
+
+/// The word of a leaf block whose first fence has this marker.
+fn marked(word: Word, marker: u8) -> Word
+    ensures { result ≡ marked_word marker word }
+{
+    match word {
+        Word::Fence { closed, .. } => Word::Fence { marker, closed },
+        _ => word,
+    }
+}
+
+/// The word of a leaf block that is closed.
+fn closed(word: Word) -> Word
+    ensures { result ≡ closed_word word }
+{
+    match word {
+        Word::Fence { marker, .. } => Word::Fence {
+            marker,
+            closed: true,
+        },
+        Word::Math { .. } => Word::Math { closed: true },
+        _ => word,
+    }
+}
+
+/// Adds a leaf block as it begins: code with its first line, which is empty yet.
+pub fn push_begun<'a>(
+    lines: &mut Vec<OutlineLine<'a>>,
+    depth: usize,
+    word: Word,
+) -> Result<(), Message>
+    ensures { OnOk result (entries_of lines.new.items ≡ entries_of lines.old.items ++ begin_lines depth word) }
+{
+    push(lines, depth, word, "")?;
+    match word {
+        Word::Code => push(lines, next(depth)?, Word::Line, ""),
+        _ => Ok(()),
+    }
+}
+
+/// Tells it the marker of its first fence.
+pub fn mark_head(lines: &mut Vec<OutlineLine>, place: usize, marker: u8)
+    ensures { entries_of lines.new.items ≡ with_head (marked_word marker) place (entries_of lines.old.items) }
+{
+    if place < lines.len() {
+        lines[place].word = marked(lines[place].word, marker);
+    }
+}
+
+/// Takes its last line away.
+fn drop_end(lines: &mut Vec<OutlineLine>)
+    ensures { entries_of lines.new.items ≡ without_end (entries_of lines.old.items) }
+{
+    lines.truncate(lines.len().saturating_sub(1));
+}
+
+/// Closes it: its last line, on which the fence stands, is none.
+pub fn close_head(lines: &mut Vec<OutlineLine>, place: usize)
+    ensures { entries_of lines.new.items ≡ with_head closed_word place (without_end (entries_of lines.old.items)) }
+{
+    drop_end(lines);
+    if place < lines.len() {
+        lines[place].word = closed(lines[place].word);
+    }
+}
+
+/// Adds what its first fence says.
+pub fn push_part<'a>(
+    lines: &mut Vec<OutlineLine<'a>>,
+    depth: usize,
+    word: Word,
+    text: &'a [u8],
+) -> Result<(), Message>
+    ensures { OnOk result (IsUtf8 text.now →
+        entries_of lines.new.items ≡ entries_of lines.old.items ++ entry_with (depth + 1) word text.now ∷ []) }
+{
+    push(lines, next(depth)?, word, text_of(text))
+}
+
+/// Adds a line of it, which is empty yet.
+pub fn push_line(lines: &mut Vec<OutlineLine>, depth: usize) -> Result<(), Message>
+    ensures { OnOk result
+        (entries_of lines.new.items ≡ entries_of lines.old.items ++ entry (depth + 1) word.Line ∷ []) }
+{
+    push(lines, next(depth)?, Word::Line, "")
+}
+
+/// Tells its last line the text that it has.
+pub fn fill_line<'a>(
+    lines: &mut Vec<OutlineLine<'a>>,
+    depth: usize,
+    spaces: usize,
+    text: &'a [u8],
+) -> Result<(), Message>
+    ensures { OnOk result (IsUtf8 text.now →
+        entries_of lines.new.items ≡
+        without_end (entries_of lines.old.items) ++ filled_line (depth + 1) spaces text.now ∷ []) }
+{
+    drop_end(lines);
+    let line = OutlineLine {
+        depth: next(depth)?,
+        word: Word::Line,
+        spaces,
+        text: text_of(text),
+    };
+    match lines.push(line) {
+        Ok(()) => Ok(()),
+        Err(_) => Err(Message),
+    }
+}
