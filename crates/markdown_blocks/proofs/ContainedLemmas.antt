@@ -2,6 +2,7 @@
 use Rattle.md_engine.specs.declared.tokenizer.held_leaf.HeldLeaf.TheVariants as held_leaf
 use Rattle.md_engine.specs.declared.tokenizer.held_leaf.HeldLeaf.{HeldLeaf}
 use Rattle.std.proofs.Common.{◌≡◌, ◌+◌, Bool, true, false, cond, List, [], ◌∷◌, ◌++◌, length, map, refl, ap, sym, ◌∙◌}
+use Rattle.markdown_blocks.specs.HeldLeaf.{has_lines, takes_lazy}
 use Rattle.std.proofs.Common.{append-nil}
 use Rattle.std.specs.Prelude.{Option, Some, None}
 use Rattle.std.proofs.lemmas.List.{length-append, length-map}
@@ -123,3 +124,52 @@ lazy-opens held_leaf.Text (c ∷ cs) kind e = cc
 lazy-opens held_leaf.None (c ∷ cs) kind e = cc
 lazy-opens held_leaf.Code (c ∷ cs) kind e = cc
 lazy-opens (held_leaf.Fence marker size indent) (c ∷ cs) kind e = cc
+
+-- A leaf of several lines that a line meets.
+
+-- no container opens on that line, and none ends in front of it
+record MeetsLines (still : HeldLeaf) (others opens : List Container) : Type 0 where
+  opened : opens ≡ []
+  ended : others ≡ []
+  still_lines : takes_lazy still ≡ false
+
+met-lines : (still : HeldLeaf) (others opens : List Container) → has_lines (met still others opens) ≡ true →
+    MeetsLines still others opens
+met-lines still others (c ∷ opens) h = cc
+met-lines held_leaf.None [] [] h = cc
+met-lines held_leaf.None (c ∷ others) [] h = cc
+met-lines held_leaf.Text others [] h = cc
+met-lines held_leaf.Code [] [] h = record { opened = refl; ended = refl; still_lines = refl }
+met-lines held_leaf.Code (c ∷ others) [] h = cc
+met-lines (held_leaf.Fence marker size indent) [] [] h = record { opened = refl; ended = refl; still_lines = refl }
+met-lines (held_leaf.Fence marker size indent) (c ∷ others) [] h = cc
+
+-- where it takes no lazy line, those that did not go on end
+not-lazy : (still : HeldLeaf) (went others opens : List Container) (kind : RowKind) → takes_lazy still ≡ false →
+    (change_by (is_lazy still opens kind) went others opens).closes ≡ others
+not-lazy held_leaf.Text went others opens kind h = cc
+not-lazy held_leaf.None went others opens kind h = refl
+not-lazy held_leaf.Code went others opens kind h = refl
+not-lazy (held_leaf.Fence marker size indent) went others opens kind h = refl
+
+pub contained-met : (options : ParseOptions) (cs : List Container) (still : HeldLeaf) (r : Rest) →
+    has_lines (contained options cs still r).on ≡ true →
+    ((contained options cs still r).change.opens ≡ []) × ((contained options cs still r).change.closes ≡ [])
+unfolding contained
+contained-met options cs still r h =
+    let is : MeetsLines still others new.containers = met-lines still others new.containers h in (
+      change-opens (is_lazy still new.containers kind) on.containers others new.containers ∙ is.opened,
+      not-lazy still on.containers others new.containers kind is.still_lines ∙ is.ended,
+    )
+  where
+    on : Prefixed
+    on = prefixes_on options cs r
+
+    others : List Container
+    others = others_of cs on.containers
+
+    new : Prefixed
+    new = prefixes_behind options still others on
+
+    kind : RowKind
+    kind = line_kind options (met still others new.containers) new.rest

@@ -1,7 +1,8 @@
 -- What holds of each line of a text holds of each line of its groups.
 use Rattle.std.proofs.Common.{Bool, true, false, cond, List, [], ◌∷◌}
 use Rattle.markdown_blocks.specs.Rows.{BlankRow, Group, LeafRow, Lines, Row, RowKind, Single, TextRow, goes_on, groups}
-use Rattle.markdown_blocks.specs.Rows.{last_row, onto_groups}
+use Rattle.markdown_blocks.specs.Registry.{leaf}
+use Rattle.markdown_blocks.specs.Rows.{Span, is_further, last_row, onto_groups, onto_leaf, onto_span}
 
 abbrev pub EachRow : (Row → Type 0) → List Row → Type 0
 EachRow P [] = Unit {0}
@@ -10,17 +11,34 @@ EachRow P (row ∷ rows) = P row × EachRow P rows
 abbrev pub OfGroup : (Row → Type 0) → Group → Type 0
 OfGroup P (Single row) = P row
 OfGroup P (Lines row rows) = P row × EachRow P rows
+OfGroup P (Span row rows) = P row × EachRow P rows
 
 abbrev pub EachGroup : (Row → Type 0) → List Group → Type 0
 EachGroup P [] = Unit {0}
 EachGroup P (group ∷ groups) = OfGroup P group × EachGroup P groups
 
+span-each : (P : Row → Type 0) (row : Row) (gs : List Group) → P row → EachGroup P gs → EachGroup P (onto_span row gs)
+span-each P row [] h k = ((h, tt), k)
+span-each P row (Single below ∷ gs) h k = ((h, tt), k)
+span-each P row (Lines below rows ∷ gs) h k = ((h, tt), k)
+span-each P row (Span below rows ∷ gs) h k = go (is_further below.kind below.on)
+  where
+    go : (x : Bool) → EachGroup P (cond x (Span row (below ∷ rows) ∷ gs) (Span row [] ∷ Span below rows ∷ gs))
+    go true = ((h, k.0), k.1)
+    go false = ((h, tt), k)
+
+leaf-each : (P : Row → Type 0) (row : Row) (ends : Bool) (gs : List Group) → P row → EachGroup P gs →
+    EachGroup P (onto_leaf ends row gs)
+leaf-each P row true gs h k = (h, k)
+leaf-each P row false gs h k = span-each P row gs h k
+
 onto-each : (P : Row → Type 0) (row : Row) (kind : RowKind) (gs : List Group) → P row → EachGroup P gs →
     EachGroup P (onto_groups row kind gs)
 onto-each P row BlankRow gs h k = (h, k)
-onto-each P row (LeafRow l) gs h k = (h, k)
+onto-each P row (LeafRow l) gs h k = leaf-each P row (leaf l).ends gs h k
 onto-each P row TextRow [] h k = ((h, tt), k)
 onto-each P row TextRow (Single below ∷ gs) h k = ((h, tt), k)
+onto-each P row TextRow (Span below rows ∷ gs) h k = ((h, tt), k)
 onto-each P row TextRow (Lines below rows ∷ gs) h k = go (goes_on row below)
   where
     go : (x : Bool) → EachGroup P (cond x (Lines row (below ∷ rows) ∷ gs) (Lines row [] ∷ Lines below rows ∷ gs))

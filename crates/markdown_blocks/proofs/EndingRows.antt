@@ -1,6 +1,10 @@
 -- The endings of blank lines are told from others, before the text of a document is read and once it is.
 use Rattle.md_engine.specs.declared.tokenizer.held_leaf.HeldLeaf.TheVariants as held_leaf
 use Rattle.std.proofs.Common.{◌≡◌, ℕ, Bool, true, false, cond, List, [], ◌∷◌, ◌++◌, refl, ap, sym, ◌∙◌, append_assoc}
+use Rattle.markdown_blocks.proofs.GroupLemmas.{no-span}
+use Rattle.markdown_blocks.specs.Rows.{Span}
+use Rattle.markdown_blocks.specs.Registry.{leaf}
+use Rattle.markdown_blocks.specs.Rows.{Span, is_further, onto_leaf}
 use Rattle.std.proofs.Common.{◌≢◌}
 use Rattle.std.specs.Prelude.{Option, Some, None}
 use Rattle.md_engine.specs.declared.configuration.ParseOptions.{ParseOptions}
@@ -45,17 +49,30 @@ ends-others (c ∷ cs) p =
 -- Groups.
 
 -- behind each group but the last stands an ending
-abbrev EachEnded : List Group → Type 0
+abbrev pub EachEnded : List Group → Type 0
 EachEnded [] = Unit {0}
 EachEnded (group ∷ gs) = EndsBeforeGroups (final_row group) gs × EachEnded gs
 
 -- a line goes in front of groups
+leaf-ended : (row : Row) (ends : Bool) (gs : List Group) → EndsBeforeGroups row gs → EachEnded gs →
+    EachEnded (onto_leaf ends row gs)
+leaf-ended row true gs h k = (h, k)
+leaf-ended row false [] h k = (h, k)
+leaf-ended row false (Single below ∷ gs) h k = (h, k)
+leaf-ended row false (Lines below rows ∷ gs) h k = (h, k)
+leaf-ended row false (Span below rows ∷ gs) h k = go (is_further below.kind below.on)
+  where
+    go : (x : Bool) → EachEnded (cond x (Span row (below ∷ rows) ∷ gs) (Span row [] ∷ Span below rows ∷ gs))
+    go true = k
+    go false = (h, k)
+
 onto-ended : (row : Row) (kind : RowKind) (gs : List Group) → EndsBeforeGroups row gs → EachEnded gs →
     EachEnded (onto_groups row kind gs)
 onto-ended row BlankRow gs h k = (h, k)
-onto-ended row (LeafRow l) gs h k = (h, k)
+onto-ended row (LeafRow l) gs h k = leaf-ended row (leaf l).ends gs h k
 onto-ended row TextRow [] h k = (h, k)
 onto-ended row TextRow (Single below ∷ gs) h k = (h, k)
+onto-ended row TextRow (Span below rows ∷ gs) h k = (h, k)
 onto-ended row TextRow (Lines below rows ∷ gs) h k = go (goes_on row below)
   where
     go : (x : Bool) → EachEnded (cond x (Lines row (below ∷ rows) ∷ gs) (Lines row [] ∷ Lines below rows ∷ gs))
@@ -63,7 +80,7 @@ onto-ended row TextRow (Lines below rows ∷ gs) h k = go (goes_on row below)
     go false = (h, k)
 
 -- so it is with the groups of lines
-groups-ended : (rows : List Row) → EachEnds rows → EachEnded (groups rows)
+pub groups-ended : (rows : List Row) → EachEnds rows → EachEnded (groups rows)
 groups-ended [] h = tt
 groups-ended (row ∷ []) h = onto-ended row row.kind [] tt tt
 groups-ended (row ∷ below ∷ rows) h =
@@ -165,6 +182,7 @@ group-ends options bytes (Single row) gs are =
       facts = row-facts options bytes is.line row is.is is.other;
       ends = λ p q. ending-leads row.kind is.is.rest p q is.other;
     }
+group-ends options bytes (Span row rows) gs are = absurd (no-span options bytes row rows are.0)
 group-ends options bytes (Lines row rows) gs are =
     record {
       block = Some (text_leaf.block (texts (kept-of options bytes row rows are.0)));

@@ -1,6 +1,7 @@
 -- The events of a text keep the grammar of events without lists, before its text parts are read and once they are.
 use Rattle.md_engine.specs.declared.tokenizer.held_leaf.HeldLeaf.TheVariants as held_leaf
 use Rattle.std.proofs.Common.{◌≡◌, ℕ, Bool, true, false, cond, List, [], ◌∷◌, ◌++◌, refl, ap, sym, ◌∙◌, append_assoc}
+use Rattle.markdown_blocks.proofs.EndingRows.{EachEnded, groups-ended}
 use Rattle.std.specs.Prelude.{Option, Some, None}
 use Rattle.std.specs.List.{list_any}
 use Rattle.std.specs.Option.{is_some}
@@ -18,48 +19,18 @@ use Rattle.md_containers.specs.Unlisted.{keeps_unlisted, unlisted_left}
 use Rattle.md_containers.proofs.UnlistedLemmas.{Unlists, unlists-rest, unlists-same}
 use Rattle.markdown_blocks.specs.Change.{ends_of}
 use Rattle.markdown_blocks.specs.Document.{body_point, mark_end, mark_events}
-use Rattle.markdown_blocks.specs.Rows.{final_row, first_row, group_done, group_kind, BlankRow, Group, Lines, Row}
-use Rattle.markdown_blocks.specs.Rows.{RowKind, Single, TextRow, ending_events, ending_of, group_events, groups}
-use Rattle.markdown_blocks.specs.Rows.{groups_events, onto_groups, goes_on, tail_events, LeafRow}
+use Rattle.markdown_blocks.specs.Rows.{final_row, first_row, group_done, group_kind, Group, Row}
+use Rattle.markdown_blocks.specs.Rows.{RowKind, ending_events, ending_of, group_events, groups}
+use Rattle.markdown_blocks.specs.Rows.{groups_events, tail_events}
 use Rattle.markdown_blocks.specs.Unread.{group_unread, listed_group, listed_groups}
 use Rattle.markdown_blocks.proofs.ContainerNames.{open_names}
 use Rattle.markdown_blocks.proofs.GrammarFronts.{behind-ends, behinds, behinds-append, blocks_behind, ending-leads}
 use Rattle.markdown_blocks.proofs.GrammarFronts.{ends-lead, front-leads}
 use Rattle.markdown_blocks.proofs.GroupLemmas.{EndsBeforeGroups, rows-end}
-use Rattle.markdown_blocks.proofs.JoinedLemmas.{EachEnds, EachNoContent, ending-is}
+use Rattle.markdown_blocks.proofs.JoinedLemmas.{EachNoContent, ending-is}
 use Rattle.markdown_blocks.proofs.NestedRows.{ByGroups, Ordered, rows-hold}
 use Rattle.markdown_blocks.proofs.RowFacts.{AreRows}
 use Rattle.markdown_blocks.proofs.GroupFacts.{IsGroupLeaf}
-
--- Behind each group stands an ending if more follows.
-
-abbrev AreEnded : List Group → Type 0
-AreEnded [] = Unit {0}
-AreEnded (group ∷ gs) = EndsBeforeGroups (final_row group) gs × AreEnded gs
-
--- a line in front of groups
-onto-ended : (row : Row) (gs : List Group) → EndsBeforeGroups row gs → AreEnded gs → (kind : RowKind) →
-    AreEnded (onto_groups row kind gs)
-onto-ended row gs ends are BlankRow = (ends, are)
-onto-ended row gs ends are (LeafRow l) = (ends, are)
-onto-ended row [] ends are TextRow = (ends, are)
-onto-ended row (Single below ∷ gs) ends are TextRow = (ends, are)
-onto-ended row (Lines below rows ∷ gs) ends are TextRow = go (goes_on row below)
-  where
-    go : (x : Bool) → AreEnded (cond x (Lines row (below ∷ rows) ∷ gs) (Lines row [] ∷ Lines below rows ∷ gs))
-    go true = are
-    go false = (ends, are)
-
--- so it is in the groups of the lines of a text
-groups-ended : (rows : List Row) → EachEnds rows → AreEnded (groups rows)
-groups-ended [] h = tt
-groups-ended (row ∷ []) h = onto-ended row [] tt tt row.kind
-groups-ended (row ∷ below ∷ rows) h =
-    onto-ended row (groups (below ∷ rows)) (ends (groups (below ∷ rows))) (groups-ended (below ∷ rows) h.2) row.kind
-  where
-    ends : (gs : List Group) → EndsBeforeGroups row gs
-    ends [] = tt
-    ends (g ∷ gs) = (h.0, h.1)
 
 -- Groups, whatever stands in text parts.
 
@@ -166,7 +137,7 @@ tail-whole text each block all kept row kind gs keeps ends h =
 
 -- The groups of a text, where these names are open.
 abbrev WholeUnder : Expression → (Group → List Event) → List Name → Point → List Group → Type 0
-WholeUnder text each names p gs = AreEnded gs → Whole text (blocks ∷ behinds names) (all_of each gs)
+WholeUnder text each names p gs = EachEnded gs → Whole text (blocks ∷ behinds names) (all_of each gs)
 
 -- group by group
 whole-by_groups : (bytes : List ℕ) (text : Expression) (each : Group → List Event) → Reads bytes text each →

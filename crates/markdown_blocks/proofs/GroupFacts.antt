@@ -1,5 +1,7 @@
 -- What is known of the leaf of a group, be it one line or the lines of a text.
 use Rattle.std.proofs.Common.{ℕ, List, ◌∷◌}
+use Rattle.markdown_blocks.proofs.GroupLemmas.{no-span}
+use Rattle.markdown_blocks.specs.Rows.{Span}
 use Rattle.std.specs.Prelude.{Option, Some}
 use Rattle.md_engine.specs.declared.configuration.ParseOptions.{ParseOptions}
 use Rattle.md_definition.specs.State.{texts}
@@ -29,13 +31,16 @@ pub group-leaf : (options : ParseOptions) (bytes : List ℕ) (group : Group) (gs
     AreGroups options bytes (group ∷ gs) → IsGroupLeaf bytes group
 group-leaf options bytes (Single row) gs are = row-leaf options bytes are.0.line row are.0.is are.0.other
 group-leaf options bytes (Lines row rows) gs are = text-leaf options bytes row rows are.0
+group-leaf options bytes (Span row rows) gs are = absurd (no-span options bytes row rows are.0)
 
 pub group-front : (options : ParseOptions) (bytes : List ℕ) (group : Group) (gs : List Group) →
     AreGroups options bytes (group ∷ gs) → HasFront bytes (first_row group)
 group-front options bytes (Single row) gs are = are.0.front
 group-front options bytes (Lines row rows) gs are = are.2
+group-front options bytes (Span row rows) gs are = absurd (no-span options bytes row rows are.0)
 
 pub more-groups : (options : ParseOptions) (bytes : List ℕ) (group : Group) (gs : List Group) →
     AreGroups options bytes (group ∷ gs) → AreGroups options bytes gs
 more-groups options bytes (Single row) gs are = are.1
 more-groups options bytes (Lines row rows) gs are = are.3
+more-groups options bytes (Span row rows) gs are = are.2

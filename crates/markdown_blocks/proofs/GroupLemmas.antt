@@ -1,6 +1,10 @@
 -- The events of the lines of a text, joined and read, are those of its blocks.
 use Rattle.md_engine.specs.declared.tokenizer.held_leaf.HeldLeaf.{HeldLeaf}
 use Rattle.std.proofs.Common.{◌≡◌, ◌≢◌, ℕ, ◌<◌, ◌≤◌, Bool, true, false, cond, ◌&&◌, List, [], ◌∷◌, ◌++◌, length, drop}
+use Rattle.markdown_blocks.specs.Change.{Change}
+use Rattle.markdown_blocks.proofs.ContainedLemmas.{contained-met}
+use Rattle.markdown_blocks.specs.HeldLeaf.{has_lines}
+use Rattle.markdown_blocks.specs.Rows.{Span, first_row, is_further, onto_leaf}
 use Rattle.std.proofs.Common.{slice_range, refl, ap, sym, ◌∙◌, subst, append_assoc, append-nil, arith, length-append}
 use Rattle.std.specs.Prelude.{◌==◌, Option, Some, None}
 use Rattle.std.specs.List.{list_all}
@@ -52,14 +56,14 @@ use Rattle.markdown_blocks.proofs.SubstitutedLemmas.{AllBelong, Becomes, CutAt, 
 use Rattle.markdown_blocks.proofs.SubstitutedLemmas.{Unwanted, becomes-append, becomes-same, behind-exit, line_after}
 use Rattle.markdown_blocks.proofs.SubstitutedLemmas.{lines-becomes, passes, places}
 use Rattle.markdown_blocks.proofs.LeafFacts.{ReadsText}
-use Rattle.markdown_blocks.proofs.ContentFacts.{no_content-unwanted}
+use Rattle.markdown_blocks.proofs.ContentFacts.{NoContent, no_content-append, no_content-unwanted}
 use Rattle.markdown_blocks.proofs.ContainerNames.{container-facts}
 use Rattle.md_definition.specs.Rest.{Rest as LineRest, is_blank}
 use Rattle.markdown_blocks.proofs.LineTexts.{one-last, one-next, piece, without-none, without-one}
 use Rattle.markdown_blocks.proofs.OutsideFacts.{AreOutside}
 use Rattle.markdown_blocks.proofs.OutsideLemmas.{around-outside, ending-own, has_front-outside, leaf-set}
 use Rattle.markdown_blocks.proofs.OutsideLemmas.{linked-outside, tail-outside}
-use Rattle.markdown_blocks.proofs.Registry.{laws, outside-passes}
+use Rattle.markdown_blocks.proofs.Registry.{laws, leaf-ends, outside-passes}
 use Rattle.markdown_blocks.proofs.RowLeaf.{row-becomes}
 use Rattle.markdown_blocks.proofs.KindLemmas.{kind-starts, kind-text}
 
@@ -86,31 +90,72 @@ pub record IsSingle (options : ParseOptions) (bytes : List ℕ) (row : Row) : Ty
   pub quiet : HasNoContent row
   pub front : HasFront bytes row
 
+-- lines of a leaf of several: the first, and others that go on it; between them no container ends or opens
+pub record IsSpanLine (options : ParseOptions) (bytes : List ℕ) (row : Row) : Type 0 where
+  pub line : List ℕ
+  pub is : IsRow options bytes line row
+  pub name : LeafName
+  pub kind : row.kind ≡ LeafRow name
+  pub open_leaf : (line_leaf name).ends ≡ false
+  pub quiet : HasNoContent row
+  pub front : HasFront bytes row
+
+abbrev pub AreSpan : ParseOptions → List ℕ → Row → List Row → Type 0
+AreSpan options bytes row [] = IsSpanLine options bytes row
+AreSpan options bytes row (next ∷ rows) =
+    (is : IsSpanLine options bytes row) × (q : Point) × (after : row.after ≡ Some q)
+    × (ending : IsEnding bytes row.end q) × (front : LinePrefix bytes [] q next.first next.front)
+    × (leaves : row.leaves ≡ []) × (further : is_further next.kind next.on ≡ true) × AreSpan options bytes next rows
+
+-- no such leaf is built
+pub no-span : (options : ParseOptions) (bytes : List ℕ) (row : Row) (rows : List Row) → AreSpan options bytes row rows → ⊥
+no-span options bytes row [] are = let ends = leaf-ends are.name in let open_leaf = are.open_leaf in cc
+no-span options bytes row (next ∷ rows) are = let ends = leaf-ends are.0.name in let open_leaf = are.0.open_leaf in cc
+
 -- groups that are such
 abbrev pub AreGroups : ParseOptions → List ℕ → List Group → Type 0
 AreGroups options bytes [] = Unit {0}
 AreGroups options bytes (Single row ∷ gs) = IsSingle options bytes row × AreGroups options bytes gs
+AreGroups options bytes (Span row rows ∷ gs) =
+    AreSpan options bytes row rows × EndsBeforeGroups (last_row row rows) gs × AreGroups options bytes gs
 AreGroups options bytes (Lines row rows ∷ gs) =
     AreLines options bytes row rows × EndsBeforeGroups (last_row row rows) gs × HasFront bytes row ×
     AreGroups options bytes gs
 
--- the first line of groups stands behind this point
-abbrev FrontAt : List ℕ → Point → List Group → Type 0
-FrontAt bytes p [] = Unit {0}
-FrontAt bytes p (Single row ∷ gs) = LinePrefix bytes row.change.opens p row.first row.front
-FrontAt bytes p (Lines row rows ∷ gs) = LinePrefix bytes row.change.opens p row.first row.front
+-- the first line of groups is such
+abbrev FirstIs : (Row → Type 0) → List Group → Type 0
+FirstIs P [] = Unit {0}
+FirstIs P (group ∷ gs) = P (first_row group)
 
-onto-front : (bytes : List ℕ) (p : Point) (row : Row) (kind : RowKind) (gs : List Group) →
-    LinePrefix bytes row.change.opens p row.first row.front → FrontAt bytes p (onto_groups row kind gs)
-onto-front bytes p row BlankRow gs h = h
-onto-front bytes p row (LeafRow l) gs h = h
-onto-front bytes p row TextRow [] h = h
-onto-front bytes p row TextRow (Single first ∷ gs) h = h
-onto-front bytes p row TextRow (Lines first rows ∷ gs) h = go (goes_on row first)
+span-first : (P : Row → Type 0) (row : Row) (ends : Bool) (gs : List Group) → P row → FirstIs P (onto_leaf ends row gs)
+span-first P row true gs h = h
+span-first P row false [] h = h
+span-first P row false (Single first ∷ gs) h = h
+span-first P row false (Lines first rows ∷ gs) h = h
+span-first P row false (Span first rows ∷ gs) h = go (is_further first.kind first.on)
   where
-    go : (x : Bool) → FrontAt bytes p (cond x (Lines row (first ∷ rows) ∷ gs) (Lines row [] ∷ Lines first rows ∷ gs))
+    go : (x : Bool) → FirstIs P (cond x (Span row (first ∷ rows) ∷ gs) (Span row [] ∷ Span first rows ∷ gs))
     go true = h
     go false = h
+
+onto-first : (P : Row → Type 0) (row : Row) (kind : RowKind) (gs : List Group) → P row →
+    FirstIs P (onto_groups row kind gs)
+onto-first P row BlankRow gs h = h
+onto-first P row (LeafRow l) gs h = span-first P row (line_leaf l).ends gs h
+onto-first P row TextRow [] h = h
+onto-first P row TextRow (Single first ∷ gs) h = h
+onto-first P row TextRow (Span first rows ∷ gs) h = h
+onto-first P row TextRow (Lines first rows ∷ gs) h = go (goes_on row first)
+  where
+    go : (x : Bool) → FirstIs P (cond x (Lines row (first ∷ rows) ∷ gs) (Lines row [] ∷ Lines first rows ∷ gs))
+    go true = h
+    go false = h
+
+-- what is known of the line behind another: it stands behind this point, and where it goes on the leaf of that one, no
+-- container ends or opens between them
+record IsBehind (bytes : List ℕ) (p : Point) (row below : Row) : Type 0 where
+  front : LinePrefix bytes below.change.opens p below.first below.front
+  met : is_further below.kind below.on ≡ true → (row.leaves ≡ []) × (below.change.opens ≡ [])
 
 -- a line, with what stands in front of it
 record IsBegun (options : ParseOptions) (bytes line : List ℕ) (p : Point) (row : Row) : Type 0 where
@@ -128,17 +173,67 @@ alone-is options bytes line p row is other = record {
   front = (p, is.front);
 }
 
+span-line : (options : ParseOptions) (bytes line : List ℕ) (p : Point) (row : Row) (l : LeafName) →
+    IsBegun options bytes line p row → row.kind ≡ LeafRow l → (line_leaf l).ends ≡ false → IsSpanLine options bytes row
+span-line options bytes line p row l is e ends = record {
+  line = line;
+  is = is.is;
+  name = l;
+  kind = e;
+  open_leaf = ends;
+  quiet = is.quiet;
+  front = (p, is.front);
+}
+
+-- a line of a leaf goes before groups
+leaf-are : (options : ParseOptions) (bytes line : List ℕ) (p : Point) (row : Row) (l : LeafName) (q : Point)
+    (gs : List Group) →
+    IsBegun options bytes line p row → row.kind ≡ LeafRow l → row.after ≡ Some q → IsEnding bytes row.end q →
+    FirstIs (IsBehind bytes q row) gs → AreGroups options bytes gs → (ends : Bool) → (line_leaf l).ends ≡ ends →
+    AreGroups options bytes (onto_leaf ends row gs)
+leaf-are options bytes line p row l q gs is e after ending first are true k =
+    (alone-is options bytes line p row is (λ h. let bad : LeafRow l ≡ TextRow = sym e ∙ h in cc), are)
+leaf-are options bytes line p row l q [] is e after ending first are false k =
+    (span-line options bytes line p row l is e k, tt, tt)
+leaf-are options bytes line p row l q (Single below ∷ gs) is e after ending first are false k =
+    (span-line options bytes line p row l is e k, (q, after), are)
+leaf-are options bytes line p row l q (Lines below rows ∷ gs) is e after ending first are false k =
+    (span-line options bytes line p row l is e k, (q, after), are)
+leaf-are options bytes line p row l q (Span below rows ∷ gs) is e after ending first are false k =
+    go (is_further below.kind below.on) refl
+  where
+    go : (x : Bool) → is_further below.kind below.on ≡ x →
+        AreGroups options bytes (cond x (Span row (below ∷ rows) ∷ gs) (Span row [] ∷ Span below rows ∷ gs))
+    go true f =
+        let met = first.met f in (
+          (
+            span-line options bytes line p row l is e k,
+            q,
+            after,
+            ending,
+            subst (λ (cs : List Container). LinePrefix bytes cs q below.first below.front) met.1 first.front,
+            met.0,
+            f,
+            are.0,
+          ),
+          are.1,
+          are.2,
+        )
+    go false f = (span-line options bytes line p row l is e k, (q, after), are)
+
 -- a line goes before groups
 onto-are : (options : ParseOptions) (bytes line : List ℕ) (p : Point) (row : Row) (q : Point) (gs : List Group) →
     IsBegun options bytes line p row → row.after ≡ Some q → IsEnding bytes row.end q →
-    FrontAt bytes q gs → AreGroups options bytes gs → (kind : RowKind) → row.kind ≡ kind →
+    FirstIs (IsBehind bytes q row) gs → AreGroups options bytes gs → (kind : RowKind) → row.kind ≡ kind →
     AreGroups options bytes (onto_groups row kind gs)
 onto-are options bytes line p row q gs is after ending first are BlankRow e =
     (alone-is options bytes line p row is (λ k. cc), are)
 onto-are options bytes line p row q gs is after ending first are (LeafRow l) e =
-    (alone-is options bytes line p row is (λ k. cc), are)
+    leaf-are options bytes line p row l q gs is e after ending first are (line_leaf l).ends refl
 onto-are options bytes line p row q [] is after ending first are TextRow e = ((line, is.is, e), tt, (p, is.front), tt)
 onto-are options bytes line p row q (Single below ∷ gs) is after ending first are TextRow e =
+    ((line, is.is, e), (q, after), (p, is.front), are)
+onto-are options bytes line p row q (Span below rows ∷ gs) is after ending first are TextRow e =
     ((line, is.is, e), (q, after), (p, is.front), are)
 onto-are options bytes line p row q (Lines below rows ∷ gs) is after ending first are TextRow e =
     go (change.is_none row.leaves) below.change.opens refl
@@ -154,7 +249,7 @@ onto-are options bytes line p row q (Lines below rows ∷ gs) is after ending fi
         q,
         after,
         ending,
-        subst (λ (l : List Container). LinePrefix bytes l q below.first below.front) none first,
+        subst (λ (l : List Container). LinePrefix bytes l q below.first below.front) none first.front,
         are.0,
       ),
       are.1,
@@ -167,7 +262,11 @@ onto-are options bytes line p row q (Lines below rows ∷ gs) is after ending fi
 last-are : (options : ParseOptions) (bytes line : List ℕ) (p : Point) (row : Row) → IsBegun options bytes line p row →
     (kind : RowKind) → row.kind ≡ kind → AreGroups options bytes (onto_groups row kind [])
 last-are options bytes line p row is BlankRow e = (alone-is options bytes line p row is (λ k. cc), tt)
-last-are options bytes line p row is (LeafRow l) e = (alone-is options bytes line p row is (λ k. cc), tt)
+last-are options bytes line p row is (LeafRow l) e = go (line_leaf l).ends refl
+  where
+    go : (ends : Bool) → (line_leaf l).ends ≡ ends → AreGroups options bytes (onto_leaf ends row [])
+    go true k = (alone-is options bytes line p row is (λ h. let bad : LeafRow l ≡ TextRow = sym e ∙ h in cc), tt)
+    go false k = (span-line options bytes line p row l is e k, tt, tt)
 last-are options bytes line p row is TextRow e = ((line, is.is, e), tt, (p, is.front), tt)
 
 line-begun : (options : ParseOptions) (bytes : List ℕ) (open_before : List Container) (still : HeldLeaf) (p : Point)
@@ -176,16 +275,45 @@ line-begun : (options : ParseOptions) (bytes : List ℕ) (open_before : List Con
     IsBegun options bytes (rest_line (contained options open_before still (rest_from p line)).rest) p row
 line-begun options bytes open_before still p line row is quiet = record { is = is.is; front = is.front; quiet = quiet }
 
--- what stands in front of the first line
-pub first-front : (options : ParseOptions) (bytes : List ℕ) (open_before : List Container) (still : HeldLeaf)
-    (p : Point) (lines : List (List ℕ)) (row : Row) (rows : List Row) →
-    AreRows options bytes open_before still p lines (row ∷ rows) →
-    LinePrefix bytes row.change.opens p row.first row.front
-first-front options bytes open_before still p [] row rows h = absurd h
-first-front options bytes open_before still p (line ∷ []) row [] h = h.0.front
-first-front options bytes open_before still p (line ∷ []) row (below ∷ rows) h = absurd h
-first-front options bytes open_before still p (line ∷ next ∷ lines) row [] h = absurd h
-first-front options bytes open_before still p (line ∷ next ∷ lines) row (below ∷ rows) h = h.0.front
+-- the first line, where these containers and this leaf are open
+abbrev FirstLine : ParseOptions → List ℕ → List Container → HeldLeaf → Point → List (List ℕ) → Row → Type 0
+FirstLine options bytes cs still p [] row = ⊥
+FirstLine options bytes cs still p (line ∷ lines) row = IsLine options bytes cs still p line row
+
+first-line : (options : ParseOptions) (bytes : List ℕ) (cs : List Container) (still : HeldLeaf) (p : Point)
+    (lines : List (List ℕ)) (row : Row) (rows : List Row) →
+    AreRows options bytes cs still p lines (row ∷ rows) → FirstLine options bytes cs still p lines row
+first-line options bytes cs still p [] row rows h = absurd h
+first-line options bytes cs still p (line ∷ []) row [] h = h.0
+first-line options bytes cs still p (line ∷ []) row (below ∷ rows) h = absurd h
+first-line options bytes cs still p (line ∷ next ∷ lines) row [] h = absurd h
+first-line options bytes cs still p (line ∷ next ∷ lines) row (below ∷ rows) h = h.0
+
+-- where a line goes on the leaf that it meets, no container ends in front of it, and none opens
+line-met : (options : ParseOptions) (bytes : List ℕ) (cs : List Container) (still : HeldLeaf) (p : Point)
+    (line : List ℕ) (row : Row) →
+    IsLine options bytes cs still p line row → is_further row.kind row.on ≡ true →
+    (row.change.opens ≡ []) × (row.change.closes ≡ [])
+line-met options bytes cs still p line row is f =
+    let met = contained-met options cs still (rest_from p line) (ap has_lines (sym is.on) ∙ lines row.kind refl f) in
+    (ap (λ (c : Change). c.opens) is.change ∙ met.0, ap (λ (c : Change). c.closes) is.change ∙ met.1)
+  where
+    lines : (kind : RowKind) → row.kind ≡ kind → is_further kind row.on ≡ true → has_lines row.on ≡ true
+    lines BlankRow e f = cc
+    lines TextRow e f = cc
+    lines (LeafRow l) e f =
+        (laws l).meets options row.on is.is.rest
+        (kind-starts options row.on is.is.rest l (sym is.is.kind ∙ e)) f
+
+line-behind : (options : ParseOptions) (bytes : List ℕ) (cs : List Container) (still : HeldLeaf) (p : Point)
+    (lines : List (List ℕ)) (row below : Row) →
+    FirstLine options bytes cs still p lines below → row.leaves ≡ below.change.closes →
+    IsBehind bytes p row below
+line-behind options bytes cs still p [] row below is leaves = absurd is
+line-behind options bytes cs still p (line ∷ lines) row below is leaves = record {
+  front = is.front;
+  met = λ f. let met = line-met options bytes cs still p line below is f in (leaves ∙ met.1, met.0);
+}
 
 -- The groups of the lines of a text are lines of text that belong together, and lines that are no text.
 pub groups-are : (options : ParseOptions) (bytes : List ℕ) (open_before : List Container) (still : HeldLeaf) (p : Point)
@@ -204,8 +332,9 @@ groups-are options bytes open_before still p (line ∷ next ∷ lines) (row ∷ 
     let still_next = row.behind in
     onto-are options bytes (rest_line (contained options open_before still (rest_from p line)).rest) p row h.2
     (groups (below ∷ rows)) (line-begun options bytes open_before still p line row h.0 k.0) h.3 h.4
-    (onto-front bytes h.2 below below.kind (groups rows)
-    (first-front options bytes open_next still_next h.2 (next ∷ lines) below rows h.5))
+    (onto-first (IsBehind bytes h.2 row) below below.kind (groups rows)
+    (line-behind options bytes open_next still_next h.2 (next ∷ lines) row below
+    (first-line options bytes open_next still_next h.2 (next ∷ lines) below rows h.5) h.1))
     (groups-are options bytes open_next still_next h.2 (next ∷ lines) (below ∷ rows) h.5 k.1) row.kind refl
 
 -- each line of a text but the last has an ending
@@ -341,6 +470,25 @@ single-unwanted options bytes wants row is w =
     no_content-unwanted wants (row_events row)
     (events-no_content wants row row.kind refl is.other (has_front-no_content wants bytes row is.front)
     (is.quiet wants w))
+
+span-quiet : (options : ParseOptions) (bytes : List ℕ) (wants : Content → Bool) (row : Row) →
+    IsSpanLine options bytes row → wants content.Text ≡ false → NoContent wants (row_events row)
+span-quiet options bytes wants row is w =
+    events-no_content wants row row.kind refl (λ h. let bad : LeafRow is.name ≡ TextRow = sym is.kind ∙ h in cc)
+    (has_front-no_content wants bytes row is.front) (is.quiet wants w)
+
+spans-quiet : (options : ParseOptions) (bytes : List ℕ) (wants : Content → Bool) (row : Row) (rows : List Row) →
+    AreSpan options bytes row rows → wants content.Text ≡ false → NoContent wants (rows_events (row ∷ rows))
+spans-quiet options bytes wants row [] are w =
+    no_content-append wants (row_events row) [] (span-quiet options bytes wants row are w) tt
+spans-quiet options bytes wants row (next ∷ rows) are w =
+    no_content-append wants (row_events row) (rows_events (next ∷ rows)) (span-quiet options bytes wants row are.0 w)
+    (spans-quiet options bytes wants next rows are.7 w)
+
+span-unwanted : (options : ParseOptions) (bytes : List ℕ) (wants : Content → Bool) (row : Row) (rows : List Row) →
+    AreSpan options bytes row rows → wants content.Text ≡ false → Unwanted wants (rows_events (row ∷ rows))
+span-unwanted options bytes wants row rows are w =
+    no_content-unwanted wants (rows_events (row ∷ rows)) (spans-quiet options bytes wants row rows are w)
 
 -- in front of the further lines of a text stand prefixes alone
 pub lines-prefixed : (options : ParseOptions) (bytes : List ℕ) (row : Row) (rows : List Row) →
@@ -479,6 +627,14 @@ groups-content options bytes wants reads w other unique (Single row ∷ gs) are 
     one.1
     ∙ ap (λ (l : List Event). row_events row ++ l)
     (groups-content options bytes wants reads w other unique gs are.1 left one.0 one.2)
+groups-content options bytes wants reads w other unique (Span row rows ∷ gs) are left out s =
+    let one : (rest : List Event) × (is : out ≡ rows_events (row ∷ rows) ++ rest) ×
+    Substituted wants reads left 0 (joined_groups gs) rest =
+    passes wants reads left 0 (rows_events (row ∷ rows)) (joined_groups gs) out
+    (span-unwanted options bytes wants row rows are.0 other) s in
+    one.1
+    ∙ ap (λ (l : List Event). rows_events (row ∷ rows) ++ l)
+    (groups-content options bytes wants reads w other unique gs are.2 left one.0 one.2)
 groups-content options bytes wants reads w other unique (Lines row rows ∷ gs) are left out s =
     let tail : List Event = tail_events n.LineEnding (last_row row rows) in
     let inside : List Event = linked_lines n.Content content_link row rows in
@@ -558,6 +714,7 @@ groups-set options bytes (Lines row rows ∷ gs) are =
     (around-outside text_leaf.name row.first last.end (unread_lines row rows) refl
     (linked-outside text_link row rows (lines-prefixed options bytes row rows are.0))))
     ∙ ap (λ (l : List Event). unread_group (Lines row rows) ++ l) (groups-set options bytes gs are.3)
+groups-set options bytes (Span row rows ∷ gs) are = absurd (no-span options bytes row rows are.0)
 
 -- Each leaf is set, and all else stays.
 pub leaves-set : (options : ParseOptions) (bytes : List ℕ) (open_before : List Container) (still : HeldLeaf) (p : Point)
@@ -696,6 +853,7 @@ groups-become options bytes wants reads w rt (Single row ∷ gs) are =
     becomes-append wants reads (listed_group bytes (Single row)) (group_events bytes (Single row))
     (listed_groups bytes gs) (groups_events bytes gs)
     (single-becomes options bytes row wants reads w rt are.0) (groups-become options bytes wants reads w rt gs are.1)
+groups-become options bytes wants reads w rt (Span row rows ∷ gs) are = absurd (no-span options bytes row rows are.0)
 groups-become options bytes wants reads w rt (Lines row rows ∷ gs) are =
     becomes-append wants reads (listed_group bytes (Lines row rows)) (group_events bytes (Lines row rows))
     (listed_groups bytes gs) (groups_events bytes gs)

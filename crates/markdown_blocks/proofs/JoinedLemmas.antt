@@ -1,6 +1,9 @@
 -- Lines of text that follow one another, joined.
 use Rattle.md_engine.specs.declared.tokenizer.held_leaf.HeldLeaf.{HeldLeaf}
 use Rattle.std.proofs.Common.{◌≡◌, ◌≢◌, ℕ, zero, suc, Bool, true, false, cond, ◌&&◌, List, [], ◌∷◌, ◌++◌, refl, ap, sym}
+use Rattle.std.proofs.Common.{append-nil}
+use Rattle.markdown_blocks.specs.Registry.{leaf}
+use Rattle.markdown_blocks.specs.Rows.{Span, is_further, onto_leaf}
 use Rattle.markdown_blocks.specs.Rows.{behind_held}
 use Rattle.std.proofs.Common.{◌∙◌, subst, append_assoc}
 use Rattle.std.specs.Prelude.{Option, Some, None}
@@ -330,6 +333,7 @@ lines-first : (Q : List Group → Type 0) (row : Row) (gs : List Group) →
     ((more : List Row) (rest : List Group) → Q (Lines row more ∷ rest)) → Q (onto_groups row TextRow gs)
 lines-first Q row [] h = h [] []
 lines-first Q row (Single first ∷ gs) h = h [] (Single first ∷ gs)
+lines-first Q row (Span first rows ∷ gs) h = h [] (Span first rows ∷ gs)
 lines-first Q row (Lines first rows ∷ gs) h = go (lines.goes_on row first)
   where
     go : (x : Bool) → Q (cond x (Lines row (first ∷ rows) ∷ gs) (Lines row [] ∷ Lines first rows ∷ gs))
@@ -411,6 +415,40 @@ text-lines bytes row below more rows gs q after front under text same = go row.l
     go (c ∷ leaves) e opens k =
         apart (ap (λ (l : List Container). is_none l && content_behind es) e) ∙ sym (chosen (c ∷ leaves) e opens k)
 
+-- A line of a leaf.
+
+-- in front of groups, it adds its own events
+leaf-joined : (ends : Bool) (row : Row) (gs : List Group) →
+    joined_groups (onto_leaf ends row gs) ≡ row_events row ++ joined_groups gs
+leaf-joined true row gs = refl
+leaf-joined false row [] = ap (λ (l : List Event). l ++ []) (append-nil (row_events row))
+leaf-joined false row (Single below ∷ gs) =
+    ap (λ (l : List Event). l ++ joined_groups (Single below ∷ gs)) (append-nil (row_events row))
+leaf-joined false row (Lines below rows ∷ gs) =
+    ap (λ (l : List Event). l ++ joined_groups (Lines below rows ∷ gs)) (append-nil (row_events row))
+leaf-joined false row (Span below rows ∷ gs) = go (is_further below.kind below.on)
+  where
+    go : (x : Bool) →
+        joined_groups (cond x (Span row (below ∷ rows) ∷ gs) (Span row [] ∷ Span below rows ∷ gs)) ≡
+        row_events row ++ joined_groups (Span below rows ∷ gs)
+    go true = append_assoc (row_events row) (rows_events (below ∷ rows)) (joined_groups gs)
+    go false = ap (λ (l : List Event). l ++ joined_groups (Span below rows ∷ gs)) (append-nil (row_events row))
+
+-- text does not go on it
+pub leaf-first : (ends : Bool) (row below : Row) (gs : List Group) →
+    onto_groups row TextRow (onto_leaf ends below gs) ≡ Lines row [] ∷ onto_leaf ends below gs
+leaf-first true row below gs = refl
+leaf-first false row below [] = refl
+leaf-first false row below (Single next ∷ gs) = refl
+leaf-first false row below (Lines next rows ∷ gs) = refl
+leaf-first false row below (Span next rows ∷ gs) = go (is_further next.kind next.on)
+  where
+    go : (x : Bool) →
+        let gs' = cond x (Span below (next ∷ rows) ∷ gs) (Span below [] ∷ Span next rows ∷ gs) in
+        onto_groups row TextRow gs' ≡ Lines row [] ∷ gs'
+    go true = refl
+    go false = refl
+
 -- a line of text in front of others
 text-rows : (bytes : List ℕ) (row below : Row) (rows : List Row) (q : Point) → row.after ≡ Some q →
     EachFront bytes (row ∷ below ∷ rows) → EachEnds (below ∷ rows) → NoContent nothing below.inside → (kind : RowKind) →
@@ -423,10 +461,10 @@ text-rows bytes row below rows q after fronts ends h kind e same = go kind e sam
     es : List Event
     es = rows_events (below ∷ rows)
 
-    other : (kind : RowKind) → below.kind ≡ kind → kind ≢ TextRow →
-        joined es ≡ joined_groups (Single below ∷ groups rows) →
-        joined (row_events_by TextRow row ++ es) ≡ joined_groups (Lines row [] ∷ Single below ∷ groups rows)
-    other kind e apart same =
+    other : (kind : RowKind) → below.kind ≡ kind → kind ≢ TextRow → (gs : List Group) →
+        joined es ≡ joined_groups gs →
+        joined (row_events_by TextRow row ++ es) ≡ joined_groups (Lines row [] ∷ gs)
+    other kind e apart gs same =
         text-apart bytes row es fronts.0
         (tail-stops row es q after
         (and_right (is_none row.leaves) (content_behind es)
@@ -436,8 +474,10 @@ text-rows bytes row below rows q after fronts ends h kind e same = go kind e sam
     go : (kind : RowKind) → below.kind ≡ kind → joined es ≡ joined_groups (onto_groups below kind (groups rows)) →
         joined (row_events_by TextRow row ++ es) ≡
         joined_groups (onto_groups row TextRow (onto_groups below kind (groups rows)))
-    go BlankRow e same = other BlankRow e (λ k. cc) same
-    go (LeafRow l) e same = other (LeafRow l) e (λ k. cc) same
+    go BlankRow e same = other BlankRow e (λ k. cc) (Single below ∷ groups rows) same
+    go (LeafRow l) e same =
+        other (LeafRow l) e (λ k. cc) (onto_leaf (leaf l).ends below (groups rows)) same
+        ∙ ap joined_groups (sym (leaf-first (leaf l).ends row below (groups rows)))
     go TextRow e same =
         lines-first
         (λ (gs : List Group).
@@ -482,7 +522,7 @@ joined-rows bytes (row ∷ []) fronts ends h = go row.kind refl
 
     go : (kind : RowKind) → row.kind ≡ kind → joined (row_events row ++ []) ≡ joined_groups (onto_groups row kind [])
     go BlankRow e = other BlankRow e (λ k. cc)
-    go (LeafRow l) e = other (LeafRow l) e (λ k. cc)
+    go (LeafRow l) e = other (LeafRow l) e (λ k. cc) ∙ sym (leaf-joined (leaf l).ends row [])
     go TextRow e = ap (λ (kind : RowKind). joined (row_events_by kind row ++ [])) e ∙ text-last bytes row fronts.0
 joined-rows bytes (row ∷ below ∷ rows) fronts ends h =
     go (joined-rows bytes (below ∷ rows) fronts.1 ends.2 h.1) row.kind refl
@@ -499,7 +539,8 @@ joined-rows bytes (row ∷ below ∷ rows) fronts ends h =
         joined (row_events row ++ rows_events (below ∷ rows)) ≡
         joined_groups (onto_groups row kind (groups (below ∷ rows)))
     go same BlankRow e = other same BlankRow e (λ k. cc)
-    go same (LeafRow l) e = other same (LeafRow l) e (λ k. cc)
+    go same (LeafRow l) e =
+        other same (LeafRow l) e (λ k. cc) ∙ sym (leaf-joined (leaf l).ends row (groups (below ∷ rows)))
     go same TextRow e =
         ap (λ (kind : RowKind). joined (row_events_by kind row ++ rows_events (below ∷ rows))) e
         ∙ text-rows bytes row below rows ends.0 ends.1 fronts ends.2 (h.1.0 nothing refl) below.kind refl same

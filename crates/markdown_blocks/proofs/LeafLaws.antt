@@ -1,6 +1,6 @@
 -- The laws of a leaf on one line: what the frame asks of each (`LineLeaf`), and of the registry.
 use Rattle.std.proofs.Common.{◌≡◌, ℕ, ◌^◌, ◌<◌, ◌≤◌, Bool, true, false, cond, List, ◌++◌, length}
-use Rattle.markdown_blocks.specs.HeldLeaf.{takes_lazy}
+use Rattle.markdown_blocks.specs.HeldLeaf.{has_lines, takes_lazy}
 use Rattle.std.specs.Prelude.{Some}
 use Rattle.md_engine.specs.declared.configuration.ParseOptions.{ParseOptions}
 use Rattle.md_engine.specs.declared.event.Content.{Content}
@@ -59,6 +59,9 @@ pub record LeafLaws (l : LineLeaf) : Type 1 where
   -- It takes no line where what it may not begin with stands first behind whitespace.
   pub looked : (options : ParseOptions) (on : HeldLeaf) (cells : List Cell) (b : ℕ) → seen_behind cells ≡ Some b →
       l.may_begin b ≡ false → l.takes options on cells ≡ false
+  -- A line of it that goes on a leaf meets one of several lines.
+  pub meets : (options : ParseOptions) (on : HeldLeaf) (r : Rest) → l.starts options on r ≡ true →
+      l.further on ≡ true → has_lines on ≡ true
   -- Its trial takes a line to its end, or refuses it and leaves all as it was.
   pub took : (options : ParseOptions) (cells : List Cell) (h : Here) → IsRest h.scratch →
       l.takes options h.flags.leaf cells ≡ true →

@@ -2,6 +2,8 @@
 use Rattle.md_engine.specs.declared.tokenizer.held_leaf.HeldLeaf.TheVariants as held_leaf
 use Rattle.md_engine.specs.declared.tokenizer.held_leaf.HeldLeaf.{HeldLeaf}
 use Rattle.std.proofs.Common.{◌≡◌, ◌≢◌, ℕ, Bool, true, false, cond, List, [], ◌∷◌, ◌++◌, refl, ap, sym, ◌∙◌, subst}
+use Rattle.markdown_blocks.proofs.Registry.{leaf-ends}
+use Rattle.markdown_blocks.specs.Rows.{Span, onto_leaf}
 use Rattle.std.proofs.Common.{append_assoc, append-nil}
 use Rattle.std.specs.Prelude.{IsTrue, Option, Some, None}
 use Rattle.std.proofs.lemmas.Bool.{and_parts}
@@ -140,6 +142,7 @@ abbrev Begun : ParseOptions → List ℕ → (List Name → Point → List Group
 Begun options bytes P names p [] = Unit {0}
 Begun options bytes P names p (Single row ∷ gs) = Unit {0}
 Begun options bytes P names p (Lines row rows ∷ gs) = Lined options bytes P names p row rows gs
+Begun options bytes P names p (Span row rows ∷ gs) = Unit {0}
 
 -- a line has an ending if more follows
 abbrev Ended : List ℕ → Row → List Group → Type 0
@@ -195,9 +198,12 @@ onto-holds options bytes line P by names kept p row gs begun ended below h kind 
     go : (kind : RowKind) → row.kind ≡ kind → (gs : List Group) → Ended bytes row gs →
         Begun options bytes P kept (behind_row row) gs → P kept (behind_row row) gs → Both_of (onto_groups row kind gs)
     go BlankRow e gs ended below h = single (λ k. cc) gs h
-    go (LeafRow l) e gs ended below h = single (λ k. cc) gs h
+    go (LeafRow l) e gs ended below h =
+        subst (λ (ends : Bool). Both_of (onto_leaf ends row gs)) (sym (leaf-ends l))
+        (single (λ k. let bad : LeafRow l ≡ TextRow = sym e ∙ k in cc) gs h)
     go TextRow e [] ended below h = alone e [] h
     go TextRow e (Single next ∷ gs) ended below h = alone e (Single next ∷ gs) h
+    go TextRow e (Span next rows ∷ gs) ended below h = alone e (Span next rows ∷ gs) h
     go TextRow e (Lines next rows ∷ gs) ended below h = joins (goes_on row next) refl
       where
         joins : (x : Bool) → goes_on row next ≡ x →

@@ -3,6 +3,7 @@ use Rattle.md_engine.specs.declared.tokenizer.held_leaf.HeldLeaf.TheVariants as 
 use Rattle.md_engine.specs.declared.tokenizer.held_leaf.HeldLeaf.{HeldLeaf}
 use Rattle.md_outline.specs.Roles.{is_plain, is_told}
 use Rattle.std.proofs.Common.{◌≡◌, ℕ, Bool, true, false, ◌||◌, not, List, [], ◌∷◌, ◌++◌, map, refl, sym, subst}
+use Rattle.markdown_blocks.specs.Rows.{Span}
 use Rattle.std.specs.Prelude.{Option, Some, None}
 use Rattle.std.specs.List.{list_all}
 use Rattle.std.specs.Str.{IsUtf8}
@@ -103,10 +104,12 @@ ending-untold TextRow = (refl, refl)
 first-plain : (bytes : List ℕ) (group : Group) → OfGroup (IsPlainRow bytes) group → IsPlainRow bytes (first_row group)
 first-plain bytes (Single row) h = h
 first-plain bytes (Lines row rows) h = h.0
+first-plain bytes (Span row rows) h = h.0
 
 final-plain : (bytes : List ℕ) (group : Group) → OfGroup (IsPlainRow bytes) group → IsPlainRow bytes (final_row group)
 final-plain bytes (Single row) h = h
 final-plain bytes (Lines row rows) h = last-each (IsPlainRow bytes) row rows h.0 h.1
+final-plain bytes (Span row rows) h = last-each (IsPlainRow bytes) row rows h.0 h.1
 
 -- groups of such rows
 abbrev PlainGroups : List ℕ → List Name → Point → List Group → Type 0

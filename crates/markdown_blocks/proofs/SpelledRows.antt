@@ -3,6 +3,10 @@
 use Rattle.md_engine.specs.declared.tokenizer.held_leaf.HeldLeaf.TheVariants as held_leaf
 use Rattle.md_engine.specs.declared.tokenizer.held_leaf.HeldLeaf.{HeldLeaf}
 use Rattle.std.proofs.Common.{◌≡◌, ◌≢◌, ℕ, zero, suc, ◌+◌, ◌-◌, Bool, true, false, cond, ◌&&◌, List, [], ◌∷◌, ◌++◌}
+use Rattle.markdown_blocks.specs.Registry.{leaf}
+use Rattle.markdown_blocks.proofs.JoinedLemmas.{leaf-first}
+use Rattle.markdown_blocks.proofs.Registry.{leaf-ends}
+use Rattle.markdown_blocks.specs.Rows.{Span, onto_leaf}
 use Rattle.std.proofs.lemmas.Bool.{and_parts}
 use Rattle.markdown_blocks.specs.Rows.{line_behind}
 use Rattle.markdown_blocks.specs.HeldLeaf.{takes_lazy}
@@ -590,7 +594,9 @@ row-means options bytes p a line row gs last built plain is follows = go (goes_l
     by : (kind : RowKind) → row.kind ≡ kind → Follows options bytes (to row.kind) row gs last →
         Reads options bytes p row.change.closes (onto_groups row kind gs) last
     by BlankRow e further = single (λ h. let bad : BlankRow ≡ TextRow = sym e ∙ h in cc) further
-    by (LeafRow l) e further = single (λ h. let bad : LeafRow l ≡ TextRow = sym e ∙ h in cc) further
+    by (LeafRow l) e further =
+        subst (λ (ends : Bool). Reads options bytes p row.change.closes (onto_leaf ends row gs) last) (sym (leaf-ends l))
+        (single (λ h. let bad : LeafRow l ≡ TextRow = sym e ∙ h in cc) further)
     by TextRow e further =
         let on : to row.kind ≡ longer o (kept is.is.rest ∷ []) =
         ap to e ∙ sym (longer-with o (kept c.rest ∷ []) none)
@@ -671,6 +677,7 @@ not-joined row below gs lazy = go below.kind lazy
         onto_groups row TextRow (onto_groups below TextRow gs) ≡ Lines row [] ∷ onto_groups below TextRow gs
     onto [] e = by [] [] e
     onto (Single next ∷ more) e = by [] (Single next ∷ more) e
+    onto (Span next rows ∷ more) e = by [] (Span next rows ∷ more) e
     onto (Lines next rows ∷ more) e = join (goes_on below next)
       where
         join : (x : Bool) →
@@ -683,7 +690,7 @@ not-joined row below gs lazy = go below.kind lazy
     go : (kind : RowKind) → is_lazy held_leaf.Text below.change.opens kind ≡ false →
         onto_groups row TextRow (onto_groups below kind gs) ≡ Lines row [] ∷ onto_groups below kind gs
     go BlankRow e = refl
-    go (LeafRow l) e = refl
+    go (LeafRow l) e = leaf-first (leaf l).ends row below gs
     go TextRow e = onto gs (opens (is_none below.change.opens) e)
 
 -- behind a line one may go on lazily if it is text

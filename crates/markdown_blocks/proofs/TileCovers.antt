@@ -3,6 +3,9 @@
 use Rattle.md_engine.specs.declared.tokenizer.held_leaf.HeldLeaf.TheVariants as held_leaf
 use Rattle.md_engine.specs.declared.tokenizer.held_leaf.HeldLeaf.{HeldLeaf}
 use Rattle.std.proofs.Common.{◌≡◌, ◌≢◌, ℕ, Bool, true, false, cond, List, [], ◌∷◌, ◌++◌, length, refl, sym, subst}
+use Rattle.std.proofs.Common.{◌∙◌}
+use Rattle.markdown_blocks.proofs.Registry.{leaf-ends}
+use Rattle.markdown_blocks.specs.Rows.{Span, onto_leaf}
 use Rattle.std.specs.Prelude.{Option, Some, None}
 use Rattle.std.proofs.lemmas.Bool.{and_from, eq-eqb}
 use Rattle.md_engine.specs.declared.configuration.ParseOptions.{ParseOptions}
@@ -77,6 +80,9 @@ abbrev Laid : List ℕ → Point → Point → List Group → Type 0
 Laid bytes p end [] = same_place p end ≡ true
 Laid bytes p end (Single row ∷ gs) =
     Follows p (behind_row row) (listed_row_by bytes row.kind row) × Laid bytes (behind_row row) end gs
+Laid bytes p end (Span row rows ∷ gs) =
+    Follows p (behind_row (last_row row rows)) (listed_group bytes (Span row rows)) ×
+    Laid bytes (behind_row (last_row row rows)) end gs
 Laid bytes p end (Lines row rows ∷ gs) =
     (front : Tiled p row.first row.front) × (lines : Tiled row.first (last_row row rows).end (unread_lines row rows)) ×
     Laid bytes (behind_row (last_row row rows)) end gs
@@ -96,9 +102,12 @@ onto-laid : (bytes : List ℕ) (row : Row) (p end : Point) (gs : List Group) →
     Covered bytes row → Laid bytes (behind_row row) end gs → (kind : RowKind) → row.kind ≡ kind →
     Laid bytes p end (onto_groups row kind gs)
 onto-laid bytes row p end gs front c more BlankRow e = (single-laid bytes row p front (c (λ k. cc)), more)
-onto-laid bytes row p end gs front c more (LeafRow l) e = (single-laid bytes row p front (c (λ k. cc)), more)
+onto-laid bytes row p end gs front c more (LeafRow l) e =
+    subst (λ (ends : Bool). Laid bytes p end (onto_leaf ends row gs)) (sym (leaf-ends l))
+    (single-laid bytes row p front (c (λ k. let bad : LeafRow l ≡ TextRow = sym e ∙ k in cc)), more)
 onto-laid bytes row p end [] front c more TextRow e = (front, chunk-tiled row.first row.end, more)
 onto-laid bytes row p end (Single next ∷ gs) front c more TextRow e = (front, chunk-tiled row.first row.end, more)
+onto-laid bytes row p end (Span next rows ∷ gs) front c more TextRow e = (front, chunk-tiled row.first row.end, more)
 onto-laid bytes row p end (Lines next rows ∷ gs) front c more TextRow e = joins (joins_on row next)
   where
     lines : List Event
@@ -151,6 +160,10 @@ laid-covers bytes p end [] h = record { ends = refl; covers = h }
 laid-covers bytes p end (Single row ∷ gs) h =
     follows-append p (behind_row row) end (listed_row_by bytes row.kind row) (listed_groups bytes gs) h.0
     (laid-covers bytes (behind_row row) end gs h.1)
+laid-covers bytes p end (Span row rows ∷ gs) h =
+    let last : Row = last_row row rows in
+    follows-append p (behind_row last) end (listed_group bytes (Span row rows)) (listed_groups bytes gs) h.0
+    (laid-covers bytes (behind_row last) end gs h.1)
 laid-covers bytes p end (Lines row rows ∷ gs) h =
     let last : Row = last_row row rows in
     let lines : List Event = unread_lines row rows in

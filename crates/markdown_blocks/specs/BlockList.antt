@@ -17,7 +17,8 @@ use Rattle.md_containers.specs.Listed.{listed}
 use Rattle.md_seam.specs.Events.Nested.{around, enter_link, exit}
 use Rattle.markdown_blocks.specs.Document.{body_point, mark_events}
 use Rattle.markdown_blocks.specs.Registry.{text_leaf}
-use Rattle.markdown_blocks.specs.Rows.{Group, Lines, Row, final_row, first_row, group_kind, RowKind, Single, behind_row}
+use Rattle.markdown_blocks.specs.Rows.{Group, Lines, Row, Span, final_row, first_row, group_kind, RowKind, Single}
+use Rattle.markdown_blocks.specs.Rows.{behind_row, span_by}
 use Rattle.markdown_blocks.specs.Rows.{ending_of, groups, last_row, leaf_unread, tail_events}
 use Rattle.markdown_blocks.specs.TextRows.{text_rows}
 
@@ -44,6 +45,7 @@ listed_row_by bytes kind row = row.front ++ leaf_unread bytes kind row ++ tail_e
 abbrev pub group_unread : List ℕ → Group → List Event
 group_unread bytes (Single row) = leaf_unread bytes row.kind row
 group_unread bytes (Lines row rows) = text_unread row rows
+group_unread bytes (Span row rows) = span_by (λ (r : Row). r.inside) row rows
 
 -- with what stands in front of it, and behind it
 abbrev pub listed_group : List ℕ → Group → List Event

@@ -15,6 +15,12 @@ abbrev pub takes_lazy : HeldLeaf → Bool
 takes_lazy held_leaf.Text = true
 takes_lazy _ = false
 
+-- whether it is a leaf of several lines that are no text
+abbrev pub has_lines : HeldLeaf → Bool
+has_lines held_leaf.None = false
+has_lines held_leaf.Text = false
+has_lines leaf = true
+
 -- what a line meets of a leaf, where no container opens: the leaf is left where all containers went on, or where it
 -- takes lazy lines; else it has ended with its containers
 abbrev pub met_by : Bool → HeldLeaf → HeldLeaf

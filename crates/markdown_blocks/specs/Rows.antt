@@ -3,8 +3,10 @@ use Rattle.markdown_blocks.specs.HeldLeaf.{takes_lazy}
 use Rattle.md_engine.specs.declared.tokenizer.held_leaf.HeldLeaf.TheVariants as held_leaf
 use Rattle.md_engine.specs.declared.tokenizer.held_leaf.HeldLeaf.{HeldLeaf}
 use Rattle.std.specs.Prelude.{ℕ, zero, suc, Bool, true, false, ◌&&◌, length, if◌then◌else◌, List, [], ◌∷◌, ◌++◌}
+use Rattle.md_seam.specs.Events.Tiles.{plain_read}
+use Rattle.md_seam.specs.Events.Spelled.{without_last}
 use Rattle.std.specs.Option.{is_some}
-use Rattle.std.specs.Prelude.{slice_range, Option, Some, None}
+use Rattle.std.specs.Prelude.{drop, slice_range, Option, Some, None}
 use Rattle.md_engine.specs.declared.configuration.ParseOptions.{ParseOptions}
 use Rattle.md_engine.specs.declared.event.Event.{Event}
 use Rattle.md_engine.specs.declared.event.Name.{Name}
@@ -276,10 +278,11 @@ single_events_by bytes kind row = row.front ++ leaf_done bytes kind row ++ tail_
 
 -- Texts.
 
--- a line that is no text, or the lines of a text
+-- a line that is no text, the lines of a text, or those of a leaf of several
 pub data Group : Type 0 where
   Single : Row → Group
   Lines : Row → List Row → Group
+  Span : Row → List Row → Group
 
 -- whether a line of text goes on the text of the one before: no container ends or opens between them
 abbrev pub goes_on : Row → Row → Bool
@@ -289,10 +292,26 @@ abbrev pub onto_lines : Row → Row → List Row → List Group → List Group
 onto_lines row next rows groups =
     if goes_on row next then Lines row (next ∷ rows) ∷ groups else Lines row [] ∷ Lines next rows ∷ groups
 
+-- whether a line of this kind goes on the leaf that it meets
+abbrev pub is_further : RowKind → HeldLeaf → Bool
+is_further (LeafRow l) on = (leaf l).further on
+is_further kind on = false
+
+-- a line of a leaf of several: a line that goes on it is one of the same
+abbrev pub onto_span : Row → List Group → List Group
+onto_span row (Span next rows ∷ groups) =
+    if is_further next.kind next.on then Span row (next ∷ rows) ∷ groups else Span row [] ∷ Span next rows ∷ groups
+onto_span row groups = Span row [] ∷ groups
+
+abbrev pub onto_leaf : Bool → Row → List Group → List Group
+onto_leaf true row groups = Single row ∷ groups
+onto_leaf false row groups = onto_span row groups
+
 abbrev pub onto_groups : Row → RowKind → List Group → List Group
 onto_groups row TextRow (Lines next rows ∷ groups) = onto_lines row next rows groups
 onto_groups row TextRow groups = Lines row [] ∷ groups
-onto_groups row kind groups = Single row ∷ groups
+onto_groups row (LeafRow l) groups = onto_leaf (leaf l).ends row groups
+onto_groups row BlankRow groups = Single row ∷ groups
 
 -- lines of text that follow one another are one text, unless containers end or open between them
 abbrev pub groups : List Row → List Group
@@ -322,23 +341,53 @@ read_lines bytes row (next ∷ rows) =
 abbrev pub text_done : List ℕ → Row → List Row → List Event
 text_done bytes row rows = around text_leaf.name row.first (last_row row rows).end (read_lines bytes row rows)
 
+-- The lines of a leaf of several, joined: what each adds but its end, what one that goes on adds but its begin and its
+-- end, and the end of the last; between them stand an ending in the leaf, and prefixes.
+abbrev pub but_end : List Event → List Event
+but_end es = without_last es
+
+abbrev pub but_ends : List Event → List Event
+but_ends es = drop 1 (without_last es)
+
+abbrev pub end_of : List Event → List Event
+end_of [] = []
+end_of (e ∷ []) = e ∷ []
+end_of (e ∷ f ∷ es) = end_of (f ∷ es)
+
+-- behind the first of them
+abbrev pub span_rest : (Row → List Event) → Row → List Row → List Event
+span_rest f row [] = []
+span_rest f row (next ∷ rows) =
+    ending_events n.LineEnding row ++ next.front ++ but_ends (f next) ++ span_rest f next rows
+
+abbrev pub span_by : (Row → List Event) → Row → List Row → List Event
+span_by f row rows = but_end (f row) ++ span_rest f row rows ++ end_of (f (last_row row rows))
+
+-- once their text parts are read
+abbrev pub span_done : List ℕ → Row → List Row → List Event
+span_done bytes row rows = span_by (λ (r : Row). plain_read bytes r.inside) row rows
+
 -- Of a group: its first line and its last, what its last line is, and its leaf.
 
 abbrev pub first_row : Group → Row
 first_row (Single row) = row
 first_row (Lines row rows) = row
+first_row (Span row rows) = row
 
 abbrev pub final_row : Group → Row
 final_row (Single row) = row
 final_row (Lines row rows) = last_row row rows
+final_row (Span row rows) = last_row row rows
 
 abbrev pub group_kind : Group → RowKind
 group_kind (Single row) = row.kind
 group_kind (Lines row rows) = TextRow
+group_kind (Span row rows) = (last_row row rows).kind
 
 abbrev pub group_done : List ℕ → Group → List Event
 group_done bytes (Single row) = leaf_done bytes row.kind row
 group_done bytes (Lines row rows) = text_done bytes row rows
+group_done bytes (Span row rows) = span_done bytes row rows
 
 -- what stands in front of its first line, its leaf, and what stands behind its last line
 abbrev pub group_events : List ℕ → Group → List Event

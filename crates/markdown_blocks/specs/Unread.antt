@@ -1,5 +1,6 @@
 -- The events of a text on the way to its block list.
 use Rattle.std.specs.Prelude.{List, [], ◌∷◌, ◌++◌}
+use Rattle.std.specs.Prelude.{ℕ}
 use Rattle.md_engine.specs.declared.event.Event.{Event}
 use Rattle.md_engine.specs.declared.event.Link.{Link}
 use Rattle.md_engine.specs.declared.event.Name.{Name}
@@ -9,7 +10,7 @@ use Rattle.md_seam.specs.declared.inline.Chunk.{Chunk}
 use Rattle.md_seam.specs.Events.Nested.{enter_link, exit}
 pub use Rattle.markdown_blocks.specs.BlockList.{group_unread, linked_lines, text_unread, listed_group, listed_groups}
 pub use Rattle.markdown_blocks.specs.BlockList.{listed_row_by, unread_lines}
-use Rattle.markdown_blocks.specs.Rows.{Group, Lines, Single, last_row, row_events, tail_events}
+use Rattle.markdown_blocks.specs.Rows.{Group, Lines, Single, Span, last_row, row_events, rows_events, tail_events}
 
 -- the chunks of a part that is not read yet
 abbrev pub linked : Name → Link → List Chunk → List Event
@@ -19,6 +20,7 @@ linked name link (chunk ∷ chunks) = enter_link name chunk.first link ∷ exit 
 -- Lines of text that follow one another, before their content is read.
 abbrev pub joined_group : Group → List Event
 joined_group (Single row) = row_events row
+joined_group (Span row rows) = rows_events (row ∷ rows)
 joined_group (Lines row rows) =
     row.front ++ linked_lines n.Content content_link row rows ++ tail_events n.LineEnding (last_row row rows)
 
@@ -29,8 +31,18 @@ joined_groups (group ∷ groups) = joined_group group ++ joined_groups groups
 -- Texts, before they are read; leaves as their states leave them.
 abbrev pub unread_group : Group → List Event
 unread_group (Single row) = row_events row
+unread_group (Span row rows) = rows_events (row ∷ rows)
 unread_group (Lines row rows) = row.front ++ text_unread row rows ++ tail_events n.LineEnding (last_row row rows)
 
 abbrev pub unread_groups : List Group → List Event
 unread_groups [] = []
 unread_groups (group ∷ groups) = unread_group group ++ unread_groups groups
+
+-- Leaves once their resolvers have run, before the lines of a leaf of several are joined.
+abbrev pub set_group : List ℕ → Group → List Event
+set_group bytes (Span row rows) = rows_events (row ∷ rows)
+set_group bytes group = listed_group bytes group
+
+abbrev pub set_groups : List ℕ → List Group → List Event
+set_groups bytes [] = []
+set_groups bytes (group ∷ groups) = set_group bytes group ++ set_groups bytes groups

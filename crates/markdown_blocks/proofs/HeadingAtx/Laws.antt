@@ -100,6 +100,7 @@ heading-laws = record {
   looked = λ options on. trial-looked options;
   took = trial-took;
   refused = trial-refused;
+  meets = λ options on r starts further. cc;
   shrinks = trial-shrinks;
   fits = λ options on. heading-fits options;
   adds_is = λ options on. heading-adds options;

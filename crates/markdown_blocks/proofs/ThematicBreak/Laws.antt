@@ -15,6 +15,7 @@ break-laws = record {
   looked = λ options on. break-looked options;
   took = break-took;
   refused = break-refused;
+  meets = λ options on r starts further. cc;
   shrinks = break-shrinks;
   fits = λ options on. break-fits options;
   adds_is = λ options on. break-adds options;
