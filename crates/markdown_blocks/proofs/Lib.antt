@@ -70,6 +70,7 @@ pub mod StatesRegister
 pub mod JoinedLemmas
 pub mod GroupLemmas
 pub mod Text
+pub mod Span
 pub mod ShallowBlocks
 pub mod RegistryFound
 pub mod Paragraph

@@ -15,6 +15,7 @@ pub mod TextLeaf
 pub mod Leaf
 pub mod Registry
 pub mod Rows
+pub mod SpanRows
 pub mod Fronted
 pub mod Stands
 pub mod TextRows

@@ -1,0 +1,6 @@
+-- The lines of one leaf that are joined: what is known of their events.
+pub mod Cuts
+pub mod Inside
+pub mod Lead
+pub mod Leaf
+pub mod Lines

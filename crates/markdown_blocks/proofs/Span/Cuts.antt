@@ -1,0 +1,51 @@
+-- The begin and the end of the events of a line.
+use Rattle.std.proofs.Common.{◌≡◌, List, [], ◌∷◌, ◌++◌, drop, refl, ap, sym, ◌∙◌, append_assoc, append-nil}
+use Rattle.md_engine.specs.declared.event.Event.{Event}
+use Rattle.md_engine.specs.declared.event.Name.{Name}
+use Rattle.md_engine.specs.declared.event.Point.{Point}
+use Rattle.md_seam.specs.Events.Nested.{around, enter, exit}
+use Rattle.markdown_blocks.specs.Rows.{Row, last_row}
+use Rattle.markdown_blocks.specs.SpanRows.{but_end, but_ends, end_of, span_by, span_rest}
+
+-- events in front of an end
+pub but_end-is : (es : List Event) (e : Event) → but_end (es ++ e ∷ []) ≡ es
+but_end-is [] e = refl
+but_end-is (f ∷ []) e = refl
+but_end-is (f ∷ g ∷ es) e = ap (λ (l : List Event). f ∷ l) (but_end-is (g ∷ es) e)
+
+-- between a begin and an end
+pub but_ends-is : (f : Event) (es : List Event) (e : Event) → but_ends (f ∷ es ++ e ∷ []) ≡ es
+but_ends-is f es e = ap (λ (l : List Event). drop 1 l) (but_end-is (f ∷ es) e)
+
+-- and the end
+pub end-is : (es : List Event) (e : Event) → end_of (es ++ e ∷ []) ≡ e ∷ []
+end-is [] e = refl
+end-is (f ∷ []) e = refl
+end-is (f ∷ g ∷ es) e = end-is (g ∷ es) e
+
+-- the lines of a leaf are one part, from the begin of the first to the end of the last
+pub span-is : (f : Row → List Event) (name : Name) (at : Point) (lead inside : List Event) (row : Row)
+    (rows : List Row) →
+    but_end (f row) ≡ lead ++ enter name at ∷ inside →
+    end_of (f (last_row row rows)) ≡ exit name (last_row row rows).end ∷ [] →
+    span_by f row rows ≡ lead ++ around name at (last_row row rows).end (inside ++ span_rest f row rows)
+span-is f name at lead inside row rows first last =
+    ap (λ (l : List Event). l ++ rest ++ end_of (f (last_row row rows))) first
+    ∙ ap (λ (l : List Event). (lead ++ enter name at ∷ inside) ++ rest ++ l) last
+    ∙ ap (λ (l : List Event). l ++ end) (append_assoc lead (enter name at ∷ inside) rest)
+    ∙ append_assoc lead (enter name at ∷ inside ++ rest) end
+  where
+    rest : List Event
+    rest = span_rest f row rows
+
+    end : List Event
+    end = exit name (last_row row rows).end ∷ []
+
+-- one line alone is as it was
+pub span-alone : (f : Row → List Event) (row : Row) (es : List Event) (e : Event) → f row ≡ es ++ e ∷ [] →
+    span_by f row [] ≡ f row
+span-alone f row es e is =
+    ap (λ (l : List Event). but_end l ++ [] ++ end_of l) is
+    ∙ ap (λ (l : List Event). l ++ end_of (es ++ e ∷ [])) (append-nil (but_end (es ++ e ∷ [])) ∙ but_end-is es e)
+    ∙ ap (λ (l : List Event). es ++ l) (end-is es e)
+    ∙ sym is

@@ -1,0 +1,182 @@
+-- Events that stand inside of a leaf, with its begin and its end and whitespace in front of it, are a leaf.
+use Rattle.std.proofs.Common.{◌≡◌, ℕ, Bool, true, ◌&&◌, ◌||◌, not, List, [], ◌∷◌, ◌++◌, refl, ap, sym, ◌∙◌, subst}
+use Rattle.std.proofs.Common.{append_assoc}
+use Rattle.std.specs.Prelude.{Option, Some, None}
+use Rattle.md_engine.specs.declared.event.Event.{Event}
+use Rattle.md_engine.specs.declared.event.Kind.TheVariants.{Enter, Exit}
+use Rattle.md_engine.specs.declared.event.Name.{Name}
+use Rattle.md_engine.specs.declared.event.Point.{Point}
+use Rattle.md_containers.specs.Unlisted.{in_place}
+use Rattle.md_containers.proofs.UnlistedLemmas.{NoListing, among, stands-append as places-append}
+use Rattle.md_seam.specs.Events.Endings.{IsLeaf, OnLine, Spot, endings_stand_from, ends_rightly, line_start, on_line}
+use Rattle.md_seam.specs.Events.Endings.{spot_behind}
+use Rattle.md_seam.specs.Events.Grammar.{Expression, behind, behind_block, blocks, inside, may_end, plain_text}
+use Rattle.md_seam.specs.Events.Grammar.{unread_text}
+use Rattle.md_seam.specs.Events.Nested.{around, exit}
+use Rattle.md_seam.specs.Events.Spelled.{IsQuiet, LeafKind, OpenLeaf, Opens, Reading, Role, add_block, block_of, fresh}
+use Rattle.md_seam.specs.Events.Spelled.{read, read_enter, read_exit, role}
+use Rattle.md_seam.specs.Events.Tiles.{part_kind}
+use Rattle.md_seam.proofs.EndingsLemmas as ending
+use Rattle.md_seam.proofs.EndingsLemmas.{Stays, behind_leaf, in_leaf, others-lead}
+use Rattle.md_seam.proofs.GrammarLemmas as grammar
+use Rattle.md_seam.proofs.GrammarLemmas.{IsWord, leads-around}
+use Rattle.md_seam.proofs.SpelledLemmas.{Between, Quiet, Roles, read-from, read-quiet}
+use Rattle.md_outline.specs.Roles.{is_plain, is_told}
+use Rattle.markdown_blocks.proofs.BetweenFacts.{around-between, between-append}
+use Rattle.markdown_blocks.proofs.FillFacts.{fill-append, fill-around, fill-same}
+use Rattle.markdown_blocks.proofs.LeafFacts.{LeafFacts}
+use Rattle.markdown_blocks.proofs.LeafStands.{around-unlisted, between-stand, leaf-stands, parts-unlisted, quiets-parts}
+use Rattle.markdown_blocks.proofs.LeafStands.{unlisted-both}
+use Rattle.markdown_blocks.proofs.PartFacts.{NoParts, quiet-no_parts}
+use Rattle.markdown_blocks.proofs.PartedFacts.{Still, around-sits, clear, quiets-still, sits-append, sits-still}
+use Rattle.markdown_blocks.proofs.PartsStand.{stands-append, stands-around, stands-outside}
+use Rattle.markdown_blocks.proofs.PieceFacts.{Starts, stood-around, stood-append}
+use Rattle.markdown_blocks.proofs.PiecesLemmas.{tiled-append, tiled-around}
+use Rattle.markdown_blocks.proofs.PlainFacts.{plain-append, plain-around, plain-quiet}
+use Rattle.markdown_blocks.proofs.SpanLemmas.{around-nested, nested_in-append}
+use Rattle.markdown_blocks.proofs.Span.Inside.{InsideFacts}
+use Rattle.markdown_blocks.proofs.Span.Lead.{LeadFacts}
+
+-- what is asked of the name of a leaf, each of which `refl` proves
+pub record IsLeafName (name : Name) (kind : LeafKind) : Type 0 where
+  pub is : role name ≡ Opens kind
+  pub leaf : on_line name ≡ IsLeaf
+  pub no_part : part_kind name ≡ None
+  pub no_list : in_place name ≡ name
+  -- it is a block, of no text part
+  pub block : behind name blocks ≡ behind_block
+  pub begin : Expression
+  pub begins : (text : Expression) → inside text name ≡ begin
+  -- an outline shows it
+  pub plain : is_plain (Opens kind) ≡ true
+
+-- A line on which a leaf ends holds one, whatever stands on it.
+--
+-- TO GO: `λ to. refl` proves this as soon as `spot_behind Exit IsLeaf s` of `md_seam` has `after_leaf = true`. Until
+-- then it fails where the last line of the leaf is empty, so it is a premise, and what has it says nothing yet.
+abbrev pub EndFills : Type 0
+EndFills = (to : Bool) → spot_behind Exit IsLeaf (in_leaf to) ≡ behind_leaf
+
+-- where its line ends
+around-leads : (name : Name) (p q : Point) (es : List Event) → on_line name ≡ IsLeaf → Stays es → EndFills →
+    ending.Leads line_start behind_leaf (around name p q es)
+around-leads name p q es leaf stays fills = λ ys.
+    ap
+    (λ (x : OnLine).
+    ends_rightly Enter x line_start
+    && endings_stand_from (spot_behind Enter x line_start) ((es ++ exit name q ∷ []) ++ ys)) leaf
+    ∙ ap (endings_stand_from (in_leaf true)) (append_assoc es (exit name q ∷ []) ys)
+    ∙ (stays true).1 (exit name q ∷ ys)
+    ∙ ap
+    (λ (x : OnLine).
+    ends_rightly Exit x (in_leaf (stays true).0)
+    && endings_stand_from (spot_behind Exit x (in_leaf (stays true).0)) ys) leaf
+    ∙ ap (λ (s : Spot). endings_stand_from s ys) (fills (stays true).0)
+
+-- in the grammar
+around-word : (text left : Expression) (name : Name) (kind : LeafKind) (p q : Point) (es : List Event) →
+    (named : IsLeafName name kind) → grammar.Leads text (named.begin ∷ []) (left ∷ []) es → may_end left ≡ true →
+    grammar.Leads text (blocks ∷ []) (behind_block ∷ []) (around name p q es)
+around-word text left name kind p q es named word ends =
+    subst (λ (x : Expression). grammar.Leads text (blocks ∷ []) (x ∷ []) (around name p q es)) named.block
+    (leads-around text blocks name p q es is)
+  where
+    is : IsWord text (inside text name ∷ []) es
+    is =
+        subst (λ (x : Expression). IsWord text (x ∷ []) es) (sym (named.begins text))
+        (record { left = left; leads = word; ends = ends })
+
+-- as it is read
+around-reads : (bytes : List ℕ) (name : Name) (kind : LeafKind) (p q : Point) (to : OpenLeaf) (es : List Event)
+    (r : Reading) →
+    role name ≡ Opens kind → r.leaf ≡ None →
+    read bytes (record r { leaf = Some (fresh kind) }) es ≡ record r { leaf = Some to } →
+    read bytes r (around name p q es) ≡ add_block (block_of to) r
+around-reads bytes name kind p q to es r is shut h =
+    ap (λ (x : Role). read bytes (read_enter bytes x p r) (es ++ exit name q ∷ [])) is
+    ∙ read-from bytes (record r { leaf = Some (fresh kind) }) (record r { leaf = Some to }) es (exit name q ∷ []) h
+    ∙ ap (λ (x : Role). read_exit bytes x q (record r { leaf = Some to })) is
+    ∙ ap (λ (o : Option OpenLeaf). add_block (block_of to) (record r { leaf = o })) (sym shut)
+
+-- what the tree does not show stands between blocks
+quiets-between : (es : List Event) → Roles Quiet es → Roles Between es
+quiets-between [] h = tt
+quiets-between (e ∷ es) h = (one (role e.name) h.0, quiets-between es h.1)
+  where
+    one : (x : Role) → Quiet x → Between x
+    one IsQuiet h = tt
+    one _ h = absurd h
+
+-- The leaf.
+pub inside-leaf : (bytes : List ℕ) (name : Name) (kind : LeafKind) (p a q : Point) (left : Expression) (to : OpenLeaf)
+    (lead unread done : List Event) →
+    (named : IsLeafName name kind) → EndFills → LeadFacts bytes p a lead → Starts unread → Starts done →
+    InsideFacts bytes a q named.begin left (fresh kind) to unread done → may_end left ≡ true →
+    LeafFacts bytes (Some (block_of to)) p q (lead ++ around name a q unread) (lead ++ around name a q done)
+inside-leaf bytes name kind p a q left to lead unread done named fills front unread_starts starts h ends = record {
+  unread_nested =
+      nested_in-append p a q lead (around name a q unread) front.nested
+      (around-nested name a q unread h.unread_nested);
+  nested = nested_in-append p a q lead (around name a q done) front.nested (around-nested name a q done h.nested);
+  tiled = tiled-append p a q lead (around name a q unread) front.tiled (tiled-around name a q unread h.tiled);
+  unread_stood =
+      stood-append bytes lead (around name a q unread) front.stood
+      (stood-around bytes name a q unread unread_starts h.unread_stood);
+  stood =
+      stood-append bytes lead (around name a q done) front.stood
+      (stood-around bytes name a q done starts h.stood);
+  unread_word =
+      grammar.leads-append unread_text (blocks ∷ []) (blocks ∷ []) (behind_block ∷ []) lead (around name a q unread)
+      (front.word unread_text) (around-word unread_text left name kind a q unread named h.unread_word ends);
+  word =
+      grammar.leads-append plain_text (blocks ∷ []) (blocks ∷ []) (behind_block ∷ []) lead (around name a q done)
+      (front.word plain_text) (around-word plain_text left name kind a q done named h.word ends);
+  unread_ending =
+      ending.leads-append line_start line_start behind_leaf lead (around name a q unread) lead_ends
+      (around-leads name a q unread named.leaf h.unread_stays fills);
+  ending =
+      ending.leads-append line_start line_start behind_leaf lead (around name a q done) lead_ends
+      (around-leads name a q done named.leaf h.stays fills);
+  unread_unlisted =
+      unlisted-both lead (around name a q unread) unlisted
+      (around-unlisted name a q unread named.no_list h.unread_roles);
+  unlisted =
+      unlisted-both lead (around name a q done) unlisted (around-unlisted name a q done named.no_list h.roles);
+  stands = λ held.
+      places-append bytes (among held) (among held) (among held) lead (around name a q done)
+      (between-stand bytes held lead (quiets-between lead front.quiet))
+      (leaf-stands bytes held name kind a q done named.is h.roles);
+  parts =
+      stands-append bytes lead (around name a q unread) (stands-outside bytes lead outside front.unlinked)
+      (stands-around bytes name a q unread named.no_part h.parts);
+  filled =
+      fill-append bytes lead lead (around name a q unread) (around name a q done)
+      (fill-same bytes lead front.unlinked outside)
+      (fill-around bytes name a q unread done named.no_part h.filled);
+  between =
+      λ first last. between-append bytes lead (around name a q done) (front.between first)
+      (around-between bytes name a q done (front.behind first) last (h.between (front.behind first) last));
+  parted =
+      sits-append bytes lead (around name a q done) (sits-still bytes lead (quiets-still lead front.quiet))
+      (around-sits bytes name a q done (subst (λ (x : Role). Still x) (sym named.is) tt) h.parted);
+  plain =
+      λ first. plain-append bytes lead (around name a q done) (plain-quiet bytes lead front.quiet)
+      (plain-around bytes name a q done (ap is_plain named.is ∙ named.plain) (untold a) (untold q)
+      (h.plain (front.clear first)));
+  reads =
+      λ r text shut. read-from bytes r r lead (around name a q done) (read-quiet bytes r lead front.quiet)
+      ∙ around-reads bytes name kind a q to done r named.is shut
+      (h.reads (record r { leaf = Some (fresh kind) }) text refl);
+}
+  where
+    lead_ends : ending.Leads line_start line_start lead
+    lead_ends = others-lead line_start lead refl front.others
+
+    unlisted : NoListing lead
+    unlisted = parts-unlisted lead (quiets-parts lead front.quiet)
+
+    outside : NoParts lead
+    outside = quiet-no_parts lead front.quiet
+
+    untold : (x : Point) → (not (is_told (role name)) || clear bytes x) ≡ true
+    untold x = ap (λ (y : Role). not (is_told y) || clear bytes x) named.is

@@ -1,0 +1,285 @@
+-- The lines of one leaf that are joined: from what is known of each, all that the frame asks of the leaf.
+use Rattle.std.proofs.Common.{◌≡◌, ℕ, true, List, [], ◌∷◌, ◌++◌, ap, sym, ◌∙◌, subst, append_assoc}
+use Rattle.std.specs.Prelude.{◌==◌, ◌||◌, Some}
+use Rattle.md_engine.specs.declared.configuration.ParseOptions.{ParseOptions}
+use Rattle.md_engine.specs.declared.event.Event.{Event}
+use Rattle.md_engine.specs.declared.event.Name.{Name}
+use Rattle.md_engine.specs.declared.event.Name.TheVariants as n
+use Rattle.md_engine.specs.declared.event.Point.{Point}
+use Rattle.md_seam.specs.Events.Grammar.{Expression, behind, may_end}
+use Rattle.md_seam.specs.Events.Nested.{around, enter, exit, pair}
+use Rattle.md_seam.specs.Events.Spelled.{LeafKind, OpenLeaf, block_of, byte_at, fresh}
+use Rattle.md_outline.specs.Between.{is_between}
+use Rattle.markdown_blocks.specs.Rows.{Row, last_row}
+use Rattle.markdown_blocks.specs.SpanRows.{but_end, but_ends, end_of, span_by, span_rest}
+use Rattle.markdown_blocks.proofs.BetweenFacts.{ending-before, ending-behind}
+use Rattle.markdown_blocks.proofs.ContainerNames.{TakesPrefixes}
+use Rattle.markdown_blocks.proofs.FrontFacts.{LinePrefix}
+use Rattle.markdown_blocks.proofs.FrontStands.{fronts-between, fronts-clear}
+use Rattle.markdown_blocks.proofs.JoinedLemmas.{ending-is}
+use Rattle.markdown_blocks.proofs.LeafFacts.{LeafFacts}
+use Rattle.markdown_blocks.proofs.PartedFacts.{clear}
+use Rattle.markdown_blocks.proofs.PieceFacts.{Starts, starts-append}
+use Rattle.markdown_blocks.proofs.RowFacts.{IsEnding, IsRow}
+use Rattle.markdown_blocks.proofs.Span.Cuts.{but_end-is, but_ends-is, end-is, span-is}
+use Rattle.markdown_blocks.proofs.Span.Inside.{InsideFacts, Meets, behind_ending, ending-inside, front-inside}
+use Rattle.markdown_blocks.proofs.Span.Inside.{inside-append, inside-none}
+use Rattle.markdown_blocks.proofs.Span.Lead.{LeadFacts}
+use Rattle.markdown_blocks.proofs.Span.Leaf.{EndFills, IsLeafName, inside-leaf}
+use Rattle.markdown_blocks.proofs.Text.Parted.{rest-clear}
+
+-- A line.
+
+-- how the events of a line end, before text parts are read and once they are
+pub record EndsLeaf (unread done : Row → List Event) (name : Name) (row : Row) : Type 0 where
+  pub unread_end : end_of (unread row) ≡ exit name row.end ∷ []
+  pub end : end_of (done row) ≡ exit name row.end ∷ []
+  -- no tab is cut there
+  pub whole : row.end.vs ≡ 0
+
+-- The first line of a leaf: what stands in it behind its begin, from a leaf that has just begun.
+pub record SpanFirst (bytes : List ℕ) (unread done : Row → List Event) (name : Name) (begin : Expression)
+    (from : OpenLeaf) (row : Row) : Type 0 where
+  pub ends : EndsLeaf unread done name row
+  -- the whitespace in front of it, and where it begins
+  pub lead : List Event
+  pub at : Point
+  pub lead_is : LeadFacts bytes row.first at lead
+  -- behind its begin
+  pub unread_inside : List Event
+  pub inside : List Event
+  pub unread_is : but_end (unread row) ≡ lead ++ enter name at ∷ unread_inside
+  pub is : but_end (done row) ≡ lead ++ enter name at ∷ inside
+  pub unread_starts : Starts unread_inside
+  pub starts : Starts inside
+  -- what is left of the grammar behind it, and what the leaf is then
+  pub left : Expression
+  pub leaf : OpenLeaf
+  pub facts : InsideFacts bytes at row.end begin left from leaf unread_inside inside
+
+-- A further line, in front of which this is left of the grammar, and the leaf is this.
+pub record SpanLine (bytes : List ℕ) (unread done : Row → List Event) (name : Name) (x : Expression)
+    (from : OpenLeaf) (row : Row) : Type 0 where
+  pub ends : EndsLeaf unread done name row
+  -- it cuts no tab of a character
+  pub clear : clear bytes row.first ≡ true
+  -- the same behind it
+  pub left : Expression
+  pub leaf : OpenLeaf
+  pub facts : InsideFacts bytes row.first row.end x left from leaf (but_ends (unread row)) (but_ends (done row))
+
+-- Further lines behind one, in front of whose ending this is left of the grammar and the leaf is this, with the leaf
+-- that they come to. No container opens in front of them.
+abbrev pub AreFurther : List ℕ → (Row → List Event) → (Row → List Event) → Name → Expression → OpenLeaf → OpenLeaf →
+    Row → List Row → Type 0
+AreFurther bytes unread done name left leaf to row [] = (end : may_end left ≡ true) × (leaf ≡ to)
+AreFurther bytes unread done name left leaf to row (next ∷ rows) =
+    (q : Point) × (after : row.after ≡ Some q) × (ending : IsEnding bytes row.end q) ×
+    (front : LinePrefix bytes [] q next.first next.front) × (takes : TakesPrefixes (behind n.LineEnding left)) ×
+    (line : SpanLine bytes unread done name (behind n.LineEnding left) (behind_ending bytes q leaf) next) ×
+    AreFurther bytes unread done name line.left line.leaf to next rows
+
+-- Such lines by their events: a begin, what stands inside, and the end.
+
+ends-by : (unread done : Row → List Event) (name : Name) (row : Row) (us es : List Event) → row.end.vs ≡ 0 →
+    unread row ≡ us ++ exit name row.end ∷ [] → done row ≡ es ++ exit name row.end ∷ [] →
+    EndsLeaf unread done name row
+ends-by unread done name row us es whole unread_is is = record {
+  unread_end = ap end_of unread_is ∙ end-is us (exit name row.end);
+  end = ap end_of is ∙ end-is es (exit name row.end);
+  whole = whole;
+}
+
+-- a first one, behind whitespace
+pub span-first : (options : ParseOptions) (bytes line : List ℕ) (unread done : Row → List Event) (name : Name)
+    (begin left : Expression) (from to : OpenLeaf) (row : Row) (at : Point) (lead us es : List Event) →
+    IsRow options bytes line row → LeadFacts bytes row.first at lead → Starts us → Starts es →
+    unread row ≡ lead ++ around name at row.end us → done row ≡ lead ++ around name at row.end es →
+    InsideFacts bytes at row.end begin left from to us es →
+    SpanFirst bytes unread done name begin from row
+span-first options bytes line unread done name x left from to row at lead us es is white starts more first last facts =
+    record {
+      ends =
+          ends-by unread done name row (lead ++ enter name at ∷ us) (lead ++ enter name at ∷ es) is.end_whole
+          (first ∙ by us) (last ∙ by es);
+      lead = lead;
+      at = at;
+      lead_is = white;
+      unread_inside = us;
+      inside = es;
+      unread_is = ap but_end (first ∙ by us) ∙ but_end-is (lead ++ enter name at ∷ us) (exit name row.end);
+      is = ap but_end (last ∙ by es) ∙ but_end-is (lead ++ enter name at ∷ es) (exit name row.end);
+      unread_starts = starts;
+      starts = more;
+      left = left;
+      leaf = to;
+      facts = facts;
+    }
+  where
+    by : (xs : List Event) → lead ++ around name at row.end xs ≡ (lead ++ enter name at ∷ xs) ++ exit name row.end ∷ []
+    by xs = sym (append_assoc lead (enter name at ∷ xs) (exit name row.end ∷ []))
+
+-- a further one
+pub span-line : (options : ParseOptions) (bytes line : List ℕ) (unread done : Row → List Event) (name : Name)
+    (x left : Expression) (from to : OpenLeaf) (row : Row) (e f : Event) (us es : List Event) →
+    IsRow options bytes line row →
+    unread row ≡ e ∷ us ++ exit name row.end ∷ [] → done row ≡ f ∷ es ++ exit name row.end ∷ [] →
+    InsideFacts bytes row.first row.end x left from to us es → SpanLine bytes unread done name x from row
+span-line options bytes line unread done name x left from to row e f us es is unread_is done_is facts = record {
+  ends = ends-by unread done name row (e ∷ us) (f ∷ es) is.end_whole unread_is done_is;
+  clear = rest-clear options bytes line row is;
+  left = left;
+  leaf = to;
+  facts =
+      subst
+      (λ (l : List Event). InsideFacts bytes row.first row.end x left from to l (but_ends (done row)))
+      (sym (ap but_ends unread_is ∙ but_ends-is e us (exit name row.end)))
+      (subst (λ (l : List Event). InsideFacts bytes row.first row.end x left from to us l)
+      (sym (ap but_ends done_is ∙ but_ends-is f es (exit name row.end))) facts);
+}
+
+-- The last of them, and what stands behind one.
+
+-- the last line ends the leaf
+last-ends : (bytes : List ℕ) (unread done : Row → List Event) (name : Name) (left : Expression) (leaf to : OpenLeaf)
+    (row : Row) (rows : List Row) →
+    EndsLeaf unread done name row → AreFurther bytes unread done name left leaf to row rows →
+    EndsLeaf unread done name (last_row row rows)
+last-ends bytes unread done name left leaf to row [] ends are = ends
+last-ends bytes unread done name left leaf to row (next ∷ rows) ends are =
+    last-ends bytes unread done name are.5.left are.5.leaf to next rows are.5.ends are.6
+
+-- the end of a line, and what goes on behind it
+meets-end : (bytes : List ℕ) (unread done : Row → List Event) (name : Name) (left : Expression) (leaf to : OpenLeaf)
+    (row : Row) (rows : List Row) →
+    row.end.vs ≡ 0 → AreFurther bytes unread done name left leaf to row rows →
+    Meets bytes row.end (last_row row rows).end
+meets-end bytes unread done name left leaf to row rows whole are = record {
+  between = go rows are;
+  clear = ap (λ (v : ℕ). (v == 0) || is_between bytes (byte_at row.end)) whole;
+}
+  where
+    go : (rows : List Row) → AreFurther bytes unread done name left leaf to row rows →
+        is_between bytes (last_row row rows).end.index ≡ true → is_between bytes row.end.index ≡ true
+    go [] are last = last
+    go (next ∷ rows) are last = ending-before bytes row.end are.0 are.2
+
+-- what stands behind a line
+pub record RestInside (bytes : List ℕ) (p q : Point) (x : Expression) (from to : OpenLeaf)
+    (unread done : List Event) : Type 0 where
+  pub left : Expression
+  pub end : may_end left ≡ true
+  pub facts : InsideFacts bytes p q x left from to unread done
+
+-- one more in front: the ending of the line before, the prefixes in front of it, and what stands inside of it
+next-inside : (bytes : List ℕ) (unread done : Row → List Event) (name : Name) (left : Expression) (leaf to : OpenLeaf)
+    (row next : Row) (rows : List Row) →
+    row.end.vs ≡ 0 → (are : AreFurther bytes unread done name left leaf to row (next ∷ rows)) →
+    RestInside bytes next.end (last_row next rows).end are.5.left are.5.leaf to (span_rest unread next rows)
+    (span_rest done next rows) →
+    RestInside bytes row.end (last_row next rows).end left leaf to (span_rest unread row (next ∷ rows))
+    (span_rest done row (next ∷ rows))
+next-inside bytes unread done name left leaf to row next rows whole are rest = record {
+  left = rest.left;
+  end = rest.end;
+  facts =
+      subst
+      (λ (es : List Event).
+      InsideFacts bytes row.end last left rest.left leaf to
+      (es ++ next.front ++ but_ends (unread next) ++ span_rest unread next rows)
+      (es ++ next.front ++ but_ends (done next) ++ span_rest done next rows))
+      (sym (ending-is n.LineEnding row q are.1))
+      (inside-append bytes row.end next.end last left line.left rest.left leaf line.leaf to
+      (ended ++ next.front ++ but_ends (unread next)) (ended ++ next.front ++ but_ends (done next))
+      (span_rest unread next rows) (span_rest done next rows)
+      (meets-end bytes unread done name line.left line.leaf to next rows line.ends.whole are.6)
+      (inside-append bytes row.end next.first next.end left again line.left leaf opened line.leaf
+      (ended ++ next.front) (ended ++ next.front) (but_ends (unread next)) (but_ends (done next))
+      (record { between = λ end. begin; clear = line.clear }) front line.facts)
+      rest.facts);
+}
+  where
+    q : Point
+    q = are.0
+
+    last : Point
+    last = (last_row next rows).end
+
+    ended : List Event
+    ended = pair n.LineEnding row.end q
+
+    again : Expression
+    again = behind n.LineEnding left
+
+    opened : OpenLeaf
+    opened = behind_ending bytes q leaf
+
+    line : SpanLine bytes unread done name again opened next
+    line = are.5
+
+    begin : is_between bytes next.first.index ≡ true
+    begin = (fronts-between bytes [] q next.first next.front (ending-behind bytes row.end q are.2) are.3).1
+
+    front : InsideFacts bytes row.end next.first left again leaf opened (ended ++ next.front) (ended ++ next.front)
+    front =
+        inside-append bytes row.end q next.first left again again leaf opened opened ended ended next.front next.front
+        (record {
+          between = λ end. ending-behind bytes row.end q are.2;
+          clear = fronts-clear bytes [] q next.first next.front are.3 line.clear;
+        })
+        (ending-inside bytes row.end q left leaf whole are.2)
+        (front-inside bytes q next.first again opened next.front are.4 are.3)
+
+pub rest-inside : (bytes : List ℕ) (unread done : Row → List Event) (name : Name) (left : Expression)
+    (leaf to : OpenLeaf) (row : Row) (rows : List Row) →
+    row.end.vs ≡ 0 → AreFurther bytes unread done name left leaf to row rows →
+    RestInside bytes row.end (last_row row rows).end left leaf to (span_rest unread row rows)
+    (span_rest done row rows)
+rest-inside bytes unread done name left leaf to row [] whole are = record {
+  left = left;
+  end = are.0;
+  facts =
+      subst (λ (l : OpenLeaf). InsideFacts bytes row.end row.end left left leaf l [] []) are.1
+      (inside-none bytes row.end left leaf);
+}
+rest-inside bytes unread done name left leaf to row (next ∷ rows) whole are =
+    next-inside bytes unread done name left leaf to row next rows whole are
+    (rest-inside bytes unread done name are.5.left are.5.leaf to next rows are.5.ends.whole are.6)
+
+-- All that the frame asks of the lines of a leaf, joined.
+pub span-facts : (bytes : List ℕ) (unread done : Row → List Event) (name : Name) (kind : LeafKind) (to : OpenLeaf)
+    (row : Row) (rows : List Row) →
+    (named : IsLeafName name kind) → EndFills →
+    (first : SpanFirst bytes unread done name named.begin (fresh kind) row) →
+    AreFurther bytes unread done name first.left first.leaf to row rows →
+    LeafFacts bytes (Some (block_of to)) row.first (last_row row rows).end (span_by unread row rows)
+    (span_by done row rows)
+span-facts bytes unread done name kind to row rows named fills first are =
+    subst
+    (λ (es : List Event).
+    LeafFacts bytes (Some (block_of to)) row.first last es (span_by done row rows))
+    (sym (span-is unread name first.at first.lead first.unread_inside row rows first.unread_is ends.unread_end))
+    (subst
+    (λ (es : List Event).
+    LeafFacts bytes (Some (block_of to)) row.first last
+    (first.lead ++ around name first.at last (first.unread_inside ++ span_rest unread row rows)) es)
+    (sym (span-is done name first.at first.lead first.inside row rows first.is ends.end))
+    (inside-leaf bytes name kind row.first first.at last rest.left to first.lead
+    (first.unread_inside ++ span_rest unread row rows) (first.inside ++ span_rest done row rows) named fills
+    first.lead_is (starts-append first.unread_inside (span_rest unread row rows) first.unread_starts)
+    (starts-append first.inside (span_rest done row rows) first.starts)
+    (inside-append bytes first.at row.end last named.begin first.left rest.left (fresh kind) first.leaf to
+    first.unread_inside first.inside (span_rest unread row rows) (span_rest done row rows)
+    (meets-end bytes unread done name first.left first.leaf to row rows first.ends.whole are) first.facts rest.facts)
+    rest.end))
+  where
+    last : Point
+    last = (last_row row rows).end
+
+    ends : EndsLeaf unread done name (last_row row rows)
+    ends = last-ends bytes unread done name first.left first.leaf to row rows first.ends are
+
+    rest :
+        RestInside bytes row.end (last_row row rows).end first.left first.leaf to (span_rest unread row rows)
+        (span_rest done row rows)
+    rest = rest-inside bytes unread done name first.left first.leaf to row rows first.ends.whole are
