@@ -15,7 +15,6 @@ pub mod TextLeaf
 pub mod Leaf
 pub mod Registry
 pub mod Rows
-pub mod SpanRows
 pub mod Fronted
 pub mod Stands
 pub mod TextRows

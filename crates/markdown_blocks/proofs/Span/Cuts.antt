@@ -5,7 +5,7 @@ use Rattle.md_engine.specs.declared.event.Name.{Name}
 use Rattle.md_engine.specs.declared.event.Point.{Point}
 use Rattle.md_seam.specs.Events.Nested.{around, enter, exit}
 use Rattle.markdown_blocks.specs.Rows.{Row, last_row}
-use Rattle.markdown_blocks.specs.SpanRows.{but_end, but_ends, end_of, span_by, span_rest}
+use Rattle.markdown_blocks.specs.Rows.{but_end, but_ends, end_of, span_by, span_rest}
 
 -- events in front of an end
 pub but_end-is : (es : List Event) (e : Event) → but_end (es ++ e ∷ []) ≡ es

@@ -11,7 +11,7 @@ use Rattle.md_seam.specs.Events.Nested.{around, enter, exit, pair}
 use Rattle.md_seam.specs.Events.Spelled.{LeafKind, OpenLeaf, block_of, byte_at, fresh}
 use Rattle.md_outline.specs.Between.{is_between}
 use Rattle.markdown_blocks.specs.Rows.{Row, last_row}
-use Rattle.markdown_blocks.specs.SpanRows.{but_end, but_ends, end_of, span_by, span_rest}
+use Rattle.markdown_blocks.specs.Rows.{but_end, but_ends, end_of, span_by, span_rest}
 use Rattle.markdown_blocks.proofs.BetweenFacts.{ending-before, ending-behind}
 use Rattle.markdown_blocks.proofs.ContainerNames.{TakesPrefixes}
 use Rattle.markdown_blocks.proofs.FrontFacts.{LinePrefix}
