@@ -1,0 +1,2 @@
+-- Opening lines of fenced code and of math: what stands on them, and their laws.
+pub mod Trial
