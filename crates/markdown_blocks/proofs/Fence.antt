@@ -1,2 +1,6 @@
 -- Opening lines of fenced code and of math: what stands on them, and their laws.
+pub mod Adds
+pub mod Cells
+pub mod Opened
 pub mod Trial
+pub mod White
