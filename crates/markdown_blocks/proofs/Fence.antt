@@ -1,6 +1,8 @@
 -- Opening lines of fenced code and of math: what stands on them, and their laws.
 pub mod Adds
 pub mod Cells
+pub mod Each
 pub mod Opened
+pub mod Outside
 pub mod Trial
 pub mod White
