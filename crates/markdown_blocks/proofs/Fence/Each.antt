@@ -24,40 +24,47 @@ use Rattle.markdown_blocks.specs.Leaf.Fence.{text_part, text_parts, white_part, 
 use Rattle.markdown_blocks.proofs.EachEvent.{Each, each-append}
 use Rattle.markdown_blocks.proofs.SpanLemmas.{either}
 
--- the names of a fence, but for that of what is read later
+-- the names of what stands in a block, but for that of what is read later
 abbrev pub is_fence_name : Name → Bool
 is_fence_name n.SpaceOrTab = true
-is_fence_name n.CodeFenced = true
 is_fence_name n.CodeFencedFence = true
 is_fence_name n.CodeFencedFenceSequence = true
 is_fence_name n.CodeFencedFenceInfo = true
 is_fence_name n.CodeFencedFenceMeta = true
-is_fence_name n.MathFlow = true
 is_fence_name n.MathFlowFence = true
 is_fence_name n.MathFlowFenceSequence = true
 is_fence_name n.MathFlowFenceMeta = true
 is_fence_name _ = false
 
+-- and those of blocks
+abbrev pub is_block_name : Name → Bool
+is_block_name n.CodeFenced = true
+is_block_name n.MathFlow = true
+is_block_name _ = false
+
 -- by its marker
-by-math : (x : Bool) (a b : Name) → is_fence_name a ≡ true → is_fence_name b ≡ true → is_fence_name (cond x a b) ≡ true
-by-math true a b h k = h
-by-math false a b h k = k
+pub by-math : (P : Name → Type 0) (x : Bool) (a b : Name) → P a → P b → P (cond x a b)
+by-math P true a b h k = h
+by-math P false a b h k = k
 
-block-named : (m : ℕ) → is_fence_name (block_name m) ≡ true
-block-named m = by-math (m == 36) n.MathFlow n.CodeFenced refl refl
+block-named : (m : ℕ) → is_block_name (block_name m) ≡ true
+block-named m = by-math (λ x. is_block_name x ≡ true) (m == 36) n.MathFlow n.CodeFenced refl refl
 
-fence-named : (m : ℕ) → is_fence_name (fence_name m) ≡ true
-fence-named m = by-math (m == 36) n.MathFlowFence n.CodeFencedFence refl refl
+pub fence-named : (m : ℕ) → is_fence_name (fence_name m) ≡ true
+fence-named m = by-math (λ x. is_fence_name x ≡ true) (m == 36) n.MathFlowFence n.CodeFencedFence refl refl
 
-sequence-named : (m : ℕ) → is_fence_name (sequence_name m) ≡ true
-sequence-named m = by-math (m == 36) n.MathFlowFenceSequence n.CodeFencedFenceSequence refl refl
+pub sequence-named : (m : ℕ) → is_fence_name (sequence_name m) ≡ true
+sequence-named m = by-math (λ x. is_fence_name x ≡ true) (m == 36) n.MathFlowFenceSequence n.CodeFencedFenceSequence refl refl
 
-meta-named : (m : ℕ) → is_fence_name (meta_name m) ≡ true
-meta-named m = by-math (m == 36) n.MathFlowFenceMeta n.CodeFencedFenceMeta refl refl
+pub meta-named : (m : ℕ) → is_fence_name (meta_name m) ≡ true
+meta-named m = by-math (λ x. is_fence_name x ≡ true) (m == 36) n.MathFlowFenceMeta n.CodeFencedFenceMeta refl refl
 
 -- what holds of the begin and of the end of a part of each of these names
 abbrev pub OfNames : (Event → Type 0) → Type 0
 OfNames P = (name : Name) → is_fence_name name ≡ true → (p : Point) → P (enter name p) × P (exit name p)
+
+abbrev pub OfBlocks : (Event → Type 0) → Type 0
+OfBlocks P = (name : Name) → is_block_name name ≡ true → (p : Point) → P (enter name p) × P (exit name p)
 
 each-pair : (P : Event → Type 0) → OfNames P → (name : Name) (p q : Point) → is_fence_name name ≡ true →
     Each P (pair name p q)
@@ -70,7 +77,7 @@ each-around P of name p q es is h =
 
 -- By the bytes of the line, with what stands in info and meta.
 
-white-each : (P : Event → Type 0) → OfNames P → (bytes : List ℕ) (p : Point) → Each P (white_part bytes p)
+pub white-each : (P : Event → Type 0) → OfNames P → (bytes : List ℕ) (p : Point) → Each P (white_part bytes p)
 white-each P of [] p = tt
 white-each P of (b ∷ bs) p =
     either (Each P) (is_white b) (pair n.SpaceOrTab p (past_white (b ∷ bs) p)) []
@@ -110,18 +117,26 @@ parts-each P of inner h m text p =
     each-append P (pair (sequence_name m) p q) (behind_parts inner m (drop size text) q)
     (each-pair P of (sequence_name m) p q (sequence-named m)) (behind-each P of inner h m (drop size text) q)
 
+-- all of the block
+pub inside-each : (P : Event → Type 0) → OfNames P → (inner : Inner) → ((p q : Point) → Each P (inner p q)) → (m : ℕ)
+    (text : List ℕ) (p q : Point) → Each P (around (fence_name m) p q (fence_parts inner m text p))
+inside-each P of inner h m text p q =
+    each-around P of (fence_name m) p q (fence_parts inner m text p) (fence-named m) (parts-each P of inner h m text p)
+
 -- all of the line
-pub line-each : (P : Event → Type 0) → OfNames P → (inner : Inner) → ((p q : Point) → Each P (inner p q)) →
+pub line-each : (P : Event → Type 0) → OfNames P → OfBlocks P → (inner : Inner) → ((p q : Point) → Each P (inner p q)) →
     (line : List ℕ) (p : Point) → Each P (fence_line inner line p)
-line-each P of inner h line p =
+line-each P of blocks inner h line p =
     let text = trim_start line in
     let m = first_byte text in
     let q = past_white line p in
     let e = past_text line p in
     each-append P (white_part line p) (fence_around inner m text q e) (white-each P of line p)
-    (each-around P of (block_name m) q e (around (fence_name m) q e (fence_parts inner m text q)) (block-named m)
-    (each-around P of (fence_name m) q e (fence_parts inner m text q) (fence-named m)
-    (parts-each P of inner h m text q)))
+    (
+      (blocks (block_name m) (block-named m) q).0,
+      each-append P (around (fence_name m) q e (fence_parts inner m text q)) (exit (block_name m) e ∷ [])
+          (inside-each P of inner h m text q e) ((blocks (block_name m) (block-named m) e).1, tt),
+    )
 
 -- By its cells.
 
@@ -168,13 +183,13 @@ cells-behind P of chunk m cells p =
     (either (Each P) (m == 36) (meta_events m rest q) (info_events m rest q) (meta-each P of chunk m rest q)
     (info-each P of chunk m rest q))
 
-open-each : (P : Event → Type 0) → OfNames P → OfChunk P → (m : ℕ) (cells : List Cell) (p : Point) →
+open-each : (P : Event → Type 0) → OfNames P → OfBlocks P → OfChunk P → (m : ℕ) (cells : List Cell) (p : Point) →
     Each P (open_events m cells p)
-open-each P of chunk m cells p =
+open-each P of blocks chunk m cells p =
     let q = run_end (λ b. b == m) cells p in
     let e = line_end cells p in
     let behind = behind_events m (run_rest (λ b. b == m) cells) q in (
-      (of (block_name m) (block-named m) p).0,
+      (blocks (block_name m) (block-named m) p).0,
       (
         (of (fence_name m) (fence-named m) p).0,
         (
@@ -183,17 +198,17 @@ open-each P of chunk m cells p =
             (of (sequence_name m) (sequence-named m) q).1,
             each-append P behind (exit (fence_name m) e ∷ exit (block_name m) e ∷ [])
                 (cells-behind P of chunk m (run_rest (λ b. b == m) cells) q)
-                ((of (fence_name m) (fence-named m) e).1, ((of (block_name m) (block-named m) e).1, tt)),
+                ((of (fence_name m) (fence-named m) e).1, ((blocks (block_name m) (block-named m) e).1, tt)),
           ),
         ),
       ),
     )
 
 -- all that the line adds, whatever is held behind it
-pub adds-each : (P : Event → Type 0) → OfNames P → OfChunk P → (options : ParseOptions) (leaf : HeldLeaf)
+pub adds-each : (P : Event → Type 0) → OfNames P → OfBlocks P → OfChunk P → (options : ParseOptions) (leaf : HeldLeaf)
     (cells : List Cell) (p : Point) → Each P (fence_adds options leaf cells p)
-adds-each P of chunk options leaf cells p =
+adds-each P of blocks chunk options leaf cells p =
     let room = small_indent options in
     let q = white_end room cells p in
     each-append P (spaces room cells p) (open_events (held_marker leaf) (white_rest room cells) q)
-    (spaces-each P of room cells p) (open-each P of chunk (held_marker leaf) (white_rest room cells) q)
+    (spaces-each P of room cells p) (open-each P of blocks chunk (held_marker leaf) (white_rest room cells) q)

@@ -23,7 +23,7 @@ use Rattle.markdown_blocks.specs.Leaf.Fence.{fence_keeps, fence_line, linked, or
 use Rattle.markdown_blocks.specs.Registry.{is_own, resolved}
 use Rattle.markdown_blocks.proofs.ContentFacts.{NoContent}
 use Rattle.markdown_blocks.proofs.EachEvent.{Each}
-use Rattle.markdown_blocks.proofs.Fence.Each.{adds-each, is_fence_name, line-each}
+use Rattle.markdown_blocks.proofs.Fence.Each.{adds-each, is_block_name, is_fence_name, line-each}
 use Rattle.markdown_blocks.proofs.HeadingAtx.Outside.{heading-passes}
 use Rattle.markdown_blocks.proofs.OutsideFacts.{AreOutside, IsOutside}
 
@@ -32,6 +32,14 @@ use Rattle.markdown_blocks.proofs.OutsideFacts.{AreOutside, IsOutside}
 name-own : (name : Name) → is_fence_name name ≡ true → is_own name ≡ false
 name-own n.HeadingAtx e = cc
 name-own _ e = refl
+
+block-own : (name : Name) → is_block_name name ≡ true → is_own name ≡ false
+block-own n.HeadingAtx e = cc
+block-own _ e = refl
+
+block-content : (name : Name) → is_block_name name ≡ true → is_content name ≡ false
+block-content n.Content e = cc
+block-content _ e = refl
 
 name-content : (name : Name) → is_fence_name name ≡ true → is_content name ≡ false
 name-content n.Content e = cc
@@ -42,14 +50,14 @@ name-content _ e = refl
 pub fence-own : (options : ParseOptions) (leaf : HeldLeaf) (cells : List Cell) (p : Point) →
     AreOutside (fence_adds options leaf cells p)
 fence-own options leaf cells p =
-    adds-each IsOutside (λ name is q. (name-own name is, refl)) (λ q. (refl, refl)) options leaf cells p
+    adds-each IsOutside (λ name is q. (name-own name is, refl)) (λ name is q. (block-own name is, refl)) (λ q. (refl, refl)) options leaf cells p
 
 -- so resolvers pass it
 pub fence-set : (line : List ℕ) (p : Point) (es : List Event) →
     resolved (fence_line linked line p ++ es) ≡ fence_line linked line p ++ resolved es
 fence-set line p es =
     heading-passes (fence_line linked line p) es
-    (line-each IsOutside (λ name is q. (name-own name is, refl)) linked (λ p q. (refl, (refl, tt))) line p)
+    (line-each IsOutside (λ name is q. (name-own name is, refl)) (λ name is q. (block-own name is, refl)) linked (λ p q. (refl, (refl, tt))) line p)
 
 -- No content stands in it.
 
@@ -67,6 +75,7 @@ fence-no_content wants w options leaf cells p =
     each-none wants (fence_adds options leaf cells p)
     (adds-each (IsNoContent wants)
     (λ name is q. ((refl, name-content name is), (refl, name-content name is)))
+    (λ name is q. ((refl, block-content name is), (refl, block-content name is)))
     (λ q. ((ap (λ (x : Bool). cond x (Some content.String) None) w, refl), (refl, refl))) options leaf cells p)
 
 -- No line goes on it lazily.
