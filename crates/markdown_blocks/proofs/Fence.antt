@@ -5,4 +5,5 @@ pub mod Each
 pub mod Opened
 pub mod Outside
 pub mod Trial
+pub mod Walk
 pub mod White
