@@ -81,25 +81,29 @@ meta-text m = go (m == 36)
 
 -- What holds of nothing and of each part holds of parts one behind the other, if what is asked of the places between them
 -- does: behind whitespace and in front of it, and behind markers.
-pub record Walks (bytes : List ℕ) (inner : Inner) (M : Point → Type 0) (Q : Point → Point → List Event → Type 0) : Type 0
+pub record Walks (bytes : List ℕ) (inner read : Inner) (M : Point → Type 0) (Q : Point → Point → List Event → List Event → Type 0) : Type 0
     where
   pub behind_white : (b : ℕ) (bs rest : List ℕ) (p : Point) → drop p.index bytes ≡ (b ∷ bs) ++ rest →
       is_blank (b ∷ bs) ≡ true → M (past_text (b ∷ bs) p)
   pub before_white : (b : ℕ) (rest : List ℕ) (p : Point) → drop p.index bytes ≡ b ∷ rest → is_white b ≡ true → M p
   pub behind_marks : (m b : ℕ) (bs rest : List ℕ) (p : Point) → drop p.index bytes ≡ (b ∷ bs) ++ rest →
       stands_over (sequence_name m) (b ∷ bs) ≡ true → M (past_text (b ∷ bs) p)
-  pub none : (p : Point) → Q p p []
-  pub append : (p q r : Point) (xs ys : List Event) → M q → Q p q xs → Q q r ys → Q p r (xs ++ ys)
+  pub none : (p : Point) → Q p p [] []
+  pub append : (p q r : Point) (xs ys zs ws : List Event) → M q → Q p q xs zs → Q q r ys ws →
+      Q p r (xs ++ ys) (zs ++ ws)
   pub white : (b : ℕ) (bs rest : List ℕ) (p : Point) → M p → M (past_text (b ∷ bs) p) →
       drop p.index bytes ≡ (b ∷ bs) ++ rest → CutsFirst p (b ∷ bs) → is_blank (b ∷ bs) ≡ true →
       Q p (past_text (b ∷ bs) p) (pair n.SpaceOrTab p (past_text (b ∷ bs) p))
+      (pair n.SpaceOrTab p (past_text (b ∷ bs) p))
   pub marks : (m b : ℕ) (bs rest : List ℕ) (p : Point) → M p → M (past_text (b ∷ bs) p) → At bytes (b ∷ bs) p rest →
       stands_over (sequence_name m) (b ∷ bs) ≡ true →
       Q p (past_text (b ∷ bs) p) (pair (sequence_name m) p (past_text (b ∷ bs) p))
+      (pair (sequence_name m) p (past_text (b ∷ bs) p))
   pub text : (name : Name) (b : ℕ) (bs rest : List ℕ) (p : Point) → is_text_name name ≡ true → M p →
       M (past_text (b ∷ bs) p) → At bytes (b ∷ bs) p rest →
       Q p (past_text (b ∷ bs) p)
       (around name p (past_text (b ∷ bs) p) (inner p (past_text (b ∷ bs) p)))
+      (around name p (past_text (b ∷ bs) p) (read p (past_text (b ∷ bs) p)))
 
 -- whitespace in front is blank
 front-blank : (xs : List ℕ) → is_blank (take (prefix_len is_white xs) xs) ≡ true
@@ -114,10 +118,10 @@ front-blank (b ∷ bs) = go (is_white b) refl (front-blank bs)
     go false e more = ap (λ (k : ℕ). is_blank (take k (b ∷ bs))) (prefix-none is_white b bs e)
 
 -- The whitespace in front of some bytes: where it ends, and its events.
-pub white-mid : (bytes : List ℕ) (inner : Inner) (M : Point → Type 0) (Q : Point → Point → List Event → Type 0) →
-    Walks bytes inner M Q → (xs rest : List ℕ) (p : Point) → drop p.index bytes ≡ xs ++ rest → M p →
+pub white-mid : (bytes : List ℕ) (inner read : Inner) (M : Point → Type 0) (Q : Point → Point → List Event → List Event → Type 0) →
+    Walks bytes inner read M Q → (xs rest : List ℕ) (p : Point) → drop p.index bytes ≡ xs ++ rest → M p →
     M (past_white xs p)
-white-mid bytes inner M Q walks xs rest p is mid =
+white-mid bytes inner read M Q walks xs rest p is mid =
     go (take k xs) (front-blank xs)
     (is ∙ ap (λ (l : List ℕ). l ++ rest) (sym (take-append-drop k xs)) ∙ append_assoc (take k xs) (drop k xs) rest)
   where
@@ -129,11 +133,11 @@ white-mid bytes inner M Q walks xs rest p is mid =
     go [] blank is = mid
     go (b ∷ bs) blank is = walks.behind_white b bs (drop k xs ++ rest) p is blank
 
-pub white-walks : (bytes : List ℕ) (inner : Inner) (M : Point → Type 0) (Q : Point → Point → List Event → Type 0) →
-    Walks bytes inner M Q → (xs rest : List ℕ) (p : Point) → drop p.index bytes ≡ xs ++ rest → CutsFirst p xs → M p →
-    Q p (past_white xs p) (white_part xs p)
-white-walks bytes inner M Q walks [] rest p is cut mid = walks.none p
-white-walks bytes inner M Q walks (b ∷ bs) rest p is cut mid = go (is_white b) refl
+pub white-walks : (bytes : List ℕ) (inner read : Inner) (M : Point → Type 0) (Q : Point → Point → List Event → List Event → Type 0) →
+    Walks bytes inner read M Q → (xs rest : List ℕ) (p : Point) → drop p.index bytes ≡ xs ++ rest → CutsFirst p xs → M p →
+    Q p (past_white xs p) (white_part xs p) (white_part xs p)
+white-walks bytes inner read M Q walks [] rest p is cut mid = walks.none p
+white-walks bytes inner read M Q walks (b ∷ bs) rest p is cut mid = go (is_white b) refl
   where
     left : List ℕ
     left = take (prefix_len is_white bs) bs
@@ -149,20 +153,23 @@ white-walks bytes inner M Q walks (b ∷ bs) rest p is cut mid = go (is_white b)
 
     go : (x : Bool) → is_white b ≡ x →
         Q p (past_white (b ∷ bs) p) (cond x (pair n.SpaceOrTab p (past_white (b ∷ bs) p)) [])
+        (cond x (pair n.SpaceOrTab p (past_white (b ∷ bs) p)) [])
     go true e =
         let blank : is_blank (b ∷ left) ≡ true = and_from (is_white b) (is_blank left) e (front-blank bs) in
-        subst (λ (k : ℕ). Q p (past_text (take k (b ∷ bs)) p) (pair n.SpaceOrTab p (past_text (take k (b ∷ bs)) p)))
+        subst
+        (λ (k : ℕ).
+        let q = past_text (take k (b ∷ bs)) p in Q p q (pair n.SpaceOrTab p q) (pair n.SpaceOrTab p q))
         (sym (prefix-one is_white b bs e))
         (walks.white b left behind p mid (walks.behind_white b left behind p stands blank) stands cut blank)
     go false e =
-        subst (λ (k : ℕ). Q p (past_text (take k (b ∷ bs)) p) []) (sym (prefix-none is_white b bs e)) (walks.none p)
+        subst (λ (k : ℕ). Q p (past_text (take k (b ∷ bs)) p) [] []) (sym (prefix-none is_white b bs e)) (walks.none p)
 
 -- A part of text.
-part-walks : (bytes : List ℕ) (inner : Inner) (M : Point → Type 0) (Q : Point → Point → List Event → Type 0) →
-    Walks bytes inner M Q → (name : Name) (xs rest : List ℕ) (p : Point) → is_text_name name ≡ true → M p →
-    M (past_text xs p) → At bytes xs p rest → Q p (past_text xs p) (text_part inner name xs p)
-part-walks bytes inner M Q walks name [] rest p is mid end at = walks.none p
-part-walks bytes inner M Q walks name (b ∷ bs) rest p is mid end at = walks.text name b bs rest p is mid end at
+part-walks : (bytes : List ℕ) (inner read : Inner) (M : Point → Type 0) (Q : Point → Point → List Event → List Event → Type 0) →
+    Walks bytes inner read M Q → (name : Name) (xs rest : List ℕ) (p : Point) → is_text_name name ≡ true → M p →
+    M (past_text xs p) → At bytes xs p rest → Q p (past_text xs p) (text_part inner name xs p) (text_part read name xs p)
+part-walks bytes inner read M Q walks name [] rest p is mid end at = walks.none p
+part-walks bytes inner read M Q walks name (b ∷ bs) rest p is mid end at = walks.text name b bs rest p is mid end at
 
 -- where bytes end, behind so many of them
 ends-behind : (xs : List ℕ) (p : Point) (k : ℕ) → past_text (drop k xs) (past_text (take k xs) p) ≡ past_text xs p
@@ -183,10 +190,10 @@ behind-first (b ∷ bs) = go (is_white b) refl (behind-first bs)
     go false e more = subst (λ (k : ℕ). CutsWord (drop k (b ∷ bs))) (sym (prefix-one t b bs (ap not e))) more
 
 -- Info, whitespace and meta.
-texts-walk : (bytes : List ℕ) (inner : Inner) (M : Point → Type 0) (Q : Point → Point → List Event → Type 0) →
-    Walks bytes inner M Q → (m : ℕ) (xs rest : List ℕ) (p : Point) → M p → M (past_text xs p) → At bytes xs p rest →
-    Q p (past_text xs p) (text_parts inner m xs p)
-texts-walk bytes inner M Q walks m xs rest p mid end at = go (m == 36)
+texts-walk : (bytes : List ℕ) (inner read : Inner) (M : Point → Type 0) (Q : Point → Point → List Event → List Event → Type 0) →
+    Walks bytes inner read M Q → (m : ℕ) (xs rest : List ℕ) (p : Point) → M p → M (past_text xs p) → At bytes xs p rest →
+    Q p (past_text xs p) (text_parts inner m xs p) (text_parts read m xs p)
+texts-walk bytes inner read M Q walks m xs rest p mid end at = go (m == 36)
   where
     size : ℕ
     size = prefix_len (λ b. not (is_white b)) xs
@@ -225,47 +232,58 @@ texts-walk bytes inner M Q walks m xs rest p mid end at = go (m == 36)
     v = past_white left q
 
     mid_meta : M v
-    mid_meta = white-mid bytes inner M Q walks left rest q at_left.stands mid_left
+    mid_meta = white-mid bytes inner read M Q walks left rest q at_left.stands mid_left
 
     meta_end : past_text (trim_start left) v ≡ past_text xs p
     meta_end = ends-behind left q (prefix_len is_white left) ∙ left_end
 
-    white : Q q v (white_part left q)
-    white = white-walks bytes inner M Q walks left rest q at_left.stands (whole-first q left at_left.whole) mid_left
+    white : Q q v (white_part left q) (white_part left q)
+    white = white-walks bytes inner read M Q walks left rest q at_left.stands (whole-first q left at_left.whole) mid_left
 
-    info : Q p q (text_part inner n.CodeFencedFenceInfo word p)
+    info : Q p q (text_part inner n.CodeFencedFenceInfo word p) (text_part read n.CodeFencedFenceInfo word p)
     info =
-        part-walks bytes inner M Q walks n.CodeFencedFenceInfo word (drop size xs ++ rest) p refl mid mid_left
+        part-walks bytes inner read M Q walks n.CodeFencedFenceInfo word (drop size xs ++ rest) p refl mid mid_left
         (at-take bytes xs rest p size at)
 
-    meta : Q v (past_text xs p) (text_part inner (meta_name m) (trim_start left) v)
+    meta :
+        Q v (past_text xs p) (text_part inner (meta_name m) (trim_start left) v)
+        (text_part read (meta_name m) (trim_start left) v)
     meta =
-        subst (λ (e : Point). Q v e (text_part inner (meta_name m) (trim_start left) v)) meta_end
-        (part-walks bytes inner M Q walks (meta_name m) (trim_start left) rest v (meta-text m) mid_meta
+        subst
+        (λ (e : Point).
+        Q v e (text_part inner (meta_name m) (trim_start left) v) (text_part read (meta_name m) (trim_start left) v))
+        meta_end
+        (part-walks bytes inner read M Q walks (meta_name m) (trim_start left) rest v (meta-text m) mid_meta
         (subst M (sym meta_end) end)
         (at-drop bytes left rest q (prefix_len is_white left) at_left))
 
     go : (math : Bool) →
         Q p (past_text xs p) (cond math (text_part inner (meta_name m) xs p) (word_parts inner m xs p))
-    go true = part-walks bytes inner M Q walks (meta_name m) xs rest p (meta-text m) mid end at
+        (cond math (text_part read (meta_name m) xs p) (word_parts read m xs p))
+    go true = part-walks bytes inner read M Q walks (meta_name m) xs rest p (meta-text m) mid end at
     go false =
         walks.append p v (past_text xs p) (text_part inner n.CodeFencedFenceInfo word p ++ white_part left q)
-        (text_part inner (meta_name m) (trim_start left) v) mid_meta
-        (walks.append p q v (text_part inner n.CodeFencedFenceInfo word p) (white_part left q) mid_left info white) meta
+        (text_part inner (meta_name m) (trim_start left) v)
+        (text_part read n.CodeFencedFenceInfo word p ++ white_part left q)
+        (text_part read (meta_name m) (trim_start left) v) mid_meta
+        (walks.append p q v (text_part inner n.CodeFencedFenceInfo word p) (white_part left q)
+        (text_part read n.CodeFencedFenceInfo word p) (white_part left q) mid_left info white)
+        meta
 
 -- What stands behind the sequence.
-behind-walks : (bytes : List ℕ) (inner : Inner) (M : Point → Type 0) (Q : Point → Point → List Event → Type 0) →
-    Walks bytes inner M Q → (m : ℕ) (xs rest : List ℕ) (p : Point) → M p → M (past_text xs p) → At bytes xs p rest →
-    Q p (past_text xs p) (behind_parts inner m xs p)
-behind-walks bytes inner M Q walks m xs rest p mid end at =
+behind-walks : (bytes : List ℕ) (inner read : Inner) (M : Point → Type 0) (Q : Point → Point → List Event → List Event → Type 0) →
+    Walks bytes inner read M Q → (m : ℕ) (xs rest : List ℕ) (p : Point) → M p → M (past_text xs p) → At bytes xs p rest →
+    Q p (past_text xs p) (behind_parts inner m xs p) (behind_parts read m xs p)
+behind-walks bytes inner read M Q walks m xs rest p mid end at =
     let k = prefix_len is_white xs in
     let q = past_white xs p in
-    let mid_text = white-mid bytes inner M Q walks xs rest p at.stands mid in
+    let mid_text = white-mid bytes inner read M Q walks xs rest p at.stands mid in
     let e = ends-behind xs p k in
-    walks.append p q (past_text xs p) (white_part xs p) (text_parts inner m (trim_start xs) q) mid_text
-    (white-walks bytes inner M Q walks xs rest p at.stands (whole-first p xs at.whole) mid)
-    (subst (λ (x : Point). Q q x (text_parts inner m (trim_start xs) q)) e
-    (texts-walk bytes inner M Q walks m (trim_start xs) rest q mid_text (subst M (sym e) end)
+    walks.append p q (past_text xs p) (white_part xs p) (text_parts inner m (trim_start xs) q) (white_part xs p)
+    (text_parts read m (trim_start xs) q) mid_text
+    (white-walks bytes inner read M Q walks xs rest p at.stands (whole-first p xs at.whole) mid)
+    (subst (λ (x : Point). Q q x (text_parts inner m (trim_start xs) q) (text_parts read m (trim_start xs) q)) e
+    (texts-walk bytes inner read M Q walks m (trim_start xs) rest q mid_text (subst M (sym e) end)
     (at-drop bytes xs rest p k at)))
 
 -- Markers.
@@ -315,11 +333,12 @@ sequence-over options xs is =
         none false k = cc
 
 -- What stands in the fence.
-pub parts-walk : (options : ParseOptions) (bytes : List ℕ) (inner : Inner) (M : Point → Type 0)
-    (Q : Point → Point → List Event → Type 0) →
-    Walks bytes inner M Q → (xs rest : List ℕ) (p : Point) → IsFence options xs → M p → M (past_text xs p) →
-    At bytes xs p rest → Q p (past_text xs p) (fence_parts inner (first_byte xs) xs p)
-parts-walk options bytes inner M Q walks xs rest p is mid end at =
+pub parts-walk : (options : ParseOptions) (bytes : List ℕ) (inner read : Inner) (M : Point → Type 0)
+    (Q : Point → Point → List Event → List Event → Type 0) →
+    Walks bytes inner read M Q → (xs rest : List ℕ) (p : Point) → IsFence options xs → M p → M (past_text xs p) →
+    At bytes xs p rest →
+    Q p (past_text xs p) (fence_parts inner (first_byte xs) xs p) (fence_parts read (first_byte xs) xs p)
+parts-walk options bytes inner read M Q walks xs rest p is mid end at =
     let e = ends-behind xs p size in
     by (take size xs) (at-take bytes xs rest p size at) (sequence-over options xs is)
     (at-drop bytes xs rest p size at) e
@@ -335,6 +354,7 @@ parts-walk options bytes inner M Q walks xs rest p is mid end at =
         past_text (drop size xs) (past_text ys p) ≡ past_text xs p →
         Q p (past_text xs p)
         (pair (sequence_name m) p (past_text ys p) ++ behind_parts inner m (drop size xs) (past_text ys p))
+        (pair (sequence_name m) p (past_text ys p) ++ behind_parts read m (drop size xs) (past_text ys p))
     by [] here over behind e = absurd (none (m == 36) over)
       where
         none : (x : Bool) → stands_over (cond x n.MathFlowFenceSequence n.CodeFencedFenceSequence) [] ≡ true → ⊥
@@ -343,7 +363,8 @@ parts-walk options bytes inner M Q walks xs rest p is mid end at =
     by (b ∷ bs) here over behind e =
         let q = past_text (b ∷ bs) p in
         let next = walks.behind_marks m b bs (drop size xs ++ rest) p here.stands over in
-        walks.append p q (past_text xs p) (pair (sequence_name m) p q) (behind_parts inner m (drop size xs) q) next
+        walks.append p q (past_text xs p) (pair (sequence_name m) p q) (behind_parts inner m (drop size xs) q)
+        (pair (sequence_name m) p q) (behind_parts read m (drop size xs) q) next
         (walks.marks m b bs (drop size xs ++ rest) p mid next here over)
-        (subst (λ (x : Point). Q q x (behind_parts inner m (drop size xs) q)) e
-        (behind-walks bytes inner M Q walks m (drop size xs) rest q next (subst M (sym e) end) behind))
+        (subst (λ (x : Point). Q q x (behind_parts inner m (drop size xs) q) (behind_parts read m (drop size xs) q)) e
+        (behind-walks bytes inner read M Q walks m (drop size xs) rest q next (subst M (sym e) end) behind))
