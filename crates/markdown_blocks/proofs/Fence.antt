@@ -2,8 +2,13 @@
 pub mod Adds
 pub mod Cells
 pub mod Each
+pub mod Kept
+pub mod Laid
+pub mod Nested
 pub mod Opened
 pub mod Outside
+pub mod Pieces
+pub mod Texts
 pub mod Trial
 pub mod Walk
 pub mod White
