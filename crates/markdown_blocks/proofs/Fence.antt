@@ -1,5 +1,6 @@
 -- Opening lines of fenced code and of math: what stands on them, and their laws.
 pub mod Adds
+pub mod Between
 pub mod Cells
 pub mod Each
 pub mod Kept
@@ -12,3 +13,4 @@ pub mod Texts
 pub mod Trial
 pub mod Walk
 pub mod White
+pub mod Words

@@ -177,7 +177,7 @@ ends-behind xs p k =
     sym (past_text-append (take k xs) (drop k xs) p) ∙ ap (λ (l : List ℕ). past_text l p) (take-append-drop k xs)
 
 -- what is left behind a word begins with whitespace, or is nothing
-behind-first : (xs : List ℕ) → CutsWord (drop (prefix_len (λ b. not (is_white b)) xs) xs)
+pub behind-first : (xs : List ℕ) → CutsWord (drop (prefix_len (λ b. not (is_white b)) xs) xs)
 behind-first [] = tt
 behind-first (b ∷ bs) = go (is_white b) refl (behind-first bs)
   where
