@@ -131,7 +131,7 @@ info-leads text inner word b bs p some dark =
     go true = leads-around text (marked text true) n.CodeFencedFenceInfo p q (inner p q) (word p q)
     go false = leads-around text (marked text false) n.CodeFencedFenceInfo p q (inner p q) (word p q)
 
-abbrev code_parts : Inner → List ℕ → Point → List Event
+abbrev pub code_parts : Inner → List ℕ → Point → List Event
 code_parts inner text p =
     let word = first_word text in
     let left = drop (length word) text in
@@ -158,7 +158,7 @@ code-word text inner word (b ∷ bs) p some dark =
 
 -- What stands in a fence is a word of it.
 
-abbrev parts_by : Bool → Inner → List ℕ → Point → List Event
+abbrev pub parts_by : Bool → Inner → List ℕ → Point → List Event
 parts_by math inner xs p =
     cond math (text_part inner (cond math n.MathFlowFenceMeta n.CodeFencedFenceMeta) xs p)
     (let word = first_word xs in
