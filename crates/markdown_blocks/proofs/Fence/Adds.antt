@@ -1,5 +1,5 @@
 -- The events of a fence by the cells of its line are those by its bytes.
-use Rattle.std.proofs.Common.{◌≡◌, ℕ, zero, suc, ◌+◌, ◌-◌, ◌^◌, ◌<◌, ◌≤◌, Bool, true, false, cond, List, [], ◌∷◌, ◌++◌}
+use Rattle.std.proofs.Common.{◌≡◌, ℕ, zero, suc, ◌^◌, ◌<◌, ◌≤◌, Bool, true, false, cond, List, [], ◌∷◌, ◌++◌}
 use Rattle.std.proofs.Common.{length, take, drop, refl, sym, ap, ◌∙◌, subst, append_assoc, arith}
 use Rattle.std.specs.Prelude.{◌==◌, not}
 use Rattle.std.specs.List.{prefix_len}
@@ -12,7 +12,6 @@ use Rattle.md_engine.specs.declared.event.Name.TheVariants as n
 use Rattle.md_engine.specs.declared.event.Point.{Point}
 use Rattle.md_engine.specs.declared.tokenizer.Line.{Line}
 use Rattle.md_engine.specs.declared.tokenizer.held_leaf.HeldLeaf.{HeldLeaf}
-use Rattle.md_engine.specs.declared.tokenizer.held_leaf.HeldLeaf.TheVariants as held_leaf
 use Rattle.md_engine.specs.Meaning.{Cell}
 use Rattle.md_definition.specs.Leaves.{behind_word, fence_at, first_word, nonempty}
 use Rattle.md_definition.specs.Rest.{Rest, behind_indent, cut_tab, indent, is_white, run_len, trim_start}
@@ -27,17 +26,17 @@ use Rattle.md_lines.proofs.FenceFurther.{indent-trims, small-behind}
 use Rattle.md_lines.proofs.FenceFurther as further
 use Rattle.md_lines.proofs.FenceOpened.{marker-may, white-all}
 use Rattle.md_lines.proofs.FenceParts.{Stands, behind-agrees, behind_info, between, meta_point, prefix-take, stands-behind}
-use Rattle.md_seam.specs.Ahead.{begins_white, line_end, white_end, white_rest}
-use Rattle.md_seam.specs.Events.Nested.{around, enter, exit, pair}
+use Rattle.md_seam.specs.Ahead.{white_end, white_rest}
+use Rattle.md_seam.specs.Events.Nested.{enter, exit, pair}
 use Rattle.md_seam.specs.Events.Places.{past_byte, past_text}
 use Rattle.md_seam.specs.Spaces.{any_size, small_indent}
 use Rattle.md_seam.proofs.AheadLemmas.{small-some}
 use Rattle.md_seam.proofs.FeedLines.{Stops, byte_cells, spread}
 use Rattle.md_seam.proofs.InlineLemmas.{past_text-append}
-use Rattle.md_seam.proofs.RestCells.{Bare, Cut, RestAt, bare, bare-cells, rest_cells, white-length}
+use Rattle.md_seam.proofs.RestCells.{Bare, Cut, RestAt, bare, rest_cells, white-length}
 use Rattle.markdown_blocks.specs.Fronted.{rest_line}
-use Rattle.markdown_blocks.specs.Leaf.Fence.{behind_parts, fence_around, fence_keeps, fence_line, held_of, linked}
-use Rattle.markdown_blocks.specs.Leaf.Fence.{opening_at, past_white, text_part, text_parts, white_part, word_parts}
+use Rattle.markdown_blocks.specs.Leaf.Fence.{behind_parts, fence_around, fence_keeps, fence_line, linked}
+use Rattle.markdown_blocks.specs.Leaf.Fence.{past_white, text_part, text_parts, white_part, word_parts}
 use Rattle.markdown_blocks.proofs.Fence.Cells.{fence-keeps}
 use Rattle.markdown_blocks.proofs.Fence.Opened.{FenceStarts, fence-starts}
 use Rattle.markdown_blocks.proofs.Fence.White.{HasWhite, rest-white}

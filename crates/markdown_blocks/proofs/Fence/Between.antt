@@ -1,7 +1,7 @@
 -- The events of a fence stand between characters, and part no text.
-use Rattle.std.proofs.Common.{◌≡◌, ℕ, ◌+◌, ◌-◌, ◌≤◌, ◌<◌, Bool, true, false, cond, ◌&&◌, ◌||◌, List, [], ◌∷◌, ◌++◌, length, drop}
+use Rattle.std.proofs.Common.{◌≡◌, ℕ, ◌-◌, Bool, true, false, cond, ◌||◌, List, [], ◌∷◌, ◌++◌, length, drop}
 use Rattle.std.proofs.Common.{refl, sym, ap, ◌∙◌, subst, append_assoc, append-nil, arith}
-use Rattle.std.specs.Prelude.{◌==◌, nat_le, Option, Some, None, slice_index}
+use Rattle.std.specs.Prelude.{◌==◌, nat_le, Option, Some}
 use Rattle.std.specs.List.{list_all}
 use Rattle.std.proofs.lemmas.Bool.{and_parts}
 use Rattle.std.proofs.lemmas.Bool.Decides.{nat_tests}
@@ -10,7 +10,7 @@ use Rattle.md_engine.specs.declared.event.Event.{Event}
 use Rattle.md_engine.specs.declared.event.Name.{Name}
 use Rattle.md_engine.specs.declared.event.Name.TheVariants as n
 use Rattle.md_engine.specs.declared.event.Point.{Point}
-use Rattle.md_definition.specs.Rest.{is_white, trim_start}
+use Rattle.md_definition.specs.Rest.{trim_start}
 use Rattle.md_definition.specs.Texts.{first_byte}
 use Rattle.md_lines.specs.Fence.{block_name, fence_name, sequence_name}
 use Rattle.md_outline.specs.Between.{is_between}
@@ -29,15 +29,15 @@ use Rattle.markdown_blocks.proofs.BetweenFacts.{between-behind, between-pair, bl
 use Rattle.markdown_blocks.proofs.BetweenFacts.{white-low}
 use Rattle.markdown_blocks.proofs.Fence.Each.{by-math}
 use Rattle.markdown_blocks.proofs.Fence.Kept.{text-end}
-use Rattle.markdown_blocks.proofs.Fence.Laid.{Laid, Walked, line-walk}
-use Rattle.markdown_blocks.proofs.Fence.Walk.{Walks, is_text_name}
+use Rattle.markdown_blocks.proofs.Fence.Laid.{Laid, line-walk}
+use Rattle.markdown_blocks.proofs.Fence.Walk.{Anywhere, Walks, is_text_name}
 use Rattle.markdown_blocks.proofs.PartedFacts.{Sits, Still, around-sits, passes-chunk, sits-append, sits-still}
 use Rattle.markdown_blocks.proofs.PieceFacts.{over-front}
 
 -- Places.
 
-abbrev At : List ℕ → Point → Type 0
-At bytes p = is_between bytes p.index ≡ true
+abbrev IsPlace : List ℕ → Point → Type 0
+IsPlace bytes p = is_between bytes p.index ≡ true
 
 -- markers are of ASCII
 run-low : (least c : ℕ) (ys : List ℕ) → is_low c ≡ true → is_run least c ys ≡ true → list_all is_low ys ≡ true
@@ -62,7 +62,7 @@ marks-low m ys h = go (m == 36) h
 
 -- behind bytes of ASCII
 low-behind : (bytes : List ℕ) (b : ℕ) (bs rest : List ℕ) (p : Point) → drop p.index bytes ≡ (b ∷ bs) ++ rest →
-    list_all is_low (b ∷ bs) ≡ true → At bytes (past_text (b ∷ bs) p)
+    list_all is_low (b ∷ bs) ≡ true → IsPlace bytes (past_text (b ∷ bs) p)
 low-behind bytes b bs rest p is low =
     let q = past_text (b ∷ bs) p in
     let over = over-front bytes p q (b ∷ bs) rest is (omega arith) refl in
@@ -71,7 +71,7 @@ low-behind bytes b bs rest p is low =
     (low-at bytes (b ∷ bs) p.index q.index (q.index - 1) over.slice size low (omega (arith, size)) (omega (arith, size)))
 
 walks-between : (bytes : List ℕ) →
-    Walks bytes (read_inner bytes) (read_inner bytes) (At bytes) (λ p q es ds. AreBetween bytes es)
+    Walks bytes (read_inner bytes) (read_inner bytes) (IsPlace bytes) (λ p q es ds. AreBetween bytes es)
 walks-between bytes = record {
   behind_white = λ b bs rest p is blank. low-behind bytes b bs rest p is (blank-low (b ∷ bs) blank);
   before_white = λ b rest p is white.
@@ -95,7 +95,7 @@ pub fence-between : (options : ParseOptions) (bytes line rest : List ℕ) (p : P
     AreBetween bytes (fence_line (read_inner bytes) line p)
 fence-between options bytes line rest p is first last =
     let read = read_inner bytes in
-    let walked = line-walk options bytes read read (At bytes) (λ p q es ds. AreBetween bytes es) (walks-between bytes) line
+    let walked = line-walk options bytes read read (IsPlace bytes) (λ p q es ds. AreBetween bytes es) (walks-between bytes) line
     rest p is first last in
     let text = trim_start line in
     let m = first_byte text in
@@ -106,9 +106,6 @@ fence-between options bytes line rest p is first last =
     (around-between bytes (fence_name m) q e (fence_parts read m text q) walked.mid last walked.parts))
 
 -- No text is parted.
-
-abbrev Anywhere : Point → Type 0
-Anywhere p = Unit {0}
 
 -- a part of text
 part-goes : (bytes : List ℕ) (name : Name) (p q : Point) (ys : List Event) →

@@ -131,8 +131,7 @@ line-each P of blocks inner h line p =
     let m = first_byte text in
     let q = past_white line p in
     let e = past_text line p in
-    each-append P (white_part line p) (fence_around inner m text q e) (white-each P of line p)
-    (
+    each-append P (white_part line p) (fence_around inner m text q e) (white-each P of line p) (
       (blocks (block_name m) (block-named m) q).0,
       each-append P (around (fence_name m) q e (fence_parts inner m text q)) (exit (block_name m) e ∷ [])
           (inside-each P of inner h m text q e) ((blocks (block_name m) (block-named m) e).1, tt),

@@ -1,11 +1,10 @@
 -- A fence keeps what the frame asks of a leaf: no list stands in it, it stands where blocks may, it ends no line, and it
 -- stands between characters and parts no text.
-use Rattle.std.proofs.Common.{◌≡◌, ℕ, ◌+◌, ◌-◌, ◌≤◌, ◌<◌, Bool, true, false, cond, ◌&&◌, List, [], ◌∷◌, ◌++◌, length, drop}
-use Rattle.std.proofs.Common.{refl, sym, ap, ◌∙◌, subst, append_assoc, append-nil, arith}
-use Rattle.std.specs.Prelude.{◌==◌, not, Option, Some, None, slice_index}
+use Rattle.std.proofs.Common.{◌≡◌, ℕ, Bool, true, false, cond, List, [], ◌∷◌, ◌++◌}
+use Rattle.std.proofs.Common.{refl, sym, ap, ◌∙◌, subst, arith}
+use Rattle.std.specs.Prelude.{◌==◌}
 use Rattle.std.specs.List.{list_all}
-use Rattle.std.proofs.lemmas.Bool.{and_from, and_parts}
-use Rattle.std.proofs.lemmas.Bool.Decides.{nat_tests}
+use Rattle.std.proofs.lemmas.Bool.{and_from}
 use Rattle.md_engine.specs.declared.configuration.ParseOptions.{ParseOptions}
 use Rattle.md_engine.specs.declared.event.Event.{Event}
 use Rattle.md_engine.specs.declared.event.Name.{Name}
@@ -15,32 +14,29 @@ use Rattle.md_containers.specs.ItemsStand.{IsPart}
 use Rattle.md_containers.specs.Unlisted.{in_place}
 use Rattle.md_containers.proofs.UnlistedLemmas.{NoListing, StandsTo, among, stands-append}
 use Rattle.md_definition.specs.Lines.{without_ending}
-use Rattle.md_definition.specs.Rest.{is_blank, is_white, trim_start}
+use Rattle.md_definition.specs.Rest.{is_white, trim_start}
 use Rattle.md_definition.specs.Texts.{first_byte}
-use Rattle.md_lines.specs.Fence.{block_name, fence_name, sequence_name, string_link}
+use Rattle.md_lines.specs.Fence.{block_name, fence_name, sequence_name}
 use Rattle.md_seam.specs.declared.inline.Chunk.{Chunk}
 use Rattle.md_seam.specs.Events.Endings.{IsLeaf, line_start, on_line}
 use Rattle.md_seam.specs.Events.Inline.{line_end, pair_unless_empty, plain_chunk}
-use Rattle.md_seam.specs.Events.Nested.{around, enter, enter_link, exit, pair}
+use Rattle.md_seam.specs.Events.Nested.{around, enter, exit, pair}
 use Rattle.md_seam.specs.Events.Places.{past_text, same_place}
 use Rattle.md_seam.specs.Events.Spelled.{LeafKind, OfFence, OfMath, Opens, Role, role}
 use Rattle.md_seam.proofs.EndingsLemmas.{AreOthers, Leads, behind_leaf, in_leaf, is_other, leads-append, leaf-leads}
 use Rattle.md_seam.proofs.EndingsLemmas.{others-append, others-lead}
 use Rattle.md_seam.proofs.InlineLemmas.{same-refl}
-use Rattle.md_seam.proofs.SpelledLemmas.{Between, Quiet, Roles, roles-append}
+use Rattle.md_seam.proofs.SpelledLemmas.{Between, Quiet, Roles}
 use Rattle.markdown_blocks.specs.Leaf.Fence.{Inner, fence_around, fence_line, fence_parts, linked, past_white, read_inner}
 use Rattle.markdown_blocks.specs.Leaf.Fence.{white_part}
 use Rattle.markdown_blocks.proofs.EachEvent.{Each}
-use Rattle.markdown_blocks.proofs.Fence.Each.{by-math, inside-each, is_fence_name, white-each}
-use Rattle.markdown_blocks.proofs.Fence.Laid.{Laid, Walked, line-walk}
-use Rattle.markdown_blocks.proofs.Fence.Walk.{At, Walks, is_text_name}
+use Rattle.markdown_blocks.proofs.Fence.Each.{by-math, inside-each, is_fence_name}
+use Rattle.markdown_blocks.proofs.Fence.Laid.{Laid, line-walk}
+use Rattle.markdown_blocks.proofs.Fence.Walk.{Anywhere, At, Walks, is_text_name}
 use Rattle.markdown_blocks.proofs.LeafStands.{around-unlisted, between-stand, leaf-stands, parts-unlisted, unlisted-both}
 use Rattle.markdown_blocks.proofs.LineTexts.{without-none}
 use Rattle.markdown_blocks.proofs.PieceFacts.{over-front}
 use Rattle.markdown_blocks.proofs.PlainRoles.{plain-roles}
-
-abbrev Anywhere : Point → Type 0
-Anywhere p = Unit {0}
 
 -- Roles.
 
@@ -206,9 +202,10 @@ walks-others bytes = record {
   append = λ p q r xs ys zs ws mid h k. (others-append xs ys h.0 k.0, others-append zs ws h.1 k.1);
   white = λ b bs rest p mid end is cut blank. (refl, refl);
   marks = λ m b bs rest p mid end at over.
-      let q = past_text (b ∷ bs) p in
-      (others-around (sequence_name m) p q [] (marks-other m) refl,
-      others-around (sequence_name m) p q [] (marks-other m) refl);
+      let q = past_text (b ∷ bs) p in (
+        others-around (sequence_name m) p q [] (marks-other m) refl,
+        others-around (sequence_name m) p q [] (marks-other m) refl,
+      );
   text = λ name b bs rest p is mid end at.
       let q = past_text (b ∷ bs) p in
       let chunk : Chunk = record { first = p; after = q } in (

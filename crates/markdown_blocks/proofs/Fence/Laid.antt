@@ -4,7 +4,6 @@ use Rattle.std.proofs.Common.{append_assoc, arith}
 use Rattle.std.specs.Prelude.{◌==◌}
 use Rattle.std.specs.List.{prefix_len}
 use Rattle.std.specs.Option.{is_some}
-use Rattle.std.proofs.lemmas.Bool.{eqb-true}
 use Rattle.std.proofs.lemmas.Bool.Decides.{nat_tests}
 use Rattle.std.proofs.lemmas.List.{take-append-drop}
 use Rattle.md_engine.specs.declared.configuration.ParseOptions.{ParseOptions}
@@ -13,7 +12,7 @@ use Rattle.md_engine.specs.declared.event.Point.{Point}
 use Rattle.md_definition.specs.Leaves.{fence_at}
 use Rattle.md_definition.specs.Rest.{Rest, is_white, trim_start}
 use Rattle.md_definition.specs.Texts.{first_byte}
-use Rattle.md_definition.proofs.TextsLemmas.{NoEnding, no_ending-drop}
+use Rattle.md_definition.proofs.TextsLemmas.{no_ending-drop}
 use Rattle.md_lines.specs.Fence.{may_begin}
 use Rattle.md_lines.proofs.FenceCells.{prefix-none, prefix-one}
 use Rattle.md_lines.proofs.FenceOpened.{marker-may}

@@ -1,7 +1,7 @@
 -- The laws of opening fences, as the frame asks for them but for three: a line that is taken is no longer than whitespace
 -- may be, its links are to strings, and an outline has to know its names.
 use Rattle.std.proofs.Common.{◌≡◌, ℕ, ◌^◌, ◌<◌, ◌≤◌, Bool, true, false, List, ◌++◌, drop, length, refl}
-use Rattle.std.specs.Prelude.{Option, Some}
+use Rattle.std.specs.Prelude.{Some}
 use Rattle.md_engine.specs.declared.configuration.ParseOptions.{ParseOptions}
 use Rattle.md_engine.specs.declared.event.Content.{Content}
 use Rattle.md_engine.specs.declared.event.Content.TheVariants as content

@@ -1,5 +1,5 @@
 -- The events of a fence nest, and cover its line.
-use Rattle.std.proofs.Common.{◌≡◌, ℕ, Bool, true, List, [], ◌∷◌, ◌++◌, refl, sym, subst, append-nil}
+use Rattle.std.proofs.Common.{ℕ, List, [], ◌∷◌, ◌++◌, refl, sym, subst, append-nil}
 use Rattle.std.specs.Prelude.{IsTrue}
 use Rattle.md_engine.specs.declared.configuration.ParseOptions.{ParseOptions}
 use Rattle.md_engine.specs.declared.event.Event.{Event}
@@ -17,13 +17,10 @@ use Rattle.md_seam.proofs.InlineLemmas.{before-text, same-refl}
 use Rattle.md_seam.proofs.NestedLemmas.{at_or_before-refl, balanced-none}
 use Rattle.markdown_blocks.specs.Leaf.Fence.{Inner, fence_around, fence_line, fence_parts, linked, past_white, read_inner}
 use Rattle.markdown_blocks.specs.Leaf.Fence.{white_part}
-use Rattle.markdown_blocks.proofs.Fence.Laid.{Laid, Walked, line-walk}
-use Rattle.markdown_blocks.proofs.Fence.Walk.{Walks}
+use Rattle.markdown_blocks.proofs.Fence.Laid.{Laid, line-walk}
+use Rattle.markdown_blocks.proofs.Fence.Walk.{Anywhere, Walks}
 use Rattle.markdown_blocks.proofs.PiecesLemmas.{Tiled, tiled-append, tiled-around, tiled-none, tiled-pair, tiled-two}
 use Rattle.markdown_blocks.proofs.SpanLemmas.{Nested_in, around-nested, chunk-nested, linked-nested, nested_in-append}
-
-abbrev Anywhere : Point → Type 0
-Anywhere p = Unit {0}
 
 -- nothing, and a pair
 none-nested : (p q : Point) → IsTrue (at_or_before p q) → Nested_in p q []

@@ -1,5 +1,5 @@
 -- The pieces of a fence stand, before its texts are read and once they are.
-use Rattle.std.proofs.Common.{◌≡◌, ℕ, Bool, true, List, [], ◌∷◌, ◌++◌, refl, sym, subst, append-nil, arith}
+use Rattle.std.proofs.Common.{ℕ, true, List, [], ◌∷◌, ◌++◌, refl, sym, subst, append-nil, arith}
 use Rattle.std.proofs.lemmas.Bool.{and_from}
 use Rattle.md_engine.specs.declared.configuration.ParseOptions.{ParseOptions}
 use Rattle.md_engine.specs.declared.event.Event.{Event}
@@ -17,13 +17,10 @@ use Rattle.md_seam.proofs.InlineLemmas.{past-index}
 use Rattle.markdown_blocks.specs.Leaf.Fence.{Inner, fence_around, fence_line, fence_parts, linked, past_white, read_inner}
 use Rattle.markdown_blocks.specs.Leaf.Fence.{white_part}
 use Rattle.markdown_blocks.proofs.ChunkFacts.{Chunked, chunked-alone}
-use Rattle.markdown_blocks.proofs.Fence.Laid.{Laid, Walked, line-walk}
-use Rattle.markdown_blocks.proofs.Fence.Walk.{At, Walks}
+use Rattle.markdown_blocks.proofs.Fence.Laid.{Laid, line-walk}
+use Rattle.markdown_blocks.proofs.Fence.Walk.{Anywhere, At, Walks}
 use Rattle.markdown_blocks.proofs.PieceFacts.{Stood, begins-cut, begins-whole, chunk_span, over-front, over-stands}
 use Rattle.markdown_blocks.proofs.PieceFacts.{starts-append, stood-append, stood-around, stood-none, stood-pair}
-
-abbrev Anywhere : Point → Type 0
-Anywhere p = Unit {0}
 
 abbrev Both : List ℕ → Point → Point → List Event → List Event → Type 0
 Both bytes p q es ds = Stood bytes es × Stood bytes ds

@@ -3,14 +3,13 @@ use Rattle.std.proofs.Common.{◌≡◌, ℕ, zero, suc, ◌+◌, Bool, true, fa
 use Rattle.std.proofs.Common.{sym, ap, ◌∙◌, subst, slice_range, arith}
 use Rattle.std.specs.Prelude.{◌==◌, not, Option, Some, None}
 use Rattle.std.specs.List.{prefix_len}
-use Rattle.std.proofs.lemmas.Bool.Decides.{nat_tests}
 use Rattle.md_engine.specs.declared.configuration.ParseOptions.{ParseOptions}
 use Rattle.md_engine.specs.declared.event.Event.{Event}
 use Rattle.md_engine.specs.declared.event.Name.{Name}
 use Rattle.md_engine.specs.declared.event.Name.TheVariants as n
 use Rattle.md_engine.specs.declared.event.Point.{Point}
-use Rattle.md_definition.specs.Leaves.{behind_word, first_word, nonempty, opening}
-use Rattle.md_definition.specs.Rest.{Rest, indent, is_white, run_len, trim_start}
+use Rattle.md_definition.specs.Leaves.{behind_word, first_word, nonempty}
+use Rattle.md_definition.specs.Rest.{Rest, is_white, run_len, trim_start}
 use Rattle.md_definition.specs.State.{fence_block}
 use Rattle.md_definition.specs.Texts.{first_byte}
 use Rattle.md_definition.specs.Tree as t

@@ -1,5 +1,5 @@
 -- Info and meta of a fence: parts of one line each, and what is read of them stands in their places.
-use Rattle.std.proofs.Common.{◌≡◌, ℕ, Bool, true, false, cond, ◌&&◌, List, [], ◌∷◌, ◌++◌, refl, sym, ap, ◌∙◌, arith}
+use Rattle.std.proofs.Common.{◌≡◌, ℕ, Bool, true, false, ◌&&◌, List, [], ◌∷◌, refl, ap, ◌∙◌, arith}
 use Rattle.std.specs.Prelude.{◌==◌, IsTrue, Some, None}
 use Rattle.std.specs.List.{list_all}
 use Rattle.std.proofs.lemmas.Bool.{and_from, eq-eqb}
@@ -16,30 +16,26 @@ use Rattle.md_lines.specs.Fence.{block_name, fence_name, sequence_name, string_l
 use Rattle.md_seam.specs.declared.inline.Chunk.{Chunk}
 use Rattle.md_seam.specs.declared.inline.PartKind.TheVariants.{String}
 use Rattle.md_seam.specs.Events.Inline.{are_lines, in_order, is_one_line, plain_chunks, plain_events, together}
-use Rattle.md_seam.specs.Events.Nested.{around, enter_link, exit, pair}
+use Rattle.md_seam.specs.Events.Nested.{around, pair}
 use Rattle.md_seam.specs.Events.Places.{at_or_before, past_text, same_place}
 use Rattle.md_seam.specs.Events.Prefix.{is_prefix}
 use Rattle.md_seam.specs.Events.Tiles.{part_kind}
 use Rattle.md_seam.specs.Substituted.{Readings}
 use Rattle.md_seam.proofs.InlineLemmas.{before-text, plain-fills, same-refl}
 use Rattle.md_seam.proofs.NestedLemmas.{at_or_before-refl}
-use Rattle.markdown_blocks.specs.Leaf.Fence.{Inner, fence_around, fence_line, fence_parts, linked, past_white, read_inner}
+use Rattle.markdown_blocks.specs.Leaf.Fence.{fence_around, fence_line, fence_parts, linked, past_white, read_inner}
 use Rattle.markdown_blocks.specs.Leaf.Fence.{white_part}
 use Rattle.markdown_blocks.specs.Unread as chunks
 use Rattle.markdown_blocks.proofs.Fence.Each.{by-math}
-use Rattle.markdown_blocks.proofs.Fence.Laid.{Laid, Walked, line-walk}
-use Rattle.markdown_blocks.proofs.Fence.Walk.{At, Walks, is_text_name}
+use Rattle.markdown_blocks.proofs.Fence.Laid.{Laid, line-walk}
+use Rattle.markdown_blocks.proofs.Fence.Walk.{Anywhere, At, Walks, is_text_name}
 use Rattle.markdown_blocks.proofs.FillFacts.{Fill, fill-append, fill-around, fill-part, fill-same, linked-filled}
 use Rattle.markdown_blocks.proofs.LineTexts.{one-last}
-use Rattle.markdown_blocks.proofs.PartFacts.{NoLinks, NoParts}
 use Rattle.markdown_blocks.proofs.PartsStand.{Stands, inside-linked, stands-append, stands-around, stands-outside}
 use Rattle.markdown_blocks.proofs.PartsStand.{stands-part}
 use Rattle.markdown_blocks.proofs.PieceFacts.{over-front}
 use Rattle.markdown_blocks.proofs.SubstitutedLemmas.{Becomes, becomes-append, becomes-around, becomes-same}
-use Rattle.markdown_blocks.proofs.SubstitutedLemmas.{no_links-unwanted, part-becomes}
-
-abbrev Anywhere : Point → Type 0
-Anywhere p = Unit {0}
+use Rattle.markdown_blocks.proofs.SubstitutedLemmas.{part-becomes}
 
 -- Names.
 

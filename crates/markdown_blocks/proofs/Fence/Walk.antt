@@ -1,17 +1,16 @@
 -- What holds of the parts of a fence one by one holds of all of it.
-use Rattle.std.proofs.Common.{◌≡◌, ℕ, zero, suc, ◌+◌, ◌<◌, ◌≤◌, Bool, true, false, cond, ◌&&◌, ◌||◌, List, [], ◌∷◌, ◌++◌}
-use Rattle.std.proofs.Common.{length, take, drop, refl, sym, ap, ◌∙◌, subst, append_assoc, arith}
+use Rattle.std.proofs.Common.{◌≡◌, ℕ, Bool, true, false, cond, ◌&&◌, ◌||◌, List, [], ◌∷◌, ◌++◌}
+use Rattle.std.proofs.Common.{length, take, drop, refl, sym, ap, ◌∙◌, subst, append_assoc}
 use Rattle.std.specs.Prelude.{◌==◌, nat_le, not}
 use Rattle.std.specs.List.{list_all, prefix_len}
-use Rattle.std.proofs.lemmas.Bool.{and_from, and_parts, eq-eqb, eqb-true, or_left, or_right}
-use Rattle.std.proofs.lemmas.Bool.Decides.{nat_tests}
+use Rattle.std.proofs.lemmas.Bool.{and_from, eqb-true, or_left, or_right}
 use Rattle.std.proofs.lemmas.List.{take-append-drop}
 use Rattle.md_engine.specs.declared.configuration.ParseOptions.{ParseOptions}
 use Rattle.md_engine.specs.declared.event.Event.{Event}
 use Rattle.md_engine.specs.declared.event.Name.{Name}
 use Rattle.md_engine.specs.declared.event.Name.TheVariants as n
 use Rattle.md_engine.specs.declared.event.Point.{Point}
-use Rattle.md_definition.specs.Leaves.{first_word, is_fence_marker, least_size}
+use Rattle.md_definition.specs.Leaves.{first_word}
 use Rattle.md_definition.specs.Rest.{is_blank, is_white, run_len, trim_start}
 use Rattle.md_definition.specs.Texts.{first_byte}
 use Rattle.md_definition.proofs.TextsLemmas.{NoEnding, no_ending-drop}
@@ -82,28 +81,32 @@ meta-text m = go (m == 36)
 -- What holds of nothing and of each part holds of parts one behind the other, if what is asked of the places between them
 -- does: behind whitespace and in front of it, and behind markers.
 pub record Walks (bytes : List ℕ) (inner read : Inner) (M : Point → Type 0) (Q : Point → Point → List Event → List Event → Type 0) : Type 0
-    where
-  pub behind_white : (b : ℕ) (bs rest : List ℕ) (p : Point) → drop p.index bytes ≡ (b ∷ bs) ++ rest →
-      is_blank (b ∷ bs) ≡ true → M (past_text (b ∷ bs) p)
-  pub before_white : (b : ℕ) (rest : List ℕ) (p : Point) → drop p.index bytes ≡ b ∷ rest → is_white b ≡ true → M p
-  pub behind_marks : (m b : ℕ) (bs rest : List ℕ) (p : Point) → drop p.index bytes ≡ (b ∷ bs) ++ rest →
-      stands_over (sequence_name m) (b ∷ bs) ≡ true → M (past_text (b ∷ bs) p)
-  pub none : (p : Point) → Q p p [] []
-  pub append : (p q r : Point) (xs ys zs ws : List Event) → M q → Q p q xs zs → Q q r ys ws →
-      Q p r (xs ++ ys) (zs ++ ws)
-  pub white : (b : ℕ) (bs rest : List ℕ) (p : Point) → M p → M (past_text (b ∷ bs) p) →
-      drop p.index bytes ≡ (b ∷ bs) ++ rest → CutsFirst p (b ∷ bs) → is_blank (b ∷ bs) ≡ true →
-      Q p (past_text (b ∷ bs) p) (pair n.SpaceOrTab p (past_text (b ∷ bs) p))
-      (pair n.SpaceOrTab p (past_text (b ∷ bs) p))
-  pub marks : (m b : ℕ) (bs rest : List ℕ) (p : Point) → M p → M (past_text (b ∷ bs) p) → At bytes (b ∷ bs) p rest →
-      stands_over (sequence_name m) (b ∷ bs) ≡ true →
-      Q p (past_text (b ∷ bs) p) (pair (sequence_name m) p (past_text (b ∷ bs) p))
-      (pair (sequence_name m) p (past_text (b ∷ bs) p))
-  pub text : (name : Name) (b : ℕ) (bs rest : List ℕ) (p : Point) → is_text_name name ≡ true → M p →
-      M (past_text (b ∷ bs) p) → At bytes (b ∷ bs) p rest →
-      Q p (past_text (b ∷ bs) p)
-      (around name p (past_text (b ∷ bs) p) (inner p (past_text (b ∷ bs) p)))
-      (around name p (past_text (b ∷ bs) p) (read p (past_text (b ∷ bs) p)))
+  where
+    pub behind_white : (b : ℕ) (bs rest : List ℕ) (p : Point) → drop p.index bytes ≡ (b ∷ bs) ++ rest →
+        is_blank (b ∷ bs) ≡ true → M (past_text (b ∷ bs) p)
+    pub before_white : (b : ℕ) (rest : List ℕ) (p : Point) → drop p.index bytes ≡ b ∷ rest → is_white b ≡ true → M p
+    pub behind_marks : (m b : ℕ) (bs rest : List ℕ) (p : Point) → drop p.index bytes ≡ (b ∷ bs) ++ rest →
+        stands_over (sequence_name m) (b ∷ bs) ≡ true → M (past_text (b ∷ bs) p)
+    pub none : (p : Point) → Q p p [] []
+    pub append : (p q r : Point) (xs ys zs ws : List Event) → M q → Q p q xs zs → Q q r ys ws →
+        Q p r (xs ++ ys) (zs ++ ws)
+    pub white : (b : ℕ) (bs rest : List ℕ) (p : Point) → M p → M (past_text (b ∷ bs) p) →
+        drop p.index bytes ≡ (b ∷ bs) ++ rest → CutsFirst p (b ∷ bs) → is_blank (b ∷ bs) ≡ true →
+        Q p (past_text (b ∷ bs) p) (pair n.SpaceOrTab p (past_text (b ∷ bs) p))
+        (pair n.SpaceOrTab p (past_text (b ∷ bs) p))
+    pub marks : (m b : ℕ) (bs rest : List ℕ) (p : Point) → M p → M (past_text (b ∷ bs) p) → At bytes (b ∷ bs) p rest →
+        stands_over (sequence_name m) (b ∷ bs) ≡ true →
+        Q p (past_text (b ∷ bs) p) (pair (sequence_name m) p (past_text (b ∷ bs) p))
+        (pair (sequence_name m) p (past_text (b ∷ bs) p))
+    pub text : (name : Name) (b : ℕ) (bs rest : List ℕ) (p : Point) → is_text_name name ≡ true → M p →
+        M (past_text (b ∷ bs) p) → At bytes (b ∷ bs) p rest →
+        Q p (past_text (b ∷ bs) p)
+        (around name p (past_text (b ∷ bs) p) (inner p (past_text (b ∷ bs) p)))
+        (around name p (past_text (b ∷ bs) p) (read p (past_text (b ∷ bs) p)))
+
+-- of places that do not matter
+abbrev pub Anywhere : Point → Type 0
+Anywhere p = Unit {0}
 
 -- whitespace in front is blank
 front-blank : (xs : List ℕ) → is_blank (take (prefix_len is_white xs) xs) ≡ true

@@ -2,7 +2,6 @@
 use Rattle.std.proofs.Common.{◌≡◌, ℕ, Bool, true, false, cond, List, [], ◌∷◌, ◌++◌, length, take, drop, refl, sym, ap, ◌∙◌}
 use Rattle.std.proofs.Common.{subst, append_assoc, append-nil}
 use Rattle.std.specs.Prelude.{◌==◌, not}
-use Rattle.std.specs.List.{prefix_len}
 use Rattle.std.proofs.lemmas.List.Sums.{take_while-cons}
 use Rattle.md_engine.specs.declared.event.Event.{Event}
 use Rattle.md_engine.specs.declared.event.Name.{Name}
@@ -11,7 +10,6 @@ use Rattle.md_engine.specs.declared.event.Point.{Point}
 use Rattle.md_definition.specs.Leaves.{first_word}
 use Rattle.md_definition.specs.Rest.{is_white, run_len, trim_start}
 use Rattle.md_definition.specs.Texts.{first_byte}
-use Rattle.md_lines.specs.Fence.{block_name, fence_name, meta_name, sequence_name}
 use Rattle.md_lines.proofs.FenceCells.{prefix-none, prefix-one}
 use Rattle.md_lines.proofs.FenceParts.{prefix-take}
 use Rattle.md_seam.specs.declared.inline.Chunk.{Chunk}
@@ -20,8 +18,8 @@ use Rattle.md_seam.specs.Events.Inline.{plain_chunk}
 use Rattle.md_seam.specs.Events.Nested.{around, pair}
 use Rattle.md_seam.specs.Events.Places.{past_text}
 use Rattle.md_seam.proofs.GrammarLemmas.{IsWord, Leads, leads-append, leads-around, leads-pair, maybe, word-behind}
-use Rattle.markdown_blocks.specs.Leaf.Fence.{Inner, behind_parts, fence_around, fence_line, fence_parts, linked}
-use Rattle.markdown_blocks.specs.Leaf.Fence.{past_white, read_inner, text_part, text_parts, white_part, word_parts}
+use Rattle.markdown_blocks.specs.Leaf.Fence.{Inner, fence_around, fence_line, fence_parts, linked}
+use Rattle.markdown_blocks.specs.Leaf.Fence.{past_white, read_inner, text_part, white_part}
 use Rattle.markdown_blocks.proofs.ChunkFacts.{chunk-word}
 use Rattle.markdown_blocks.proofs.Fence.Walk.{CutsWord, behind-first}
 

@@ -29,7 +29,6 @@ use Rattle.md_definition.specs.Leaves.{first_word, opening}
 use Rattle.md_definition.specs.Rest.{Rest, indent, is_white, run_len, trim_start}
 use Rattle.md_definition.specs.State.{Opening, fence_block}
 use Rattle.md_definition.specs.Texts.{first_byte}
-use Rattle.md_definition.specs.Tree.{Block}
 use Rattle.markdown_blocks.specs.LineLeaf.{LineLeaf}
 
 -- By the cells of a line.
