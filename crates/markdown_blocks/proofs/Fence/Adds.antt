@@ -25,7 +25,8 @@ use Rattle.md_lines.proofs.FenceCells.{RunOf, marker-dark, marker-ten, rest-past
 use Rattle.md_lines.proofs.FenceFurther.{indent-trims, small-behind}
 use Rattle.md_lines.proofs.FenceFurther as further
 use Rattle.md_lines.proofs.FenceOpened.{marker-may, white-all}
-use Rattle.md_lines.proofs.FenceParts.{Stands, behind-agrees, behind_info, between, meta_point, prefix-take, stands-behind}
+use Rattle.md_lines.proofs.FenceParts.{Stands, behind-agrees, behind_info, between, meta_point, prefix-take}
+use Rattle.md_lines.proofs.FenceParts.{stands-behind}
 use Rattle.md_seam.specs.Ahead.{white_end, white_rest}
 use Rattle.md_seam.specs.Events.Nested.{enter, exit, pair}
 use Rattle.md_seam.specs.Events.Places.{past_byte, past_text}
@@ -148,7 +149,8 @@ behind-is said m text behind bytes p stop fed =
     ∙ ap
     (λ (q : Point).
     spaces any_size cells p
-    ++ parts_of m (trim_start bytes) q (between said (trim_start bytes) q stop) (meta_point said (trim_start bytes) q stop))
+    ++ parts_of m (trim_start bytes) q (between said (trim_start bytes) q stop)
+    (meta_point said (trim_start bytes) q stop))
     white.end
     ∙ ap (λ (es : List Event). spaces any_size cells p ++ es)
     (words-are said m text behind (trim_start bytes) (past_white bytes p) stop
@@ -224,11 +226,13 @@ fence-adds options said text behind r p stop is h k short e =
     ∙ opened-is said m text behind bytes q stop (marker-may options m starts.fence.marker) fed
     ∙ ap (λ (x : Point). fence_around linked m bytes x (past_text bytes x)) white.end
     ∙ ap
-    (λ (l : List ℕ). fence_around linked (first_byte l) l (past_white (rest_line r) p) (past_text l (past_white (rest_line r) p)))
+    (λ (l : List ℕ). fence_around linked (first_byte l) l (past_white (rest_line r) p)
+    (past_text l (past_white (rest_line r) p)))
     (sym (rest-trim r))
     ∙ ap
     (λ (x : Point).
-    fence_around linked (first_byte (trim_start (rest_line r))) (trim_start (rest_line r)) (past_white (rest_line r) p) x)
+    fence_around linked (first_byte (trim_start (rest_line r))) (trim_start (rest_line r))
+    (past_white (rest_line r) p) x)
     ends)
   where
     cells : List Cell

@@ -68,7 +68,8 @@ low-behind bytes b bs rest p is low =
     let over = over-front bytes p q (b ∷ bs) rest is (omega arith) refl in
     let size = past-index (b ∷ bs) p in
     between-behind bytes q.index
-    (low-at bytes (b ∷ bs) p.index q.index (q.index - 1) over.slice size low (omega (arith, size)) (omega (arith, size)))
+    (low-at bytes (b ∷ bs) p.index q.index (q.index - 1) over.slice size low (omega (arith, size))
+    (omega (arith, size)))
 
 walks-between : (bytes : List ℕ) →
     Walks bytes (read_inner bytes) (read_inner bytes) (IsPlace bytes) (λ p q es ds. AreBetween bytes es)
@@ -95,7 +96,8 @@ pub fence-between : (options : ParseOptions) (bytes line rest : List ℕ) (p : P
     AreBetween bytes (fence_line (read_inner bytes) line p)
 fence-between options bytes line rest p is first last =
     let read = read_inner bytes in
-    let walked = line-walk options bytes read read (IsPlace bytes) (λ p q es ds. AreBetween bytes es) (walks-between bytes) line
+    let walked = line-walk options bytes read read (IsPlace bytes) (λ p q es ds. AreBetween bytes es)
+    (walks-between bytes) line
     rest p is first last in
     let text = trim_start line in
     let m = first_byte text in
@@ -149,7 +151,8 @@ pub fence-sits : (options : ParseOptions) (bytes line rest : List ℕ) (p : Poin
     Sits bytes (fence_line (read_inner bytes) line p)
 fence-sits options bytes line rest p is =
     let read = read_inner bytes in
-    let walked = line-walk options bytes read read Anywhere (λ p q es ds. Sits bytes es) (walks-sit bytes) line rest p is
+    let walked = line-walk options bytes read read Anywhere (λ p q es ds. Sits bytes es)
+    (walks-sit bytes) line rest p is
     tt tt in
     let text = trim_start line in
     let m = first_byte text in

@@ -1,5 +1,6 @@
 -- What holds of each event of a fence, as it does of its names.
-use Rattle.std.proofs.Common.{◌≡◌, ℕ, Bool, true, false, cond, ◌&&◌, nat_lt, List, [], ◌∷◌, ◌++◌, take, drop, length, refl}
+use Rattle.std.proofs.Common.{◌≡◌, ℕ, Bool, true, false, cond, ◌&&◌, nat_lt, List, [], ◌∷◌, ◌++◌, take, drop, length}
+use Rattle.std.proofs.Common.{refl}
 use Rattle.std.specs.Prelude.{◌==◌}
 use Rattle.md_engine.specs.declared.configuration.ParseOptions.{ParseOptions}
 use Rattle.md_engine.specs.declared.event.Event.{Event}
@@ -54,7 +55,8 @@ pub fence-named : (m : ℕ) → is_fence_name (fence_name m) ≡ true
 fence-named m = by-math (λ x. is_fence_name x ≡ true) (m == 36) n.MathFlowFence n.CodeFencedFence refl refl
 
 pub sequence-named : (m : ℕ) → is_fence_name (sequence_name m) ≡ true
-sequence-named m = by-math (λ x. is_fence_name x ≡ true) (m == 36) n.MathFlowFenceSequence n.CodeFencedFenceSequence refl refl
+sequence-named m = by-math (λ x. is_fence_name x ≡ true)
+    (m == 36) n.MathFlowFenceSequence n.CodeFencedFenceSequence refl refl
 
 pub meta-named : (m : ℕ) → is_fence_name (meta_name m) ≡ true
 meta-named m = by-math (λ x. is_fence_name x ≡ true) (m == 36) n.MathFlowFenceMeta n.CodeFencedFenceMeta refl refl

@@ -1,5 +1,5 @@
--- A fence keeps what the frame asks of a leaf: no list stands in it, it stands where blocks may, it ends no line, and it
--- stands between characters and parts no text.
+-- A fence keeps what the frame asks of a leaf: no list stands in it, it stands where blocks may, it ends no line, and
+-- it stands between characters and parts no text.
 use Rattle.std.proofs.Common.{◌≡◌, ℕ, Bool, true, false, cond, List, [], ◌∷◌, ◌++◌}
 use Rattle.std.proofs.Common.{refl, sym, ap, ◌∙◌, subst, arith}
 use Rattle.std.specs.Prelude.{◌==◌}
@@ -27,13 +27,15 @@ use Rattle.md_seam.proofs.EndingsLemmas.{AreOthers, Leads, behind_leaf, in_leaf,
 use Rattle.md_seam.proofs.EndingsLemmas.{others-append, others-lead}
 use Rattle.md_seam.proofs.InlineLemmas.{same-refl}
 use Rattle.md_seam.proofs.SpelledLemmas.{Between, Quiet, Roles}
-use Rattle.markdown_blocks.specs.Leaf.Fence.{Inner, fence_around, fence_line, fence_parts, linked, past_white, read_inner}
+use Rattle.markdown_blocks.specs.Leaf.Fence.{Inner, fence_around, fence_line, fence_parts, linked, past_white}
+use Rattle.markdown_blocks.specs.Leaf.Fence.{read_inner}
 use Rattle.markdown_blocks.specs.Leaf.Fence.{white_part}
 use Rattle.markdown_blocks.proofs.EachEvent.{Each}
 use Rattle.markdown_blocks.proofs.Fence.Each.{by-math, inside-each, is_fence_name}
 use Rattle.markdown_blocks.proofs.Fence.Laid.{Laid, line-walk}
 use Rattle.markdown_blocks.proofs.Fence.Walk.{Anywhere, At, Walks, is_text_name}
-use Rattle.markdown_blocks.proofs.LeafStands.{around-unlisted, between-stand, leaf-stands, parts-unlisted, unlisted-both}
+use Rattle.markdown_blocks.proofs.LeafStands.{around-unlisted, between-stand, leaf-stands, parts-unlisted}
+use Rattle.markdown_blocks.proofs.LeafStands.{unlisted-both}
 use Rattle.markdown_blocks.proofs.LineTexts.{without-none}
 use Rattle.markdown_blocks.proofs.PieceFacts.{over-front}
 use Rattle.markdown_blocks.proofs.PlainRoles.{plain-roles}

@@ -1,5 +1,5 @@
--- The laws of opening fences, as the frame asks for them but for three: a line that is taken is no longer than whitespace
--- may be, its links are to strings, and an outline has to know its names.
+-- The laws of opening fences, as the frame asks for them but for three: a line that is taken is no longer than
+-- whitespace may be, its links are to strings, and an outline has to know its names.
 use Rattle.std.proofs.Common.{◌≡◌, ℕ, ◌^◌, ◌<◌, ◌≤◌, Bool, true, false, List, ◌++◌, drop, length, refl}
 use Rattle.std.specs.Prelude.{Some}
 use Rattle.md_engine.specs.declared.configuration.ParseOptions.{ParseOptions}
@@ -119,4 +119,5 @@ pub becomes : (options : ParseOptions) (on : HeldLeaf) (bytes : List ℕ) (r : R
     (wants : Content → Bool) (reads : Readings) → wants content.String ≡ true → ReadsString bytes reads →
     Becomes wants reads (fence_leaf.unread (rest_line r) p) (fence_leaf.done bytes (rest_line r) p)
 becomes options on bytes r p q starts at wants reads w rs =
-    fence-becomes options bytes (rest_line r) (drop q.index bytes) p (laid options bytes r p q starts at) wants reads w rs
+    fence-becomes options bytes (rest_line r)
+    (drop q.index bytes) p (laid options bytes r p q starts at) wants reads w rs

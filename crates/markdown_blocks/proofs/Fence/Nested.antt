@@ -15,7 +15,8 @@ use Rattle.md_seam.specs.Events.Nested.{around, enter_link, exit}
 use Rattle.md_seam.specs.Events.Places.{at_or_before, past_text}
 use Rattle.md_seam.proofs.InlineLemmas.{before-text, same-refl}
 use Rattle.md_seam.proofs.NestedLemmas.{at_or_before-refl, balanced-none}
-use Rattle.markdown_blocks.specs.Leaf.Fence.{Inner, fence_around, fence_line, fence_parts, linked, past_white, read_inner}
+use Rattle.markdown_blocks.specs.Leaf.Fence.{Inner, fence_around, fence_line, fence_parts, linked, past_white}
+use Rattle.markdown_blocks.specs.Leaf.Fence.{read_inner}
 use Rattle.markdown_blocks.specs.Leaf.Fence.{white_part}
 use Rattle.markdown_blocks.proofs.Fence.Laid.{Laid, line-walk}
 use Rattle.markdown_blocks.proofs.Fence.Walk.{Anywhere, Walks}
@@ -100,7 +101,8 @@ walks-tiled bytes = record {
 pub fence-tiled : (options : ParseOptions) (bytes line rest : List ℕ) (p : Point) → Laid options bytes line p rest →
     Tiled p (past_text line p) (fence_line linked line p)
 fence-tiled options bytes line rest p is =
-    let walked = line-walk options bytes linked linked Anywhere (λ p q es ds. Tiled p q es) (walks-tiled bytes) line rest p
+    let walked = line-walk options bytes linked linked Anywhere (λ p q es ds. Tiled p q es)
+    (walks-tiled bytes) line rest p
     is tt tt in
     let text = trim_start line in
     let m = first_byte text in

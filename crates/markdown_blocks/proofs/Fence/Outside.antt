@@ -50,14 +50,16 @@ name-content _ e = refl
 pub fence-own : (options : ParseOptions) (leaf : HeldLeaf) (cells : List Cell) (p : Point) →
     AreOutside (fence_adds options leaf cells p)
 fence-own options leaf cells p =
-    adds-each IsOutside (λ name is q. (name-own name is, refl)) (λ name is q. (block-own name is, refl)) (λ q. (refl, refl)) options leaf cells p
+    adds-each IsOutside (λ name is q. (name-own name is, refl)) (λ name is q. (block-own name is, refl))
+    (λ q. (refl, refl)) options leaf cells p
 
 -- so resolvers pass it
 pub fence-set : (line : List ℕ) (p : Point) (es : List Event) →
     resolved (fence_line linked line p ++ es) ≡ fence_line linked line p ++ resolved es
 fence-set line p es =
     heading-passes (fence_line linked line p) es
-    (line-each IsOutside (λ name is q. (name-own name is, refl)) (λ name is q. (block-own name is, refl)) linked (λ p q. (refl, (refl, tt))) line p)
+    (line-each IsOutside (λ name is q. (name-own name is, refl))
+    (λ name is q. (block-own name is, refl)) linked (λ p q. (refl, (refl, tt))) line p)
 
 -- No content stands in it.
 

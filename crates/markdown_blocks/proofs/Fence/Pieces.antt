@@ -14,7 +14,8 @@ use Rattle.md_seam.specs.Events.Nested.{around, enter_link, exit}
 use Rattle.md_seam.specs.Events.Pieces.{piece_stands}
 use Rattle.md_seam.specs.Events.Places.{past_text}
 use Rattle.md_seam.proofs.InlineLemmas.{past-index}
-use Rattle.markdown_blocks.specs.Leaf.Fence.{Inner, fence_around, fence_line, fence_parts, linked, past_white, read_inner}
+use Rattle.markdown_blocks.specs.Leaf.Fence.{Inner, fence_around, fence_line, fence_parts, linked, past_white}
+use Rattle.markdown_blocks.specs.Leaf.Fence.{read_inner}
 use Rattle.markdown_blocks.specs.Leaf.Fence.{white_part}
 use Rattle.markdown_blocks.proofs.ChunkFacts.{Chunked, chunked-alone}
 use Rattle.markdown_blocks.proofs.Fence.Laid.{Laid, line-walk}
@@ -49,7 +50,8 @@ walks-stood bytes = record {
       let q = past_text (b ∷ bs) p in
       let one = stood-pair bytes (sequence_name m) p q
       (over-stands bytes (sequence_name m) p q (b ∷ bs)
-      (over-front bytes p q (b ∷ bs) rest at.stands (omega arith) refl) (begins-whole (sequence_name m) p at.whole) over)
+      (over-front bytes p q (b ∷ bs) rest at.stands (omega arith) refl)
+      (begins-whole (sequence_name m) p at.whole) over)
       in
       (one, one);
   text = λ name b bs rest p is mid end at.
@@ -82,7 +84,8 @@ line-stood bytes line p inner white parts =
 pub fence-stood : (options : ParseOptions) (bytes line rest : List ℕ) (p : Point) → Laid options bytes line p rest →
     Stood bytes (fence_line linked line p) × Stood bytes (fence_line (read_inner bytes) line p)
 fence-stood options bytes line rest p is =
-    let walked = line-walk options bytes linked (read_inner bytes) Anywhere (Both bytes) (walks-stood bytes) line rest p is
+    let walked = line-walk options bytes linked (read_inner bytes) Anywhere (Both bytes)
+    (walks-stood bytes) line rest p is
     tt tt in (
       line-stood bytes line p linked walked.white.0 walked.parts.0,
       line-stood bytes line p (read_inner bytes) walked.white.1 walked.parts.1,

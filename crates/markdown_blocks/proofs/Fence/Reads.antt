@@ -1,5 +1,6 @@
 -- The events of a fence are read as its block.
-use Rattle.std.proofs.Common.{◌≡◌, ℕ, zero, suc, ◌+◌, Bool, true, false, cond, List, [], ◌∷◌, ◌++◌, length, take, drop, refl}
+use Rattle.std.proofs.Common.{◌≡◌, ℕ, zero, suc, ◌+◌, Bool, true, false, cond, List, [], ◌∷◌, ◌++◌, length, take}
+use Rattle.std.proofs.Common.{drop, refl}
 use Rattle.std.proofs.Common.{sym, ap, ◌∙◌, subst, slice_range, arith}
 use Rattle.std.specs.Prelude.{◌==◌, not, Option, Some, None}
 use Rattle.std.specs.List.{prefix_len}
@@ -18,8 +19,10 @@ use Rattle.md_lines.proofs.FenceParts.{prefix-take}
 use Rattle.md_seam.specs.Events.Nested.{around, pair}
 use Rattle.md_seam.specs.Events.Places.{past_text}
 use Rattle.md_seam.specs.Events.Pieces.{stands_over}
-use Rattle.md_seam.specs.Events.Spelled.{AsInfo, AsMarkers, AsMeta, FenceLeaf, Fenced, MathLeaf, OfFence, OfMath, OpenLeaf}
-use Rattle.md_seam.specs.Events.Spelled.{Purpose, Reading, Tells, Text, add_block, begun, columns_left, fresh, read, role}
+use Rattle.md_seam.specs.Events.Spelled.{AsInfo, AsMarkers, AsMeta, FenceLeaf, Fenced, MathLeaf, OfFence, OfMath}
+use Rattle.md_seam.specs.Events.Spelled.{OpenLeaf}
+use Rattle.md_seam.specs.Events.Spelled.{Purpose, Reading, Tells, Text, add_block, begun, columns_left, fresh, read}
+use Rattle.md_seam.specs.Events.Spelled.{role}
 use Rattle.md_seam.specs.Events.Spelled.{text_to, told}
 use Rattle.md_seam.proofs.BlocksLemmas.{read-around, read-leaf, read-told}
 use Rattle.md_seam.proofs.SpelledLemmas.{Between, QuietOrEnding, Roles, read-from, read-quiet, text-inline}
@@ -175,7 +178,8 @@ block-read : (bytes : List ℕ) (r : Reading) (math : Bool) (c : ℕ) (cs zs res
     read bytes r (around (cond math n.MathFlow n.CodeFenced) p e (inside_by bytes math (c ∷ cs) zs p e)) ≡
     add_block (block_by math c (trim_start zs)) r
 block-read bytes r true c cs zs rest more p e here behind none shut =
-    read-leaf bytes r n.MathFlow OfMath p e (inside_by bytes true (c ∷ cs) zs p e) (leaf_by true (c ∷ cs) (trim_start zs)) refl shut
+    read-leaf bytes r n.MathFlow OfMath p e (inside_by bytes true (c ∷ cs) zs p e) (leaf_by true (c ∷ cs)
+    (trim_start zs)) refl shut
     (fence-read bytes r true c cs zs rest more p e here behind none)
 block-read bytes r false c cs zs rest more p e here behind none shut =
     read-leaf bytes r n.CodeFenced OfFence p e (inside_by bytes false (c ∷ cs) zs p e)

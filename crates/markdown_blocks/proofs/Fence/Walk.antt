@@ -78,9 +78,10 @@ meta-text m = go (m == 36)
     go true = refl
     go false = refl
 
--- What holds of nothing and of each part holds of parts one behind the other, if what is asked of the places between them
--- does: behind whitespace and in front of it, and behind markers.
-pub record Walks (bytes : List ℕ) (inner read : Inner) (M : Point → Type 0) (Q : Point → Point → List Event → List Event → Type 0) : Type 0
+-- What holds of nothing and of each part holds of parts one behind the other, if what is asked of the places between
+-- them does: behind whitespace and in front of it, and behind markers.
+pub record Walks (bytes : List ℕ) (inner read : Inner) (M : Point → Type 0) (Q : Point → Point → List Event →
+    List Event → Type 0) : Type 0
   where
     pub behind_white : (b : ℕ) (bs rest : List ℕ) (p : Point) → drop p.index bytes ≡ (b ∷ bs) ++ rest →
         is_blank (b ∷ bs) ≡ true → M (past_text (b ∷ bs) p)
@@ -121,7 +122,8 @@ front-blank (b ∷ bs) = go (is_white b) refl (front-blank bs)
     go false e more = ap (λ (k : ℕ). is_blank (take k (b ∷ bs))) (prefix-none is_white b bs e)
 
 -- The whitespace in front of some bytes: where it ends, and its events.
-pub white-mid : (bytes : List ℕ) (inner read : Inner) (M : Point → Type 0) (Q : Point → Point → List Event → List Event → Type 0) →
+pub white-mid : (bytes : List ℕ) (inner read : Inner) (M : Point → Type 0) (Q : Point → Point → List Event →
+    List Event → Type 0) →
     Walks bytes inner read M Q → (xs rest : List ℕ) (p : Point) → drop p.index bytes ≡ xs ++ rest → M p →
     M (past_white xs p)
 white-mid bytes inner read M Q walks xs rest p is mid =
@@ -136,8 +138,10 @@ white-mid bytes inner read M Q walks xs rest p is mid =
     go [] blank is = mid
     go (b ∷ bs) blank is = walks.behind_white b bs (drop k xs ++ rest) p is blank
 
-pub white-walks : (bytes : List ℕ) (inner read : Inner) (M : Point → Type 0) (Q : Point → Point → List Event → List Event → Type 0) →
-    Walks bytes inner read M Q → (xs rest : List ℕ) (p : Point) → drop p.index bytes ≡ xs ++ rest → CutsFirst p xs → M p →
+pub white-walks : (bytes : List ℕ) (inner read : Inner) (M : Point → Type 0) (Q : Point → Point → List Event →
+    List Event → Type 0) →
+    Walks bytes inner read M Q → (xs rest : List ℕ) (p : Point) → drop p.index bytes ≡ xs ++ rest → CutsFirst p xs →
+    M p →
     Q p (past_white xs p) (white_part xs p) (white_part xs p)
 white-walks bytes inner read M Q walks [] rest p is cut mid = walks.none p
 white-walks bytes inner read M Q walks (b ∷ bs) rest p is cut mid = go (is_white b) refl
@@ -168,9 +172,11 @@ white-walks bytes inner read M Q walks (b ∷ bs) rest p is cut mid = go (is_whi
         subst (λ (k : ℕ). Q p (past_text (take k (b ∷ bs)) p) [] []) (sym (prefix-none is_white b bs e)) (walks.none p)
 
 -- A part of text.
-part-walks : (bytes : List ℕ) (inner read : Inner) (M : Point → Type 0) (Q : Point → Point → List Event → List Event → Type 0) →
+part-walks : (bytes : List ℕ) (inner read : Inner) (M : Point → Type 0) (Q : Point → Point → List Event →
+    List Event → Type 0) →
     Walks bytes inner read M Q → (name : Name) (xs rest : List ℕ) (p : Point) → is_text_name name ≡ true → M p →
-    M (past_text xs p) → At bytes xs p rest → Q p (past_text xs p) (text_part inner name xs p) (text_part read name xs p)
+    M (past_text xs p) → At bytes xs p rest → Q p (past_text xs p) (text_part inner name xs p)
+    (text_part read name xs p)
 part-walks bytes inner read M Q walks name [] rest p is mid end at = walks.none p
 part-walks bytes inner read M Q walks name (b ∷ bs) rest p is mid end at = walks.text name b bs rest p is mid end at
 
@@ -193,8 +199,10 @@ behind-first (b ∷ bs) = go (is_white b) refl (behind-first bs)
     go false e more = subst (λ (k : ℕ). CutsWord (drop k (b ∷ bs))) (sym (prefix-one t b bs (ap not e))) more
 
 -- Info, whitespace and meta.
-texts-walk : (bytes : List ℕ) (inner read : Inner) (M : Point → Type 0) (Q : Point → Point → List Event → List Event → Type 0) →
-    Walks bytes inner read M Q → (m : ℕ) (xs rest : List ℕ) (p : Point) → M p → M (past_text xs p) → At bytes xs p rest →
+texts-walk : (bytes : List ℕ) (inner read : Inner) (M : Point → Type 0) (Q : Point → Point → List Event →
+    List Event → Type 0) →
+    Walks bytes inner read M Q → (m : ℕ) (xs rest : List ℕ) (p : Point) → M p → M (past_text xs p) →
+    At bytes xs p rest →
     Q p (past_text xs p) (text_parts inner m xs p) (text_parts read m xs p)
 texts-walk bytes inner read M Q walks m xs rest p mid end at = go (m == 36)
   where
@@ -214,7 +222,8 @@ texts-walk bytes inner read M Q walks m xs rest p mid end at = go (m == 36)
     q = past_text word p
 
     at_left : At bytes left q rest
-    at_left = subst (λ (k : ℕ). At bytes (drop k xs) (past_text word p) rest) (sym long) (at-drop bytes xs rest p size at)
+    at_left = subst (λ (k : ℕ). At bytes (drop k xs) (past_text word p) rest) (sym long)
+        (at-drop bytes xs rest p size at)
 
     -- the word ends with the line, or in front of whitespace
     left_first : CutsWord left
@@ -274,8 +283,10 @@ texts-walk bytes inner read M Q walks m xs rest p mid end at = go (m == 36)
         meta
 
 -- What stands behind the sequence.
-behind-walks : (bytes : List ℕ) (inner read : Inner) (M : Point → Type 0) (Q : Point → Point → List Event → List Event → Type 0) →
-    Walks bytes inner read M Q → (m : ℕ) (xs rest : List ℕ) (p : Point) → M p → M (past_text xs p) → At bytes xs p rest →
+behind-walks : (bytes : List ℕ) (inner read : Inner) (M : Point → Type 0) (Q : Point → Point → List Event →
+    List Event → Type 0) →
+    Walks bytes inner read M Q → (m : ℕ) (xs rest : List ℕ) (p : Point) → M p → M (past_text xs p) →
+    At bytes xs p rest →
     Q p (past_text xs p) (behind_parts inner m xs p) (behind_parts read m xs p)
 behind-walks bytes inner read M Q walks m xs rest p mid end at =
     let k = prefix_len is_white xs in

@@ -1,5 +1,6 @@
 -- A fence keeps the grammar of events.
-use Rattle.std.proofs.Common.{◌≡◌, ℕ, Bool, true, false, cond, List, [], ◌∷◌, ◌++◌, length, take, drop, refl, sym, ap, ◌∙◌}
+use Rattle.std.proofs.Common.{◌≡◌, ℕ, Bool, true, false, cond, List, [], ◌∷◌, ◌++◌, length, take, drop, refl, sym, ap}
+use Rattle.std.proofs.Common.{◌∙◌}
 use Rattle.std.proofs.Common.{subst, append_assoc, append-nil}
 use Rattle.std.specs.Prelude.{◌==◌, not}
 use Rattle.std.proofs.lemmas.List.Sums.{take_while-cons}
@@ -13,7 +14,8 @@ use Rattle.md_definition.specs.Texts.{first_byte}
 use Rattle.md_lines.proofs.FenceCells.{prefix-none, prefix-one}
 use Rattle.md_lines.proofs.FenceParts.{prefix-take}
 use Rattle.md_seam.specs.declared.inline.Chunk.{Chunk}
-use Rattle.md_seam.specs.Events.Grammar.{Expression, behind, behind_block, blocks, inside, may_end, plain_text, unread_text}
+use Rattle.md_seam.specs.Events.Grammar.{Expression, behind, behind_block, blocks, inside, may_end, plain_text}
+use Rattle.md_seam.specs.Events.Grammar.{unread_text}
 use Rattle.md_seam.specs.Events.Inline.{plain_chunk}
 use Rattle.md_seam.specs.Events.Nested.{around, pair}
 use Rattle.md_seam.specs.Events.Places.{past_text}
@@ -33,7 +35,8 @@ linked-word p q = record { left = behind n.Data unread_text; leads = λ outer. r
 read-word : (bytes : List ℕ) → Word plain_text (read_inner bytes)
 read-word bytes p q =
     let chunk : Chunk = record { first = p; after = q } in
-    subst (IsWord plain_text (plain_text ∷ [])) (sym (append-nil (plain_chunk bytes chunk))) (chunk-word bytes true chunk)
+    subst (IsWord plain_text (plain_text ∷ [])) (sym (append-nil (plain_chunk bytes chunk)))
+    (chunk-word bytes true chunk)
 
 -- Whitespace, and a part of text.
 

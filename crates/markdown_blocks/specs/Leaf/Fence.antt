@@ -1,5 +1,5 @@
--- The opening line of fenced code and of math (CommonMark 4.5, own choice), as a leaf on one line: a block without lines
--- that is open behind it.
+-- The opening line of fenced code and of math (CommonMark 4.5, own choice), as a leaf on one line: a block without
+-- lines that is open behind it.
 use Rattle.std.specs.Prelude.{ℕ, Bool, false, ◌&&◌, ◌==◌, if◌then◌else◌, List, [], ◌∷◌, ◌++◌, length, take, drop}
 use Rattle.std.specs.Prelude.{Option, Some, None}
 use Rattle.std.specs.List.{prefix_len}
