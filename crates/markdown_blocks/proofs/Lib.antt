@@ -108,6 +108,7 @@ pub mod TileReads
 pub mod RowLeaf
 pub mod GroupFacts
 pub mod BlankLine
+pub mod Fence
 pub mod HeadingAtx
 pub mod ThematicBreak
 pub mod Registry

@@ -37,7 +37,7 @@ use Rattle.md_seam.proofs.SpacesGoods.{rest-calm, rest-size}
 -- What a line has that may not stand there.
 
 -- a run, and what follows it
-has-run : (bad t : ℕ → Bool) → ((b : ℕ) → t b ≡ true → is_line b ≡ true) → (cells : List Cell) →
+pub has-run : (bad t : ℕ → Bool) → ((b : ℕ) → t b ≡ true → is_line b ≡ true) → (cells : List Cell) →
     run_has bad is_line cells ≡ (run_has bad t cells || run_has bad is_line (run_rest t cells))
 has-run bad t goes [] = refl
 has-run bad t goes (c ∷ cs) = go (t c.byte) refl (has-run bad t goes cs)
@@ -59,11 +59,11 @@ has-run bad t goes (c ∷ cs) = go (t c.byte) refl (has-run bad t goes cs)
 white-line : (b : ℕ) → is_white b ≡ true → is_line b ≡ true
 white-line b e = grind (arith, nat_tests)
 
-word-line : (b : ℕ) → is_word b ≡ true → is_line b ≡ true
+pub word-line : (b : ℕ) → is_word b ≡ true → is_line b ≡ true
 word-line b e = (and_parts (not (is_white b)) (not (b == 10)) e).1
 
 -- and whitespace, which may stand there
-has-white : (bad : ℕ → Bool) → ((b : ℕ) → is_white b ≡ true → bad b ≡ false) → (room : ℕ) (cells : List Cell) →
+pub has-white : (bad : ℕ → Bool) → ((b : ℕ) → is_white b ≡ true → bad b ≡ false) → (room : ℕ) (cells : List Cell) →
     run_has bad is_line (white_rest room cells) ≡ run_has bad is_line cells
 has-white bad fine room [] = refl
 has-white bad fine zero (c ∷ cs) = refl
@@ -74,7 +74,7 @@ has-white bad fine (suc room) (c ∷ cs) = go (is_white c.byte) refl (has-white 
     go true e next = next ∙ sym (rw (white-line c.byte e, fine c.byte e) refl)
     go false e next = refl
 
-refused-dark : (m b : ℕ) → may_begin m ≡ true → is_white b ≡ true → is_refused m b ≡ false
+pub refused-dark : (m b : ℕ) → may_begin m ≡ true → is_white b ≡ true → is_refused m b ≡ false
 refused-dark m b is e = go (b == m) refl
   where
     go : (x : Bool) → (b == m) ≡ x → (x && not (m == 126)) ≡ false
@@ -348,7 +348,7 @@ marker-may options m e = go (m == 36) refl (m == 96) refl (m == 126) refl
     go false f false g true h = rw (g, h) refl
     go false f false g false h = none options.constructs.code_fenced (rw (f, g, h) at e)
 
-abbrev in_block : ℕ → Here → Here
+abbrev pub in_block : ℕ → Here → Here
 in_block m k = record (block_begun m k) {
   scratch = record k.scratch { marker = m; size_c = k.point.column - k.scratch.size_c };
 }

@@ -147,7 +147,7 @@ unfolding marker_of
 marker-first options [] = refl
 marker-first options (c ∷ cs) = refl
 
-marker-no : (options : ParseOptions) (b : ℕ) → may_begin b ≡ false → is_fence_marker options b ≡ false
+pub marker-no : (options : ParseOptions) (b : ℕ) → may_begin b ≡ false → is_fence_marker options b ≡ false
 marker-no options b e = go (is_fence_marker options b) refl
   where
     go : (x : Bool) → is_fence_marker options b ≡ x → x ≡ false

@@ -40,7 +40,7 @@ at-drop text (x ∷ xs) rest p e = at-drop text xs rest (past_byte x p) (past-ne
 abbrev pub Stands : List ℕ → List ℕ → List ℕ → Point → Type 0
 Stands text behind bytes p = RestAt text behind (bytes_at bytes p) p × (1 ≤ p.column)
 
-stands-behind : (text behind xs ys : List ℕ) (p : Point) → Stands text behind (xs ++ ys) p →
+pub stands-behind : (text behind xs ys : List ℕ) (p : Point) → Stands text behind (xs ++ ys) p →
     Stands text behind ys (past_text xs p)
 stands-behind text behind xs ys p is =
     let one = past_text-column xs p is.1 in (
@@ -148,7 +148,7 @@ prefix-same (b ∷ bs) h =
     same-byte false true e = cc
     same-byte false false e = refl
 
-prefix-take : (t : ℕ → Bool) (bytes : List ℕ) → length (take (prefix_len t bytes) bytes) ≡ prefix_len t bytes
+pub prefix-take : (t : ℕ → Bool) (bytes : List ℕ) → length (take (prefix_len t bytes) bytes) ≡ prefix_len t bytes
 prefix-take t [] = refl
 prefix-take t (b ∷ bs) = go (t b) refl (prefix-take t bs)
   where

@@ -8,5 +8,6 @@ pub mod FenceGoods
 pub mod FenceOpened
 pub mod FenceOpens
 pub mod FenceParts
+pub mod FenceRefused
 pub mod FenceSteps
 pub mod FenceWhole

@@ -1,0 +1,165 @@
+-- The events of a fence stand between characters, and part no text.
+use Rattle.std.proofs.Common.{◌≡◌, ℕ, ◌-◌, Bool, true, false, cond, ◌||◌, List, [], ◌∷◌, ◌++◌, length, drop}
+use Rattle.std.proofs.Common.{refl, sym, ap, ◌∙◌, subst, append_assoc, append-nil, arith}
+use Rattle.std.specs.Prelude.{◌==◌, nat_le, Option, Some}
+use Rattle.std.specs.List.{list_all}
+use Rattle.std.proofs.lemmas.Bool.{and_parts}
+use Rattle.std.proofs.lemmas.Bool.Decides.{nat_tests}
+use Rattle.md_engine.specs.declared.configuration.ParseOptions.{ParseOptions}
+use Rattle.md_engine.specs.declared.event.Event.{Event}
+use Rattle.md_engine.specs.declared.event.Name.{Name}
+use Rattle.md_engine.specs.declared.event.Name.TheVariants as n
+use Rattle.md_engine.specs.declared.event.Point.{Point}
+use Rattle.md_definition.specs.Rest.{trim_start}
+use Rattle.md_definition.specs.Texts.{first_byte}
+use Rattle.md_lines.specs.Fence.{block_name, fence_name, sequence_name}
+use Rattle.md_outline.specs.Between.{is_between}
+use Rattle.md_outline.specs.Outlined.{TextSpan as Span, are_parted}
+use Rattle.md_seam.specs.declared.inline.Chunk.{Chunk}
+use Rattle.md_seam.specs.Events.Inline.{plain_chunk}
+use Rattle.md_seam.specs.Events.Nested.{around, exit, pair}
+use Rattle.md_seam.specs.Events.Pieces.{is_run, stands_over}
+use Rattle.md_seam.specs.Events.Places.{past_text}
+use Rattle.md_seam.specs.Events.Spelled.{byte_at, role}
+use Rattle.md_seam.proofs.InlineLemmas.{past-index}
+use Rattle.md_seam.proofs.PlacesLemmas.{at-next}
+use Rattle.markdown_blocks.specs.Leaf.Fence.{fence_around, fence_line, fence_parts, past_white, read_inner, white_part}
+use Rattle.markdown_blocks.proofs.BetweenFacts.{AreBetween, all-more, around-between, between-append, between-before}
+use Rattle.markdown_blocks.proofs.BetweenFacts.{between-behind, between-pair, blank-low, chunk-between, is_low, low-at}
+use Rattle.markdown_blocks.proofs.BetweenFacts.{white-low}
+use Rattle.markdown_blocks.proofs.Fence.Each.{by-math}
+use Rattle.markdown_blocks.proofs.Fence.Kept.{text-end}
+use Rattle.markdown_blocks.proofs.Fence.Laid.{Laid, line-walk}
+use Rattle.markdown_blocks.proofs.Fence.Walk.{Anywhere, Walks, is_text_name}
+use Rattle.markdown_blocks.proofs.PartedFacts.{Sits, Still, around-sits, passes-chunk, sits-append, sits-still}
+use Rattle.markdown_blocks.proofs.PieceFacts.{over-front}
+
+-- Places.
+
+abbrev IsPlace : List ℕ → Point → Type 0
+IsPlace bytes p = is_between bytes p.index ≡ true
+
+-- markers are of ASCII
+run-low : (least c : ℕ) (ys : List ℕ) → is_low c ≡ true → is_run least c ys ≡ true → list_all is_low ys ≡ true
+run-low least c ys low h =
+    all-more (λ b. b == c) is_low ys (λ b e. same b c low e)
+    (and_parts (nat_le least (length ys)) (list_all (λ b. b == c) ys) h).1
+  where
+    same : (b c : ℕ) → is_low c ≡ true → (b == c) ≡ true → is_low b ≡ true
+    same b c low e = grind (arith, nat_tests)
+
+marks-low : (m : ℕ) (ys : List ℕ) → stands_over (sequence_name m) ys ≡ true → list_all is_low ys ≡ true
+marks-low m ys h = go (m == 36) h
+  where
+    by : (x : Bool) → is_run 3 96 ys ≡ x → x || is_run 3 126 ys ≡ true → list_all is_low ys ≡ true
+    by true e k = run-low 3 96 ys refl e
+    by false e k = run-low 3 126 ys refl k
+
+    go : (x : Bool) → stands_over (cond x n.MathFlowFenceSequence n.CodeFencedFenceSequence) ys ≡ true →
+        list_all is_low ys ≡ true
+    go true h = run-low 2 36 ys refl h
+    go false h = by (is_run 3 96 ys) refl h
+
+-- behind bytes of ASCII
+low-behind : (bytes : List ℕ) (b : ℕ) (bs rest : List ℕ) (p : Point) → drop p.index bytes ≡ (b ∷ bs) ++ rest →
+    list_all is_low (b ∷ bs) ≡ true → IsPlace bytes (past_text (b ∷ bs) p)
+low-behind bytes b bs rest p is low =
+    let q = past_text (b ∷ bs) p in
+    let over = over-front bytes p q (b ∷ bs) rest is (omega arith) refl in
+    let size = past-index (b ∷ bs) p in
+    between-behind bytes q.index
+    (low-at bytes (b ∷ bs) p.index q.index (q.index - 1) over.slice size low (omega (arith, size))
+    (omega (arith, size)))
+
+walks-between : (bytes : List ℕ) →
+    Walks bytes (read_inner bytes) (read_inner bytes) (IsPlace bytes) (λ p q es ds. AreBetween bytes es)
+walks-between bytes = record {
+  behind_white = λ b bs rest p is blank. low-behind bytes b bs rest p is (blank-low (b ∷ bs) blank);
+  before_white = λ b rest p is white.
+      between-before bytes p.index
+      (subst (λ (c : ℕ). is_low c ≡ true) (sym (at-next p.index bytes b rest is)) (white-low b white));
+  behind_marks = λ m b bs rest p is over. low-behind bytes b bs rest p is (marks-low m (b ∷ bs) over);
+  none = λ p. refl;
+  append = λ p q r xs ys zs ws mid h k. between-append bytes xs ys h k;
+  white = λ b bs rest p mid end is cut blank. between-pair bytes n.SpaceOrTab p (past_text (b ∷ bs) p) mid end;
+  marks = λ m b bs rest p mid end at over. between-pair bytes (sequence_name m) p (past_text (b ∷ bs) p) mid end;
+  text = λ name b bs rest p is mid end at.
+      let q = past_text (b ∷ bs) p in
+      let chunk : Chunk = record { first = p; after = q } in
+      around-between bytes name p q (plain_chunk bytes chunk ++ []) mid end
+      (between-append bytes (plain_chunk bytes chunk) []
+      (chunk-between bytes p q q (text-end bytes b bs rest p at) mid end end) refl);
+}
+
+pub fence-between : (options : ParseOptions) (bytes line rest : List ℕ) (p : Point) → Laid options bytes line p rest →
+    is_between bytes p.index ≡ true → is_between bytes (past_text line p).index ≡ true →
+    AreBetween bytes (fence_line (read_inner bytes) line p)
+fence-between options bytes line rest p is first last =
+    let read = read_inner bytes in
+    let walked = line-walk options bytes read read (IsPlace bytes) (λ p q es ds. AreBetween bytes es)
+    (walks-between bytes) line
+    rest p is first last in
+    let text = trim_start line in
+    let m = first_byte text in
+    let q = past_white line p in
+    let e = past_text line p in
+    between-append bytes (white_part line p) (fence_around read m text q e) walked.white
+    (around-between bytes (block_name m) q e (around (fence_name m) q e (fence_parts read m text q)) walked.mid last
+    (around-between bytes (fence_name m) q e (fence_parts read m text q) walked.mid last walked.parts))
+
+-- No text is parted.
+
+-- a part of text
+part-goes : (bytes : List ℕ) (name : Name) (p q : Point) (ys : List Event) →
+    let span : Option Span = Some (record { from = byte_at p; is_parted = false }) in
+    are_parted bytes span (exit name q ∷ ys) ≡ true →
+    are_parted bytes span
+    (((plain_chunk bytes (record { first = p; after = q }) ++ []) ++ exit name q ∷ []) ++ ys) ≡
+    true
+part-goes bytes name p q ys h =
+    let chunk : Chunk = record { first = p; after = q } in
+    let events : List Event = plain_chunk bytes chunk in
+    let apart : ((events ++ []) ++ exit name q ∷ []) ++ ys ≡
+    events ++ (exit name q ∷ ys) = simp (append_assoc, append-nil) in
+    let span : Option Span = Some (record { from = byte_at p; is_parted = false }) in
+    ap (are_parted bytes span) apart ∙ passes-chunk bytes span chunk (exit name q ∷ ys) ∙ h
+
+part-sits : (bytes : List ℕ) (name : Name) (p q : Point) → is_text_name name ≡ true →
+    Sits bytes (around name p q (read_inner bytes p q))
+part-sits bytes n.CodeFencedFenceInfo p q e ys h = part-goes bytes n.CodeFencedFenceInfo p q ys h
+part-sits bytes n.CodeFencedFenceMeta p q e ys h = part-goes bytes n.CodeFencedFenceMeta p q ys h
+part-sits bytes n.MathFlowFenceMeta p q e ys h = part-goes bytes n.MathFlowFenceMeta p q ys h
+part-sits bytes _ p q e ys h = absurd (cc)
+
+walks-sit : (bytes : List ℕ) →
+    Walks bytes (read_inner bytes) (read_inner bytes) Anywhere (λ p q es ds. Sits bytes es)
+walks-sit bytes = record {
+  behind_white = λ b bs rest p is blank. tt;
+  before_white = λ b rest p is white. tt;
+  behind_marks = λ m b bs rest p is over. tt;
+  none = λ p ys h. h;
+  append = λ p q r xs ys zs ws mid h k. sits-append bytes xs ys h k;
+  white = λ b bs rest p mid end is cut blank.
+      sits-still bytes (pair n.SpaceOrTab p (past_text (b ∷ bs) p)) (tt, (tt, tt));
+  marks = λ m b bs rest p mid end at over.
+      by-math (λ x. Sits bytes (pair x p (past_text (b ∷ bs) p))) (m == 36) n.MathFlowFenceSequence
+      n.CodeFencedFenceSequence (λ ys h. h) (λ ys h. h);
+  text = λ name b bs rest p is mid end at. part-sits bytes name p (past_text (b ∷ bs) p) is;
+}
+
+pub fence-sits : (options : ParseOptions) (bytes line rest : List ℕ) (p : Point) → Laid options bytes line p rest →
+    Sits bytes (fence_line (read_inner bytes) line p)
+fence-sits options bytes line rest p is =
+    let read = read_inner bytes in
+    let walked = line-walk options bytes read read Anywhere (λ p q es ds. Sits bytes es)
+    (walks-sit bytes) line rest p is
+    tt tt in
+    let text = trim_start line in
+    let m = first_byte text in
+    let q = past_white line p in
+    let e = past_text line p in
+    sits-append bytes (white_part line p) (fence_around read m text q e) walked.white
+    (around-sits bytes (block_name m) q e (around (fence_name m) q e (fence_parts read m text q))
+    (by-math (λ x. Still (role x)) (m == 36) n.MathFlow n.CodeFenced tt tt)
+    (around-sits bytes (fence_name m) q e (fence_parts read m text q)
+    (by-math (λ x. Still (role x)) (m == 36) n.MathFlowFence n.CodeFencedFence tt tt) walked.parts))

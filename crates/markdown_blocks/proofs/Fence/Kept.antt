@@ -1,0 +1,245 @@
+-- A fence keeps what the frame asks of a leaf: no list stands in it, it stands where blocks may, it ends no line, and
+-- it stands between characters and parts no text.
+use Rattle.std.proofs.Common.{◌≡◌, ℕ, Bool, true, false, cond, List, [], ◌∷◌, ◌++◌}
+use Rattle.std.proofs.Common.{refl, sym, ap, ◌∙◌, subst, arith}
+use Rattle.std.specs.Prelude.{◌==◌}
+use Rattle.std.specs.List.{list_all}
+use Rattle.std.proofs.lemmas.Bool.{and_from}
+use Rattle.md_engine.specs.declared.configuration.ParseOptions.{ParseOptions}
+use Rattle.md_engine.specs.declared.event.Event.{Event}
+use Rattle.md_engine.specs.declared.event.Name.{Name}
+use Rattle.md_engine.specs.declared.event.Name.TheVariants as n
+use Rattle.md_engine.specs.declared.event.Point.{Point}
+use Rattle.md_containers.specs.ItemsStand.{IsPart}
+use Rattle.md_containers.specs.Unlisted.{in_place}
+use Rattle.md_containers.proofs.UnlistedLemmas.{NoListing, StandsTo, among, stands-append}
+use Rattle.md_definition.specs.Lines.{without_ending}
+use Rattle.md_definition.specs.Rest.{is_white, trim_start}
+use Rattle.md_definition.specs.Texts.{first_byte}
+use Rattle.md_lines.specs.Fence.{block_name, fence_name, sequence_name}
+use Rattle.md_seam.specs.declared.inline.Chunk.{Chunk}
+use Rattle.md_seam.specs.Events.Endings.{IsLeaf, line_start, on_line}
+use Rattle.md_seam.specs.Events.Inline.{line_end, pair_unless_empty, plain_chunk}
+use Rattle.md_seam.specs.Events.Nested.{around, enter, exit, pair}
+use Rattle.md_seam.specs.Events.Places.{past_text, same_place}
+use Rattle.md_seam.specs.Events.Spelled.{LeafKind, OfFence, OfMath, Opens, Role, role}
+use Rattle.md_seam.proofs.EndingsLemmas.{AreOthers, Leads, behind_leaf, in_leaf, is_other, leads-append, leaf-leads}
+use Rattle.md_seam.proofs.EndingsLemmas.{others-append, others-lead}
+use Rattle.md_seam.proofs.InlineLemmas.{same-refl}
+use Rattle.md_seam.proofs.SpelledLemmas.{Between, Quiet, Roles}
+use Rattle.markdown_blocks.specs.Leaf.Fence.{Inner, fence_around, fence_line, fence_parts, linked, past_white}
+use Rattle.markdown_blocks.specs.Leaf.Fence.{read_inner}
+use Rattle.markdown_blocks.specs.Leaf.Fence.{white_part}
+use Rattle.markdown_blocks.proofs.EachEvent.{Each}
+use Rattle.markdown_blocks.proofs.Fence.Each.{by-math, inside-each, is_fence_name}
+use Rattle.markdown_blocks.proofs.Fence.Laid.{Laid, line-walk}
+use Rattle.markdown_blocks.proofs.Fence.Walk.{Anywhere, At, Walks, is_text_name}
+use Rattle.markdown_blocks.proofs.LeafStands.{around-unlisted, between-stand, leaf-stands, parts-unlisted}
+use Rattle.markdown_blocks.proofs.LeafStands.{unlisted-both}
+use Rattle.markdown_blocks.proofs.LineTexts.{without-none}
+use Rattle.markdown_blocks.proofs.PieceFacts.{over-front}
+use Rattle.markdown_blocks.proofs.PlainRoles.{plain-roles}
+
+-- Roles.
+
+roles-each : (P : Role → Type 0) (es : List Event) → Each (λ e. P (role e.name)) es → Roles P es
+roles-each P [] h = tt
+roles-each P (e ∷ es) h = (h.0, roles-each P es h.1)
+
+each-roles : (P : Role → Type 0) (es : List Event) → Roles P es → Each (λ e. P (role e.name)) es
+each-roles P [] h = tt
+each-roles P (e ∷ es) h = (h.0, each-roles P es h.1)
+
+-- what stands in a block is a part of it
+name-part : (name : Name) → is_fence_name name ≡ true → IsPart (role name)
+name-part n.SpaceOrTab e = tt
+name-part n.CodeFencedFence e = tt
+name-part n.CodeFencedFenceSequence e = tt
+name-part n.CodeFencedFenceInfo e = tt
+name-part n.CodeFencedFenceMeta e = tt
+name-part n.MathFlowFence e = tt
+name-part n.MathFlowFenceSequence e = tt
+name-part n.MathFlowFenceMeta e = tt
+name-part _ e = cc
+
+inside-parts : (inner : Inner) → ((p q : Point) → Roles IsPart (inner p q)) → (m : ℕ) (text : List ℕ) (p q : Point) →
+    Roles IsPart (around (fence_name m) p q (fence_parts inner m text p))
+inside-parts inner h m text p q =
+    roles-each IsPart (around (fence_name m) p q (fence_parts inner m text p))
+    (inside-each (λ e. IsPart (role e.name)) (λ name is r. (name-part name is, name-part name is)) inner
+    (λ x y. each-roles IsPart (inner x y) (h x y)) m text p q)
+
+linked-parts : (p q : Point) → Roles IsPart (linked p q)
+linked-parts p q = (tt, (tt, tt))
+
+read-parts : (bytes : List ℕ) (p q : Point) → Roles IsPart (read_inner bytes p q)
+read-parts bytes p q = plain-roles IsPart bytes (record { first = p; after = q } ∷ []) tt tt
+
+-- the whitespace in front the tree does not show
+pub white-quiet : (line : List ℕ) (p : Point) → Roles Quiet (white_part line p)
+white-quiet [] p = tt
+white-quiet (b ∷ bs) p = go (is_white b)
+  where
+    go : (x : Bool) → Roles Quiet (cond x (pair n.SpaceOrTab p (past_white (b ∷ bs) p)) [])
+    go true = (tt, (tt, tt))
+    go false = tt
+
+white-between : (line : List ℕ) (p : Point) → Roles Between (white_part line p)
+white-between [] p = tt
+white-between (b ∷ bs) p = go (is_white b)
+  where
+    go : (x : Bool) → Roles Between (cond x (pair n.SpaceOrTab p (past_white (b ∷ bs) p)) [])
+    go true = (tt, (tt, tt))
+    go false = tt
+
+white-parts : (line : List ℕ) (p : Point) → Roles IsPart (white_part line p)
+white-parts [] p = tt
+white-parts (b ∷ bs) p = go (is_white b)
+  where
+    go : (x : Bool) → Roles IsPart (cond x (pair n.SpaceOrTab p (past_white (b ∷ bs) p)) [])
+    go true = (tt, (tt, tt))
+    go false = tt
+
+-- No list stands in it.
+
+line-unlisted : (inner : Inner) → ((p q : Point) → Roles IsPart (inner p q)) → (line : List ℕ) (p : Point) →
+    NoListing (fence_line inner line p)
+line-unlisted inner h line p =
+    let text = trim_start line in
+    let m = first_byte text in
+    let q = past_white line p in
+    let e = past_text line p in
+    unlisted-both (white_part line p) (fence_around inner m text q e)
+    (parts-unlisted (white_part line p) (white-parts line p))
+    (around-unlisted (block_name m) q e (around (fence_name m) q e (fence_parts inner m text q))
+    (by-math (λ x. in_place x ≡ x) (m == 36) n.MathFlow n.CodeFenced refl refl) (inside-parts inner h m text q e))
+
+pub unread-unlisted : (line : List ℕ) (p : Point) → NoListing (fence_line linked line p)
+unread-unlisted line p = line-unlisted linked linked-parts line p
+
+pub read-unlisted : (bytes line : List ℕ) (p : Point) → NoListing (fence_line (read_inner bytes) line p)
+read-unlisted bytes line p = line-unlisted (read_inner bytes) (read-parts bytes) line p
+
+-- It stands where blocks may.
+
+abbrev kind_of : ℕ → LeafKind
+kind_of m = cond (m == 36) OfMath OfFence
+
+pub block-opens : (m : ℕ) → role (block_name m) ≡ Opens (kind_of m)
+block-opens m = go (m == 36)
+  where
+    go : (x : Bool) → role (cond x n.MathFlow n.CodeFenced) ≡ Opens (cond x OfMath OfFence)
+    go true = refl
+    go false = refl
+
+pub fence-stands : (bytes line : List ℕ) (p : Point) (held : List Bool) →
+    StandsTo bytes (among held) (among held) (fence_line (read_inner bytes) line p)
+fence-stands bytes line p held =
+    let text = trim_start line in
+    let m = first_byte text in
+    let q = past_white line p in
+    let e = past_text line p in
+    let inside = around (fence_name m) q e (fence_parts (read_inner bytes) m text q) in
+    stands-append bytes (among held) (among held) (among held) (white_part line p) (around (block_name m) q e inside)
+    (between-stand bytes held (white_part line p) (white-between line p))
+    (leaf-stands bytes held (block_name m) (kind_of m) q e inside (block-opens m)
+    (inside-parts (read_inner bytes) (read-parts bytes) m text q e))
+
+-- It ends no line.
+
+abbrev Other : Name → Type 0
+Other name = is_other (on_line name) ≡ true
+
+text-other : (name : Name) → is_text_name name ≡ true → Other name
+text-other n.CodeFencedFenceInfo e = refl
+text-other n.CodeFencedFenceMeta e = refl
+text-other n.MathFlowFenceMeta e = refl
+text-other _ e = cc
+
+marks-other : (m : ℕ) → Other (sequence_name m)
+marks-other m = by-math Other (m == 36) n.MathFlowFenceSequence n.CodeFencedFenceSequence refl refl
+
+others-more : (e : Event) (es : List Event) → Other e.name → AreOthers es → AreOthers (e ∷ es)
+others-more e es h k = and_from (is_other (on_line e.name)) (list_all (λ (f : Event). is_other (on_line f.name)) es) h k
+
+others-around : (name : Name) (p q : Point) (es : List Event) → Other name → AreOthers es →
+    AreOthers (around name p q es)
+others-around name p q es h k =
+    others-more (enter name p) (es ++ exit name q ∷ []) h
+    (others-append es (exit name q ∷ []) k (others-more (exit name q) [] h refl))
+
+-- what is read of bytes without an ending has none
+pub text-end : (bytes : List ℕ) (b : ℕ) (bs rest : List ℕ) (p : Point) → At bytes (b ∷ bs) p rest →
+    line_end bytes (record { first = p; after = past_text (b ∷ bs) p }) ≡ past_text (b ∷ bs) p
+text-end bytes b bs rest p at =
+    let q = past_text (b ∷ bs) p in
+    let over = over-front bytes p q (b ∷ bs) rest at.stands (omega arith) refl in
+    ap (λ (l : List ℕ). past_text (without_ending l) p) over.slice
+    ∙ ap (λ (l : List ℕ). past_text l p) (without-none (b ∷ bs) at.none)
+
+read-others : (bytes : List ℕ) (b : ℕ) (bs rest : List ℕ) (p : Point) → At bytes (b ∷ bs) p rest →
+    AreOthers (plain_chunk bytes (record { first = p; after = past_text (b ∷ bs) p }))
+read-others bytes b bs rest p at =
+    subst (λ (e : Point). AreOthers (pair_unless_empty n.Data p e ++ pair_unless_empty n.LineEnding e q))
+    (sym (text-end bytes b bs rest p at))
+    (pairs (same_place p q) (same_place q q) (same-refl q))
+  where
+    q : Point
+    q = past_text (b ∷ bs) p
+
+    pairs : (x y : Bool) → y ≡ true → AreOthers (cond x [] (pair n.Data p q) ++ cond y [] (pair n.LineEnding q q))
+    pairs true true h = refl
+    pairs false true h = refl
+    pairs x false h = cc
+
+abbrev Both : Point → Point → List Event → List Event → Type 0
+Both p q es ds = AreOthers es × AreOthers ds
+
+walks-others : (bytes : List ℕ) → Walks bytes linked (read_inner bytes) Anywhere Both
+walks-others bytes = record {
+  behind_white = λ b bs rest p is blank. tt;
+  before_white = λ b rest p is white. tt;
+  behind_marks = λ m b bs rest p is over. tt;
+  none = λ p. (refl, refl);
+  append = λ p q r xs ys zs ws mid h k. (others-append xs ys h.0 k.0, others-append zs ws h.1 k.1);
+  white = λ b bs rest p mid end is cut blank. (refl, refl);
+  marks = λ m b bs rest p mid end at over.
+      let q = past_text (b ∷ bs) p in (
+        others-around (sequence_name m) p q [] (marks-other m) refl,
+        others-around (sequence_name m) p q [] (marks-other m) refl,
+      );
+  text = λ name b bs rest p is mid end at.
+      let q = past_text (b ∷ bs) p in
+      let chunk : Chunk = record { first = p; after = q } in (
+        others-around name p q (linked p q) (text-other name is) refl,
+        others-around name p q (plain_chunk bytes chunk ++ []) (text-other name is)
+            (others-append (plain_chunk bytes chunk) [] (read-others bytes b bs rest p at) refl),
+      );
+}
+
+line-ending : (line : List ℕ) (p : Point) (inner : Inner) → AreOthers (white_part line p) →
+    AreOthers (fence_parts inner (first_byte (trim_start line)) (trim_start line) (past_white line p)) →
+    Leads line_start behind_leaf (fence_line inner line p)
+line-ending line p inner white parts =
+    let text = trim_start line in
+    let m = first_byte text in
+    let q = past_white line p in
+    let e = past_text line p in
+    let inside = around (fence_name m) q e (fence_parts inner m text q) in
+    leads-append line_start line_start behind_leaf (white_part line p) (around (block_name m) q e inside)
+    (others-lead line_start (white_part line p) refl white)
+    (leaf-leads (block_name m) q e inside
+    (by-math (λ x. on_line x ≡ IsLeaf) (m == 36) n.MathFlow n.CodeFenced refl refl)
+    (others-lead (in_leaf true) inside refl
+    (others-around (fence_name m) q e (fence_parts inner m text q)
+    (by-math Other (m == 36) n.MathFlowFence n.CodeFencedFence refl refl) parts)))
+
+pub fence-ending : (options : ParseOptions) (bytes line rest : List ℕ) (p : Point) → Laid options bytes line p rest →
+    Leads line_start behind_leaf (fence_line linked line p) ×
+    Leads line_start behind_leaf (fence_line (read_inner bytes) line p)
+fence-ending options bytes line rest p is =
+    let walked = line-walk options bytes linked (read_inner bytes) Anywhere Both (walks-others bytes) line rest p is tt tt
+    in (
+      line-ending line p linked walked.white.0 walked.parts.0,
+      line-ending line p (read_inner bytes) walked.white.1 walked.parts.1,
+    )

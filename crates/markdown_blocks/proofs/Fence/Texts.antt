@@ -1,0 +1,205 @@
+-- Info and meta of a fence: parts of one line each, and what is read of them stands in their places.
+use Rattle.std.proofs.Common.{◌≡◌, ℕ, Bool, true, false, ◌&&◌, List, [], ◌∷◌, refl, ap, ◌∙◌, arith}
+use Rattle.std.specs.Prelude.{◌==◌, IsTrue, Some, None}
+use Rattle.std.specs.List.{list_all}
+use Rattle.std.proofs.lemmas.Bool.{and_from, eq-eqb}
+use Rattle.md_engine.specs.declared.configuration.ParseOptions.{ParseOptions}
+use Rattle.md_engine.specs.declared.event.Content.{Content}
+use Rattle.md_engine.specs.declared.event.Content.TheVariants as content
+use Rattle.md_engine.specs.declared.event.Event.{Event}
+use Rattle.md_engine.specs.declared.event.Name.{Name}
+use Rattle.md_engine.specs.declared.event.Name.TheVariants as n
+use Rattle.md_engine.specs.declared.event.Point.{Point}
+use Rattle.md_definition.specs.Rest.{trim_start}
+use Rattle.md_definition.specs.Texts.{first_byte, split_lines}
+use Rattle.md_lines.specs.Fence.{block_name, fence_name, sequence_name, string_link}
+use Rattle.md_seam.specs.declared.inline.Chunk.{Chunk}
+use Rattle.md_seam.specs.declared.inline.PartKind.TheVariants.{String}
+use Rattle.md_seam.specs.Events.Inline.{are_lines, in_order, is_one_line, plain_chunks, plain_events, together}
+use Rattle.md_seam.specs.Events.Nested.{around, pair}
+use Rattle.md_seam.specs.Events.Places.{at_or_before, past_text, same_place}
+use Rattle.md_seam.specs.Events.Prefix.{is_prefix}
+use Rattle.md_seam.specs.Events.Tiles.{part_kind}
+use Rattle.md_seam.specs.Substituted.{Readings}
+use Rattle.md_seam.proofs.InlineLemmas.{before-text, plain-fills, same-refl}
+use Rattle.md_seam.proofs.NestedLemmas.{at_or_before-refl}
+use Rattle.markdown_blocks.specs.Leaf.Fence.{fence_around, fence_line, fence_parts, linked, past_white, read_inner}
+use Rattle.markdown_blocks.specs.Leaf.Fence.{white_part}
+use Rattle.markdown_blocks.specs.Unread as chunks
+use Rattle.markdown_blocks.proofs.Fence.Each.{by-math}
+use Rattle.markdown_blocks.proofs.Fence.Laid.{Laid, line-walk}
+use Rattle.markdown_blocks.proofs.Fence.Walk.{Anywhere, At, Walks, is_text_name}
+use Rattle.markdown_blocks.proofs.FillFacts.{Fill, fill-append, fill-around, fill-part, fill-same, linked-filled}
+use Rattle.markdown_blocks.proofs.LineTexts.{one-last}
+use Rattle.markdown_blocks.proofs.PartsStand.{Stands, inside-linked, stands-append, stands-around, stands-outside}
+use Rattle.markdown_blocks.proofs.PartsStand.{stands-part}
+use Rattle.markdown_blocks.proofs.PieceFacts.{over-front}
+use Rattle.markdown_blocks.proofs.SubstitutedLemmas.{Becomes, becomes-append, becomes-around, becomes-same}
+use Rattle.markdown_blocks.proofs.SubstitutedLemmas.{part-becomes}
+
+-- Names.
+
+text-kind : (name : Name) → is_text_name name ≡ true → part_kind name ≡ Some String
+text-kind n.CodeFencedFenceInfo e = refl
+text-kind n.CodeFencedFenceMeta e = refl
+text-kind n.MathFlowFenceMeta e = refl
+text-kind _ e = cc
+
+text-apart : (name : Name) → is_text_name name ≡ true → is_prefix name ≡ false
+text-apart n.CodeFencedFenceInfo e = refl
+text-apart n.CodeFencedFenceMeta e = refl
+text-apart n.MathFlowFenceMeta e = refl
+text-apart _ e = cc
+
+block-kind : (m : ℕ) → part_kind (block_name m) ≡ None
+block-kind m = by-math (λ x. part_kind x ≡ None) (m == 36) n.MathFlow n.CodeFenced refl refl
+
+fence-kind : (m : ℕ) → part_kind (fence_name m) ≡ None
+fence-kind m = by-math (λ x. part_kind x ≡ None) (m == 36) n.MathFlowFence n.CodeFencedFence refl refl
+
+marks-kind : (m : ℕ) → part_kind (sequence_name m) ≡ None
+marks-kind m = by-math (λ x. part_kind x ≡ None) (m == 36) n.MathFlowFenceSequence n.CodeFencedFenceSequence refl refl
+
+-- One part.
+
+-- it is a line
+one-line : (bytes : List ℕ) (b : ℕ) (bs rest : List ℕ) (p : Point) → At bytes (b ∷ bs) p rest →
+    are_lines bytes (past_text (b ∷ bs) p) (record { first = p; after = past_text (b ∷ bs) p } ∷ []) ≡ true
+one-line bytes b bs rest p at =
+    let q = past_text (b ∷ bs) p in
+    let over = over-front bytes p q (b ∷ bs) rest at.stands (omega arith) refl in
+    and_from _ _
+    (ap (λ (l : List ℕ). is_one_line (split_lines l) (same_place q q)) over.slice
+    ∙ one-last (b ∷ bs) (omega arith) at.none (same_place q q) (same-refl q))
+    refl
+
+-- that ends between two bytes
+one-whole : (bytes : List ℕ) (b : ℕ) (bs rest : List ℕ) (p : Point) → At bytes (b ∷ bs) p rest →
+    list_all (λ (chunk : Chunk). chunk.after.vs == 0) (record { first = p; after = past_text (b ∷ bs) p } ∷ []) ≡ true
+one-whole bytes b bs rest p at =
+    let q = past_text (b ∷ bs) p in
+    let over = over-front bytes p q (b ∷ bs) rest at.stands (omega arith) refl in
+    and_from (q.vs == 0) true (eq-eqb q.vs 0 over.whole) refl
+
+-- Its parts are whole.
+
+walks-stand : (bytes : List ℕ) → Walks bytes linked linked Anywhere (λ p q es ds. Stands bytes es)
+walks-stand bytes = record {
+  behind_white = λ b bs rest p is blank. tt;
+  before_white = λ b rest p is white. tt;
+  behind_marks = λ m b bs rest p is over. tt;
+  none = λ p. stands-outside bytes [] tt tt;
+  append = λ p q r xs ys zs ws mid h k. stands-append bytes xs ys h k;
+  white = λ b bs rest p mid end is cut blank.
+      stands-outside bytes (pair n.SpaceOrTab p (past_text (b ∷ bs) p)) (refl, (refl, tt)) (refl, (refl, tt));
+  marks = λ m b bs rest p mid end at over.
+      stands-outside bytes (pair (sequence_name m) p (past_text (b ∷ bs) p)) (marks-kind m, (marks-kind m, tt))
+      (refl, (refl, tt));
+  text = λ name b bs rest p is mid end at.
+      let q = past_text (b ∷ bs) p in
+      let chunk : Chunk = record { first = p; after = q } in
+      stands-part bytes name String p q (chunk ∷ []) (chunks.linked n.Data string_link (chunk ∷ [])) (text-kind name is)
+      (inside-linked bytes string_link (chunk ∷ [])) (same-refl p) (one-line bytes b bs rest p at);
+}
+
+pub fence-parts : (options : ParseOptions) (bytes line rest : List ℕ) (p : Point) → Laid options bytes line p rest →
+    Stands bytes (fence_line linked line p)
+fence-parts options bytes line rest p is =
+    let walked = line-walk options bytes linked linked Anywhere (λ p q es ds. Stands bytes es) (walks-stand bytes) line
+    rest p is tt tt in
+    let text = trim_start line in
+    let m = first_byte text in
+    let q = past_white line p in
+    let e = past_text line p in
+    stands-append bytes (white_part line p) (fence_around linked m text q e) walked.white
+    (stands-around bytes (block_name m) q e (around (fence_name m) q e (fence_parts linked m text q)) (block-kind m)
+    (stands-around bytes (fence_name m) q e (fence_parts linked m text q) (fence-kind m) walked.parts))
+
+-- What is read fills them.
+
+walks-filled : (bytes : List ℕ) → Walks bytes linked (read_inner bytes) Anywhere (λ p q es ds. Fill bytes es ds)
+walks-filled bytes = record {
+  behind_white = λ b bs rest p is blank. tt;
+  before_white = λ b rest p is white. tt;
+  behind_marks = λ m b bs rest p is over. tt;
+  none = λ p. fill-same bytes [] tt tt;
+  append = λ p q r xs ys zs ws mid h k. fill-append bytes xs zs ys ws h k;
+  white = λ b bs rest p mid end is cut blank.
+      fill-same bytes (pair n.SpaceOrTab p (past_text (b ∷ bs) p)) (refl, (refl, tt)) (refl, (refl, tt));
+  marks = λ m b bs rest p mid end at over.
+      fill-same bytes (pair (sequence_name m) p (past_text (b ∷ bs) p)) (refl, (refl, tt))
+      (marks-kind m, (marks-kind m, tt));
+  text = λ name b bs rest p is mid end at.
+      let q = past_text (b ∷ bs) p in
+      let chunk : Chunk = record { first = p; after = q } in
+      let order : in_order p (chunk ∷ []) ≡ true = and_from (at_or_before p p && at_or_before p q) true
+      (and_from (at_or_before p p) (at_or_before p q) (at_or_before-refl p) (before-text (b ∷ bs) p)) refl in
+      fill-part bytes name String p q (chunk ∷ []) (chunks.linked n.Data string_link (chunk ∷ []))
+      (together (plain_chunks bytes (chunk ∷ []))) (text-kind name is) (inside-linked bytes string_link (chunk ∷ []))
+      (plain-fills bytes p (chunk ∷ []) order) (linked-filled bytes string_link (chunk ∷ []));
+}
+
+pub fence-filled : (options : ParseOptions) (bytes line rest : List ℕ) (p : Point) → Laid options bytes line p rest →
+    Fill bytes (fence_line linked line p) (fence_line (read_inner bytes) line p)
+fence-filled options bytes line rest p is =
+    let read = read_inner bytes in
+    let walked = line-walk options bytes linked read Anywhere (λ p q es ds. Fill bytes es ds) (walks-filled bytes) line
+    rest p is tt tt in
+    let text = trim_start line in
+    let m = first_byte text in
+    let q = past_white line p in
+    let e = past_text line p in
+    fill-append bytes (white_part line p) (white_part line p) (fence_around linked m text q e)
+    (fence_around read m text q e) walked.white
+    (fill-around bytes (block_name m) q e (around (fence_name m) q e (fence_parts linked m text q))
+    (around (fence_name m) q e (fence_parts read m text q)) (block-kind m)
+    (fill-around bytes (fence_name m) q e (fence_parts linked m text q) (fence_parts read m text q) (fence-kind m)
+    walked.parts))
+
+-- Whoever reads them as the plain layer does gives these events.
+
+-- a reader of strings gives for chunks that are lines, none of which ends within a tab, what the plain layer does
+abbrev pub ReadsString : List ℕ → Readings → Type 0
+ReadsString bytes reads =
+    (chunks : List Chunk) (answer : List Event) → reads content.String chunks answer → (end : Point) →
+    IsTrue (are_lines bytes end chunks) → IsTrue (list_all (λ (chunk : Chunk). chunk.after.vs == 0) chunks) →
+    answer ≡ plain_events bytes (record { kind = String; chunks = chunks })
+
+walks-become : (bytes : List ℕ) (wants : Content → Bool) (reads : Readings) → wants content.String ≡ true →
+    ReadsString bytes reads →
+    Walks bytes linked (read_inner bytes) Anywhere (λ p q es ds. Becomes wants reads es ds)
+walks-become bytes wants reads w rs = record {
+  behind_white = λ b bs rest p is blank. tt;
+  before_white = λ b rest p is white. tt;
+  behind_marks = λ m b bs rest p is over. tt;
+  none = λ p. becomes-same wants reads [] tt;
+  append = λ p q r xs ys zs ws mid h k. becomes-append wants reads xs zs ys ws h k;
+  white = λ b bs rest p mid end is cut blank.
+      becomes-same wants reads (pair n.SpaceOrTab p (past_text (b ∷ bs) p)) (refl, (refl, tt));
+  marks = λ m b bs rest p mid end at over.
+      becomes-same wants reads (pair (sequence_name m) p (past_text (b ∷ bs) p)) (refl, (refl, tt));
+  text = λ name b bs rest p is mid end at.
+      let q = past_text (b ∷ bs) p in
+      let chunk : Chunk = record { first = p; after = q } in
+      part-becomes wants reads name n.Data string_link p q chunk
+      (plain_events bytes (record { kind = String; chunks = chunk ∷ [] })) w (text-apart name is)
+      (λ answer h. rs (chunk ∷ []) answer h q (one-line bytes b bs rest p at) (one-whole bytes b bs rest p at));
+}
+
+pub fence-becomes : (options : ParseOptions) (bytes line rest : List ℕ) (p : Point) → Laid options bytes line p rest →
+    (wants : Content → Bool) (reads : Readings) → wants content.String ≡ true → ReadsString bytes reads →
+    Becomes wants reads (fence_line linked line p) (fence_line (read_inner bytes) line p)
+fence-becomes options bytes line rest p is wants reads w rs =
+    let read = read_inner bytes in
+    let walked = line-walk options bytes linked read Anywhere (λ p q es ds. Becomes wants reads es ds)
+    (walks-become bytes wants reads w rs) line rest p is tt tt in
+    let text = trim_start line in
+    let m = first_byte text in
+    let q = past_white line p in
+    let e = past_text line p in
+    becomes-append wants reads (white_part line p) (white_part line p) (fence_around linked m text q e)
+    (fence_around read m text q e) walked.white
+    (becomes-around wants reads (block_name m) q e (around (fence_name m) q e (fence_parts linked m text q))
+    (around (fence_name m) q e (fence_parts read m text q))
+    (becomes-around wants reads (fence_name m) q e (fence_parts linked m text q) (fence_parts read m text q)
+    walked.parts))
