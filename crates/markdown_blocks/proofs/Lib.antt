@@ -107,6 +107,7 @@ pub mod TileReads
 pub mod RowLeaf
 pub mod GroupFacts
 pub mod BlankLine
+pub mod FenceFurther
 pub mod HeadingAtx
 pub mod ThematicBreak
 pub mod Registry

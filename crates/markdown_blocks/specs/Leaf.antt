@@ -1,4 +1,5 @@
 -- The leaves, each with what the frame asks of it: those on one line (`LineLeaf`), and text (`TextLeaf`).
+pub mod FenceFurther
 pub mod HeadingAtx
 pub mod Paragraph
 pub mod ThematicBreak

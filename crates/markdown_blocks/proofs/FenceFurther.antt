@@ -1,0 +1,3 @@
+-- Further lines of fenced code and of math: what stands on them, and their laws.
+pub mod Trial
+pub mod Names
