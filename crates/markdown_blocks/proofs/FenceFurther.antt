@@ -1,3 +1,4 @@
 -- Further lines of fenced code and of math: what stands on them, and their laws.
 pub mod Trial
 pub mod Names
+pub mod Cells
