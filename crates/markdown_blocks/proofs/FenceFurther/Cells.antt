@@ -5,6 +5,7 @@ use Rattle.std.specs.Prelude.{◌==◌, nat_le, nat_lt, Option, Some, None}
 use Rattle.std.specs.List.{prefix_len}
 use Rattle.std.proofs.lemmas.Bool.{and_parts, eqb-true}
 use Rattle.std.proofs.lemmas.Bool.Decides.{nat_tests}
+use Rattle.std.proofs.lemmas.List.{length-append}
 use Rattle.md_engine.specs.declared.configuration.ParseOptions.{ParseOptions}
 use Rattle.md_engine.specs.declared.event.Event.{Event}
 use Rattle.md_engine.specs.declared.event.Name.TheVariants as n
@@ -25,7 +26,7 @@ use Rattle.md_lines.specs.FenceRule.{is_line, run_end, run_rest}
 use Rattle.md_lines.specs.Further.{further_link}
 use Rattle.md_lines.proofs.FenceCells.{RunOf, first-spread, marker-dark, marker-ten, run-walk}
 use Rattle.md_lines.proofs.FenceFurther.{chunk-agrees, closes-agrees, further-agrees, is_nothing, left_part, lose-walk}
-use Rattle.md_lines.proofs.FenceFurther.{small-behind}
+use Rattle.md_lines.proofs.FenceFurther.{small-behind, small-room}
 use Rattle.md_seam.specs.Ahead.{begins_white, white_end, white_rest}
 use Rattle.md_seam.specs.Events.Nested.{enter, enter_link, exit, pair}
 use Rattle.md_seam.specs.Events.Places.{past_byte, past_text}
@@ -35,7 +36,7 @@ use Rattle.md_seam.specs.Spaces.{any_size, small_indent}
 use Rattle.md_seam.proofs.AheadLemmas.{none-end}
 use Rattle.md_seam.proofs.FeedLines.{Stops, behind_last, cell, columns_more, next_column, spread, stops-white, tab_cells}
 use Rattle.md_seam.proofs.FeedLines.{tab_end, tab_end-stop}
-use Rattle.md_seam.proofs.RestCells.{Cut, HasColumn, RestAt, bare-cells, cells_by, column-first, lose-no_ending, past_cut}
+use Rattle.md_seam.proofs.RestCells.{Cut, HasColumn, RestAt, bare-cells, cells_by, column-first, indent-length, lose-no_ending, past_cut}
 use Rattle.md_seam.proofs.RestCells.{past_rest, rest_cells, without_first}
 use Rattle.markdown_blocks.specs.Fronted.{rest_line}
 use Rattle.markdown_blocks.specs.Leaf.FenceFurther.{chunk_line, closing_line, closing_part, columns_part, fence_further}
@@ -198,6 +199,39 @@ columns-part said text behind room r p stop is k =
     ap₂ (λ (x : Bool) (q : Point). cond (nat_lt 0 room && x) (pair n.SpaceOrTab p q) [])
     (first-white said text behind r p stop is k) (columns-end said text behind room r p stop is k)
 
+-- more of them than there are
+past-all : (said : Line) (text behind : List ℕ) (m room : ℕ) (r : Rest) (p : Point) → RestAt text behind r p →
+    indent r ≡ m → m ≤ room → past_columns room r p ≡ past_columns m r p
+past-all said text behind zero zero r p is e le = refl
+past-all said text behind zero (suc room) r p is e le =
+    let none : (indent r == 0) ≡ true = grind (arith, nat_tests) in
+    ap (λ (x : Bool). cond x p (past_columns room (without_first r) (next_point (without_first r) p))) none
+past-all said text behind (suc m) zero r p is e le = absurd (omega (arith, le))
+past-all said text behind (suc m) (suc room) r p is e le =
+    let first = column-first said text behind r p is (omega (arith, e)) in
+    let next = first-next said text behind r p is (omega (arith, e)) first in
+    let left = without_first r in
+    let columns = first.columns in
+    ap (λ (x : Point). cond (indent r == 0) p (past_columns room left x)) (sym next)
+    ∙ ap (λ (x : Point). cond (indent r == 0) p x)
+    (past-all said text behind m room left first.at first.stands (omega (arith, e, columns)) (omega (arith, le)))
+    ∙ ap (λ (x : Point). cond (indent r == 0) p (past_columns m left x)) next
+
+all-part : (room : ℕ) (r : Rest) (p : Point) → indent r ≤ room → past_columns room r p ≡ past_columns (indent r) r p →
+    columns_part room r p ≡ columns_part (indent r) r p
+all-part room r p le e =
+    ap (λ (x : Point). cond (nat_lt 0 room && nat_lt 0 (indent r)) (pair n.SpaceOrTab p x) []) e
+    ∙ ap (λ (x : Bool). cond x (pair n.SpaceOrTab p (past_columns (indent r) r p)) []) (go (nat_lt 0 (indent r)) refl)
+  where
+    go : (x : Bool) → nat_lt 0 (indent r) ≡ x →
+        (nat_lt 0 room && nat_lt 0 (indent r)) ≡ (nat_lt 0 (indent r) && nat_lt 0 (indent r))
+    go true f = let some : nat_lt 0 room ≡ true = grind (arith, nat_tests) in rw (some, f) refl
+    go false f = rw f (none (nat_lt 0 room))
+      where
+        none : (x : Bool) → (x && false) ≡ false
+        none true = refl
+        none false = refl
+
 -- What is left of the line.
 
 left-part : (m : ℕ) (r : Rest) (p q : Point) → past_rest r p ≡ q →
@@ -304,7 +338,7 @@ inside-same options on said text behind r p stop e is h k short =
         ∙ past-line text behind r p is
 
     go : (x : Bool) → closes options (opening_of on) r ≡ x →
-        cond x closing chunk ≡ cond x (closing_line options m r p q) (chunk_line m lost r p q)
+        cond x closing chunk ≡ cond x (closing_line m r p q) (chunk_line m lost r p q)
     go true f =
         let small = and_parts (has_small_indent options r && nat_le (held_size on) (run_len m (trim_start r.bytes)))
         (is_blank (drop (run_len m (trim_start r.bytes)) (trim_start r.bytes))) f in
@@ -312,6 +346,11 @@ inside-same options on said text behind r p stop e is h k short =
         (nat_le (held_size on) (run_len m (trim_start r.bytes))) small.0 in
         let taken = small-behind options said text behind r p stop is k short indented.0 in
         let at = white_end room cells p in
+        let columns = indent-length said text behind r p is in
+        let sum = length-append (rest_cells said r p) stop in
+        let fits : indent r ≤ room =
+        small-room options r (length cells) indented.0 (omega (arith, columns, sum)) short in
+        let all = past-all said text behind (indent r) room r p is refl fits in
         let end : closing_end m (white_rest room cells) at ≡ q =
         sym
         (ap
@@ -325,7 +364,8 @@ inside-same options on said text behind r p stop e is h k short =
         (closing-same m said (trim_start r.bytes) at q stop marker small.1 k
         (ap (λ (l : List Cell). closing_end m l at) (sym taken.cells) ∙ end))
         ∙ ap₂ (λ (es : List Event) (x : Point). es ++ closing_part m (trim_start r.bytes) x q)
-        (columns-part said text behind room r p stop is k) (columns-end said text behind room r p stop is k)
+        (columns-part said text behind room r p stop is k ∙ all-part room r p fits all)
+        (columns-end said text behind room r p stop is k ∙ all)
     go false f =
         let walk = lose-walk said text behind lost r p stop is k in
         let at = white_end lost cells p in

@@ -102,11 +102,11 @@ parts-each P none more options on r p q = go (closes options (opening_of on) r)
     chunk name (b ∷ bs) at e = more Enter name at _ e (more Exit name q [] e none)
 
     go : (x : Bool) →
-        P (cond x (closing_line options (held_marker on) r p q) (chunk_line (held_marker on) (held_indent on) r p q))
+        P (cond x (closing_line (held_marker on) r p q) (chunk_line (held_marker on) (held_indent on) r p q))
     go true =
-        let room = small_indent options in
-        either-part P more (nat_lt 0 room && nat_lt 0 (indent r)) n.SpaceOrTab p (past_columns room r p) _ refl
-        (closing (past_columns room r p))
+        let all = indent r in
+        either-part P more (nat_lt 0 all && nat_lt 0 all) n.SpaceOrTab p (past_columns all r p) _ refl
+        (closing (past_columns all r p))
     go false =
         let lost = held_indent on in
         either-part P more (nat_lt 0 lost && nat_lt 0 (indent r)) n.SpaceOrTab p (past_columns lost r p) _ refl

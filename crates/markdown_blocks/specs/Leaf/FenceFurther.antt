@@ -21,7 +21,6 @@ use Rattle.md_lines.specs.Further.{further_link}
 use Rattle.md_seam.specs.Events.Nested.{around, enter_link, exit, pair}
 use Rattle.md_seam.specs.Events.Places.{past_text}
 use Rattle.md_seam.specs.Events.Spelled.{columns_left}
-use Rattle.md_seam.specs.Spaces.{small_indent}
 use Rattle.md_definition.specs.Leaves.{closes, least_size}
 use Rattle.md_definition.specs.Rest.{Rest, indent, lose, run_len, trim_start, without_column}
 use Rattle.md_definition.specs.State.{Opening, fence_block}
@@ -94,11 +93,10 @@ closing_part m text p q =
     let end = past_text (take size text) p in
     around (fence_name m) p q (pair (sequence_name m) p end ++ part_over n.SpaceOrTab (drop size text) end q)
 
--- the line with a closing fence, and any other: what it loses, and what is left of it
-abbrev pub closing_line : ParseOptions → ℕ → Rest → Point → Point → List Event
-closing_line options m r p q =
-    let room = small_indent options in
-    columns_part room r p ++ closing_part m (trim_start r.bytes) (past_columns room r p) q
+-- the line with a closing fence, behind its indent, and any other: what it loses, and what is left of it
+abbrev pub closing_line : ℕ → Rest → Point → Point → List Event
+closing_line m r p q =
+    columns_part (indent r) r p ++ closing_part m (trim_start r.bytes) (past_columns (indent r) r p) q
 
 abbrev pub chunk_line : ℕ → ℕ → Rest → Point → Point → List Event
 chunk_line m lost r p q =
@@ -107,7 +105,7 @@ chunk_line m lost r p q =
 abbrev pub further_parts : ParseOptions → HeldLeaf → Rest → Point → Point → List Event
 further_parts options on r p q =
     let m = held_marker on in
-    if closes options (opening_of on) r then closing_line options m r p q else chunk_line m (held_indent on) r p q
+    if closes options (opening_of on) r then closing_line m r p q else chunk_line m (held_indent on) r p q
 
 -- the whole line, which is linked to the one in front
 abbrev pub further_line : ParseOptions → HeldLeaf → List ℕ → Point → List Event
