@@ -2,3 +2,5 @@
 pub mod Trial
 pub mod Names
 pub mod Cells
+pub mod Parts
+pub mod Places
