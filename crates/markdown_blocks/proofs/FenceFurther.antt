@@ -4,3 +4,4 @@ pub mod Names
 pub mod Cells
 pub mod Parts
 pub mod Places
+pub mod Inside

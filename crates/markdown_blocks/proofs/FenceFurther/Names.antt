@@ -48,7 +48,7 @@ is_inside n.MathFlowFenceSequence = true
 is_inside n.MathFlowChunk = true
 is_inside _ = false
 
-either-name : (P : Name → Type 0) (x : Bool) (a b : Name) → P a → P b → P (cond x a b)
+pub either-name : (P : Name → Type 0) (x : Bool) (a b : Name) → P a → P b → P (cond x a b)
 either-name P true a b h k = h
 either-name P false a b h k = k
 
