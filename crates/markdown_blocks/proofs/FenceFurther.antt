@@ -5,3 +5,4 @@ pub mod Cells
 pub mod Parts
 pub mod Places
 pub mod Inside
+pub mod Shown

@@ -174,7 +174,7 @@ pub record HasSequence (bytes : List ℕ) (on : HeldLeaf) (text : List ℕ) (at 
       drop (run_len (held_marker on) text) text ++ drop q.index bytes
   pub ends : q ≡ past_text (drop (run_len (held_marker on) text) text) (past_text (take (run_len (held_marker on) text) text) at)
 
-has-sequence : (bytes : List ℕ) (on : HeldLeaf) (r : Rest) (p q : Point) → is_fence on ≡ true →
+pub has-sequence : (bytes : List ℕ) (on : HeldLeaf) (r : Rest) (p q : Point) → is_fence on ≡ true →
     HasClosing bytes on r p q → HasSequence bytes on (trim_start r.bytes) (past_columns (indent r) r p) q
 has-sequence bytes on r p q e closing =
     let m = held_marker on in
