@@ -6,3 +6,4 @@ pub mod Parts
 pub mod Places
 pub mod Inside
 pub mod Shown
+pub mod Reads
