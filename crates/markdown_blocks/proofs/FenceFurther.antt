@@ -7,3 +7,5 @@ pub mod Places
 pub mod Inside
 pub mod Shown
 pub mod Reads
+pub mod Grammar
+pub mod Joined
