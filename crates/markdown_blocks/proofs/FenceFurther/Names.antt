@@ -219,16 +219,24 @@ Set es = (ys : List Event) → resolved (es ++ ys) ≡ es ++ resolved ys
 set-more : (e : Event) (es : List Event) → is_heading e.name ≡ false → Set es → Set (e ∷ es)
 set-more e es other h ys = rw (other, and-false (is_enter e.kind)) (ap (λ (l : List Event). e ∷ l) (h ys))
 
+-- what stands in the line
+pub parts-set : (options : ParseOptions) (on : HeldLeaf) (r : Rest) (p q : Point) (es : List Event) →
+    resolved (further_parts options on r p q ++ es) ≡ further_parts options on r p q ++ resolved es
+parts-set options on r p q =
+    parts-each Set (λ ys. refl) (λ kind name x es e k. set-more (part_event kind name x) es (inside-heading name e) k)
+    options on r p q
+
+-- and the whole line
 pub further-set : (options : ParseOptions) (on : HeldLeaf) (line : List ℕ) (p : Point) (es : List Event) →
-    resolved (further_line options on line p ++ es) ≡ further_line options on line p ++ resolved es
+    resolved (fence_further.added options on line p ++ es) ≡ fence_further.added options on line p ++ resolved es
 further-set options on line p es =
     let m = held_marker on in
     let q = past_text line p in
-    let inside = further_parts options on (rest_of p line) p q in
+    let r = rest_of p line in
+    let inside = further_parts options on r p q in
     let last = exit (block_name m) q in
     set-more (enter_link (block_name m) p further_link) (inside ++ last ∷ []) (block-heading m)
     (λ ys. ap resolved (append_assoc inside (last ∷ []) ys)
-    ∙ parts-each Set (λ ys. refl) (λ kind name x es e k. set-more (part_event kind name x) es (inside-heading name e) k)
-    options on (rest_of p line) p q (last ∷ ys)
+    ∙ parts-set options on r p q (last ∷ ys)
     ∙ ap (λ (l : List Event). inside ++ l) (set-more last [] (block-heading m) (λ ys. refl) ys)
     ∙ sym (append_assoc inside (last ∷ []) (resolved ys))) es

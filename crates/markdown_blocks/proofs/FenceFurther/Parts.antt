@@ -5,6 +5,7 @@ use Rattle.std.specs.Prelude.{None, Some, Option}
 use Rattle.std.specs.List.{list_all}
 use Rattle.std.proofs.lemmas.Bool.{and_from}
 use Rattle.md_engine.specs.declared.configuration.ParseOptions.{ParseOptions}
+use Rattle.md_engine.specs.declared.event.Content.{Content}
 use Rattle.md_engine.specs.declared.event.Event.{Event}
 use Rattle.md_engine.specs.declared.event.Kind.{Kind}
 use Rattle.md_engine.specs.declared.event.Kind.TheVariants.{Enter, Exit}
@@ -20,6 +21,7 @@ use Rattle.md_seam.specs.Events.Blocks.{is_block}
 use Rattle.md_seam.specs.Events.Endings.{on_line}
 use Rattle.md_seam.specs.Events.Spelled.{role}
 use Rattle.md_seam.specs.Events.Tiles.{part_kind}
+use Rattle.md_seam.specs.Substituted.{Readings}
 use Rattle.md_seam.proofs.EndingsLemmas.{AreOthers, is_other}
 use Rattle.md_seam.proofs.SpelledLemmas.{Roles}
 use Rattle.md_containers.proofs.UnlistedLemmas.{NoListing}
@@ -29,6 +31,7 @@ use Rattle.markdown_blocks.proofs.FillFacts.{Fill, fill-same}
 use Rattle.markdown_blocks.proofs.LeafStands.{parts-unlisted}
 use Rattle.markdown_blocks.proofs.PartFacts.{NoLinks, NoParts}
 use Rattle.markdown_blocks.proofs.PartsStand.{Stands, stands-outside}
+use Rattle.markdown_blocks.proofs.SubstitutedLemmas.{Becomes, becomes-same, no_links-unwanted}
 
 -- Names.
 
@@ -125,3 +128,9 @@ pub further-filled : (bytes : List ℕ) (options : ParseOptions) (on : HeldLeaf)
 further-filled bytes options on r p q =
     fill-same bytes (further_parts options on r p q) (further-unlinked options on r p q)
     (further-no_parts options on r p q)
+
+pub further-becomes : (wants : Content → Bool) (reads : Readings) (options : ParseOptions) (on : HeldLeaf) (r : Rest)
+    (p q : Point) → Becomes wants reads (further_parts options on r p q) (further_parts options on r p q)
+further-becomes wants reads options on r p q =
+    becomes-same wants reads (further_parts options on r p q)
+    (no_links-unwanted wants (further_parts options on r p q) (further-unlinked options on r p q))
