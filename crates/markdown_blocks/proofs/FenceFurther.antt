@@ -9,3 +9,4 @@ pub mod Shown
 pub mod Reads
 pub mod Grammar
 pub mod Joined
+pub mod Definition

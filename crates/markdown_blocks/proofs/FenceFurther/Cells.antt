@@ -1,8 +1,8 @@
--- A further line of fenced code or math by its cells: it adds what its bytes say, and holds what the line definition does.
+-- A further line of fenced code or math by its cells: it adds what its bytes say, and holds what the line definition
+-- does.
 use Rattle.std.proofs.Common.{◌≡◌, ℕ, zero, suc, ◌+◌, ◌-◌, ◌^◌, ◌<◌, ◌≤◌, Bool, true, false, cond, ◌&&◌, List, [], ◌∷◌}
 use Rattle.std.proofs.Common.{◌++◌, length, drop, take, refl, sym, ◌∙◌, ap, ap₂, arith, subst}
 use Rattle.std.specs.Prelude.{◌==◌, nat_le, nat_lt, Option, Some, None}
-use Rattle.std.specs.List.{prefix_len}
 use Rattle.std.proofs.lemmas.Bool.{and_parts, eqb-true}
 use Rattle.std.proofs.lemmas.Bool.Decides.{nat_tests}
 use Rattle.std.proofs.lemmas.List.{length-append}
@@ -14,13 +14,14 @@ use Rattle.md_engine.specs.declared.tokenizer.Line.{Line}
 use Rattle.md_engine.specs.declared.tokenizer.held_leaf.HeldLeaf.{HeldLeaf}
 use Rattle.md_engine.specs.declared.tokenizer.held_leaf.HeldLeaf.TheVariants as held_leaf
 use Rattle.md_engine.specs.Meaning.{Cell}
-use Rattle.md_definition.specs.Leaves.{closes, least_size}
-use Rattle.md_definition.specs.Rest.{Rest, behind_indent, cut_tab, has_small_indent, indent, is_blank, is_white, lose, run_len}
-use Rattle.md_definition.specs.Rest.{tab_columns, trim_start, without_column}
-use Rattle.md_definition.proofs.TextsLemmas.{NoEnding, no_ending-drop}
+use Rattle.md_definition.specs.Leaves.{closes}
+use Rattle.md_definition.specs.Rest.{Rest, cut_tab, has_small_indent, indent, is_blank, is_white, lose, run_len}
+use Rattle.md_definition.specs.Rest.{tab_columns, trim_start}
+use Rattle.md_definition.proofs.TextsLemmas.{NoEnding}
 use Rattle.md_lines.specs.Fence.{block_name, chunk_name, fence_name, held_indent, held_marker, held_size, may_begin}
 use Rattle.md_lines.specs.Fence.{sequence_name}
-use Rattle.md_lines.specs.FenceLine.{chunk_events, closes_here, closing_end, closing_events, further_end, further_inside}
+use Rattle.md_lines.specs.FenceLine.{chunk_events, closes_here, closing_end, closing_events, further_end}
+use Rattle.md_lines.specs.FenceLine.{further_inside}
 use Rattle.md_lines.specs.FenceLine.{spaces}
 use Rattle.md_lines.specs.FenceRule.{is_line, run_end, run_rest}
 use Rattle.md_lines.specs.Further.{further_link}
@@ -30,17 +31,17 @@ use Rattle.md_lines.proofs.FenceFurther.{small-behind, small-room}
 use Rattle.md_seam.specs.Ahead.{begins_white, white_end, white_rest}
 use Rattle.md_seam.specs.Events.Nested.{enter, enter_link, exit, pair}
 use Rattle.md_seam.specs.Events.Places.{past_byte, past_text}
-use Rattle.md_seam.specs.Events.Spelled.{columns_left}
 use Rattle.md_seam.specs.Look.{first_seen}
 use Rattle.md_seam.specs.Spaces.{any_size, small_indent}
 use Rattle.md_seam.proofs.AheadLemmas.{none-end}
-use Rattle.md_seam.proofs.FeedLines.{Stops, behind_last, cell, columns_more, next_column, spread, stops-white, tab_cells}
+use Rattle.md_seam.proofs.FeedLines.{Stops, columns_more, spread, stops-white, tab_cells}
 use Rattle.md_seam.proofs.FeedLines.{tab_end, tab_end-stop}
-use Rattle.md_seam.proofs.RestCells.{Cut, HasColumn, RestAt, bare-cells, cells_by, column-first, indent-length, lose-no_ending, past_cut}
+use Rattle.md_seam.proofs.RestCells.{Cut, HasColumn, RestAt, bare-cells, column-first, indent-length, lose-no_ending}
+use Rattle.md_seam.proofs.RestCells.{past_cut}
 use Rattle.md_seam.proofs.RestCells.{past_rest, rest_cells, without_first}
 use Rattle.markdown_blocks.specs.Fronted.{rest_line}
 use Rattle.markdown_blocks.specs.Leaf.FenceFurther.{chunk_line, closing_line, closing_part, columns_part, fence_further}
-use Rattle.markdown_blocks.specs.Leaf.FenceFurther.{further_holds, further_keeps, further_line, further_parts, is_fence}
+use Rattle.markdown_blocks.specs.Leaf.FenceFurther.{further_parts, is_fence}
 use Rattle.markdown_blocks.specs.Leaf.FenceFurther.{next_point, opening_of, part_over, past_columns, rest_of}
 use Rattle.markdown_blocks.proofs.FenceFurther.Trial.{fence-marker, fence-size}
 

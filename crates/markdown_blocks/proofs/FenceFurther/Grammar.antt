@@ -1,9 +1,7 @@
 -- A further line of fenced code or math in the grammar of its block, and among the endings of lines.
-use Rattle.std.proofs.Common.{◌≡◌, ℕ, Bool, true, false, cond, ◌&&◌, List, [], ◌∷◌, ◌++◌, drop, take, refl, sym, ◌∙◌, ap, subst}
+use Rattle.std.proofs.Common.{◌≡◌, ℕ, Bool, true, false, cond, ◌&&◌, List, [], ◌∷◌, ◌++◌, drop, take, refl, subst}
 use Rattle.std.specs.Prelude.{◌==◌, nat_lt}
 use Rattle.md_engine.specs.declared.configuration.ParseOptions.{ParseOptions}
-use Rattle.md_engine.specs.declared.event.Event.{Event}
-use Rattle.md_engine.specs.declared.event.Name.{Name}
 use Rattle.md_engine.specs.declared.event.Name.TheVariants as n
 use Rattle.md_engine.specs.declared.event.Point.{Point}
 use Rattle.md_engine.specs.declared.tokenizer.held_leaf.HeldLeaf.{HeldLeaf}
@@ -64,7 +62,8 @@ in-line-ends text m = by-marker (λ x. may_end (begun_by text x) ≡ true) m ref
 pub behind-line-ends : (text : Expression) (m : ℕ) → may_end (behind_line text m) ≡ true
 behind-line-ends text m =
     by-marker
-    (λ x. may_end (behind (cond x n.MathFlowFence n.CodeFencedFence) (inside text (cond x n.MathFlow n.CodeFenced))) ≡ true)
+    (λ x.
+    may_end (behind (cond x n.MathFlowFence n.CodeFencedFence) (inside text (cond x n.MathFlow n.CodeFenced))) ≡ true)
     m refl refl
 
 chunk-behind : (text : Expression) (m : ℕ) → behind (chunk_name m) (in_line text m) ≡ behind_line text m
@@ -110,7 +109,8 @@ chunk-leads : (text : Expression) (m : ℕ) (line : List ℕ) (p q : Point) →
     Leads text (in_line text m ∷ []) (left_by text m line ∷ []) (part_over (chunk_name m) line p q)
 chunk-leads text m [] p q = λ outer. refl
 chunk-leads text m (b ∷ bs) p q =
-    subst (λ (e : Expression). Leads text (in_line text m ∷ []) (e ∷ []) (pair (chunk_name m) p q)) (chunk-behind text m)
+    subst (λ (e : Expression). Leads text (in_line text m ∷ []) (e ∷ []) (pair (chunk_name m) p q))
+    (chunk-behind text m)
     (leads-pair text (in_line text m) (chunk_name m) p q (chunk-empty text m))
 
 sequence-word : (text : Expression) (m : ℕ) (left : List ℕ) (p end q : Point) →

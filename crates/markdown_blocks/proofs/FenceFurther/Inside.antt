@@ -1,7 +1,7 @@
 -- What is known of what stands in a further line of fenced code or math, from the point where it begins to its end.
-use Rattle.std.proofs.Common.{◌≡◌, ℕ, zero, suc, ◌+◌, ◌-◌, ◌<◌, ◌≤◌, Bool, true, false, cond, ◌&&◌, ◌||◌, List, [], ◌∷◌}
+use Rattle.std.proofs.Common.{◌≡◌, ℕ, ◌+◌, ◌<◌, Bool, true, false, cond, ◌&&◌, ◌||◌, List, [], ◌∷◌}
 use Rattle.std.proofs.Common.{◌++◌, length, drop, take, refl, sym, ◌∙◌, ap, arith, subst, append_assoc}
-use Rattle.std.specs.Prelude.{◌==◌, nat_le, nat_lt, not, IsTrue, slice_range}
+use Rattle.std.specs.Prelude.{◌==◌, nat_le, nat_lt, not, IsTrue}
 use Rattle.std.specs.List.{list_all}
 use Rattle.std.proofs.lemmas.Bool.{and_from, eqb-true, or_left, or_right}
 use Rattle.std.proofs.lemmas.Bool.Decides.{nat_tests}
@@ -13,16 +13,16 @@ use Rattle.md_engine.specs.declared.event.Point.{Point}
 use Rattle.md_engine.specs.declared.tokenizer.held_leaf.HeldLeaf.{HeldLeaf}
 use Rattle.md_definition.specs.Leaves.{closes, least_size}
 use Rattle.md_definition.specs.Lines.{is_ending}
-use Rattle.md_definition.specs.Rest.{Rest, cut_tab, indent, is_blank, is_white, lose, run_len, trim_start}
+use Rattle.md_definition.specs.Rest.{Rest, indent, lose, run_len, trim_start}
 use Rattle.md_definition.proofs.TextsLemmas.{NoEnding}
-use Rattle.md_lines.specs.Fence.{chunk_name, fence_name, held_indent, held_marker, held_size, may_begin, sequence_name}
-use Rattle.md_seam.specs.Events.Nested.{around, enter, exit, pair}
+use Rattle.md_lines.specs.Fence.{chunk_name, fence_name, held_indent, held_marker, may_begin, sequence_name}
+use Rattle.md_seam.specs.Events.Nested.{around, pair}
 use Rattle.md_seam.specs.Events.Pieces.{begins_in_tab, is_in_line, piece_stands, stands_over}
-use Rattle.md_seam.specs.Events.Places.{at_or_before, past_text, same_place}
+use Rattle.md_seam.specs.Events.Places.{at_or_before, past_text}
 use Rattle.md_seam.proofs.FeedLines.{before-byte, drop-past}
 use Rattle.md_seam.proofs.InlineLemmas.{past-index, past_text-append}
 use Rattle.md_seam.proofs.NestedLemmas.{at_or_before-refl}
-use Rattle.md_seam.proofs.RestCells.{RestAt, lose-no_ending}
+use Rattle.md_seam.proofs.RestCells.{lose-no_ending}
 use Rattle.markdown_blocks.specs.Fronted.{rest_line}
 use Rattle.markdown_blocks.specs.Leaf.FenceFurther.{chunk_line, closing_line, closing_part, columns_part, further_parts}
 use Rattle.markdown_blocks.specs.Leaf.FenceFurther.{is_fence, opening_of, part_over, past_columns}
@@ -165,14 +165,19 @@ least-some m ys e = by (m == 36) e
     by true f = grind (arith, nat_tests)
     by false f = grind (arith, nat_tests)
 
--- where the sequence ends
+-- the sequence, and where it ends
+abbrev pub sequence_of : HeldLeaf → List ℕ → List ℕ
+sequence_of on text = take (run_len (held_marker on) text) text
+
+abbrev pub sequence_to : HeldLeaf → List ℕ → Point → Point
+sequence_to on text at = past_text (sequence_of on text) at
+
 pub record HasSequence (bytes : List ℕ) (on : HeldLeaf) (text : List ℕ) (at q : Point) : Type 0 where
-  pub over : Over bytes at (past_text (take (run_len (held_marker on) text) text) at) (take (run_len (held_marker on) text) text)
-  pub onward : IsTrue (at_or_before at (past_text (take (run_len (held_marker on) text) text) at))
-  pub is : stands_over (sequence_name (held_marker on)) (take (run_len (held_marker on) text) text) ≡ true
-  pub left : drop (past_text (take (run_len (held_marker on) text) text) at).index bytes ≡
-      drop (run_len (held_marker on) text) text ++ drop q.index bytes
-  pub ends : q ≡ past_text (drop (run_len (held_marker on) text) text) (past_text (take (run_len (held_marker on) text) text) at)
+  pub over : Over bytes at (sequence_to on text at) (sequence_of on text)
+  pub onward : IsTrue (at_or_before at (sequence_to on text at))
+  pub is : stands_over (sequence_name (held_marker on)) (sequence_of on text) ≡ true
+  pub left : drop (sequence_to on text at).index bytes ≡ drop (run_len (held_marker on) text) text ++ drop q.index bytes
+  pub ends : q ≡ past_text (drop (run_len (held_marker on) text) text) (sequence_to on text at)
 
 pub has-sequence : (bytes : List ℕ) (on : HeldLeaf) (r : Rest) (p q : Point) → is_fence on ≡ true →
     HasClosing bytes on r p q → HasSequence bytes on (trim_start r.bytes) (past_columns (indent r) r p) q

@@ -1,6 +1,6 @@
--- A further line of fenced code or math as a line that is joined to the one in front: its begin, its end, and what stands
--- between them.
-use Rattle.std.proofs.Common.{◌≡◌, ℕ, Bool, true, false, cond, List, [], ◌∷◌, ◌++◌, drop, refl, sym, ◌∙◌, ap, ap₂}
+-- A further line of fenced code or math as a line that is joined to the one in front: its begin, its end, and what
+-- stands between them.
+use Rattle.std.proofs.Common.{◌≡◌, ℕ, true, List, [], ◌∷◌, ◌++◌, drop, refl, sym, ◌∙◌, ap, ap₂}
 use Rattle.std.specs.Prelude.{◌==◌}
 use Rattle.md_engine.specs.declared.configuration.ParseOptions.{ParseOptions}
 use Rattle.md_engine.specs.declared.event.Event.{Event}
@@ -12,10 +12,9 @@ use Rattle.md_leaves.proofs.SpannedLines.{IsEnd, IsFurther}
 use Rattle.md_lines.specs.Fence.{block_name, held_marker}
 use Rattle.md_lines.specs.Further.{further_link}
 use Rattle.md_seam.specs.Events.Nested.{enter_link, exit}
-use Rattle.md_seam.specs.Events.Places.{past_text}
-use Rattle.md_seam.specs.Events.Spelled.{OfFence, OfMath, Opens, role, without_last}
+use Rattle.md_seam.specs.Events.Spelled.{role, without_last}
 use Rattle.markdown_blocks.specs.Fronted.{rest_line}
-use Rattle.markdown_blocks.specs.Leaf.FenceFurther.{fence_further, further_line, further_parts, rest_of}
+use Rattle.markdown_blocks.specs.Leaf.FenceFurther.{fence_further, further_parts}
 use Rattle.markdown_blocks.proofs.FenceFurther.Cells.{rest-again}
 use Rattle.markdown_blocks.proofs.FenceFurther.Names.{either-name}
 use Rattle.markdown_blocks.proofs.FenceFurther.Places.{FurtherAt, further-rest}

@@ -1,5 +1,6 @@
 -- The names of the events of a further line of fenced code or math.
-use Rattle.std.proofs.Common.{◌≡◌, ℕ, Bool, true, false, cond, ◌&&◌, List, [], ◌∷◌, ◌++◌, refl, ap, sym, ◌∙◌, append_assoc}
+use Rattle.std.proofs.Common.{◌≡◌, ℕ, Bool, true, false, cond, ◌&&◌, List, [], ◌∷◌, ◌++◌, refl, ap, sym, ◌∙◌}
+use Rattle.std.proofs.Common.{append_assoc}
 use Rattle.std.specs.Prelude.{◌==◌, nat_lt, None, take, drop}
 use Rattle.md_engine.specs.declared.configuration.ParseOptions.{ParseOptions}
 use Rattle.md_engine.specs.declared.event.Content.{Content}
@@ -21,13 +22,14 @@ use Rattle.md_lines.specs.FenceLine.{chunk_events, closes_here, closing_end, clo
 use Rattle.md_lines.specs.FenceRule.{is_end, is_line, run_end, run_rest}
 use Rattle.md_lines.specs.Further.{further_link}
 use Rattle.md_seam.specs.Ahead.{begins_white, white_end, white_rest}
-use Rattle.md_seam.specs.Events.Nested.{enter, enter_link, exit, is_enter, is_exit, pair}
+use Rattle.md_seam.specs.Events.Nested.{enter_link, exit, is_enter, pair}
 use Rattle.md_seam.specs.Events.Places.{past_text}
 use Rattle.md_seam.specs.Spaces.{any_size, small_indent}
 use Rattle.md_seam.specs.Substituted.{wanted}
 use Rattle.markdown_blocks.specs.Fronted.{rest_line}
-use Rattle.markdown_blocks.specs.Leaf.FenceFurther.{closing_line, closing_part, columns_part, fence_further, further_line}
-use Rattle.markdown_blocks.specs.Leaf.FenceFurther.{chunk_line, further_parts, opening_of, part_over, past_columns, rest_of}
+use Rattle.markdown_blocks.specs.Leaf.FenceFurther.{closing_line, closing_part, fence_further}
+use Rattle.markdown_blocks.specs.Leaf.FenceFurther.{chunk_line, further_parts, opening_of, part_over, past_columns}
+use Rattle.markdown_blocks.specs.Leaf.FenceFurther.{rest_of}
 use Rattle.markdown_blocks.specs.Registry.{is_own, resolved}
 use Rattle.markdown_blocks.proofs.ContentFacts.{NoContent}
 use Rattle.markdown_blocks.proofs.OutsideFacts.{AreOutside, NoEnds}
@@ -203,8 +205,8 @@ pub further-no_content : (wants : Content → Bool) → wants content.Flow ≡ f
 further-no_content wants flow options on cells p = (
   rw flow refl,
   block-content (held_marker on),
-  inside-each (NoContent wants) (λ kind name x es e k. (unlinked kind name x, inside-content name e, k)) options on cells
-      p _ (refl, block-content (held_marker on), tt),
+  inside-each (NoContent wants) (λ kind name x es e k. (unlinked kind name x, inside-content name e, k)) options on
+      cells p _ (refl, block-content (held_marker on), tt),
 )
   where
     unlinked : (kind : Kind) (name : Name) (x : Point) → wanted wants (part_event kind name x) ≡ None

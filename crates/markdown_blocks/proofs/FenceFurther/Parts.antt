@@ -1,21 +1,16 @@
 -- What stands in a further line of fenced code or math, by its names: parts of a leaf, no block, no text part, and none
 -- that ends a line.
-use Rattle.std.proofs.Common.{◌≡◌, ℕ, Bool, true, false, cond, ◌&&◌, List, [], ◌∷◌, ◌++◌, refl, ap, ◌∙◌}
-use Rattle.std.specs.Prelude.{None, Some, Option}
-use Rattle.std.specs.List.{list_all}
+use Rattle.std.proofs.Common.{◌≡◌, ℕ, Bool, true, false, List, refl}
+use Rattle.std.specs.Prelude.{None}
 use Rattle.std.proofs.lemmas.Bool.{and_from}
 use Rattle.md_engine.specs.declared.configuration.ParseOptions.{ParseOptions}
 use Rattle.md_engine.specs.declared.event.Content.{Content}
-use Rattle.md_engine.specs.declared.event.Event.{Event}
-use Rattle.md_engine.specs.declared.event.Kind.{Kind}
-use Rattle.md_engine.specs.declared.event.Kind.TheVariants.{Enter, Exit}
 use Rattle.md_engine.specs.declared.event.Name.{Name}
 use Rattle.md_engine.specs.declared.event.Name.TheVariants as n
 use Rattle.md_engine.specs.declared.event.Point.{Point}
 use Rattle.md_engine.specs.declared.tokenizer.held_leaf.HeldLeaf.{HeldLeaf}
 use Rattle.md_containers.specs.ItemsStand.{IsPart}
 use Rattle.md_definition.specs.Rest.{Rest}
-use Rattle.md_leaves.specs.Spanned.{has_lines}
 use Rattle.md_leaves.proofs.SpannedLines.{NoBlocks, NoLines, blocks-lines}
 use Rattle.md_seam.specs.Events.Blocks.{is_block}
 use Rattle.md_seam.specs.Events.Endings.{on_line}
@@ -26,7 +21,7 @@ use Rattle.md_seam.proofs.EndingsLemmas.{AreOthers, is_other}
 use Rattle.md_seam.proofs.SpelledLemmas.{Roles}
 use Rattle.md_containers.proofs.UnlistedLemmas.{NoListing}
 use Rattle.markdown_blocks.specs.Leaf.FenceFurther.{further_parts}
-use Rattle.markdown_blocks.proofs.FenceFurther.Names.{is_inside, part_event, parts-each}
+use Rattle.markdown_blocks.proofs.FenceFurther.Names.{is_inside, parts-each}
 use Rattle.markdown_blocks.proofs.FillFacts.{Fill, fill-same}
 use Rattle.markdown_blocks.proofs.LeafStands.{parts-unlisted}
 use Rattle.markdown_blocks.proofs.PartFacts.{NoLinks, NoParts}

@@ -1,31 +1,26 @@
 -- Where the parts of a further line of fenced code or math stand: from the point where it begins to its end.
-use Rattle.std.proofs.Common.{◌≡◌, ℕ, zero, suc, ◌+◌, ◌-◌, ◌<◌, ◌≤◌, Bool, true, false, cond, ◌&&◌, ◌||◌, List, [], ◌∷◌}
-use Rattle.std.proofs.Common.{◌++◌, length, drop, take, refl, sym, ◌∙◌, ap, ap₂, arith, subst, append_assoc}
-use Rattle.std.specs.Prelude.{◌==◌, nat_le, nat_lt, not, IsTrue, slice_range}
+use Rattle.std.proofs.Common.{◌≡◌, ℕ, zero, suc, ◌+◌, ◌≤◌, Bool, true, false, cond, ◌&&◌, List, [], ◌∷◌}
+use Rattle.std.proofs.Common.{◌++◌, length, drop, take, refl, sym, ◌∙◌, ap, arith, subst}
+use Rattle.std.specs.Prelude.{◌==◌, nat_le, nat_lt}
 use Rattle.std.specs.List.{list_all, prefix_len}
-use Rattle.std.proofs.lemmas.Bool.{and_from, and_parts, eqb-true, or_left, or_right}
+use Rattle.std.proofs.lemmas.Bool.{and_from, and_parts}
 use Rattle.std.proofs.lemmas.Bool.Decides.{nat_tests}
 use Rattle.std.proofs.lemmas.List.{take-append-drop}
-use Rattle.std.proofs.lemmas.List.Folds.{list_all-append}
 use Rattle.md_engine.specs.declared.configuration.ParseOptions.{ParseOptions}
-use Rattle.md_engine.specs.declared.event.Event.{Event}
-use Rattle.md_engine.specs.declared.event.Name.{Name}
-use Rattle.md_engine.specs.declared.event.Name.TheVariants as n
 use Rattle.md_engine.specs.declared.event.Point.{Point}
 use Rattle.md_engine.specs.declared.tokenizer.Line.{Line}
 use Rattle.md_engine.specs.declared.tokenizer.held_leaf.HeldLeaf.{HeldLeaf}
 use Rattle.md_engine.specs.Meaning.{Cell}
-use Rattle.md_definition.specs.Leaves.{closes, least_size}
-use Rattle.md_definition.specs.Rest.{Rest, behind_indent, cut_tab, has_small_indent, indent, is_blank, is_white, lose}
+use Rattle.md_definition.specs.Leaves.{closes}
+use Rattle.md_definition.specs.Rest.{Rest, behind_indent, cut_tab, has_small_indent, indent, is_blank, lose}
 use Rattle.md_definition.specs.Rest.{run_len, trim_start}
 use Rattle.md_definition.proofs.TextsLemmas.{NoEnding}
-use Rattle.md_lines.specs.Fence.{chunk_name, fence_name, held_indent, held_marker, held_size, may_begin, sequence_name}
+use Rattle.md_lines.specs.Fence.{held_marker, held_size}
 use Rattle.md_lines.proofs.FenceCells.{prefix-none, prefix-one}
 use Rattle.md_lines.proofs.FenceFurther.{indent-trims}
 use Rattle.md_lines.proofs.LostColumns.{HasLost, White, lose-walk}
-use Rattle.md_seam.specs.Ahead.{begins_white, white_end}
-use Rattle.md_seam.specs.Events.Nested.{around, enter, exit, pair}
-use Rattle.md_seam.specs.Events.Places.{at_or_before, past_text, same_place}
+use Rattle.md_seam.specs.Ahead.{white_end}
+use Rattle.md_seam.specs.Events.Places.{past_text, same_place}
 use Rattle.md_seam.proofs.RestCells.{Bare, Cut, HasIndent, RestAt, bare, indent-taken, rest_cells, without_first}
 use Rattle.markdown_blocks.specs.Fronted.{rest_line}
 use Rattle.markdown_blocks.specs.Leaf.FenceFurther.{next_point, opening_of, past_columns}
@@ -129,8 +124,8 @@ pub record HasClosing (bytes : List ℕ) (on : HeldLeaf) (r : Rest) (p q : Point
       ++ drop (run_len (held_marker on) (trim_start r.bytes)) (trim_start r.bytes)
   pub size : length (take (run_len (held_marker on) (trim_start r.bytes)) (trim_start r.bytes)) ≡
       run_len (held_marker on) (trim_start r.bytes)
-  pub all : list_all (λ b. b == held_marker on) (take (run_len (held_marker on) (trim_start r.bytes)) (trim_start r.bytes))
-      ≡ true
+  pub all : list_all (λ b. b == held_marker on)
+      (take (run_len (held_marker on) (trim_start r.bytes)) (trim_start r.bytes)) ≡ true
   pub least : held_size on ≤ run_len (held_marker on) (trim_start r.bytes)
   pub blank : is_blank (drop (run_len (held_marker on) (trim_start r.bytes)) (trim_start r.bytes)) ≡ true
 

@@ -1,11 +1,10 @@
 -- How a further line of fenced code or math is read, where the block is open: any line makes the last one what the line
 -- definition has of it, and a closing fence takes that away and closes the block.
-use Rattle.std.proofs.Common.{◌≡◌, ℕ, zero, suc, ◌+◌, Bool, true, false, cond, ◌&&◌, ◌||◌, List, [], ◌∷◌, ◌++◌, length}
-use Rattle.std.proofs.Common.{drop, take, refl, sym, ◌∙◌, ap, ap₂, arith, subst}
+use Rattle.std.proofs.Common.{◌≡◌, ℕ, zero, suc, Bool, true, false, cond, ◌&&◌, ◌||◌, List, [], ◌∷◌, ◌++◌, length}
+use Rattle.std.proofs.Common.{drop, take, refl, sym, ◌∙◌, ap, ap₂, arith}
 use Rattle.std.specs.Prelude.{◌==◌, nat_lt, Option, Some, None, option_map}
 use Rattle.md_engine.specs.declared.configuration.ParseOptions.{ParseOptions}
 use Rattle.md_engine.specs.declared.event.Event.{Event}
-use Rattle.md_engine.specs.declared.event.Name.{Name}
 use Rattle.md_engine.specs.declared.event.Name.TheVariants as n
 use Rattle.md_engine.specs.declared.event.Point.{Point}
 use Rattle.md_engine.specs.declared.tokenizer.held_leaf.HeldLeaf.{HeldLeaf}
@@ -15,19 +14,20 @@ use Rattle.md_definition.specs.Tree.{Line}
 use Rattle.md_lines.specs.CodeLine as code
 use Rattle.md_lines.specs.Fence.{chunk_name, fence_name, held_indent, held_marker, sequence_name}
 use Rattle.md_lines.proofs.CodeLines.{chunk-reads}
-use Rattle.md_seam.specs.Events.Nested.{around, enter, exit, pair}
+use Rattle.md_seam.specs.Events.Nested.{enter, exit, pair}
 use Rattle.md_seam.specs.Events.Places.{past_text}
-use Rattle.md_seam.specs.Events.Spelled.{AsLine, AsMarkers, FenceLeaf, Fenced, MathLeaf, OpenLeaf, Reading, Text, at_fence}
-use Rattle.md_seam.specs.Events.Spelled.{begun, empty_line, first_told, joined, next_line, noted, on_fences, on_last, on_leaf}
-use Rattle.md_seam.specs.Events.Spelled.{read, text_to, with_fence, without_last}
-use Rattle.md_seam.proofs.RestCells.{RestAt, past_rest}
-use Rattle.md_seam.proofs.SpelledLemmas.{Quiet, Roles, read-append, read-from, read-quiet}
+use Rattle.md_seam.specs.Events.Spelled.{AsLine, AsMarkers, FenceLeaf, Fenced, MathLeaf, OpenLeaf, Reading, Text}
+use Rattle.md_seam.specs.Events.Spelled.{at_fence}
+use Rattle.md_seam.specs.Events.Spelled.{empty_line, first_told, joined, next_line, noted, on_fences, on_last, on_leaf}
+use Rattle.md_seam.specs.Events.Spelled.{read, with_fence, without_last}
+use Rattle.md_seam.proofs.RestCells.{RestAt}
+use Rattle.md_seam.proofs.SpelledLemmas.{Quiet, Roles, read-from, read-quiet}
 use Rattle.markdown_blocks.specs.Fronted.{rest_line}
 use Rattle.markdown_blocks.specs.Leaf.FenceFurther.{chunk_line, closing_line, closing_part, columns_part, further_parts}
 use Rattle.markdown_blocks.specs.Leaf.FenceFurther.{opening_of, part_over, past_columns}
 use Rattle.markdown_blocks.proofs.FenceFurther.Cells.{past-line}
 use Rattle.markdown_blocks.proofs.FenceFurther.Names.{either-name}
-use Rattle.markdown_blocks.proofs.FenceFurther.Places.{FurtherAt, HasLeft, has-left}
+use Rattle.markdown_blocks.proofs.FenceFurther.Places.{FurtherAt, has-left}
 
 -- The block.
 
@@ -140,7 +140,9 @@ white-quiet (b ∷ bs) p q = (tt, (tt, tt))
 leaf-told : (rd : Reading) (f : OpenLeaf → OpenLeaf) (leaf : OpenLeaf) → rd.text ≡ None → rd.leaf ≡ Some leaf →
     on_leaf f (record rd { text = None }) ≡ record rd { leaf = Some (f leaf) }
 leaf-told rd f leaf none is =
-    ap₂ (λ (t : Option Text) (l : Option OpenLeaf). let x : Reading = record rd { text = t; leaf = option_map f l } in x)
+    ap₂
+    (λ (t : Option Text) (l : Option OpenLeaf).
+    let x : Reading = record rd { text = t; leaf = option_map f l } in x)
     (sym none) is
 
 -- a part over a line

@@ -1,14 +1,12 @@
 -- What stands in a further line of fenced code or math stands between characters, and parts no text.
-use Rattle.std.proofs.Common.{◌≡◌, ℕ, zero, suc, ◌+◌, ◌-◌, ◌<◌, ◌≤◌, Bool, true, false, cond, ◌&&◌, ◌||◌, List, [], ◌∷◌}
-use Rattle.std.proofs.Common.{◌++◌, length, drop, take, refl, sym, ◌∙◌, ap, arith, subst}
-use Rattle.std.specs.Prelude.{◌==◌, nat_lt, not, slice_index, slice_range}
+use Rattle.std.proofs.Common.{◌≡◌, ℕ, zero, suc, ◌-◌, Bool, true, false, cond, ◌&&◌, List, [], ◌∷◌}
+use Rattle.std.proofs.Common.{◌++◌, drop, take, refl, sym, arith, subst}
+use Rattle.std.specs.Prelude.{◌==◌, nat_lt, not}
 use Rattle.std.specs.List.{list_all}
-use Rattle.std.proofs.lemmas.Bool.{and_from, eqb-true, or_right}
+use Rattle.std.proofs.lemmas.Bool.{and_from, or_right}
 use Rattle.std.proofs.lemmas.Bool.Decides.{nat_tests}
 use Rattle.md_engine.specs.declared.configuration.ParseOptions.{ParseOptions}
 use Rattle.md_engine.specs.declared.event.Event.{Event}
-use Rattle.md_engine.specs.declared.event.Kind.{Kind}
-use Rattle.md_engine.specs.declared.event.Kind.TheVariants.{Enter, Exit}
 use Rattle.md_engine.specs.declared.event.Name.{Name}
 use Rattle.md_engine.specs.declared.event.Name.TheVariants as n
 use Rattle.md_engine.specs.declared.event.Point.{Point}
@@ -19,7 +17,7 @@ use Rattle.md_lines.specs.Fence.{chunk_name, fence_name, held_indent, held_marke
 use Rattle.md_outline.specs.Between.{is_between}
 use Rattle.md_outline.specs.Outlined.{has_plain_name}
 use Rattle.md_outline.specs.Roles.{is_plain, is_told}
-use Rattle.md_seam.specs.Events.Nested.{around, enter, exit, pair}
+use Rattle.md_seam.specs.Events.Nested.{around, exit, pair}
 use Rattle.md_seam.specs.Events.Places.{past_text}
 use Rattle.md_seam.specs.Events.Spelled.{AsLine, IsFence, Tells, role}
 use Rattle.md_seam.proofs.InlineLemmas.{past-index}
@@ -30,9 +28,9 @@ use Rattle.markdown_blocks.specs.Leaf.FenceFurther.{chunk_line, closing_line, cl
 use Rattle.markdown_blocks.specs.Leaf.FenceFurther.{is_fence, opening_of, part_over, past_columns}
 use Rattle.markdown_blocks.proofs.BetweenFacts.{AreBetween, all-more, between-behind, is_low, low-at, white-between}
 use Rattle.markdown_blocks.proofs.EachEvent.{Each, each-append}
-use Rattle.markdown_blocks.proofs.FenceFurther.Inside.{HasSequence, has-sequence}
-use Rattle.markdown_blocks.proofs.FenceFurther.Names.{either-name, is_inside, part_event, parts-each}
-use Rattle.markdown_blocks.proofs.FenceFurther.Places.{FurtherAt, HasClosing, HasLeft, has-closing, has-left}
+use Rattle.markdown_blocks.proofs.FenceFurther.Inside.{has-sequence}
+use Rattle.markdown_blocks.proofs.FenceFurther.Names.{either-name, is_inside, parts-each}
+use Rattle.markdown_blocks.proofs.FenceFurther.Places.{FurtherAt, HasClosing, has-closing, has-left}
 use Rattle.markdown_blocks.proofs.FenceFurther.Trial.{fence-marker}
 use Rattle.markdown_blocks.proofs.PartedFacts.{Sits, around-sits, clear, low-clear, sits-append}
 use Rattle.markdown_blocks.proofs.PlainFacts.{ArePlain, is_clear}
@@ -160,7 +158,9 @@ further-clear options bytes on r p q e is begin =
     each-all (is_clear bytes) (further_parts options on r p q)
     (points (further_parts options on r p q)
     (points-each (λ x. clear bytes x ≡ true) options on r p q begin (whole-clear bytes q is.at.end_whole)
-    (λ room. left-clear bytes (drop q.index bytes) (lose room r) (past_columns room r p) (has-left bytes room r p q is).stands)
+    (λ room.
+    left-clear bytes (drop q.index bytes) (lose room r) (past_columns room r p)
+    (has-left bytes room r p q is).stands)
     (λ f.
     whole-clear bytes (sequence_end on r p)
     (has-sequence bytes on r p q e (has-closing options bytes on r p q is f)).over.whole)))

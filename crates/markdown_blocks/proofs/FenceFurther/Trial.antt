@@ -1,13 +1,11 @@
 -- What a further line of fenced code or math comes to: it is always taken, where such a block is open.
-use Rattle.std.proofs.Common.{◌≡◌, ◌≤◌, ◌+◌, ℕ, Bool, true, false, cond, List, [], ◌∷◌, ◌++◌, length, arith, refl, ◌∙◌, ap, ap₂}
+use Rattle.std.proofs.Common.{◌≡◌, ◌≤◌, ◌+◌, ℕ, Bool, true, false, cond, List, [], ◌∷◌, ◌++◌, length, arith, refl}
+use Rattle.std.proofs.Common.{◌∙◌, ap, ap₂}
 use Rattle.std.proofs.Common.{sym, Some}
 use Rattle.std.specs.Prelude.{◌==◌, ◌&&◌, nat_le, nat_lt}
 use Rattle.std.proofs.lemmas.Bool.{and_parts}
 use Rattle.md_engine.specs.declared.configuration.ParseOptions.{ParseOptions}
-use Rattle.md_engine.specs.declared.event.Event.{Event}
 use Rattle.md_engine.specs.declared.event.Point.{Point}
-use Rattle.md_engine.specs.declared.tokenizer.Flags.{Flags}
-use Rattle.md_engine.specs.declared.tokenizer.Scratch.{Scratch}
 use Rattle.md_engine.specs.declared.tokenizer.held_leaf.HeldLeaf.{HeldLeaf}
 use Rattle.md_engine.specs.declared.tokenizer.held_leaf.HeldLeaf.TheVariants as held_leaf
 use Rattle.md_engine.specs.Meaning.{Accepts, Cell, Fails, Here, Outcome, Refuses}
@@ -15,7 +13,8 @@ use Rattle.md_definition.specs.Leaves.{closes, least_size}
 use Rattle.md_definition.specs.Rest.{Rest}
 use Rattle.md_lines.specs.Fence.{held_indent, held_marker, held_size, may_begin}
 use Rattle.md_lines.specs.FenceLine.{closes_here, further_events}
-use Rattle.md_lines.specs.FenceRule.{before_chunk, before_close, behind_white_of, close_at, close_end, closed_or_content}
+use Rattle.md_lines.specs.FenceRule.{before_chunk, before_close, behind_white_of, close_at, close_end}
+use Rattle.md_lines.specs.FenceRule.{closed_or_content}
 use Rattle.md_lines.specs.FenceRule.{content_at, further_at, in_chunk, in_close, is_end, is_line, run_rest, run_size}
 use Rattle.md_lines.proofs.FenceCells.{line-all, line-done, run-length}
 use Rattle.md_lines.proofs.FenceFurther.{further-end}
@@ -25,7 +24,7 @@ use Rattle.md_seam.specs.Look.{seen_behind}
 use Rattle.md_seam.specs.Spaces.{IsRest, small_indent}
 use Rattle.md_seam.proofs.RestCells.{white-length}
 use Rattle.markdown_blocks.specs.HeldLeaf.{takes_lazy}
-use Rattle.markdown_blocks.specs.Leaf.FenceFurther.{fence_further, further_holds, further_keeps, is_fence, opening_of}
+use Rattle.markdown_blocks.specs.Leaf.FenceFurther.{fence_further, is_fence, opening_of}
 use Rattle.markdown_blocks.proofs.FromEnding.{from_ending-again}
 use Rattle.markdown_blocks.proofs.LeafLaws.{Shrinks, cond-shrinks, left_open, whole_line}
 

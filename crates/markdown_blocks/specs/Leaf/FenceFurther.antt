@@ -1,5 +1,5 @@
--- A further line of fenced code and of math (CommonMark 4.5, own choice), as a leaf on one line: a closing fence, or one
--- more line of the block that is open.
+-- A further line of fenced code and of math (CommonMark 4.5, own choice), as a leaf on one line: a closing fence, or
+-- one more line of the block that is open.
 use Rattle.std.specs.Prelude.{ℕ, zero, suc, ◌+◌, ◌-◌, Bool, true, false, ◌&&◌, ◌==◌, nat_lt, nat_le, if◌then◌else◌}
 use Rattle.std.specs.Prelude.{List, [], ◌∷◌, ◌++◌, take, drop, None}
 use Rattle.md_engine.specs.declared.configuration.ParseOptions.{ParseOptions}
@@ -114,8 +114,8 @@ further_line options on line p =
     let q = past_text line p in
     enter_link name p further_link ∷ further_parts options on (rest_of p line) p q ++ exit name q ∷ []
 
--- By itself it is no block, and it has no text parts: what it is with the lines in front of it, these tell when they are
--- joined.
+-- By itself it is no block, and it has no text parts: what it is with the lines in front of it shows when they are
+-- joined, so its block and its events behind that are not asked.
 abbrev pub fence_further : LineLeaf
 fence_further = record {
   start = s.RawFlow its.AtNonLazyBreak;
