@@ -109,6 +109,7 @@ pub mod RowLeaf
 pub mod GroupFacts
 pub mod BlankLine
 pub mod Fence
+pub mod FenceFurther
 pub mod HeadingAtx
 pub mod ThematicBreak
 pub mod Registry

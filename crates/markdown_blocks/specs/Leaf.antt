@@ -1,5 +1,6 @@
 -- The leaves, each with what the frame asks of it: those on one line (`LineLeaf`), and text (`TextLeaf`).
 pub mod Fence
+pub mod FenceFurther
 pub mod HeadingAtx
 pub mod Paragraph
 pub mod ThematicBreak

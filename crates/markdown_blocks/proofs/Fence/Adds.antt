@@ -21,8 +21,9 @@ use Rattle.md_lines.specs.Fence.{block_name, fence_name, may_begin, meta_name, s
 use Rattle.md_lines.specs.FenceLine.{behind_events, fence_adds, open_events, spaces}
 use Rattle.md_lines.specs.FenceParts.{bytes_at, part_of, parts_of}
 use Rattle.md_lines.specs.FenceRule.{run_end, run_rest}
-use Rattle.md_lines.proofs.FenceCells.{RunOf, marker-dark, marker-ten, rest-past, run-walk}
-use Rattle.md_lines.proofs.FenceFurther.{indent-trims, small-behind}
+use Rattle.md_lines.proofs.FenceCells.{RunOf, marker-dark, marker-ten, run-walk}
+use Rattle.md_lines.proofs.FenceFurther.{small-behind}
+use Rattle.md_seam.proofs.RestLines.{indent-trims, rest-past}
 use Rattle.md_lines.proofs.FenceFurther as further
 use Rattle.md_lines.proofs.FenceOpened.{marker-may, white-all}
 use Rattle.md_lines.proofs.FenceParts.{Stands, behind-agrees, behind_info, between, meta_point, prefix-take}

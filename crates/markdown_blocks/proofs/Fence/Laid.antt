@@ -15,7 +15,7 @@ use Rattle.md_definition.specs.Rest.{Rest, is_white, trim_start}
 use Rattle.md_definition.specs.Texts.{first_byte}
 use Rattle.md_definition.proofs.TextsLemmas.{no_ending-drop}
 use Rattle.md_lines.specs.Fence.{may_begin}
-use Rattle.md_lines.proofs.FenceCells.{prefix-none, prefix-one}
+use Rattle.md_seam.proofs.RestLines.{count-none, count-one}
 use Rattle.md_lines.proofs.FenceOpened.{marker-may}
 use Rattle.md_seam.specs.Events.Places.{past_byte, past_text}
 use Rattle.md_seam.proofs.FeedLines.{past_text-whole}
@@ -49,10 +49,10 @@ white-whole (b ∷ bs) p cut may = go (is_white b) refl cut may
     go : (x : Bool) → is_white b ≡ x → ((p.vs == 0) || (b == 9)) ≡ true →
         may_begin (first_byte (trim_start (b ∷ bs))) ≡ true → (past_white (b ∷ bs) p).vs ≡ 0
     go true e cut may =
-        ap (λ (k : ℕ). (past_text (take k (b ∷ bs)) p).vs) (prefix-one is_white b bs e)
+        ap (λ (k : ℕ). (past_text (take k (b ∷ bs)) p).vs) (count-one is_white b bs e)
         ∙ past_text-whole (take (prefix_len is_white bs) bs) (past_byte b p) refl
     go false e cut may =
-        let none = prefix-none is_white b bs e in
+        let none = count-none is_white b bs e in
         ap (λ (k : ℕ). (past_text (take k (b ∷ bs)) p).vs) none
         ∙ dark cut (sym (ap (λ (k : ℕ). may_begin (first_byte (drop k (b ∷ bs)))) none) ∙ may)
 

@@ -15,7 +15,7 @@ use Rattle.md_definition.specs.Rest.{is_blank, is_white, run_len, trim_start}
 use Rattle.md_definition.specs.Texts.{first_byte}
 use Rattle.md_definition.proofs.TextsLemmas.{NoEnding, no_ending-drop}
 use Rattle.md_lines.specs.Fence.{meta_name, sequence_name}
-use Rattle.md_lines.proofs.FenceCells.{prefix-none, prefix-one}
+use Rattle.md_seam.proofs.RestLines.{count-none, count-one}
 use Rattle.md_lines.proofs.FenceParts.{prefix-take}
 use Rattle.md_seam.specs.Events.Nested.{around, pair}
 use Rattle.md_seam.specs.Events.Pieces.{is_run, stands_over}
@@ -117,9 +117,9 @@ front-blank (b ∷ bs) = go (is_white b) refl (front-blank bs)
     go : (x : Bool) → is_white b ≡ x → is_blank (take (prefix_len is_white bs) bs) ≡ true →
         is_blank (take (prefix_len is_white (b ∷ bs)) (b ∷ bs)) ≡ true
     go true e more =
-        ap (λ (k : ℕ). is_blank (take k (b ∷ bs))) (prefix-one is_white b bs e)
+        ap (λ (k : ℕ). is_blank (take k (b ∷ bs))) (count-one is_white b bs e)
         ∙ and_from (is_white b) (is_blank (take (prefix_len is_white bs) bs)) e more
-    go false e more = ap (λ (k : ℕ). is_blank (take k (b ∷ bs))) (prefix-none is_white b bs e)
+    go false e more = ap (λ (k : ℕ). is_blank (take k (b ∷ bs))) (count-none is_white b bs e)
 
 -- The whitespace in front of some bytes: where it ends, and its events.
 pub white-mid : (bytes : List ℕ) (inner read : Inner) (M : Point → Type 0) (Q : Point → Point → List Event →
@@ -166,10 +166,10 @@ white-walks bytes inner read M Q walks (b ∷ bs) rest p is cut mid = go (is_whi
         subst
         (λ (k : ℕ).
         let q = past_text (take k (b ∷ bs)) p in Q p q (pair n.SpaceOrTab p q) (pair n.SpaceOrTab p q))
-        (sym (prefix-one is_white b bs e))
+        (sym (count-one is_white b bs e))
         (walks.white b left behind p mid (walks.behind_white b left behind p stands blank) stands cut blank)
     go false e =
-        subst (λ (k : ℕ). Q p (past_text (take k (b ∷ bs)) p) [] []) (sym (prefix-none is_white b bs e)) (walks.none p)
+        subst (λ (k : ℕ). Q p (past_text (take k (b ∷ bs)) p) [] []) (sym (count-none is_white b bs e)) (walks.none p)
 
 -- A part of text.
 part-walks : (bytes : List ℕ) (inner read : Inner) (M : Point → Type 0) (Q : Point → Point → List Event →
@@ -195,8 +195,8 @@ behind-first (b ∷ bs) = go (is_white b) refl (behind-first bs)
 
     go : (x : Bool) → is_white b ≡ x → CutsWord (drop (prefix_len t bs) bs) →
         CutsWord (drop (prefix_len t (b ∷ bs)) (b ∷ bs))
-    go true e more = subst (λ (k : ℕ). CutsWord (drop k (b ∷ bs))) (sym (prefix-none t b bs (ap not e))) e
-    go false e more = subst (λ (k : ℕ). CutsWord (drop k (b ∷ bs))) (sym (prefix-one t b bs (ap not e))) more
+    go true e more = subst (λ (k : ℕ). CutsWord (drop k (b ∷ bs))) (sym (count-none t b bs (ap not e))) e
+    go false e more = subst (λ (k : ℕ). CutsWord (drop k (b ∷ bs))) (sym (count-one t b bs (ap not e))) more
 
 -- Info, whitespace and meta.
 texts-walk : (bytes : List ℕ) (inner read : Inner) (M : Point → Type 0) (Q : Point → Point → List Event →
@@ -309,10 +309,10 @@ run-all m (b ∷ bs) = go (b == m) refl (run-all m bs)
     go : (x : Bool) → (b == m) ≡ x → list_all (λ b. b == m) (take (run_len m bs) bs) ≡ true →
         list_all (λ b. b == m) (take (run_len m (b ∷ bs)) (b ∷ bs)) ≡ true
     go true e more =
-        ap (λ (k : ℕ). list_all (λ b. b == m) (take k (b ∷ bs))) (prefix-one (λ c. c == m) b bs e)
+        ap (λ (k : ℕ). list_all (λ b. b == m) (take k (b ∷ bs))) (count-one (λ c. c == m) b bs e)
         ∙ and_from (b == m) (list_all (λ b. b == m) (take (run_len m bs) bs)) e more
     go false e more =
-        ap (λ (k : ℕ). list_all (λ b. b == m) (take k (b ∷ bs))) (prefix-none (λ c. c == m) b bs e)
+        ap (λ (k : ℕ). list_all (λ b. b == m) (take k (b ∷ bs))) (count-none (λ c. c == m) b bs e)
 
 -- the sequence of a fence is over its markers
 pub sequence-over : (options : ParseOptions) (xs : List ℕ) → IsFence options xs →

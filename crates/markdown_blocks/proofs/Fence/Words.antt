@@ -11,7 +11,7 @@ use Rattle.md_engine.specs.declared.event.Point.{Point}
 use Rattle.md_definition.specs.Leaves.{first_word}
 use Rattle.md_definition.specs.Rest.{is_white, run_len, trim_start}
 use Rattle.md_definition.specs.Texts.{first_byte}
-use Rattle.md_lines.proofs.FenceCells.{prefix-none, prefix-one}
+use Rattle.md_seam.proofs.RestLines.{count-none, count-one}
 use Rattle.md_lines.proofs.FenceParts.{prefix-take}
 use Rattle.md_seam.specs.declared.inline.Chunk.{Chunk}
 use Rattle.md_seam.specs.Events.Grammar.{Expression, behind, behind_block, blocks, inside, may_end, plain_text}
@@ -108,8 +108,8 @@ trim-dark [] = tt
 trim-dark (b ∷ bs) = go (is_white b) refl (trim-dark bs)
   where
     go : (x : Bool) → is_white b ≡ x → Dark (trim_start bs) → Dark (trim_start (b ∷ bs))
-    go true e more = subst (λ (k : ℕ). Dark (drop k (b ∷ bs))) (sym (prefix-one is_white b bs e)) more
-    go false e more = subst (λ (k : ℕ). Dark (drop k (b ∷ bs))) (sym (prefix-none is_white b bs e)) e
+    go true e more = subst (λ (k : ℕ). Dark (drop k (b ∷ bs))) (sym (count-one is_white b bs e)) more
+    go false e more = subst (λ (k : ℕ). Dark (drop k (b ∷ bs))) (sym (count-none is_white b bs e)) e
 
 info-leads : (text : Expression) (inner : Inner) → Word text inner → (b : ℕ) (bs : List ℕ) (p : Point) (some : Bool) →
     is_white b ≡ false →

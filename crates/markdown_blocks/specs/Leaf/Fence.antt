@@ -129,6 +129,7 @@ fence_leaf = record {
   start = s.RawFlow its.Start;
   before = flow.BeforeRaw;
   ends = false;
+  further = λ on. false;
   may_begin = may_begin;
   trial = fence_at;
   takes = λ options on cells. is_fence options cells;

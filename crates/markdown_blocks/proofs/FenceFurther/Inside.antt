@@ -1,0 +1,241 @@
+-- What is known of what stands in a further line of fenced code or math, from the point where it begins to its end.
+use Rattle.std.proofs.Common.{◌≡◌, ℕ, ◌+◌, ◌<◌, Bool, true, false, cond, ◌&&◌, ◌||◌, List, [], ◌∷◌}
+use Rattle.std.proofs.Common.{◌++◌, length, drop, take, refl, sym, ◌∙◌, ap, arith, subst, append_assoc}
+use Rattle.std.specs.Prelude.{◌==◌, nat_le, nat_lt, not, IsTrue}
+use Rattle.std.specs.List.{list_all}
+use Rattle.std.proofs.lemmas.Bool.{and_from, eqb-true, or_left, or_right}
+use Rattle.std.proofs.lemmas.Bool.Decides.{nat_tests}
+use Rattle.md_engine.specs.declared.configuration.ParseOptions.{ParseOptions}
+use Rattle.md_engine.specs.declared.event.Event.{Event}
+use Rattle.md_engine.specs.declared.event.Name.{Name}
+use Rattle.md_engine.specs.declared.event.Name.TheVariants as n
+use Rattle.md_engine.specs.declared.event.Point.{Point}
+use Rattle.md_engine.specs.declared.tokenizer.held_leaf.HeldLeaf.{HeldLeaf}
+use Rattle.md_definition.specs.Leaves.{closes, least_size}
+use Rattle.md_definition.specs.Lines.{is_ending}
+use Rattle.md_definition.specs.Rest.{Rest, indent, lose, run_len, trim_start}
+use Rattle.md_definition.proofs.TextsLemmas.{NoEnding}
+use Rattle.md_lines.specs.Fence.{chunk_name, fence_name, held_indent, held_marker, may_begin, sequence_name}
+use Rattle.md_seam.specs.Events.Nested.{around, pair}
+use Rattle.md_seam.specs.Events.Pieces.{begins_in_tab, is_in_line, piece_stands, stands_over}
+use Rattle.md_seam.specs.Events.Places.{at_or_before, past_text}
+use Rattle.md_seam.proofs.FeedLines.{before-byte, drop-past}
+use Rattle.md_seam.proofs.InlineLemmas.{past-index, past_text-append}
+use Rattle.md_seam.proofs.NestedLemmas.{at_or_before-refl}
+use Rattle.md_seam.proofs.RestCells.{lose-no_ending}
+use Rattle.markdown_blocks.specs.Fronted.{rest_line}
+use Rattle.markdown_blocks.specs.Leaf.FenceFurther.{chunk_line, closing_line, closing_part, columns_part, further_parts}
+use Rattle.markdown_blocks.specs.Leaf.FenceFurther.{is_fence, opening_of, part_over, past_columns}
+use Rattle.markdown_blocks.proofs.FenceFurther.Names.{either-name}
+use Rattle.markdown_blocks.proofs.FenceFurther.Places.{FurtherAt, HasClosing, HasLeft, further-no_ending, has-closing}
+use Rattle.markdown_blocks.proofs.FenceFurther.Places.{has-left}
+use Rattle.markdown_blocks.proofs.FenceFurther.Trial.{fence-marker, fence-size}
+use Rattle.markdown_blocks.proofs.PieceFacts.{Over, Starts, Stood, begins-cut, begins-whole, over-front, over-stands}
+use Rattle.markdown_blocks.proofs.PieceFacts.{piece-stands, span, stood-append, stood-around, stood-none, stood-pair}
+use Rattle.markdown_blocks.proofs.PiecesLemmas.{Tiled, tiled-append, tiled-around, tiled-none, tiled-pair}
+use Rattle.markdown_blocks.proofs.RestFacts.{rest-no_ending}
+use Rattle.markdown_blocks.proofs.SpanLemmas.{Nested_in, around-nested, nested_in-append}
+use Rattle.md_seam.proofs.InlineLemmas.{same-refl}
+
+-- Events that stand between two points: they nest and go forward, cover what stands there, and their pieces are over
+-- what their names say.
+pub record Placed (bytes : List ℕ) (p q : Point) (es : List Event) : Type 0 where
+  pub nested : Nested_in p q es
+  pub tiled : Tiled p q es
+  pub stood : Stood bytes es
+
+placed-none : (bytes : List ℕ) (p q : Point) → q ≡ p → Placed bytes p q []
+placed-none bytes p q e =
+    subst (λ (x : Point). Placed bytes p x []) (sym e) (record {
+      nested = (record { matches = tt; closed = refl }, (tt, at_or_before-refl p));
+      tiled = tiled-none p p (same-refl p);
+      stood = stood-none bytes;
+    })
+
+placed-append : (bytes : List ℕ) (p q r : Point) (xs ys : List Event) → Placed bytes p q xs → Placed bytes q r ys →
+    Placed bytes p r (xs ++ ys)
+placed-append bytes p q r xs ys h k = record {
+  nested = nested_in-append p q r xs ys h.nested k.nested;
+  tiled = tiled-append p q r xs ys h.tiled k.tiled;
+  stood = stood-append bytes xs ys h.stood k.stood;
+}
+
+placed-pair : (bytes : List ℕ) (name : Name) (p q : Point) → IsTrue (at_or_before p q) →
+    piece_stands bytes (span name p q) ≡ true → Placed bytes p q (pair name p q)
+placed-pair bytes name p q onward stands = record {
+  nested = around-nested name p q [] (record { matches = tt; closed = refl }, (tt, onward));
+  tiled = tiled-pair name p q;
+  stood = stood-pair bytes name p q stands;
+}
+
+placed-around : (bytes : List ℕ) (name : Name) (p q : Point) (es : List Event) → Starts es → Placed bytes p q es →
+    Placed bytes p q (around name p q es)
+placed-around bytes name p q es starts h = record {
+  nested = around-nested name p q es h.nested;
+  tiled = tiled-around name p q es h.tiled;
+  stood = stood-around bytes name p q es starts h.stood;
+}
+
+-- Whitespace.
+
+columns-placed : (bytes : List ℕ) (room : ℕ) (r : Rest) (p q : Point) → HasLeft bytes room r p q →
+    Placed bytes p (past_columns room r p) (columns_part room r p)
+columns-placed bytes room r p q left = go (nat_lt 0 room && nat_lt 0 (indent r)) refl
+  where
+    at : Point
+    at = past_columns room r p
+
+    go : (x : Bool) → (nat_lt 0 room && nat_lt 0 (indent r)) ≡ x →
+        Placed bytes p (past_columns room r p) (cond x (pair n.SpaceOrTab p (past_columns room r p)) [])
+    go true e =
+        placed-pair bytes n.SpaceOrTab p at left.white.onward
+        (piece-stands bytes n.SpaceOrTab p at (left.apart e) (begins-cut n.SpaceOrTab p refl)
+        (or_right (at.vs == 0) true refl) left.white.blank)
+    go false e = placed-none bytes p at (left.none e)
+
+-- A part over bytes, from a point on.
+
+over-onward : (text : List ℕ) (p q : Point) → 0 < length text → q ≡ past_text text p → IsTrue (at_or_before p q)
+over-onward text p q some end =
+    let index : q.index ≡ p.index + length text = ap (λ (x : Point). x.index) end ∙ past-index text p in
+    before-byte p q (omega (arith, some, index))
+
+over-placed : (bytes : List ℕ) (name : Name) (text behind : List ℕ) (p q : Point) →
+    drop p.index bytes ≡ text ++ behind → q ≡ past_text text p →
+    ((p.vs == 0) || begins_in_tab name) ≡ true → stands_over name text ≡ true →
+    Placed bytes p q (part_over name text p q)
+over-placed bytes name [] behind p q text end begins over = placed-none bytes p q end
+over-placed bytes name (b ∷ bs) behind p q text end begins over =
+    let some : 0 < length (b ∷ bs) = omega arith in
+    placed-pair bytes name p q (over-onward (b ∷ bs) p q some end)
+    (over-stands bytes name p q (b ∷ bs) (over-front bytes p q (b ∷ bs) behind text some end) begins over)
+
+-- What is left of a line.
+
+in-line : (line : List ℕ) → NoEnding line → is_in_line line ≡ true
+in-line [] h = refl
+in-line (b ∷ line) h = and_from (not (is_ending b)) (is_in_line line) (ap not h.0) (in-line line h.1)
+
+chunk-over : (m : ℕ) (line : List ℕ) → NoEnding line → stands_over (chunk_name m) line ≡ true
+chunk-over m line h =
+    either-name (λ name. stands_over name line ≡ true) (m == 36) _ _ (in-line line h) (in-line line h)
+
+chunk-begins : (m : ℕ) → begins_in_tab (chunk_name m) ≡ true
+chunk-begins m = either-name (λ name. begins_in_tab name ≡ true) (m == 36) _ _ refl refl
+
+chunk-placed : (bytes : List ℕ) (m lost : ℕ) (r : Rest) (p q : Point) → FurtherAt bytes r p q →
+    Placed bytes p q (chunk_line m lost r p q)
+chunk-placed bytes m lost r p q is =
+    let left = has-left bytes lost r p q is in
+    let line = rest_line (lose lost r) in
+    let at = past_columns lost r p in
+    let none = rest-no_ending (lose lost r) (lose-no_ending lost r (further-no_ending bytes r p q is)) in
+    placed-append bytes p at q (columns_part lost r p) (part_over (chunk_name m) line at q)
+    (columns-placed bytes lost r p q left)
+    (over-placed bytes (chunk_name m) line (drop q.index bytes) at q left.stands.text_is left.ends
+    (begins-cut (chunk_name m) at (chunk-begins m)) (chunk-over m line none))
+
+-- A closing fence.
+
+-- enough of its marker is a sequence
+sequence-over : (m : ℕ) (ys : List ℕ) → may_begin m ≡ true → nat_le (least_size m) (length ys) ≡ true →
+    list_all (λ b. b == m) ys ≡ true → stands_over (sequence_name m) ys ≡ true
+sequence-over m ys may some all = go (m == 36) refl (m == 96) refl (m == 126) refl may some
+  where
+    same : (c : ℕ) → (m == c) ≡ true → list_all (λ b. b == c) ys ≡ true
+    same c e = subst (λ (x : ℕ). list_all (λ b. b == x) ys ≡ true) (eqb-true m c e) all
+
+    go : (x : Bool) → (m == 36) ≡ x → (y : Bool) → (m == 96) ≡ y → (z : Bool) → (m == 126) ≡ z →
+        ((m == 96) || (m == 126) || (m == 36)) ≡ true → nat_le (cond x 2 3) (length ys) ≡ true →
+        stands_over (cond x n.MathFlowFenceSequence n.CodeFencedFenceSequence) ys ≡ true
+    go true e y f z g may some = and_from (nat_le 2 (length ys)) (list_all (λ b. b == 36) ys) some (same 36 e)
+    go false e true f z g may some =
+        or_left (nat_le 3 (length ys) && list_all (λ b. b == 96) ys) _
+        (and_from (nat_le 3 (length ys)) (list_all (λ b. b == 96) ys) some (same 96 f))
+    go false e false f true g may some =
+        or_right _ (nat_le 3 (length ys) && list_all (λ b. b == 126) ys)
+        (and_from (nat_le 3 (length ys)) (list_all (λ b. b == 126) ys) some (same 126 g))
+    go false e false f false g may some =
+        let bad : false ≡ true = rw (f, g, e) at may in absurd (cc)
+
+least-some : (m : ℕ) (ys : List ℕ) → nat_le (least_size m) (length ys) ≡ true → 0 < length ys
+least-some m ys e = by (m == 36) e
+  where
+    by : (x : Bool) → nat_le (cond x 2 3) (length ys) ≡ true → 0 < length ys
+    by true f = grind (arith, nat_tests)
+    by false f = grind (arith, nat_tests)
+
+-- the sequence, and where it ends
+abbrev pub sequence_of : HeldLeaf → List ℕ → List ℕ
+sequence_of on text = take (run_len (held_marker on) text) text
+
+abbrev pub sequence_to : HeldLeaf → List ℕ → Point → Point
+sequence_to on text at = past_text (sequence_of on text) at
+
+pub record HasSequence (bytes : List ℕ) (on : HeldLeaf) (text : List ℕ) (at q : Point) : Type 0 where
+  pub over : Over bytes at (sequence_to on text at) (sequence_of on text)
+  pub onward : IsTrue (at_or_before at (sequence_to on text at))
+  pub is : stands_over (sequence_name (held_marker on)) (sequence_of on text) ≡ true
+  pub left : drop (sequence_to on text at).index bytes ≡ drop (run_len (held_marker on) text) text ++ drop q.index bytes
+  pub ends : q ≡ past_text (drop (run_len (held_marker on) text) text) (sequence_to on text at)
+
+pub has-sequence : (bytes : List ℕ) (on : HeldLeaf) (r : Rest) (p q : Point) → is_fence on ≡ true →
+    HasClosing bytes on r p q → HasSequence bytes on (trim_start r.bytes) (past_columns (indent r) r p) q
+has-sequence bytes on r p q e closing =
+    let m = held_marker on in
+    let text = trim_start r.bytes in
+    let at = past_columns (indent r) r p in
+    let seq = take (run_len m text) text in
+    let left = drop (run_len m text) text in
+    let behind = drop q.index bytes in
+    let end = past_text seq at in
+    let least = fence-size on e in
+    let more = closing.least in
+    let size = closing.size in
+    let enough : nat_le (least_size m) (length seq) ≡ true = grind (arith, nat_tests) in
+    let some = least-some m seq enough in
+    let stands : drop at.index bytes ≡ seq ++ (left ++ behind) =
+    closing.text ∙ ap (λ (l : List ℕ). l ++ behind) closing.cut ∙ append_assoc seq left behind in
+    record {
+      over = over-front bytes at end seq (left ++ behind) stands some refl;
+      onward = over-onward seq at end some refl;
+      is = sequence-over m seq (fence-marker on e) enough closing.all;
+      left = ap (λ (i : ℕ). drop i bytes) (past-index seq at) ∙ drop-past bytes at.index seq (left ++ behind) stands;
+      ends = closing.ends ∙ ap (λ (l : List ℕ). past_text l at) closing.cut ∙ past_text-append seq left at;
+    }
+
+closing-placed : (bytes : List ℕ) (on : HeldLeaf) (r : Rest) (p q : Point) → is_fence on ≡ true →
+    HasClosing bytes on r p q →
+    Placed bytes (past_columns (indent r) r p) q
+    (closing_part (held_marker on) (trim_start r.bytes) (past_columns (indent r) r p) q)
+closing-placed bytes on r p q e closing =
+    let m = held_marker on in
+    let text = trim_start r.bytes in
+    let at = past_columns (indent r) r p in
+    let seq = take (run_len m text) text in
+    let left = drop (run_len m text) text in
+    let end = past_text seq at in
+    let sequence = has-sequence bytes on r p q e closing in
+    placed-around bytes (fence_name m) at q (pair (sequence_name m) at end ++ part_over n.SpaceOrTab left end q) refl
+    (placed-append bytes at end q (pair (sequence_name m) at end) (part_over n.SpaceOrTab left end q)
+    (placed-pair bytes (sequence_name m) at end sequence.onward
+    (over-stands bytes (sequence_name m) at end seq sequence.over (begins-whole (sequence_name m) at closing.whole)
+    sequence.is))
+    (over-placed bytes n.SpaceOrTab left (drop q.index bytes) end q sequence.left sequence.ends
+    (begins-cut n.SpaceOrTab end refl) closing.blank))
+
+-- The whole line.
+pub further-placed : (options : ParseOptions) (bytes : List ℕ) (on : HeldLeaf) (r : Rest) (p q : Point) →
+    is_fence on ≡ true → FurtherAt bytes r p q → Placed bytes p q (further_parts options on r p q)
+further-placed options bytes on r p q e is = go (closes options (opening_of on) r) refl
+  where
+    go : (x : Bool) → closes options (opening_of on) r ≡ x →
+        Placed bytes p q
+        (cond x (closing_line (held_marker on) r p q) (chunk_line (held_marker on) (held_indent on) r p q))
+    go true f =
+        let m = held_marker on in
+        let at = past_columns (indent r) r p in
+        placed-append bytes p at q (columns_part (indent r) r p) (closing_part m (trim_start r.bytes) at q)
+        (columns-placed bytes (indent r) r p q (has-left bytes (indent r) r p q is))
+        (closing-placed bytes on r p q e (has-closing options bytes on r p q is f))
+    go false f = chunk-placed bytes (held_marker on) (held_indent on) r p q is

@@ -1,0 +1,244 @@
+-- The names of the events of a further line of fenced code or math.
+use Rattle.std.proofs.Common.{◌≡◌, ℕ, Bool, true, false, cond, ◌&&◌, List, [], ◌∷◌, ◌++◌, refl, ap, sym, ◌∙◌}
+use Rattle.std.proofs.Common.{append_assoc}
+use Rattle.std.specs.Prelude.{◌==◌, nat_lt, None, take, drop}
+use Rattle.md_engine.specs.declared.configuration.ParseOptions.{ParseOptions}
+use Rattle.md_engine.specs.declared.event.Content.{Content}
+use Rattle.md_engine.specs.declared.event.Content.TheVariants as content
+use Rattle.md_engine.specs.declared.event.Event.{Event}
+use Rattle.md_engine.specs.declared.event.Kind.{Kind}
+use Rattle.md_engine.specs.declared.event.Kind.TheVariants.{Enter, Exit}
+use Rattle.md_engine.specs.declared.event.Name.{Name}
+use Rattle.md_engine.specs.declared.event.Name.TheVariants as n
+use Rattle.md_engine.specs.declared.event.Point.{Point}
+use Rattle.md_engine.specs.declared.tokenizer.held_leaf.HeldLeaf.{HeldLeaf}
+use Rattle.md_engine.specs.Meaning.{Cell}
+use Rattle.md_content.specs.Joined.{is_content}
+use Rattle.md_definition.specs.Leaves.{closes}
+use Rattle.md_definition.specs.Rest.{Rest, indent, lose, run_len, trim_start}
+use Rattle.md_leaves.specs.HeadingText.{is_heading}
+use Rattle.md_lines.specs.Fence.{block_name, chunk_name, fence_name, held_indent, held_marker, sequence_name}
+use Rattle.md_lines.specs.FenceLine.{chunk_events, closes_here, closing_end, closing_events, further_inside, spaces}
+use Rattle.md_lines.specs.FenceRule.{is_end, is_line, run_end, run_rest}
+use Rattle.md_lines.specs.Further.{further_link}
+use Rattle.md_seam.specs.Ahead.{begins_white, white_end, white_rest}
+use Rattle.md_seam.specs.Events.Nested.{enter_link, exit, is_enter, pair}
+use Rattle.md_seam.specs.Events.Places.{past_text}
+use Rattle.md_seam.specs.Spaces.{any_size, small_indent}
+use Rattle.md_seam.specs.Substituted.{wanted}
+use Rattle.markdown_blocks.specs.Fronted.{rest_line}
+use Rattle.markdown_blocks.specs.Leaf.FenceFurther.{closing_line, closing_part, fence_further}
+use Rattle.markdown_blocks.specs.Leaf.FenceFurther.{chunk_line, further_parts, opening_of, part_over, past_columns}
+use Rattle.markdown_blocks.specs.Leaf.FenceFurther.{rest_of}
+use Rattle.markdown_blocks.specs.Registry.{is_own, resolved}
+use Rattle.markdown_blocks.proofs.ContentFacts.{NoContent}
+use Rattle.markdown_blocks.proofs.OutsideFacts.{AreOutside, NoEnds}
+
+-- An event of a part.
+
+abbrev pub part_event : Kind → Name → Point → Event
+part_event kind name p = record { kind = kind; name = name; point = p; link = None }
+
+-- what may stand in the line
+abbrev pub is_inside : Name → Bool
+is_inside n.SpaceOrTab = true
+is_inside n.CodeFencedFence = true
+is_inside n.CodeFencedFenceSequence = true
+is_inside n.CodeFlowChunk = true
+is_inside n.MathFlowFence = true
+is_inside n.MathFlowFenceSequence = true
+is_inside n.MathFlowChunk = true
+is_inside _ = false
+
+pub either-name : (P : Name → Type 0) (x : Bool) (a b : Name) → P a → P b → P (cond x a b)
+either-name P true a b h k = h
+either-name P false a b h k = k
+
+fence-inside : (m : ℕ) → is_inside (fence_name m) ≡ true
+fence-inside m = either-name (λ a. is_inside a ≡ true) (m == 36) _ _ refl refl
+
+sequence-inside : (m : ℕ) → is_inside (sequence_name m) ≡ true
+sequence-inside m = either-name (λ a. is_inside a ≡ true) (m == 36) _ _ refl refl
+
+chunk-inside : (m : ℕ) → is_inside (chunk_name m) ≡ true
+chunk-inside m = either-name (λ a. is_inside a ≡ true) (m == 36) _ _ refl refl
+
+-- Each event.
+
+-- one more of them
+abbrev pub More : (List Event → Type 0) → Type 0
+More P = (kind : Kind) (name : Name) (p : Point) (es : List Event) → is_inside name ≡ true → P es →
+    P (part_event kind name p ∷ es)
+
+either-part : (P : List Event → Type 0) → More P → (x : Bool) (name : Name) (p q : Point) (es : List Event) →
+    is_inside name ≡ true → P es → P (cond x (pair name p q) [] ++ es)
+either-part P more true name p q es e h = more Enter name p _ e (more Exit name q es e h)
+either-part P more false name p q es e h = h
+
+over-each : (P : List Event → Type 0) → More P → (name : Name) (bytes : List ℕ) (p q : Point) (es : List Event) →
+    is_inside name ≡ true → P es → P (part_over name bytes p q ++ es)
+over-each P more name [] p q es e h = h
+over-each P more name (b ∷ bs) p q es e h = more Enter name p _ e (more Exit name q es e h)
+
+-- By its rest: what holds of no events, and of one more such, holds of what stands in the line.
+pub parts-each : (P : List Event → Type 0) → P [] → More P → (options : ParseOptions) (on : HeldLeaf) (r : Rest)
+    (p q : Point) → P (further_parts options on r p q)
+parts-each P none more options on r p q = go (closes options (opening_of on) r)
+  where
+    m : ℕ
+    m = held_marker on
+
+    closing : (at : Point) → P (closing_part (held_marker on) (trim_start r.bytes) at q)
+    closing at =
+        let text = trim_start r.bytes in
+        let size = run_len m text in
+        let end = past_text (take size text) at in
+        more Enter (fence_name m) at _ (fence-inside m)
+        (more Enter (sequence_name m) at _ (sequence-inside m)
+        (more Exit (sequence_name m) end _ (sequence-inside m)
+        (over-each P more n.SpaceOrTab (drop size text) end q _ refl
+        (more Exit (fence_name m) q [] (fence-inside m) none))))
+
+    chunk : (name : Name) (bytes : List ℕ) (at : Point) → is_inside name ≡ true → P (part_over name bytes at q)
+    chunk name [] at e = none
+    chunk name (b ∷ bs) at e = more Enter name at _ e (more Exit name q [] e none)
+
+    go : (x : Bool) →
+        P (cond x (closing_line (held_marker on) r p q) (chunk_line (held_marker on) (held_indent on) r p q))
+    go true =
+        let all = indent r in
+        either-part P more (nat_lt 0 all && nat_lt 0 all) n.SpaceOrTab p (past_columns all r p) _ refl
+        (closing (past_columns all r p))
+    go false =
+        let lost = held_indent on in
+        either-part P more (nat_lt 0 lost && nat_lt 0 (indent r)) n.SpaceOrTab p (past_columns lost r p) _ refl
+        (chunk (chunk_name m) (rest_line (lose lost r)) (past_columns lost r p) (chunk-inside m))
+
+-- By its cells: the same, in front of others of which it holds.
+pub inside-each : (P : List Event → Type 0) → More P → (options : ParseOptions) (on : HeldLeaf) (cells : List Cell)
+    (p : Point) (es : List Event) → P es → P (further_inside options on cells p ++ es)
+inside-each P more options on cells p es h = go (closes_here options on cells)
+  where
+    m : ℕ
+    m = held_marker on
+
+    -- whitespace, and what follows it
+    white : (room : ℕ) (cells : List Cell) (p : Point) (xs ys : List Event) → P (xs ++ ys) →
+        P ((spaces room cells p ++ xs) ++ ys)
+    white room cells p xs ys k = by (nat_lt 0 room && begins_white cells)
+      where
+        by : (x : Bool) → P ((cond x (pair n.SpaceOrTab p (white_end room cells p)) [] ++ xs) ++ ys)
+        by true = more Enter n.SpaceOrTab p _ refl (more Exit n.SpaceOrTab (white_end room cells p) _ refl k)
+        by false = k
+
+    closing : (rest : List Cell) (at : Point) → P (closing_events (held_marker on) rest at ++ es)
+    closing rest at =
+        let q = run_end (λ b. b == held_marker on) rest at in
+        let end = exit (fence_name m) (closing_end m rest at) in
+        more Enter (fence_name m) at _ (fence-inside m)
+        (more Enter (sequence_name m) at _ (sequence-inside m)
+        (more Exit (sequence_name m) q _ (sequence-inside m)
+        (white any_size (run_rest (λ b. b == held_marker on) rest) q (end ∷ []) es
+        (more Exit (fence_name m) (closing_end m rest at) es (fence-inside m) h))))
+
+    chunk : (left : List Cell) (at : Point) → P (chunk_events (held_marker on) left at ++ es)
+    chunk left at = by (is_end left)
+      where
+        by : (x : Bool) → P (cond x [] (pair (chunk_name (held_marker on)) at (run_end is_line left at)) ++ es)
+        by true = h
+        by false =
+            more Enter (chunk_name m) at _ (chunk-inside m)
+            (more Exit (chunk_name m) (run_end is_line left at) es (chunk-inside m) h)
+
+    go : (x : Bool) →
+        P
+        (cond x
+        (spaces (small_indent options) cells p
+        ++ closing_events (held_marker on) (white_rest (small_indent options) cells)
+        (white_end (small_indent options) cells p))
+        (spaces (held_indent on) cells p
+        ++ chunk_events (held_marker on) (white_rest (held_indent on) cells) (white_end (held_indent on) cells p))
+        ++ es)
+    go true =
+        let room = small_indent options in
+        let rest = white_rest room cells in
+        let at = white_end room cells p in
+        white room cells p (closing_events m rest at) es (closing rest at)
+    go false =
+        let lost = held_indent on in
+        let rest = white_rest lost cells in
+        let at = white_end lost cells p in
+        white lost cells p (chunk_events m rest at) es (chunk rest at)
+
+-- What stands in the line has no name of a resolver's, and no content.
+
+inside-heading : (name : Name) → is_inside name ≡ true → is_heading name ≡ false
+inside-heading n.HeadingAtx e = absurd (cc)
+inside-heading _ e = refl
+
+inside-content : (name : Name) → is_inside name ≡ true → is_content name ≡ false
+inside-content n.Content e = absurd (cc)
+inside-content _ e = refl
+
+block-heading : (m : ℕ) → is_heading (block_name m) ≡ false
+block-heading m = either-name (λ a. is_heading a ≡ false) (m == 36) _ _ refl refl
+
+block-content : (m : ℕ) → is_content (block_name m) ≡ false
+block-content m = either-name (λ a. is_content a ≡ false) (m == 36) _ _ refl refl
+
+and-false : (x : Bool) → (x && false) ≡ false
+and-false true = refl
+and-false false = refl
+
+-- Nothing begins in it that a resolver rewrites.
+pub further-own : (options : ParseOptions) (on : HeldLeaf) (cells : List Cell) (p : Point) →
+    NoEnds is_own (fence_further.adds options on cells p) → AreOutside (fence_further.adds options on cells p)
+further-own options on cells p h = (
+  block-heading (held_marker on),
+  inside-each AreOutside (λ kind name x es e k. (rw (inside-heading name e) (and-false (is_enter kind)), k)) options on
+      cells p _ (refl, tt),
+)
+
+-- It holds no content, and its link is to none that is read later.
+pub further-no_content : (wants : Content → Bool) → wants content.Flow ≡ false → (options : ParseOptions)
+    (on : HeldLeaf) (cells : List Cell) (p : Point) → NoContent wants (fence_further.adds options on cells p)
+further-no_content wants flow options on cells p = (
+  rw flow refl,
+  block-content (held_marker on),
+  inside-each (NoContent wants) (λ kind name x es e k. (unlinked kind name x, inside-content name e, k)) options on
+      cells p _ (refl, block-content (held_marker on), tt),
+)
+  where
+    unlinked : (kind : Kind) (name : Name) (x : Point) → wanted wants (part_event kind name x) ≡ None
+    unlinked Enter name x = refl
+    unlinked Exit name x = refl
+
+-- Resolvers leave it.
+
+abbrev Set : List Event → Type 0
+Set es = (ys : List Event) → resolved (es ++ ys) ≡ es ++ resolved ys
+
+set-more : (e : Event) (es : List Event) → is_heading e.name ≡ false → Set es → Set (e ∷ es)
+set-more e es other h ys = rw (other, and-false (is_enter e.kind)) (ap (λ (l : List Event). e ∷ l) (h ys))
+
+-- what stands in the line
+pub parts-set : (options : ParseOptions) (on : HeldLeaf) (r : Rest) (p q : Point) (es : List Event) →
+    resolved (further_parts options on r p q ++ es) ≡ further_parts options on r p q ++ resolved es
+parts-set options on r p q =
+    parts-each Set (λ ys. refl) (λ kind name x es e k. set-more (part_event kind name x) es (inside-heading name e) k)
+    options on r p q
+
+-- and the whole line
+pub further-set : (options : ParseOptions) (on : HeldLeaf) (line : List ℕ) (p : Point) (es : List Event) →
+    resolved (fence_further.added options on line p ++ es) ≡ fence_further.added options on line p ++ resolved es
+further-set options on line p es =
+    let m = held_marker on in
+    let q = past_text line p in
+    let r = rest_of p line in
+    let inside = further_parts options on r p q in
+    let last = exit (block_name m) q in
+    set-more (enter_link (block_name m) p further_link) (inside ++ last ∷ []) (block-heading m)
+    (λ ys. ap resolved (append_assoc inside (last ∷ []) ys)
+    ∙ parts-set options on r p q (last ∷ ys)
+    ∙ ap (λ (l : List Event). inside ++ l) (set-more last [] (block-heading m) (λ ys. refl) ys)
+    ∙ sym (append_assoc inside (last ∷ []) (resolved ys))) es

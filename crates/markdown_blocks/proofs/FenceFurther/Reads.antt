@@ -1,0 +1,272 @@
+-- How a further line of fenced code or math is read, where the block is open: any line makes the last one what the line
+-- definition has of it, and a closing fence takes that away and closes the block.
+use Rattle.std.proofs.Common.{◌≡◌, ℕ, zero, suc, Bool, true, false, cond, ◌&&◌, ◌||◌, List, [], ◌∷◌, ◌++◌, length}
+use Rattle.std.proofs.Common.{drop, take, refl, sym, ◌∙◌, ap, ap₂, arith}
+use Rattle.std.specs.Prelude.{◌==◌, nat_lt, Option, Some, None, option_map}
+use Rattle.md_engine.specs.declared.configuration.ParseOptions.{ParseOptions}
+use Rattle.md_engine.specs.declared.event.Event.{Event}
+use Rattle.md_engine.specs.declared.event.Name.TheVariants as n
+use Rattle.md_engine.specs.declared.event.Point.{Point}
+use Rattle.md_engine.specs.declared.tokenizer.held_leaf.HeldLeaf.{HeldLeaf}
+use Rattle.md_definition.specs.Leaves.{closes}
+use Rattle.md_definition.specs.Rest.{Rest, cut_tab, indent, line_of, lose, run_len, trim_start}
+use Rattle.md_definition.specs.Tree.{Line}
+use Rattle.md_lines.specs.CodeLine as code
+use Rattle.md_lines.specs.Fence.{chunk_name, fence_name, held_indent, held_marker, sequence_name}
+use Rattle.md_lines.proofs.CodeLines.{chunk-reads}
+use Rattle.md_seam.specs.Events.Nested.{enter, exit, pair}
+use Rattle.md_seam.specs.Events.Places.{past_text}
+use Rattle.md_seam.specs.Events.Spelled.{AsLine, AsMarkers, FenceLeaf, Fenced, MathLeaf, OpenLeaf, Reading, Text}
+use Rattle.md_seam.specs.Events.Spelled.{at_fence}
+use Rattle.md_seam.specs.Events.Spelled.{empty_line, first_told, joined, next_line, noted, on_fences, on_last, on_leaf}
+use Rattle.md_seam.specs.Events.Spelled.{read, with_fence, without_last}
+use Rattle.md_seam.proofs.RestCells.{RestAt}
+use Rattle.md_seam.proofs.SpelledLemmas.{Quiet, Roles, read-from, read-quiet}
+use Rattle.markdown_blocks.specs.Fronted.{rest_line}
+use Rattle.markdown_blocks.specs.Leaf.FenceFurther.{chunk_line, closing_line, closing_part, columns_part, further_parts}
+use Rattle.markdown_blocks.specs.Leaf.FenceFurther.{opening_of, part_over, past_columns}
+use Rattle.markdown_blocks.proofs.FenceFurther.Cells.{past-line}
+use Rattle.markdown_blocks.proofs.FenceFurther.Names.{either-name}
+use Rattle.markdown_blocks.proofs.FenceFurther.Places.{FurtherAt, has-left}
+
+-- The block.
+
+-- it has an opening fence and no closing one, and behind these lines an empty one, which the ending in front opened
+pub record IsFenced (before : List Line) (fences : Fenced) : Type 0 where
+  pub lines : fences.lines ≡ before ++ empty_line ∷ []
+  pub some : (length fences.markers == 0) ≡ false
+  pub unclosed : fences.closed ≡ false
+
+abbrev pub IsOpen : List Line → OpenLeaf → Type 0
+IsOpen before (FenceLeaf fences info meta) = IsFenced before fences
+IsOpen before (MathLeaf fences meta) = IsFenced before fences
+IsOpen before _ = ⊥
+
+-- with these lines
+abbrev pub with_lines : List Line → OpenLeaf → OpenLeaf
+with_lines lines leaf = on_fences (λ fences. record fences { lines = lines }) leaf
+
+-- and with a closing fence behind them
+abbrev pub with_closing : List Line → OpenLeaf → OpenLeaf
+with_closing lines leaf = on_fences (λ fences. record fences { lines = lines; closed = true }) leaf
+
+-- behind an ending it has an empty line again
+pub next-open : (before lines : List Line) (leaf : OpenLeaf) → IsOpen before leaf →
+    IsOpen lines (next_line (with_lines lines leaf))
+next-open before lines (FenceLeaf fences info meta) h = record { lines = refl; some = h.some; unclosed = h.unclosed }
+next-open before lines (MathLeaf fences meta) h = record { lines = refl; some = h.some; unclosed = h.unclosed }
+next-open before lines _ h = absurd h
+
+-- Its last line.
+
+on-last : (f : Line → Line) (before : List Line) (x : Line) → on_last f (before ++ x ∷ []) ≡ before ++ f x ∷ []
+on-last f [] x = refl
+on-last f (y ∷ []) x = refl
+on-last f (y ∷ z ∷ ys) x = ap (λ (l : List Line). y ∷ l) (on-last f (z ∷ ys) x)
+
+without-last : (before : List Line) (x : Line) → without_last (before ++ x ∷ []) ≡ before
+without-last [] x = refl
+without-last (y ∷ []) x = refl
+without-last (y ∷ z ∷ ys) x = ap (λ (l : List Line). y ∷ l) (without-last (z ∷ ys) x)
+
+-- it becomes what is told of it
+empty-joined : (line : Line) → joined empty_line line ≡ line
+empty-joined line =
+    ap (λ (s : ℕ). let l : Line = record { spaces = s; text = line.text } in l) (omega arith)
+
+line-told : (before : List Line) (line : Line) (fences : Fenced) → IsFenced before fences →
+    on_last (λ l. joined l line) fences.lines ≡ before ++ line ∷ []
+line-told before line fences h =
+    ap (on_last (λ l. joined l line)) h.lines ∙ on-last (λ l. joined l line) before empty_line
+    ∙ ap (λ (l : Line). before ++ l ∷ []) (empty-joined line)
+
+line-noted : (before : List Line) (line : Line) (leaf : OpenLeaf) → IsOpen before leaf →
+    noted AsLine line leaf ≡ with_lines (before ++ line ∷ []) leaf
+line-noted before line (FenceLeaf fences info meta) h =
+    ap (λ (l : List Line). FenceLeaf (record fences { lines = l }) info meta) (line-told before line fences h)
+line-noted before line (MathLeaf fences meta) h =
+    ap (λ (l : List Line). MathLeaf (record fences { lines = l }) meta) (line-told before line fences h)
+line-noted before line _ h = absurd h
+
+-- or stays empty
+line-empty : (before : List Line) (leaf : OpenLeaf) → IsOpen before leaf →
+    leaf ≡ with_lines (before ++ empty_line ∷ []) leaf
+line-empty before (FenceLeaf fences info meta) h =
+    ap (λ (l : List Line). FenceLeaf (record fences { lines = l }) info meta) h.lines
+line-empty before (MathLeaf fences meta) h = ap (λ (l : List Line). MathLeaf (record fences { lines = l }) meta) h.lines
+line-empty before _ h = absurd h
+
+-- Its closing fence.
+
+fence-closed : (before : List Line) (fences : Fenced) → IsFenced before fences →
+    with_fence fences ≡ record fences { lines = before; closed = true }
+fence-closed before fences h =
+    ap₂
+    (λ (x y : Bool).
+    cond (x || y) fences (record fences { lines = without_last fences.lines; closed = true })) h.some h.unclosed
+    ∙ ap (λ (l : List Line). let f : Fenced = record fences { lines = l; closed = true } in f)
+    (ap without_last h.lines ∙ without-last before empty_line)
+
+markers-stand : (markers now : List ℕ) → (length markers == 0) ≡ false → first_told markers now ≡ markers
+markers-stand [] now e = cc
+markers-stand (b ∷ bs) now e = refl
+
+closing-noted : (before : List Line) (line : Line) (leaf : OpenLeaf) → IsOpen before leaf →
+    noted AsMarkers line (at_fence leaf) ≡ with_closing before leaf
+closing-noted before line (FenceLeaf fences info meta) h =
+    ap (λ (f : Fenced). noted AsMarkers line (FenceLeaf f info meta)) (fence-closed before fences h)
+    ∙ ap (λ (ms : List ℕ). FenceLeaf (record fences { markers = ms; lines = before; closed = true }) info meta)
+    (markers-stand fences.markers line.text h.some)
+closing-noted before line (MathLeaf fences meta) h =
+    ap (λ (f : Fenced). noted AsMarkers line (MathLeaf f meta)) (fence-closed before fences h)
+    ∙ ap (λ (ms : List ℕ). MathLeaf (record fences { markers = ms; lines = before; closed = true }) meta)
+    (markers-stand fences.markers line.text h.some)
+closing-noted before line _ h = absurd h
+
+-- Events.
+
+columns-quiet : (room : ℕ) (r : Rest) (p : Point) → Roles Quiet (columns_part room r p)
+columns-quiet room r p = go (nat_lt 0 room && nat_lt 0 (indent r))
+  where
+    go : (x : Bool) → Roles Quiet (cond x (pair n.SpaceOrTab p (past_columns room r p)) [])
+    go true = (tt, (tt, tt))
+    go false = tt
+
+white-quiet : (text : List ℕ) (p q : Point) → Roles Quiet (part_over n.SpaceOrTab text p q)
+white-quiet [] p q = tt
+white-quiet (b ∷ bs) p q = (tt, (tt, tt))
+
+-- a text of an open leaf
+leaf-told : (rd : Reading) (f : OpenLeaf → OpenLeaf) (leaf : OpenLeaf) → rd.text ≡ None → rd.leaf ≡ Some leaf →
+    on_leaf f (record rd { text = None }) ≡ record rd { leaf = Some (f leaf) }
+leaf-told rd f leaf none is =
+    ap₂
+    (λ (t : Option Text) (l : Option OpenLeaf).
+    let x : Reading = record rd { text = t; leaf = option_map f l } in x)
+    (sym none) is
+
+-- a part over a line
+chunk-told : (bytes : List ℕ) (m : ℕ) (p q : Point) (rd : Reading) →
+    read bytes rd (pair (chunk_name m) p q) ≡
+    on_leaf (noted AsLine (code.chunk_line bytes p q)) (record rd { text = None })
+chunk-told bytes m p q rd =
+    either-name
+    (λ name.
+    read bytes rd (pair name p q) ≡ on_leaf (noted AsLine (code.chunk_line bytes p q)) (record rd { text = None }))
+    (m == 36) _ _ refl refl
+
+chunk-read : (bytes behind : List ℕ) (m : ℕ) (left : Rest) (at q : Point) (rd : Reading) (leaf : OpenLeaf)
+    (before : List Line) →
+    RestAt bytes behind left at → q ≡ past_text (rest_line left) at → rd.text ≡ None → rd.leaf ≡ Some leaf →
+    IsOpen before leaf →
+    read bytes rd (part_over (chunk_name m) (rest_line left) at q) ≡
+    record rd { leaf = Some (with_lines (before ++ line_of left ∷ []) leaf) }
+chunk-read bytes behind m left at q rd leaf before stands ends none is shape = go left.spaces left.bytes told
+  where
+    with_last : Line → Reading
+    with_last line = record rd { leaf = Some (with_lines (before ++ line ∷ []) leaf) }
+
+    told : read bytes rd (pair (chunk_name m) at q) ≡ with_last (line_of left)
+    told =
+        chunk-told bytes m at q rd
+        ∙ leaf-told rd (noted AsLine (code.chunk_line bytes at q)) leaf none is
+        ∙ ap (λ (l : OpenLeaf). let x : Reading = record rd { leaf = Some l } in x)
+        (line-noted before (code.chunk_line bytes at q) leaf shape)
+        ∙ ap with_last
+        (ap (code.chunk_line bytes at) (ends ∙ sym (past-line bytes behind left at stands))
+        ∙ chunk-reads bytes behind left at stands)
+
+    empty : rd ≡ with_last empty_line
+    empty =
+        ap (λ (l : Option OpenLeaf). let x : Reading = record rd { leaf = l } in x)
+        (is ∙ ap (λ (l : OpenLeaf). Some l) (line-empty before leaf shape))
+
+    go : (spaces : ℕ) (text : List ℕ) →
+        read bytes rd (pair (chunk_name m) at q) ≡ with_last (record { spaces = spaces; text = text }) →
+        read bytes rd (part_over (chunk_name m) (cut_tab spaces ++ text) at q) ≡
+        with_last (record { spaces = spaces; text = text })
+    go zero [] h = empty
+    go zero (b ∷ bs) h = h
+    go (suc k) text h = h
+
+-- a closing fence
+closing-told : (bytes : List ℕ) (m : ℕ) (p q end : Point) (rd : Reading) (more : List Event) →
+    read bytes rd (enter (fence_name m) p ∷ enter (sequence_name m) p ∷ exit (sequence_name m) end ∷ more) ≡
+    read bytes
+    (on_leaf (noted AsMarkers (code.chunk_line bytes p end)) (record (on_leaf at_fence rd) { text = None })) more
+closing-told bytes m p q end rd more =
+    either-name
+    (λ name.
+    read bytes rd (enter name p ∷ enter (sequence_name m) p ∷ exit (sequence_name m) end ∷ more) ≡
+    read bytes
+    (on_leaf (noted AsMarkers (code.chunk_line bytes p end)) (record (on_leaf at_fence rd) { text = None })) more)
+    (m == 36) _ _ sequence sequence
+  where
+    sequence : read bytes (on_leaf at_fence rd) (enter (sequence_name m) p ∷ exit (sequence_name m) end ∷ more) ≡
+        read bytes
+        (on_leaf (noted AsMarkers (code.chunk_line bytes p end)) (record (on_leaf at_fence rd) { text = None })) more
+    sequence =
+        either-name
+        (λ name.
+        read bytes (on_leaf at_fence rd) (enter name p ∷ exit name end ∷ more) ≡
+        read bytes
+        (on_leaf (noted AsMarkers (code.chunk_line bytes p end)) (record (on_leaf at_fence rd) { text = None })) more)
+        (m == 36) _ _ refl refl
+
+fence-end : (bytes : List ℕ) (m : ℕ) (q : Point) (rd : Reading) → read bytes rd (exit (fence_name m) q ∷ []) ≡ rd
+fence-end bytes m q rd =
+    either-name (λ name. read bytes rd (exit name q ∷ []) ≡ rd) (m == 36) _ _ refl refl
+
+closing-read : (bytes : List ℕ) (m : ℕ) (text : List ℕ) (at q : Point) (rd : Reading) (leaf : OpenLeaf)
+    (before : List Line) →
+    rd.text ≡ None → rd.leaf ≡ Some leaf → IsOpen before leaf →
+    read bytes rd (closing_part m text at q) ≡ record rd { leaf = Some (with_closing before leaf) }
+closing-read bytes m text at q rd leaf before none is shape =
+    let end = past_text (take (run_len m text) text) at in
+    let white = part_over n.SpaceOrTab (drop (run_len m text) text) end q in
+    let line = code.chunk_line bytes at end in
+    let opened : Reading = record rd { leaf = Some (at_fence leaf) } in
+    let closed : Reading = record rd { leaf = Some (with_closing before leaf) } in
+    closing-told bytes m at q end rd (white ++ exit (fence_name m) q ∷ [])
+    ∙ ap (λ (x : Reading). read bytes x (white ++ exit (fence_name m) q ∷ []))
+    (ap (λ (l : Option OpenLeaf).
+    on_leaf (noted AsMarkers line) (record rd { leaf = option_map at_fence l; text = None })) is
+    ∙ leaf-told opened (noted AsMarkers line) (at_fence leaf) none refl
+    ∙ ap (λ (l : OpenLeaf). let x : Reading = record rd { leaf = Some l } in x) (closing-noted before line leaf shape))
+    ∙ read-from bytes closed closed white (exit (fence_name m) q ∷ [])
+    (read-quiet bytes closed white (white-quiet (drop (run_len m text) text) end q))
+    ∙ fence-end bytes m q closed
+
+-- The line.
+
+-- One that closes no block makes the last line the one of the line definition.
+pub further-line-read : (options : ParseOptions) (bytes : List ℕ) (on : HeldLeaf) (r : Rest) (p q : Point) →
+    FurtherAt bytes r p q → closes options (opening_of on) r ≡ false → (rd : Reading) (leaf : OpenLeaf)
+    (before : List Line) →
+    rd.text ≡ None → rd.leaf ≡ Some leaf → IsOpen before leaf →
+    read bytes rd (further_parts options on r p q) ≡
+    record rd { leaf = Some (with_lines (before ++ line_of (lose (held_indent on) r) ∷ []) leaf) }
+further-line-read options bytes on r p q is other rd leaf before none at shape =
+    let m = held_marker on in
+    let lost = held_indent on in
+    let left = has-left bytes lost r p q is in
+    let part = part_over (chunk_name m) (rest_line (lose lost r)) (past_columns lost r p) q in
+    ap (λ (x : Bool). read bytes rd (cond x (closing_line m r p q) (chunk_line m lost r p q))) other
+    ∙ read-from bytes rd rd (columns_part lost r p) part
+    (read-quiet bytes rd (columns_part lost r p) (columns-quiet lost r p))
+    ∙ chunk-read bytes (drop q.index bytes) m (lose lost r) (past_columns lost r p) q rd leaf before left.stands
+    left.ends none at shape
+
+-- A closing fence takes the last line away, and closes the block.
+pub further-closing-read : (options : ParseOptions) (bytes : List ℕ) (on : HeldLeaf) (r : Rest) (p q : Point) →
+    closes options (opening_of on) r ≡ true → (rd : Reading) (leaf : OpenLeaf) (before : List Line) →
+    rd.text ≡ None → rd.leaf ≡ Some leaf → IsOpen before leaf →
+    read bytes rd (further_parts options on r p q) ≡ record rd { leaf = Some (with_closing before leaf) }
+further-closing-read options bytes on r p q closed rd leaf before none at shape =
+    let m = held_marker on in
+    let all = indent r in
+    let part = closing_part m (trim_start r.bytes) (past_columns all r p) q in
+    ap (λ (x : Bool). read bytes rd (cond x (closing_line m r p q) (chunk_line m (held_indent on) r p q))) closed
+    ∙ read-from bytes rd rd (columns_part all r p) part
+    (read-quiet bytes rd (columns_part all r p) (columns-quiet all r p))
+    ∙ closing-read bytes m (trim_start r.bytes) (past_columns all r p) q rd leaf before none at shape

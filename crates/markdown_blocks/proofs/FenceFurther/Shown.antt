@@ -1,0 +1,249 @@
+-- What stands in a further line of fenced code or math stands between characters, and parts no text.
+use Rattle.std.proofs.Common.{◌≡◌, ℕ, zero, suc, ◌-◌, Bool, true, false, cond, ◌&&◌, List, [], ◌∷◌}
+use Rattle.std.proofs.Common.{◌++◌, drop, take, refl, sym, arith, subst}
+use Rattle.std.specs.Prelude.{◌==◌, nat_lt, not}
+use Rattle.std.specs.List.{list_all}
+use Rattle.std.proofs.lemmas.Bool.{and_from, or_right}
+use Rattle.std.proofs.lemmas.Bool.Decides.{nat_tests}
+use Rattle.md_engine.specs.declared.configuration.ParseOptions.{ParseOptions}
+use Rattle.md_engine.specs.declared.event.Event.{Event}
+use Rattle.md_engine.specs.declared.event.Name.{Name}
+use Rattle.md_engine.specs.declared.event.Name.TheVariants as n
+use Rattle.md_engine.specs.declared.event.Point.{Point}
+use Rattle.md_engine.specs.declared.tokenizer.held_leaf.HeldLeaf.{HeldLeaf}
+use Rattle.md_definition.specs.Leaves.{closes}
+use Rattle.md_definition.specs.Rest.{Rest, cut_tab, indent, lose, run_len, trim_start}
+use Rattle.md_lines.specs.Fence.{chunk_name, fence_name, held_indent, held_marker, may_begin, sequence_name}
+use Rattle.md_outline.specs.Between.{is_between}
+use Rattle.md_outline.specs.Outlined.{has_plain_name}
+use Rattle.md_outline.specs.Roles.{is_plain, is_told}
+use Rattle.md_seam.specs.Events.Nested.{around, exit, pair}
+use Rattle.md_seam.specs.Events.Places.{past_text}
+use Rattle.md_seam.specs.Events.Spelled.{AsLine, IsFence, Tells, role}
+use Rattle.md_seam.proofs.InlineLemmas.{past-index}
+use Rattle.md_seam.proofs.PlacesLemmas.{at-next}
+use Rattle.md_seam.proofs.RestCells.{Cut, RestAt}
+use Rattle.markdown_blocks.specs.Fronted.{rest_line}
+use Rattle.markdown_blocks.specs.Leaf.FenceFurther.{chunk_line, closing_line, closing_part, columns_part, further_parts}
+use Rattle.markdown_blocks.specs.Leaf.FenceFurther.{is_fence, opening_of, part_over, past_columns}
+use Rattle.markdown_blocks.proofs.BetweenFacts.{AreBetween, all-more, between-behind, is_low, low-at, white-between}
+use Rattle.markdown_blocks.proofs.EachEvent.{Each, each-append}
+use Rattle.markdown_blocks.proofs.FenceFurther.Inside.{has-sequence}
+use Rattle.markdown_blocks.proofs.FenceFurther.Names.{either-name, is_inside, parts-each}
+use Rattle.markdown_blocks.proofs.FenceFurther.Places.{FurtherAt, HasClosing, has-closing, has-left}
+use Rattle.markdown_blocks.proofs.FenceFurther.Trial.{fence-marker}
+use Rattle.markdown_blocks.proofs.PartedFacts.{Sits, around-sits, clear, low-clear, sits-append}
+use Rattle.markdown_blocks.proofs.PlainFacts.{ArePlain, is_clear}
+
+-- Points.
+
+-- what holds of each of its points holds of the point of each of its events
+abbrev OfPoints : (Point → Type 0) → List Event → Type 0
+OfPoints P es = Each (λ e. P e.point) es
+
+columns-points : (P : Point → Type 0) (room : ℕ) (r : Rest) (p : Point) → P p → P (past_columns room r p) →
+    OfPoints P (columns_part room r p)
+columns-points P room r p first last = go (nat_lt 0 room && nat_lt 0 (indent r))
+  where
+    go : (x : Bool) → OfPoints P (cond x (pair n.SpaceOrTab p (past_columns room r p)) [])
+    go true = (first, (last, tt))
+    go false = tt
+
+over-points : (P : Point → Type 0) (name : Name) (text : List ℕ) (p q : Point) → P p → P q →
+    OfPoints P (part_over name text p q)
+over-points P name [] p q first last = tt
+over-points P name (b ∷ bs) p q first last = (first, (last, tt))
+
+-- where the sequence of a closing fence ends
+abbrev sequence_end : HeldLeaf → Rest → Point → Point
+sequence_end on r p =
+    let text = trim_start r.bytes in past_text (take (run_len (held_marker on) text) text) (past_columns (indent r) r p)
+
+points-each : (P : Point → Type 0) (options : ParseOptions) (on : HeldLeaf) (r : Rest) (p q : Point) → P p → P q →
+    ((room : ℕ) → P (past_columns room r p)) →
+    (closes options (opening_of on) r ≡ true → P (sequence_end on r p)) → OfPoints P (further_parts options on r p q)
+points-each P options on r p q first last inner closing = go (closes options (opening_of on) r) refl
+  where
+    go : (x : Bool) → closes options (opening_of on) r ≡ x →
+        OfPoints P (cond x (closing_line (held_marker on) r p q) (chunk_line (held_marker on) (held_indent on) r p q))
+    go true f =
+        let m = held_marker on in
+        let text = trim_start r.bytes in
+        let at = past_columns (indent r) r p in
+        let end = sequence_end on r p in
+        let left = drop (run_len m text) text in
+        let white = part_over n.SpaceOrTab left end q in
+        let Of : Event → Type 0 = λ e. P e.point in
+        each-append Of (columns_part (indent r) r p) (closing_part m text at q)
+        (columns-points P (indent r) r p first (inner (indent r))) (
+          inner (indent r),
+          (
+            inner (indent r),
+            (
+              closing f,
+              each-append Of white (exit (fence_name m) q ∷ [])
+                  (over-points P n.SpaceOrTab left end q (closing f) last) (last, tt),
+            ),
+          ),
+        )
+    go false f =
+        let lost = held_indent on in
+        let line = rest_line (lose lost r) in
+        let at = past_columns lost r p in
+        let Of : Event → Type 0 = λ e. P e.point in
+        each-append Of (columns_part lost r p) (part_over (chunk_name (held_marker on)) line at q)
+        (columns-points P lost r p first (inner lost))
+        (over-points P (chunk_name (held_marker on)) line at q (inner lost) last)
+
+each-all : (f : Event → Bool) (es : List Event) → Each (λ e. f e ≡ true) es → list_all f es ≡ true
+each-all f [] h = refl
+each-all f (e ∷ es) h = and_from (f e) (list_all f es) h.0 (each-all f es h.1)
+
+-- They stand between characters.
+
+marker-low : (m b : ℕ) → may_begin m ≡ true → (b == m) ≡ true → is_low b ≡ true
+marker-low m b may e = grind (arith, nat_tests)
+
+sequence-between : (bytes : List ℕ) (on : HeldLeaf) (r : Rest) (p q : Point) → is_fence on ≡ true →
+    HasClosing bytes on r p q → is_between bytes (sequence_end on r p).index ≡ true
+sequence-between bytes on r p q e closing =
+    let m = held_marker on in
+    let text = trim_start r.bytes in
+    let at = past_columns (indent r) r p in
+    let seq = take (run_len m text) text in
+    let end = past_text seq at in
+    let over = (has-sequence bytes on r p q e closing).over in
+    let size = past-index seq at in
+    let some = over.some in
+    let low : list_all is_low seq ≡ true =
+    all-more (λ (b : ℕ). b == m) is_low seq (λ b k. marker-low m b (fence-marker on e) k) closing.all in
+    between-behind bytes end.index
+    (low-at bytes seq at.index end.index (end.index - 1) over.slice size low (omega (arith, some))
+    (omega (arith, some)))
+
+pub further-between : (options : ParseOptions) (bytes : List ℕ) (on : HeldLeaf) (r : Rest) (p q : Point) →
+    is_fence on ≡ true → FurtherAt bytes r p q → is_between bytes p.index ≡ true → is_between bytes q.index ≡ true →
+    AreBetween bytes (further_parts options on r p q)
+further-between options bytes on r p q e is begin end =
+    each-all (λ (e : Event). is_between bytes e.point.index) (further_parts options on r p q)
+    (points-each (λ x. is_between bytes x.index ≡ true) options on r p q begin end
+    (λ room.
+    let left = has-left bytes room r p q is in
+    white-between bytes p.index (past_columns room r p).index left.white.blank left.white.index begin)
+    (λ f. sequence-between bytes on r p q e (has-closing options bytes on r p q is f)))
+
+-- Each begins and ends clear.
+
+whole-clear : (bytes : List ℕ) (p : Point) → p.vs ≡ 0 → clear bytes p ≡ true
+whole-clear bytes p e = low-clear bytes p (λ some. absurd (none some))
+  where
+    none : (p.vs == 0) ≡ false → ⊥
+    none some = grind (arith, nat_tests, e)
+
+-- behind whitespace: a tab is cut, if any byte is
+left-clear : (bytes behind : List ℕ) (r : Rest) (p : Point) → RestAt bytes behind r p → clear bytes p ≡ true
+left-clear bytes behind r p is = go r.spaces is.cut is.text_is
+  where
+    go : (spaces : ℕ) → Cut spaces p → drop p.index bytes ≡ (cut_tab spaces ++ r.bytes ++ behind) →
+        clear bytes p ≡ true
+    go zero cut text = whole-clear bytes p cut
+    go (suc k) cut text =
+        low-clear bytes p
+        (λ some. subst (λ (b : ℕ). is_low b ≡ true) (sym (at-next p.index bytes 9 (r.bytes ++ behind) text)) refl)
+
+further-clear : (options : ParseOptions) (bytes : List ℕ) (on : HeldLeaf) (r : Rest) (p q : Point) →
+    is_fence on ≡ true → FurtherAt bytes r p q → clear bytes p ≡ true →
+    list_all (is_clear bytes) (further_parts options on r p q) ≡ true
+further-clear options bytes on r p q e is begin =
+    each-all (is_clear bytes) (further_parts options on r p q)
+    (points (further_parts options on r p q)
+    (points-each (λ x. clear bytes x ≡ true) options on r p q begin (whole-clear bytes q is.at.end_whole)
+    (λ room.
+    left-clear bytes (drop q.index bytes) (lose room r) (past_columns room r p)
+    (has-left bytes room r p q is).stands)
+    (λ f.
+    whole-clear bytes (sequence_end on r p)
+    (has-sequence bytes on r p q e (has-closing options bytes on r p q is f)).over.whole)))
+  where
+    points : (es : List Event) → OfPoints (λ x. clear bytes x ≡ true) es → Each (λ e. is_clear bytes e ≡ true) es
+    points [] h = tt
+    points (e ∷ es) h = (or_right (not (is_told (role e.name))) (clear bytes e.point) h.0, points es h.1)
+
+-- An outline knows their names, once it knows those of fences and lines.
+pub further-plain : (options : ParseOptions) (bytes : List ℕ) (on : HeldLeaf) (r : Rest) (p q : Point) →
+    is_fence on ≡ true → FurtherAt bytes r p q → is_plain IsFence ≡ true → is_plain (Tells AsLine) ≡ true →
+    clear bytes p ≡ true → ArePlain bytes (further_parts options on r p q)
+further-plain options bytes on r p q e is fences lines begin = record {
+  names =
+      parts-each (λ es. list_all has_plain_name es ≡ true) refl
+      (λ kind name x es e h. and_from (is_plain (role name)) (list_all has_plain_name es) (plain name e) h)
+      options on r p q;
+  texts = further-clear options bytes on r p q e is begin;
+}
+  where
+    plain : (name : Name) → is_inside name ≡ true → is_plain (role name) ≡ true
+    plain n.SpaceOrTab e = refl
+    plain n.CodeFencedFence e = fences
+    plain n.CodeFencedFenceSequence e = refl
+    plain n.CodeFlowChunk e = lines
+    plain n.MathFlowFence e = fences
+    plain n.MathFlowFenceSequence e = refl
+    plain n.MathFlowChunk e = lines
+    plain _ e = absurd (cc)
+
+-- No text is parted.
+
+abbrev SitsPair : List ℕ → Name → Type 0
+SitsPair bytes name = (p q : Point) → Sits bytes (pair name p q)
+
+white-sits : (bytes : List ℕ) → SitsPair bytes n.SpaceOrTab
+white-sits bytes p q ys h = h
+
+sequence-sits : (bytes : List ℕ) (m : ℕ) → SitsPair bytes (sequence_name m)
+sequence-sits bytes m = either-name (SitsPair bytes) (m == 36) _ _ (λ p q ys h. h) (λ p q ys h. h)
+
+chunk-sits : (bytes : List ℕ) (m : ℕ) → SitsPair bytes (chunk_name m)
+chunk-sits bytes m = either-name (SitsPair bytes) (m == 36) _ _ (λ p q ys h. h) (λ p q ys h. h)
+
+over-sits : (bytes : List ℕ) (name : Name) (text : List ℕ) (p q : Point) → SitsPair bytes name →
+    Sits bytes (part_over name text p q)
+over-sits bytes name [] p q sits = λ ys h. h
+over-sits bytes name (b ∷ bs) p q sits = sits p q
+
+columns-sits : (bytes : List ℕ) (room : ℕ) (r : Rest) (p : Point) → Sits bytes (columns_part room r p)
+columns-sits bytes room r p = go (nat_lt 0 room && nat_lt 0 (indent r))
+  where
+    go : (x : Bool) → Sits bytes (cond x (pair n.SpaceOrTab p (past_columns room r p)) [])
+    go true ys h = h
+    go false ys h = h
+
+fence-sits : (bytes : List ℕ) (m : ℕ) (p q : Point) (inside : List Event) → Sits bytes inside →
+    Sits bytes (around (fence_name m) p q inside)
+fence-sits bytes m p q inside h =
+    either-name (λ name. Sits bytes (around name p q inside)) (m == 36) _ _
+    (around-sits bytes n.MathFlowFence p q inside tt h) (around-sits bytes n.CodeFencedFence p q inside tt h)
+
+pub further-sits : (options : ParseOptions) (bytes : List ℕ) (on : HeldLeaf) (r : Rest) (p q : Point) →
+    Sits bytes (further_parts options on r p q)
+further-sits options bytes on r p q = go (closes options (opening_of on) r)
+  where
+    go : (x : Bool) →
+        Sits bytes
+        (cond x (closing_line (held_marker on) r p q) (chunk_line (held_marker on) (held_indent on) r p q))
+    go true =
+        let m = held_marker on in
+        let text = trim_start r.bytes in
+        let at = past_columns (indent r) r p in
+        let end = sequence_end on r p in
+        let white = part_over n.SpaceOrTab (drop (run_len m text) text) end q in
+        sits-append bytes (columns_part (indent r) r p) (closing_part m text at q) (columns-sits bytes (indent r) r p)
+        (fence-sits bytes m at q (pair (sequence_name m) at end ++ white)
+        (sits-append bytes (pair (sequence_name m) at end) white (sequence-sits bytes m at end)
+        (over-sits bytes n.SpaceOrTab (drop (run_len m text) text) end q (white-sits bytes))))
+    go false =
+        let m = held_marker on in
+        let lost = held_indent on in
+        let line = rest_line (lose lost r) in
+        let at = past_columns lost r p in
+        sits-append bytes (columns_part lost r p) (part_over (chunk_name m) line at q) (columns-sits bytes lost r p)
+        (over-sits bytes (chunk_name m) line at q (chunk-sits bytes m))

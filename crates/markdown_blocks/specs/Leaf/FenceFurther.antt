@@ -1,0 +1,136 @@
+-- A further line of fenced code and of math (CommonMark 4.5, own choice), as a leaf on one line: a closing fence, or
+-- one more line of the block that is open.
+use Rattle.std.specs.Prelude.{ℕ, zero, suc, ◌+◌, ◌-◌, Bool, true, false, ◌&&◌, ◌==◌, nat_lt, nat_le, if◌then◌else◌}
+use Rattle.std.specs.Prelude.{List, [], ◌∷◌, ◌++◌, take, drop, None}
+use Rattle.md_engine.specs.declared.configuration.ParseOptions.{ParseOptions}
+use Rattle.md_engine.specs.declared.event.Event.{Event}
+use Rattle.md_engine.specs.declared.event.Name.{Name}
+use Rattle.md_engine.specs.declared.event.Name.TheVariants as n
+use Rattle.md_engine.specs.declared.event.Point.{Point}
+use Rattle.md_engine.specs.declared.state.Name.TheVariants as s
+use Rattle.md_engine.specs.declared.state.flow.State.TheVariants as flow
+use Rattle.md_engine.specs.declared.state.raw_flow.State.TheVariants as its
+use Rattle.md_engine.specs.declared.tokenizer.held_leaf.HeldLeaf.{HeldLeaf}
+use Rattle.md_engine.specs.declared.tokenizer.held_leaf.HeldLeaf.TheVariants as held_leaf
+use Rattle.md_engine.specs.Meaning.{Cell}
+use Rattle.md_lines.specs.Fence.{block_name, chunk_name, fence_name, held_indent, held_marker, held_size, may_begin}
+use Rattle.md_lines.specs.Fence.{sequence_name}
+use Rattle.md_lines.specs.FenceLine.{fence_goes, further_events}
+use Rattle.md_lines.specs.FenceRule.{further_at}
+use Rattle.md_lines.specs.Further.{further_link}
+use Rattle.md_seam.specs.Events.Nested.{around, enter_link, exit, pair}
+use Rattle.md_seam.specs.Events.Places.{past_text}
+use Rattle.md_seam.specs.Events.Spelled.{columns_left}
+use Rattle.md_definition.specs.Leaves.{closes, least_size}
+use Rattle.md_definition.specs.Rest.{Rest, indent, lose, run_len, trim_start, without_column}
+use Rattle.md_definition.specs.State.{Opening, fence_block}
+use Rattle.markdown_blocks.specs.Fronted.{rest_line}
+use Rattle.markdown_blocks.specs.LineLeaf.{LineLeaf}
+
+-- What is held of the block.
+
+-- whether this is fenced code or math: its fence has a marker of such a block, and enough of it
+abbrev pub is_fence : HeldLeaf → Bool
+is_fence on = may_begin (held_marker on) && nat_le (least_size (held_marker on)) (held_size on)
+
+-- its opening fence, as far as it is held
+abbrev pub opening_of : HeldLeaf → Opening
+opening_of on = record {
+  marker = held_marker on;
+  size = held_size on;
+  indent = held_indent on;
+  info = None;
+  meta = None;
+}
+
+-- what is held of it behind the line, by the cells of the line, and by its rest: nothing behind a closing fence
+abbrev pub further_keeps : ParseOptions → HeldLeaf → List Cell → HeldLeaf
+further_keeps options on cells = if is_fence on then fence_goes options on cells else held_leaf.None
+
+abbrev pub further_holds : ParseOptions → HeldLeaf → Rest → HeldLeaf
+further_holds options on r =
+    if is_fence on then (if closes options (opening_of on) r then held_leaf.None else on) else held_leaf.None
+
+-- Points of a line.
+
+-- the rest of a line that begins at a point: a tab that the point cuts is its first byte
+abbrev pub rest_of : Point → List ℕ → Rest
+rest_of p line = record {
+  column = p.column - 1;
+  spaces = columns_left p;
+  bytes = if p.vs == 0 then line else drop 1 line;
+}
+
+-- a column further, with this left behind it: within a tab while more of it is left, and else behind its byte
+abbrev pub next_point : Rest → Point → Point
+next_point left p =
+    if left.spaces == 0 then record p { column = p.column + 1; index = p.index + 1; vs = 0 }
+    else record p { column = p.column + 1; vs = p.vs + 1 }
+
+-- behind so many columns of whitespace, or as many as there are
+abbrev pub past_columns : ℕ → Rest → Point → Point
+past_columns zero r p = p
+past_columns (suc n) r p =
+    let left = without_column r.column r.spaces r.bytes in
+    if indent r == 0 then p else past_columns n left (next_point left p)
+
+-- What stands in the line, from the point where it begins to its end.
+
+-- so many columns of whitespace, or as many as there are
+abbrev pub columns_part : ℕ → Rest → Point → List Event
+columns_part room r p =
+    if nat_lt 0 room && nat_lt 0 (indent r) then pair n.SpaceOrTab p (past_columns room r p) else []
+
+-- a part over these bytes, if there are any
+abbrev pub part_over : Name → List ℕ → Point → Point → List Event
+part_over name [] p q = []
+part_over name (b ∷ bs) p q = pair name p q
+
+-- a closing fence: its sequence, and the whitespace behind it
+abbrev pub closing_part : ℕ → List ℕ → Point → Point → List Event
+closing_part m text p q =
+    let size = run_len m text in
+    let end = past_text (take size text) p in
+    around (fence_name m) p q (pair (sequence_name m) p end ++ part_over n.SpaceOrTab (drop size text) end q)
+
+-- the line with a closing fence, behind its indent, and any other: what it loses, and what is left of it
+abbrev pub closing_line : ℕ → Rest → Point → Point → List Event
+closing_line m r p q =
+    columns_part (indent r) r p ++ closing_part m (trim_start r.bytes) (past_columns (indent r) r p) q
+
+abbrev pub chunk_line : ℕ → ℕ → Rest → Point → Point → List Event
+chunk_line m lost r p q =
+    columns_part lost r p ++ part_over (chunk_name m) (rest_line (lose lost r)) (past_columns lost r p) q
+
+abbrev pub further_parts : ParseOptions → HeldLeaf → Rest → Point → Point → List Event
+further_parts options on r p q =
+    let m = held_marker on in
+    if closes options (opening_of on) r then closing_line m r p q else chunk_line m (held_indent on) r p q
+
+-- the whole line, which is linked to the one in front
+abbrev pub further_line : ParseOptions → HeldLeaf → List ℕ → Point → List Event
+further_line options on line p =
+    let name = block_name (held_marker on) in
+    let q = past_text line p in
+    enter_link name p further_link ∷ further_parts options on (rest_of p line) p q ++ exit name q ∷ []
+
+-- By itself it is no block, and it has no text parts: what it is with the lines in front of it shows when they are
+-- joined, so its block and its events behind that are not asked.
+abbrev pub fence_further : LineLeaf
+fence_further = record {
+  start = s.RawFlow its.AtNonLazyBreak;
+  before = flow.Start;
+  ends = false;
+  further = λ on. is_fence on;
+  may_begin = λ b. true;
+  trial = further_at;
+  takes = λ options on cells. is_fence on;
+  adds = λ options on cells p. further_events options on cells p;
+  keeps = λ options on cells p. further_keeps options on cells;
+  starts = λ options on r. is_fence on;
+  holds = λ options on r. further_holds options on r;
+  block = λ r. fence_block (opening_of held_leaf.None) [] false;
+  added = λ options on line p. further_line options on line p;
+  unread = λ line p. [];
+  done = λ bytes line p. [];
+}
