@@ -50,17 +50,10 @@ pub record IsLeafName (name : Name) (kind : LeafKind) : Type 0 where
   -- an outline shows it
   pub plain : is_plain (Opens kind) ≡ true
 
--- A line on which a leaf ends holds one, whatever stands on it.
---
--- TO GO: `λ to. refl` proves this as soon as `spot_behind Exit IsLeaf s` of `md_seam` has `after_leaf = true`. Until
--- then it fails where the last line of the leaf is empty, so it is a premise, and what has it says nothing yet.
-abbrev pub EndFills : Type 0
-EndFills = (to : Bool) → spot_behind Exit IsLeaf (in_leaf to) ≡ behind_leaf
-
--- where its line ends
-around-leads : (name : Name) (p q : Point) (es : List Event) → on_line name ≡ IsLeaf → Stays es → EndFills →
-    ending.Leads line_start behind_leaf (around name p q es)
-around-leads name p q es leaf stays fills = λ ys.
+-- where its line ends, if the last line of the leaf is filled: if anything stands on it
+around-leads : (name : Name) (p q : Point) (es : List Event) → on_line name ≡ IsLeaf → (stays : Stays es) →
+    (stays true).0 ≡ true → ending.Leads line_start behind_leaf (around name p q es)
+around-leads name p q es leaf stays filled = λ ys.
     ap
     (λ (x : OnLine).
     ends_rightly Enter x line_start
@@ -71,7 +64,7 @@ around-leads name p q es leaf stays fills = λ ys.
     (λ (x : OnLine).
     ends_rightly Exit x (in_leaf (stays true).0)
     && endings_stand_from (spot_behind Exit x (in_leaf (stays true).0)) ys) leaf
-    ∙ ap (λ (s : Spot). endings_stand_from s ys) (fills (stays true).0)
+    ∙ ap (λ (to : Bool). endings_stand_from (spot_behind Exit IsLeaf (in_leaf to)) ys) filled
 
 -- in the grammar
 around-word : (text left : Expression) (name : Name) (kind : LeafKind) (p q : Point) (es : List Event) →
@@ -107,13 +100,14 @@ quiets-between (e ∷ es) h = (one (role e.name) h.0, quiets-between es h.1)
     one IsQuiet h = tt
     one _ h = absurd h
 
--- The leaf.
+-- The leaf, if its last line is filled. Behind an empty one its ending is that of a blank line.
 pub inside-leaf : (bytes : List ℕ) (name : Name) (kind : LeafKind) (p a q : Point) (left : Expression) (to : OpenLeaf)
     (lead unread done : List Event) →
-    (named : IsLeafName name kind) → EndFills → LeadFacts bytes p a lead → Starts unread → Starts done →
-    InsideFacts bytes a q named.begin left (fresh kind) to unread done → may_end left ≡ true →
+    (named : IsLeafName name kind) → LeadFacts bytes p a lead → Starts unread → Starts done →
+    (h : InsideFacts bytes a q named.begin left (fresh kind) to unread done) → (h.unread_stays true).0 ≡ true →
+    (h.stays true).0 ≡ true → may_end left ≡ true →
     LeafFacts bytes (Some (block_of to)) p q (lead ++ around name a q unread) (lead ++ around name a q done)
-inside-leaf bytes name kind p a q left to lead unread done named fills front unread_starts starts h ends = record {
+inside-leaf bytes name kind p a q left to lead unread done named front unread_starts starts h unread_filled filled ends = record {
   unread_nested =
       nested_in-append p a q lead (around name a q unread) front.nested
       (around-nested name a q unread h.unread_nested);
@@ -133,10 +127,10 @@ inside-leaf bytes name kind p a q left to lead unread done named fills front unr
       (front.word plain_text) (around-word plain_text left name kind a q done named h.word ends);
   unread_ending =
       ending.leads-append line_start line_start behind_leaf lead (around name a q unread) lead_ends
-      (around-leads name a q unread named.leaf h.unread_stays fills);
+      (around-leads name a q unread named.leaf h.unread_stays unread_filled);
   ending =
       ending.leads-append line_start line_start behind_leaf lead (around name a q done) lead_ends
-      (around-leads name a q done named.leaf h.stays fills);
+      (around-leads name a q done named.leaf h.stays filled);
   unread_unlisted =
       unlisted-both lead (around name a q unread) unlisted
       (around-unlisted name a q unread named.no_list h.unread_roles);

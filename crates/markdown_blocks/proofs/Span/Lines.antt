@@ -25,7 +25,7 @@ use Rattle.markdown_blocks.proofs.Span.Cuts.{but_end-is, but_ends-is, end-is, sp
 use Rattle.markdown_blocks.proofs.Span.Inside.{InsideFacts, Meets, behind_ending, ending-inside, front-inside}
 use Rattle.markdown_blocks.proofs.Span.Inside.{inside-append, inside-none}
 use Rattle.markdown_blocks.proofs.Span.Lead.{LeadFacts}
-use Rattle.markdown_blocks.proofs.Span.Leaf.{EndFills, IsLeafName, inside-leaf}
+use Rattle.markdown_blocks.proofs.Span.Leaf.{IsLeafName, inside-leaf}
 use Rattle.markdown_blocks.proofs.Text.Parted.{rest-clear}
 
 -- A line.
@@ -246,15 +246,34 @@ rest-inside bytes unread done name left leaf to row (next ∷ rows) whole are =
     next-inside bytes unread done name left leaf to row next rows whole are
     (rest-inside bytes unread done name are.5.left are.5.leaf to next rows are.5.ends.whole are.6)
 
--- All that the frame asks of the lines of a leaf, joined.
+-- what stands in the leaf behind its begin
+pub span-inside : (bytes : List ℕ) (unread done : Row → List Event) (name : Name) (kind : LeafKind) (to : OpenLeaf)
+    (row : Row) (rows : List Row) →
+    (named : IsLeafName name kind) (first : SpanFirst bytes unread done name named.begin (fresh kind) row) →
+    (are : AreFurther bytes unread done name first.left first.leaf to row rows) →
+    InsideFacts bytes first.at (last_row row rows).end named.begin
+    (rest-inside bytes unread done name first.left first.leaf to row rows first.ends.whole are).left (fresh kind) to
+    (first.unread_inside ++ span_rest unread row rows) (first.inside ++ span_rest done row rows)
+span-inside bytes unread done name kind to row rows named first are =
+    inside-append bytes first.at row.end (last_row row rows).end named.begin first.left rest.left (fresh kind)
+    first.leaf to first.unread_inside first.inside (span_rest unread row rows) (span_rest done row rows)
+    (meets-end bytes unread done name first.left first.leaf to row rows first.ends.whole are) first.facts rest.facts
+  where
+    rest :
+        RestInside bytes row.end (last_row row rows).end first.left first.leaf to (span_rest unread row rows)
+        (span_rest done row rows)
+    rest = rest-inside bytes unread done name first.left first.leaf to row rows first.ends.whole are
+
+-- All that the frame asks of the lines of a leaf, joined, if the last of them is filled.
 pub span-facts : (bytes : List ℕ) (unread done : Row → List Event) (name : Name) (kind : LeafKind) (to : OpenLeaf)
     (row : Row) (rows : List Row) →
-    (named : IsLeafName name kind) → EndFills →
-    (first : SpanFirst bytes unread done name named.begin (fresh kind) row) →
-    AreFurther bytes unread done name first.left first.leaf to row rows →
+    (named : IsLeafName name kind) (first : SpanFirst bytes unread done name named.begin (fresh kind) row) →
+    (are : AreFurther bytes unread done name first.left first.leaf to row rows) →
+    ((span-inside bytes unread done name kind to row rows named first are).unread_stays true).0 ≡ true →
+    ((span-inside bytes unread done name kind to row rows named first are).stays true).0 ≡ true →
     LeafFacts bytes (Some (block_of to)) row.first (last_row row rows).end (span_by unread row rows)
     (span_by done row rows)
-span-facts bytes unread done name kind to row rows named fills first are =
+span-facts bytes unread done name kind to row rows named first are unread_filled filled =
     subst
     (λ (es : List Event).
     LeafFacts bytes (Some (block_of to)) row.first last es (span_by done row rows))
@@ -265,13 +284,10 @@ span-facts bytes unread done name kind to row rows named fills first are =
     (first.lead ++ around name first.at last (first.unread_inside ++ span_rest unread row rows)) es)
     (sym (span-is done name first.at first.lead first.inside row rows first.is ends.end))
     (inside-leaf bytes name kind row.first first.at last rest.left to first.lead
-    (first.unread_inside ++ span_rest unread row rows) (first.inside ++ span_rest done row rows) named fills
-    first.lead_is (starts-append first.unread_inside (span_rest unread row rows) first.unread_starts)
+    (first.unread_inside ++ span_rest unread row rows) (first.inside ++ span_rest done row rows) named first.lead_is
+    (starts-append first.unread_inside (span_rest unread row rows) first.unread_starts)
     (starts-append first.inside (span_rest done row rows) first.starts)
-    (inside-append bytes first.at row.end last named.begin first.left rest.left (fresh kind) first.leaf to
-    first.unread_inside first.inside (span_rest unread row rows) (span_rest done row rows)
-    (meets-end bytes unread done name first.left first.leaf to row rows first.ends.whole are) first.facts rest.facts)
-    rest.end))
+    (span-inside bytes unread done name kind to row rows named first are) unread_filled filled rest.end))
   where
     last : Point
     last = (last_row row rows).end
