@@ -8,7 +8,7 @@ use Rattle.md_engine.specs.declared.event.Name.{Name}
 use Rattle.md_engine.specs.declared.event.Point.{Point}
 use Rattle.md_containers.specs.Unlisted.{in_place}
 use Rattle.md_containers.proofs.UnlistedLemmas.{NoListing, among, stands-append as places-append}
-use Rattle.md_seam.specs.Events.Endings.{IsLeaf, OnLine, Spot, endings_stand_from, ends_rightly, line_start, on_line}
+use Rattle.md_seam.specs.Events.Endings.{IsLeaf, OnLine, endings_stand_from, ends_rightly, line_start, on_line}
 use Rattle.md_seam.specs.Events.Endings.{spot_behind}
 use Rattle.md_seam.specs.Events.Grammar.{Expression, behind, behind_block, blocks, inside, may_end, plain_text}
 use Rattle.md_seam.specs.Events.Grammar.{unread_text}
