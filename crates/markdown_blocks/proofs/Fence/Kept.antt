@@ -22,11 +22,11 @@ use Rattle.md_seam.specs.Events.Endings.{IsLeaf, line_start, on_line}
 use Rattle.md_seam.specs.Events.Inline.{line_end, pair_unless_empty, plain_chunk}
 use Rattle.md_seam.specs.Events.Nested.{around, enter, exit, pair}
 use Rattle.md_seam.specs.Events.Places.{past_text, same_place}
-use Rattle.md_seam.specs.Events.Spelled.{LeafKind, OfFence, OfMath, Opens, Role, role}
+use Rattle.md_seam.specs.Events.Spelled.{IsQuiet, LeafKind, OfFence, OfMath, Opens, Role, role}
 use Rattle.md_seam.proofs.EndingsLemmas.{AreOthers, Leads, behind_leaf, in_leaf, is_other, leads-append, leaf-leads}
 use Rattle.md_seam.proofs.EndingsLemmas.{others-append, others-lead}
 use Rattle.md_seam.proofs.InlineLemmas.{same-refl}
-use Rattle.md_seam.proofs.SpelledLemmas.{Between, Quiet, Roles}
+use Rattle.md_seam.proofs.SpelledLemmas.{Between, Roles}
 use Rattle.markdown_blocks.specs.Leaf.Fence.{Inner, fence_around, fence_line, fence_parts, linked, past_white}
 use Rattle.markdown_blocks.specs.Leaf.Fence.{read_inner}
 use Rattle.markdown_blocks.specs.Leaf.Fence.{white_part}
@@ -76,28 +76,12 @@ read-parts : (bytes : List ℕ) (p q : Point) → Roles IsPart (read_inner bytes
 read-parts bytes p q = plain-roles IsPart bytes (record { first = p; after = q } ∷ []) tt tt
 
 -- the whitespace in front the tree does not show
-pub white-quiet : (line : List ℕ) (p : Point) → Roles Quiet (white_part line p)
-white-quiet [] p = tt
-white-quiet (b ∷ bs) p = go (is_white b)
+pub white-roles : (P : Role → Type 0) → P IsQuiet → (line : List ℕ) (p : Point) → Roles P (white_part line p)
+white-roles P quiet [] p = tt
+white-roles P quiet (b ∷ bs) p = go (is_white b)
   where
-    go : (x : Bool) → Roles Quiet (cond x (pair n.SpaceOrTab p (past_white (b ∷ bs) p)) [])
-    go true = (tt, (tt, tt))
-    go false = tt
-
-white-between : (line : List ℕ) (p : Point) → Roles Between (white_part line p)
-white-between [] p = tt
-white-between (b ∷ bs) p = go (is_white b)
-  where
-    go : (x : Bool) → Roles Between (cond x (pair n.SpaceOrTab p (past_white (b ∷ bs) p)) [])
-    go true = (tt, (tt, tt))
-    go false = tt
-
-white-parts : (line : List ℕ) (p : Point) → Roles IsPart (white_part line p)
-white-parts [] p = tt
-white-parts (b ∷ bs) p = go (is_white b)
-  where
-    go : (x : Bool) → Roles IsPart (cond x (pair n.SpaceOrTab p (past_white (b ∷ bs) p)) [])
-    go true = (tt, (tt, tt))
+    go : (x : Bool) → Roles P (cond x (pair n.SpaceOrTab p (past_white (b ∷ bs) p)) [])
+    go true = (quiet, (quiet, tt))
     go false = tt
 
 -- No list stands in it.
@@ -110,7 +94,7 @@ line-unlisted inner h line p =
     let q = past_white line p in
     let e = past_text line p in
     unlisted-both (white_part line p) (fence_around inner m text q e)
-    (parts-unlisted (white_part line p) (white-parts line p))
+    (parts-unlisted (white_part line p) (white-roles IsPart tt line p))
     (around-unlisted (block_name m) q e (around (fence_name m) q e (fence_parts inner m text q))
     (by-math (λ x. in_place x ≡ x) (m == 36) n.MathFlow n.CodeFenced refl refl) (inside-parts inner h m text q e))
 
@@ -141,7 +125,7 @@ fence-stands bytes line p held =
     let e = past_text line p in
     let inside = around (fence_name m) q e (fence_parts (read_inner bytes) m text q) in
     stands-append bytes (among held) (among held) (among held) (white_part line p) (around (block_name m) q e inside)
-    (between-stand bytes held (white_part line p) (white-between line p))
+    (between-stand bytes held (white_part line p) (white-roles Between tt line p))
     (leaf-stands bytes held (block_name m) (kind_of m) q e inside (block-opens m)
     (inside-parts (read_inner bytes) (read-parts bytes) m text q e))
 

@@ -25,11 +25,11 @@ use Rattle.md_seam.specs.Events.Spelled.{Purpose, Reading, Tells, Text, add_bloc
 use Rattle.md_seam.specs.Events.Spelled.{role}
 use Rattle.md_seam.specs.Events.Spelled.{text_to, told}
 use Rattle.md_seam.proofs.BlocksLemmas.{read-around, read-leaf, read-told}
-use Rattle.md_seam.proofs.SpelledLemmas.{Between, QuietOrEnding, Roles, read-from, read-quiet, text-inline}
+use Rattle.md_seam.proofs.SpelledLemmas.{Between, Quiet, QuietOrEnding, Roles, read-from, read-quiet, text-inline}
 use Rattle.markdown_blocks.specs.Fronted.{rest_line}
 use Rattle.markdown_blocks.specs.Leaf.Fence.{behind_parts, fence_around, fence_line, opening_at, past_white, read_inner}
 use Rattle.markdown_blocks.specs.Leaf.Fence.{text_part, white_part}
-use Rattle.markdown_blocks.proofs.Fence.Kept.{white-quiet}
+use Rattle.markdown_blocks.proofs.Fence.Kept.{white-roles}
 use Rattle.markdown_blocks.proofs.Fence.Laid.{Laid}
 use Rattle.markdown_blocks.proofs.Fence.Walk.{At, at-drop, at-take, sequence-over}
 use Rattle.markdown_blocks.proofs.Fence.Words.{code_parts, parts_by}
@@ -116,7 +116,7 @@ code-told bytes xs rest p at r ys none =
     read-from bytes start mid (info ++ white_part left q) meta
     (read-from bytes start mid info (white_part left q)
     (info-told bytes word (drop size xs ++ rest) p (at-take bytes xs rest p size at) r ys none)
-    ∙ read-quiet bytes mid (white_part left q) (white-quiet left q))
+    ∙ read-quiet bytes mid (white_part left q) (white-roles Quiet tt left q))
     ∙ meta-told bytes (trim_start left) rest v (at-drop bytes left rest q (prefix_len is_white left) at_left) r ys
     (nonempty word) none
 
@@ -143,7 +143,7 @@ fence-read bytes r true c cs zs rest more p e here behind none =
     read-around bytes start n.MathFlowFence p e (pair n.MathFlowFenceSequence p q ++ (white ++ meta))
     ∙ read-from bytes start mid (pair n.MathFlowFenceSequence p q) (white ++ meta)
     (text-told bytes c cs more p here start n.MathFlowFenceSequence AsMarkers [] refl none tt tt)
-    ∙ read-from bytes mid mid white meta (read-quiet bytes mid white (white-quiet zs q))
+    ∙ read-from bytes mid mid white meta (read-quiet bytes mid white (white-roles Quiet tt zs q))
     ∙ math-told bytes (trim_start zs) rest (past_white zs q) (at-drop bytes zs rest q (prefix_len is_white zs) behind) r
     (c ∷ cs) none
 fence-read bytes r false c cs zs rest more p e here behind none =
@@ -155,7 +155,7 @@ fence-read bytes r false c cs zs rest more p e here behind none =
     read-around bytes start n.CodeFencedFence p e (pair n.CodeFencedFenceSequence p q ++ (white ++ parts))
     ∙ read-from bytes start mid (pair n.CodeFencedFenceSequence p q) (white ++ parts)
     (text-told bytes c cs more p here start n.CodeFencedFenceSequence AsMarkers [] refl none tt tt)
-    ∙ read-from bytes mid mid white parts (read-quiet bytes mid white (white-quiet zs q))
+    ∙ read-from bytes mid mid white parts (read-quiet bytes mid white (white-roles Quiet tt zs q))
     ∙ code-told bytes (trim_start zs) rest (past_white zs q) (at-drop bytes zs rest q (prefix_len is_white zs) behind) r
     (c ∷ cs) none
 
@@ -215,7 +215,7 @@ pub fence-reads : (options : ParseOptions) (bytes : List ℕ) (r : Rest) (rest :
     read bytes o (fence_line (read_inner bytes) (rest_line r) p) ≡ add_block (fence_block (opening_at r) [] false) o
 fence-reads options bytes r rest p o is none shut =
     read-from bytes o o (white_part line p) (fence_around (read_inner bytes) m text q e)
-    (read-quiet bytes o (white_part line p) (white-quiet line p))
+    (read-quiet bytes o (white_part line p) (white-roles Quiet tt line p))
     ∙ by (take size text) (at-take bytes text rest q size is.at) (sequence-over options text is.fence)
     (at-drop bytes text rest q size is.at) (first size text refl)
     ∙ ap (λ (l : List ℕ). add_block (of_text l) o) (rest-trim r)
