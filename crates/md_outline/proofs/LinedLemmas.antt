@@ -338,29 +338,46 @@ markers-told kind line s r h some is =
       };
     })
 
--- what stands behind them
-info-told : (kind : LeafKind) (line : Line) (s : OutlineState) (r : Reading) → HasInfo kind →
-    Marked kind None None [] false s r →
-    Marked kind (Some line.text) None [] false
-    (told (purpose.Part word.Info) false line.text (record s { text = None }))
-    (spelled.told AsInfo line (record r { text = None }))
-info-told OfFence line s r h m = record {
+-- what stands behind them: a text that tells the leaf one thing more, and is shown behind the others
+part-told : (w : Word) (tells : spelled.Purpose) (kind : LeafKind) (info meta info_new meta_new : Option (List ℕ))
+    (line : Line) (s : OutlineState) (r : Reading) →
+    ((markers : List ℕ) →
+    spelled.noted tells line (lined_leaf kind markers info meta [] false) ≡
+    lined_leaf kind markers info_new meta_new [] false) →
+    ((depth : ℕ) (markers : List ℕ) →
+    lined_entries kind depth markers info meta [] false ++ entry_with (depth + 1) w line.text ∷ [] ≡
+    lined_entries kind depth markers info_new meta_new [] false) →
+    Marked kind info meta [] false s r →
+    Marked kind info_new meta_new [] false
+    (told (purpose.Part w) false line.text (record s { text = None }))
+    (record r { text = None; leaf = option_map (spelled.noted tells line) r.leaf })
+part-told w tells kind info meta info_new meta_new line s r leaf lines m = record {
   markers = m.markers;
   fenced = m.fenced;
   marked = m.marked;
   is = record {
-    opened = ap (option_map (spelled.noted AsInfo line)) m.is.opened;
+    opened = ap (option_map (spelled.noted tells line)) m.is.opened ∙ ap Some (leaf m.markers);
     depth = m.is.depth;
     words = m.is.words;
     untold = m.is.untold;
     leaf = m.is.leaf;
     lined = m.is.lined;
     all =
-        ap (λ es. es ++ entry_with (s.depth + 1) word.Info line.text ∷ []) m.is.all
-        ∙ append_assoc (shown r.outer r.here) (lined_entries OfFence s.depth m.markers None None [] false)
-        (entry_with (s.depth + 1) word.Info line.text ∷ []);
+        ap (λ es. es ++ entry_with (s.depth + 1) w line.text ∷ []) m.is.all
+        ∙ append_assoc (shown r.outer r.here) (lined_entries kind s.depth m.markers info meta [] false)
+        (entry_with (s.depth + 1) w line.text ∷ [])
+        ∙ ap (λ es. shown r.outer r.here ++ es) (lines s.depth m.markers);
   };
 }
+
+info-told : (kind : LeafKind) (line : Line) (s : OutlineState) (r : Reading) → HasInfo kind →
+    Marked kind None None [] false s r →
+    Marked kind (Some line.text) None [] false
+    (told (purpose.Part word.Info) false line.text (record s { text = None }))
+    (spelled.told AsInfo line (record r { text = None }))
+info-told OfFence line s r h m =
+    part-told word.Info AsInfo OfFence None None (Some line.text) None line s r (λ markers. refl)
+    (λ depth markers. refl) m
 info-told _ line s r h m = absurd h
 
 meta-leaf : (kind : LeafKind) (markers : List ℕ) (info : Option (List ℕ)) (line : Line) → HasFences kind →
@@ -384,25 +401,9 @@ meta-told : (kind : LeafKind) (info : Option (List ℕ)) (line : Line) (s : Outl
     Marked kind info (Some line.text) [] false
     (told (purpose.Part word.Meta) false line.text (record s { text = None }))
     (spelled.told AsMeta line (record r { text = None }))
-meta-told kind info line s r h m = record {
-  markers = m.markers;
-  fenced = m.fenced;
-  marked = m.marked;
-  is = record {
-    opened =
-        ap (option_map (spelled.noted AsMeta line)) m.is.opened ∙ ap Some (meta-leaf kind m.markers info line h);
-    depth = m.is.depth;
-    words = m.is.words;
-    untold = m.is.untold;
-    leaf = m.is.leaf;
-    lined = m.is.lined;
-    all =
-        ap (λ es. es ++ entry_with (s.depth + 1) word.Meta line.text ∷ []) m.is.all
-        ∙ append_assoc (shown r.outer r.here) (lined_entries kind s.depth m.markers info None [] false)
-        (entry_with (s.depth + 1) word.Meta line.text ∷ [])
-        ∙ ap (λ es. shown r.outer r.here ++ es) (meta-lines kind s.depth m.markers info line.text h);
-  };
-}
+meta-told kind info line s r h m =
+    part-told word.Meta AsMeta kind info None info (Some line.text) line s r
+    (λ markers. meta-leaf kind markers info line h) (λ depth markers. meta-lines kind depth markers info line.text h) m
 
 -- a line
 on-last : {A : Type 0} (f : A → A) (xs : List A) (x : A) → on_last f (xs ++ x ∷ []) ≡ xs ++ f x ∷ []

@@ -50,6 +50,19 @@ is_inside n.MathFlowFenceSequence = true
 is_inside n.MathFlowChunk = true
 is_inside _ = false
 
+-- what holds of each of them
+pub inside-name : (P : Name → Type 0) → P n.SpaceOrTab → P n.CodeFencedFence → P n.CodeFencedFenceSequence →
+    P n.CodeFlowChunk → P n.MathFlowFence → P n.MathFlowFenceSequence → P n.MathFlowChunk → (name : Name) →
+    is_inside name ≡ true → P name
+inside-name P white fence sequence chunk math math_sequence math_chunk n.SpaceOrTab e = white
+inside-name P white fence sequence chunk math math_sequence math_chunk n.CodeFencedFence e = fence
+inside-name P white fence sequence chunk math math_sequence math_chunk n.CodeFencedFenceSequence e = sequence
+inside-name P white fence sequence chunk math math_sequence math_chunk n.CodeFlowChunk e = chunk
+inside-name P white fence sequence chunk math math_sequence math_chunk n.MathFlowFence e = math
+inside-name P white fence sequence chunk math math_sequence math_chunk n.MathFlowFenceSequence e = math_sequence
+inside-name P white fence sequence chunk math math_sequence math_chunk n.MathFlowChunk e = math_chunk
+inside-name P white fence sequence chunk math math_sequence math_chunk _ e = absurd (cc)
+
 pub either-name : (P : Name → Type 0) (x : Bool) (a b : Name) → P a → P b → P (cond x a b)
 either-name P true a b h k = h
 either-name P false a b h k = k

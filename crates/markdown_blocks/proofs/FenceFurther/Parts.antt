@@ -21,7 +21,7 @@ use Rattle.md_seam.proofs.EndingsLemmas.{AreOthers, is_other}
 use Rattle.md_seam.proofs.SpelledLemmas.{Roles}
 use Rattle.md_containers.proofs.UnlistedLemmas.{NoListing}
 use Rattle.markdown_blocks.specs.Leaf.FenceFurther.{further_parts}
-use Rattle.markdown_blocks.proofs.FenceFurther.Names.{is_inside, parts-each}
+use Rattle.markdown_blocks.proofs.FenceFurther.Names.{inside-name, is_inside, parts-each}
 use Rattle.markdown_blocks.proofs.FillFacts.{Fill, fill-same}
 use Rattle.markdown_blocks.proofs.LeafStands.{parts-unlisted}
 use Rattle.markdown_blocks.proofs.PartFacts.{NoLinks, NoParts}
@@ -32,44 +32,16 @@ use Rattle.markdown_blocks.proofs.SubstitutedLemmas.{Becomes, becomes-same, no_l
 
 -- each is the name of a part of a leaf
 inside-part : (name : Name) → is_inside name ≡ true → IsPart (role name)
-inside-part n.SpaceOrTab e = tt
-inside-part n.CodeFencedFence e = tt
-inside-part n.CodeFencedFenceSequence e = tt
-inside-part n.CodeFlowChunk e = tt
-inside-part n.MathFlowFence e = tt
-inside-part n.MathFlowFenceSequence e = tt
-inside-part n.MathFlowChunk e = tt
-inside-part _ e = absurd (cc)
+inside-part = inside-name (λ name. IsPart (role name)) tt tt tt tt tt tt tt
 
 inside-block : (name : Name) → is_inside name ≡ true → is_block (role name) ≡ false
-inside-block n.SpaceOrTab e = refl
-inside-block n.CodeFencedFence e = refl
-inside-block n.CodeFencedFenceSequence e = refl
-inside-block n.CodeFlowChunk e = refl
-inside-block n.MathFlowFence e = refl
-inside-block n.MathFlowFenceSequence e = refl
-inside-block n.MathFlowChunk e = refl
-inside-block _ e = absurd (cc)
+inside-block = inside-name (λ name. is_block (role name) ≡ false) refl refl refl refl refl refl refl
 
 inside-kind : (name : Name) → is_inside name ≡ true → part_kind name ≡ None
-inside-kind n.SpaceOrTab e = refl
-inside-kind n.CodeFencedFence e = refl
-inside-kind n.CodeFencedFenceSequence e = refl
-inside-kind n.CodeFlowChunk e = refl
-inside-kind n.MathFlowFence e = refl
-inside-kind n.MathFlowFenceSequence e = refl
-inside-kind n.MathFlowChunk e = refl
-inside-kind _ e = absurd (cc)
+inside-kind = inside-name (λ name. part_kind name ≡ None) refl refl refl refl refl refl refl
 
 inside-other : (name : Name) → is_inside name ≡ true → is_other (on_line name) ≡ true
-inside-other n.SpaceOrTab e = refl
-inside-other n.CodeFencedFence e = refl
-inside-other n.CodeFencedFenceSequence e = refl
-inside-other n.CodeFlowChunk e = refl
-inside-other n.MathFlowFence e = refl
-inside-other n.MathFlowFenceSequence e = refl
-inside-other n.MathFlowChunk e = refl
-inside-other _ e = absurd (cc)
+inside-other = inside-name (λ name. is_other (on_line name) ≡ true) refl refl refl refl refl refl refl
 
 -- Events.
 

@@ -29,7 +29,7 @@ use Rattle.markdown_blocks.specs.Leaf.FenceFurther.{is_fence, opening_of, part_o
 use Rattle.markdown_blocks.proofs.BetweenFacts.{AreBetween, all-more, between-behind, is_low, low-at, white-between}
 use Rattle.markdown_blocks.proofs.EachEvent.{Each, each-append}
 use Rattle.markdown_blocks.proofs.FenceFurther.Inside.{has-sequence}
-use Rattle.markdown_blocks.proofs.FenceFurther.Names.{either-name, is_inside, parts-each}
+use Rattle.markdown_blocks.proofs.FenceFurther.Names.{either-name, inside-name, is_inside, parts-each}
 use Rattle.markdown_blocks.proofs.FenceFurther.Places.{FurtherAt, HasClosing, has-closing, has-left}
 use Rattle.markdown_blocks.proofs.FenceFurther.Trial.{fence-marker}
 use Rattle.markdown_blocks.proofs.PartedFacts.{Sits, around-sits, clear, low-clear, sits-append}
@@ -182,14 +182,8 @@ further-plain options bytes on r p q e is fences lines begin = record {
 }
   where
     plain : (name : Name) → is_inside name ≡ true → is_plain (role name) ≡ true
-    plain n.SpaceOrTab e = refl
-    plain n.CodeFencedFence e = fences
-    plain n.CodeFencedFenceSequence e = refl
-    plain n.CodeFlowChunk e = lines
-    plain n.MathFlowFence e = fences
-    plain n.MathFlowFenceSequence e = refl
-    plain n.MathFlowChunk e = lines
-    plain _ e = absurd (cc)
+    plain =
+        inside-name (λ name. is_plain (role name) ≡ true) refl fences refl lines fences refl lines
 
 -- No text is parted.
 
