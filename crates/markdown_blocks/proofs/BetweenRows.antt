@@ -90,7 +90,7 @@ between-by_groups bytes = record {
       between-append bytes (group_events bytes group) (groups_events bytes gs)
       (line-between bytes (ending_of (group_kind group)) row.front (group_done bytes group) (final_row group) last
       (fronts-between bytes row.change.opens p row.first row.front from o.front).0
-      (o.leaf.1.between first.first last.end))
+      (o.leaf.2.between first.first last.end))
       (on last.behind h.1);
 }
 

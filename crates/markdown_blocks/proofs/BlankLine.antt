@@ -1,5 +1,5 @@
 -- Blank lines: what is known of their whitespace.
-use Rattle.std.proofs.Common.{◌≡◌, ℕ, true, List, [], ◌∷◌, ◌++◌, drop, refl, sym, ap, ◌∙◌, subst, arith}
+use Rattle.std.proofs.Common.{◌≡◌, ℕ, true, List, [], ◌∷◌, ◌++◌, drop, refl, sym, ap, ◌∙◌, subst, arith, false}
 use Rattle.std.specs.Prelude.{None}
 use Rattle.md_engine.specs.declared.event.Event.{Event}
 use Rattle.md_engine.specs.declared.event.Name.TheVariants as n
@@ -28,7 +28,7 @@ use Rattle.markdown_blocks.proofs.RestRows.{line-blank}
 use Rattle.markdown_blocks.proofs.SpanLemmas.{Nested_in, around-nested}
 
 -- an empty line
-empty-facts : (bytes : List ℕ) (p : Point) → LeafFacts bytes None p p [] []
+empty-facts : (bytes : List ℕ) (p : Point) → LeafFacts bytes None false p p [] []
 empty-facts bytes p = record {
   unread_nested = (balanced-none, (tt, at_or_before-refl p));
   nested = (balanced-none, (tt, at_or_before-refl p));
@@ -52,7 +52,7 @@ empty-facts bytes p = record {
 
 -- whitespace
 white-facts : (bytes line rest : List ℕ) (b : ℕ) (p : Point) → is_blank (b ∷ line) ≡ true →
-    drop p.index bytes ≡ (b ∷ line) ++ rest → LeafFacts bytes None p (past_text (b ∷ line) p)
+    drop p.index bytes ≡ (b ∷ line) ++ rest → LeafFacts bytes None false p (past_text (b ∷ line) p)
     (pair n.SpaceOrTab p (past_text (b ∷ line) p)) (pair n.SpaceOrTab p (past_text (b ∷ line) p))
 white-facts bytes line rest b p blank text = record {
   unread_nested = nested;
@@ -92,16 +92,16 @@ white-facts bytes line rest b p blank text = record {
 
 -- A blank line shows no block.
 pub blank-facts : (bytes line : List ℕ) (r : Rest) (p q : Point) → is_blank r.bytes ≡ true → LineAt bytes r line p q →
-    LeafFacts bytes None p q (blank_line line p) (blank_line line p)
+    LeafFacts bytes None false p q (blank_line line p) (blank_line line p)
 blank-facts bytes line r p q blank at =
-    subst (λ (x : Point). LeafFacts bytes None p x (blank_line line p) (blank_line line p)) (sym at.end)
+    subst (λ (x : Point). LeafFacts bytes None false p x (blank_line line p) (blank_line line p)) (sym at.end)
     (go line (ap is_blank at.line_is ∙ line-blank r ∙ blank) text)
   where
     text : drop p.index bytes ≡ line ++ drop q.index bytes
     text = line-stands bytes r line p q at
 
     go : (line : List ℕ) → is_blank line ≡ true → drop p.index bytes ≡ line ++ drop q.index bytes →
-        LeafFacts bytes None p (past_text line p) (blank_line line p) (blank_line line p)
+        LeafFacts bytes None false p (past_text line p) (blank_line line p) (blank_line line p)
     go [] blank text = empty-facts bytes p
     go (b ∷ line) blank text = white-facts bytes line (drop q.index bytes) b p blank text
 

@@ -1,11 +1,22 @@
 -- Events in which no content stands.
-use Rattle.std.proofs.Common.{◌≡◌, Bool, false, List, [], ◌∷◌, ◌++◌}
+use Rattle.std.proofs.Common.{◌≡◌, Bool, false, List, [], ◌∷◌, ◌++◌, refl}
 use Rattle.std.specs.Prelude.{None}
 use Rattle.md_engine.specs.declared.event.Content.{Content}
+use Rattle.md_engine.specs.declared.event.Content.TheVariants as content
 use Rattle.md_engine.specs.declared.event.Event.{Event}
+use Rattle.md_content.specs.ContentReads.{wants_content}
 use Rattle.md_content.specs.Joined.{is_content}
 use Rattle.md_seam.specs.Substituted.{wanted}
 use Rattle.markdown_blocks.proofs.SubstitutedLemmas.{Unwanted}
+
+-- no text, no string and no flow is wanted: content alone may be
+pub record WantsContent (wants : Content → Bool) : Type 0 where
+  pub text : wants content.Text ≡ false
+  pub string : wants content.String ≡ false
+  pub flow : wants content.Flow ≡ false
+
+pub content-alone : WantsContent wants_content
+content-alone = record { text = refl; string = refl; flow = refl }
 
 -- events none of which is content, or begins a chunk that the reader wants
 abbrev pub NoContent : (Content → Bool) → List Event → Type 0
@@ -24,3 +35,6 @@ no_content-unwanted wants (e ∷ es) h = (h.0, no_content-unwanted wants es h.2)
 -- a reader that wants nothing
 abbrev pub nothing : Content → Bool
 nothing _ = false
+
+pub nothing-wanted : WantsContent nothing
+nothing-wanted = record { text = refl; string = refl; flow = refl }

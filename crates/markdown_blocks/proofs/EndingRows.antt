@@ -30,7 +30,7 @@ use Rattle.markdown_blocks.specs.Unread.{group_unread, listed_group, listed_grou
 use Rattle.markdown_blocks.proofs.GroupLemmas.{AreGroups, EndsBeforeGroups, HasFront, IsSingle, groups-are, rows-end}
 use Rattle.markdown_blocks.proofs.JoinedLemmas.{EachEnds, EachNoContent, ending-is}
 use Rattle.markdown_blocks.proofs.RowFacts.{AreRows}
-use Rattle.markdown_blocks.proofs.RowLeaf.{row-facts, block_of}
+use Rattle.markdown_blocks.proofs.RowLeaf.{block_of, fills, row-facts}
 use Rattle.markdown_blocks.proofs.FrontStands.{container-others, fronts-others}
 use Rattle.markdown_blocks.proofs.GroupFacts.{group-front, more-groups}
 use Rattle.markdown_blocks.proofs.Text.Facts.{kept-of, text-facts}
@@ -111,13 +111,14 @@ read-with bytes (group ∷ gs) = ap (λ (l : List Event). group_events bytes gro
 -- What is known of the leaf of a group: whether it shows a block, and that an ending with its name may stand behind it.
 record LeafEnds (bytes : List ℕ) (group : Group) : Type 0 where
   block : Option Block
-  facts : LeafFacts bytes block (first_row group).first (final_row group).end (group_unread bytes group)
+  filled : Bool
+  facts : LeafFacts bytes block filled (first_row group).first (final_row group).end (group_unread bytes group)
       (group_done bytes group)
-  ends : (p q : Point) → Leads (spot_behind block) line_start (pair (ending_of (group_kind group)) p q)
+  ends : (p q : Point) → Leads (spot_behind filled) line_start (pair (ending_of (group_kind group)) p q)
 
 -- What stands in the place of a group.
 abbrev Within : List ℕ → (Group → List Event) → Type 0
-Within bytes leaf = (group : Group) → (is : LeafEnds bytes group) → Leads line_start (spot_behind is.block) (leaf group)
+Within bytes leaf = (group : Group) → (is : LeafEnds bytes group) → Leads line_start (spot_behind is.filled) (leaf group)
 
 -- groups whose endings stand
 abbrev Stand : (Group → List Event) → List Group → Type 0
@@ -161,16 +162,16 @@ line-stands bytes leaf s name row last es gs front h same ends before on =
     ∙ tail-stands leaf s name last gs same ends before on
 
 -- where a line stands behind its leaf, it is filled or not,
-spot-filled : (block : Option Block) → is_filled (spot_behind block) ≡ (spot_behind block).after_leaf
-spot-filled None = refl
-spot-filled (Some block) = refl
+spot-filled : (filled : Bool) → is_filled (spot_behind filled) ≡ (spot_behind filled).after_leaf
+spot-filled true = refl
+spot-filled false = refl
 
 -- and ends as its kind says
-ending-leads : (kind : RowKind) (r : Rest) (p q : Point) → kind ≢ TextRow →
-    Leads (spot_behind (block_of kind r)) line_start (pair (ending_of kind) p q)
-ending-leads BlankRow r p q other ys = refl
-ending-leads (LeafRow l) r p q other ys = refl
-ending-leads TextRow r p q other ys = absurd (other refl)
+ending-leads : (kind : RowKind) (p q : Point) → kind ≢ TextRow →
+    Leads (spot_behind (fills kind)) line_start (pair (ending_of kind) p q)
+ending-leads BlankRow p q other ys = refl
+ending-leads (LeafRow l) p q other ys = refl
+ending-leads TextRow p q other ys = absurd (other refl)
 
 -- the leaf of each group is such
 group-ends : (options : ParseOptions) (bytes : List ℕ) (group : Group) (gs : List Group) →
@@ -179,13 +180,15 @@ group-ends options bytes (Single row) gs are =
     let is : IsSingle options bytes row = are.0 in
     record {
       block = block_of row.kind is.is.rest;
+      filled = fills row.kind;
       facts = row-facts options bytes is.line row is.is is.other;
-      ends = λ p q. ending-leads row.kind is.is.rest p q is.other;
+      ends = λ p q. ending-leads row.kind p q is.other;
     }
 group-ends options bytes (Span row rows) gs are = absurd (no-span options bytes row rows are.0)
 group-ends options bytes (Lines row rows) gs are =
     record {
       block = Some (text_leaf.block (texts (kept-of options bytes row rows are.0)));
+      filled = true;
       facts = text-facts options bytes row rows are.0;
       ends = λ p q ys. refl;
     }
@@ -195,9 +198,9 @@ groups-stand : (options : ParseOptions) (bytes : List ℕ) (leaf : Group → Lis
 groups-stand options bytes leaf [] within are ended = refl
 groups-stand options bytes leaf (group ∷ gs) within are ended =
     let is : LeafEnds bytes group = group-ends options bytes group gs are in
-    line-stands bytes leaf (spot_behind is.block) (ending_of (group_kind group)) (first_row group) (final_row group)
+    line-stands bytes leaf (spot_behind is.filled) (ending_of (group_kind group)) (first_row group) (final_row group)
     (leaf group) gs (group-front options bytes group gs are) (within group is)
-    (spot-filled is.block) is.ends ended.0
+    (spot-filled is.filled) is.ends ended.0
     (groups-stand options bytes leaf gs within (more-groups options bytes group gs are) ended.1)
 
 -- The events of a text.

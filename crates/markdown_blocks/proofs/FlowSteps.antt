@@ -34,7 +34,7 @@ use Rattle.markdown_blocks.proofs.OutsideLemmas.{front-outside, tail-outside, en
 use Rattle.markdown_blocks.proofs.Registry.{laws, text-laws}
 use Rattle.markdown_blocks.proofs.JoinedLemmas.{EachNoContent, events-no_content, front-no_content, joined-passes}
 use Rattle.markdown_blocks.proofs.SubstitutedLemmas.{keeps, keeps-each}
-use Rattle.markdown_blocks.proofs.ContentFacts.{NoContent, no_content-append, no_content-unwanted, nothing}
+use Rattle.markdown_blocks.proofs.ContentFacts.{NoContent, WantsContent, content-alone, no_content-append, no_content-unwanted, nothing, nothing-wanted}
 use Rattle.markdown_blocks.proofs.PrefixNames.{AreFront, IsNamed}
 use Rattle.markdown_blocks.specs.Passed.{Passed}
 use Rattle.markdown_blocks.proofs.RegistryContainers.{goes-front, opens-front}
@@ -148,7 +148,7 @@ text-kind BlankRow e k = cc
 text-kind (LeafRow l) e k = cc
 
 -- where no line is text there is no content
-rows-no_content : (wants : Content → Bool) → wants content.Text ≡ false → (rows : List Row) → EachRow IsFramed rows →
+rows-no_content : (wants : Content → Bool) → WantsContent wants → (rows : List Row) → EachRow IsFramed rows →
     EachNoContent rows → has_text rows ≡ false → NoContent wants (rows_events rows)
 rows-no_content wants w [] framed quiet none = tt
 rows-no_content wants w (row ∷ rows) framed quiet none =
@@ -164,10 +164,10 @@ pub content-same : (reads : Readings) (rows : List Row) → EachRow IsFramed row
 content-same reads rows framed quiet none =
     let es : List Event = rows_events rows in
     let same : joined es ≡ es = ap joined (sym (append-nil es))
-    ∙ joined-passes es [] (rows-no_content nothing refl rows framed quiet none) ∙ append-nil es in
+    ∙ joined-passes es [] (rows-no_content nothing nothing-wanted rows framed quiet none) ∙ append-nil es in
     subst (λ (l : List Event). Substituted wants_content reads [] 0 l es) (sym same)
     (keeps wants_content reads [] 0 es
-    (no_content-unwanted wants_content es (rows-no_content wants_content refl rows framed quiet none)))
+    (no_content-unwanted wants_content es (rows-no_content wants_content content-alone rows framed quiet none)))
 
 -- The resolvers behind that of content.
 

@@ -199,8 +199,8 @@ unread-reads bytes group is =
       record {
         leaf = leaf;
         leads =
-            unlists-same unread_text (blocks ∷ []) (blocks_behind (is_some is.0) ∷ []) leaf is.1.unread_unlisted
-            is.1.unread_word;
+            unlists-same unread_text (blocks ∷ []) (blocks_behind (is_some is.0) ∷ []) leaf is.2.unread_unlisted
+            is.2.unread_word;
         is = refl;
       },
     )
@@ -228,7 +228,7 @@ group-reads bytes group is =
       record {
         leaf = leaf;
         leads =
-            unlists-same plain_text (blocks ∷ []) (blocks_behind (is_some is.0) ∷ []) leaf is.1.unlisted is.1.word;
+            unlists-same plain_text (blocks ∷ []) (blocks_behind (is_some is.0) ∷ []) leaf is.2.unlisted is.2.word;
         is = refl;
       },
     )

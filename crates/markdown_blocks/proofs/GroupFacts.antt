@@ -1,5 +1,5 @@
 -- What is known of the leaf of a group, be it one line or the lines of a text.
-use Rattle.std.proofs.Common.{ℕ, List, ◌∷◌}
+use Rattle.std.proofs.Common.{ℕ, List, ◌∷◌, Bool, true}
 use Rattle.markdown_blocks.proofs.GroupLemmas.{no-span}
 use Rattle.markdown_blocks.specs.Rows.{Span}
 use Rattle.std.specs.Prelude.{Option, Some}
@@ -17,14 +17,14 @@ use Rattle.markdown_blocks.proofs.Text.Facts.{kept-of, text-facts}
 -- whichever block it shows
 abbrev pub IsGroupLeaf : List ℕ → Group → Type 0
 IsGroupLeaf bytes group =
-    (block : Option Block) ×
-    LeafFacts bytes block (first_row group).first (final_row group).end (group_unread bytes group)
+    (block : Option Block) × (filled : Bool) ×
+    LeafFacts bytes block filled (first_row group).first (final_row group).end (group_unread bytes group)
     (group_done bytes group)
 
 pub text-leaf : (options : ParseOptions) (bytes : List ℕ) (row : Row) (rows : List Row) →
     AreLines options bytes row rows → IsGroupLeaf bytes (Lines row rows)
 text-leaf options bytes row rows h =
-    (Some (text_leaf.block (texts (kept-of options bytes row rows h))), text-facts options bytes row rows h)
+    (Some (text_leaf.block (texts (kept-of options bytes row rows h))), true, text-facts options bytes row rows h)
 
 -- that of the first of groups, what stands in front of it, and the others
 pub group-leaf : (options : ParseOptions) (bytes : List ℕ) (group : Group) (gs : List Group) →

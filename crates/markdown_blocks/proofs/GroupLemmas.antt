@@ -56,7 +56,7 @@ use Rattle.markdown_blocks.proofs.SubstitutedLemmas.{AllBelong, Becomes, CutAt, 
 use Rattle.markdown_blocks.proofs.SubstitutedLemmas.{Unwanted, becomes-append, becomes-same, behind-exit, line_after}
 use Rattle.markdown_blocks.proofs.SubstitutedLemmas.{lines-becomes, passes, places}
 use Rattle.markdown_blocks.proofs.LeafFacts.{ReadsText}
-use Rattle.markdown_blocks.proofs.ContentFacts.{NoContent, no_content-append, no_content-unwanted}
+use Rattle.markdown_blocks.proofs.ContentFacts.{NoContent, WantsContent, no_content-append, no_content-unwanted}
 use Rattle.markdown_blocks.proofs.ContainerNames.{container-facts}
 use Rattle.md_definition.specs.Rest.{Rest as LineRest, is_blank}
 use Rattle.markdown_blocks.proofs.LineTexts.{one-last, one-next, piece, without-none, without-one}
@@ -465,20 +465,20 @@ front-unwanted wants bytes row h = no_content-unwanted wants row.front (has_fron
 
 -- a line that is no text, of which a reader reads no text
 single-unwanted : (options : ParseOptions) (bytes : List ℕ) (wants : Content → Bool) (row : Row) →
-    IsSingle options bytes row → wants content.Text ≡ false → Unwanted wants (row_events row)
+    IsSingle options bytes row → WantsContent wants → Unwanted wants (row_events row)
 single-unwanted options bytes wants row is w =
     no_content-unwanted wants (row_events row)
     (events-no_content wants row row.kind refl is.other (has_front-no_content wants bytes row is.front)
     (is.quiet wants w))
 
 span-quiet : (options : ParseOptions) (bytes : List ℕ) (wants : Content → Bool) (row : Row) →
-    IsSpanLine options bytes row → wants content.Text ≡ false → NoContent wants (row_events row)
+    IsSpanLine options bytes row → WantsContent wants → NoContent wants (row_events row)
 span-quiet options bytes wants row is w =
     events-no_content wants row row.kind refl (λ h. let bad : LeafRow is.name ≡ TextRow = sym is.kind ∙ h in cc)
     (has_front-no_content wants bytes row is.front) (is.quiet wants w)
 
 spans-quiet : (options : ParseOptions) (bytes : List ℕ) (wants : Content → Bool) (row : Row) (rows : List Row) →
-    AreSpan options bytes row rows → wants content.Text ≡ false → NoContent wants (rows_events (row ∷ rows))
+    AreSpan options bytes row rows → WantsContent wants → NoContent wants (rows_events (row ∷ rows))
 spans-quiet options bytes wants row [] are w =
     no_content-append wants (row_events row) [] (span-quiet options bytes wants row are w) tt
 spans-quiet options bytes wants row (next ∷ rows) are w =
@@ -486,7 +486,7 @@ spans-quiet options bytes wants row (next ∷ rows) are w =
     (spans-quiet options bytes wants next rows are.7 w)
 
 span-unwanted : (options : ParseOptions) (bytes : List ℕ) (wants : Content → Bool) (row : Row) (rows : List Row) →
-    AreSpan options bytes row rows → wants content.Text ≡ false → Unwanted wants (rows_events (row ∷ rows))
+    AreSpan options bytes row rows → WantsContent wants → Unwanted wants (rows_events (row ∷ rows))
 span-unwanted options bytes wants row rows are w =
     no_content-unwanted wants (rows_events (row ∷ rows)) (spans-quiet options bytes wants row rows are w)
 
@@ -615,7 +615,7 @@ group-joins front given tail rest out one two three h i j k =
     ∙ sym (append_assoc (front ++ given) tail rest)
 
 groups-content : (options : ParseOptions) (bytes : List ℕ) (wants : Content → Bool) (reads : Readings) →
-    wants content.Content ≡ true → wants content.Text ≡ false → ReadsContent options bytes reads →
+    wants content.Content ≡ true → WantsContent wants → ReadsContent options bytes reads →
     (gs : List Group) → AreGroups options bytes gs → (left out : List Event) →
     Substituted wants reads left 0 (joined_groups gs) out → out ≡ unread_groups gs
 groups-content options bytes wants reads w other unique [] are left out s = s
@@ -661,7 +661,7 @@ groups-content options bytes wants reads w other unique (Lines row rows ∷ gs) 
 pub content-read : (options : ParseOptions) (bytes : List ℕ) (open_before : List Container) (still : HeldLeaf)
     (p : Point) (lines : List (List ℕ)) (rows : List Row) →
     AreRows options bytes open_before still p lines rows → EachNoContent rows →
-    (wants : Content → Bool) (reads : Readings) → wants content.Content ≡ true → wants content.Text ≡ false →
+    (wants : Content → Bool) (reads : Readings) → wants content.Content ≡ true → WantsContent wants →
     ReadsContent options bytes reads →
     (unread : List Event) → Substituted wants reads [] 0 (joined (rows_events rows)) unread →
     unread ≡ unread_groups (groups rows)
@@ -694,7 +694,7 @@ single-set options bytes row es is kind e =
     leaf (LeafRow l) e es =
         ap (λ (added : List Event). resolved (added ++ es))
         (is.is.leaf_is l e ∙ ap (λ (line : List ℕ). (line_leaf l).added options row.on line row.first) is.is.line_is)
-        ∙ (laws l).set options row.on is.is.rest row.first es (kind-starts options row.on is.is.rest l (sym is.is.kind ∙ e))
+        ∙ (laws l).set (leaf-ends l) options row.on is.is.rest row.first es (kind-starts options row.on is.is.rest l (sym is.is.kind ∙ e))
         ∙ ap (λ (line : List ℕ). (line_leaf l).unread line row.first ++ resolved es)
         (sym is.is.line_is ∙ sym is.is.text)
     leaf TextRow e es = absurd (is.other e)

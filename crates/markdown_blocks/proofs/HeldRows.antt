@@ -192,7 +192,7 @@ unread-by_groups bytes = record {
   none = λ p blocks. tt;
   group = λ names kept p group gs o keeps on blocks.
       group-held bytes names kept p group (group_unread bytes group) (listed_groups bytes gs) o keeps blocks
-      o.leaf.1.unread_nested o.leaf.1.unread_unlisted on;
+      o.leaf.2.unread_nested o.leaf.2.unread_unlisted on;
 }
 
 -- and once they are
@@ -204,7 +204,7 @@ read-by_groups bytes = record {
   none = λ p blocks. tt;
   group = λ names kept p group gs o keeps on blocks.
       group-held bytes names kept p group (group_done bytes group) (groups_events bytes gs) o keeps blocks
-      o.leaf.1.nested o.leaf.1.unlisted on;
+      o.leaf.2.nested o.leaf.2.unlisted on;
 }
 
 -- The events of a text, with its mark.

@@ -34,14 +34,14 @@ use Rattle.markdown_blocks.proofs.FrontNames.{HasFront, ends-are, ends-first, fr
 use Rattle.markdown_blocks.proofs.FrontNames.{fronts-prefixes, fronts-stop, prefixes-content}
 use Rattle.markdown_blocks.proofs.SubstitutedLemmas.{no_link-unwanted}
 use Rattle.markdown_blocks.proofs.Registry.{laws}
-use Rattle.markdown_blocks.proofs.ContentFacts.{NoContent, no_content-append, nothing}
+use Rattle.markdown_blocks.proofs.ContentFacts.{NoContent, WantsContent, no_content-append, nothing, nothing-wanted}
 use Rattle.markdown_blocks.proofs.PrefixNames.{AreFront}
 use Rattle.markdown_blocks.proofs.ContainerNames.{container-facts, end-stops}
 use Rattle.markdown_blocks.specs.Registry.{container_name}
 
 -- no content stands inside a line, and its links are to text
 abbrev pub HasNoContent : Row → Type 0
-HasNoContent row = (wants : Content → Bool) → wants content.Text ≡ false → NoContent wants row.inside
+HasNoContent row = (wants : Content → Bool) → WantsContent wants → NoContent wants row.inside
 
 abbrev pub EachNoContent : List Row → Type 0
 EachNoContent [] = Unit {0}
@@ -54,7 +54,7 @@ white-no_content : (wants : Content → Bool) (x : Bool) (p q : Point) →
 white-no_content wants true p q = (refl, refl, (refl, refl, tt))
 white-no_content wants false p q = tt
 
-inside-no_content : (wants : Content → Bool) → wants content.Text ≡ false →
+inside-no_content : (wants : Content → Bool) → WantsContent wants →
     (options : ParseOptions) (on : HeldLeaf) (cells : List Cell) (p : Point) (kind : RowKind) →
     NoContent wants (inside_of options on cells p kind)
 inside-no_content wants w options on cells p BlankRow = white-no_content wants (begins_white cells) p (line_end cells p)
@@ -518,7 +518,7 @@ joined-rows bytes (row ∷ []) fronts ends h = go row.kind refl
         joined (row_events row ++ []) ≡ joined_groups (Single row ∷ [])
     other kind e apart =
         single-rows row []
-        (events-no_content nothing row kind e apart (has_front-no_content nothing bytes row fronts.0) (h.0 nothing refl)) refl
+        (events-no_content nothing row kind e apart (has_front-no_content nothing bytes row fronts.0) (h.0 nothing nothing-wanted)) refl
 
     go : (kind : RowKind) → row.kind ≡ kind → joined (row_events row ++ []) ≡ joined_groups (onto_groups row kind [])
     go BlankRow e = other BlankRow e (λ k. cc)
@@ -532,7 +532,7 @@ joined-rows bytes (row ∷ below ∷ rows) fronts ends h =
         joined (row_events row ++ rows_events (below ∷ rows)) ≡ joined_groups (Single row ∷ groups (below ∷ rows))
     other same kind e apart =
         single-rows row (below ∷ rows)
-        (events-no_content nothing row kind e apart (has_front-no_content nothing bytes row fronts.0) (h.0 nothing refl)) same
+        (events-no_content nothing row kind e apart (has_front-no_content nothing bytes row fronts.0) (h.0 nothing nothing-wanted)) same
 
     go : joined (rows_events (below ∷ rows)) ≡ joined_groups (groups (below ∷ rows)) → (kind : RowKind) →
         row.kind ≡ kind →
@@ -543,4 +543,4 @@ joined-rows bytes (row ∷ below ∷ rows) fronts ends h =
         other same (LeafRow l) e (λ k. cc) ∙ sym (leaf-joined (leaf l).ends row (groups (below ∷ rows)))
     go same TextRow e =
         ap (λ (kind : RowKind). joined (row_events_by kind row ++ rows_events (below ∷ rows))) e
-        ∙ text-rows bytes row below rows ends.0 ends.1 fronts ends.2 (h.1.0 nothing refl) below.kind refl same
+        ∙ text-rows bytes row below rows ends.0 ends.1 fronts ends.2 (h.1.0 nothing nothing-wanted) below.kind refl same

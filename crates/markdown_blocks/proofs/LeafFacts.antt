@@ -2,7 +2,7 @@
 --
 -- The frame joins what stands in front of a line, its leaf and what stands behind it, and needs no more of a leaf than
 -- stands here. A blank line is such a leaf too, without a block.
-use Rattle.std.proofs.Common.{◌≡◌, ℕ, Bool, true, List, [], ◌∷◌, ◌+◌, length, ◌≤◌}
+use Rattle.std.proofs.Common.{◌≡◌, ℕ, Bool, true, false, List, [], ◌∷◌, ◌+◌, length, ◌≤◌}
 use Rattle.std.specs.Prelude.{◌==◌, IsTrue, Option, Some, None, slice_range}
 use Rattle.std.specs.List.{list_all}
 use Rattle.std.specs.Option.{is_some}
@@ -11,7 +11,7 @@ use Rattle.md_engine.specs.declared.event.Event.{Event}
 use Rattle.md_engine.specs.declared.event.Point.{Point}
 use Rattle.md_containers.proofs.UnlistedLemmas.{NoListing, StandsTo, among}
 use Rattle.md_seam.specs.declared.inline.Chunk.{Chunk}
-use Rattle.md_seam.specs.declared.inline.PartKind.TheVariants.{Text}
+use Rattle.md_seam.specs.declared.inline.PartKind.TheVariants.{String, Text}
 use Rattle.md_seam.specs.Events.Endings.{Spot, line_start}
 use Rattle.md_seam.specs.Events.Grammar.{blocks, plain_text, unread_text}
 use Rattle.md_seam.specs.Events.Inline.{are_lines, plain_events}
@@ -43,6 +43,13 @@ ReadsText bytes reads =
     IsTrue (are_lines bytes end chunks) → IsTrue (list_all (λ (chunk : Chunk). chunk.after.vs == 0) chunks) →
     answer ≡ plain_events bytes (record { kind = Text; chunks = chunks })
 
+-- and one of strings
+abbrev pub ReadsString : List ℕ → Readings → Type 0
+ReadsString bytes reads =
+    (chunks : List Chunk) (answer : List Event) → reads content.String chunks answer → (end : Point) →
+    IsTrue (are_lines bytes end chunks) → IsTrue (list_all (λ (chunk : Chunk). chunk.after.vs == 0) chunks) →
+    answer ≡ plain_events bytes (record { kind = String; chunks = chunks })
+
 -- a rest of a line, as it stands in a text: its bytes, a tab that a prefix has cut among them, and where it begins and
 -- ends
 pub record LineAt (bytes : List ℕ) (r : Rest) (line : List ℕ) (p q : Point) : Type 0 where
@@ -57,10 +64,10 @@ pub record LineAt (bytes : List ℕ) (r : Rest) (line : List ℕ) (p q : Point) 
   pub cut_first : CutsFirst p line
   pub cut : Cut r.spaces p
 
--- where the line stands behind a leaf, as its ending asks: behind a block, or where it began
-abbrev pub spot_behind : Option Block → Spot
-spot_behind None = line_start
-spot_behind (Some block) = ending.behind_leaf
+-- where the line stands behind a leaf, as its ending asks: behind one that fills its last line, or where it began
+abbrev pub spot_behind : Bool → Spot
+spot_behind true = ending.behind_leaf
+spot_behind false = line_start
 
 -- what is read with this block more, if there is one
 abbrev pub shown : Option Block → Reading → Reading
@@ -68,8 +75,8 @@ shown None r = r
 shown (Some block) r = add_block block r
 
 -- These events stand from a point to a point before text parts are read, and those once they are; they show this block,
--- or none.
-pub record LeafFacts (bytes : List ℕ) (block : Option Block) (p q : Point) (unread done : List Event) : Type 0 where
+-- or none, and something stands on their last line, or nothing does.
+pub record LeafFacts (bytes : List ℕ) (block : Option Block) (full : Bool) (p q : Point) (unread done : List Event) : Type 0 where
   -- they nest, and go forward
   pub unread_nested : Nested_in p q unread
   pub nested : Nested_in p q done
@@ -82,8 +89,8 @@ pub record LeafFacts (bytes : List ℕ) (block : Option Block) (p q : Point) (un
   pub unread_word : grammar.Leads unread_text (blocks ∷ []) (blocks_behind (is_some block) ∷ []) unread
   pub word : grammar.Leads plain_text (blocks ∷ []) (blocks_behind (is_some block) ∷ []) done
   -- and where their line ends
-  pub unread_ending : ending.Leads line_start (spot_behind block) unread
-  pub ending : ending.Leads line_start (spot_behind block) done
+  pub unread_ending : ending.Leads line_start (spot_behind full) unread
+  pub ending : ending.Leads line_start (spot_behind full) done
   -- no item and no list is among them, and they stand where blocks may
   pub unread_unlisted : NoListing unread
   pub unlisted : NoListing done

@@ -1,6 +1,6 @@
 -- The laws of a leaf on one line: what the frame asks of each (`LineLeaf`), and of the registry.
 use Rattle.std.proofs.Common.{◌≡◌, ℕ, ◌^◌, ◌<◌, ◌≤◌, Bool, true, false, cond, List, ◌++◌, length}
-use Rattle.markdown_blocks.specs.HeldLeaf.{has_lines, takes_lazy}
+use Rattle.markdown_blocks.specs.HeldLeaf.{has_lines, kind_of_leaf, left_by, takes_lazy}
 use Rattle.std.specs.Prelude.{Some}
 use Rattle.md_engine.specs.declared.configuration.ParseOptions.{ParseOptions}
 use Rattle.md_engine.specs.declared.event.Content.{Content}
@@ -14,7 +14,9 @@ use Rattle.md_engine.specs.Meaning.{Accepts, Cell, Fails, Here, Outcome, Refuses
 use Rattle.md_seam.specs.Ahead.{from_ending, line_end}
 use Rattle.md_seam.specs.Look.{seen_behind}
 use Rattle.md_seam.specs.Spaces.{IsRest}
+use Rattle.md_definition.specs.Leaves.{Finished}
 use Rattle.md_definition.specs.Rest.{Rest}
+use Rattle.md_definition.specs.State.{Leaf}
 use Rattle.md_seam.proofs.FeedLines.{Stops}
 use Rattle.md_seam.proofs.RestCells.{RestAt, rest_cells}
 use Rattle.md_definition.proofs.TextsLemmas.{NoEnding}
@@ -25,7 +27,7 @@ use Rattle.markdown_blocks.proofs.OutsideFacts.{AreOutside, NoEnds}
 use Rattle.markdown_blocks.proofs.LeafFacts.{LeafFacts, LineAt, ReadsText}
 use Rattle.markdown_blocks.proofs.SubstitutedLemmas.{Becomes}
 use Rattle.md_seam.specs.Substituted.{Readings}
-use Rattle.markdown_blocks.proofs.ContentFacts.{NoContent}
+use Rattle.markdown_blocks.proofs.ContentFacts.{NoContent, WantsContent}
 
 -- what its trial leaves open: one that always ends on its line leaves that to flow, and all as it was
 abbrev pub left_open : Bool → HeldLeaf → HeldLeaf → HeldLeaf
@@ -90,27 +92,32 @@ pub record LeafLaws (l : LineLeaf) : Type 1 where
   pub shut : l.ends ≡ true → (options : ParseOptions) (on : HeldLeaf) →
       ((cells : List Cell) (p : Point) → l.keeps options on cells p ≡ held_leaf.None)
       × ((r : Rest) → l.holds options on r ≡ held_leaf.None)
+  -- Where it always ends on its line it comes to its block; else what is held behind it is the leaf that it comes to.
+  pub finishes : l.ends ≡ true → (options : ParseOptions) (leaf : Leaf) (r : Rest) →
+      l.comes options leaf r ≡ Finished (l.block r)
+  pub holds_is : (options : ParseOptions) (leaf : Leaf) (r : Rest) → l.starts options (kind_of_leaf leaf) r ≡ true →
+      kind_of_leaf (left_by (l.comes options leaf r)) ≡ l.holds options (kind_of_leaf leaf) r
   -- No line goes on it lazily.
   pub not_lazy : (options : ParseOptions) (on : HeldLeaf) →
       ((cells : List Cell) (p : Point) → takes_lazy (l.keeps options on cells p) ≡ false)
       × ((r : Rest) → takes_lazy (l.holds options on r) ≡ false)
-  -- No content stands in what it adds, and its links are to text.
-  pub no_content : (wants : Content → Bool) → wants content.Text ≡ false →
+  -- No content stands in what it adds: its links are to text, to strings, and to the line in front.
+  pub no_content : (wants : Content → Bool) → WantsContent wants →
       (options : ParseOptions) (on : HeldLeaf) (cells : List Cell) (p : Point) →
       NoContent wants (l.adds options on cells p)
   -- Where no part ends in what it adds that a resolver rewrites, so that none is registered, none begins there.
   pub own : (options : ParseOptions) (on : HeldLeaf) (cells : List Cell) (p : Point) →
       NoEnds is_own (l.adds options on cells p) → AreOutside (l.adds options on cells p)
-  -- Resolvers set what is its own.
-  pub set : (options : ParseOptions) (on : HeldLeaf) (r : Rest) (p : Point) (es : List Event) →
+  -- If it always ends on its line, resolvers set what is its own,
+  pub set : l.ends ≡ true → (options : ParseOptions) (on : HeldLeaf) (r : Rest) (p : Point) (es : List Event) →
       l.starts options on r ≡ true →
       resolved (l.added options on (rest_line r) p ++ es) ≡ l.unread (rest_line r) p ++ resolved es
-  -- Its events are known, and show its block.
-  pub facts : (options : ParseOptions) (on : HeldLeaf) (bytes : List ℕ) (r : Rest) (p q : Point) →
+  -- its events are known, and show its block.
+  pub facts : l.ends ≡ true → (options : ParseOptions) (on : HeldLeaf) (bytes : List ℕ) (r : Rest) (p q : Point) →
       l.starts options on r ≡ true →
       LineAt bytes r (rest_line r) p q →
-      LeafFacts bytes (Some (l.block r)) p q (l.unread (rest_line r) p) (l.done bytes (rest_line r) p)
-  pub becomes : (options : ParseOptions) (on : HeldLeaf) (bytes : List ℕ) (r : Rest) (p q : Point) →
+      LeafFacts bytes (Some (l.block r)) true p q (l.unread (rest_line r) p) (l.done bytes (rest_line r) p)
+  pub becomes : l.ends ≡ true → (options : ParseOptions) (on : HeldLeaf) (bytes : List ℕ) (r : Rest) (p q : Point) →
       l.starts options on r ≡ true →
       LineAt bytes r (rest_line r) p q →
       (wants : Content → Bool) (reads : Readings) → wants content.Text ≡ true → ReadsText bytes reads →

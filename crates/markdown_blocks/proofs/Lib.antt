@@ -11,6 +11,7 @@ pub mod FlowRuns
 pub mod FlowEnds
 pub mod PiecesLemmas
 pub mod PieceFacts
+pub mod SpanLaws
 pub mod SpanLemmas
 pub mod ContentFacts
 pub mod LineTexts

@@ -348,7 +348,7 @@ nests-by_groups bytes = record {
   none = λ p. record { matches = tt; closed = refl; forward = tt };
   group =
       λ names kept p group gs o keeps on. under-group bytes names kept p group (group_done bytes group)
-      (groups_events bytes gs) o keeps o.leaf.1.nested on;
+      (groups_events bytes gs) o keeps o.leaf.2.nested on;
 }
 
 -- The groups of the lines of a text nest.

@@ -48,6 +48,7 @@ use Rattle.markdown_blocks.proofs.EndingRows.{blocks-endings, events-endings}
 use Rattle.markdown_blocks.proofs.GrammarRows.{blocks-grammar, events-grammar}
 use Rattle.markdown_blocks.proofs.HeldRows.{blocks-held, events-held}
 use Rattle.markdown_blocks.proofs.StandRows.{events-stand}
+use Rattle.markdown_blocks.proofs.ContentFacts.{content-alone}
 use Rattle.markdown_blocks.proofs.GroupLemmas.{content-read, leaves-set, text-read}
 use Rattle.markdown_blocks.proofs.JoinedLemmas.{EachNoContent, rows_at-no_content}
 use Rattle.markdown_blocks.proofs.ListedOutlined.{listed-outlined}
@@ -92,7 +93,7 @@ content-are : (options : ParseOptions) (bytes : List ℕ) → IsBuilt options �
 content-are options bytes built small found new flow =
     content-read options bytes [] held_leaf.None (body_point bytes) (lines_of bytes) (rows_of options bytes)
     (text-are options bytes built small) (text-quiet options bytes (body_point bytes))
-    wants_content (content_readings bytes options) refl refl
+    wants_content (content_readings bytes options) refl content-alone
     (content-reads options options bytes small) flow.content flow.content_read
 
 -- Then the other resolvers ran, that of lists last.

@@ -60,7 +60,7 @@ parted-by_groups bytes = record {
       let row : Row = first_row group in
       let front : Sits bytes row.front = fronts-sit bytes row.change.opens p row.first row.front o.front in
       line-sits bytes (ending_of (group_kind group)) row.front (group_done bytes group) (final_row group)
-      (ending-still (group_kind group)) front o.leaf.1.parted (groups_events bytes gs) on;
+      (ending-still (group_kind group)) front o.leaf.2.parted (groups_events bytes gs) on;
 }
 
 -- no text of a whole text is parted but those of lines, where these begin

@@ -135,7 +135,7 @@ unread-by_groups bytes = record {
   none = λ p h. stood-none bytes;
   group = λ names kept p group gs o keeps on h.
       stood-append bytes (listed_group bytes group) (listed_groups bytes gs)
-      (group-stood bytes p group (group_unread bytes group) o h.0 o.leaf.1.unread_stood) (on h.1);
+      (group-stood bytes p group (group_unread bytes group) o h.0 o.leaf.2.unread_stood) (on h.1);
 }
 
 -- and once they are
@@ -147,7 +147,7 @@ stood-by_groups bytes = record {
   none = λ p h. stood-none bytes;
   group = λ names kept p group gs o keeps on h.
       stood-append bytes (group_events bytes group) (groups_events bytes gs)
-      (group-stood bytes p group (group_done bytes group) o h.0 o.leaf.1.stood) (on h.1);
+      (group-stood bytes p group (group_done bytes group) o h.0 o.leaf.2.stood) (on h.1);
 }
 
 -- With a mark in front.

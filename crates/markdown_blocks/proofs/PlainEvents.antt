@@ -124,7 +124,7 @@ plain-by_groups bytes = record {
       plain-append bytes (group_events bytes group) (groups_events bytes gs)
       (plain-line bytes (ending_of kind) row.front (group_done bytes group) (final_row group) (ending-untold kind)
       (final-plain bytes group h.0).leaves (plain-front bytes row.change.opens p row.first row.front o.front)
-      (o.leaf.1.plain (first-plain bytes group h.0).first))
+      (o.leaf.2.plain (first-plain bytes group h.0).first))
       (on h.1);
 }
 

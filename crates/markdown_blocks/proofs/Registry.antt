@@ -51,7 +51,7 @@ use Rattle.markdown_blocks.specs.Leaf.HeadingAtx.{heading_leaf}
 use Rattle.markdown_blocks.specs.Leaf.ThematicBreak.{break_leaf}
 use Rattle.markdown_blocks.specs.Parsed.{IsBuilt}
 use Rattle.markdown_blocks.specs.Registry.{HeadingAtx, LeafName, ThematicBreak, behind, construct_owner}
-use Rattle.markdown_blocks.specs.Registry.{construct_transition, container_rules, first_of, is_own, leaf, opener_at}
+use Rattle.markdown_blocks.specs.Registry.{construct_transition, container_rules, first_of, further_of, is_own, leaf, opener_at}
 use Rattle.markdown_blocks.specs.Registry.{openers, openers_behind, resolved, text_leaf, trials, tried_at}
 use Rattle.markdown_blocks.specs.States.{flow_behaves_by, flow_owner, flow_table_scheme}
 use Rattle.markdown_blocks.proofs.BlockQuote.Laws.{quote-laws}
@@ -69,6 +69,7 @@ use Rattle.markdown_blocks.proofs.ListItem.Registers.{item-registers}
 use Rattle.markdown_blocks.proofs.OutsideFacts.{AreOutside}
 use Rattle.markdown_blocks.proofs.Paragraph.Laws.{paragraph-laws}
 use Rattle.markdown_blocks.proofs.Registers.{Registers}
+use Rattle.markdown_blocks.proofs.SpanLaws.{SpanLaws}
 use Rattle.markdown_blocks.proofs.TextLaws.{TextLaws}
 use Rattle.markdown_blocks.proofs.ThematicBreak.Found.{break-found}
 use Rattle.markdown_blocks.proofs.ThematicBreak.Laws.{break-laws}
@@ -117,6 +118,10 @@ leaf-shallow ThematicBreak options on r h = refl
 pub leaf-ends : (l : LeafName) → (leaf l).ends ≡ true
 leaf-ends HeadingAtx = refl
 leaf-ends ThematicBreak = refl
+
+-- the lines of one that does not, with those that go on it
+pub span-laws : (l : LeafName) → (leaf l).ends ≡ false → SpanLaws (leaf l) (leaf (further_of l))
+span-laws l e = let ends = leaf-ends l in cc
 
 -- In the table of flow.
 

@@ -1,5 +1,5 @@
 -- What is known of the leaf of a line of a text, by the laws of its construct.
-use Rattle.std.proofs.Common.{◌≡◌, ◌≢◌, ℕ, Bool, true, List, refl, sym, ◌∙◌, subst}
+use Rattle.std.proofs.Common.{◌≡◌, ◌≢◌, ℕ, Bool, true, false, List, refl, sym, ◌∙◌, subst}
 use Rattle.std.specs.Prelude.{Option, Some, None}
 use Rattle.md_engine.specs.declared.configuration.ParseOptions.{ParseOptions}
 use Rattle.md_engine.specs.declared.event.Content.{Content}
@@ -15,7 +15,7 @@ use Rattle.markdown_blocks.specs.Rows.{row_line}
 use Rattle.markdown_blocks.proofs.BlankLine.{blank-facts, blank-unlinked}
 use Rattle.markdown_blocks.proofs.KindLemmas.{kind-blank, kind-starts}
 use Rattle.markdown_blocks.proofs.LeafFacts.{LeafFacts, LineAt, ReadsText}
-use Rattle.markdown_blocks.proofs.Registry.{laws}
+use Rattle.markdown_blocks.proofs.Registry.{laws, leaf-ends}
 use Rattle.markdown_blocks.proofs.RowFacts.{IsRow, line-at}
 use Rattle.markdown_blocks.proofs.SubstitutedLemmas.{Becomes, becomes-same, no_links-unwanted}
 
@@ -24,6 +24,12 @@ abbrev pub block_of : RowKind → Rest → Option Block
 block_of BlankRow r = None
 block_of (LeafRow l) r = Some ((leaf l).block r)
 block_of TextRow r = None
+
+-- whether something stands on it
+abbrev pub fills : RowKind → Bool
+fills BlankRow = false
+fills (LeafRow l) = true
+fills TextRow = true
 
 -- its bytes in the text are those of its rest
 row-text : (options : ParseOptions) (bytes line : List ℕ) (row : Row) → (is : IsRow options bytes line row) →
@@ -39,38 +45,38 @@ leaf-at options bytes line row is =
 
 abbrev Facts : List ℕ → Row → Rest → RowKind → Type 0
 Facts bytes row r kind =
-    LeafFacts bytes (block_of kind r) row.first row.end (leaf_unread bytes kind row) (leaf_done bytes kind row)
+    LeafFacts bytes (block_of kind r) (fills kind) row.first row.end (leaf_unread bytes kind row) (leaf_done bytes kind row)
 
 pub row-facts : (options : ParseOptions) (bytes line : List ℕ) (row : Row) → (is : IsRow options bytes line row) →
-    row.kind ≢ TextRow → LeafFacts bytes (block_of row.kind is.rest) row.first row.end (leaf_unread bytes row.kind row)
+    row.kind ≢ TextRow → LeafFacts bytes (block_of row.kind is.rest) (fills row.kind) row.first row.end (leaf_unread bytes row.kind row)
     (leaf_done bytes row.kind row)
 row-facts options bytes line row is other = go row.kind refl
   where
     go : (kind : RowKind) → row.kind ≡ kind → Facts bytes row is.rest row.kind
     go BlankRow e =
         subst (Facts bytes row is.rest) (sym e)
-        (subst (λ (es : List Event). LeafFacts bytes None row.first row.end es es) (sym (is.blank e))
+        (subst (λ (es : List Event). LeafFacts bytes None false row.first row.end es es) (sym (is.blank e))
         (blank-facts bytes line is.rest row.first row.end (kind-blank options row.on is.rest (sym is.kind ∙ e))
         (line-at options bytes line row is)))
     go (LeafRow l) e =
         let starts : (leaf l).starts options row.on is.rest ≡ true =
         kind-starts options row.on is.rest l (sym is.kind ∙ e) in
         subst (Facts bytes row is.rest) (sym e)
-        (subst (λ (own : List ℕ). LeafFacts bytes (Some ((leaf l).block is.rest)) row.first row.end
+        (subst (λ (own : List ℕ). LeafFacts bytes (Some ((leaf l).block is.rest)) true row.first row.end
         ((leaf l).unread own row.first) ((leaf l).done bytes own row.first))
         (sym (row-text options bytes line row is))
-        ((laws l).facts options row.on bytes is.rest row.first row.end starts (leaf-at options bytes line row is)))
+        ((laws l).facts (leaf-ends l) options row.on bytes is.rest row.first row.end starts (leaf-at options bytes line row is)))
     go TextRow e = absurd (other e)
 
 -- so much alone, whichever block it shows
 abbrev pub IsLeaf : List ℕ → Row → Type 0
 IsLeaf bytes row =
-    (block : Option Block) ×
-    LeafFacts bytes block row.first row.end (leaf_unread bytes row.kind row) (leaf_done bytes row.kind row)
+    (block : Option Block) × (filled : Bool) ×
+    LeafFacts bytes block filled row.first row.end (leaf_unread bytes row.kind row) (leaf_done bytes row.kind row)
 
 pub row-leaf : (options : ParseOptions) (bytes line : List ℕ) (row : Row) → IsRow options bytes line row →
     row.kind ≢ TextRow → IsLeaf bytes row
-row-leaf options bytes line row is other = (block_of row.kind is.rest, row-facts options bytes line row is other)
+row-leaf options bytes line row is other = (block_of row.kind is.rest, fills row.kind, row-facts options bytes line row is other)
 
 -- its text parts are read in the places of their chunks
 pub row-becomes : (options : ParseOptions) (bytes line : List ℕ) (row : Row) → IsRow options bytes line row →
@@ -93,6 +99,6 @@ row-becomes options bytes line row is other wants reads text read = go row.kind 
         subst By (sym e)
         (subst (λ (own : List ℕ). Becomes wants reads ((leaf l).unread own row.first)
         ((leaf l).done bytes own row.first)) (sym (row-text options bytes line row is))
-        ((laws l).becomes options row.on bytes is.rest row.first row.end starts
+        ((laws l).becomes (leaf-ends l) options row.on bytes is.rest row.first row.end starts
         (leaf-at options bytes line row is) wants reads text read))
     go TextRow e = absurd (other e)

@@ -95,7 +95,7 @@ group-stands bytes names kept p group gs o keeps on =
     subst (ItemsStand bytes (under names)) (sym apart)
     (stand-through bytes (under names) (under all) row.front (leaf ++ (ends ++ (ending ++ events)))
     (fronts-stand bytes row.change.opens names p row.first row.front o.front)
-    (stand-through bytes (under all) (under all) leaf (ends ++ (ending ++ events)) (o.leaf.1.stands (items_of all))
+    (stand-through bytes (under all) (under all) leaf (ends ++ (ending ++ events)) (o.leaf.2.stands (items_of all))
     (stand-through bytes (under all) (under kept) ends (ending ++ events)
     (subst (λ (l : List Name). StandsTo bytes (under l) (under kept) ends) (sym keeps)
     (ends-stand bytes last.leaves kept last.end))

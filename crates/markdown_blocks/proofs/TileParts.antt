@@ -65,7 +65,7 @@ stands-groups options bytes (group ∷ gs) are =
     stands-append bytes (listed_group bytes group) (listed_groups bytes gs)
     (stands-line bytes (ending_of (group_kind group)) (first_row group) (final_row group) (group_unread bytes group)
     (ending-no_part (group_kind group)) (group-front options bytes group gs are)
-    (group-leaf options bytes group gs are).1.parts)
+    (group-leaf options bytes group gs are).2.parts)
     (stands-groups options bytes gs (more-groups options bytes group gs are))
 
 rows-stand : (options : ParseOptions) (bytes : List ℕ) (cs : List Container) (still : HeldLeaf) (p : Point)
@@ -124,7 +124,7 @@ listed-by_groups bytes = record {
   none = λ p. record { matches = tt; closed = refl; forward = tt };
   group =
       λ names kept p group gs o keeps on. under-group bytes names kept p group (group_unread bytes group)
-      (listed_groups bytes gs) o keeps o.leaf.1.unread_nested on;
+      (listed_groups bytes gs) o keeps o.leaf.2.unread_nested on;
 }
 
 listed-nest : (options : ParseOptions) (bytes : List ℕ) (p : Point) (lines : List (List ℕ)) (rows : List Row) →

@@ -92,7 +92,7 @@ fill-groups options bytes (group ∷ gs) are =
     (groups_events bytes gs)
     (fill-line bytes (ending_of (group_kind group)) (first_row group) (final_row group) (group_unread bytes group)
     (group_done bytes group) (ending-no_part (group_kind group)) (group-front options bytes group gs are)
-    (group-leaf options bytes group gs are).1.filled)
+    (group-leaf options bytes group gs are).2.filled)
     (fill-groups options bytes gs (more-groups options bytes group gs are))
 
 fill-mark : (bytes : List ℕ) → Fill bytes (mark_events bytes) (mark_events bytes)

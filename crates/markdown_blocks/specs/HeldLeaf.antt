@@ -7,7 +7,8 @@
 use Rattle.std.specs.Prelude.{◌≡◌, Bool, true, false, ◌||◌, if◌then◌else◌}
 use Rattle.md_engine.specs.declared.tokenizer.held_leaf.HeldLeaf.{HeldLeaf}
 use Rattle.md_engine.specs.declared.tokenizer.held_leaf.HeldLeaf.TheVariants as held_leaf
-use Rattle.md_definition.specs.State.{Leaf, NoLeaf, OpenParagraph}
+use Rattle.md_definition.specs.Leaves.{Came, Finished, Opened}
+use Rattle.md_definition.specs.State.{Leaf, NoLeaf, OpenCode, OpenFence, OpenParagraph}
 use Rattle.markdown_blocks.specs.Leaf.Paragraph.{IsOpenText}
 
 -- whether a line goes on it that starts no other leaf, although not all containers went on (CommonMark 5.1, "laziness")
@@ -29,7 +30,14 @@ met_by all leaf = if takes_lazy leaf || all then leaf else held_leaf.None
 -- the kind of an open leaf of the line definition
 abbrev pub kind_of_leaf : Leaf → HeldLeaf
 kind_of_leaf (OpenParagraph lines) = held_leaf.Text
+kind_of_leaf (OpenCode lines) = held_leaf.Code
+kind_of_leaf (OpenFence o lines) = held_leaf.Fence o.marker o.size o.indent
 kind_of_leaf leaf = held_leaf.None
+
+-- the leaf that is open behind a line, by what the line definition came to with it
+abbrev pub left_by : Came → Leaf
+left_by (Opened leaf) = leaf
+left_by (Finished block) = NoLeaf
 
 -- What the tokenizer holds of the open leaf is this one.
 abbrev pub MatchesLeaf : HeldLeaf → Leaf → Type 0

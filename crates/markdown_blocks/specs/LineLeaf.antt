@@ -12,7 +12,9 @@ use Rattle.md_engine.specs.declared.state.Name.{Name as StateName}
 use Rattle.md_engine.specs.declared.tokenizer.held_leaf.HeldLeaf.{HeldLeaf}
 use Rattle.md_engine.specs.declared.state.flow.State.{State as FlowState}
 use Rattle.md_engine.specs.Meaning.{Cell, Here, Outcome}
+use Rattle.md_definition.specs.Leaves.{Came}
 use Rattle.md_definition.specs.Rest.{Rest}
+use Rattle.md_definition.specs.State.{Leaf}
 use Rattle.md_definition.specs.Tree.{Block}
 
 pub record LineLeaf : Type 0 where
@@ -30,9 +32,11 @@ pub record LineLeaf : Type 0 where
   pub takes : ParseOptions → HeldLeaf → List Cell → Bool
   pub adds : ParseOptions → HeldLeaf → List Cell → Point → List Event
   pub keeps : ParseOptions → HeldLeaf → List Cell → Point → HeldLeaf
-  -- By the rest of a line, as the line definition has it: whether it starts there, what is held behind it, and its block.
+  -- By the rest of a line, as the line definition has it: whether it starts there, what is held behind it, what the open
+  -- leaf comes to with it, and its block, if it always ends on its line.
   pub starts : ParseOptions → HeldLeaf → Rest → Bool
   pub holds : ParseOptions → HeldLeaf → Rest → HeldLeaf
+  pub comes : ParseOptions → Leaf → Rest → Came
   pub block : Rest → Block
   -- Its events, by the bytes of the line and the point where it begins: as its states leave them, once its resolver has
   -- run, and once the plain layer has read its text parts in this text.

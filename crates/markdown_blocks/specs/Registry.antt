@@ -65,6 +65,10 @@ trials = HeadingAtx ∷ ThematicBreak ∷ []
 unfoldable pub insider : HeldLeaf → Option LeafName
 insider on = None
 
+-- the one that takes the further lines of a leaf whose first line this takes
+abbrev pub further_of : LeafName → LeafName
+further_of l = l
+
 -- the first of them that passes a test
 abbrev pub first_of : (LeafName → Bool) → List LeafName → Option LeafName
 first_of test [] = None

@@ -2,7 +2,7 @@
 use Rattle.markdown_blocks.specs.HeldLeaf.{takes_lazy}
 use Rattle.md_engine.specs.declared.tokenizer.held_leaf.HeldLeaf.TheVariants as held_leaf
 use Rattle.md_engine.specs.declared.tokenizer.held_leaf.HeldLeaf.{HeldLeaf}
-use Rattle.std.specs.Prelude.{ℕ, zero, suc, Bool, true, false, ◌&&◌, length, if◌then◌else◌, List, [], ◌∷◌, ◌++◌}
+use Rattle.std.specs.Prelude.{ℕ, zero, suc, Bool, true, false, ◌&&◌, ◌==◌, length, if◌then◌else◌, List, [], ◌∷◌, ◌++◌}
 use Rattle.md_seam.specs.Events.Tiles.{plain_read}
 use Rattle.md_seam.specs.Events.Spelled.{without_last}
 use Rattle.std.specs.Option.{is_some}
@@ -236,6 +236,10 @@ tail_events name row = ends_of row.leaves row.end ++ ending_events name row
 abbrev pub ending_of : RowKind → Name
 ending_of BlankRow = n.BlankLineEnding
 ending_of _ = n.LineEnding
+
+-- whether nothing at all stands on the rest of a line
+abbrev pub is_empty_row : Row → Bool
+is_empty_row row = row.first.index == row.end.index
 
 -- what flow adds for the rest of a line
 abbrev pub leaf_events : RowKind → Row → List Event

@@ -31,7 +31,7 @@ use Rattle.markdown_blocks.proofs.SpanLemmas.{Nested_in}
 pub fence-facts : (options : ParseOptions) (bytes : List ℕ) (r : Rest) (p q : Point) →
     is_some (fence_at options r) ≡ true → LineAt bytes r (rest_line r) p q →
     (clear bytes p ≡ true → ArePlain bytes (fence_line (read_inner bytes) (rest_line r) p)) →
-    LeafFacts bytes (Some (fence_leaf.block r)) p q (fence_leaf.unread (rest_line r) p)
+    LeafFacts bytes (Some (fence_leaf.block r)) true p q (fence_leaf.unread (rest_line r) p)
     (fence_leaf.done bytes (rest_line r) p)
 fence-facts options bytes r p q starts at plain = record {
   unread_nested = subst (λ (e : Point). Nested_in p e unread) (sym at.end) nested.0;

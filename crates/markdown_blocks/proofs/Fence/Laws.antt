@@ -28,9 +28,9 @@ use Rattle.markdown_blocks.proofs.Fence.Cells.{fence-fits, fence-keeps}
 use Rattle.markdown_blocks.proofs.Fence.Facts.{fence-facts}
 use Rattle.markdown_blocks.proofs.Fence.Laid.{laid}
 use Rattle.markdown_blocks.proofs.Fence.Outside.{fence-lazy, fence-no_content, fence-own, fence-set}
-use Rattle.markdown_blocks.proofs.Fence.Texts.{ReadsString, fence-becomes}
+use Rattle.markdown_blocks.proofs.Fence.Texts.{fence-becomes}
 use Rattle.markdown_blocks.proofs.Fence.Trial.{fence-looked, fence-took, trial-refused, trial-shrinks}
-use Rattle.markdown_blocks.proofs.LeafFacts.{LeafFacts, LineAt}
+use Rattle.markdown_blocks.proofs.LeafFacts.{LeafFacts, LineAt, ReadsString}
 use Rattle.markdown_blocks.proofs.LeafLaws.{Shrinks, left_open, whole_line}
 use Rattle.markdown_blocks.proofs.OutsideFacts.{AreOutside, NoEnds}
 use Rattle.markdown_blocks.proofs.PartedFacts.{clear}
@@ -110,7 +110,7 @@ set options on r p es starts = fence-set (rest_line r) p es
 pub facts : (options : ParseOptions) (on : HeldLeaf) (bytes : List ℕ) (r : Rest) (p q : Point) →
     fence_leaf.starts options on r ≡ true → LineAt bytes r (rest_line r) p q →
     (clear bytes p ≡ true → ArePlain bytes (fence_leaf.done bytes (rest_line r) p)) →
-    LeafFacts bytes (Some (fence_leaf.block r)) p q (fence_leaf.unread (rest_line r) p)
+    LeafFacts bytes (Some (fence_leaf.block r)) true p q (fence_leaf.unread (rest_line r) p)
     (fence_leaf.done bytes (rest_line r) p)
 facts options on = fence-facts options
 

@@ -31,6 +31,7 @@ use Rattle.markdown_blocks.proofs.Fence.Laid.{Laid, line-walk}
 use Rattle.markdown_blocks.proofs.Fence.Walk.{Anywhere, At, Walks, is_text_name}
 use Rattle.markdown_blocks.proofs.FillFacts.{Fill, fill-append, fill-around, fill-part, fill-same, linked-filled}
 use Rattle.markdown_blocks.proofs.LineTexts.{one-last}
+use Rattle.markdown_blocks.proofs.LeafFacts.{ReadsString}
 use Rattle.markdown_blocks.proofs.PartsStand.{Stands, inside-linked, stands-append, stands-around, stands-outside}
 use Rattle.markdown_blocks.proofs.PartsStand.{stands-part}
 use Rattle.markdown_blocks.proofs.PieceFacts.{over-front}
@@ -157,13 +158,6 @@ fence-filled options bytes line rest p is =
     walked.parts))
 
 -- Whoever reads them as the plain layer does gives these events.
-
--- a reader of strings gives for chunks that are lines, none of which ends within a tab, what the plain layer does
-abbrev pub ReadsString : List ℕ → Readings → Type 0
-ReadsString bytes reads =
-    (chunks : List Chunk) (answer : List Event) → reads content.String chunks answer → (end : Point) →
-    IsTrue (are_lines bytes end chunks) → IsTrue (list_all (λ (chunk : Chunk). chunk.after.vs == 0) chunks) →
-    answer ≡ plain_events bytes (record { kind = String; chunks = chunks })
 
 walks-become : (bytes : List ℕ) (wants : Content → Bool) (reads : Readings) → wants content.String ≡ true →
     ReadsString bytes reads →

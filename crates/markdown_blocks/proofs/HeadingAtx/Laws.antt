@@ -50,7 +50,7 @@ line-begins options r starts =
 -- what is known of its events
 heading-facts : (options : ParseOptions) (bytes : List ℕ) (r : Rest) (p q : Point) →
     heading_leaf.starts options held_leaf.None r ≡ true → LineAt bytes r (rest_line r) p q →
-    LeafFacts bytes (Some (heading_leaf.block r)) p q (heading_leaf.unread (rest_line r) p)
+    LeafFacts bytes (Some (heading_leaf.block r)) true p q (heading_leaf.unread (rest_line r) p)
     (heading_leaf.done bytes (rest_line r) p)
 heading-facts options bytes r p q starts is = record {
   unread_nested = subst (λ (e : Point). Nested_in p e unread) (sym is.end) (unread-nested line p);
@@ -106,14 +106,16 @@ heading-laws = record {
   adds_is = λ options on. heading-adds options;
   keeps_is = λ options on said text behind r p stop at none ends short starts. refl;
   shut = λ ends options on. (λ cells p. refl, λ r. refl);
+  finishes = λ ends options leaf r. refl;
+  holds_is = λ options leaf r starts. refl;
   not_lazy = λ options on. (λ cells p. refl, λ r. refl);
-  no_content = λ wants text options on. heading-no_content wants text options;
+  no_content = λ wants only options on. heading-no_content wants only.text options;
   set =
-      λ options on r p es starts. heading-resolved (rest_line r) p (past_text (rest_line r) p) es
+      λ ends options on r p es starts. heading-resolved (rest_line r) p (past_text (rest_line r) p) es
       (line-begins options r starts);
   own = λ options on. heading-own options;
-  facts = λ options on. heading-facts options;
-  becomes = λ options on bytes r p q starts is wants reads w rt.
+  facts = λ ends options on. heading-facts options;
+  becomes = λ ends options on bytes r p q starts is wants reads w rt.
       becomes-around wants reads n.HeadingAtx p (past_text (rest_line r) p) (unread_title (title_of (rest_line r) p))
       (read_title bytes (title_of (rest_line r) p))
       (title-becomes bytes r (rest_line r) p q is wants reads w rt);

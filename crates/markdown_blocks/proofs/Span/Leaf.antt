@@ -1,5 +1,5 @@
 -- Events that stand inside of a leaf, with its begin and its end and whitespace in front of it, are a leaf.
-use Rattle.std.proofs.Common.{◌≡◌, ℕ, Bool, true, ◌&&◌, ◌||◌, not, List, [], ◌∷◌, ◌++◌, refl, ap, sym, ◌∙◌, subst}
+use Rattle.std.proofs.Common.{◌≡◌, ℕ, Bool, true, false, ◌&&◌, ◌||◌, not, List, [], ◌∷◌, ◌++◌, refl, ap, sym, ◌∙◌, subst}
 use Rattle.std.proofs.Common.{append_assoc}
 use Rattle.std.specs.Prelude.{Option, Some, None}
 use Rattle.md_engine.specs.declared.event.Event.{Event}
@@ -8,7 +8,7 @@ use Rattle.md_engine.specs.declared.event.Name.{Name}
 use Rattle.md_engine.specs.declared.event.Point.{Point}
 use Rattle.md_containers.specs.Unlisted.{in_place}
 use Rattle.md_containers.proofs.UnlistedLemmas.{NoListing, among, stands-append as places-append}
-use Rattle.md_seam.specs.Events.Endings.{IsLeaf, OnLine, endings_stand_from, ends_rightly, line_start, on_line}
+use Rattle.md_seam.specs.Events.Endings.{IsLeaf, OnLine, Spot, endings_stand_from, ends_rightly, line_start, on_line}
 use Rattle.md_seam.specs.Events.Endings.{spot_behind}
 use Rattle.md_seam.specs.Events.Grammar.{Expression, behind, behind_block, blocks, inside, may_end, plain_text}
 use Rattle.md_seam.specs.Events.Grammar.{unread_text}
@@ -17,13 +17,14 @@ use Rattle.md_seam.specs.Events.Spelled.{IsQuiet, LeafKind, OpenLeaf, Opens, Rea
 use Rattle.md_seam.specs.Events.Spelled.{read, read_enter, read_exit, role}
 use Rattle.md_seam.specs.Events.Tiles.{part_kind}
 use Rattle.md_seam.proofs.EndingsLemmas as ending
-use Rattle.md_seam.proofs.EndingsLemmas.{Stays, behind_leaf, in_leaf, others-lead}
+use Rattle.md_seam.proofs.EndingsLemmas.{Stays, in_leaf, others-lead}
 use Rattle.md_seam.proofs.GrammarLemmas as grammar
 use Rattle.md_seam.proofs.GrammarLemmas.{IsWord, leads-around}
 use Rattle.md_seam.proofs.SpelledLemmas.{Between, Quiet, Roles, read-from, read-quiet}
 use Rattle.md_outline.specs.Roles.{is_plain, is_told}
 use Rattle.markdown_blocks.proofs.BetweenFacts.{around-between, between-append}
 use Rattle.markdown_blocks.proofs.FillFacts.{fill-append, fill-around, fill-same}
+use Rattle.markdown_blocks.proofs.LeafFacts as leaf
 use Rattle.markdown_blocks.proofs.LeafFacts.{LeafFacts}
 use Rattle.markdown_blocks.proofs.LeafStands.{around-unlisted, between-stand, leaf-stands, parts-unlisted, quiets-parts}
 use Rattle.markdown_blocks.proofs.LeafStands.{unlisted-both}
@@ -50,21 +51,27 @@ pub record IsLeafName (name : Name) (kind : LeafKind) : Type 0 where
   -- an outline shows it
   pub plain : is_plain (Opens kind) ≡ true
 
--- where its line ends, if the last line of the leaf is filled: if anything stands on it
-around-leads : (name : Name) (p q : Point) (es : List Event) → on_line name ≡ IsLeaf → (stays : Stays es) →
-    (stays true).0 ≡ true → ending.Leads line_start behind_leaf (around name p q es)
-around-leads name p q es leaf stays filled = λ ys.
+-- where its line ends, by whether anything stands on the last line of the leaf
+around-leads : (name : Name) (p q : Point) (es : List Event) (filled : Bool) → on_line name ≡ IsLeaf →
+    (stays : Stays es) → (stays true).0 ≡ filled →
+    ending.Leads line_start (leaf.spot_behind filled) (around name p q es)
+around-leads name p q es filled named stays is = λ ys.
     ap
     (λ (x : OnLine).
     ends_rightly Enter x line_start
-    && endings_stand_from (spot_behind Enter x line_start) ((es ++ exit name q ∷ []) ++ ys)) leaf
+    && endings_stand_from (spot_behind Enter x line_start) ((es ++ exit name q ∷ []) ++ ys)) named
     ∙ ap (endings_stand_from (in_leaf true)) (append_assoc es (exit name q ∷ []) ys)
     ∙ (stays true).1 (exit name q ∷ ys)
     ∙ ap
     (λ (x : OnLine).
     ends_rightly Exit x (in_leaf (stays true).0)
-    && endings_stand_from (spot_behind Exit x (in_leaf (stays true).0)) ys) leaf
-    ∙ ap (λ (to : Bool). endings_stand_from (spot_behind Exit IsLeaf (in_leaf to)) ys) filled
+    && endings_stand_from (spot_behind Exit x (in_leaf (stays true).0)) ys) named
+    ∙ ap (λ (to : Bool). endings_stand_from (spot_behind Exit IsLeaf (in_leaf to)) ys) is
+    ∙ ap (λ (s : Spot). endings_stand_from s ys) (left_leaf filled)
+  where
+    left_leaf : (x : Bool) → spot_behind Exit IsLeaf (in_leaf x) ≡ leaf.spot_behind x
+    left_leaf true = refl
+    left_leaf false = refl
 
 -- in the grammar
 around-word : (text left : Expression) (name : Name) (kind : LeafKind) (p q : Point) (es : List Event) →
@@ -100,14 +107,14 @@ quiets-between (e ∷ es) h = (one (role e.name) h.0, quiets-between es h.1)
     one IsQuiet h = tt
     one _ h = absurd h
 
--- The leaf, if its last line is filled. Behind an empty one its ending is that of a blank line.
+-- The leaf, by whether anything stands on its last line. Behind an empty one its ending is that of a blank line.
 pub inside-leaf : (bytes : List ℕ) (name : Name) (kind : LeafKind) (p a q : Point) (left : Expression) (to : OpenLeaf)
-    (lead unread done : List Event) →
+    (filled : Bool) (lead unread done : List Event) →
     (named : IsLeafName name kind) → LeadFacts bytes p a lead → Starts unread → Starts done →
-    (h : InsideFacts bytes a q named.begin left (fresh kind) to unread done) → (h.unread_stays true).0 ≡ true →
-    (h.stays true).0 ≡ true → may_end left ≡ true →
-    LeafFacts bytes (Some (block_of to)) p q (lead ++ around name a q unread) (lead ++ around name a q done)
-inside-leaf bytes name kind p a q left to lead unread done named front unread_starts starts h unread_filled filled ends = record {
+    (h : InsideFacts bytes a q named.begin left (fresh kind) to unread done) → (h.unread_stays true).0 ≡ filled →
+    (h.stays true).0 ≡ filled → may_end left ≡ true →
+    LeafFacts bytes (Some (block_of to)) filled p q (lead ++ around name a q unread) (lead ++ around name a q done)
+inside-leaf bytes name kind p a q left to filled lead unread done named front unread_starts starts h unread_is is ends = record {
   unread_nested =
       nested_in-append p a q lead (around name a q unread) front.nested
       (around-nested name a q unread h.unread_nested);
@@ -126,11 +133,11 @@ inside-leaf bytes name kind p a q left to lead unread done named front unread_st
       grammar.leads-append plain_text (blocks ∷ []) (blocks ∷ []) (behind_block ∷ []) lead (around name a q done)
       (front.word plain_text) (around-word plain_text left name kind a q done named h.word ends);
   unread_ending =
-      ending.leads-append line_start line_start behind_leaf lead (around name a q unread) lead_ends
-      (around-leads name a q unread named.leaf h.unread_stays unread_filled);
+      ending.leads-append line_start line_start (leaf.spot_behind filled) lead (around name a q unread) lead_ends
+      (around-leads name a q unread filled named.leaf h.unread_stays unread_is);
   ending =
-      ending.leads-append line_start line_start behind_leaf lead (around name a q done) lead_ends
-      (around-leads name a q done named.leaf h.stays filled);
+      ending.leads-append line_start line_start (leaf.spot_behind filled) lead (around name a q done) lead_ends
+      (around-leads name a q done filled named.leaf h.stays is);
   unread_unlisted =
       unlisted-both lead (around name a q unread) unlisted
       (around-unlisted name a q unread named.no_list h.unread_roles);

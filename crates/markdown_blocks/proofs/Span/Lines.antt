@@ -1,5 +1,5 @@
 -- The lines of one leaf that are joined: from what is known of each, all that the frame asks of the leaf.
-use Rattle.std.proofs.Common.{◌≡◌, ℕ, true, List, [], ◌∷◌, ◌++◌, ap, sym, ◌∙◌, subst, append_assoc}
+use Rattle.std.proofs.Common.{◌≡◌, ℕ, Bool, true, List, [], ◌∷◌, ◌++◌, ap, sym, ◌∙◌, subst, append_assoc}
 use Rattle.std.specs.Prelude.{◌==◌, ◌||◌, Some}
 use Rattle.md_engine.specs.declared.configuration.ParseOptions.{ParseOptions}
 use Rattle.md_engine.specs.declared.event.Event.{Event}
@@ -264,30 +264,30 @@ span-inside bytes unread done name kind to row rows named first are =
         (span_rest done row rows)
     rest = rest-inside bytes unread done name first.left first.leaf to row rows first.ends.whole are
 
--- All that the frame asks of the lines of a leaf, joined, if the last of them is filled.
+-- All that the frame asks of the lines of a leaf, joined, by whether anything stands on the last of them.
 pub span-facts : (bytes : List ℕ) (unread done : Row → List Event) (name : Name) (kind : LeafKind) (to : OpenLeaf)
-    (row : Row) (rows : List Row) →
+    (row : Row) (rows : List Row) (filled : Bool) →
     (named : IsLeafName name kind) (first : SpanFirst bytes unread done name named.begin (fresh kind) row) →
     (are : AreFurther bytes unread done name first.left first.leaf to row rows) →
-    ((span-inside bytes unread done name kind to row rows named first are).unread_stays true).0 ≡ true →
-    ((span-inside bytes unread done name kind to row rows named first are).stays true).0 ≡ true →
-    LeafFacts bytes (Some (block_of to)) row.first (last_row row rows).end (span_by unread row rows)
+    ((span-inside bytes unread done name kind to row rows named first are).unread_stays true).0 ≡ filled →
+    ((span-inside bytes unread done name kind to row rows named first are).stays true).0 ≡ filled →
+    LeafFacts bytes (Some (block_of to)) filled row.first (last_row row rows).end (span_by unread row rows)
     (span_by done row rows)
-span-facts bytes unread done name kind to row rows named first are unread_filled filled =
+span-facts bytes unread done name kind to row rows filled named first are unread_is is =
     subst
     (λ (es : List Event).
-    LeafFacts bytes (Some (block_of to)) row.first last es (span_by done row rows))
+    LeafFacts bytes (Some (block_of to)) filled row.first last es (span_by done row rows))
     (sym (span-is unread name first.at first.lead first.unread_inside row rows first.unread_is ends.unread_end))
     (subst
     (λ (es : List Event).
-    LeafFacts bytes (Some (block_of to)) row.first last
+    LeafFacts bytes (Some (block_of to)) filled row.first last
     (first.lead ++ around name first.at last (first.unread_inside ++ span_rest unread row rows)) es)
     (sym (span-is done name first.at first.lead first.inside row rows first.is ends.end))
-    (inside-leaf bytes name kind row.first first.at last rest.left to first.lead
+    (inside-leaf bytes name kind row.first first.at last rest.left to filled first.lead
     (first.unread_inside ++ span_rest unread row rows) (first.inside ++ span_rest done row rows) named first.lead_is
     (starts-append first.unread_inside (span_rest unread row rows) first.unread_starts)
     (starts-append first.inside (span_rest done row rows) first.starts)
-    (span-inside bytes unread done name kind to row rows named first are) unread_filled filled rest.end))
+    (span-inside bytes unread done name kind to row rows named first are) unread_is is rest.end))
   where
     last : Point
     last = (last_row row rows).end

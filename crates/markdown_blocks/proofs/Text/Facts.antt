@@ -73,7 +73,7 @@ end-clear options bytes row (next ∷ rows) h = end-clear options bytes next row
 
 pub text-facts : (options : ParseOptions) (bytes : List ℕ) (row : Row) (rows : List Row) →
     (h : AreLines options bytes row rows) →
-    LeafFacts bytes (Some (text_leaf.block (texts (kept-of options bytes row rows h)))) row.first
+    LeafFacts bytes (Some (text_leaf.block (texts (kept-of options bytes row rows h)))) true row.first
     (last_row row rows).end
     (text_unread row rows) (text_done bytes row rows)
 text-facts options bytes row rows h = record {

@@ -260,11 +260,11 @@ break-word text m (b ∷ bs) p mark first = go (b == m) refl
 -- The whole break.
 pub break-facts : (options : ParseOptions) (bytes : List ℕ) (r : Rest) (p q : Point) →
     break_leaf.starts options held_leaf.None r ≡ true → LineAt bytes r (rest_line r) p q →
-    LeafFacts bytes (Some Break) p q (break_line (rest_line r) p) (break_line (rest_line r) p)
+    LeafFacts bytes (Some Break) true p q (break_line (rest_line r) p) (break_line (rest_line r) p)
 break-facts options bytes r p q starts at =
     subst
     (λ (x : Point).
-    LeafFacts bytes (Some Break) p q (around n.ThematicBreak p x inside_of) (around n.ThematicBreak p x inside_of))
+    LeafFacts bytes (Some Break) true p q (around n.ThematicBreak p x inside_of) (around n.ThematicBreak p x inside_of))
     at.end facts
   where
     line : List ℕ
@@ -325,7 +325,7 @@ break-facts options bytes r p q starts at =
         (others-lead (in_leaf true) inside_of refl (runs-others Apart m line p))
 
     facts :
-        LeafFacts bytes (Some Break) p q (around n.ThematicBreak p q inside_of) (around n.ThematicBreak p q inside_of)
+        LeafFacts bytes (Some Break) true p q (around n.ThematicBreak p q inside_of) (around n.ThematicBreak p q inside_of)
     facts = record {
       unread_nested = around-nested n.ThematicBreak p q inside_of nested;
       nested = around-nested n.ThematicBreak p q inside_of nested;

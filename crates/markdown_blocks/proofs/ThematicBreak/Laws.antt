@@ -21,12 +21,14 @@ break-laws = record {
   adds_is = λ options on. break-adds options;
   keeps_is = λ options on said text behind r p stop at none ends short starts. refl;
   shut = λ ends options on. (λ cells p. refl, λ r. refl);
+  finishes = λ ends options leaf r. refl;
+  holds_is = λ options leaf r starts. refl;
   not_lazy = λ options on. (λ cells p. refl, λ r. refl);
-  no_content = λ wants text options on. break-no_content wants options;
+  no_content = λ wants only options on. break-no_content wants options;
   own = λ options on. break-own options;
-  set = λ options on r p es starts. break-set (rest_line r) p es;
-  facts = λ options on. break-facts options;
-  becomes = λ options on bytes r p q starts at wants reads text read.
+  set = λ ends options on r p es starts. break-set (rest_line r) p es;
+  facts = λ ends options on. break-facts options;
+  becomes = λ ends options on bytes r p q starts at wants reads text read.
       becomes-same wants reads (break_leaf.unread (rest_line r) p)
       (no_links-unwanted wants (break_leaf.unread (rest_line r) p) (break-unlinked (rest_line r) p));
 }

@@ -25,9 +25,9 @@ use Rattle.md_seam.specs.Events.Nested.{around, enter_link, exit, pair}
 use Rattle.md_seam.specs.Events.Places.{past_text}
 use Rattle.md_seam.specs.Spaces.{small_indent}
 use Rattle.md_definition.specs.Leaves as definition
-use Rattle.md_definition.specs.Leaves.{first_word, opening}
+use Rattle.md_definition.specs.Leaves.{Opened, first_word, opening}
 use Rattle.md_definition.specs.Rest.{Rest, indent, is_white, run_len, trim_start}
-use Rattle.md_definition.specs.State.{Opening, fence_block}
+use Rattle.md_definition.specs.State.{OpenFence, Opening, fence_block}
 use Rattle.md_definition.specs.Texts.{first_byte}
 use Rattle.markdown_blocks.specs.LineLeaf.{LineLeaf}
 
@@ -137,6 +137,7 @@ fence_leaf = record {
   keeps = λ options on cells p. fence_keeps options cells p;
   starts = λ options on r. is_some (definition.fence_at options r);
   holds = λ options on r. held_of (opening_at r);
+  comes = λ options open_leaf r. Opened (OpenFence (opening_at r) []);
   block = λ r. fence_block (opening_at r) [] false;
   added = λ options on line p. fence_line linked line p;
   unread = λ line p. fence_line linked line p;

@@ -21,9 +21,9 @@ use Rattle.md_lines.specs.Further.{further_link}
 use Rattle.md_seam.specs.Events.Nested.{around, enter_link, exit, pair}
 use Rattle.md_seam.specs.Events.Places.{past_text}
 use Rattle.md_seam.specs.Events.Spelled.{columns_left}
-use Rattle.md_definition.specs.Leaves.{closes, least_size}
+use Rattle.md_definition.specs.Leaves.{Came, Opened, closes, fence_goes_on, least_size}
 use Rattle.md_definition.specs.Rest.{Rest, indent, lose, run_len, trim_start, without_column}
-use Rattle.md_definition.specs.State.{Opening, fence_block}
+use Rattle.md_definition.specs.State.{Leaf, OpenFence, Opening, fence_block}
 use Rattle.markdown_blocks.specs.Fronted.{rest_line}
 use Rattle.markdown_blocks.specs.LineLeaf.{LineLeaf}
 
@@ -114,6 +114,11 @@ further_line options on line p =
     let q = past_text line p in
     enter_link name p further_link ∷ further_parts options on (rest_of p line) p q ++ exit name q ∷ []
 
+-- what an open block comes to with the line
+abbrev pub fence_comes : ParseOptions → Leaf → Rest → Came
+fence_comes options (OpenFence o lines) r = fence_goes_on options o lines r
+fence_comes options leaf r = Opened leaf
+
 -- By itself it is no block, and it has no text parts: what it is with the lines in front of it shows when they are
 -- joined, so its block and its events behind that are not asked.
 abbrev pub fence_further : LineLeaf
@@ -129,6 +134,7 @@ fence_further = record {
   keeps = λ options on cells p. further_keeps options on cells;
   starts = λ options on r. is_fence on;
   holds = λ options on r. further_holds options on r;
+  comes = λ options open_leaf r. fence_comes options open_leaf r;
   block = λ r. fence_block (opening_of held_leaf.None) [] false;
   added = λ options on line p. further_line options on line p;
   unread = λ line p. [];

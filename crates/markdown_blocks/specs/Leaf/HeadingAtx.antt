@@ -16,7 +16,7 @@ use Rattle.md_seam.specs.Ahead.{line_end}
 use Rattle.md_seam.specs.Events.Inline.{plain_events}
 use Rattle.md_seam.specs.Events.Nested.{around}
 use Rattle.md_seam.specs.Events.Places.{past_text}
-use Rattle.md_definition.specs.Leaves.{heading_lines, heading_text}
+use Rattle.md_definition.specs.Leaves.{Finished, heading_lines, heading_text}
 use Rattle.md_definition.specs.Rest.{Rest, has_small_indent, run_len, trim_start}
 use Rattle.md_definition.specs.Tree.{Block, Heading}
 use Rattle.markdown_blocks.specs.LineLeaf.{LineLeaf}
@@ -55,6 +55,7 @@ heading_leaf = record {
   keeps = λ options on cells p. held_leaf.None;
   starts = λ options on r. options.constructs.heading_atx && has_small_indent options r && is_heading (trim_start r.bytes);
   holds = λ options on r. held_leaf.None;
+  comes = λ options open_leaf r. Finished (heading_block r);
   block = heading_block;
   added = λ options on line p. heading_around line p (line_runs Apart line p);
   unread = λ line p. heading_around line p (unread_title (title_of line p));

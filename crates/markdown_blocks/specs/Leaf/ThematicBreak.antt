@@ -15,7 +15,7 @@ use Rattle.md_seam.specs.Ahead.{begins_white, line_bytes, line_cells, line_end, 
 use Rattle.md_seam.specs.Events.Nested.{around, pair}
 use Rattle.md_seam.specs.Events.Places.{past_text}
 use Rattle.md_seam.specs.Spaces.{small_indent}
-use Rattle.md_definition.specs.Leaves.{is_rule}
+use Rattle.md_definition.specs.Leaves.{Finished, is_rule}
 use Rattle.md_definition.specs.Rest.{has_small_indent, trim_start}
 use Rattle.md_definition.specs.Tree.{Break}
 use Rattle.markdown_blocks.specs.LineLeaf.{LineLeaf}
@@ -68,6 +68,7 @@ break_leaf = record {
   keeps = λ options on cells p. held_leaf.None;
   starts = λ options on r. options.constructs.thematic_break && has_small_indent options r && is_rule (trim_start r.bytes);
   holds = λ options on r. held_leaf.None;
+  comes = λ options open_leaf r. Finished Break;
   block = λ r. Break;
   added = λ options on line p. break_line line p;
   unread = break_line;

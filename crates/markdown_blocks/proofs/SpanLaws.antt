@@ -1,0 +1,95 @@
+-- The laws of a leaf of several lines: what the frame asks of its lines, once they are joined.
+--
+-- One value of `LineLeaf` takes its first line, and one its further lines; both may be the same.
+use Rattle.std.proofs.Common.{◌≡◌, ℕ, ◌+◌, Bool, true, false, List, [], ◌∷◌, ◌++◌, length}
+use Rattle.std.specs.Prelude.{nat_lt, not, if◌then◌else◌, Some}
+use Rattle.md_engine.specs.declared.configuration.ParseOptions.{ParseOptions}
+use Rattle.md_engine.specs.declared.event.Content.{Content}
+use Rattle.md_engine.specs.declared.event.Content.TheVariants as content
+use Rattle.md_engine.specs.declared.event.Event.{Event}
+use Rattle.md_engine.specs.declared.event.Point.{Point}
+use Rattle.md_definition.specs.Leaves.{Came}
+use Rattle.md_definition.specs.Rest.{Rest}
+use Rattle.md_definition.specs.State.{NoLeaf, Spot, shut, then_block}
+use Rattle.md_definition.specs.Step.{came}
+use Rattle.md_definition.specs.Tree.{Block, Blocks}
+use Rattle.md_leaves.specs.Spanned.{has_lines, links_back}
+use Rattle.md_leaves.proofs.SpannedLines.{IsBegin, IsEnd, IsFurther, NoLines}
+use Rattle.md_seam.specs.Substituted.{Readings}
+use Rattle.markdown_blocks.specs.Fronted.{rest_line}
+use Rattle.markdown_blocks.specs.HeldLeaf.{left_by}
+use Rattle.markdown_blocks.specs.LineLeaf.{LineLeaf}
+use Rattle.markdown_blocks.specs.Rows.{Row, is_empty_row, last_row, span_by, span_done}
+use Rattle.markdown_blocks.proofs.FrontFacts.{LinePrefix}
+use Rattle.markdown_blocks.proofs.LeafFacts.{LeafFacts, LineAt, ReadsText, ReadsString}
+use Rattle.markdown_blocks.proofs.RowFacts.{IsEnding}
+use Rattle.markdown_blocks.proofs.SubstitutedLemmas.{Becomes}
+
+-- Lines.
+
+-- A line of it, where it stands: its rest, what is added for it, and what is held behind it.
+pub record IsLineOf (options : ParseOptions) (bytes : List ℕ) (l : LineLeaf) (row : Row) : Type 0 where
+  pub rest : Rest
+  pub at : LineAt bytes rest (rest_line rest) row.first row.end
+  pub column : row.first.column ≡ rest.column + 1
+  pub starts : l.starts options row.on rest ≡ true
+  pub inside : row.inside ≡ l.added options row.on (rest_line rest) row.first
+  pub behind : row.behind ≡ l.holds options row.on rest
+
+-- further lines behind one: each meets the leaf that the one before has left, behind prefixes of the containers alone
+abbrev pub AreBehind : ParseOptions → List ℕ → LineLeaf → Row → List Row → Type 0
+AreBehind options bytes l row [] = Unit {0}
+AreBehind options bytes l row (next ∷ rows) =
+    (q : Point) × (after : row.after ≡ Some q) × (ending : IsEnding bytes row.end q)
+    × (front : LinePrefix bytes [] q next.first next.front)
+    × (on : next.on ≡ row.behind) × (further : l.further next.on ≡ true)
+    × (is : IsLineOf options bytes l next) × AreBehind options bytes l next rows
+
+-- What the line definition comes to with them, behind what it came to before. An empty line behind the ending that the
+-- text ends with is none of its lines.
+abbrev pub come_behind : (options : ParseOptions) (bytes : List ℕ) (l : LineLeaf) (row : Row) (rows : List Row) →
+    AreBehind options bytes l row rows → Came → Came
+come_behind options bytes l row [] are c = c
+come_behind options bytes l row (next ∷ rows) are c =
+    come_behind options bytes l next rows are.7
+    (if nat_lt are.0.index (length bytes) then l.comes options (left_by c) are.6.rest else c)
+
+-- Events, as the resolver that joins them meets them: a line is a begin behind others, what stands inside, and an end.
+pub record IsSpanned (Begins : Event → Type 0) (es : List Event) : Type 0 where
+  pub lead : List Event
+  pub begin : Event
+  pub inside : List Event
+  pub end : Event
+  pub is : es ≡ lead ++ begin ∷ inside ++ end ∷ []
+  pub lead_plain : NoLines lead
+  pub begins : Begins begin
+  pub inside_plain : NoLines inside
+  pub ends : IsEnd end
+
+-- The laws.
+
+pub record SpanLaws (first further : LineLeaf) : Type 1 where
+  -- Each line is a block by itself at first; a further one says by the link of its begin that it goes on the one before.
+  pub first_spanned : (options : ParseOptions) (bytes : List ℕ) (row : Row) → IsLineOf options bytes first row →
+      first.further row.on ≡ false → IsSpanned IsBegin row.inside
+  pub further_spanned : (options : ParseOptions) (bytes : List ℕ) (row : Row) → IsLineOf options bytes further row →
+      further.further row.on ≡ true → IsSpanned IsFurther row.inside
+  -- Joined, the lines are known, and show the block to which the line definition comes with them.
+  pub block : (options : ParseOptions) (bytes : List ℕ) (row : Row) (rows : List Row) →
+      IsLineOf options bytes first row → AreBehind options bytes further row rows → Block
+  pub facts : (options : ParseOptions) (bytes : List ℕ) (row : Row) (rows : List Row) →
+      (is : IsLineOf options bytes first row) → first.further row.on ≡ false →
+      (are : AreBehind options bytes further row rows) →
+      LeafFacts bytes (Some (block options bytes row rows is are)) (not (is_empty_row (last_row row rows))) row.first
+      (last_row row rows).end (span_by (λ (r : Row). r.inside) row rows) (span_done bytes row rows)
+  pub shuts : (options : ParseOptions) (bytes : List ℕ) (row : Row) (rows : List Row) →
+      (is : IsLineOf options bytes first row) → first.further row.on ≡ false →
+      (are : AreBehind options bytes further row rows) → (bs : Blocks) →
+      shut options (came bs (come_behind options bytes further row rows are (first.comes options NoLeaf is.rest))) ≡
+      then_block bs (block options bytes row rows is are)
+  -- Their text parts are read in the places of their chunks.
+  pub becomes : (options : ParseOptions) (bytes : List ℕ) (row : Row) (rows : List Row) →
+      IsLineOf options bytes first row → first.further row.on ≡ false → AreBehind options bytes further row rows →
+      (wants : Content → Bool) (reads : Readings) → wants content.Text ≡ true → wants content.String ≡ true →
+      ReadsText bytes reads → ReadsString bytes reads →
+      Becomes wants reads (span_by (λ (r : Row). r.inside) row rows) (span_done bytes row rows)
