@@ -1,15 +1,14 @@
--- What is known of the leaf of a group, be it one line or the lines of a text.
+-- What is known of the leaf of a group, be it one line, the lines of a text, or those of a leaf of several.
 use Rattle.std.proofs.Common.{ℕ, List, ◌∷◌, Bool, true, false}
 use Rattle.markdown_blocks.proofs.GroupsAre.{AreSpan, Begins, behind-first, line-further, line-of, span-begins}
-use Rattle.markdown_blocks.specs.Rows.{Span, is_empty_row, last_row}
 use Rattle.markdown_blocks.proofs.Registry.{span-laws}
-use Rattle.std.specs.Prelude.{not}
-use Rattle.std.specs.Prelude.{Option, Some}
+use Rattle.std.specs.Prelude.{not, Option, Some}
 use Rattle.md_engine.specs.declared.configuration.ParseOptions.{ParseOptions}
 use Rattle.md_definition.specs.State.{texts}
 use Rattle.md_definition.specs.Tree.{Block}
 use Rattle.markdown_blocks.specs.Registry.{text_leaf}
-use Rattle.markdown_blocks.specs.Rows.{Group, Lines, Row, Single, final_row, first_row, group_done}
+use Rattle.markdown_blocks.specs.Rows.{Span, is_empty_row, last_row, Group, Lines, Row, Single, final_row, first_row}
+use Rattle.markdown_blocks.specs.Rows.{group_done}
 use Rattle.markdown_blocks.specs.Unread.{group_unread}
 use Rattle.markdown_blocks.proofs.GroupLemmas.{AreGroups, AreLines, HasFront}
 use Rattle.markdown_blocks.proofs.LeafFacts.{LeafFacts}
@@ -28,7 +27,7 @@ pub text-leaf : (options : ParseOptions) (bytes : List ℕ) (row : Row) (rows : 
 text-leaf options bytes row rows h =
     (Some (text_leaf.block (texts (kept-of options bytes row rows h))), true, text-facts options bytes row rows h)
 
--- the block that the lines of a leaf of several show
+-- the block that the lines of a leaf of several show, and what is known of their events
 abbrev pub span-block : (options : ParseOptions) (bytes : List ℕ) (row : Row) (rows : List Row) →
     AreSpan options bytes row rows → Block
 span-block options bytes row rows are =

@@ -38,7 +38,7 @@ abbrev pub EndsBeforeGroups : Row → List Group → Type 0
 EndsBeforeGroups row [] = Unit {0}
 EndsBeforeGroups row (group ∷ gs) = (q : Point) × (row.after ≡ Some q)
 
--- a line that is no text, with no others
+-- a line that is no text, and no line of a leaf of several
 pub record IsSingle (options : ParseOptions) (bytes : List ℕ) (row : Row) : Type 0 where
   pub line : List ℕ
   pub is : IsRow options bytes line row
@@ -70,7 +70,7 @@ AreSpan options bytes row (next ∷ rows) =
 abbrev pub Begins : Row → Type 0
 Begins row = is_further row.kind row.on ≡ false
 
--- groups that are such; the first line of a leaf of several begins it
+-- groups that are such; the first line of a leaf of several goes on none
 abbrev pub AreGroups : ParseOptions → List ℕ → List Group → Type 0
 AreGroups options bytes [] = Unit {0}
 AreGroups options bytes (Single row ∷ gs) = IsSingle options bytes row × AreGroups options bytes gs

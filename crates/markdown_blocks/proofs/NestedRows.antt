@@ -1,14 +1,11 @@
 -- The events of a text nest.
 use Rattle.md_engine.specs.declared.tokenizer.held_leaf.HeldLeaf.TheVariants as held_leaf
 use Rattle.md_engine.specs.declared.tokenizer.held_leaf.HeldLeaf.{HeldLeaf}
-use Rattle.std.proofs.Common.{◌≡◌, ◌≢◌, ℕ, Bool, true, false, cond, List, [], ◌∷◌, ◌++◌, refl, ap, sym, ◌∙◌, subst}
 use Rattle.markdown_blocks.specs.Registry.{LeafName, leaf}
-use Rattle.markdown_blocks.specs.Rows.{Span, is_further, onto_leaf}
-use Rattle.markdown_blocks.proofs.GroupFacts.{span-group}
 use Rattle.markdown_blocks.proofs.GroupsAre.{AreSpan, FirstBegins, FirstIs, IsBehind, IsSpanLine, begins-behind}
 use Rattle.markdown_blocks.proofs.GroupsAre.{blank-ends, first-begins, first-behind, leaf-row-ends, shut-behind}
 use Rattle.markdown_blocks.proofs.GroupsAre.{text-ends}
-use Rattle.markdown_blocks.proofs.RowLeaf.{EndsOnLine}
+use Rattle.std.proofs.Common.{◌≡◌, ◌≢◌, ℕ, Bool, true, false, cond, List, [], ◌∷◌, ◌++◌, refl, ap, sym, ◌∙◌, subst}
 use Rattle.std.proofs.Common.{append_assoc, append-nil}
 use Rattle.std.specs.Prelude.{IsTrue, Option, Some, None}
 use Rattle.std.proofs.lemmas.Bool.{and_parts}
@@ -23,18 +20,18 @@ use Rattle.md_seam.proofs.NestedLemmas.{at_or_before-refl, balanced-none, forwar
 use Rattle.md_seam.proofs.NestedLemmas.{open_after-append}
 use Rattle.markdown_blocks.specs.Change.{Change, ends_of, is_none, open_behind}
 use Rattle.markdown_blocks.specs.Fronted.{contained, rest_from, rest_line}
-use Rattle.markdown_blocks.specs.Rows.{final_row, first_row, group_done, group_kind, LeafRow, ending_of}
-use Rattle.markdown_blocks.specs.Rows.{BlankRow, Group, Lines, Row, RowKind, Single, TextRow, behind_row, closes_before}
-use Rattle.markdown_blocks.specs.Rows.{ending_events, goes_on, groups, groups_events, last_row, onto_groups}
-use Rattle.markdown_blocks.specs.Rows.{tail_events}
+use Rattle.markdown_blocks.specs.Rows.{Span, is_further, onto_leaf, final_row, first_row, group_done, group_kind}
+use Rattle.markdown_blocks.specs.Rows.{LeafRow, ending_of, BlankRow, Group, Lines, Row, RowKind, Single, TextRow}
+use Rattle.markdown_blocks.specs.Rows.{behind_row, closes_before, ending_events, goes_on, groups, groups_events}
+use Rattle.markdown_blocks.specs.Rows.{last_row, onto_groups, tail_events}
 use Rattle.markdown_blocks.proofs.ContainedLemmas.{contained-shapes, none-nil}
 use Rattle.markdown_blocks.proofs.FrontFacts.{LinePrefix}
 use Rattle.markdown_blocks.proofs.FrontLemmas.{Turns, ends-spans, ends-turn, fronts-spans, fronts-turn, names-append}
 use Rattle.markdown_blocks.proofs.FrontLemmas.{shapes-names, turns-balanced}
 use Rattle.markdown_blocks.proofs.JoinedLemmas.{behind-is, behind-none}
-use Rattle.markdown_blocks.proofs.GroupFacts.{IsGroupLeaf, text-leaf}
+use Rattle.markdown_blocks.proofs.GroupFacts.{span-group, IsGroupLeaf, text-leaf}
 use Rattle.markdown_blocks.proofs.GroupLemmas.{AreLines}
-use Rattle.markdown_blocks.proofs.RowLeaf.{row-leaf}
+use Rattle.markdown_blocks.proofs.RowLeaf.{EndsOnLine, row-leaf}
 use Rattle.markdown_blocks.proofs.Text.Order.{ending-order}
 use Rattle.markdown_blocks.proofs.RowFacts.{AreRows, IsEnding, IsLine, IsRow, behind_line}
 use Rattle.markdown_blocks.proofs.SpanLemmas.{Nested_in, Spans}

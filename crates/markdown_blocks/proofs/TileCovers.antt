@@ -2,12 +2,8 @@
 -- read.
 use Rattle.md_engine.specs.declared.tokenizer.held_leaf.HeldLeaf.TheVariants as held_leaf
 use Rattle.md_engine.specs.declared.tokenizer.held_leaf.HeldLeaf.{HeldLeaf}
-use Rattle.std.proofs.Common.{◌≡◌, ℕ, Bool, true, false, cond, List, [], ◌∷◌, ◌++◌, length, refl, subst}
-use Rattle.std.proofs.Common.{◌∙◌}
-use Rattle.std.proofs.Common.{ap, append-nil}
-use Rattle.markdown_blocks.specs.Registry.{leaf}
-use Rattle.markdown_blocks.specs.Rows.{Span, final_row, first_row, group_kind, is_further, onto_leaf}
-use Rattle.markdown_blocks.specs.Unread.{group_unread}
+use Rattle.std.proofs.Common.{◌≡◌, ℕ, Bool, true, false, cond, List, [], ◌∷◌, ◌++◌, length, refl, subst, ◌∙◌, ap}
+use Rattle.std.proofs.Common.{append-nil}
 use Rattle.markdown_blocks.proofs.NestedRows.{ByGroups, rows-hold}
 use Rattle.std.specs.Prelude.{Option, Some, None}
 use Rattle.std.proofs.lemmas.Bool.{and_from, eq-eqb}
@@ -23,16 +19,16 @@ use Rattle.md_definition.specs.Preamble.{has_mark}
 use Rattle.md_definition.specs.State.{Container}
 use Rattle.md_seam.specs.Events.Tiles.{end_point}
 use Rattle.md_seam.proofs.InlineLemmas.{same-refl}
-use Rattle.markdown_blocks.specs.Registry.{container_name}
+use Rattle.markdown_blocks.specs.Registry.{leaf, container_name}
 use Rattle.markdown_blocks.specs.Change.{ends_of}
 use Rattle.markdown_blocks.specs.Document.{body_point, mark_end, mark_events}
-use Rattle.markdown_blocks.specs.Rows.{LeafRow, ending_of, BlankRow, Group, Lines, Row}
-use Rattle.markdown_blocks.specs.Rows.{RowKind, Single, TextRow, behind_row, ending_events, goes_on as joins_on, groups}
-use Rattle.markdown_blocks.specs.Rows.{last_row, onto_groups, tail_events}
-use Rattle.markdown_blocks.specs.Unread.{listed_group, listed_groups}
+use Rattle.markdown_blocks.specs.Rows.{Span, final_row, first_row, group_kind, is_further, onto_leaf, LeafRow}
+use Rattle.markdown_blocks.specs.Rows.{ending_of, BlankRow, Group, Lines, Row, RowKind, Single, TextRow, behind_row}
+use Rattle.markdown_blocks.specs.Rows.{ending_events, goes_on as joins_on, groups, last_row, onto_groups, tail_events}
+use Rattle.markdown_blocks.specs.Unread.{group_unread, listed_group, listed_groups}
 use Rattle.markdown_blocks.proofs.JoinedLemmas.{behind-is, behind-none}
-use Rattle.markdown_blocks.proofs.PiecesLemmas.{Follows, Tiled, follows-append, follows-tiled, tiled-append}
-use Rattle.markdown_blocks.proofs.PiecesLemmas.{tiled-none, tiled-pair}
+use Rattle.markdown_blocks.proofs.PiecesLemmas.{Follows, Tiled, follows-append, follows-tiled, tiled-append, tiled-none}
+use Rattle.markdown_blocks.proofs.PiecesLemmas.{tiled-pair}
 use Rattle.markdown_blocks.proofs.FrontStands.{fronts-tiled}
 use Rattle.markdown_blocks.proofs.RowFacts.{AreRows, IsLine, behind_line}
 
