@@ -265,10 +265,15 @@ trial-leaves : (start ok nok : StateName) (w u : World) (x : Bool) → u.point �
 trial-leaves start ok nok w u true there same text = ((there, same), text)
 trial-leaves start ok nok w u false there same text = ((there, same), text)
 
-pub opener-leaves : (k : ContainerKind) (w : World) → Leaves (new_before_transition k w) w
+opener-leaves : (k : ContainerKind) (w : World) → Leaves (new_before_transition k w) w
 opener-leaves k w =
     trial-leaves (opens_with k) (n.Document document.ContainerNewAfter) (n.Document (next_opener k)) w
     (asking (container_of k) w) (may_with (may_open k) (looks_behind w)) refl refl refl
+
+-- so does the one that is tried at a state, if one is
+pub tried-opener-leaves : (o : Option ContainerKind) (w : World) → Leaves (opener_transition o w) w
+tried-opener-leaves None w = (tt, refl)
+tried-opener-leaves (Some k) w = opener-leaves k w
 
 pub blank-leaves : (w : World) → Leaves (blank_line_before_transition w) w
 blank-leaves w = go (ends_line w.current)
@@ -286,10 +291,14 @@ inside-leaves w = go (insider w.flags.leaf)
     go None = ((refl, refl), refl)
     go (Some l) = trial-leaves (leaf l).start (n.Flow flow.After) (n.Flow flow.Start) w w true refl refl refl
 
-pub leaf-leaves : (l : LeafName) (w : World) → Leaves (before_transition l w) w
+leaf-leaves : (l : LeafName) (w : World) → Leaves (before_transition l w) w
 leaf-leaves l w =
     trial-leaves (leaf l).start (n.Flow (leaf_end (leaf l).ends)) (n.Flow (next_of l)) w w
     (may_with (leaf l).may_begin (looks_behind w)) refl refl refl
+
+pub tried-leaf-leaves : (o : Option LeafName) (w : World) → Leaves (leaf_transition o w) w
+tried-leaf-leaves None w = (tt, refl)
+tried-leaf-leaves (Some l) w = leaf-leaves l w
 
 pub chunk-leaves : (is_name : ResolveName → Bool) (w : World) (x : Bool) → Leaves (chunk_inside_code is_name w x) w
 chunk-leaves is_name w true = (tt, refl)
