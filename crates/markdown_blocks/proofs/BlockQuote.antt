@@ -10,3 +10,4 @@ pub mod Cells
 pub mod Fronts
 pub mod Tree
 pub mod Laws
+pub mod Plain

@@ -1,20 +1,20 @@
 -- The containers of a line by its bytes: those that go on are those that were open.
 use Rattle.md_engine.specs.declared.tokenizer.held_leaf.HeldLeaf.TheVariants as held_leaf
 use Rattle.md_engine.specs.declared.tokenizer.held_leaf.HeldLeaf.{HeldLeaf}
-use Rattle.std.proofs.Common.{◌≡◌, ◌+◌, Bool, true, false, cond, List, [], ◌∷◌, ◌++◌, length, map, refl, ap, sym, ◌∙◌}
+use Rattle.std.proofs.Common.{◌≡◌, ◌+◌, Bool, true, false, List, [], ◌∷◌, ◌++◌, length, map, refl, ap, sym, ◌∙◌}
 use Rattle.markdown_blocks.specs.HeldLeaf.{has_lines, takes_lazy}
 use Rattle.std.proofs.Common.{append-nil}
 use Rattle.std.specs.Prelude.{Option, Some, None}
 use Rattle.std.proofs.lemmas.List.{length-append, length-map}
 use Rattle.md_engine.specs.declared.configuration.ParseOptions.{ParseOptions}
-use Rattle.md_definition.specs.Containers.{Taken, continues, footnote_continues, item_continues, opens, quote_taken}
+use Rattle.md_definition.specs.Containers.{Taken, continues, opens}
 use Rattle.md_definition.specs.Rest.{Rest}
-use Rattle.md_definition.specs.State.{Container, InFootnote, InItem, InQuote}
+use Rattle.md_definition.specs.State.{Container}
 use Rattle.markdown_blocks.specs.Change.{change_by, is_none, met, others_of}
 use Rattle.markdown_blocks.specs.Registry.{container_kind, shape_of}
 use Rattle.markdown_blocks.specs.Fronted.{Prefixed, contained, no_prefix, one_more, prefixes_behind, prefixes_on}
 use Rattle.markdown_blocks.specs.Rows.{RowKind, is_lazy, line_kind}
-use Rattle.markdown_blocks.proofs.ContainerNames.{continues-shape}
+use Rattle.markdown_blocks.proofs.ContainerNames.{continues-kind, continues-shape}
 
 -- What a container keeps while it is open: what its events tell of it, and its kind.
 
@@ -70,19 +70,6 @@ pub contained-shapes : (options : ParseOptions) (cs : List Container) (still : H
     map shape_of ((contained options cs still r).change.stays ++ (contained options cs still r).change.closes) ≡
     map shape_of cs
 contained-shapes options = contained-same shape_of options (continues-shape options)
-
--- a container that goes on is held as it was
-when-kind : (x : Bool) (u t : Taken) → cond x (Some u) None ≡ Some t →
-    container_kind t.container ≡ container_kind u.container
-when-kind true u t e = let same : u ≡ t = cc in sym (ap (λ (x : Taken). container_kind x.container) same)
-when-kind false u t e = cc
-
-continues-kind : (options : ParseOptions) (c : Container) (r : Rest) (t : Taken) →
-    continues options c r ≡ Some t → container_kind t.container ≡ container_kind c
-unfolding quote_taken item_continues footnote_continues
-continues-kind options InQuote r t e = when-kind _ _ t e
-continues-kind options (InItem digits marker width starts_blank) r t e = when-kind _ _ t e
-continues-kind options (InFootnote label) r t e = when-kind _ _ t e
 
 pub contained-kinds : (options : ParseOptions) (cs : List Container) (still : HeldLeaf) (r : Rest) →
     map container_kind ((contained options cs still r).change.stays ++ (contained options cs still r).change.closes) ≡

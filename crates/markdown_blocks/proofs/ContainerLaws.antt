@@ -7,6 +7,7 @@ use Rattle.md_engine.specs.declared.tokenizer.container.Container.{Container as 
 use Rattle.md_engine.specs.declared.tokenizer.container.name.ContainerKind.{ContainerKind}
 use Rattle.md_engine.specs.declared.tokenizer.Line.{Line}
 use Rattle.md_engine.specs.Meaning.{Cell, Here, Refuses}
+use Rattle.md_engine.specs.Over.{kind_goes_over}
 use Rattle.md_engine.specs.World.{container_of}
 use Rattle.md_containers.specs.Interrupts.{interrupts}
 use Rattle.md_containers.proofs.Shorter.{Shortens}
@@ -93,6 +94,8 @@ pub record ContainerLaws (k : ContainerKind) (rules : ContainerRules) : Type 1 w
       rules.holds held c →
       continues options c (rest_at column []) ≡
       cond (rules.over_empty held) (Some (record { container = c; rest = rest_at column [] })) None
+  -- the kind of what is held tells that
+  pub over_kind : (held : Held) → kind_goes_over k held.starts_blank ≡ rules.over_empty held
   pub may_hold : (c : Container) → IsOf k c → (held : Held) × rules.holds held c
   -- By the line definition what opens is of its kind; and an outline can show its block, if it can those in it.
   pub found_one : (options : ParseOptions) (interrupting : Bool) (r : Rest) (t : Taken) →

@@ -1,15 +1,19 @@
 -- Calls of the table of flow, one or several at once.
-use Rattle.std.proofs.Common.{Bool}
+use Rattle.std.proofs.Common.{◌≡◌, ◌≢◌, Bool, false, refl}
 use Rattle.md_engine.specs.declared.resolve.name.Name.{Name as ResolveName}
-use Rattle.md_engine.specs.declared.resolve.name.Name.TheVariants as r
 use Rattle.md_engine.specs.declared.state.Name.{Name as StateName}
 use Rattle.md_engine.specs.declared.state.Name.TheVariants as n
 use Rattle.md_engine.specs.declared.state.State.{State}
-use Rattle.md_engine.specs.World.{World}
-use Rattle.md_engine.proofs.Walks.{EachKeeps}
-use Rattle.md_leaves.specs.HeadingWords.{HeadingStep}
-use Rattle.md_seam.proofs.SpacesGoods.{does-fall, does-stands}
-use Rattle.markdown_blocks.specs.States.{FlowStep, flow_table_scheme, flow_transition}
+use Rattle.md_engine.specs.declared.state.State.TheVariants.{Error, Next}
+use Rattle.md_engine.specs.Going.{SeesOn}
+use Rattle.md_engine.specs.Run.{RunsHere}
+use Rattle.md_engine.specs.Scheme.{stands}
+use Rattle.md_engine.specs.World.{World, looks}
+use Rattle.md_engine.proofs.Loops.{call-runs, call-sees}
+use Rattle.md_engine.proofs.Walks.{EachKeeps, Within}
+use Rattle.md_seam.proofs.SpacesGoods.{does-fall, does-remain, does-setting, does-stands}
+use Rattle.markdown_blocks.specs.Registry.{construct_transition}
+use Rattle.markdown_blocks.specs.States.{FlowStep, flow_table_scheme, flow_transition, is_flow_own}
 use Rattle.markdown_blocks.proofs.States.{flow_does}
 
 -- each keeps what the table needs
@@ -20,9 +24,25 @@ flow-keeps is_name name w to new seen at step =
       does-fall flow_table_scheme name w (flow_transition is_name name w) to new step.to_is step.new_is does,
     )
 
--- those of a heading are calls of the table
-pub heading-flows : (is_name : ResolveName → ResolveName → Bool) (name : StateName) (w : World) (to : State)
-    (new : World) → HeadingStep (is_name r.HeadingAtx) name w to new → FlowStep is_name name w to new
-heading-flows is_name (n.HeadingAtx state) w to new h = record { to_is = h.0; new_is = h.1 }
-heading-flows is_name (n.SpaceOrTab state) w to new h = record { to_is = h.0; new_is = h.1 }
-heading-flows is_name name w to new h = absurd h
+-- one call of a state is a run
+pub called-once : (is_name : ResolveName → ResolveName → Bool) (name : StateName) (w : World) (to : State)
+    (new : World) →
+    w.current ≡ looks w → stands flow_table_scheme w (Next name) → Within w → to ≢ Error →
+    to ≡ (flow_transition is_name name w).to → new ≡ (flow_transition is_name name w).world →
+    RunsHere (FlowStep is_name) name w to new × SeesOn to w new
+called-once is_name name w to new seen at within fine to_is new_is =
+    let does = flow_does is_name name w seen at in
+    let same : new.setting ≡ w.setting = does-setting flow_table_scheme name w _ _ new_is does in (
+      call-runs (FlowStep is_name) name w to new (record { to_is = to_is; new_is = new_is }) fine same within,
+      call-sees to w new (does-remain flow_table_scheme name w _ to new to_is new_is does) same seen,
+    )
+
+-- the states that flow has not itself are those of constructs
+pub flow-constructs : (is_name : ResolveName → ResolveName → Bool) (name : StateName) (w : World) →
+    is_flow_own name ≡ false → construct_transition is_name name w ≡ flow_transition is_name name w
+flow-constructs is_name (n.BlankLine state) w e = cc
+flow-constructs is_name (n.Content state) w e = cc
+flow-constructs is_name (n.Document state) w e = cc
+flow-constructs is_name (n.Flow state) w e = cc
+flow-constructs is_name (n.SpaceOrTab state) w e = cc
+flow-constructs is_name _ w e = refl

@@ -1,5 +1,6 @@
 -- ATX headings: what stands on their lines, and their laws.
 pub mod Between
+pub mod Calls
 pub mod Cells
 pub mod Endings
 pub mod Found

@@ -8,13 +8,13 @@ use Rattle.md_engine.specs.declared.event.Kind.TheVariants.{Enter, Exit}
 use Rattle.md_engine.specs.declared.event.Name.{Name}
 use Rattle.md_engine.specs.declared.event.Name.TheVariants as n
 use Rattle.md_engine.specs.declared.event.Point.{Point}
-use Rattle.md_containers.specs.ItemsStand.{InLeaf, InParagraph, Inner, IsPart, MayStand, Site, site_after}
+use Rattle.md_containers.specs.ItemsStand.{InLeaf, Inner, IsPart, MayStand, Site, site_after}
 use Rattle.md_containers.specs.Unlisted.{in_place}
 use Rattle.md_containers.proofs.UnlistedLemmas.{NoListing, StandsTo, among, stands-append}
 use Rattle.md_engine.specs.Place.{first_point}
 use Rattle.md_definition.specs.Preamble.{has_mark}
 use Rattle.md_seam.specs.Events.Nested.{around, enter, exit, pair}
-use Rattle.md_seam.specs.Events.Spelled.{AsParagraph, Holds, IsEnding, IsPrefix, IsQuiet, LeafKind, Opens, Role, Tells}
+use Rattle.md_seam.specs.Events.Spelled.{Holds, IsEnding, IsPrefix, IsQuiet, LeafKind, Opens, Role, Tells}
 use Rattle.md_seam.specs.Events.Spelled.{role}
 use Rattle.md_seam.proofs.SpelledLemmas.{Between, Quiet, Roles}
 use Rattle.markdown_blocks.specs.Document.{mark_end, mark_events}
@@ -60,18 +60,7 @@ pub between-stand : (bytes : List ℕ) (held : List Bool) (es : List Event) → 
     StandsTo bytes (among held) (among held) es
 between-stand bytes held es h = roles-stand bytes (among held) Between (between-stays bytes held) es h
 
--- the same stands in a paragraph,
-text-stays : (bytes : List ℕ) (held : List Bool) (kind : Kind) (x : Role) (p : Point) → Between x →
-    Moves bytes (site_of held InParagraph) (site_of held InParagraph) kind x p
-text-stays bytes held Enter IsQuiet p h = record { may = tt; behind = refl }
-text-stays bytes held Exit IsQuiet p h = record { may = tt; behind = refl }
-text-stays bytes held Enter IsPrefix p h = record { may = tt; behind = refl }
-text-stays bytes held Exit IsPrefix p h = record { may = tt; behind = refl }
-text-stays bytes held Enter IsEnding p h = record { may = tt; behind = refl }
-text-stays bytes held Exit IsEnding p h = record { may = tt; behind = refl }
-text-stays bytes held kind _ p h = absurd h
-
--- and more in another leaf
+-- and more in a leaf
 part-stays : (bytes : List ℕ) (held : List Bool) (kind : Kind) (x : Role) (p : Point) → IsPart x →
     Moves bytes (site_of held InLeaf) (site_of held InLeaf) kind x p
 part-stays bytes held kind (Holds shape) p h = absurd h
@@ -84,9 +73,9 @@ part-stays bytes held Exit _ p h = record { may = tt; behind = refl }
 -- Leaves.
 
 -- a leaf with this role may stand between blocks: in it this is innermost
-record Encloses (bytes : List ℕ) (held : List Bool) (inner : Inner) (x : Role) : Type 0 where
-  begins : (p : Point) → Moves bytes (among held) (site_of held inner) Enter x p
-  ends : (p : Point) → Moves bytes (site_of held inner) (among held) Exit x p
+pub record Encloses (bytes : List ℕ) (held : List Bool) (inner : Inner) (x : Role) : Type 0 where
+  pub begins : (p : Point) → Moves bytes (among held) (site_of held inner) Enter x p
+  pub ends : (p : Point) → Moves bytes (site_of held inner) (among held) Exit x p
 
 leaf-encloses : (bytes : List ℕ) (held : List Bool) (kind : LeafKind) → Encloses bytes held InLeaf (Opens kind)
 leaf-encloses bytes held kind = record {
@@ -94,13 +83,7 @@ leaf-encloses bytes held kind = record {
   ends = λ p. record { may = tt; behind = refl };
 }
 
-text-encloses : (bytes : List ℕ) (held : List Bool) → Encloses bytes held InParagraph (Tells AsParagraph)
-text-encloses bytes held = record {
-  begins = λ p. record { may = tt; behind = refl };
-  ends = λ p. record { may = tt; behind = refl };
-}
-
-around-stands : (bytes : List ℕ) (held : List Bool) (inner : Inner) (name : Name) (p q : Point) (inside : List Event) →
+pub around-stands : (bytes : List ℕ) (held : List Bool) (inner : Inner) (name : Name) (p q : Point) (inside : List Event) →
     Encloses bytes held inner (role name) → StandsTo bytes (site_of held inner) (site_of held inner) inside →
     StandsTo bytes (among held) (among held) (around name p q inside)
 around-stands bytes held inner name p q inside h stands =
@@ -116,14 +99,6 @@ pub leaf-stands : (bytes : List ℕ) (held : List Bool) (name : Name) (kind : Le
 leaf-stands bytes held name kind p q inside is parts =
     around-stands bytes held InLeaf name p q inside (rw is (leaf-encloses bytes held kind))
     (roles-stand bytes (site_of held InLeaf) IsPart (part-stays bytes held) inside parts)
-
--- a paragraph with its lines
-pub text-stands : (bytes : List ℕ) (held : List Bool) (name : Name) (p q : Point) (inside : List Event) →
-    role name ≡ Tells AsParagraph → Roles Between inside →
-    StandsTo bytes (among held) (among held) (around name p q inside)
-text-stands bytes held name p q inside is lines =
-    around-stands bytes held InParagraph name p q inside (rw is (text-encloses bytes held))
-    (roles-stand bytes (site_of held InParagraph) Between (text-stays bytes held) inside lines)
 
 -- No items and no lists.
 

@@ -23,6 +23,7 @@ pub mod BetweenFacts
 pub mod PartedFacts
 pub mod Reached
 pub mod PlainFacts
+pub mod PlainLaws
 pub mod PartsStand
 pub mod FillFacts
 pub mod RestFacts

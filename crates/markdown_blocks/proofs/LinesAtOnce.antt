@@ -1,6 +1,6 @@
 -- Lines on which one look tells that no container opens and no leaf begins: what is passed at once is what the states
 -- refuse one after another.
-use Rattle.std.proofs.Common.{◌≡◌, ◌≢◌, ℕ, Bool, true, false, cond, ◌||◌, nat_eq, List, [], ◌∷◌, Option, Some, None}
+use Rattle.std.proofs.Common.{◌≡◌, ◌≢◌, ℕ, Bool, true, false, cond, ◌||◌, nat_eq, List, [], ◌∷◌, ◌++◌, Option, Some, None}
 use Rattle.markdown_blocks.specs.Flow.{inside_code, inside_transition, leaf_front}
 use Rattle.markdown_blocks.specs.Registry.{insider}
 use Rattle.std.specs.Option.{is_some}
@@ -55,10 +55,10 @@ looks-dark w b e dark =
     ap (λ (o : Option ℕ). behind_code o found) e ∙ ap (λ (x : Bool). cond x found (Some b)) dark
 
 -- such a byte stands here, with which none of these may begin
-record Refused {K : Type 0} (may : K → ℕ → Bool) (ks : List K) (w : World) : Type 0 where
-  byte : ℕ
-  here : looks_behind w ≡ Some byte
-  none : list_any (λ (k : K). may k byte) ks ≡ false
+pub record Refused {K : Type 0} (may : K → ℕ → Bool) (ks : List K) (w : World) : Type 0 where
+  pub byte : ℕ
+  pub here : looks_behind w ≡ Some byte
+  pub none : list_any (λ (k : K). may k byte) ks ≡ false
 
 -- the first of these
 refused-first : {K : Type 0} → (may : K → ℕ → Bool) (k : K) (ks : List K) (w : World) → Refused may (k ∷ ks) w →
@@ -90,26 +90,26 @@ at-opener document.FlowInside k w e = cc
 at-opener document.FlowEnd k w e = cc
 at-opener _ k w e = ap (λ (o : Option ContainerKind). opener_transition o w) e
 
--- none of these opens
-openers-refuse : (is_name : ResolveName → ResolveName → Bool) (is_end : Bool) (s : State) (v : World)
-    (ks : List ContainerKind) (w : World) →
-    NextOpener ks → Refused may_open ks w → w.current ≡ looks w → Within w →
-    CameTo (FlowStep is_name) is_end s v (n.Document (opener_front ks)) w →
-    CameTo (FlowStep is_name) is_end s v (n.Document document.ContainersAfter) (all_asked ks w)
+-- none of these opens, so that one comes to those behind them
+pub openers-refuse : (is_name : ResolveName → ResolveName → Bool) (is_end : Bool) (s : State) (v : World)
+    (ks js : List ContainerKind) (w : World) →
+    NextOpener (ks ++ js) → Refused may_open ks w → w.current ≡ looks w → Within w →
+    CameTo (FlowStep is_name) is_end s v (n.Document (opener_front (ks ++ js))) w →
+    CameTo (FlowStep is_name) is_end s v (n.Document (opener_front js)) (all_asked ks w)
 unfolding looks_behind
-openers-refuse is_name is_end s v [] w next none seen within came = came
-openers-refuse is_name is_end s v (k ∷ ks) w next none seen within came =
+openers-refuse is_name is_end s v [] js w next none seen within came = came
+openers-refuse is_name is_end s v (k ∷ ks) js w next none seen within came =
     let a : World = asking (container_of k) w in
     let x : DocumentState = (container_rules k).before in
-    let is : document_own_transition x w ≡ record { to = Retry (n.Document (opener_front ks)); world = a } =
+    let is : document_own_transition x w ≡ record { to = Retry (n.Document (opener_front (ks ++ js))); world = a } =
     at-opener x k w (container-states k).tried
     ∙ ap
     (trial_code (opens_with k) (n.Document document.ContainerNewAfter) (n.Document (next_opener k)) a)
     (refused-first may_open k ks w none)
-    ∙ ap (λ (js : List ContainerKind). record { to = Retry (n.Document (opener_front js)); world = a }) next in
-    openers-refuse is_name is_end s v ks a (subst NextOpener next (container-states k).next)
+    ∙ ap (λ (ls : List ContainerKind). record { to = Retry (n.Document (opener_front ls)); world = a }) next in
+    openers-refuse is_name is_end s v ks js a (subst NextOpener next (container-states k).next)
     (refused-rest may_open k ks w a refl none) seen within
-    (then-stays (FlowStep is_name) is_end s v (n.Document x) (n.Document (opener_front ks)) w a came
+    (then-stays (FlowStep is_name) is_end s v (n.Document x) (n.Document (opener_front (ks ++ js))) w a came
     (record { to_is = sym (ap (λ (y : Transition). y.to) is); new_is = sym (ap (λ (y : Transition). y.world) is) }) refl
     within refl seen)
 
@@ -227,7 +227,7 @@ unfolding looks_behind
 passes-front is_name is_end s v w e seen within came =
     let is = opens-none w e in
     line-front is_name is_end s v (all_asked openers w) seen within
-    (openers-refuse is_name is_end s v openers w refl is.refused seen within came)
+    (openers-refuse is_name is_end s v openers [] w refl is.refused seen within came)
 
 -- to the leaf of the line,
 pub passes-openers : (is_name : ResolveName → ResolveName → Bool) (is_end : Bool) (s : State) (v w : World) →
@@ -240,7 +240,7 @@ passes-openers is_name is_end s v w none e seen within came =
     let T = FlowStep is_name in
     let is = opens-none w e in
     let u : World = openers_passed w in
-    let behind = openers-refuse is_name is_end s v openers w refl is.refused seen within came in
+    let behind = openers-refuse is_name is_end s v openers [] w refl is.refused seen within came in
     let start = line-begun is_name is_end s v (all_asked openers w) none seen within behind in
     let no : blank_line_before_transition u ≡ record { to = Retry (n.Flow (front_of trials)); world = u } =
     ap₂ (λ (x y : Bool). blank_line_code u x y) is.not_end is.not_blank in
@@ -265,10 +265,15 @@ trial-leaves : (start ok nok : StateName) (w u : World) (x : Bool) → u.point �
 trial-leaves start ok nok w u true there same text = ((there, same), text)
 trial-leaves start ok nok w u false there same text = ((there, same), text)
 
-pub opener-leaves : (k : ContainerKind) (w : World) → Leaves (new_before_transition k w) w
+opener-leaves : (k : ContainerKind) (w : World) → Leaves (new_before_transition k w) w
 opener-leaves k w =
     trial-leaves (opens_with k) (n.Document document.ContainerNewAfter) (n.Document (next_opener k)) w
     (asking (container_of k) w) (may_with (may_open k) (looks_behind w)) refl refl refl
+
+-- so does the one that is tried at a state, if one is
+pub tried-opener-leaves : (o : Option ContainerKind) (w : World) → Leaves (opener_transition o w) w
+tried-opener-leaves None w = (tt, refl)
+tried-opener-leaves (Some k) w = opener-leaves k w
 
 pub blank-leaves : (w : World) → Leaves (blank_line_before_transition w) w
 blank-leaves w = go (ends_line w.current)
@@ -286,10 +291,14 @@ inside-leaves w = go (insider w.flags.leaf)
     go None = ((refl, refl), refl)
     go (Some l) = trial-leaves (leaf l).start (n.Flow flow.After) (n.Flow flow.Start) w w true refl refl refl
 
-pub leaf-leaves : (l : LeafName) (w : World) → Leaves (before_transition l w) w
+leaf-leaves : (l : LeafName) (w : World) → Leaves (before_transition l w) w
 leaf-leaves l w =
     trial-leaves (leaf l).start (n.Flow (leaf_end (leaf l).ends)) (n.Flow (next_of l)) w w
     (may_with (leaf l).may_begin (looks_behind w)) refl refl refl
+
+pub tried-leaf-leaves : (o : Option LeafName) (w : World) → Leaves (leaf_transition o w) w
+tried-leaf-leaves None w = (tt, refl)
+tried-leaf-leaves (Some l) w = leaf-leaves l w
 
 pub chunk-leaves : (is_name : ResolveName → Bool) (w : World) (x : Bool) → Leaves (chunk_inside_code is_name w x) w
 chunk-leaves is_name w true = (tt, refl)

@@ -8,6 +8,7 @@ pub mod Laws
 pub mod Names
 pub mod Parted
 pub mod Pieces
+pub mod Plain
 pub mod Prefix
 pub mod Read
 pub mod Registers

@@ -205,16 +205,8 @@ no-list : (bytes : List ℕ) (held : List Bool) (inner : Inner) (kind : Kind) (x
     MayStand bytes (record { held = held; inner = inner }) kind x p → stage_by AllTold kind x p ≡ AllTold
 no-list bytes held AmongBlocks Enter (Holds OrderedShape) p may = absurd may
 no-list bytes held AmongBlocks Enter (Holds UnorderedShape) p may = absurd may
-no-list bytes held InFront Enter (Holds OrderedShape) p may = absurd may
-no-list bytes held InFront Enter (Holds UnorderedShape) p may = absurd may
-no-list bytes held (stand.InMarker q) Enter (Holds OrderedShape) p may = absurd may
-no-list bytes held (stand.InMarker q) Enter (Holds UnorderedShape) p may = absurd may
-no-list bytes held InLabel Enter (Holds OrderedShape) p may = absurd may
-no-list bytes held InLabel Enter (Holds UnorderedShape) p may = absurd may
-no-list bytes held InLeaf Enter (Holds OrderedShape) p may = absurd may
-no-list bytes held InLeaf Enter (Holds UnorderedShape) p may = absurd may
-no-list bytes held InParagraph Enter (Holds OrderedShape) p may = absurd may
-no-list bytes held InParagraph Enter (Holds UnorderedShape) p may = absurd may
+no-list bytes held _ Enter (Holds OrderedShape) p may = absurd may
+no-list bytes held _ Enter (Holds UnorderedShape) p may = absurd may
 no-list bytes held _ Enter _ p may = refl
 no-list bytes held _ Exit _ p may = refl
 

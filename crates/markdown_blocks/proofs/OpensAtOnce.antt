@@ -1,6 +1,8 @@
 -- A container that opens at once is what the states come to that try one kind after another.
-use Rattle.std.proofs.Common.{◌≡◌, ℕ, Bool, true, false, ◌||◌, nat_eq, Option, Some, refl, sym, ◌∙◌, ap}
-use Rattle.std.specs.Prelude.{slice_index}
+use Rattle.std.proofs.Common.{◌≡◌, ℕ, Bool, true, false, ◌||◌, nat_eq, List, [], ◌∷◌, Option, Some, refl, sym, ◌∙◌, ap}
+use Rattle.std.proofs.Common.{subst}
+use Rattle.std.specs.List.{list_any}
+use Rattle.std.specs.Prelude.{◌==◌, if◌then◌else◌, slice_index}
 use Rattle.std.proofs.lemmas.Bool.{eqb-true}
 use Rattle.md_engine.specs.declared.resolve.name.Name.{Name as ResolveName}
 use Rattle.md_engine.specs.declared.state.Name.TheVariants as n
@@ -8,6 +10,7 @@ use Rattle.md_engine.specs.declared.state.document.State.TheVariants as document
 use Rattle.md_engine.specs.declared.state.list_item.State.TheVariants as its
 use Rattle.md_engine.specs.declared.state.State.{State}
 use Rattle.md_engine.specs.declared.state.State.TheVariants.{Next, Retry}
+use Rattle.md_engine.specs.declared.tokenizer.container.name.ContainerKind.{ContainerKind}
 use Rattle.md_engine.specs.declared.tokenizer.container.name.ContainerKind.TheVariants as kind
 use Rattle.md_engine.specs.Run.{Step}
 use Rattle.md_engine.specs.World.{World, container_of, looks}
@@ -18,13 +21,37 @@ use Rattle.md_containers.specs.PlainBullet.{IsPlainBullet, bulleted}
 use Rattle.md_containers.proofs.PlainBullet.{bullet-run, bullet-seen}
 use Rattle.md_seam.specs.Look.{looks_behind, may_with}
 use Rattle.md_seam.specs.Transition.{Transition, tried}
+use Rattle.markdown_blocks.specs.AtOnce.{all_asked}
+use Rattle.markdown_blocks.specs.Containers.ListItem.{item_rules}
 use Rattle.markdown_blocks.specs.Flow.{new_before_transition, trial_code}
 use Rattle.markdown_blocks.specs.LineFlags.{asking}
-use Rattle.markdown_blocks.specs.Registry.{next_opener, opener_front, openers, opens_with}
+use Rattle.markdown_blocks.specs.Registry.{kind_number, may_open, next_opener, opener_front, openers, opens_with}
 use Rattle.markdown_blocks.specs.States.{FlowStep}
-use Rattle.markdown_blocks.proofs.AtOnce.{has-item}
+use Rattle.markdown_blocks.proofs.LinesAtOnce.{openers-refuse}
+use Rattle.markdown_blocks.proofs.ListItem.Plain.{has-item}
 
--- an item without a number is tried behind a quote that is refused, and opens
+-- the kinds that are tried in front of one
+abbrev fronts : ℕ → List ContainerKind → List ContainerKind
+fronts m [] = []
+fronts m (k ∷ ks) = if kind_number k == m then [] else k ∷ fronts m ks
+
+abbrev in_front : List ContainerKind
+in_front = fronts (kind_number kind.ListItem) openers
+
+-- a bullet opens none of those that are tried in front of an item
+bullets-refused : (b : ℕ) → is_bullet b ≡ true → list_any (λ (k : ContainerKind). may_open k b) in_front ≡ false
+bullets-refused b h = go (nat_eq b 42) (nat_eq b 43) (nat_eq b 45) refl refl refl h
+  where
+    P : ℕ → Type 0
+    P m = list_any (λ (k : ContainerKind). may_open k m) in_front ≡ false
+
+    go : (x y z : Bool) → nat_eq b 42 ≡ x → nat_eq b 43 ≡ y → nat_eq b 45 ≡ z → (x || y || z) ≡ true → P b
+    go true y z e f g is = subst P (sym (eqb-true b 42 e)) refl
+    go false true z e f g is = subst P (sym (eqb-true b 43 f)) refl
+    go false false true e f g is = subst P (sym (eqb-true b 45 g)) refl
+    go false false false e f g is = cc
+
+-- an item without a number is tried behind others that are refused, and opens
 pub bullet-opens : (is_name : ResolveName → ResolveName → Bool) (is_end : Bool) (s : State) (v w : World) →
     CameTo (FlowStep is_name) is_end s v (n.Document (opener_front openers)) w → w.current ≡ looks w → Within w →
     IsPlainBullet w →
@@ -60,40 +87,16 @@ bullet-opens is_name is_end s v w came seen within plain =
     none : State
     none = Next (n.Document document.ContainersAfter)
 
-    a : World
-    a = asking (container_of kind.BlockQuote) w
-
     b : World
     b = asking (container_of kind.ListItem) w
 
-    no_quote : nat_eq marker 62 ≡ false
-    no_quote = go (nat_eq marker 62) refl
-      where
-        go : (x : Bool) → nat_eq marker 62 ≡ x → x ≡ false
-        go false e = refl
-        go true e =
-            let same : marker ≡ 62 = eqb-true marker 62 e in
-            let no : false ≡ true = rw same at plain.bullet in cc
+    a : World
+    a = all_asked in_front w
 
-    refused : new_before_transition kind.BlockQuote w ≡
-        record { to = Retry (n.Document document.ContainerNewBeforeNotBlockQuote); world = a }
-    refused =
-        ap
-        (λ (o : Option ℕ).
-        trial_code (opens_with kind.BlockQuote) (n.Document document.ContainerNewAfter)
-        (n.Document (next_opener kind.BlockQuote)) a (may_with (λ (x : ℕ). nat_eq x 62) o)) is
-        ∙ ap
-        (trial_code (opens_with kind.BlockQuote) (n.Document document.ContainerNewAfter)
-        (n.Document (next_opener kind.BlockQuote)) a) no_quote
-
-    at_item : CameTo T is_end s v (n.Document document.ContainerNewBeforeNotBlockQuote) a
+    at_item : CameTo T is_end s v (n.Document item_rules.before) a
     at_item =
-        then-stays T is_end s v (n.Document (opener_front openers))
-        (n.Document document.ContainerNewBeforeNotBlockQuote) w a came
-        (record {
-          to_is = sym (ap (λ (y : Transition). y.to) refused);
-          new_is = sym (ap (λ (y : Transition). y.world) refused);
-        }) refl within refl seen
+        openers-refuse is_name is_end s v in_front (kind.ListItem ∷ []) w refl
+        (record { byte = marker; here = is; none = bullets-refused marker plain.bullet }) seen within came
 
     begun : new_before_transition kind.ListItem a ≡
         record { to = Retry (n.ListItem its.Start); world = tried b (Next (n.Document document.ContainerNewAfter)) none }
@@ -109,7 +112,7 @@ bullet-opens is_name is_end s v w came seen within plain =
 
     tries : CameTo T is_end s v (n.ListItem its.Start) (tried b (Next (n.Document document.ContainerNewAfter)) none)
     tries =
-        then-stays T is_end s v (n.Document document.ContainerNewBeforeNotBlockQuote) (n.ListItem its.Start) a
+        then-stays T is_end s v (n.Document item_rules.before) (n.ListItem its.Start) a
         (tried b (Next (n.Document document.ContainerNewAfter)) none) at_item
         (record {
           to_is = sym (ap (λ (y : Transition). y.to) begun);

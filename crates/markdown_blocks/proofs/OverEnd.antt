@@ -1,20 +1,15 @@
 -- Where a line ends those containers go on that the tokenizer tells.
 use Rattle.std.proofs.Common.{◌≡◌, ℕ, zero, suc, ◌+◌, Bool, true, false, cond, List, [], ◌∷◌, drop}
-use Rattle.std.proofs.Common.{refl, sym, ◌∙◌, ap, arith}
-use Rattle.md_engine.specs.Over.{EndsOver, goes_over_empty, kind_goes_over}
+use Rattle.std.proofs.Common.{sym, ◌∙◌, ap, arith}
+use Rattle.md_engine.specs.Over.{EndsOver, goes_over_empty}
 use Rattle.md_engine.specs.declared.tokenizer.container.Container.{Container}
-use Rattle.md_engine.specs.declared.tokenizer.container.name.ContainerKind.{ContainerKind}
-use Rattle.md_engine.specs.declared.tokenizer.container.name.ContainerKind.TheVariants.{BlockQuote, ListItem}
 use Rattle.markdown_blocks.specs.LineFlags.{over_end}
-use Rattle.markdown_blocks.specs.Registry.{container_rules, goes_over}
+use Rattle.markdown_blocks.specs.Registry.{goes_over}
+use Rattle.markdown_blocks.proofs.Registry.{container-laws}
 
 -- one goes on over an empty line as its kind tells
 pub goes-over-empty : (c : Container) → goes_over_empty c ≡ goes_over c
-goes-over-empty c = go c.kind
-  where
-    go : (k : ContainerKind) → kind_goes_over k c.starts_blank ≡ (container_rules k).over_empty c
-    go BlockQuote = refl
-    go ListItem = refl
+goes-over-empty c = (container-laws c.kind).over_kind c
 
 -- how many go on behind one, by whether it does
 counted : (c : Container) (cs : List Container) (x : Bool) → goes_over_empty c ≡ x →

@@ -1,2 +1,3 @@
 -- Paragraphs.
 pub mod Laws
+pub mod Stands

@@ -15,10 +15,10 @@ use Rattle.md_engine.specs.Meaning.{Cell}
 use Rattle.md_engine.specs.Place.{begun_at, is_ending, next_point, seen_at}
 use Rattle.md_engine.specs.TextFeed.{text_feed}
 use Rattle.md_engine.specs.World.{Setting, World, after, fresh, line_begun, skipping}
-use Rattle.md_content.specs.ContentReads.{content_events, end_of, first_of, paragraph_over, part_world, settled}
+use Rattle.md_content.specs.ContentReads.{content_events, end_of, first_of, part_world, settled}
 use Rattle.md_content.specs.ContentReads.{skipping_all}
 use Rattle.md_content.specs.Paragraph.{text_link}
-use Rattle.md_content.specs.ParagraphRule.{line_events}
+use Rattle.md_content.specs.ParagraphRule.{line_events, paragraph_over}
 use Rattle.md_content.proofs.ContentReadsLemmas.{skipping-same}
 use Rattle.md_content.proofs.SettledLemmas.{settled-none, settled-other}
 use Rattle.md_seam.specs.declared.inline.Chunk.{Chunk}

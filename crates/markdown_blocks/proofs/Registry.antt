@@ -55,6 +55,7 @@ use Rattle.markdown_blocks.specs.Registry.{construct_transition, container_rules
 use Rattle.markdown_blocks.specs.Registry.{openers, openers_behind, resolved, text_leaf, trials, tried_at}
 use Rattle.markdown_blocks.specs.States.{flow_behaves_by, flow_owner, flow_table_scheme}
 use Rattle.markdown_blocks.proofs.BlockQuote.Laws.{quote-laws}
+use Rattle.markdown_blocks.proofs.BlockQuote.Plain.{quote-plain}
 use Rattle.markdown_blocks.proofs.BlockQuote.Registers.{quote-registers}
 use Rattle.markdown_blocks.proofs.ContainerLaws.{ContainerLaws}
 use Rattle.markdown_blocks.proofs.ContainerNames.{is_front}
@@ -65,9 +66,11 @@ use Rattle.markdown_blocks.proofs.HeadingAtx.Outside.{front-heading, heading-pas
 use Rattle.markdown_blocks.proofs.HeadingAtx.Registers.{heading-registers}
 use Rattle.markdown_blocks.proofs.LeafLaws.{LeafLaws}
 use Rattle.markdown_blocks.proofs.ListItem.Laws.{item-laws}
+use Rattle.markdown_blocks.proofs.ListItem.Plain.{item-plain}
 use Rattle.markdown_blocks.proofs.ListItem.Registers.{item-registers}
 use Rattle.markdown_blocks.proofs.OutsideFacts.{AreOutside}
 use Rattle.markdown_blocks.proofs.Paragraph.Laws.{paragraph-laws}
+use Rattle.markdown_blocks.proofs.PlainLaws.{PlainLaws}
 use Rattle.markdown_blocks.proofs.Registers.{Registers}
 use Rattle.markdown_blocks.proofs.SpanLaws.{SpanLaws}
 use Rattle.markdown_blocks.proofs.TextLaws.{TextLaws}
@@ -202,6 +205,10 @@ front-own name h = front-heading name h
 pub container-laws : (k : ContainerKind) → ContainerLaws k (container_rules k)
 container-laws kind.BlockQuote = quote-laws
 container-laws kind.ListItem = item-laws
+
+pub plain-laws : (k : ContainerKind) → PlainLaws (container_rules k)
+plain-laws kind.BlockQuote = quote-plain
+plain-laws kind.ListItem = item-plain
 
 -- each is tried at the state in front of it alone
 pub opener-before : (state : DocumentState) (k : ContainerKind) → opener_at state ≡ Some k →

@@ -3,24 +3,18 @@ use Rattle.std.specs.Prelude.{◌≡◌, ℕ, Bool, false, not, ◌||◌, ◌==�
 use Rattle.std.specs.List.{list_any}
 use Rattle.md_definition.specs.Rest.{is_white}
 use Rattle.md_engine.specs.declared.tokenizer.container.name.ContainerKind.{ContainerKind}
-use Rattle.md_engine.specs.declared.tokenizer.container.name.ContainerKind.TheVariants as kind
 use Rattle.md_engine.specs.declared.tokenizer.container.Container.{Container}
 use Rattle.md_engine.specs.World.{World, container_of}
-use Rattle.md_containers.specs.Item.{least_width}
-use Rattle.md_containers.specs.PlainItem.{IsPlainIndent, indented}
-use Rattle.md_containers.specs.PlainPrefix.{IsPlainPrefix, prefixed}
 use Rattle.markdown_blocks.specs.LineFlags.{asking, begun_line, next_container}
-use Rattle.markdown_blocks.specs.Registry.{leaf, may_open, openers, trials}
+use Rattle.markdown_blocks.specs.Registry.{container_rules, leaf, may_open, openers, trials}
 
 -- the prefix of a container on a further line stands here, by its kind, and can be taken at once
 abbrev pub HasPrefix : Container → ContainerKind → World → Type 0
-HasPrefix c kind.BlockQuote w = IsPlainPrefix w
-HasPrefix c kind.ListItem w = IsPlainIndent (least_width c) w
+HasPrefix c k w = (container_rules k).plain c w
 
 -- it was taken
 abbrev pub prefix_taken : Container → ContainerKind → World → World
-prefix_taken c kind.BlockQuote w = prefixed w
-prefix_taken c kind.ListItem w = indented (least_width c) w
+prefix_taken c k w = (container_rules k).taken c w
 
 -- a container is open that was not asked yet, and its prefix stands here
 pub record GoesAtOnce (w : World) : Type 0 where

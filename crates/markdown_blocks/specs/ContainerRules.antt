@@ -9,6 +9,7 @@ use Rattle.md_engine.specs.declared.state.Name.{Name as StateName}
 use Rattle.md_engine.specs.declared.state.document.State.{State as DocumentState}
 use Rattle.md_engine.specs.declared.tokenizer.container.Container.{Container as Held}
 use Rattle.md_engine.specs.Meaning.{Cell, Here, Outcome}
+use Rattle.md_engine.specs.World.{World}
 use Rattle.md_definition.specs.Containers.{Taken}
 use Rattle.md_definition.specs.Rest.{Rest}
 use Rattle.md_definition.specs.State.{Container}
@@ -26,6 +27,10 @@ pub record ContainerRules : Type 1 where
   -- is refused at once.
   pub may_open : ℕ → Bool
   pub may_go_on : ℕ → Bool
+  -- Whether the prefix of one that is held so stands here on a further line, where it can be taken at once; and what
+  -- stands behind it.
+  pub plain : Held → World → Type 0
+  pub taken : Held → World → World
   -- By the cells of a line: the one that opens, if one does, where it would interrupt text or not; and an open one, if
   -- it goes on.
   pub opens : ParseOptions → Bool → List Cell → Point → Option Passed

@@ -1,5 +1,5 @@
 -- The table of flow: which construct has each state, what each does, and what is left at it.
-use Rattle.std.specs.Prelude.{◌≡◌, Bool, Option, Some, None}
+use Rattle.std.specs.Prelude.{◌≡◌, Bool, true, false, Option, Some, None}
 use Rattle.md_engine.specs.declared.resolve.name.Name.{Name as ResolveName}
 use Rattle.md_engine.specs.declared.resolve.name.Name.TheVariants as r
 use Rattle.md_engine.specs.declared.state.Name.{Name as StateName}
@@ -63,6 +63,15 @@ flow_owner (s.Document state) = containers_owner state
 flow_owner (s.Flow state) = leaves_owner state
 flow_owner (s.SpaceOrTab state) = white_scheme
 flow_owner name = construct_owner name
+
+-- the states of flow and of what it is made of; all others are those of constructs
+abbrev pub is_flow_own : StateName → Bool
+is_flow_own (s.BlankLine state) = true
+is_flow_own (s.Content state) = true
+is_flow_own (s.Document state) = true
+is_flow_own (s.Flow state) = true
+is_flow_own (s.SpaceOrTab state) = true
+is_flow_own name = false
 
 abbrev pub flow_table_scheme : Scheme
 flow_table_scheme = of_owners flow_owner

@@ -1,27 +1,23 @@
--- What is read of a part is a paragraph over the text of its chunks.
+-- What is read of a part is what the table of content has, over the text of its chunks.
 use Rattle.std.proofs.Common.{◌≡◌, ◌^◌, ◌+◌, ◌<◌, ◌≤◌, ℕ, zero, suc, false, true, List, [], ◌∷◌, length, get_or, drop}
 use Rattle.std.proofs.Common.{Option, refl, sym, ◌∙◌, ap, add-one, drop-cons, arith}
 use Rattle.std.proofs.lemmas.List.{drop_all}
 use Rattle.md_engine.specs.declared.configuration.ParseOptions.{ParseOptions}
 use Rattle.md_engine.specs.declared.resolve.name.Name.{Name as ResolveName}
-use Rattle.md_engine.specs.declared.state.Name.TheVariants as n
-use Rattle.md_engine.specs.declared.state.paragraph.State.TheVariants as its
 use Rattle.md_engine.specs.declared.state.State.{State}
 use Rattle.md_engine.specs.declared.state.State.TheVariants.{Next}
-use Rattle.md_engine.specs.declared.tokenizer.Frame.{Frame}
 use Rattle.md_engine.specs.Found.{Found}
-use Rattle.md_engine.specs.Meaning.{Accepts, Cell, Feed, Here, comes_to, goes, here, resume_all}
+use Rattle.md_engine.specs.Meaning.{Accepts, Here, comes_to, here}
 use Rattle.md_engine.specs.Run.{Flushes, Resolution, Resolved, Runs}
 use Rattle.md_engine.specs.Run.Resolved.{More, NoneYet}
 use Rattle.md_engine.specs.Scheme.{stands}
 use Rattle.md_engine.specs.TextFeed.{text_feed}
 use Rattle.md_engine.specs.World.{Setting, World, fresh, reads_to, skipping}
-use Rattle.md_content.specs.ContentReads.{content_events, end_of, first_of, paragraph_over, settled, skipping_all}
-use Rattle.md_content.specs.ParagraphRule.{content_behaves, inside_paragraph, paragraph_at, paragraph_line}
-use Rattle.md_content.specs.States.{ContentStep, content_scheme}
+use Rattle.md_content.specs.ContentReads.{content_events, end_of, first_of, settled, skipping_all}
+use Rattle.md_content.specs.States.{ContentStep, content_behaves, content_over, content_scheme, content_start}
 use Rattle.md_content.proofs.ContentRuns.{content_outcome, content_push}
+use Rattle.md_content.proofs.ParagraphReads.{over, part-comes-to}
 use Rattle.md_seam.specs.declared.inline.Chunk.{Chunk}
-use Rattle.md_seam.specs.Ahead.{point_after}
 use Rattle.md_seam.specs.Parts.{AreChunks}
 use Rattle.md_seam.specs.Spaces.{IsRest}
 
@@ -69,20 +65,6 @@ skipping-all chunks i w w0 le is = ap (skipping_all w) (sym (drop_all i chunks l
 
 -- What is read.
 
-over : List Cell → World → Here
-over cells w = record (here w) { events = paragraph_over cells w.point; point = point_after cells w.point }
-
--- a paragraph is all that a part comes to
-part-comes-to : (feed : Feed) (w : World) → w.frames ≡ [] → w.events ≡ [] →
-    comes_to content_behaves feed (Next (n.Paragraph its.Start)) w ≡ Accepts (over (feed w.point) w) []
-unfolding paragraph_at paragraph_line inside_paragraph over
-part-comes-to feed w f e =
-    ap
-    (λ (x : List Frame).
-    resume_all content_behaves feed w.events x
-    (goes content_behaves (Next (n.Paragraph its.Start)) (feed w.point) (here w))) f
-    ∙ rw e refl
-
 resolved-same : (R : Resolution) (w : World) (names : List ResolveName) (found : Found) (v : World) →
     ((n : ResolveName) (old : World) (m : Option Found) (new : World) → R n old m new → new ≡ old) →
     Resolved R w names found v → v ≡ w
@@ -91,7 +73,7 @@ resolved-same R w names found v same (More ns n f m v' v'' r step) =
     same n v' m v'' step ∙ resolved-same R w ns f v' same r
 
 -- a part stands where it begins
-part-stands : (w : World) → IsRest w.scratch → w.frames ≡ [] → stands content_scheme w (Next (n.Paragraph its.Start))
+part-stands : (w : World) → IsRest w.scratch → w.frames ≡ [] → stands content_scheme w (Next (content_start))
 part-stands w rest none = (rest, rw none (record { ok = λ s q t is g r. tt; nok = λ s q t is g. tt }))
 
 -- what is read of a part
@@ -99,12 +81,12 @@ pub part-read : (bytes : List ℕ) (options : ParseOptions) (chunks : List Chunk
     (s : State) (R : Resolution) (found : Found) (new : World) →
     length chunks ≤ i → skipping_all w (drop i chunks) ≡ skipping_all (fresh bytes options (first_of chunks)) chunks →
     end ≡ end_of chunks → end < 2 ^ 61 →
-    Runs ContentStep false (Next (n.Paragraph its.Start)) (reads_to w end) s w' →
+    Runs ContentStep false (Next (content_start)) (reads_to w end) s w' →
     w'.setting ≡ (reads_to w end).setting →
     ((n : ResolveName) (old : World) (m : Option Found) (v : World) → R n old m v → v ≡ old) →
     Flushes ContentStep R s w' true found new →
     settled chunks new.events ≡ content_events bytes options chunks
-unfolding content_events over
+unfolding content_events
 part-read bytes options chunks i w w' end s R found new le skips last small run kept same f =
     let begun : w ≡ skipping_all (fresh bytes options (first_of chunks)) chunks = skipping-all chunks i w _ le skips in
     let shape = begun ∙ skipping-same (fresh bytes options (first_of chunks)) chunks in
@@ -112,7 +94,7 @@ part-read bytes options chunks i w w' end s R found new le skips last small run 
     let events : w.events ≡ [] = ap (λ (x : World). x.events) shape in
     let rest : IsRest w.scratch = ap (λ (x : World). x.scratch) shape in
     let feed = text_feed (reads_to w end).setting in
-    let pushed = content_push (Next (n.Paragraph its.Start)) s w w' end end small (omega arith)
+    let pushed = content_push (Next (content_start)) s w w' end end small (omega arith)
     (part-stands (reads_to w end) rest frames) run in
     let at_end : comes_to content_behaves (text_feed w'.setting) s w' ≡ Accepts (over (feed w.point) w) [] =
     ap (λ (x : Setting). comes_to content_behaves (text_feed x) s w') kept ∙ sym pushed.0
@@ -120,11 +102,11 @@ part-read bytes options chunks i w w' end s R found new le skips last small run 
     let h : over (feed w.point) w ≡
     here f.at = content_outcome R s w' true found new (over (feed w.point) w) (rw kept small) pushed.1 at_end f in
     let resolved : new ≡ record f.at { resolvers = [] } = resolved-same R _ _ _ _ same f.resolved in
-    let is : settled chunks (paragraph_over (feed w.point) w.point) ≡
+    let is : settled chunks (content_over (feed w.point) w.point) ≡
     content_events bytes options chunks = ap (settled chunks) (place _ _ begun last) in
     ap (λ (x : World). settled chunks x.events) resolved ∙ sym (ap (λ (x : Here). settled chunks x.events) h) ∙ is
   where
     place : (v : World) (m : ℕ) → w ≡ v → end ≡ m →
-        paragraph_over (text_feed (reads_to w end).setting w.point) w.point ≡
-        paragraph_over (text_feed (reads_to v m).setting v.point) v.point
+        content_over (text_feed (reads_to w end).setting w.point) w.point ≡
+        content_over (text_feed (reads_to v m).setting v.point) v.point
     place v m e f = rw (e, f) refl

@@ -10,9 +10,8 @@ use Rattle.md_engine.specs.TextFeed.{text_feed}
 use Rattle.md_engine.specs.World.{World, reads_to}
 use Rattle.md_engine.proofs.Standing.{runs-mean}
 use Rattle.md_engine.proofs.TextFeed.{flush-means, text-follows}
-use Rattle.md_content.specs.ParagraphRule.{content_behaves}
-use Rattle.md_content.specs.States.{ContentStep, content_scheme}
-use Rattle.md_content.proofs.ContentSteps.{content_means, content_stands}
+use Rattle.md_content.specs.States.{ContentStep, content_behaves, content_scheme}
+use Rattle.md_content.proofs.States.{content_means, content_stands}
 
 -- a push keeps what a tokenizer comes to, with the text up to where it will be read in all, and stands
 pub content_push : (s s' : State) (w w' : World) (limit total : ℕ) → total < 2 ^ 61 → limit ≤ total →

@@ -133,10 +133,8 @@ joined-prefixes (e ∷ es) = by (is_of_prefix e) refl (joined-prefixes es)
     run = prefix_len is_of_prefix es
 
     other : (x : Name) → is_prefix x ≡ true → is_content x ≡ false
-    other name.SpaceOrTab h = refl
-    other name.BlockQuotePrefix h = refl
-    other name.BlockQuoteMarker h = refl
-    other _ h = absurd (true≢false (sym h))
+    other name.Content h = absurd (true≢false (sym h))
+    other _ h = refl
 
     none : (a b c : Bool) → b ≡ false → (a && b && c) ≡ false
     none true true c h = absurd (true≢false h)

@@ -1,4 +1,8 @@
 pub mod Goods
+pub mod ParagraphGoods
+pub mod ParagraphReads
+pub mod ParagraphStays
+pub mod ParagraphSteps
 pub mod States
 pub mod StaysLemmas
 pub mod ContentSteps

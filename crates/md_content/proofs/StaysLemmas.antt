@@ -1,25 +1,21 @@
--- Lines of content and of paragraphs are taken as text.
+-- A line of content is taken as text.
 use Rattle.std.proofs.Common.{◌≡◌, ℕ, Bool, true, false, not, nat_eq, Option, Some, None, IfSome, refl, ap, ◌∙◌}
 use Rattle.md_engine.specs.declared.resolve.name.Name.{Name as ResolveName}
 use Rattle.md_engine.specs.declared.state.Name.{Name as StateName}
 use Rattle.md_engine.specs.declared.state.Name.TheVariants as n
 use Rattle.md_engine.specs.declared.state.content.State.TheVariants as content
-use Rattle.md_engine.specs.declared.state.paragraph.State.TheVariants as paragraph
-use Rattle.md_engine.specs.declared.state.State.TheVariants.{Next}
 use Rattle.md_engine.specs.declared.stay.Stay.{Stay}
 use Rattle.md_engine.specs.declared.stay.Stay.TheVariants.{Line}
 use Rattle.md_engine.specs.Staying.{StaysOn}
 use Rattle.md_content.specs.Chunks.{chunk_inside_code, chunk_transition}
-use Rattle.md_content.specs.Paragraph.{inside_code, paragraph_transition}
 use Rattle.md_content.specs.States.{ContentStep, content_scheme, content_transition}
 use Rattle.md_content.proofs.States.{content_does}
 use Rattle.md_seam.specs.Spaces.{ends_line}
 use Rattle.md_seam.specs.Stays.{TakesEach}
-use Rattle.md_seam.specs.Transition.{taken}
 use Rattle.md_seam.proofs.StaysLemmas.{stays-on}
 
 -- what does not end a line
-not-ending : (b : ℕ) → not (nat_eq b 10) ≡ true → nat_eq b 10 ≡ false
+pub not-ending : (b : ℕ) → not (nat_eq b 10) ≡ true → nat_eq b 10 ≡ false
 not-ending b h = go (nat_eq b 10) h
   where
     go : (x : Bool) → not x ≡ true → x ≡ false
@@ -29,12 +25,6 @@ not-ending b h = go (nat_eq b 10) h
 pub chunk-takes : (is_name : ResolveName → Bool) →
     TakesEach Line (n.Content content.ChunkInside) (chunk_transition is_name content.ChunkInside)
 chunk-takes is_name w b e h = ap (chunk_inside_code is_name w) (ap ends_line e ∙ not-ending b h)
-
-pub paragraph-takes : TakesEach Line (n.Paragraph paragraph.Inside) (paragraph_transition paragraph.Inside)
-paragraph-takes w b e h =
-    let is : inside_code w (Some b) ≡
-    record { to = Next (n.Paragraph paragraph.Inside); world = taken w } = rw (not-ending b h) refl in
-    ap (inside_code w) e ∙ is
 
 -- so the table of content stays there
 pub content-stays : (name : StateName) (o : Option Stay) → IfSome o (λ k. TakesEach k name (content_transition name)) →

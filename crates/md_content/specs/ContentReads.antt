@@ -1,20 +1,16 @@
--- What a part of content is read as: a paragraph over the text of its chunks.
-use Rattle.std.specs.Prelude.{◌≡◌, ℕ, Bool, true, false, ◌&&◌, if◌then◌else◌, List, [], ◌∷◌, ◌++◌}
+-- What a part of content is read as, over the text of its chunks.
+use Rattle.std.specs.Prelude.{◌≡◌, ℕ, Bool, true, false, ◌&&◌, if◌then◌else◌, List, [], ◌∷◌}
 use Rattle.md_engine.specs.declared.configuration.ParseOptions.{ParseOptions}
 use Rattle.md_engine.specs.declared.event.Content.{Content}
 use Rattle.md_engine.specs.declared.event.Content.TheVariants as content
 use Rattle.md_engine.specs.declared.event.Event.{Event}
-use Rattle.md_engine.specs.declared.event.Name.TheVariants as parts
 use Rattle.md_engine.specs.declared.event.Point.{Point}
-use Rattle.md_engine.specs.Meaning.{Cell}
 use Rattle.md_engine.specs.Place.{first_point}
 use Rattle.md_engine.specs.TextFeed.{text_feed}
 use Rattle.md_engine.specs.World.{World, fresh, reads_to, skipping}
-use Rattle.md_content.specs.Paragraph.{text_link}
-use Rattle.md_content.specs.ParagraphRule.{line_events}
+use Rattle.md_content.specs.States.{content_over}
 use Rattle.md_seam.specs.declared.inline.Chunk.{Chunk}
-use Rattle.md_seam.specs.Ahead.{point_after}
-use Rattle.md_seam.specs.Events.Nested.{enter, enter_link, exit, is_exit}
+use Rattle.md_seam.specs.Events.Nested.{is_exit}
 use Rattle.md_seam.specs.Substituted.{Readings}
 use Rattle.md_seam.specs.Events.Tiles.{is_data}
 
@@ -38,12 +34,6 @@ skipping_all w (chunk ∷ chunks) = skipping_all (skipping w chunk.first) chunks
 abbrev pub part_world : List ℕ → ParseOptions → List Chunk → World
 part_world bytes options chunks = reads_to (skipping_all (fresh bytes options (first_of chunks)) chunks) (end_of chunks)
 
--- a paragraph from a point on, over these cells
-abbrev pub paragraph_over : List Cell → Point → List Event
-paragraph_over cells p =
-    enter parts.Paragraph p ∷ enter_link parts.Data p text_link ∷ line_events cells p
-    ++ exit parts.Paragraph (point_after cells p) ∷ []
-
 -- whether a line of what was read ends here
 abbrev pub is_data_end : Event → Bool
 is_data_end e = is_exit e.kind && is_data e.name
@@ -60,7 +50,7 @@ settled (chunk ∷ chunks) (e ∷ es) =
 unfoldable pub content_events : List ℕ → ParseOptions → List Chunk → List Event
 content_events bytes options chunks =
     let w = part_world bytes options chunks in
-    settled chunks (paragraph_over (text_feed w.setting w.point) w.point)
+    settled chunks (content_over (text_feed w.setting w.point) w.point)
 
 -- What the reader of content reads, and as what.
 

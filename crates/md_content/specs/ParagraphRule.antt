@@ -6,7 +6,7 @@ use Rattle.md_engine.specs.declared.event.Point.{Point}
 use Rattle.md_engine.specs.declared.state.Name.TheVariants as n
 use Rattle.md_engine.specs.declared.state.paragraph.State.{State as ParagraphState}
 use Rattle.md_engine.specs.declared.state.paragraph.State.TheVariants as its
-use Rattle.md_engine.specs.Meaning.{Accepts, Behaviour, Cell, Here, Outcome, Refuses}
+use Rattle.md_engine.specs.Meaning.{Accepts, Behaviour, Cell, Here, Outcome}
 use Rattle.md_content.specs.Paragraph.{text_link}
 use Rattle.md_seam.specs.Ahead.{point_after}
 use Rattle.md_seam.specs.Events.Nested.{enter, enter_link, exit}
@@ -17,6 +17,12 @@ line_events [] p = exit parts.Data p ∷ []
 line_events (c ∷ cs) p =
     if c.byte == 10 then exit parts.Data c.after ∷ enter_link parts.Data c.after text_link ∷ line_events cs c.after
     else line_events cs c.after
+
+-- the whole paragraph from a point on, over these cells
+abbrev pub paragraph_over : List Cell → Point → List Event
+paragraph_over cells p =
+    enter parts.Paragraph p ∷ enter_link parts.Data p text_link ∷ line_events cells p
+    ++ exit parts.Paragraph (point_after cells p) ∷ []
 
 unfoldable pub inside_paragraph : List Cell → Here → Outcome
 inside_paragraph cells h =
@@ -41,8 +47,3 @@ paragraph_behaves its.Inside cells h = inside_paragraph cells h
 pub record HasParagraph (B : Behaviour) : Type 0 where
   pub each : (state : ParagraphState) (cells : List Cell) (h : Here) →
       B (n.Paragraph state) cells h ≡ paragraph_behaves state cells h
-
--- what is left at each state of content
-abbrev pub content_behaves : Behaviour
-content_behaves (n.Paragraph state) cells h = paragraph_behaves state cells h
-content_behaves _ cells h = Refuses h.scratch h.flags

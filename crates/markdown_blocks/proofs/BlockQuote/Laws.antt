@@ -46,6 +46,7 @@ quote-laws = record {
   goes_over = λ options held c cells p is holds ends. prefix-ended options cells p ends;
   over_empty = λ options held c column is holds.
       each-quote (λ d. continues options d (rest_at column []) ≡ None) (no_quote-empty options column) c is;
+  over_kind = λ held. refl;
   may_hold = λ c is. (container_of kind.BlockQuote, refl);
   shallow = λ c bs is h. each-quote (λ d. is_shallow (container_block d bs) ≡ true) h c is;
 }

@@ -16,6 +16,7 @@ use Rattle.md_seam.proofs.GrammarLemmas.{IsWord, Leads, leads-append, leads-arou
 use Rattle.markdown_blocks.specs.Fronted.{rest_line}
 use Rattle.markdown_blocks.specs.Leaf.FenceFurther.{chunk_line, closing_line, closing_part, columns_part, further_parts}
 use Rattle.markdown_blocks.specs.Leaf.FenceFurther.{opening_of, part_over, past_columns}
+use Rattle.markdown_blocks.proofs.ContainerNames.{TakesPrefixes}
 use Rattle.markdown_blocks.proofs.FenceFurther.Parts.{further-others}
 
 -- What is left of a block.
@@ -51,9 +52,8 @@ pub white-line : (text : Expression) (m : ℕ) → behind n.SpaceOrTab (in_line 
 white-line text m =
     by-marker (λ x. behind n.SpaceOrTab (begun_by text x) ≡ begun_by text x) m refl refl
 
-pub prefix-line : (text : Expression) (m : ℕ) → behind n.BlockQuotePrefix (in_line text m) ≡ in_line text m
-prefix-line text m =
-    by-marker (λ x. behind n.BlockQuotePrefix (begun_by text x) ≡ begun_by text x) m refl refl
+pub takes-line : (text : Expression) (m : ℕ) → TakesPrefixes (in_line text m)
+takes-line text m = by-marker (λ x. TakesPrefixes (begun_by text x)) m (refl, refl) (refl, refl)
 
 -- and the block may end in it, and behind it.
 pub in-line-ends : (text : Expression) (m : ℕ) → may_end (in_line text m) ≡ true

@@ -75,6 +75,7 @@ item-laws = record {
   opens_not = λ options interrupting cells p ends. new-ended options interrupting cells p ends;
   goes_over = λ options held c cells p is holds ends. further-ended held c cells p holds.0 holds.1 ends;
   over_empty = λ options held c column is holds. over options held column c holds.1;
+  over_kind = λ held. refl;
   may_hold = each-item (λ c. (held : Held) × item_rules.holds held c) may_hold;
   shallow = λ c bs is h. each-item (λ d. is_shallow (container_block d bs) ≡ true)
       (λ digits marker width blank some. h) c is;

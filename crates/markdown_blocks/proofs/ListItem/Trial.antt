@@ -23,7 +23,7 @@ use Rattle.md_containers.proofs.ItemHeld.{IsHeld, further-held, new-held}
 use Rattle.md_containers.proofs.ItemShorter.{IsShorter, further-shorter, new-shorter}
 use Rattle.md_definition.specs.Containers.{is_bullet, is_digit}
 use Rattle.md_definition.specs.Rest.{is_blank, is_white}
-use Rattle.md_definition.specs.State.{Container, InFootnote, InItem, InQuote}
+use Rattle.md_definition.specs.State.{Container, InItem}
 use Rattle.md_seam.specs.Ahead.{line_bytes, white_end, white_rest, white_size}
 use Rattle.md_seam.specs.Events.Nested.{enter}
 use Rattle.md_seam.specs.Look.{first_seen}
@@ -46,19 +46,17 @@ wide-one digits marker (suc w) blank some = refl
 pub each-item : (P : Container → Type 0) →
     ((digits : List ℕ) (marker width : ℕ) (blank : Bool) → 1 ≤ width → P (InItem digits marker width blank)) →
     (c : Container) → IsOf kind.ListItem c → P c
-each-item P h InQuote is = cc
 each-item P h (InItem digits marker zero blank) is = cc
 each-item P h (InItem digits marker (suc w) blank) is = h digits marker (suc w) blank (omega arith)
-each-item P h (InFootnote label) is = cc
+each-item P h _ is = cc
 
 -- and of each that is held
 pub each-held : (held : Held) (P : Container → Type 0) →
     ((digits : List ℕ) (marker width : ℕ) (blank : Bool) → held.width ≡ width → held.starts_blank ≡ blank →
     1 ≤ width → P (InItem digits marker width blank)) →
     (c : Container) → item_holds held c → P c
-each-held held P h InQuote holds = absurd holds
 each-held held P h (InItem digits marker width blank) holds = h digits marker width blank holds.0 holds.1 holds.2
-each-held held P h (InFootnote label) holds = absurd holds
+each-held held P h _ holds = absurd holds
 
 -- What is held of one tells no more of it than the container does.
 
@@ -138,9 +136,8 @@ held-one held c =
     (λ digits marker width blank e f some. wide-one digits marker width blank some) c
 
 held-kind : (held : Held) (c : Container) → (held_as held c).kind ≡ held.kind
-held-kind held InQuote = refl
 held-kind held (InItem digits marker width blank) = refl
-held-kind held (InFootnote label) = refl
+held-kind held _ = refl
 
 -- so what passes is known
 passed-is : (cells : List Cell) (o : Option ItemPassed) (t : Passed) → IsHeld (container_of kind.ListItem) o →

@@ -6,9 +6,9 @@ use Rattle.md_engine.specs.declared.event.Point.{Point}
 use Rattle.md_engine.specs.Meaning.{Cell}
 use Rattle.md_engine.specs.TextFeed.{text_feed}
 use Rattle.md_engine.specs.World.{World}
-use Rattle.md_content.specs.ContentReads.{content_events, paragraph_over, part_world}
+use Rattle.md_content.specs.ContentReads.{content_events, part_world}
 use Rattle.md_content.specs.Paragraph.{text_link}
-use Rattle.md_content.specs.ParagraphRule.{line_events}
+use Rattle.md_content.specs.ParagraphRule.{line_events, paragraph_over}
 use Rattle.md_seam.specs.declared.inline.Chunk.{Chunk}
 use Rattle.md_seam.specs.Ahead.{point_after}
 use Rattle.md_seam.specs.Events.Nested.{enter_link, exit}
@@ -20,6 +20,7 @@ use Rattle.markdown_blocks.specs.Leaf.Paragraph.{paragraph_leaf}
 use Rattle.markdown_blocks.specs.HeldLeaf.{IsBuiltLeaf}
 use Rattle.markdown_blocks.proofs.EachEvent.{settled-each}
 use Rattle.markdown_blocks.proofs.OutsideFacts.{AreOutside, IsOutside, outside-append}
+use Rattle.markdown_blocks.proofs.Paragraph.Stands.{text-stands}
 use Rattle.markdown_blocks.proofs.ShallowBlocks.{shallow-then}
 use Rattle.markdown_blocks.proofs.TextLaws.{TextLaws}
 
@@ -72,5 +73,6 @@ paragraph-laws = record {
   cases = λ P none text leaf plain. open-cases P none text leaf plain;
   shut = λ options bs ks off. shut-lines options bs ks off;
   shallow = λ bs lines h. shallow-behind bs lines h;
+  stands = λ bytes held p q inside between. text-stands bytes held paragraph_leaf.name p q inside refl between;
   outside = λ bytes options chunks. content-outside bytes options chunks;
 }

@@ -21,12 +21,13 @@ use Rattle.markdown_blocks.proofs.BetweenFacts.{around-between}
 use Rattle.markdown_blocks.proofs.FillFacts.{fill-part}
 use Rattle.markdown_blocks.proofs.GroupLemmas.{AreLines, chunks-lines}
 use Rattle.markdown_blocks.proofs.LeafFacts.{LeafFacts}
-use Rattle.markdown_blocks.proofs.LeafStands.{around-unlisted, between-parts, text-stands}
+use Rattle.markdown_blocks.proofs.LeafStands.{around-unlisted, between-parts}
 use Rattle.markdown_blocks.proofs.PartedFacts.{clear}
 use Rattle.markdown_blocks.proofs.PartsStand.{stands-part}
 use Rattle.markdown_blocks.proofs.PieceFacts.{stood-around}
 use Rattle.markdown_blocks.proofs.PiecesLemmas.{tiled-around}
 use Rattle.markdown_blocks.proofs.PlainFacts.{plain-around}
+use Rattle.markdown_blocks.proofs.Registry.{text-laws}
 use Rattle.markdown_blocks.proofs.SpanLemmas.{around-nested}
 use Rattle.markdown_blocks.proofs.SpelledParagraphs.{IsRead, fronts-between, read-lines, read-more, read-one}
 use Rattle.markdown_blocks.proofs.Text.Endings.{linked-filling, read-filling}
@@ -96,7 +97,7 @@ text-facts options bytes row rows h = record {
       around-unlisted text_leaf.name row.first end unread refl
       (between-parts unread (unread-between options bytes row rows h));
   unlisted = around-unlisted text_leaf.name row.first end done refl (between-parts done read.between);
-  stands = λ held. text-stands bytes held text_leaf.name row.first end done refl read.between;
+  stands = λ held. text-laws.stands bytes held row.first end done read.between;
   parts =
       stands-part bytes text_leaf.name Text row.first end chunks unread refl (lines-inside options bytes row rows h)
       (chunks-begin row rows) (chunks-lines options bytes row rows h);

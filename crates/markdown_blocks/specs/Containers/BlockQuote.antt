@@ -9,6 +9,7 @@ use Rattle.md_engine.specs.declared.state.document.State.TheVariants as document
 use Rattle.md_engine.specs.declared.tokenizer.container.name.ContainerKind.TheVariants as kind
 use Rattle.md_engine.specs.Meaning.{Cell}
 use Rattle.md_engine.specs.World.{container_of}
+use Rattle.md_containers.specs.PlainPrefix.{IsPlainPrefix, prefixed}
 use Rattle.md_containers.specs.Quote.{may_begin}
 use Rattle.md_containers.specs.QuoteRule.{prefix_at, prefix_end, prefix_events, prefix_rest, quote_at, takes_prefix}
 use Rattle.md_seam.specs.Events.Nested.{enter}
@@ -47,6 +48,8 @@ quote_rules = record {
   continues = λ options cells h. prefix_at options cells h;
   may_open = may_begin;
   may_go_on = may_begin;
+  plain = λ held w. IsPlainPrefix w;
+  taken = λ held w. prefixed w;
   opens = λ options interrupting cells p.
       if options.constructs.block_quote && takes_prefix options cells then Some (quote_new options cells p) else None;
   goes = λ options c cells p. if takes_prefix options cells then Some (quote_on options cells p) else None;

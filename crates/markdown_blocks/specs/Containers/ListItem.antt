@@ -7,11 +7,12 @@ use Rattle.md_engine.specs.declared.state.list_item.State.TheVariants as its
 use Rattle.md_engine.specs.declared.tokenizer.container.name.ContainerKind.TheVariants as kind
 use Rattle.md_engine.specs.Meaning.{Cell}
 use Rattle.md_engine.specs.World.{container_of}
-use Rattle.md_containers.specs.Item.{may_begin}
+use Rattle.md_containers.specs.Item.{least_width, may_begin}
 use Rattle.md_containers.specs.ItemPrefix.{ItemPassed, held_as, item_further, item_holds, item_new}
 use Rattle.md_containers.specs.ItemRule.{item_at, item_on}
+use Rattle.md_containers.specs.PlainItem.{IsPlainIndent, indented}
 use Rattle.md_definition.specs.Containers.{opens_item}
-use Rattle.md_definition.specs.State.{Container, InFootnote, InItem, InQuote}
+use Rattle.md_definition.specs.State.{Container, InItem}
 use Rattle.markdown_blocks.specs.ContainerRules.{ContainerRules}
 use Rattle.markdown_blocks.specs.Passed.{Passed}
 
@@ -32,8 +33,7 @@ item_passes (Some t) = Some (item_passed t)
 -- an open one, if it goes on
 abbrev pub item_goes : Container → List Cell → Point → Option Passed
 item_goes (InItem digits marker width blank) cells p = item_passes (item_further digits marker width blank cells p)
-item_goes InQuote cells p = None
-item_goes (InFootnote label) cells p = None
+item_goes _ cells p = None
 
 -- its width is held, and whether it started blank
 abbrev pub item_rules : ContainerRules
@@ -45,6 +45,8 @@ item_rules = record {
   continues = λ options cells h. item_on cells h;
   may_open = may_begin;
   may_go_on = λ b. true;
+  plain = λ held w. IsPlainIndent (least_width held) w;
+  taken = λ held w. indented (least_width held) w;
   opens = λ options interrupting cells p. item_passes (item_new options interrupting cells p);
   goes = λ options c cells p. item_goes c cells p;
   found = λ options interrupting r. opens_item options interrupting r;

@@ -23,12 +23,11 @@ ghost use Rattle.markdown_blocks.specs.Flow.{behind_all, existing_before_transit
 ghost use Rattle.markdown_blocks.specs.Flow.{inside_transition, new_after_transition};
 ghost use Rattle.markdown_blocks.specs.Registry.{insider};
 ghost use Rattle.std.specs.Option.{is_some};
-ghost use Rattle.markdown_blocks.specs.Flow.{new_before_transition};
-ghost use Rattle.md_engine.specs.declared.tokenizer.container.name.ContainerKind.{ContainerKind};
+ghost use Rattle.markdown_blocks.specs.Flow.{new_before_transition, opener_transition};
 ghost use Rattle.markdown_blocks.specs.LineFlags.{asking, begun_line, ended_on, ending_name, next_container, stays};
 ghost use Rattle.markdown_blocks.specs.AtOnce.{GoesAtOnce, asking_next, openers_passed};
 ghost use Rattle.md_containers.specs.PlainBullet.{IsPlainBullet};
-ghost use Rattle.markdown_blocks.specs.Registry.{opener_front, openers};
+ghost use Rattle.markdown_blocks.specs.Registry.{opener_at, opener_front, openers};
 ghost use Rattle.markdown_blocks.specs.States.{FlowStep};
 ghost use Rattle.md_engine.specs.declared.resolve.name.Name.{Name as ResolveName};
 ghost use Rattle.markdown_blocks.specs.HeldLeaf.{takes_lazy};
@@ -238,20 +237,23 @@ fn try_new(tokenizer: &mut Tokenizer, kind: ContainerKind) -> State
     State::Retry(registry::opens_with(kind))
 }
 
-/// Before a block quote that may open.
+/// Before a container that may open: of the kind that is tried at this state.
 ///
 /// ```markdown
 /// > | > a
 ///     ^
 /// ```
-pub fn container_new_before(tokenizer: &mut Tokenizer) -> State
-    requires { IsAt NeedsNothing (StateName.Document DocumentState.ContainerNewBefore) (world tokenizer.old) }
-    ensures to { result ≢ State.Error →
-        result ≡ (new_before_transition ContainerKind.BlockQuote (world tokenizer.old)).to }
+#[inline(always)]
+pub fn container_new_before(tokenizer: &mut Tokenizer, state: DocumentState) -> State
+    requires { IsAt NeedsNothing (StateName.Document state) (world tokenizer.old) }
+    ensures to { result ≢ State.Error → result ≡ (opener_transition (opener_at state) (world tokenizer.old)).to }
     ensures world { result ≢ State.Error →
-        world tokenizer.new ≡ (new_before_transition ContainerKind.BlockQuote (world tokenizer.old)).world }
+        world tokenizer.new ≡ (opener_transition (opener_at state) (world tokenizer.old)).world }
 {
-    try_new(tokenizer, ContainerKind::BlockQuote)
+    match registry::opener_at(state) {
+        None => State::Nok,
+        Some(kind) => try_new(tokenizer, kind),
+    }
 }
 
 /// Passes all containers that may open, where none does by what stands here, as the states do one after another.
@@ -276,23 +278,6 @@ pub fn opens_at_once(tokenizer: &mut Tokenizer) -> State
     ask(tokenizer, Container::new(registry::plain_opener()));
     or_error!(registry::take_plain_opening(tokenizer));
     container_new_after(tokenizer)
-}
-
-/// Before a list item that may open.
-///
-/// ```markdown
-/// > | * a
-///     ^
-/// ```
-pub fn container_new_before_not_block_quote(tokenizer: &mut Tokenizer) -> State
-    requires { IsAt NeedsNothing (StateName.Document DocumentState.ContainerNewBeforeNotBlockQuote)
-        (world tokenizer.old) }
-    ensures to { result ≢ State.Error →
-        result ≡ (new_before_transition ContainerKind.ListItem (world tokenizer.old)).to }
-    ensures world { result ≢ State.Error →
-        world tokenizer.new ≡ (new_before_transition ContainerKind.ListItem (world tokenizer.old)).world }
-{
-    try_new(tokenizer, ContainerKind::ListItem)
 }
 
 /// Behind the first prefix of a container that opens: those that did not go on end before it.
@@ -459,15 +444,11 @@ pub fn call(tokenizer: &mut Tokenizer, state: DocumentState) -> State
         DocumentState::BeforeFrontmatter => before_frontmatter(tokenizer),
         DocumentState::ContainerExistingBefore => container_existing_before(tokenizer),
         DocumentState::ContainerExistingAfter => container_existing_after(tokenizer),
-        DocumentState::ContainerNewBefore => container_new_before(tokenizer),
-        DocumentState::ContainerNewBeforeNotBlockQuote => {
-            container_new_before_not_block_quote(tokenizer)
-        }
         DocumentState::ContainerNewAfter => container_new_after(tokenizer),
         DocumentState::ContainersAfter => containers_after(tokenizer),
         DocumentState::FlowInside => flow_inside(tokenizer),
         DocumentState::FlowEnd => flow_end(tokenizer),
-        _ => State::Nok,
+        _ => container_new_before(tokenizer, state),
     }
 }
 

@@ -11,19 +11,18 @@ ghost use Rattle.md_engine.specs.Run.{RunsHere};
 ghost use Rattle.md_engine.specs.Scheme.{stands};
 ghost use Rattle.md_engine.specs.World.{looks, world};
 ghost use Rattle.md_engine.specs.declared.resolve.name.Name.{Name as ResolveName};
-ghost use Rattle.markdown_blocks.specs.States.{FlowStep, flow_table_scheme, flow_transition};
+ghost use Rattle.markdown_blocks.specs.States.{FlowStep, flow_table_scheme};
 ghost use Rattle.md_engine.specs.declared.state.Name.{Name as StateName};
 ghost use Rattle.md_engine.specs.declared.state.State.{State};
 ghost use Rattle.md_engine.specs.declared.state.flow.State.{State as FlowState};
-ghost use Rattle.markdown_blocks.specs.Flow.{after_transition, before_content_transition, before_transition};
+ghost use Rattle.markdown_blocks.specs.Flow.{after_transition, before_content_transition};
 ghost use Rattle.markdown_blocks.specs.Flow.{blank_line_after_transition, blank_line_before_transition};
 ghost use Rattle.markdown_blocks.specs.Flow.{flow_own_transition, leaf_after_transition, start_transition};
-ghost use Rattle.markdown_blocks.specs.Registry.{LeafName, front_of, opener_front, openers, trials};
+ghost use Rattle.markdown_blocks.specs.Registry.{front_of, opener_front, openers, trials};
 ghost use Rattle.md_seam.specs.Transition.{IsAt, NeedsNothing};
 
 use crate::construct::{document, registry};
 use crate::resolve;
-use md_containers::list_item;
 use md_content::content;
 use md_engine::message::Message;
 use md_engine::or_error;
@@ -32,14 +31,12 @@ use md_engine::state::blank_line::State as BlankState;
 use md_engine::state::content::State as ContentState;
 use md_engine::state::document::State as DocumentState;
 use md_engine::state::flow::State as FlowState;
-use md_engine::state::heading_atx::State as HeadingState;
-use md_engine::state::thematic_break::State as BreakState;
 use md_engine::state::{Name as StateName, State};
 use md_engine::stay::Stay;
 use md_engine::subtokenize::Subresult;
 use md_engine::table::Table;
 use md_engine::tokenizer::{HeldLeaf, Tokenizer};
-use md_leaves::{blank_line, heading_atx, thematic_break};
+use md_leaves::blank_line;
 use md_seam::space_or_tab::{self, look_behind};
 
 /// At the start of a line.
@@ -72,57 +69,13 @@ pub fn blank_line_before(tokenizer: &mut Tokenizer) -> State
         return State::Retry(StateName::Flow(FlowState::BlankLineAfter));
     }
     if !blank_line::may_begin(look_behind(tokenizer)) {
-        return State::Retry(StateName::Flow(FlowState::BeforeHeadingAtx));
+        return State::Retry(StateName::Flow(registry::first_trial()));
     }
     or_error!(tokenizer.attempt(
         State::Next(StateName::Flow(FlowState::BlankLineAfter)),
-        State::Next(StateName::Flow(FlowState::BeforeHeadingAtx))
+        State::Next(StateName::Flow(registry::first_trial()))
     ));
     State::Retry(StateName::BlankLine(BlankState::Start))
-}
-
-/// Before an ATX heading.
-///
-/// ```markdown
-/// > | # a
-///     ^
-/// ```
-pub fn before_heading_atx(tokenizer: &mut Tokenizer) -> State
-    requires { IsAt NeedsNothing (StateName.Flow FlowState.BeforeHeadingAtx) (world tokenizer.old) }
-    ensures to { result ≢ State.Error → result ≡ (before_transition LeafName.HeadingAtx (world tokenizer.old)).to }
-    ensures world { result ≢ State.Error →
-        world tokenizer.new ≡ (before_transition LeafName.HeadingAtx (world tokenizer.old)).world }
-{
-    if !heading_atx::may_begin(look_behind(tokenizer)) {
-        return State::Retry(StateName::Flow(FlowState::BeforeThematicBreak));
-    }
-    or_error!(tokenizer.attempt(
-        State::Next(StateName::Flow(FlowState::LeafAfter)),
-        State::Next(StateName::Flow(FlowState::BeforeThematicBreak))
-    ));
-    State::Retry(StateName::HeadingAtx(HeadingState::Start))
-}
-
-/// Before a thematic break.
-///
-/// ```markdown
-/// > | ***
-///     ^
-/// ```
-pub fn before_thematic_break(tokenizer: &mut Tokenizer) -> State
-    requires { IsAt NeedsNothing (StateName.Flow FlowState.BeforeThematicBreak) (world tokenizer.old) }
-    ensures to { result ≢ State.Error → result ≡ (before_transition LeafName.ThematicBreak (world tokenizer.old)).to }
-    ensures world { result ≢ State.Error →
-        world tokenizer.new ≡ (before_transition LeafName.ThematicBreak (world tokenizer.old)).world }
-{
-    if !thematic_break::may_begin(look_behind(tokenizer)) {
-        return State::Retry(StateName::Flow(FlowState::BeforeContent));
-    }
-    or_error!(tokenizer.attempt(
-        State::Next(StateName::Flow(FlowState::LeafAfter)),
-        State::Next(StateName::Flow(FlowState::BeforeContent))
-    ));
-    State::Retry(StateName::ThematicBreak(BreakState::Start))
 }
 
 /// Before content.
@@ -195,36 +148,11 @@ pub fn call(tokenizer: &mut Tokenizer, state: FlowState) -> State
     match state {
         FlowState::Start => start(tokenizer),
         FlowState::BlankLineBefore => blank_line_before(tokenizer),
-        FlowState::BeforeHeadingAtx => before_heading_atx(tokenizer),
-        FlowState::BeforeThematicBreak => before_thematic_break(tokenizer),
         FlowState::BeforeContent => before_content(tokenizer),
         FlowState::BlankLineAfter => blank_line_after(tokenizer),
         FlowState::LeafAfter => leaf_after(tokenizer),
         FlowState::After => after(tokenizer),
-        _ => State::Nok,
-    }
-}
-
-/// Calls a state of the table.
-#[inline(always)]
-fn call_state(tokenizer: &mut Tokenizer, name: StateName) -> State
-    requires current { (world tokenizer.old).current ≡ looks (world tokenizer.old) }
-    requires stands { stands flow_table_scheme (world tokenizer.old) (State.Next name) }
-    ensures to { result ≢ State.Error →
-        result ≡
-        (flow_transition (λ target other. ⟦<ResolveName as PartialEq>⟧.eq other target) name (world tokenizer.old)).to }
-    ensures world { result ≢ State.Error →
-        world tokenizer.new ≡
-        (flow_transition (λ target other. ⟦<ResolveName as PartialEq>⟧.eq other target) name
-        (world tokenizer.old)).world }
-{
-    match name {
-        StateName::BlankLine(state) => blank_line::call(tokenizer, state),
-        StateName::Content(state) => content::call(tokenizer, state),
-        StateName::Document(state) => document::call(tokenizer, state),
-        StateName::Flow(state) => call(tokenizer, state),
-        StateName::SpaceOrTab(state) => space_or_tab::call(tokenizer, state),
-        _ => registry::call(tokenizer, name),
+        _ => registry::before_leaf(tokenizer, state),
     }
 }
 
@@ -257,7 +185,7 @@ fn leaves(tokenizer: &mut Tokenizer) -> State
     if registry::begins_none(tokenizer.current) {
         content_begins(tokenizer)
     } else {
-        before_heading_atx(tokenizer)
+        registry::before_leaf(tokenizer, registry::first_trial())
     }
 }
 
@@ -280,7 +208,7 @@ fn containers_new(tokenizer: &mut Tokenizer) -> State
     } else if registry::opens_plainly(tokenizer) {
         document::opens_at_once(tokenizer)
     } else {
-        document::container_new_before(tokenizer)
+        document::container_new_before(tokenizer, registry::first_opener())
     }
 }
 
@@ -349,23 +277,6 @@ fn line_end(tokenizer: &mut Tokenizer) -> State
     document::flow_end(tokenizer)
 }
 
-/// Calls a state of a heading; words of it are taken at once.
-#[inline(always)]
-fn call_heading(tokenizer: &mut Tokenizer, state: HeadingState) -> State
-    requires current { (world tokenizer.old).current ≡ looks (world tokenizer.old) }
-    requires stands { stands flow_table_scheme (world tokenizer.old) (State.Next (StateName.HeadingAtx state)) }
-    ensures runs { result ≢ State.Error →
-        RunsHere (FlowStep (λ target other. ⟦<ResolveName as PartialEq>⟧.eq other target)) (StateName.HeadingAtx state)
-        (world tokenizer.old) result (world tokenizer.new) }
-    ensures sees { result ≢ State.Error → SeesOn result (world tokenizer.old) (world tokenizer.new) }
-{
-    match state {
-        HeadingState::AtBreak => heading_atx::words(tokenizer),
-        HeadingState::SequenceOpen => heading_atx::opens(tokenizer),
-        _ => heading_atx::call(tokenizer, state),
-    }
-}
-
 /// Calls a state of the containers of a line; prefixes are taken at once, and so is what refuses the byte behind them.
 #[inline(always)]
 fn call_document(tokenizer: &mut Tokenizer, state: DocumentState) -> State
@@ -396,9 +307,14 @@ fn call_flow(tokenizer: &mut Tokenizer, state: FlowState) -> State
     match state {
         FlowState::LeafAfter => leaf_end(tokenizer),
         FlowState::After => line_end(tokenizer),
-        FlowState::BeforeHeadingAtx => leaves(tokenizer),
         FlowState::BeforeContent => content_begins(tokenizer),
-        _ => call(tokenizer, state),
+        _ => {
+            if registry::is_first_trial(state) {
+                leaves(tokenizer)
+            } else {
+                call(tokenizer, state)
+            }
+        }
     }
 }
 
@@ -416,21 +332,20 @@ impl Table for FlowTable {
 
     fn call(tokenizer: &mut Tokenizer, name: StateName) -> State {
         match name {
+            StateName::BlankLine(state) => blank_line::call(tokenizer, state),
+            StateName::Content(state) => content::call(tokenizer, state),
             StateName::Document(state) => call_document(tokenizer, state),
             StateName::Flow(state) => call_flow(tokenizer, state),
-            StateName::HeadingAtx(state) => call_heading(tokenizer, state),
-            _ => call_state(tokenizer, name),
+            StateName::SpaceOrTab(state) => space_or_tab::call(tokenizer, state),
+            _ => registry::call_at_once(tokenizer, name),
         }
     }
 
     fn stays(name: StateName) -> Option<Stay> {
         match name {
             StateName::Content(state) => content::stays(state),
-            StateName::HeadingAtx(state) => heading_atx::stays(state),
-            StateName::ListItem(state) => list_item::stays(state),
             StateName::SpaceOrTab(state) => space_or_tab::stays(state),
-            StateName::ThematicBreak(state) => thematic_break::stays(state),
-            _ => None,
+            _ => registry::stays(name),
         }
     }
 

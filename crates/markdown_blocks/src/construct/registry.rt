@@ -1,36 +1,47 @@
-// The constructs that are built: the one place of the frame's code that names them, but for the states of flow in front
-// of leaves.
+// The constructs that are built: the one place of the frame's code that names them.
 //
 //     container ::= block_quote | list_item
 //     leaf      ::= heading_atx | thematic_break
 //
 // What flow itself is made of (blank lines, content, whitespace) stands in its own table.
 
-ghost use Rattle.std.specs.Prelude.{◌≡◌, ◌≢◌, [], IfOk, None, OnOk, true};
+ghost use Rattle.std.specs.Prelude.{◌≡◌, ◌≢◌, Bool, [], IfOk, IfSome, None, OnOk, false, true};
 ghost use Rattle.md_containers.specs.PlainBullet.{IsPlainBullet, bulleted};
 ghost use Rattle.md_engine.specs.declared.tokenizer.container.name.ContainerKind.{ContainerKind};
 ghost use Rattle.std.specs.Option.{is_some, option_map};
 ghost use Rattle.md_engine.specs.Found.{found_in};
+ghost use Rattle.md_engine.specs.Going.{SeesOn};
+ghost use Rattle.md_engine.specs.Run.{RunsHere};
 ghost use Rattle.md_engine.specs.Scheme.{stands};
 ghost use Rattle.md_engine.specs.World.{World, container_of, looks, world};
 ghost use Rattle.md_engine.specs.declared.resolve.name.Name.{Name as ResolveName};
+ghost use Rattle.md_engine.specs.declared.state.Name.{Name as StateName};
 ghost use Rattle.md_engine.specs.declared.state.State.{State};
+ghost use Rattle.md_engine.specs.declared.state.flow.State.{State as FlowState};
+ghost use Rattle.markdown_blocks.specs.Flow.{before_transition, leaf_transition};
 ghost use Rattle.markdown_blocks.specs.LineFlags.{asking};
 ghost use Rattle.markdown_blocks.specs.Registry.{construct_transition, goes_on_with, insider, leaf};
 ghost use Rattle.markdown_blocks.specs.AtOnce.{HasPrefix, all_asked, begins_none, opens_none, prefix_taken};
 ghost use Rattle.markdown_blocks.specs.Registry.{may_go_on, may_open, next_opener, opener_front, openers};
-ghost use Rattle.markdown_blocks.specs.Registry.{opens_with, resolved_by};
-ghost use Rattle.markdown_blocks.specs.States.{flow_table_scheme};
+ghost use Rattle.markdown_blocks.specs.Registry.{LeafName, front_of, opener_at, opens_with, resolved_by, trials, tried_at};
+ghost use Rattle.markdown_blocks.specs.States.{FlowStep, flow_table_scheme, flow_transition, is_flow_own};
 ghost use Rattle.md_seam.specs.Look.{looks_behind, may_with};
+ghost use Rattle.md_seam.specs.Stays.{TakesEach};
+ghost use Rattle.md_seam.specs.Transition.{IsAt, NeedsNothing};
 
 use md_containers::{block_quote, list_item, lists, plain_item};
 use md_engine::class::is_white;
 use md_engine::message::Message;
+use md_engine::or_error;
 use md_engine::resolve::Name as ResolveName;
 use md_engine::state::block_quote::State as QuoteState;
 use md_engine::state::document::State as DocumentState;
+use md_engine::state::flow::State as FlowState;
+use md_engine::state::heading_atx::State as HeadingState;
 use md_engine::state::list_item::State as ItemState;
+use md_engine::state::thematic_break::State as BreakState;
 use md_engine::state::{Name as StateName, State};
+use md_engine::stay::Stay;
 use md_engine::subtokenize::Subresult;
 use md_engine::tokenizer::{Container, ContainerKind, HeldLeaf, Tokenizer};
 use md_leaves::{heading_atx, thematic_break};
@@ -42,6 +53,18 @@ pub fn first_opener() -> DocumentState
     ensures { result ≡ opener_front openers }
 {
     DocumentState::ContainerNewBefore
+}
+
+/// The kind that is tried at a state of the document, if one is.
+#[inline(always)]
+pub fn opener_at(state: DocumentState) -> Option<ContainerKind>
+    ensures { result ≡ opener_at state }
+{
+    match state {
+        DocumentState::ContainerNewBefore => Some(ContainerKind::BlockQuote),
+        DocumentState::ContainerNewBeforeNotBlockQuote => Some(ContainerKind::ListItem),
+        _ => None,
+    }
 }
 
 /// The one in front of the next, where one of this kind does not open; behind the last no container is left to try.
@@ -91,6 +114,84 @@ pub fn begins_none(current: Option<u8>) -> bool
                 || heading_atx::may_begin(current)
                 || thematic_break::may_begin(current))
         }
+    }
+}
+
+/// The state of flow in front of the first leaf that is tried.
+#[inline(always)]
+pub fn first_trial() -> FlowState
+    ensures { result ≡ front_of trials }
+{
+    FlowState::BeforeHeadingAtx
+}
+
+/// Whether this is that state.
+#[inline(always)]
+pub fn is_first_trial(state: FlowState) -> bool
+    ensures { result ≡ true → state ≡ front_of trials }
+{
+    match state {
+        FlowState::BeforeHeadingAtx => true,
+        _ => false,
+    }
+}
+
+/// Before an ATX heading.
+///
+/// ```markdown
+/// > | # a
+///     ^
+/// ```
+fn before_heading_atx(tokenizer: &mut Tokenizer) -> State
+    requires { IsAt NeedsNothing (StateName.Flow FlowState.BeforeHeadingAtx) (world tokenizer.old) }
+    ensures to { result ≢ State.Error → result ≡ (before_transition LeafName.HeadingAtx (world tokenizer.old)).to }
+    ensures world { result ≢ State.Error →
+        world tokenizer.new ≡ (before_transition LeafName.HeadingAtx (world tokenizer.old)).world }
+{
+    if !heading_atx::may_begin(look_behind(tokenizer)) {
+        return State::Retry(StateName::Flow(FlowState::BeforeThematicBreak));
+    }
+    or_error!(tokenizer.attempt(
+        State::Next(StateName::Flow(FlowState::LeafAfter)),
+        State::Next(StateName::Flow(FlowState::BeforeThematicBreak))
+    ));
+    State::Retry(StateName::HeadingAtx(HeadingState::Start))
+}
+
+/// Before a thematic break.
+///
+/// ```markdown
+/// > | ***
+///     ^
+/// ```
+fn before_thematic_break(tokenizer: &mut Tokenizer) -> State
+    requires { IsAt NeedsNothing (StateName.Flow FlowState.BeforeThematicBreak) (world tokenizer.old) }
+    ensures to { result ≢ State.Error → result ≡ (before_transition LeafName.ThematicBreak (world tokenizer.old)).to }
+    ensures world { result ≢ State.Error →
+        world tokenizer.new ≡ (before_transition LeafName.ThematicBreak (world tokenizer.old)).world }
+{
+    if !thematic_break::may_begin(look_behind(tokenizer)) {
+        return State::Retry(StateName::Flow(FlowState::BeforeContent));
+    }
+    or_error!(tokenizer.attempt(
+        State::Next(StateName::Flow(FlowState::LeafAfter)),
+        State::Next(StateName::Flow(FlowState::BeforeContent))
+    ));
+    State::Retry(StateName::ThematicBreak(BreakState::Start))
+}
+
+/// Calls the state of flow in front of a leaf; those of leaves that are not built refuse.
+#[inline(always)]
+pub fn before_leaf(tokenizer: &mut Tokenizer, state: FlowState) -> State
+    requires { IsAt NeedsNothing (StateName.Flow state) (world tokenizer.old) }
+    ensures to { result ≢ State.Error → result ≡ (leaf_transition (tried_at state) (world tokenizer.old)).to }
+    ensures world { result ≢ State.Error →
+        world tokenizer.new ≡ (leaf_transition (tried_at state) (world tokenizer.old)).world }
+{
+    match state {
+        FlowState::BeforeHeadingAtx => before_heading_atx(tokenizer),
+        FlowState::BeforeThematicBreak => before_thematic_break(tokenizer),
+        _ => State::Nok,
     }
 }
 
@@ -227,6 +328,53 @@ pub fn call(tokenizer: &mut Tokenizer, name: StateName) -> State
         StateName::ListItem(state) => list_item::call(tokenizer, state),
         StateName::ThematicBreak(state) => thematic_break::call(tokenizer, state),
         _ => State::Nok,
+    }
+}
+
+/// Calls a state of a heading; words of it are taken at once.
+#[inline(always)]
+fn call_heading(tokenizer: &mut Tokenizer, state: HeadingState) -> State
+    requires current { (world tokenizer.old).current ≡ looks (world tokenizer.old) }
+    requires stands { stands flow_table_scheme (world tokenizer.old) (State.Next (StateName.HeadingAtx state)) }
+    ensures runs { result ≢ State.Error →
+        RunsHere (FlowStep (λ target other. ⟦<ResolveName as PartialEq>⟧.eq other target)) (StateName.HeadingAtx state)
+        (world tokenizer.old) result (world tokenizer.new) }
+    ensures sees { result ≢ State.Error → SeesOn result (world tokenizer.old) (world tokenizer.new) }
+{
+    match state {
+        HeadingState::AtBreak => heading_atx::words(tokenizer),
+        HeadingState::SequenceOpen => heading_atx::opens(tokenizer),
+        _ => heading_atx::call(tokenizer, state),
+    }
+}
+
+/// The same, where a construct may take several states in one call.
+#[inline(always)]
+pub fn call_at_once(tokenizer: &mut Tokenizer, name: StateName) -> State
+    requires current { (world tokenizer.old).current ≡ looks (world tokenizer.old) }
+    requires stands { stands flow_table_scheme (world tokenizer.old) (State.Next name) }
+    requires construct { is_flow_own name ≡ false }
+    ensures runs { result ≢ State.Error →
+        RunsHere (FlowStep (λ target other. ⟦<ResolveName as PartialEq>⟧.eq other target)) name (world tokenizer.old)
+        result (world tokenizer.new) }
+    ensures sees { result ≢ State.Error → SeesOn result (world tokenizer.old) (world tokenizer.new) }
+{
+    match name {
+        StateName::HeadingAtx(state) => call_heading(tokenizer, state),
+        _ => call(tokenizer, name),
+    }
+}
+
+/// What a state of a construct only takes and counts.
+pub fn stays(name: StateName) -> Option<Stay>
+    ensures { IfSome result (λ stay. (is_name : ResolveName → ResolveName → Bool) →
+        TakesEach stay name (flow_transition is_name name)) }
+{
+    match name {
+        StateName::HeadingAtx(state) => heading_atx::stays(state),
+        StateName::ListItem(state) => list_item::stays(state),
+        StateName::ThematicBreak(state) => thematic_break::stays(state),
+        _ => None,
     }
 }
 

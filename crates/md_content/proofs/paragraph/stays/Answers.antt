@@ -1,4 +1,4 @@
-use Rattle.md_content.proofs.StaysLemmas.{paragraph-takes}
+use Rattle.md_content.proofs.ParagraphStays.{paragraph-takes}
 use Rattle.md_content.proofs.paragraph.stays.Goals as goal
 
 pub returns-in-Inside : goal.returns-in-Inside

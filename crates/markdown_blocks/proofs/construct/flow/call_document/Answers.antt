@@ -1,15 +1,14 @@
-use Rattle.std.proofs.Common.{Bool, subst, sym}
+use Rattle.std.proofs.Common.{◌≢◌, Bool, subst, sym}
 use Rattle.md_engine.specs.contracts.resolve.name.NamePartialEq.TheImpl as names
 use Rattle.md_engine.specs.declared.resolve.name.Name.{Name as ResolveName}
 use Rattle.md_engine.specs.declared.state.document.State.{State as DocumentState}
 use Rattle.md_engine.specs.declared.state.Name.TheVariants as n
+use Rattle.md_engine.specs.declared.state.State.TheVariants.{Error}
 use Rattle.md_engine.specs.Run.{RunsHere}
 use Rattle.md_engine.specs.World.{world}
-use Rattle.md_engine.proofs.Loops.{call-runs, call-sees}
 use Rattle.md_engine.proofs.StayLemmas.{within-world}
-use Rattle.markdown_blocks.specs.States.{FlowStep, flow_table_scheme}
-use Rattle.markdown_blocks.proofs.States.{flow_does}
-use Rattle.md_seam.proofs.SpacesGoods.{does-remain, does-setting}
+use Rattle.markdown_blocks.specs.States.{FlowStep}
+use Rattle.markdown_blocks.proofs.FlowCalls.{called-once}
 use Rattle.markdown_blocks.proofs.construct.flow.call_document.Goals as goal
 
 -- whether a name that is registered is the one that is looked for
@@ -40,19 +39,8 @@ returns-in-ContainerNewBefore c =
 
 pub returns-in_default : goal.returns-in_default
 returns-in_default c =
-    let w = world c.args.tokenizer.now in
-    let name = n.Document c.args.state in
-    record {
-      runs = λ fine.
-          call-runs (FlowStep is_name) name w _ _
-          (record { to_is = c.call.ensures.to fine; new_is = c.call.ensures.world fine }) fine
-          (does-setting flow_table_scheme name w _ _ (c.call.ensures.world fine)
-          (flow_does is_name name w c.requires.current c.requires.stands))
-          (within-world c.args.tokenizer.now);
-      sees = λ fine.
-          call-sees _ w _
-          (does-remain flow_table_scheme name w _ _ _ (c.call.ensures.to fine) (c.call.ensures.world fine)
-          (flow_does is_name name w c.requires.current c.requires.stands))
-          (does-setting flow_table_scheme name w _ _ (c.call.ensures.world fine)
-          (flow_does is_name name w c.requires.current c.requires.stands)) c.requires.current;
-    }
+    let once = λ (fine : c.call.result ≢ Error).
+    called-once is_name (n.Document c.args.state) (world c.args.tokenizer.now) c.call.result
+    (world c.call.new.tokenizer) c.requires.current c.requires.stands (within-world c.args.tokenizer.now) fine
+    (c.call.ensures.to fine) (c.call.ensures.world fine) in
+    record { runs = λ fine. (once fine).0; sees = λ fine. (once fine).1 }

@@ -1,15 +1,15 @@
-use Rattle.std.proofs.Common.{Bool, subst, sym}
+use Rattle.std.proofs.Common.{◌≡◌, ◌≢◌, Bool, subst, sym}
 use Rattle.md_engine.specs.contracts.resolve.name.NamePartialEq.TheImpl as names
 use Rattle.md_engine.specs.declared.resolve.name.Name.{Name as ResolveName}
 use Rattle.md_engine.specs.declared.state.flow.State.{State as FlowState}
 use Rattle.md_engine.specs.declared.state.Name.TheVariants as n
+use Rattle.md_engine.specs.declared.state.State.TheVariants.{Error}
 use Rattle.md_engine.specs.Run.{RunsHere}
 use Rattle.md_engine.specs.World.{world}
-use Rattle.md_engine.proofs.Loops.{call-runs, call-sees}
 use Rattle.md_engine.proofs.StayLemmas.{within-world}
-use Rattle.markdown_blocks.specs.States.{FlowStep, flow_table_scheme}
-use Rattle.markdown_blocks.proofs.States.{flow_does}
-use Rattle.md_seam.proofs.SpacesGoods.{does-remain, does-setting}
+use Rattle.markdown_blocks.specs.Registry.{front_of, trials}
+use Rattle.markdown_blocks.specs.States.{FlowStep}
+use Rattle.markdown_blocks.proofs.FlowCalls.{called-once}
 use Rattle.markdown_blocks.proofs.construct.flow.call_flow.Goals as goal
 
 -- whether a name that is registered is the one that is looked for
@@ -38,17 +38,6 @@ returns-in-After c =
       sees = c.line_end.ensures.sees;
     }
 
-pub returns-in-BeforeHeadingAtx : goal.returns-in-BeforeHeadingAtx
-returns-in-BeforeHeadingAtx c =
-    let w = world c.args.tokenizer.now in
-    let w' = world c.leaves.new.tokenizer in
-    record {
-      runs = λ fine.
-          subst (λ (x : FlowState). RunsHere (FlowStep is_name) (n.Flow x) w c.leaves.result w')
-          (sym c.in-BeforeHeadingAtx.is) (c.leaves.ensures.runs fine);
-      sees = c.leaves.ensures.sees;
-    }
-
 pub returns-in-BeforeContent : goal.returns-in-BeforeContent
 returns-in-BeforeContent c =
     let w = world c.args.tokenizer.now in
@@ -60,21 +49,22 @@ returns-in-BeforeContent c =
       sees = c.content_begins.ensures.sees;
     }
 
-pub returns-in_default : goal.returns-in_default
-returns-in_default c =
+pub returns-then-is_first_trial : goal.returns-then-is_first_trial
+returns-then-is_first_trial c =
     let w = world c.args.tokenizer.now in
-    let name = n.Flow c.args.state in
+    let w' = world c.leaves.new.tokenizer in
+    let is : c.args.state ≡ front_of trials = c.is_first_trial.ensures c.if-is_first_trial.true in
     record {
       runs = λ fine.
-          call-runs (FlowStep is_name) name w _ _
-          (record { to_is = c.call.ensures.to fine; new_is = c.call.ensures.world fine }) fine
-          (does-setting flow_table_scheme name w _ _ (c.call.ensures.world fine)
-          (flow_does is_name name w c.requires.current c.requires.stands))
-          (within-world c.args.tokenizer.now);
-      sees = λ fine.
-          call-sees _ w _
-          (does-remain flow_table_scheme name w _ _ _ (c.call.ensures.to fine) (c.call.ensures.world fine)
-          (flow_does is_name name w c.requires.current c.requires.stands))
-          (does-setting flow_table_scheme name w _ _ (c.call.ensures.world fine)
-          (flow_does is_name name w c.requires.current c.requires.stands)) c.requires.current;
+          subst (λ (x : FlowState). RunsHere (FlowStep is_name) (n.Flow x) w c.leaves.result w') (sym is)
+          (c.leaves.ensures.runs fine);
+      sees = c.leaves.ensures.sees;
     }
+
+pub returns-else-is_first_trial : goal.returns-else-is_first_trial
+returns-else-is_first_trial c =
+    let once = λ (fine : c.call.result ≢ Error).
+    called-once is_name (n.Flow c.args.state) (world c.args.tokenizer.now) c.call.result (world c.call.new.tokenizer)
+    c.requires.current c.requires.stands (within-world c.args.tokenizer.now) fine (c.call.ensures.to fine)
+    (c.call.ensures.world fine) in
+    record { runs = λ fine. (once fine).0; sees = λ fine. (once fine).1 }

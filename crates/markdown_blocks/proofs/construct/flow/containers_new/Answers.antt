@@ -1,23 +1,24 @@
-use Rattle.std.proofs.Common.{◌≡◌, ◌≢◌, ◌∙◌, Bool, ap, false, inl, refl, subst, sym, true}
+use Rattle.std.proofs.Common.{◌≡◌, ◌≢◌, ◌∙◌, Bool, Option, ap, false, inl, refl, subst, sym, true}
 use Rattle.std.specs.Option.{is_some}
 use Rattle.md_engine.specs.Going.{SeesOn}
 use Rattle.md_engine.specs.Run.{RunsHere}
 use Rattle.md_engine.specs.declared.state.State.{State}
 use Rattle.md_engine.specs.declared.state.State.TheVariants.{Error}
 use Rattle.md_engine.specs.declared.state.document.State.TheVariants as document
-use Rattle.markdown_blocks.specs.Flow.{inside_transition, leaf_front}
+use Rattle.markdown_blocks.specs.Flow.{inside_transition, leaf_front, opener_transition}
 use Rattle.md_engine.proofs.Walks.{Within}
 use Rattle.md_engine.specs.World.{World, looks, world}
 use Rattle.md_engine.specs.contracts.resolve.name.NamePartialEq.TheImpl as names
 use Rattle.md_engine.specs.declared.resolve.name.Name.{Name as ResolveName}
 use Rattle.md_engine.specs.declared.state.Name.TheVariants as n
-use Rattle.md_engine.specs.declared.tokenizer.container.name.ContainerKind.TheVariants.{BlockQuote}
+use Rattle.md_engine.specs.declared.tokenizer.container.name.ContainerKind.{ContainerKind}
 use Rattle.md_engine.proofs.Loops.{CameHere, CameTo, came-first}
 use Rattle.md_engine.proofs.StayLemmas.{within-world}
+use Rattle.md_seam.specs.Transition.{Transition}
 use Rattle.markdown_blocks.specs.AtOnce.{opens_none, openers_passed}
-use Rattle.markdown_blocks.specs.Registry.{front_of, insider, opener_front, openers, trials}
+use Rattle.markdown_blocks.specs.Registry.{front_of, insider, opener_at, opener_front, openers, trials}
 use Rattle.markdown_blocks.specs.States.{FlowStep}
-use Rattle.markdown_blocks.proofs.LinesAtOnce.{ends-with, inside-leaves, opener-leaves, passes-front}
+use Rattle.markdown_blocks.proofs.LinesAtOnce.{ends-with, inside-leaves, passes-front, tried-opener-leaves}
 use Rattle.markdown_blocks.proofs.LinesAtOnce.{passes-openers, runs-on}
 use Rattle.markdown_blocks.proofs.construct.flow.containers_new.Goals as goal
 
@@ -78,21 +79,19 @@ returns-else-goes_inside-clause-runs c = λ fine.
     (subst (λ (x : World). x.current ≡ looks x) (sym passed) c.requires.current)
     (inl (ap (λ (x : World). x.point) passed))).0
 
-pub returns-else-opens_plainly-clause-runs : goal.returns-else-opens_plainly-clause-runs
-returns-else-opens_plainly-clause-runs c = λ fine.
+pub returns-else-opens_plainly : goal.returns-else-opens_plainly
+returns-else-opens_plainly c =
     let first = n.Document (opener_front openers) in
     let w = world c.args.tokenizer.now in
-    (ends-with is_name first first w w c.container_new_before.result (world c.container_new_before.new.tokenizer)
-    (came-first (FlowStep is_name) first w) (opener-leaves BlockQuote w) (c.container_new_before.ensures.to fine)
-    (c.container_new_before.ensures.world fine) fine c.requires.current (within-world c.args.tokenizer.now) refl).0
-
-pub returns-else-opens_plainly-clause-sees : goal.returns-else-opens_plainly-clause-sees
-returns-else-opens_plainly-clause-sees c = λ fine.
-    let first = n.Document (opener_front openers) in
-    let w = world c.args.tokenizer.now in
-    (ends-with is_name first first w w c.container_new_before.result (world c.container_new_before.new.tokenizer)
-    (came-first (FlowStep is_name) first w) (opener-leaves BlockQuote w) (c.container_new_before.ensures.to fine)
-    (c.container_new_before.ensures.world fine) fine c.requires.current (within-world c.args.tokenizer.now) refl).1
+    let at = ap opener_at c.first_opener.ensures in
+    let is = ap (λ (o : Option ContainerKind). opener_transition o w) at in
+    let all = λ (fine : c.container_new_before.result ≢ Error).
+    ends-with is_name first first w w c.container_new_before.result (world c.container_new_before.new.tokenizer)
+    (came-first (FlowStep is_name) first w) (tried-opener-leaves (opener_at (opener_front openers)) w)
+    (c.container_new_before.ensures.to fine ∙ ap (λ (x : Transition). x.to) is)
+    (c.container_new_before.ensures.world fine ∙ ap (λ (x : Transition). x.world) is) fine c.requires.current
+    (within-world c.args.tokenizer.now) refl in
+    record { runs = λ fine. (all fine).0; sees = λ fine. (all fine).1 }
 
 pub returns-then-opens_plainly : goal.returns-then-opens_plainly
 returns-then-opens_plainly c = record {

@@ -5,18 +5,72 @@ use Rattle.md_engine.specs.declared.state.Name.{Name as StateName}
 use Rattle.md_engine.specs.declared.state.State.TheVariants.{Error}
 use Rattle.md_engine.specs.Run.{RunsHere}
 use Rattle.md_engine.specs.World.{world}
-use Rattle.md_engine.proofs.Loops.{call-runs, call-sees}
 use Rattle.md_engine.proofs.StayLemmas.{within-world}
 use Rattle.md_engine.proofs.Walks.{here-keeps}
 use Rattle.markdown_blocks.specs.States.{FlowStep, flow_table_scheme}
-use Rattle.markdown_blocks.proofs.FlowCalls.{flow-keeps}
-use Rattle.markdown_blocks.proofs.States.{flow_does}
-use Rattle.md_seam.proofs.SpacesGoods.{does-fall, does-remain, does-setting, does-stands}
+use Rattle.markdown_blocks.proofs.FlowCalls.{called-once, flow-keeps}
 use Rattle.markdown_blocks.proofs.construct.flow.FlowTableTable.call.Goals as goal
 
 -- whether a name that is registered is the one that is looked for
 abbrev is_name : ResolveName → ResolveName → Bool
 is_name target other = names.ghosts.eq other target
+
+pub returns-in-BlankLine : goal.returns-in-BlankLine
+returns-in-BlankLine c =
+    let w = world c.args.tokenizer.now in
+    let w' = world c.call.new.tokenizer in
+    let once = λ (fine : c.call.result ≢ Error).
+    called-once is_name c.args.name w c.call.result w' c.requires.current c.requires.stands
+    (within-world c.args.tokenizer.now) fine (rw c.in-BlankLine.is (c.call.ensures.to fine))
+    (rw c.in-BlankLine.is (c.call.ensures.world fine)) in
+    let kept = λ (fine : c.call.result ≢ Error).
+    here-keeps (FlowStep is_name) flow_table_scheme c.args.name w c.call.result w' (flow-keeps is_name)
+    c.requires.current c.requires.stands (once fine).0 in
+    record {
+      runs = λ fine. (once fine).0;
+      stands = λ fine. (kept fine).0;
+      falls = λ fine. (kept fine).1;
+      setting = λ fine. (kept fine).2;
+      sees = λ fine. (once fine).1;
+    }
+
+pub returns-in-Content : goal.returns-in-Content
+returns-in-Content c =
+    let w = world c.args.tokenizer.now in
+    let w' = world c.call-in-Content.new.tokenizer in
+    let once = λ (fine : c.call-in-Content.result ≢ Error).
+    called-once is_name c.args.name w c.call-in-Content.result w' c.requires.current c.requires.stands
+    (within-world c.args.tokenizer.now) fine (rw c.in-Content.is (c.call-in-Content.ensures.to fine))
+    (rw c.in-Content.is (c.call-in-Content.ensures.world fine)) in
+    let kept = λ (fine : c.call-in-Content.result ≢ Error).
+    here-keeps (FlowStep is_name) flow_table_scheme c.args.name w c.call-in-Content.result w' (flow-keeps is_name)
+    c.requires.current c.requires.stands (once fine).0 in
+    record {
+      runs = λ fine. (once fine).0;
+      stands = λ fine. (kept fine).0;
+      falls = λ fine. (kept fine).1;
+      setting = λ fine. (kept fine).2;
+      sees = λ fine. (once fine).1;
+    }
+
+pub returns-in-SpaceOrTab : goal.returns-in-SpaceOrTab
+returns-in-SpaceOrTab c =
+    let w = world c.args.tokenizer.now in
+    let w' = world c.call-in-SpaceOrTab.new.tokenizer in
+    let once = λ (fine : c.call-in-SpaceOrTab.result ≢ Error).
+    called-once is_name c.args.name w c.call-in-SpaceOrTab.result w' c.requires.current c.requires.stands
+    (within-world c.args.tokenizer.now) fine (rw c.in-SpaceOrTab.is (c.call-in-SpaceOrTab.ensures.to fine))
+    (rw c.in-SpaceOrTab.is (c.call-in-SpaceOrTab.ensures.world fine)) in
+    let kept = λ (fine : c.call-in-SpaceOrTab.result ≢ Error).
+    here-keeps (FlowStep is_name) flow_table_scheme c.args.name w c.call-in-SpaceOrTab.result w' (flow-keeps is_name)
+    c.requires.current c.requires.stands (once fine).0 in
+    record {
+      runs = λ fine. (once fine).0;
+      stands = λ fine. (kept fine).0;
+      falls = λ fine. (kept fine).1;
+      setting = λ fine. (kept fine).2;
+      sees = λ fine. (once fine).1;
+    }
 
 pub returns-in-Document : goal.returns-in-Document
 returns-in-Document c =
@@ -54,57 +108,17 @@ returns-in-Flow c =
       sees = c.call_flow.ensures.sees;
     }
 
-pub returns-in-HeadingAtx : goal.returns-in-HeadingAtx
-returns-in-HeadingAtx c =
+pub returns-in_default : goal.returns-in_default
+returns-in_default c =
     let w = world c.args.tokenizer.now in
-    let w' = world c.call_heading.new.tokenizer in
-    let runs : c.call_heading.result ≢ Error → RunsHere (FlowStep is_name) c.args.name w c.call_heading.result w' =
-    λ fine. subst (λ (x : StateName). RunsHere (FlowStep is_name) x w c.call_heading.result w') (sym c.in-HeadingAtx.is)
-    (c.call_heading.ensures.runs fine) in
-    let kept = λ (fine : c.call_heading.result ≢ Error).
-    here-keeps (FlowStep is_name) flow_table_scheme c.args.name w c.call_heading.result w' (flow-keeps is_name)
-    c.requires.current c.requires.stands (runs fine) in
+    let w' = world c.call_at_once.new.tokenizer in
+    let kept = λ (fine : c.call_at_once.result ≢ Error).
+    here-keeps (FlowStep is_name) flow_table_scheme c.args.name w c.call_at_once.result w' (flow-keeps is_name)
+    c.requires.current c.requires.stands (c.call_at_once.ensures.runs fine) in
     record {
-      runs = runs;
+      runs = c.call_at_once.ensures.runs;
       stands = λ fine. (kept fine).0;
       falls = λ fine. (kept fine).1;
       setting = λ fine. (kept fine).2;
-      sees = c.call_heading.ensures.sees;
+      sees = c.call_at_once.ensures.sees;
     }
-
-pub returns-in_default-clause-stands : goal.returns-in_default-clause-stands
-returns-in_default-clause-stands c = λ fine.
-    let w = world c.args.tokenizer.now in
-    does-stands flow_table_scheme c.args.name w _ _ _ (c.call_state.ensures.to fine) (c.call_state.ensures.world fine)
-    (flow_does is_name c.args.name w c.requires.current c.requires.stands)
-
-pub returns-in_default-clause-falls : goal.returns-in_default-clause-falls
-returns-in_default-clause-falls c = λ fine.
-    let w = world c.args.tokenizer.now in
-    does-fall flow_table_scheme c.args.name w _ _ _ (c.call_state.ensures.to fine) (c.call_state.ensures.world fine)
-    (flow_does is_name c.args.name w c.requires.current c.requires.stands)
-
-pub returns-in_default-clause-setting : goal.returns-in_default-clause-setting
-returns-in_default-clause-setting c = λ fine.
-    let w = world c.args.tokenizer.now in
-    does-setting flow_table_scheme c.args.name w _ _ (c.call_state.ensures.world fine)
-    (flow_does is_name c.args.name w c.requires.current c.requires.stands)
-
-pub returns-in_default-clause-runs : goal.returns-in_default-clause-runs
-returns-in_default-clause-runs c = λ fine.
-    let w = world c.args.tokenizer.now in
-    call-runs (FlowStep is_name) c.args.name w _ _
-    (record { to_is = c.call_state.ensures.to fine; new_is = c.call_state.ensures.world fine }) fine
-    (does-setting flow_table_scheme c.args.name w _ _ (c.call_state.ensures.world fine)
-    (flow_does is_name c.args.name w c.requires.current c.requires.stands))
-    (within-world c.args.tokenizer.now)
-
-pub returns-in_default-clause-sees : goal.returns-in_default-clause-sees
-returns-in_default-clause-sees c = λ fine.
-    let w = world c.args.tokenizer.now in
-    call-sees _ w _
-    (does-remain flow_table_scheme c.args.name w _ _ _ (c.call_state.ensures.to fine) (c.call_state.ensures.world fine)
-    (flow_does is_name c.args.name w c.requires.current c.requires.stands))
-    (does-setting flow_table_scheme c.args.name w _ _ (c.call_state.ensures.world fine)
-    (flow_does is_name c.args.name w c.requires.current c.requires.stands))
-    c.requires.current

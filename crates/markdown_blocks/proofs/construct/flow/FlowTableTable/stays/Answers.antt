@@ -17,24 +17,12 @@ returns-in-Content c =
     (flow-stays is_name (n.Content c.in-Content.state) c.stays.result
     (IfSome_then c.stays.result c.stays.ensures (λ k h. h (is_name r.Content))))
 
-pub returns-in-HeadingAtx : goal.returns-in-HeadingAtx
-returns-in-HeadingAtx c =
-    rw c.in-HeadingAtx.is
-    (flow-stays is_name (n.HeadingAtx c.in-HeadingAtx.state) c.stays-in-HeadingAtx.result
-    (IfSome_then c.stays-in-HeadingAtx.result c.stays-in-HeadingAtx.ensures (λ k h. h (is_name r.HeadingAtx))))
-
-pub returns-in-ListItem : goal.returns-in-ListItem
-returns-in-ListItem c =
-    rw c.in-ListItem.is
-    (flow-stays is_name (n.ListItem c.in-ListItem.state) c.stays-in-ListItem.result c.stays-in-ListItem.ensures)
-
 pub returns-in-SpaceOrTab : goal.returns-in-SpaceOrTab
 returns-in-SpaceOrTab c =
     rw c.in-SpaceOrTab.is
     (flow-stays is_name (n.SpaceOrTab c.in-SpaceOrTab.state) c.stays-in-SpaceOrTab.result c.stays-in-SpaceOrTab.ensures)
 
-pub returns-in-ThematicBreak : goal.returns-in-ThematicBreak
-returns-in-ThematicBreak c =
-    rw c.in-ThematicBreak.is
-    (flow-stays is_name (n.ThematicBreak c.in-ThematicBreak.state) c.stays-in-ThematicBreak.result
-    c.stays-in-ThematicBreak.ensures)
+pub returns-in_default : goal.returns-in_default
+returns-in_default c =
+    flow-stays is_name c.args.name c.stays-in_default.result
+    (IfSome_then c.stays-in_default.result c.stays-in_default.ensures (λ k h. h is_name))

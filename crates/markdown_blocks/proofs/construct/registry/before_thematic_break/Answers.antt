@@ -1,5 +1,5 @@
 use Rattle.std.proofs.Common.{rules}
-use Rattle.markdown_blocks.proofs.construct.flow.before_thematic_break.Goals as goal
+use Rattle.markdown_blocks.proofs.construct.registry.before_thematic_break.Goals as goal
 
 pub returns-then-not-may_begin-clause-to : goal.returns-then-not-may_begin-clause-to
 returns-then-not-may_begin-clause-to c = search rules

@@ -1,0 +1,39 @@
+use Rattle.std.proofs.Common.{◌≡◌, ◌≢◌, ◌∙◌, Bool, ap, subst, sym}
+use Rattle.md_engine.specs.contracts.resolve.name.NamePartialEq.TheImpl as names
+use Rattle.md_engine.specs.declared.resolve.name.Name.{Name as ResolveName}
+use Rattle.md_engine.specs.declared.state.Name.{Name as StateName}
+use Rattle.md_engine.specs.declared.state.State.TheVariants.{Error}
+use Rattle.md_engine.specs.Run.{RunsHere}
+use Rattle.md_engine.specs.World.{world}
+use Rattle.md_engine.proofs.StayLemmas.{within-world}
+use Rattle.md_seam.specs.Transition.{Transition}
+use Rattle.markdown_blocks.specs.Registry.{construct_transition}
+use Rattle.markdown_blocks.specs.States.{FlowStep, flow_transition}
+use Rattle.markdown_blocks.proofs.FlowCalls.{called-once, flow-constructs}
+use Rattle.markdown_blocks.proofs.construct.registry.call_at_once.Goals as goal
+
+-- whether a name that is registered is the one that is looked for
+abbrev is_name : ResolveName → ResolveName → Bool
+is_name target other = names.ghosts.eq other target
+
+pub returns-in-HeadingAtx : goal.returns-in-HeadingAtx
+returns-in-HeadingAtx c =
+    let w = world c.args.tokenizer.now in
+    let w' = world c.call_heading.new.tokenizer in
+    record {
+      runs = λ fine.
+          subst (λ (x : StateName). RunsHere (FlowStep is_name) x w c.call_heading.result w') (sym c.in-HeadingAtx.is)
+          (c.call_heading.ensures.runs fine);
+      sees = c.call_heading.ensures.sees;
+    }
+
+pub returns-in_default : goal.returns-in_default
+returns-in_default c =
+    let w = world c.args.tokenizer.now in
+    let is : construct_transition is_name c.args.name w ≡ flow_transition is_name c.args.name w =
+    flow-constructs is_name c.args.name w c.requires.construct in
+    let once = λ (fine : c.call.result ≢ Error).
+    called-once is_name c.args.name w c.call.result (world c.call.new.tokenizer) c.requires.current c.requires.stands
+    (within-world c.args.tokenizer.now) fine (c.call.ensures.to fine ∙ ap (λ (x : Transition). x.to) is)
+    (c.call.ensures.world fine ∙ ap (λ (x : Transition). x.world) is) in
+    record { runs = λ fine. (once fine).0; sees = λ fine. (once fine).1 }
