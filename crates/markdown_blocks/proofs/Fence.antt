@@ -4,6 +4,7 @@ pub mod Between
 pub mod Cells
 pub mod Each
 pub mod Facts
+pub mod Found
 pub mod Kept
 pub mod Laid
 pub mod Laws
@@ -12,6 +13,7 @@ pub mod Opened
 pub mod Outside
 pub mod Pieces
 pub mod Reads
+pub mod Registers
 pub mod Texts
 pub mod Trial
 pub mod Walk
