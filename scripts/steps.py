@@ -21,11 +21,11 @@ REQUESTS = 60
 
 # How many parts of a text must be read within the steps, and how many within the requests.
 MOST: dict[str, tuple[int, int]] = {
-    "paragraphs of long lines": (7, 8),
+    "paragraphs of long lines": (7, 12),
     "one long line": (99, 130),
-    "headings of some words": (45, 28),
-    "quotes of long lines": (35, 66),
-    "quotes in quotes in quotes": (35, 92),
+    "headings of some words": (45, 42),
+    "quotes of long lines": (35, 512),
+    "quotes in quotes in quotes": (35, 512),
     "blank lines": (682, 5_492),
     "one line of tabs": (500, 5_492),
     "one line of spaces": (2_500, 5_492),

@@ -1,9 +1,9 @@
 // From a text to events.
 
-ghost use Rattle.std.specs.Prelude.{◌≡◌, ◌++◌, IfOk};
+ghost use Rattle.std.specs.Prelude.{◌≡◌, ◌++◌, IfOk, []};
 ghost use Rattle.md_engine.specs.Found.{found_in};
 ghost use Rattle.md_engine.specs.Place.{IsPlaced};
-ghost use Rattle.md_engine.specs.World.{world};
+ghost use Rattle.md_engine.specs.World.{fresh, world};
 ghost use Rattle.markdown_blocks.specs.Document.{ReadsMark};
 ghost use Rattle.markdown_blocks.specs.FlowReads.{FlowReads};
 ghost use Rattle.markdown_blocks.specs.Parsed.{IsBuilt, IsParsed, IsSmall};
@@ -97,6 +97,42 @@ fn read_mark<'a>(
     Ok(tokenizer)
 }
 
+/// For how many events a byte of text a list has room at once: as many as `-` has, an empty item in a list of its own.
+const EVENTS_A_BYTE: usize = 8;
+
+/// For the events of so many bytes, at most: a list for them is large enough that the C library maps it, so that it
+/// copies none of them when the list grows.
+const BYTES_WITH_ROOM: usize = 512;
+
+/// An empty list with room for the events of a text, or of its first bytes.
+fn with_room(alloc: Global, bytes: &[u8]) -> Result<Vec<Event>, Message>
+    ensures { IfOk result (λ events. events.items ≡ []) }
+{
+    match Vec::with_capacity(alloc, EVENTS_A_BYTE * bytes.len().min(BYTES_WITH_ROOM)) {
+        Ok(events) => Ok(events),
+        Err(_) => Err(Message),
+    }
+}
+
+/// A tokenizer at a point, whose lists of events have room.
+///
+/// An `Err` says that memory ran out.
+fn flow_tokenizer<'a>(
+    alloc: Global,
+    bytes: &'a [u8],
+    options: &'a ParseOptions,
+    start: Point,
+) -> Result<Tokenizer<'a>, Message>
+    requires { IsPlaced bytes.now start }
+    ensures { IfOk result (λ tokenizer. world tokenizer ≡ fresh bytes.now options.now start) }
+{
+    let mut tokenizer = Tokenizer::new(alloc, start, bytes, options);
+    let events = with_room(alloc, bytes)?;
+    let spare = with_room(alloc, bytes)?;
+    tokenizer.set_events(events, spare);
+    Ok(tokenizer)
+}
+
 /// Reads the lines of a text from a point on by flow, and then its content.
 ///
 /// An `Err` says that memory ran out.
@@ -110,7 +146,7 @@ fn read_flow<'a>(
     requires placed { IsPlaced bytes.now start }
     ensures { IfOk result (λ read. FlowReads bytes.now options.now start (found_in read.1) (world read.0)) }
 {
-    let mut tokenizer = Tokenizer::new(alloc, start, bytes, options);
+    let mut tokenizer = flow_tokenizer(alloc, bytes, options, start)?;
     let start = State::Next(StateName::Document(DocumentState::ContainerExistingBefore));
     let end = match push::<FlowTable>(&mut tokenizer, bytes.len(), start) {
         State::Error => return Err(Message),

@@ -8,7 +8,7 @@ call-requires c = flushed-frames _ _ _ _ _ c.in_ok-found.ensures
 
 pub returns : goal.returns
 returns c =
-    flow-reads-from _ c.args.bytes.now c.args.options.now c.args.start _ _ _ _ _ _ _ _ eq-turned c.new-tokenizer.ensures
-    refl
+    flow-reads-from _ c.args.bytes.now c.args.options.now c.args.start _ _ _ _ _ _ _ _ eq-turned
+    c.in_ok-tokenizer.ensures refl
     (omega (arith, c.requires.small)) (c.push.ensures.runs c.in_default.not-Error) c.in_ok-found.ensures
     c.in_ok-call.ensures.resolves
