@@ -23,7 +23,7 @@ REQUESTS = 60
 MOST: dict[str, tuple[int, int]] = {
     "paragraphs of long lines": (7, 12),
     "one long line": (99, 130),
-    "headings of some words": (45, 42),
+    "headings of some words": (37, 42),
     "quotes of long lines": (35, 512),
     "quotes in quotes in quotes": (35, 512),
     "blank lines": (682, 5_492),
