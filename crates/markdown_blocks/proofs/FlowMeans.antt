@@ -69,7 +69,7 @@ use Rattle.markdown_blocks.proofs.Openers as opening
 use Rattle.markdown_blocks.proofs.Openers.{left-front}
 use Rattle.markdown_blocks.proofs.States.{flow_does}
 use Rattle.markdown_blocks.proofs.Trials.{left-before, left-next}
-use Rattle.markdown_blocks.proofs.Registry.{construct-steps, container-states, leaf-states, opener-before, tried-before, white_has}
+use Rattle.markdown_blocks.proofs.Registry.{HasTrial, is-tried, construct-steps, container-states, leaf-states, opener-before, tried-before, white_has}
 use Rattle.markdown_blocks.proofs.Registry.{container-laws, laws}
 
 -- an attempt that was begun here
@@ -306,19 +306,19 @@ flow-ends B options next has true cells h = has.leaves flow.LeafAfter cells h
 flow-ends B options next has false cells h = has.leaves flow.After cells h
 
 before_steps : (l : LeafName) (B : Behaviour) (feed : Feed) (w : World) (options : ParseOptions) (next : Rule) →
-    HasFlow B options next → Sees feed w → IsRest w.scratch →
+    HasTrial l → HasFlow B options next → Sees feed w → IsRest w.scratch →
     Steps B feed (Next (n.Flow (leaf l).before)) w (before_transition l w).to (before_transition l w).world
-before_steps l B feed w options next has s is =
+before_steps l B feed w options next tried_is has s is =
     let otherwise : Scratch → Flags → Outcome =
     λ s g. leaves_of options next (behind l) (feed w.point) (record (here w) { scratch = s; flags = g }) in
     trial_steps B feed w w.flags _ _ _ _ (may_with (leaf l).may_begin (looks_behind w)) (record {
       onward = behind_leaf (leaf l).ends next;
       otherwise = otherwise;
       from_is =
-          has.leaves (leaf l).before _ _ ∙ left-before options next l _ _
+          has.leaves (leaf l).before _ _ ∙ left-before options next l _ _ tried_is
           ∙ ap (λ (o : Outcome). tried o (behind_leaf (leaf l).ends next) otherwise) (sym (has.starts l _ _));
       ok_is = flow-ends B options next has (leaf l).ends;
-      nok_is = λ s g. has.leaves (next_of l) _ _ ∙ left-next options next l _ _;
+      nok_is = λ s g. has.leaves (next_of l) _ _ ∙ left-next options next l _ _ tried_is;
       looked = λ no.
           let first = refused-first (leaf l).may_begin feed w s no in
           has.starts l _ _
@@ -469,7 +469,7 @@ leaf_steps B feed next state None e w has s at = absurd at
 leaf_steps B feed next state (Some l) e w has s at =
     let P : FlowState →
     Type 0 = λ x. Steps B feed (Next (n.Flow x)) w (before_transition l w).to (before_transition l w).world in
-    subst P (tried-before state l e) (before_steps l B feed w _ _ has s at.0.0)
+    subst P (tried-before state l e) (before_steps l B feed w _ _ (is-tried state l e) has s at.0.0)
 
 -- and those in front of none, or behind it
 leaves_steps : (B : Behaviour) (feed : Feed) (next : Rule) (state : FlowState) (w : World) →

@@ -45,7 +45,7 @@ use Rattle.markdown_blocks.specs.Registry.{LeafName, container_rules, front_of, 
 use Rattle.markdown_blocks.specs.Registry.{next_opener, opener_at, opener_front, openers, opens_with}
 use Rattle.markdown_blocks.specs.Registry.{trials, tried_at}
 use Rattle.markdown_blocks.specs.States.{FlowStep, flow_transition}
-use Rattle.markdown_blocks.proofs.Registry.{NextIs, NextOpener, container-states, leaf-states}
+use Rattle.markdown_blocks.proofs.Registry.{NextIs, NextOpener, container-states, leaf-next}
 
 -- a byte that is no whitespace stands first behind whitespace
 looks-dark : (w : World) (b : ℕ) → w.current ≡ Some b → is_white b ≡ false → looks_behind w ≡ Some b
@@ -135,11 +135,11 @@ leaves-refuse is_name is_end s v [] w next none seen within came = came
 leaves-refuse is_name is_end s v (l ∷ ls) w next none seen within came =
     let x : FlowState = (leaf l).before in
     let is : flow_own_transition x w ≡ record { to = Retry (n.Flow (front_of ls)); world = w } =
-    at-leaf x l w (leaf-states l).tried
+    at-leaf x l w next.0
     ∙ ap (trial_code (leaf l).start (n.Flow (leaf_end (leaf l).ends)) (n.Flow (next_of l)) w)
     (refused-first (λ (m : LeafName). (leaf m).may_begin) l ls w none)
-    ∙ ap (λ (ms : List LeafName). record { to = Retry (n.Flow (front_of ms)); world = w }) next in
-    leaves-refuse is_name is_end s v ls w (subst NextIs next (leaf-states l).next)
+    ∙ ap (λ (ms : List LeafName). record { to = Retry (n.Flow (front_of ms)); world = w }) next.1 in
+    leaves-refuse is_name is_end s v ls w (subst NextIs next.1 (leaf-next l next.0))
     (refused-rest (λ (m : LeafName). (leaf m).may_begin) l ls w w refl none) seen within
     (then-stays (FlowStep is_name) is_end s v (n.Flow x) (n.Flow (front_of ls)) w w came
     (record { to_is = sym (ap (λ (y : Transition). y.to) is); new_is = sym (ap (λ (y : Transition). y.world) is) }) refl
@@ -254,7 +254,7 @@ pub passes-leaves : (is_name : ResolveName → ResolveName → Bool) (is_end : B
     CameTo (FlowStep is_name) is_end s v (n.Flow (front_of trials)) w →
     CameTo (FlowStep is_name) is_end s v (n.Flow flow.BeforeContent) w
 passes-leaves is_name is_end s v w e seen within came =
-    leaves-refuse is_name is_end s v trials w refl (begins-none w e) seen within came
+    leaves-refuse is_name is_end s v trials w (refl, refl) (begins-none w e) seen within came
 
 -- What a call leaves: where it stays, it has gone nowhere, and the text is the same.
 abbrev pub Leaves : Transition → World → Type 0

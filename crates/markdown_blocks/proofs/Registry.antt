@@ -144,16 +144,25 @@ tried-before flow.BeforeHeadingAtx HeadingAtx e = refl
 tried-before flow.BeforeThematicBreak ThematicBreak e = refl
 tried-before _ _ e = cc
 
+-- whether a leaf is tried at the state in front of it: one that takes further lines alone is not
+abbrev pub HasTrial : LeafName → Type 0
+HasTrial l = tried_at (leaf l).before ≡ Some l
+
+pub is-tried : (state : FlowState) (l : LeafName) → tried_at state ≡ Some l → HasTrial l
+is-tried state l e = ap tried_at (tried-before state l e) ∙ e
+
 -- those behind a leaf are tried behind the first of them, but for it
 abbrev pub NextIs : List LeafName → Type 0
 NextIs [] = Unit {0}
-NextIs (m ∷ ms) = behind m ≡ ms
+NextIs (m ∷ ms) = HasTrial m × (behind m ≡ ms)
 
--- what the table has of a leaf: where it is tried, and what is tried next; that its first state is ready at rest, of a
--- lower level than flow; and that its trial is left there
+pub leaf-next : (l : LeafName) → HasTrial l → NextIs (behind l)
+leaf-next HeadingAtx is = (refl, refl)
+leaf-next ThematicBreak is = tt
+
+-- what the table has of a leaf: that its first state is ready at rest, of a lower level than flow; and that its trial is
+-- left there
 pub record LeafStates (l : LeafName) : Type 1 where
-  pub tried : tried_at (leaf l).before ≡ Some l
-  pub next : NextIs (behind l)
   pub level : (flow_owner (leaf l).start).level (leaf l).start < 3
   pub ready : (x : Spot) (K : After) → rest_ready x K → (flow_owner (leaf l).start).ready (leaf l).start x K
   pub starts : (options : ParseOptions) (next : Rule) (cells : List Cell) (h : Here) →
@@ -161,15 +170,9 @@ pub record LeafStates (l : LeafName) : Type 1 where
 
 pub leaf-states : (l : LeafName) → LeafStates l
 leaf-states HeadingAtx =
-    record {
-      tried = refl;
-      next = refl;
-      level = omega arith;
-      ready = λ x K is. is;
-      starts = λ options next cells h. refl;
-    }
+    record { level = omega arith; ready = λ x K is. is; starts = λ options next cells h. refl }
 leaf-states ThematicBreak =
-    record { tried = refl; next = tt; level = omega arith; ready = λ x K is. is; starts = λ options next cells h. refl }
+    record { level = omega arith; ready = λ x K is. is; starts = λ options next cells h. refl }
 
 -- none is asked first where no leaf is open, or text
 pub insider-none : insider held_leaf.None ≡ None

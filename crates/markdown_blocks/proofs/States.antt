@@ -29,7 +29,7 @@ use Rattle.markdown_blocks.proofs.Goods as goods
 use Rattle.markdown_blocks.proofs.Goods.{FlowFits}
 use Rattle.markdown_blocks.proofs.Openers.{opener-fits}
 use Rattle.markdown_blocks.proofs.Trials.{inside_fits, leaf-fits}
-use Rattle.markdown_blocks.proofs.Registry.{blank_fits, construct-does, container-states, opener-before, tried-before}
+use Rattle.markdown_blocks.proofs.Registry.{blank_fits, construct-does, container-states, opener-before, tried-before, is-tried}
 use Rattle.markdown_blocks.proofs.Registry.{white_fits}
 
 chunk_fits : ChunkFits flow_table_scheme
@@ -86,7 +86,7 @@ leaf_does : (state : FlowState) (o : Option LeafName) → tried_at state ≡ o �
 leaf_does state None e w at = absurd at
 leaf_does state (Some l) e w at =
     let P : FlowState → Type 0 = λ x. Does flow_table_scheme (n.Flow x) w (before_transition l w) in
-    subst P (tried-before state l e) (goods.good_before flow_table_scheme l w flow_fits (leaf-fits l) at)
+    subst P (tried-before state l e) (goods.good_before flow_table_scheme l w flow_fits (leaf-fits l (is-tried state l e)) at)
 
 -- and those in front of none, or behind it
 leaves_do : (state : FlowState) (w : World) → stands flow_table_scheme w (Next (n.Flow state)) →

@@ -13,7 +13,7 @@ use Rattle.markdown_blocks.specs.FlowRule.{Rule, leaf_behaves, leaves_behave, le
 use Rattle.markdown_blocks.specs.Registry.{LeafName, behind, front_of, leaf, next_of, rank_of, tried_at, tries_of}
 use Rattle.markdown_blocks.specs.States.{flow_owner, flow_table_scheme, leaf_owner, leaves_owner}
 use Rattle.markdown_blocks.proofs.Goods.{InsideFits, LeafFits}
-use Rattle.markdown_blocks.proofs.Registry.{NextIs, leaf-states}
+use Rattle.markdown_blocks.proofs.Registry.{HasTrial, NextIs, leaf-next, leaf-states}
 
 -- A state where a leaf is tried: whose it is, its rank and tries, and what is left there.
 
@@ -52,30 +52,30 @@ left-tried options next _ l cells h e = ap (λ (o : Option LeafName). leaf_behav
 
 -- What is left in front of a leaf, and in front of the next.
 
-pub left-before : (options : ParseOptions) (next : Rule) (l : LeafName) (cells : List Cell) (h : Here) →
+pub left-before : (options : ParseOptions) (next : Rule) (l : LeafName) (cells : List Cell) (h : Here) → HasTrial l →
     leaves_behave options next (leaf l).before cells h ≡ leaves_of options next (l ∷ behind l) cells h
-left-before options next l cells h = left-tried options next (leaf l).before l cells h (leaf-states l).tried
+left-before options next l cells h is = left-tried options next (leaf l).before l cells h is
 
 left-front : (options : ParseOptions) (next : Rule) (ls : List LeafName) (cells : List Cell) (h : Here) → NextIs ls →
     leaves_behave options next (front_of ls) cells h ≡ leaves_of options next ls cells h
 left-front options next [] cells h is = refl
 left-front options next (m ∷ ms) cells h is =
-    left-before options next m cells h ∙ ap (λ (ks : List LeafName). leaves_of options next (m ∷ ks) cells h) is
+    left-before options next m cells h is.0 ∙ ap (λ (ks : List LeafName). leaves_of options next (m ∷ ks) cells h) is.1
 
-pub left-next : (options : ParseOptions) (next : Rule) (l : LeafName) (cells : List Cell) (h : Here) →
+pub left-next : (options : ParseOptions) (next : Rule) (l : LeafName) (cells : List Cell) (h : Here) → HasTrial l →
     leaves_behave options next (next_of l) cells h ≡ leaves_of options next (behind l) cells h
-left-next options next l cells h = left-front options next (behind l) cells h (leaf-states l).next
+left-next options next l cells h is = left-front options next (behind l) cells h (leaf-next l is)
 
 -- Its place in the table.
 
-fits-before : (l : LeafName) → Fits flow_table_scheme flow_scheme (n.Flow (leaf l).before)
-fits-before l =
+fits-before : (l : LeafName) → HasTrial l → Fits flow_table_scheme flow_scheme (n.Flow (leaf l).before)
+fits-before l is =
     let P : Scheme → Type 1 = λ S. Fits flow_table_scheme S (n.Flow (leaf l).before) in
-    subst P (owned (leaf l).before l (leaf-states l).tried) (fits flow_owner (n.Flow (leaf l).before))
+    subst P (owned (leaf l).before l is) (fits flow_owner (n.Flow (leaf l).before))
 
-fits-front : (ls : List LeafName) → Fits flow_table_scheme flow_scheme (n.Flow (front_of ls))
-fits-front [] = fits flow_owner (n.Flow flow.BeforeContent)
-fits-front (m ∷ ms) = fits-before m
+fits-front : (ls : List LeafName) → NextIs ls → Fits flow_table_scheme flow_scheme (n.Flow (front_of ls))
+fits-front [] is = fits flow_owner (n.Flow flow.BeforeContent)
+fits-front (m ∷ ms) is = fits-before m is.0
 
 -- the next state has less tries than this one has rank, and more than its own
 record Falls (l : LeafName) (next : FlowState) : Type 0 where
@@ -83,22 +83,22 @@ record Falls (l : LeafName) (next : FlowState) : Type 0 where
   next_low : (flow_rank (n.Flow next)).number < (flow_tries (n.Flow next)).number
   behind_low : 1 < (flow_tries (n.Flow next)).number
 
-falls-to : (l : LeafName) (ls : List LeafName) → behind l ≡ ls → NextIs ls → Falls l (front_of ls)
-falls-to l ls e is = go ls (ap length e) is
+falls-to : (l : LeafName) (ls : List LeafName) → HasTrial l → behind l ≡ ls → NextIs ls → Falls l (front_of ls)
+falls-to l ls tried e is = go ls (ap length e) is
   where
-    rank : (k : LeafName) → (flow_rank (n.Flow (leaf k).before)).number ≡ 6 + 2 * length (behind k)
-    rank k = ap (λ (x : Rank). x.number) (rank-is (leaf k).before k (leaf-states k).tried)
+    rank : (k : LeafName) → HasTrial k → (flow_rank (n.Flow (leaf k).before)).number ≡ 6 + 2 * length (behind k)
+    rank k t = ap (λ (x : Rank). x.number) (rank-is (leaf k).before k t)
 
     go : (ls : List LeafName) → length (behind l) ≡ length ls → NextIs ls → Falls l (front_of ls)
     go [] size is =
-        let here = rank l in
+        let here = rank l tried in
         record { falls = omega (arith, here, size); next_low = omega arith; behind_low = omega arith }
     go (m ∷ ms) size is =
-        let here = rank l in
-        let low = rank m in
+        let here = rank l tried in
+        let low = rank m is.0 in
         let tries : (flow_tries (n.Flow (leaf m).before)).number ≡ suc (6 + 2 * length (behind m)) =
-        ap (λ (x : Rank). x.number) (tries-are (leaf m).before m (leaf-states m).tried) in
-        let less = ap length is in
+        ap (λ (x : Rank). x.number) (tries-are (leaf m).before m is.0) in
+        let less = ap length is.1 in
         record {
           falls = omega (arith, here, tries, less, size);
           next_low = omega (arith, low, tries);
@@ -114,16 +114,16 @@ inside_fits l = record {
   ready = (leaf-states l).ready;
 }
 
-pub leaf-fits : (l : LeafName) → LeafFits flow_table_scheme l
-leaf-fits l =
-    let falls = falls-to l (behind l) refl (leaf-states l).next in
+pub leaf-fits : (l : LeafName) → HasTrial l → LeafFits flow_table_scheme l
+leaf-fits l is =
+    let falls = falls-to l (behind l) is refl (leaf-next l is) in
     record {
       own = flow_owner (leaf l).start;
       starts = fits flow_owner (leaf l).start;
       level = (leaf-states l).level;
       ready = (leaf-states l).ready;
-      front = fits-before l;
-      next = fits-front (behind l);
+      front = fits-before l is;
+      next = fits-front (behind l) (leaf-next l is);
       falls = falls.falls;
       next_low = falls.next_low;
       behind_low = falls.behind_low;

@@ -4,7 +4,7 @@ use Rattle.std.specs.Prelude.{ℕ, zero, suc, ◌-◌, Bool, false, if◌then◌
 use Rattle.md_engine.specs.declared.configuration.ParseOptions.{ParseOptions}
 use Rattle.md_engine.specs.declared.event.Point.{Point}
 use Rattle.md_definition.specs.Containers.{continues, opens}
-pub use Rattle.md_definition.specs.Rest.{cut_tab}
+pub use Rattle.markdown_blocks.specs.RestLine.{cut_tab, rest_line}
 use Rattle.md_definition.specs.Rest.{Rest}
 use Rattle.md_definition.specs.State.{Container}
 use Rattle.markdown_blocks.specs.Change.{Change, change_by, interrupts, met, others_of}
@@ -36,10 +36,6 @@ prefixes_new options interrupting (suc n) r = elim (opens options interrupting r
   | None ↦ no_prefix r
   | Some t ↦ one_more t.container (prefixes_new options false n t.rest)
 ]
-
--- as the rest of a line stands in the text: a tab that is cut is counted among its bytes
-abbrev pub rest_line : Rest → List ℕ
-rest_line r = cut_tab r.spaces ++ r.bytes
 
 -- a line that begins at a point
 abbrev pub rest_from : Point → List ℕ → Rest

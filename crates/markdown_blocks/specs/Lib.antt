@@ -3,6 +3,7 @@ pub mod Flow
 pub mod States
 pub mod Parsed
 pub mod Resolved
+pub mod RestLine
 pub mod FlowRule
 pub mod Change
 pub mod HeldLeaf

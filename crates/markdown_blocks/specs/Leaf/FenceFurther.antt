@@ -24,7 +24,7 @@ use Rattle.md_seam.specs.Events.Spelled.{columns_left}
 use Rattle.md_definition.specs.Leaves.{Came, Opened, closes, fence_goes_on, least_size}
 use Rattle.md_definition.specs.Rest.{Rest, indent, lose, run_len, trim_start, without_column}
 use Rattle.md_definition.specs.State.{Leaf, OpenFence, Opening, fence_block}
-use Rattle.markdown_blocks.specs.Fronted.{rest_line}
+use Rattle.markdown_blocks.specs.RestLine.{rest_line}
 use Rattle.markdown_blocks.specs.LineLeaf.{LineLeaf}
 
 -- What is held of the block.
