@@ -5,8 +5,7 @@ use Rattle.markdown_blocks.proofs.GroupLemmas.{no-span}
 use Rattle.markdown_blocks.specs.Rows.{Span}
 use Rattle.markdown_blocks.specs.Registry.{leaf}
 use Rattle.markdown_blocks.specs.Rows.{Span, is_further, onto_leaf}
-use Rattle.std.proofs.Common.{◌≢◌}
-use Rattle.std.specs.Prelude.{Option, Some, None}
+use Rattle.std.specs.Prelude.{Option, Some, None, not}
 use Rattle.md_engine.specs.declared.configuration.ParseOptions.{ParseOptions}
 use Rattle.md_engine.specs.declared.event.Event.{Event}
 use Rattle.md_engine.specs.declared.event.Name.{Name}
@@ -17,20 +16,21 @@ use Rattle.md_seam.specs.Events.Nested.{exit, pair}
 use Rattle.md_seam.specs.Events.Places.{first_point}
 use Rattle.md_definition.specs.Preamble.{has_mark}
 use Rattle.md_definition.specs.State.{Container}
-use Rattle.md_definition.specs.Rest.{Rest}
 use Rattle.md_definition.specs.Tree.{Block}
 use Rattle.md_seam.proofs.EndingsLemmas.{AreOthers, Leads, leads-append, others-append, others-lead}
 use Rattle.markdown_blocks.specs.Registry.{container_name, text_leaf}
 use Rattle.markdown_blocks.specs.Change.{ends_of}
 use Rattle.markdown_blocks.specs.Document.{body_point, mark_end, mark_events}
-use Rattle.markdown_blocks.specs.Rows.{final_row, first_row, group_done, group_kind, BlankRow, Group, Lines, Row}
+use Rattle.markdown_blocks.specs.Rows.{final_row, first_row, group_done, BlankRow, Group, Lines, Row}
 use Rattle.markdown_blocks.specs.Rows.{RowKind, Single, TextRow, ending_events, goes_on, group_events, groups}
-use Rattle.markdown_blocks.specs.Rows.{groups_events, onto_groups, tail_events, LeafRow, ending_of}
+use Rattle.markdown_blocks.specs.Rows.{groups_events, onto_groups, tail_events, LeafRow}
+use Rattle.markdown_blocks.specs.Rows.{group_ending, is_blank_group}
+use Rattle.markdown_blocks.specs.LineFlags.{ending_name}
 use Rattle.markdown_blocks.specs.Unread.{group_unread, listed_group, listed_groups}
 use Rattle.markdown_blocks.proofs.GroupLemmas.{AreGroups, EndsBeforeGroups, HasFront, IsSingle, groups-are, rows-end}
 use Rattle.markdown_blocks.proofs.JoinedLemmas.{EachEnds, EachNoContent, ending-is}
 use Rattle.markdown_blocks.proofs.RowFacts.{AreRows}
-use Rattle.markdown_blocks.proofs.RowLeaf.{block_of, fills, row-facts}
+use Rattle.markdown_blocks.proofs.RowLeaf.{block_of, row-facts}
 use Rattle.markdown_blocks.proofs.FrontStands.{container-others, fronts-others}
 use Rattle.markdown_blocks.proofs.GroupFacts.{group-front, more-groups}
 use Rattle.markdown_blocks.proofs.Text.Facts.{kept-of, text-facts}
@@ -93,7 +93,7 @@ groups-ended (row ∷ below ∷ rows) h =
 -- the events of groups, by what stands in the place of each
 abbrev group_with : (Group → List Event) → Group → List Event
 group_with leaf group =
-    (first_row group).front ++ leaf group ++ tail_events (ending_of (group_kind group)) (final_row group)
+    (first_row group).front ++ leaf group ++ tail_events (group_ending group) (final_row group)
 
 abbrev groups_with : (Group → List Event) → List Group → List Event
 groups_with leaf [] = []
@@ -108,17 +108,19 @@ read-with : (bytes : List ℕ) (gs : List Group) → groups_with (group_done byt
 read-with bytes [] = refl
 read-with bytes (group ∷ gs) = ap (λ (l : List Event). group_events bytes group ++ l) (read-with bytes gs)
 
--- What is known of the leaf of a group: whether it shows a block, and that an ending with its name may stand behind it.
+-- What is known of the leaf of a group: the block that it shows, if it shows one.
 record LeafEnds (bytes : List ℕ) (group : Group) : Type 0 where
   block : Option Block
-  filled : Bool
-  facts : LeafFacts bytes block filled (first_row group).first (final_row group).end (group_unread bytes group)
-      (group_done bytes group)
-  ends : (p q : Point) → Leads (spot_behind filled) line_start (pair (ending_of (group_kind group)) p q)
+  facts : LeafFacts bytes block (not (is_blank_group group)) (first_row group).first (final_row group).end
+      (group_unread bytes group) (group_done bytes group)
+
+-- where the line stands behind it
+abbrev behind_group : Group → Spot
+behind_group group = spot_behind (not (is_blank_group group))
 
 -- What stands in the place of a group.
 abbrev Within : List ℕ → (Group → List Event) → Type 0
-Within bytes leaf = (group : Group) → (is : LeafEnds bytes group) → Leads line_start (spot_behind is.filled) (leaf group)
+Within bytes leaf = (group : Group) → LeafEnds bytes group → Leads line_start (behind_group group) (leaf group)
 
 -- groups whose endings stand
 abbrev Stand : (Group → List Event) → List Group → Type 0
@@ -166,12 +168,10 @@ spot-filled : (filled : Bool) → is_filled (spot_behind filled) ≡ (spot_behin
 spot-filled true = refl
 spot-filled false = refl
 
--- and ends as its kind says
-ending-leads : (kind : RowKind) (p q : Point) → kind ≢ TextRow →
-    Leads (spot_behind (fills kind)) line_start (pair (ending_of kind) p q)
-ending-leads BlankRow p q other ys = refl
-ending-leads (LeafRow l) p q other ys = refl
-ending-leads TextRow p q other ys = absurd (other refl)
+-- and ends with the name of this
+ending-leads : (blank : Bool) (p q : Point) → Leads (spot_behind (not blank)) line_start (pair (ending_name blank) p q)
+ending-leads true p q ys = refl
+ending-leads false p q ys = refl
 
 -- the leaf of each group is such
 group-ends : (options : ParseOptions) (bytes : List ℕ) (group : Group) (gs : List Group) →
@@ -180,17 +180,13 @@ group-ends options bytes (Single row) gs are =
     let is : IsSingle options bytes row = are.0 in
     record {
       block = block_of row.kind is.is.rest;
-      filled = fills row.kind;
       facts = row-facts options bytes is.line row is.is is.other;
-      ends = λ p q. ending-leads row.kind p q is.other;
     }
 group-ends options bytes (Span row rows) gs are = absurd (no-span options bytes row rows are.0)
 group-ends options bytes (Lines row rows) gs are =
     record {
       block = Some (text_leaf.block (texts (kept-of options bytes row rows are.0)));
-      filled = true;
       facts = text-facts options bytes row rows are.0;
-      ends = λ p q ys. refl;
     }
 
 groups-stand : (options : ParseOptions) (bytes : List ℕ) (leaf : Group → List Event) (gs : List Group) →
@@ -198,9 +194,9 @@ groups-stand : (options : ParseOptions) (bytes : List ℕ) (leaf : Group → Lis
 groups-stand options bytes leaf [] within are ended = refl
 groups-stand options bytes leaf (group ∷ gs) within are ended =
     let is : LeafEnds bytes group = group-ends options bytes group gs are in
-    line-stands bytes leaf (spot_behind is.filled) (ending_of (group_kind group)) (first_row group) (final_row group)
+    line-stands bytes leaf (behind_group group) (group_ending group) (first_row group) (final_row group)
     (leaf group) gs (group-front options bytes group gs are) (within group is)
-    (spot-filled is.filled) is.ends ended.0
+    (spot-filled (not (is_blank_group group))) (ending-leads (is_blank_group group)) ended.0
     (groups-stand options bytes leaf gs within (more-groups options bytes group gs are) ended.1)
 
 -- The events of a text.

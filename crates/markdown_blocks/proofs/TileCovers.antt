@@ -95,7 +95,8 @@ Covered bytes row = row.kind ≢ TextRow → Tiled row.first row.end (leaf_unrea
 single-laid : (bytes : List ℕ) (row : Row) (p : Point) → Tiled p row.first row.front →
     Tiled row.first row.end (leaf_unread bytes row.kind row) →
     Follows p (behind_row row) (listed_row_by bytes row.kind row)
-single-laid bytes row p front h = line-covers (ending_of row.kind) row row p (leaf_unread bytes row.kind row) front h
+single-laid bytes row p front h =
+    line-covers (ending_of row.kind row) row row p (leaf_unread bytes row.kind row) front h
 
 -- a line in front of others
 onto-laid : (bytes : List ℕ) (row : Row) (p end : Point) (gs : List Group) → Tiled p row.first row.front →
