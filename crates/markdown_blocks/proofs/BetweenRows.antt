@@ -13,8 +13,8 @@ use Rattle.md_definition.specs.State.{Container}
 use Rattle.md_outline.specs.Between.{is_between}
 use Rattle.markdown_blocks.specs.Change.{ends_of}
 use Rattle.markdown_blocks.specs.Fronted.{contained, rest_from, rest_line}
-use Rattle.markdown_blocks.specs.Rows.{final_row, first_row, group_done, group_events, group_kind}
-use Rattle.markdown_blocks.specs.Rows.{ending_of, Group, Lines, Row, Single, behind_row, ending_events, groups}
+use Rattle.markdown_blocks.specs.Rows.{final_row, first_row, group_done, group_events}
+use Rattle.markdown_blocks.specs.Rows.{Group, Lines, Row, Single, behind_row, ending_events, groups}
 use Rattle.markdown_blocks.specs.Rows.{groups_events, tail_events}
 use Rattle.markdown_blocks.proofs.EachRow.{EachGroup, EachRow, OfGroup, groups-each, last-each}
 use Rattle.markdown_blocks.proofs.FrontStands.{fronts-between}
@@ -24,6 +24,7 @@ use Rattle.markdown_blocks.proofs.RowFacts.{AreRows, IsLine, IsRow, behind_line}
 use Rattle.markdown_blocks.proofs.BetweenFacts.{AreBetween, between-append, between-end, between-more, between-pair}
 use Rattle.markdown_blocks.proofs.BetweenFacts.{ending-before, ending-behind}
 use Rattle.markdown_blocks.specs.Registry.{container_name}
+use Rattle.markdown_blocks.specs.Rows.{group_ending}
 
 -- Lines.
 
@@ -88,7 +89,7 @@ between-by_groups bytes = record {
       let first : RowBetween bytes row = first-between bytes group h.0 in
       let last : RowBetween bytes (final_row group) = final-between bytes group h.0 in
       between-append bytes (group_events bytes group) (groups_events bytes gs)
-      (line-between bytes (ending_of (group_kind group)) row.front (group_done bytes group) (final_row group) last
+      (line-between bytes (group_ending group) row.front (group_done bytes group) (final_row group) last
       (fronts-between bytes row.change.opens p row.first row.front from o.front).0
       (o.leaf.2.between first.first last.end))
       (on last.behind h.1);

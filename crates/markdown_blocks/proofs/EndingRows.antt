@@ -1,15 +1,13 @@
 -- The endings of blank lines are told from others, before the text of a document is read and once it is.
 use Rattle.md_engine.specs.declared.tokenizer.held_leaf.HeldLeaf.TheVariants as held_leaf
 use Rattle.std.proofs.Common.{◌≡◌, ℕ, Bool, true, false, cond, List, [], ◌∷◌, ◌++◌, refl, ap, sym, ◌∙◌, append_assoc}
+use Rattle.std.proofs.Common.{subst}
 use Rattle.markdown_blocks.proofs.GroupFacts.{span-block, span-leaf}
-use Rattle.markdown_blocks.proofs.GroupsAre.{AreSpan, span-begins}
-use Rattle.markdown_blocks.proofs.Registry.{leaf-ends}
-use Rattle.markdown_blocks.specs.Rows.{is_empty_row, last_row}
-use Rattle.std.specs.Prelude.{not}
+use Rattle.markdown_blocks.proofs.GroupsAre.{AreSpan}
+use Rattle.markdown_blocks.specs.Rows.{is_blank_by, is_empty_row, last_row}
 use Rattle.markdown_blocks.specs.Registry.{leaf}
 use Rattle.markdown_blocks.specs.Rows.{Span, is_further, onto_leaf}
-use Rattle.std.proofs.Common.{◌≢◌}
-use Rattle.std.specs.Prelude.{Option, Some, None}
+use Rattle.std.specs.Prelude.{Option, Some, None, not}
 use Rattle.md_engine.specs.declared.configuration.ParseOptions.{ParseOptions}
 use Rattle.md_engine.specs.declared.event.Event.{Event}
 use Rattle.md_engine.specs.declared.event.Name.{Name}
@@ -25,14 +23,16 @@ use Rattle.md_seam.proofs.EndingsLemmas.{AreOthers, Leads, leads-append, others-
 use Rattle.markdown_blocks.specs.Registry.{container_name, text_leaf}
 use Rattle.markdown_blocks.specs.Change.{ends_of}
 use Rattle.markdown_blocks.specs.Document.{body_point, mark_end, mark_events}
-use Rattle.markdown_blocks.specs.Rows.{final_row, first_row, group_done, group_kind, BlankRow, Group, Lines, Row}
+use Rattle.markdown_blocks.specs.Rows.{final_row, first_row, group_done, BlankRow, Group, Lines, Row}
 use Rattle.markdown_blocks.specs.Rows.{RowKind, Single, TextRow, ending_events, goes_on, group_events, groups}
-use Rattle.markdown_blocks.specs.Rows.{groups_events, onto_groups, tail_events, LeafRow, ending_of}
+use Rattle.markdown_blocks.specs.Rows.{groups_events, onto_groups, tail_events, LeafRow}
+use Rattle.markdown_blocks.specs.Rows.{group_ending, is_blank_group}
+use Rattle.markdown_blocks.specs.LineFlags.{ending_name}
 use Rattle.markdown_blocks.specs.Unread.{group_unread, listed_group, listed_groups}
 use Rattle.markdown_blocks.proofs.GroupLemmas.{AreGroups, EndsBeforeGroups, HasFront, IsSingle, groups-are, rows-end}
 use Rattle.markdown_blocks.proofs.JoinedLemmas.{EachEnds, EachNoContent, ending-is}
 use Rattle.markdown_blocks.proofs.RowFacts.{AreRows}
-use Rattle.markdown_blocks.proofs.RowLeaf.{block_of, fills, row-facts}
+use Rattle.markdown_blocks.proofs.RowLeaf.{block_of, row-facts}
 use Rattle.markdown_blocks.proofs.FrontStands.{container-others, fronts-others}
 use Rattle.markdown_blocks.proofs.GroupFacts.{group-front, more-groups}
 use Rattle.markdown_blocks.proofs.Text.Facts.{kept-of, text-facts}
@@ -95,7 +95,7 @@ groups-ended (row ∷ below ∷ rows) h =
 -- the events of groups, by what stands in the place of each
 abbrev group_with : (Group → List Event) → Group → List Event
 group_with leaf group =
-    (first_row group).front ++ leaf group ++ tail_events (ending_of (group_kind group)) (final_row group)
+    (first_row group).front ++ leaf group ++ tail_events (group_ending group) (final_row group)
 
 abbrev groups_with : (Group → List Event) → List Group → List Event
 groups_with leaf [] = []
@@ -110,17 +110,19 @@ read-with : (bytes : List ℕ) (gs : List Group) → groups_with (group_done byt
 read-with bytes [] = refl
 read-with bytes (group ∷ gs) = ap (λ (l : List Event). group_events bytes group ++ l) (read-with bytes gs)
 
--- What is known of the leaf of a group: whether it shows a block, and that an ending with its name may stand behind it.
+-- What is known of the leaf of a group: the block that it shows, if it shows one.
 record LeafEnds (bytes : List ℕ) (group : Group) : Type 0 where
   block : Option Block
-  filled : Bool
-  facts : LeafFacts bytes block filled (first_row group).first (final_row group).end (group_unread bytes group)
-      (group_done bytes group)
-  ends : (p q : Point) → Leads (spot_behind filled) line_start (pair (ending_of (group_kind group)) p q)
+  facts : LeafFacts bytes block (not (is_blank_group group)) (first_row group).first (final_row group).end
+      (group_unread bytes group) (group_done bytes group)
+
+-- where the line stands behind it
+abbrev behind_group : Group → Spot
+behind_group group = spot_behind (not (is_blank_group group))
 
 -- What stands in the place of a group.
 abbrev Within : List ℕ → (Group → List Event) → Type 0
-Within bytes leaf = (group : Group) → (is : LeafEnds bytes group) → Leads line_start (spot_behind is.filled) (leaf group)
+Within bytes leaf = (group : Group) → LeafEnds bytes group → Leads line_start (behind_group group) (leaf group)
 
 -- groups whose endings stand
 abbrev Stand : (Group → List Event) → List Group → Type 0
@@ -168,21 +170,16 @@ spot-filled : (filled : Bool) → is_filled (spot_behind filled) ≡ (spot_behin
 spot-filled true = refl
 spot-filled false = refl
 
--- and ends as its kind says
-ending-leads : (kind : RowKind) (p q : Point) → kind ≢ TextRow →
-    Leads (spot_behind (fills kind)) line_start (pair (ending_of kind) p q)
-ending-leads BlankRow p q other ys = refl
-ending-leads (LeafRow l) p q other ys = refl
-ending-leads TextRow p q other ys = absurd (other refl)
+-- and ends with the name of this
+ending-leads : (blank : Bool) (p q : Point) → Leads (spot_behind (not blank)) line_start (pair (ending_name blank) p q)
+ending-leads true p q ys = refl
+ending-leads false p q ys = refl
 
--- no leaf of several lines is built; behind one an ending has a name that says whether something stands on its line
-span-ends : (options : ParseOptions) (bytes : List ℕ) (row : Row) (rows : List Row) → AreSpan options bytes row rows →
-    (p q : Point) →
-    Leads (spot_behind (not (is_empty_row (last_row row rows)))) line_start
-    (pair (ending_of (group_kind (Span row rows))) p q)
-span-ends options bytes row rows are p q =
-    let is = span-begins options bytes row rows are in
-    let ends = leaf-ends is.name in let open_leaf = is.open_leaf in cc
+-- the lines of a leaf of several end as one on which something stands or not
+span-blank : (options : ParseOptions) (bytes : List ℕ) (row : Row) (rows : List Row) →
+    AreSpan options bytes row rows → is_blank_group (Span row rows) ≡ is_empty_row (last_row row rows)
+span-blank options bytes row [] are = ap (λ (kind : RowKind). is_blank_by kind row) are.kind ∙ are.is.empty
+span-blank options bytes row (next ∷ rows) are = span-blank options bytes next rows are.8
 
 -- the leaf of each group is such
 group-ends : (options : ParseOptions) (bytes : List ℕ) (group : Group) (gs : List Group) →
@@ -191,23 +188,21 @@ group-ends options bytes (Single row) gs are =
     let is : IsSingle options bytes row = are.0 in
     record {
       block = block_of row.kind is.is.rest;
-      filled = fills row.kind;
       facts = row-facts options bytes is.line row is.is is.other is.ends;
-      ends = λ p q. ending-leads row.kind p q is.other;
     }
 group-ends options bytes (Span row rows) gs are =
     record {
       block = Some (span-block options bytes row rows are.0);
-      filled = not (is_empty_row (last_row row rows));
-      facts = span-leaf options bytes row rows are.0 are.4;
-      ends = span-ends options bytes row rows are.0;
+      facts =
+          subst (λ (blank : Bool).
+          LeafFacts bytes (Some (span-block options bytes row rows are.0)) (not blank) row.first (last_row row rows).end
+          (group_unread bytes (Span row rows)) (group_done bytes (Span row rows)))
+          (sym (span-blank options bytes row rows are.0)) (span-leaf options bytes row rows are.0 are.4);
     }
 group-ends options bytes (Lines row rows) gs are =
     record {
       block = Some (text_leaf.block (texts (kept-of options bytes row rows are.0)));
-      filled = true;
       facts = text-facts options bytes row rows are.0;
-      ends = λ p q ys. refl;
     }
 
 groups-stand : (options : ParseOptions) (bytes : List ℕ) (leaf : Group → List Event) (gs : List Group) →
@@ -215,9 +210,9 @@ groups-stand : (options : ParseOptions) (bytes : List ℕ) (leaf : Group → Lis
 groups-stand options bytes leaf [] within are ended = refl
 groups-stand options bytes leaf (group ∷ gs) within are ended =
     let is : LeafEnds bytes group = group-ends options bytes group gs are in
-    line-stands bytes leaf (spot_behind is.filled) (ending_of (group_kind group)) (first_row group) (final_row group)
+    line-stands bytes leaf (behind_group group) (group_ending group) (first_row group) (final_row group)
     (leaf group) gs (group-front options bytes group gs are) (within group is)
-    (spot-filled is.filled) is.ends ended.0
+    (spot-filled (not (is_blank_group group))) (ending-leads (is_blank_group group)) ended.0
     (groups-stand options bytes leaf gs within (more-groups options bytes group gs are) ended.1)
 
 -- The events of a text.

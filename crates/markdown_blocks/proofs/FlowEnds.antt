@@ -2,7 +2,7 @@
 use Rattle.std.proofs.Common.{◌≡◌, ℕ, zero, suc, ◌<◌, ◌≤◌, Bool, true, false, List, [], ◌∷◌, length, Option, Some, None, refl, arith}
 use Rattle.std.specs.Option.{is_some}
 use Rattle.markdown_blocks.specs.Registry.{insider}
-use Rattle.markdown_blocks.specs.FlowRule.{all_on, inside_by, inside_of}
+use Rattle.markdown_blocks.specs.FlowRule.{all_on, blank_at_end, inside_by, inside_of}
 use Rattle.markdown_blocks.specs.FlowRule.{behind_leaf}
 use Rattle.md_engine.specs.declared.configuration.ParseOptions.{ParseOptions}
 use Rattle.md_engine.specs.declared.tokenizer.container.Container.{Container}
@@ -105,7 +105,8 @@ inside-finishes options next cells h ends = go (insider h.flags.leaf)
     go : (o : Option LeafName) → Finishes (inside_by options next o cells h)
     go None = leaf-finishes options next cells h ends
     go (Some l) =
-        tried-finishes _ (line_ended next) _ ((leaf l).trial options cells h) ((laws l).shrinks options cells h)
+        tried-finishes _ (line_ended next) _ ((leaf l).trial options cells (blank_at_end cells h))
+        ((laws l).shrinks options cells (blank_at_end cells h))
         (λ rest k at le. line_ended-finishes _ next ends rest k at le)
         (λ s g. leaf-finishes options next cells (record h { scratch = s; flags = g }) ends)
 

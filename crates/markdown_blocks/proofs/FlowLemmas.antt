@@ -2,7 +2,7 @@
 use Rattle.std.proofs.Common.{◌≡◌, ℕ, zero, suc, ◌<◌, ◌≤◌, Bool, true, false, cond, nat_eq, List, [], ◌∷◌, length, Option, Some, None}
 use Rattle.std.specs.Option.{is_some}
 use Rattle.markdown_blocks.specs.Registry.{insider}
-use Rattle.markdown_blocks.specs.FlowRule.{all_on, inside_by, inside_of}
+use Rattle.markdown_blocks.specs.FlowRule.{all_on, blank_at_end, inside_by, inside_of}
 use Rattle.markdown_blocks.specs.FlowRule.{behind_leaf}
 use Rattle.std.proofs.Common.{refl, ap, arith}
 use Rattle.md_engine.specs.declared.configuration.ParseOptions.{ParseOptions}
@@ -111,8 +111,9 @@ inside_of-same options f g cells h agree = go (insider h.flags.leaf)
     go : (o : Option LeafName) → inside_by options f o cells h ≡ inside_by options g o cells h
     go None = leaf_of-same options f g cells h agree
     go (Some l) =
-        tried-same _ (line_ended f) (line_ended g) (line_ended-same _ f g agree) ((leaf l).trial options cells h) _ _
-        ((laws l).shrinks options cells h)
+        tried-same _ (line_ended f) (line_ended g) (line_ended-same _ f g agree)
+        ((leaf l).trial options cells (blank_at_end cells h)) _ _
+        ((laws l).shrinks options cells (blank_at_end cells h))
         (λ s t. leaf_of-same options f g cells (record h { scratch = s; flags = t }) agree)
 
 behind_containers-same : (options : ParseOptions) (f g : Rule) (cells : List Cell) (h : Here) →

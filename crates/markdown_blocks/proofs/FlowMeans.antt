@@ -59,7 +59,7 @@ use Rattle.markdown_blocks.specs.FlowRule.{flow_at, leaves_of, line_ended, line_
 use Rattle.markdown_blocks.specs.FlowRule.{opened, openers_of}
 use Rattle.markdown_blocks.specs.FlowRule.{tried}
 use Rattle.markdown_blocks.specs.LineFlags as flags
-use Rattle.markdown_blocks.specs.LineFlags.{asking, ending_name, next_container, next_line, went_on}
+use Rattle.markdown_blocks.specs.LineFlags.{asking, blank_here, ending_name, next_container, next_line, went_on}
 use Rattle.markdown_blocks.specs.States.{FlowStep, flow_behaves, flow_behaves_by, flow_table_scheme, flow_transition}
 use Rattle.markdown_blocks.specs.States.{leaf_owner, opener_owner}
 use Rattle.markdown_blocks.specs.Registry.{behind, container_rules, front_of, leaf, LeafName, may_go_on, may_open, next_of}
@@ -239,22 +239,27 @@ containers_after_steps B feed w options next has =
     (has.containers document.ContainersAfter _ _ ∙ sym (front_left B options next has _ _))
 
 inside_steps : (B : Behaviour) (feed : Feed) (w : World) (options : ParseOptions) (next : Rule) (o : Option LeafName) →
-    HasFlow B options next → insider w.flags.leaf ≡ o →
+    HasFlow B options next → Sees feed w → insider w.flags.leaf ≡ o →
     Steps B feed (Next (n.Document document.FlowInside)) w (inside_code w o).to (inside_code w o).world
-inside_steps B feed w options next None has e =
+inside_steps B feed w options next None has s e =
     passes B feed _ _ w w refl refl
     (has.containers document.FlowInside _ _
     ∙ ap (λ (o : Option LeafName). inside_by options next o (feed w.point) (here w)) e
     ∙ sym (has.leaves flow.Start _ _))
-inside_steps B feed w options next (Some l) has e =
+inside_steps B feed w options next (Some l) has s e =
     let otherwise : Scratch → Flags → Outcome =
     λ s g. leaf_of options next (feed w.point) (record (here w) { scratch = s; flags = g }) in
-    trial_steps B feed w w.flags _ _ _ _ true (record {
+    trial_steps B feed w (blank_here (ends_line w.current) w.flags) _ _ _ _ true (record {
       onward = line_ended next;
       otherwise = otherwise;
       from_is =
           has.containers document.FlowInside _ _
           ∙ ap (λ (o : Option LeafName). inside_by options next o (feed w.point) (here w)) e
+          ∙ ap
+          (λ (ends : Bool).
+          tried
+          ((leaf l).trial options (feed w.point) (record (here w) { flags = blank_here ends w.flags }))
+          (line_ended next) otherwise) (ap ends_line (first-seen feed w s))
           ∙ ap (λ (o : Outcome). tried o (line_ended next) otherwise) (sym (has.starts l _ _));
       ok_is = has.leaves flow.After;
       nok_is = λ s g. has.leaves flow.Start _ _;
@@ -452,7 +457,7 @@ containers_steps B feed next document.ContainerExistingAfter w has s at on = exi
 containers_steps B feed next document.ContainerNewAfter w has s at on =
     new_after_steps B feed w _ _ has (outermost-frames flow_table_scheme w.frames at.1)
 containers_steps B feed next document.ContainersAfter w has s at on = containers_after_steps B feed w _ _ has
-containers_steps B feed next document.FlowInside w has s at on = inside_steps B feed w _ _ _ has refl
+containers_steps B feed next document.FlowInside w has s at on = inside_steps B feed w _ _ _ has s refl
 containers_steps B feed next document.FlowEnd w has s at on =
     flow_end_steps B feed w _ _ has s (outermost-frames flow_table_scheme w.frames at.1) on
 containers_steps B feed next document.Start w has s at on = absurd at

@@ -6,7 +6,7 @@ use Rattle.std.proofs.Common.{◌≡◌, ℕ, zero, suc, ◌+◌, ◌<◌, ◌�
 use Rattle.std.specs.Option.{is_some}
 use Rattle.markdown_blocks.specs.Rows.{inside_or, is_inside}
 use Rattle.markdown_blocks.specs.Registry.{insider}
-use Rattle.markdown_blocks.specs.FlowRule.{all_on, inside_by}
+use Rattle.markdown_blocks.specs.FlowRule.{all_on, blank_at_end, inside_by}
 use Rattle.markdown_blocks.specs.FlowRule.{inside_of as asked_inside}
 use Rattle.std.specs.Prelude.{not}
 use Rattle.markdown_blocks.specs.Rows.{behind_held}
@@ -56,7 +56,7 @@ use Rattle.markdown_blocks.specs.Registry.{goes_over, opens_at, opens_by, trials
 use Rattle.markdown_blocks.specs.Rows.{leaf_behind, BlankRow, Front, Held, LeafRow, Row, RowKind, TextRow, after_ending}
 use Rattle.markdown_blocks.specs.Rows.{closes_before, ending_of, held_at, held_by, held_of, in_front, inside_of}
 use Rattle.markdown_blocks.specs.Rows.{is_lazy, is_text, kind_of, leaf_events, new_front, no_front, row_events}
-use Rattle.markdown_blocks.specs.Rows.{row_kind, row_of, rows_at, rows_events, went_front}
+use Rattle.markdown_blocks.specs.Rows.{is_blank_by, row_kind, row_of, rows_at, rows_events, went_front}
 use Rattle.markdown_blocks.specs.Stands.{AreOpen}
 use Rattle.markdown_blocks.proofs.ContainedLemmas.{lazy-some}
 use Rattle.markdown_blocks.proofs.FromEnding.{from_ending-shrinks}
@@ -72,10 +72,11 @@ abbrev pub added_by : ParseOptions → HeldLeaf → List Cell → Point → RowK
 added_by options on cells p TextRow = enter_link n.Content p content_link ∷ exit n.Content (line_end cells p) ∷ []
 added_by options on cells p kind = inside_of options on cells p kind
 
--- whether the line is blank, where it was known to be or not
-abbrev pub blank_by : RowKind → Bool → Bool
-blank_by BlankRow b = true
-blank_by _ b = b
+-- whether the line is blank to its ending
+abbrev pub blank_by : RowKind → List Cell → Bool
+blank_by BlankRow cells = true
+blank_by (LeafRow l) cells = ends_line (first_seen cells)
+blank_by TextRow cells = false
 
 -- behind it, where the flags say which leaf it meets
 abbrev leaf_here : ParseOptions → List Cell → Here → RowKind → Here
@@ -85,7 +86,7 @@ leaf_here options cells h k = record h {
   flags =
       record h.flags {
         leaf = leaf_behind options h.flags.leaf cells h.point k;
-        blank = blank_by k h.flags.blank;
+        blank = blank_by k cells;
       };
 }
 
@@ -103,7 +104,7 @@ kind-by options on cells x e = ap (λ (y : Bool). cond y BlankRow (kind_of (take
 
 -- behind a leaf that took a line, what is held is what it keeps: flow shuts one that always ends there
 leaf-left : (options : ParseOptions) (next : Rule) (l : LeafName) (cells : List Cell) (h : Here) (ends : Bool) →
-    (leaf l).ends ≡ ends →
+    h.flags.blank ≡ ends_line (first_seen cells) → (leaf l).ends ≡ ends →
     behind_leaf ends next (from_ending cells)
     (record h {
       events = h.events ++ (leaf l).adds options h.flags.leaf cells h.point;
@@ -113,25 +114,42 @@ leaf-left : (options : ParseOptions) (next : Rule) (l : LeafName) (cells : List 
       };
     }) ≡
     line_ended next (from_ending cells) (leaf_here options cells h (LeafRow l))
-leaf-left options next l cells h true e =
-    ap
-    (λ (kept : HeldLeaf).
+leaf-left options next l cells h true flag e =
+    ap₂
+    (λ (kept : HeldLeaf) (blank : Bool).
     line_ended next (from_ending cells)
     (record h {
       events = h.events ++ (leaf l).adds options h.flags.leaf cells h.point;
       point = line_end cells h.point;
-      flags = record h.flags { leaf = kept };
-    })) (sym (((laws l).shut e options h.flags.leaf).0 cells h.point))
-leaf-left options next l cells h false e = refl
+      flags = record h.flags { leaf = kept; blank = blank };
+    })) (sym (((laws l).shut e options h.flags.leaf).0 cells h.point)) flag
+leaf-left options next l cells h false flag e =
+    ap
+    (λ (blank : Bool).
+    line_ended next (from_ending cells)
+    (record h {
+      events = h.events ++ (leaf l).adds options h.flags.leaf cells h.point;
+      point = line_end cells h.point;
+      flags = record h.flags { leaf = (leaf l).keeps options h.flags.leaf cells h.point; blank = blank };
+    })) flag
 
 -- of leaves that are tried one after another, the first that takes the line has it; if none does, it is text
 leaves-are : (options : ParseOptions) (next : Rule) (ls : List LeafName) (cells : List Cell) (h : Here) →
-    IsRest h.scratch →
+    IsRest h.scratch → h.flags.blank ≡ false → ends_line (first_seen cells) ≡ false →
     leaves_of options next ls cells h ≡
     line_ended next (from_ending cells) (leaf_here options cells h (kind_of (taker options h.flags.leaf cells ls)))
-leaves-are options next [] cells h is = ap (λ (o : Outcome). tried o (line_ended next) Refuses) (chunk-took cells h)
-leaves-are options next (l ∷ ls) cells h is =
-    go ((leaf l).takes options h.flags.leaf cells) refl (leaves-are options next ls cells h is)
+leaves-are options next [] cells h is flag going =
+    ap (λ (o : Outcome). tried o (line_ended next) Refuses) (chunk-took cells h)
+    ∙ ap
+    (λ (blank : Bool).
+    line_ended next (from_ending cells)
+    (record h {
+      events = h.events ++ added_by options h.flags.leaf cells h.point TextRow;
+      point = line_end cells h.point;
+      flags = record h.flags { leaf = held_leaf.Text; blank = blank };
+    })) flag
+leaves-are options next (l ∷ ls) cells h is flag going =
+    go ((leaf l).takes options h.flags.leaf cells) refl (leaves-are options next ls cells h is flag going)
   where
     onward : Outcome → Outcome
     onward o =
@@ -149,14 +167,25 @@ leaves-are options next (l ∷ ls) cells h is =
         (leaf_here options cells h (kind_of (taker options h.flags.leaf cells ls))) →
         Done (cond x (Some l) (taker options h.flags.leaf cells ls))
     go true takes more =
-        ap onward ((laws l).took options cells h is takes) ∙ leaf-left options next l cells h (leaf l).ends refl
+        ap onward ((laws l).took options cells h is takes)
+        ∙ leaf-left options next l cells h (leaf l).ends (flag ∙ sym going) refl
     go false takes more = ap onward ((laws l).refused options cells h is takes) ∙ more
+
+-- something stands on a line that is not blank
+going-on : (cells : List Cell) → is_blank (line_bytes cells) ≡ false → ends_line (first_seen cells) ≡ false
+going-on [] e = cc
+going-on (c ∷ cs) e = go (nat_eq c.byte 10) refl e
+  where
+    go : (x : Bool) → nat_eq c.byte 10 ≡ x → is_blank (line_bytes (c ∷ cs)) ≡ false → x ≡ false
+    go true at e = cc
+    go false at e = refl
 
 -- the rest of a line is what its kind says, where no leaf is asked first,
 leaf-is : (options : ParseOptions) (next : Rule) (cells : List Cell) (h : Here) → IsRest h.scratch →
+    (is_blank (line_bytes cells) ≡ false → h.flags.blank ≡ false) →
     leaf_of options next cells h ≡
     line_ended next (from_ending cells) (leaf_here options cells h (outer_kind options h.flags.leaf cells))
-leaf-is options next cells h is = go (is_blank (line_bytes cells)) refl
+leaf-is options next cells h is flag = go (is_blank (line_bytes cells)) refl
   where
     onward : Outcome → Outcome
     onward o = tried o (blank_ended next) (λ s g. nonblank_of options next cells (record h { scratch = s; flags = g }))
@@ -168,14 +197,16 @@ leaf-is options next cells h is = go (is_blank (line_bytes cells)) refl
         leaf_of options next cells h ≡ behind (outer_kind options h.flags.leaf cells)
     go true e = ap onward (blank-took cells h e) ∙ ap behind (sym (kind-by options h.flags.leaf cells true e))
     go false e =
-        ap onward (blank-refused cells h e) ∙ leaves-are options next trials cells h is
+        ap onward (blank-refused cells h e)
+        ∙ leaves-are options next trials cells h is (flag e) (going-on cells e)
         ∙ ap behind (sym (kind-by options h.flags.leaf cells false e))
 
 -- and where one is
 inside-is : (options : ParseOptions) (next : Rule) (cells : List Cell) (h : Here) → IsRest h.scratch →
+    h.flags.blank ≡ false →
     asked_inside options next cells h ≡
     line_ended next (from_ending cells) (leaf_here options cells h (row_kind options h.flags.leaf cells))
-inside-is options next cells h is = by (insider h.flags.leaf) refl
+inside-is options next cells h is flag = by (insider h.flags.leaf) refl
   where
     other : RowKind
     other = outer_kind options h.flags.leaf cells
@@ -190,24 +221,29 @@ inside-is options next cells h is = by (insider h.flags.leaf) refl
     onward o = tried o (line_ended next) (λ s g. leaf_of options next cells (record h { scratch = s; flags = g }))
 
     by : (o : Option LeafName) → insider h.flags.leaf ≡ o → inside_by options next o cells h ≡ to (inside_or takes o other)
-    by None e = leaf-is options next cells h is
+    by None e = leaf-is options next cells h is (λ some. flag)
     by (Some l) e = go (takes l) refl
       where
         held : Bool → HeldLeaf
         held ends = left_open ends ((leaf l).keeps options h.flags.leaf cells h.point) h.flags.leaf
 
-        go : (t : Bool) → takes l ≡ t → onward ((leaf l).trial options cells h) ≡ to (cond t (LeafRow l) other)
+        here : Here
+        here = blank_at_end cells h
+
+        go : (t : Bool) → takes l ≡ t → onward ((leaf l).trial options cells here) ≡ to (cond t (LeafRow l) other)
         go true e' =
-            ap onward ((laws l).took options cells h is e')
+            ap onward ((laws l).took options cells here is e')
             ∙ ap
             (λ (ends : Bool).
             line_ended next (from_ending cells)
             (record h {
               events = h.events ++ (leaf l).adds options h.flags.leaf cells h.point;
               point = line_end cells h.point;
-              flags = record h.flags { leaf = held ends };
+              flags = record h.flags { leaf = held ends; blank = ends_line (first_seen cells) };
             })) (insider-open h.flags.leaf l e)
-        go false e' = ap onward ((laws l).refused options cells h is e') ∙ leaf-is options next cells h is
+        go false e' =
+            ap onward ((laws l).refused options cells here is e')
+            ∙ leaf-is options next cells here is (going-on cells)
 
 -- The containers that the tokenizer holds.
 
@@ -837,7 +873,7 @@ pub record Done (next : Rule) (options : ParseOptions) (front tail : List Event)
   pub point : new.point ≡ line_end x.cells x.point
   pub containers : AreOpen new.flags.containers (open_behind x.change)
   pub leaf : new.flags.leaf ≡ behind_held options x
-  pub blank : new.flags.blank ≡ blank_by (row_kind options x.on x.cells) false
+  pub blank : new.flags.blank ≡ blank_by (row_kind options x.on x.cells) x.cells
 
 -- behind the containers that went on
 record Between (front tail : List Event) (p : Point) (cs : List Container) (still : HeldLeaf) (w : Front)
@@ -904,12 +940,12 @@ abbrev met_here : HeldLeaf → Here → Here
 met_here on h = record h { flags = record h.flags { leaf_before = h.flags.leaf; leaf = on } }
 
 begun-is : (options : ParseOptions) (next : Rule) (cells : List Cell) (h : Here) (on : HeldLeaf) → IsRest h.scratch →
-    (begun_line h.flags).leaf ≡ on →
+    h.flags.blank ≡ false → (begun_line h.flags).leaf ≡ on →
     behind_containers options next cells h ≡
     line_ended next (from_ending cells) (leaf_here options cells (met_here on h) (row_kind options on cells))
-begun-is options next cells h on is meets =
+begun-is options next cells h on is flag meets =
     ap (λ (x : HeldLeaf). asked_inside options next cells (met_here x h)) meets
-    ∙ inside-is options next cells (met_here on h) is
+    ∙ inside-is options next cells (met_here on h) is flag
 
 -- those that stay, and those that end, are all that went on or did not
 change-parts : (x : Bool) (went others : List Container) → let c =
@@ -942,7 +978,9 @@ done-none : (options : ParseOptions) (next : Rule) (front tail : List Event) (p 
     (behind_containers options next cells h)
 done-none options next front tail p cs still w cells h b = record {
   new = ended_to keep leaf.flags.line_end leaf;
-  is = begun-is options next cells h on b.rest (meets-is still w.containers (others_of cs w.containers) h.flags b.leaf b.containers b.continued);
+  is =
+      begun-is options next cells h on b.rest b.blank
+      (meets-is still w.containers (others_of cs w.containers) h.flags b.leaf b.containers b.continued);
   rest = b.rest;
   events =
       closed-ends front tail
@@ -954,7 +992,7 @@ done-none options next front tail p cs still w cells h b = record {
       let P : List Container → Type 0 = λ l. AreOpen (take keep h.flags.containers) l in
       subst P (sym (change-none (is_lazy still [] k) w.containers (others_of cs w.containers))) parts.0;
   leaf = refl;
-  blank = ap (λ (x : Bool). blank_by k x) b.blank;
+  blank = refl;
 }
   where
     on : HeldLeaf
@@ -1005,7 +1043,7 @@ done-some options next front tail p cs still w f t h out b o =
       new = ended_to keep leaf.flags.line_end leaf;
       is =
           o.is
-          ∙ begun-is options next f.cells o.new held_leaf.None o.rest
+          ∙ begun-is options next f.cells o.new held_leaf.None o.rest (o.blank ∙ b.blank)
           (ap (met_by (not (nat_lt o.new.flags.continued (length o.new.flags.containers)))) o.leaf
           ∙ met-none (not (nat_lt o.new.flags.continued (length o.new.flags.containers))));
       rest = o.rest;
@@ -1019,7 +1057,7 @@ done-some options next front tail p cs still w f t h out b o =
           open-all keep o.new.flags.containers (w.containers ++ t.container ∷ f.containers) kept
           (subst Q (append_assoc w.containers (t.container ∷ []) f.containers) o.containers);
       leaf = ap (λ (q : Point). leaf_behind options held_leaf.None f.cells q k) o.point;
-      blank = ap (λ (x : Bool). blank_by k x) (o.blank ∙ b.blank);
+      blank = refl;
     })
   where
     k : RowKind
@@ -1208,6 +1246,10 @@ line-done options next front tail p cs still cells h b =
 
 -- Rows.
 
+-- a row behind which these containers end
+abbrev pub leaving : List Container → Row → Row
+leaving ls row = record row { leaves = ls }
+
 -- what a row says of its leaf is what is added
 leaf-added : (options : ParseOptions) (x : Held) (ls : List Container) (below : List Row) (k : RowKind) →
     leaf_events k (record (row_of options x below) { leaves = ls; inside = inside_of options x.on x.cells x.point k }) ≡
@@ -1216,10 +1258,11 @@ leaf-added options x ls below BlankRow = refl
 leaf-added options x ls below (LeafRow l) = refl
 leaf-added options x ls below TextRow = refl
 
-ending-named : (k : RowKind) → ending_name (blank_by k false) ≡ ending_of k
-ending-named BlankRow = refl
-ending-named (LeafRow l) = refl
-ending-named TextRow = refl
+ending-named : (options : ParseOptions) (x : Held) (ls : List Container) (below : List Row) (k : RowKind) →
+    blank_by k x.cells ≡ is_blank_by k (leaving ls (row_of options x below))
+ending-named options x ls below BlankRow = refl
+ending-named options x ls below (LeafRow l) = refl
+ending-named options x ls below TextRow = refl
 
 regroup-row : (front ends tail w added more ending rows : List Event) →
     (front ++ (ends ++ (tail ++ (w ++ added)))) ++ (more ++ (ending ++ rows)) ≡
@@ -1324,10 +1367,6 @@ ending-same : (name : Name) (p : Point) (left : List Cell) →
 ending-same name p [] = refl
 ending-same name p (c ∷ cs) = refl
 
--- a row behind which these containers end
-abbrev pub leaving : List Container → Row → Row
-leaving ls row = record row { leaves = ls }
-
 -- what a line added, the ends of containers and its ending are the events of its row
 pub row-adds : (next : Rule) (options : ParseOptions) (front tail : List Event) (p : Point) (x : Held) (o : Outcome)
     (d : Done next options front tail p x o) (ls : List Container) (left : List Cell) (below : List Row)
@@ -1340,19 +1379,23 @@ row-adds next options front tail p x o d ls left below more e =
     ∙ ap (λ (q : Point). d.new.events ++ behind (from_ending x.cells) q (ending_name d.new.flags.blank)) d.point
     ∙ ap₂
     (λ (es : List Event) (name : Name). es ++ behind (from_ending x.cells) (line_end x.cells x.point) name) d.events
-    (ap ending_name d.blank ∙ ending-named k)
+    (ap ending_name (d.blank ∙ ending-named options x ls below k))
     ∙ regroup-row front (ends_of x.change.closes p) tail x.front (added_by options x.on x.cells x.point k)
     (ends_of ls (line_end x.cells x.point))
-    (ending_here (ending_of k) (line_end x.cells x.point) (from_ending x.cells)) more
+    (ending_here (ending_of k row) (line_end x.cells x.point) (from_ending x.cells)) more
     ∙ ap₂
     (λ (a c : List Event).
     front
     ++ (ends_of x.change.closes p
     ++ (tail ++ (((x.front ++ a) ++ (ends_of ls (line_end x.cells x.point) ++ c)) ++ more))))
-    (sym (leaf-added options x ls below k)) (ending-same (ending_of k) (line_end x.cells x.point) (from_ending x.cells))
+    (sym (leaf-added options x ls below k))
+    (ending-same (ending_of k row) (line_end x.cells x.point) (from_ending x.cells))
   where
     k : RowKind
     k = row_kind options x.on x.cells
+
+    row : Row
+    row = leaving ls (row_of options x below)
 
     behind : List Cell → Point → Name → List Event
     behind cells q name = ends_of ls q ++ (ending_here name q cells ++ more)

@@ -9,7 +9,6 @@ use Rattle.std.specs.Prelude.{Option, Some, None}
 use Rattle.std.proofs.lemmas.Bool.{or_parts}
 use Rattle.md_engine.specs.declared.configuration.ParseOptions.{ParseOptions}
 use Rattle.md_engine.specs.declared.event.Content.{Content}
-use Rattle.md_engine.specs.declared.event.Content.TheVariants as content
 use Rattle.md_engine.specs.declared.event.Event.{Event}
 use Rattle.md_engine.specs.declared.event.Name.TheVariants as n
 use Rattle.md_engine.specs.declared.event.Point.{Point}
@@ -38,6 +37,7 @@ use Rattle.markdown_blocks.proofs.ContentFacts.{NoContent, WantsContent, content
 use Rattle.markdown_blocks.proofs.PrefixNames.{AreFront, IsNamed}
 use Rattle.markdown_blocks.specs.Passed.{Passed}
 use Rattle.markdown_blocks.proofs.RegistryContainers.{goes-front, opens-front}
+use Rattle.markdown_blocks.specs.Rows.{is_blank_row}
 
 -- What stands in front of a line that flow reads.
 
@@ -181,11 +181,11 @@ leaf-outside row TextRow framed h = (refl, (refl, tt))
 row-outside : (row : Row) → IsFramed row → NoEnds is_own (row_events row) → AreOutside (row_events row)
 row-outside row framed h =
     let leaf : List Event = leaf_events row.kind row in
-    let tail : List Event = tail_events (ending_of row.kind) row in
+    let tail : List Event = tail_events (ending_of row.kind row) row in
     let inside = each-behind (IsNoEnd is_own) row.front leaf (each-front (IsNoEnd is_own) (row.front ++ leaf) tail h) in
     outside-append (row.front ++ leaf) tail
     (outside-append row.front leaf (front-outside row.front framed.front) (leaf-outside row row.kind framed inside))
-    (tail-outside (ending_of row.kind) row (ending-own row.kind))
+    (tail-outside (ending_of row.kind row) row (ending-own (is_blank_row row)))
 
 -- where nothing of a resolver ends in the lines of a text, nothing of it begins
 pub rows-outside : (rows : List Row) → EachRow IsFramed rows → NoEnds is_own (rows_events rows) →

@@ -10,9 +10,9 @@ use Rattle.md_containers.specs.ItemsStand.{IsPart}
 use Rattle.md_containers.specs.Unlisted.{unlisted_left}
 use Rattle.md_containers.proofs.UnlistedLemmas.{Unlists, unlists-append, unlists-rest, unlists-same}
 use Rattle.md_seam.proofs.GrammarLemmas.{Leads, leads-append}
+use Rattle.markdown_blocks.specs.LineFlags.{ending_name}
 use Rattle.markdown_blocks.specs.Registry.{container_name}
 use Rattle.markdown_blocks.specs.Change.{ends_of}
-use Rattle.markdown_blocks.specs.Rows.{BlankRow, LeafRow, RowKind, TextRow, ending_of}
 use Rattle.markdown_blocks.proofs.FrontFacts.{Begins, Behind, LinePrefix, Goes}
 use Rattle.markdown_blocks.proofs.ContainerNames.{open_names, TakesPrefixes}
 use Rattle.markdown_blocks.proofs.LeafStands.{parts-unlisted}
@@ -99,11 +99,9 @@ ends-lead text (c ∷ cs) p block =
     )
 
 -- and the line does
-pub ending-leads : (text : Expression) (kind : RowKind) (p q : Point) (block : Bool) →
-    Unlists text (blocks_behind block ∷ []) (blocks ∷ []) (pair (ending_of kind) p q)
-ending-leads text BlankRow p q true outer = refl
-ending-leads text BlankRow p q false outer = refl
-ending-leads text (LeafRow l) p q true outer = refl
-ending-leads text (LeafRow l) p q false outer = refl
-ending-leads text TextRow p q true outer = refl
-ending-leads text TextRow p q false outer = refl
+pub ending-leads : (text : Expression) (blank : Bool) (p q : Point) (block : Bool) →
+    Unlists text (blocks_behind block ∷ []) (blocks ∷ []) (pair (ending_name blank) p q)
+ending-leads text true p q true outer = refl
+ending-leads text true p q false outer = refl
+ending-leads text false p q true outer = refl
+ending-leads text false p q false outer = refl

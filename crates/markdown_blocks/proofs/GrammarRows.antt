@@ -1,6 +1,7 @@
 -- The events of a text keep the grammar of events without lists, before its text parts are read and once they are.
 use Rattle.md_engine.specs.declared.tokenizer.held_leaf.HeldLeaf.TheVariants as held_leaf
 use Rattle.std.proofs.Common.{◌≡◌, ℕ, Bool, true, false, cond, List, [], ◌∷◌, ◌++◌, refl, ap, sym, ◌∙◌, append_assoc}
+use Rattle.markdown_blocks.specs.LineFlags.{ending_name}
 use Rattle.markdown_blocks.proofs.EndingRows.{EachEnded, groups-ended}
 use Rattle.std.specs.Prelude.{Option, Some, None}
 use Rattle.std.specs.List.{list_any}
@@ -19,8 +20,8 @@ use Rattle.md_containers.specs.Unlisted.{keeps_unlisted, unlisted_left}
 use Rattle.md_containers.proofs.UnlistedLemmas.{Unlists, unlists-rest, unlists-same}
 use Rattle.markdown_blocks.specs.Change.{ends_of}
 use Rattle.markdown_blocks.specs.Document.{body_point, mark_end, mark_events}
-use Rattle.markdown_blocks.specs.Rows.{final_row, first_row, group_done, group_kind, Group, Row}
-use Rattle.markdown_blocks.specs.Rows.{RowKind, ending_events, ending_of, group_events, groups}
+use Rattle.markdown_blocks.specs.Rows.{final_row, first_row, group_done, Group, Row}
+use Rattle.markdown_blocks.specs.Rows.{ending_events, group_events, groups}
 use Rattle.markdown_blocks.specs.Rows.{groups_events, tail_events}
 use Rattle.markdown_blocks.specs.Unread.{group_unread, listed_group, listed_groups}
 use Rattle.markdown_blocks.proofs.ContainerNames.{open_names}
@@ -31,6 +32,7 @@ use Rattle.markdown_blocks.proofs.JoinedLemmas.{EachNoContent, ending-is}
 use Rattle.markdown_blocks.proofs.NestedRows.{ByGroups, Ordered, rows-hold}
 use Rattle.markdown_blocks.proofs.RowFacts.{AreRows}
 use Rattle.markdown_blocks.proofs.GroupFacts.{IsGroupLeaf}
+use Rattle.markdown_blocks.specs.Rows.{group_ending, is_blank_group}
 
 -- Groups, whatever stands in text parts.
 
@@ -39,7 +41,7 @@ use Rattle.markdown_blocks.proofs.GroupFacts.{IsGroupLeaf}
 record Stands (text : Expression) (block : Bool) (group : Group) (events : List Event) : Type 0 where
   leaf : List Event
   leads : Unlists text (blocks ∷ []) (blocks_behind block ∷ []) leaf
-  is : events ≡ (first_row group).front ++ leaf ++ tail_events (ending_of (group_kind group)) (final_row group)
+  is : events ≡ (first_row group).front ++ leaf ++ tail_events (group_ending group) (final_row group)
 
 -- the events of groups, by those of each
 abbrev all_of : (Group → List Event) → List Group → List Event
@@ -61,11 +63,11 @@ leaf-left : (text : Expression) (bytes : List ℕ) (block : Bool) (names : List 
     Ordered bytes p group → Stands text block group events →
     unlisted_left text (blocks ∷ behinds names) (events ++ more) ≡
     unlisted_left text (blocks_behind block ∷ behinds (open_names (first_row group).change.opens ++ names))
-    (tail_events (ending_of (group_kind group)) (final_row group) ++ more)
+    (tail_events (group_ending group) (final_row group) ++ more)
 leaf-left text bytes block names p group events more o s =
     let row : Row = first_row group in
     let opens : List Expression = behinds (open_names row.change.opens) in
-    let tail : List Event = tail_events (ending_of (group_kind group)) (final_row group) in
+    let tail : List Event = tail_events (group_ending group) (final_row group) in
     let apart : (row.front ++ s.leaf ++ tail) ++ more ≡ row.front ++ (s.leaf ++ (tail ++ more)) = simp append_assoc in
     ap (λ (es : List Event). unlisted_left text (blocks ∷ behinds names) (es ++ more)) s.is
     ∙ ap (unlisted_left text (blocks ∷ behinds names)) apart
@@ -83,57 +85,57 @@ none-whole block (name ∷ names) h = cc
 
 -- behind the ends of containers the line ends, if more follows
 ending-whole : (text : Expression) (each : Group → List Event) (block : Bool) (kept : List Name) (row : Row)
-    (kind : RowKind) (gs : List Group) →
+    (blank : Bool) (gs : List Group) →
     EndsBeforeGroups row gs → Whole text (blocks ∷ behinds kept) (all_of each gs) →
-    Whole text (blocks_behind block ∷ behinds kept) (ending_events (ending_of kind) row ++ all_of each gs)
-ending-whole text each block kept row kind gs ends h = go row.after refl gs ends h
+    Whole text (blocks_behind block ∷ behinds kept) (ending_events (ending_name blank) row ++ all_of each gs)
+ending-whole text each block kept row blank gs ends h = go row.after refl gs ends h
   where
     some : (q : Point) (more : List Event) → row.after ≡ Some q → Whole text (blocks ∷ behinds kept) more →
-        Whole text (blocks_behind block ∷ behinds kept) (ending_events (ending_of kind) row ++ more)
+        Whole text (blocks_behind block ∷ behinds kept) (ending_events (ending_name blank) row ++ more)
     some q more after k =
         ap (λ (es : List Event). is_whole (unlisted_left text (blocks_behind block ∷ behinds kept) (es ++ more)))
-        (ending-is (ending_of kind) row q after)
+        (ending-is (ending_name blank) row q after)
         ∙ ap is_whole
         (unlists-rest text (blocks_behind block ∷ []) (blocks ∷ []) (behinds kept)
-        (pair (ending_of kind) row.end q) more (ending-leads text kind row.end q block))
+        (pair (ending_name blank) row.end q) more (ending-leads text blank row.end q block))
         ∙ k
 
     go : (after : Option Point) → row.after ≡ after → (gs : List Group) → EndsBeforeGroups row gs →
         Whole text (blocks ∷ behinds kept) (all_of each gs) →
-        Whole text (blocks_behind block ∷ behinds kept) (ending_events (ending_of kind) row ++ all_of each gs)
+        Whole text (blocks_behind block ∷ behinds kept) (ending_events (ending_name blank) row ++ all_of each gs)
     go (Some q) after gs ends h = some q (all_of each gs) after h
     go None after [] ends h =
         ap
         (λ (x : Option Point).
         is_whole
         (unlisted_left text (blocks_behind block ∷ behinds kept)
-        (elim x [ None ↦ [] | Some q ↦ pair (ending_of kind) row.end q ] ++ []))) after
+        (elim x [ None ↦ [] | Some q ↦ pair (ending_name blank) row.end q ] ++ []))) after
         ∙ none-whole block kept h
     go None after (g ∷ gs) ends h = let bad : None ≡ Some ends.0 = sym after ∙ ends.1 in cc
 
 -- what is open behind the leaf ends, or stays open
 tail-whole : (text : Expression) (each : Group → List Event) (block : Bool) (all kept : List Name) (row : Row)
-    (kind : RowKind) (gs : List Group) →
+    (blank : Bool) (gs : List Group) →
     all ≡ open_names row.leaves ++ kept → EndsBeforeGroups row gs →
     Whole text (blocks ∷ behinds kept) (all_of each gs) →
-    Whole text (blocks_behind block ∷ behinds all) (tail_events (ending_of kind) row ++ all_of each gs)
-tail-whole text each block all kept row kind gs keeps ends h =
+    Whole text (blocks_behind block ∷ behinds all) (tail_events (ending_name blank) row ++ all_of each gs)
+tail-whole text each block all kept row blank gs keeps ends h =
     let ended : (after : Bool) ×
     Unlists text (blocks_behind block ∷ behinds (open_names row.leaves)) (blocks_behind after ∷ [])
     (ends_of row.leaves row.end) = ends-lead text row.leaves row.end block in
-    let ending : List Event = ending_events (ending_of kind) row ++ all_of each gs in
+    let ending : List Event = ending_events (ending_name blank) row ++ all_of each gs in
     ap
     (λ (l : List Expression).
-    is_whole (unlisted_left text (blocks_behind block ∷ l) (tail_events (ending_of kind) row ++ all_of each gs)))
+    is_whole (unlisted_left text (blocks_behind block ∷ l) (tail_events (ending_name blank) row ++ all_of each gs)))
     (ap behinds keeps ∙ behinds-append (open_names row.leaves) kept)
     ∙ ap
     (λ (es : List Event).
     is_whole (unlisted_left text (blocks_behind block ∷ behinds (open_names row.leaves) ++ behinds kept) es))
-    (append_assoc (ends_of row.leaves row.end) (ending_events (ending_of kind) row) (all_of each gs))
+    (append_assoc (ends_of row.leaves row.end) (ending_events (ending_name blank) row) (all_of each gs))
     ∙ ap is_whole
     (unlists-rest text (blocks_behind block ∷ behinds (open_names row.leaves)) (blocks_behind ended.0 ∷ [])
     (behinds kept) (ends_of row.leaves row.end) ending ended.1)
-    ∙ ending-whole text each ended.0 kept row kind gs ends h
+    ∙ ending-whole text each ended.0 kept row blank gs ends h
 
 -- The groups of a text, where these names are open.
 abbrev WholeUnder : Expression → (Group → List Event) → List Name → Point → List Group → Type 0
@@ -148,7 +150,7 @@ whole-by_groups bytes text each reads = record {
       let s : (block : Bool) × Stands text block group (each group) = reads group o.leaf in
       ap is_whole (leaf-left text bytes s.0 names p group (each group) (all_of each gs) o s.1)
       ∙ tail-whole text each s.0 (open_names (first_row group).change.opens ++ names) kept (final_row group)
-      (group_kind group) gs keeps ended.0 (on ended.1);
+      (is_blank_group group) gs keeps ended.0 (on ended.1);
 }
 
 -- The mark in front of a text, and its groups.

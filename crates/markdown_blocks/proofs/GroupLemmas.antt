@@ -64,6 +64,7 @@ use Rattle.markdown_blocks.proofs.OutsideLemmas.{linked-outside, tail-outside}
 use Rattle.markdown_blocks.proofs.Registry.{laws, leaf-ends, outside-passes, span-laws}
 use Rattle.markdown_blocks.proofs.RowLeaf.{row-becomes}
 use Rattle.markdown_blocks.proofs.KindLemmas.{kind-starts, kind-text}
+use Rattle.markdown_blocks.specs.Rows.{is_blank_by}
 
 -- each line of a text but the last has an ending
 pub rows-end : (options : ParseOptions) (bytes : List ℕ) (open_before : List Container) (still : HeldLeaf) (p : Point)
@@ -183,10 +184,10 @@ behind-lines wants row gs h = tail row.leaves
 
 -- what stands around the parts of a line is not read later
 tail-unwanted : (wants : Content → Bool) (kind : RowKind) (row : Row) →
-    Unwanted wants (tail_events (ending_of kind) row)
+    Unwanted wants (tail_events (ending_of kind row) row)
 tail-unwanted wants kind row =
-    no_content-unwanted wants (tail_events (ending_of kind) row)
-    (tail-no_content wants (ending_of kind) row (ending-other kind))
+    no_content-unwanted wants (tail_events (ending_of kind row) row)
+    (tail-no_content wants (ending_of kind row) row (ending-other (is_blank_by kind row)))
 
 front-unwanted : (wants : Content → Bool) (bytes : List ℕ) (row : Row) → HasFront bytes row → Unwanted wants row.front
 front-unwanted wants bytes row h = no_content-unwanted wants row.front (has_front-no_content wants bytes row h)
@@ -420,8 +421,9 @@ single-set : (options : ParseOptions) (bytes : List ℕ) (row : Row) (es : List 
     (kind : RowKind) → row.kind ≡ kind →
     resolved (row_events_by kind row ++ es) ≡ listed_row_by bytes kind row ++ resolved es
 single-set options bytes row es is kind e =
-    leaf-set row.front (leaf_events kind row) (leaf_unread bytes kind row) (tail_events (ending_of kind) row) es
-    (has_front-outside bytes row is.front) (tail-outside (ending_of kind) row (ending-own kind)) (leaf kind e)
+    leaf-set row.front (leaf_events kind row) (leaf_unread bytes kind row) (tail_events (ending_of kind row) row) es
+    (has_front-outside bytes row is.front)
+    (tail-outside (ending_of kind row) row (ending-own (is_blank_by kind row))) (leaf kind e)
   where
     leaf : (kind : RowKind) → row.kind ≡ kind → (es : List Event) →
         resolved (leaf_events kind row ++ es) ≡ leaf_unread bytes kind row ++ resolved es
@@ -477,7 +479,7 @@ single-becomes : (options : ParseOptions) (bytes : List ℕ) (row : Row) (wants 
     Becomes wants reads (listed_row_by bytes row.kind row) (single_events_by bytes row.kind row)
 single-becomes options bytes row wants reads w rt is =
     leaf-becomes wants reads row.front (leaf_unread bytes row.kind row) (leaf_done bytes row.kind row)
-    (tail_events (ending_of row.kind) row) (front-unwanted wants bytes row is.front)
+    (tail_events (ending_of row.kind row) row) (front-unwanted wants bytes row is.front)
     (tail-unwanted wants row.kind row)
     (row-becomes options bytes is.line row is.is is.other is.ends wants reads w rt)
 
@@ -591,7 +593,7 @@ span-becomes options bytes row rows wants reads w ws rt rs are begins =
     let is : IsSpanLine options bytes row = span-begins options bytes row rows are in
     let kind : RowKind = group_kind (Span row rows) in
     leaf-becomes wants reads row.front (span_by (λ (r : Row). r.inside) row rows) (span_done bytes row rows)
-    (tail_events (ending_of kind) (last_row row rows)) (front-unwanted wants bytes row is.front)
+    (tail_events (ending_of kind (last_row row rows)) (last_row row rows)) (front-unwanted wants bytes row is.front)
     (tail-unwanted wants kind (last_row row rows))
     ((span-laws is.name is.open_leaf).becomes options bytes row rows (line-of options bytes row is)
     (line-further options bytes row is false begins) (behind-first options bytes row rows are) wants reads w ws rt rs)

@@ -25,8 +25,8 @@ use Rattle.md_seam.proofs.SpelledLemmas.{Between}
 use Rattle.markdown_blocks.specs.Change.{ends_of}
 use Rattle.markdown_blocks.specs.Document.{body_point, mark_end, mark_events}
 use Rattle.markdown_blocks.specs.Registry.{container_name}
-use Rattle.markdown_blocks.specs.Rows.{Group, Row, ending_events, ending_of, final_row, first_row, group_done}
-use Rattle.markdown_blocks.specs.Rows.{group_kind, groups, groups_events, tail_events}
+use Rattle.markdown_blocks.specs.Rows.{Group, Row, ending_events, final_row, first_row, group_done}
+use Rattle.markdown_blocks.specs.Rows.{groups, groups_events, tail_events}
 use Rattle.markdown_blocks.specs.Unread.{group_unread, listed_groups}
 use Rattle.markdown_blocks.proofs.ContainerNames.{container-facts, open_names}
 use Rattle.markdown_blocks.proofs.FrontFacts.{Begins, Behind, Goes, LinePrefix}
@@ -36,6 +36,7 @@ use Rattle.markdown_blocks.proofs.NestedRows.{ByGroups, Keeps, Ordered, rows-hol
 use Rattle.markdown_blocks.proofs.PrefixNames.{prefixes-roles}
 use Rattle.markdown_blocks.proofs.RowFacts.{AreRows}
 use Rattle.markdown_blocks.proofs.SpanLemmas.{Nested_in}
+use Rattle.markdown_blocks.specs.Rows.{group_ending, is_blank_group}
 
 -- What is open.
 
@@ -143,7 +144,7 @@ group-held : (bytes : List ℕ) (names kept : List Name) (p : Point) (group : Gr
     Nested_in (first_row group).first (final_row group).end inside → NoListing inside →
     (AreBlocks kept → ItemsHeld kept events) →
     ItemsHeld names
-    (((first_row group).front ++ inside ++ tail_events (ending_of (group_kind group)) (final_row group)) ++ events)
+    (((first_row group).front ++ inside ++ tail_events (group_ending group) (final_row group)) ++ events)
 group-held bytes names kept p group inside events o keeps blocks nested none on =
     subst (ItemsHeld names) (sym apart)
     (held-through names all row.front (inside ++ (ends ++ (ending ++ events)))
@@ -154,7 +155,7 @@ group-held bytes names kept p group inside events o keeps blocks nested none on 
     (held-through all kept ends (ending ++ events) (ends-held last.leaves all last.end)
     (subst (λ (l : List Name). Turns l kept ends) (sym keeps) (ends-turn last.leaves kept last.end)).opened
     (held-through kept kept ending events (unlisted-held kept ending quiet)
-    (ending-opens (ending_of (group_kind group)) last kept) (on left)))))
+    (ending-opens (group_ending group) last kept) (on left)))))
   where
     row : Row
     row = first_row group
@@ -169,10 +170,10 @@ group-held bytes names kept p group inside events o keeps blocks nested none on 
     ends = ends_of last.leaves last.end
 
     ending : List Event
-    ending = ending_events (ending_of (group_kind group)) last
+    ending = ending_events (group_ending group) last
 
     quiet : NoListing ending
-    quiet = between-unlisted ending (ending-between (group_kind group) last)
+    quiet = between-unlisted ending (ending-between (is_blank_group group) last)
 
     left : AreBlocks kept
     left =

@@ -2,6 +2,7 @@
 use Rattle.md_engine.specs.declared.tokenizer.held_leaf.HeldLeaf.{HeldLeaf}
 use Rattle.std.proofs.Common.{◌≡◌, ◌≢◌, ℕ, zero, suc, Bool, true, false, cond, ◌&&◌, List, [], ◌∷◌, ◌++◌, refl, ap, sym}
 use Rattle.std.proofs.Common.{append-nil}
+use Rattle.markdown_blocks.specs.LineFlags.{ending_name}
 use Rattle.markdown_blocks.specs.Registry.{leaf}
 use Rattle.markdown_blocks.specs.Rows.{Span, is_further, onto_leaf}
 use Rattle.markdown_blocks.specs.Rows.{behind_held}
@@ -10,7 +11,6 @@ use Rattle.std.specs.Prelude.{Option, Some, None}
 use Rattle.std.proofs.lemmas.Bool.{and_right}
 use Rattle.md_engine.specs.declared.configuration.ParseOptions.{ParseOptions}
 use Rattle.md_engine.specs.declared.event.Content.{Content}
-use Rattle.md_engine.specs.declared.event.Content.TheVariants as content
 use Rattle.md_engine.specs.declared.event.Event.{Event}
 use Rattle.md_engine.specs.declared.event.Name.{Name}
 use Rattle.md_engine.specs.declared.event.Name.TheVariants as n
@@ -38,6 +38,7 @@ use Rattle.markdown_blocks.proofs.ContentFacts.{NoContent, WantsContent, no_cont
 use Rattle.markdown_blocks.proofs.PrefixNames.{AreFront}
 use Rattle.markdown_blocks.proofs.ContainerNames.{container-facts, end-stops}
 use Rattle.markdown_blocks.specs.Registry.{container_name}
+use Rattle.markdown_blocks.specs.Rows.{is_blank_by}
 
 -- no content stands inside a line, and its links are to text
 abbrev pub HasNoContent : Row → Type 0
@@ -119,19 +120,18 @@ tail-no_content wants name row h =
     (ends-no_content wants row.leaves row.end) (ending-no_content wants name row h)
 
 -- the name of an ending is not that of content
-pub ending-other : (kind : RowKind) → is_content (ending_of kind) ≡ false
-ending-other BlankRow = refl
-ending-other (LeafRow l) = refl
-ending-other TextRow = refl
+pub ending-other : (blank : Bool) → is_content (ending_name blank) ≡ false
+ending-other true = refl
+ending-other false = refl
 
 -- what a line adds that is not text
 pub events-no_content : (wants : Content → Bool) (row : Row) (kind : RowKind) → row.kind ≡ kind → kind ≢ TextRow →
     NoContent wants row.front → NoContent wants row.inside → NoContent wants (row_events row)
 events-no_content wants row kind e other front h =
     subst (λ (k : RowKind). NoContent wants (row_events_by k row)) (sym e)
-    (no_content-append wants (row.front ++ leaf_events kind row) (tail_events (ending_of kind) row)
+    (no_content-append wants (row.front ++ leaf_events kind row) (tail_events (ending_of kind row) row)
     (no_content-append wants row.front (leaf_events kind row) front (leaf kind other))
-    (tail-no_content wants (ending_of kind) row (ending-other kind)))
+    (tail-no_content wants (ending_of kind row) row (ending-other (is_blank_by kind row))))
   where
     leaf : (kind : RowKind) → kind ≢ TextRow → NoContent wants (leaf_events kind row)
     leaf BlankRow other = h
@@ -252,13 +252,13 @@ tail-stops row es q after h =
 
 -- what stands behind the front of a line
 abbrev behind_front : Row → List Event → List Event
-behind_front row es = (leaf_events row.kind row ++ tail_events (ending_of row.kind) row) ++ es
+behind_front row es = (leaf_events row.kind row ++ tail_events (ending_of row.kind row) row) ++ es
 
 events-front : (row : Row) (es : List Event) → row_events row ++ es ≡ row.front ++ behind_front row es
 events-front row es =
     ap (λ (l : List Event). l ++ es)
-    (append_assoc row.front (leaf_events row.kind row) (tail_events (ending_of row.kind) row))
-    ∙ append_assoc row.front (leaf_events row.kind row ++ tail_events (ending_of row.kind) row) es
+    (append_assoc row.front (leaf_events row.kind row) (tail_events (ending_of row.kind row) row))
+    ∙ append_assoc row.front (leaf_events row.kind row ++ tail_events (ending_of row.kind row) row) es
 
 -- and what stands in front of it
 text-apart : (bytes : List ℕ) (row : Row) (es : List Event) → HasFront bytes row →
@@ -276,11 +276,10 @@ text-apart bytes row es front h =
     ∙ append_assoc row.front (text ++ tail) (joined es))
 
 -- no line of content goes on behind the ending of a line that is no text
-ending-stops : (kind : RowKind) (p q : Point) (es : List Event) →
-    content_behind (pair (ending_of kind) p q ++ es) ≡ false
-ending-stops BlankRow p q es = refl
-ending-stops (LeafRow l) p q es = refl
-ending-stops TextRow p q es = refl
+ending-stops : (blank : Bool) (p q : Point) (es : List Event) →
+    content_behind (pair (ending_name blank) p q ++ es) ≡ false
+ending-stops true p q es = refl
+ending-stops false p q es = refl
 
 -- behind a line that is no text the one before does not go on
 other-behind : (bytes : List ℕ) (row : Row) (rows : List Row) → EachEnds (row ∷ rows) → HasFront bytes row →
@@ -290,40 +289,40 @@ other-behind bytes row rows ends front h kind e other =
     ap content_behind (events-front row (rows_events rows))
     ∙ ap
     (λ (k : RowKind).
-    content_behind (row.front ++ ((leaf_events k row ++ tail_events (ending_of k) row) ++ rows_events rows))) e
-    ∙ behind-passes row.front ((leaf_events kind row ++ tail_events (ending_of kind) row) ++ rows_events rows)
+    content_behind (row.front ++ ((leaf_events k row ++ tail_events (ending_of k row) row) ++ rows_events rows))) e
+    ∙ behind-passes row.front ((leaf_events kind row ++ tail_events (ending_of kind row) row) ++ rows_events rows)
     (has_front-no_content nothing bytes row front) (go kind other)
   where
     ending : (kind : RowKind) (rows : List Row) → EachEnds (row ∷ rows) →
-        content_behind (ending_events (ending_of kind) row ++ rows_events rows) ≡ false
+        content_behind (ending_events (ending_of kind row) row ++ rows_events rows) ≡ false
     ending kind [] ends = last row.after
       where
         last : (after : Option Point) →
-            content_behind (elim after [ None ↦ [] | Some q ↦ pair (ending_of kind) row.end q ] ++ []) ≡ false
+            content_behind (elim after [ None ↦ [] | Some q ↦ pair (ending_of kind row) row.end q ] ++ []) ≡ false
         last None = refl
-        last (Some q) = ending-stops kind row.end q []
+        last (Some q) = ending-stops (is_blank_by kind row) row.end q []
     ending kind (below ∷ rows) ends =
         ap (λ (l : List Event). content_behind (l ++ rows_events (below ∷ rows)))
-        (ending-is (ending_of kind) row ends.0 ends.1)
-        ∙ ending-stops kind row.end ends.0 (rows_events (below ∷ rows))
+        (ending-is (ending_of kind row) row ends.0 ends.1)
+        ∙ ending-stops (is_blank_by kind row) row.end ends.0 (rows_events (below ∷ rows))
 
     tail : (kind : RowKind) (leaves : List Container) →
-        content_behind ((ends_of leaves row.end ++ ending_events (ending_of kind) row) ++ rows_events rows) ≡ false
+        content_behind ((ends_of leaves row.end ++ ending_events (ending_of kind row) row) ++ rows_events rows) ≡ false
     tail kind [] = ending kind rows ends
     tail kind (c ∷ leaves) =
         ap content_behind
-        (append_assoc (ends_of (c ∷ leaves) row.end) (ending_events (ending_of kind) row) (rows_events rows))
+        (append_assoc (ends_of (c ∷ leaves) row.end) (ending_events (ending_of kind row) row) (rows_events rows))
         ∙ ends-first (λ (l : List Event). content_behind l ≡ false) c leaves row.end
-        (ending_events (ending_of kind) row ++ rows_events rows) (λ d fs. end-stops d row.end fs)
+        (ending_events (ending_of kind row) row ++ rows_events rows) (λ d fs. end-stops d row.end fs)
 
     inside : (kind : RowKind) →
-        content_behind ((row.inside ++ tail_events (ending_of kind) row) ++ rows_events rows) ≡ false
+        content_behind ((row.inside ++ tail_events (ending_of kind row) row) ++ rows_events rows) ≡ false
     inside kind =
-        ap content_behind (append_assoc row.inside (tail_events (ending_of kind) row) (rows_events rows))
-        ∙ behind-passes row.inside (tail_events (ending_of kind) row ++ rows_events rows) h (tail kind row.leaves)
+        ap content_behind (append_assoc row.inside (tail_events (ending_of kind row) row) (rows_events rows))
+        ∙ behind-passes row.inside (tail_events (ending_of kind row) row ++ rows_events rows) h (tail kind row.leaves)
 
     go : (kind : RowKind) → kind ≢ TextRow →
-        content_behind ((leaf_events kind row ++ tail_events (ending_of kind) row) ++ rows_events rows) ≡ false
+        content_behind ((leaf_events kind row ++ tail_events (ending_of kind row) row) ++ rows_events rows) ≡ false
     go BlankRow other = inside BlankRow
     go (LeafRow l) other = inside (LeafRow l)
     go TextRow other = absurd (other refl)
@@ -385,7 +384,8 @@ text-lines bytes row below more rows gs q after front under text same = go row.l
         (fronts-prefixes bytes below.change.opens under.0 below.first below.front opens_none under.1)
         ∙ ap
         (λ (kind : RowKind).
-        content_behind ((leaf_events kind below ++ tail_events (ending_of kind) below) ++ rows_events rows)) text in
+        content_behind ((leaf_events kind below ++ tail_events (ending_of kind below) below) ++ rows_events rows)) text
+        in
         ap joined
         (ap (λ (l : List Event). l ++ es) (append_assoc row.front (text_events row) tail)
         ∙ append_assoc row.front (text_events row ++ tail) es)

@@ -1,5 +1,5 @@
 -- What a line is by its kind, whichever leaves there are.
-use Rattle.std.proofs.Common.{◌≡◌, Bool, true, false, cond, List, [], ◌∷◌, Option, Some, None, refl, ap, ap₂}
+use Rattle.std.proofs.Common.{◌≡◌, Bool, true, false, cond, List, [], ◌∷◌, Option, Some, None, refl, ap, ap₂, ◌∙◌}
 use Rattle.md_engine.specs.declared.configuration.ParseOptions.{ParseOptions}
 use Rattle.md_engine.specs.declared.tokenizer.held_leaf.HeldLeaf.{HeldLeaf}
 use Rattle.md_definition.specs.Rest.{Rest, is_blank}
@@ -89,6 +89,32 @@ kind-starts options on r l e =
     let found : Option LeafName = first_of (λ k. (leaf k).starts options on r) trials in
     inside-leaf (λ k. (leaf k).starts options on r) (insider on) _ l e
     (λ k. first-passes (λ j. (leaf j).starts options on r) trials l (kind-found (is_blank r.bytes) found l k))
+
+-- something stands on the line of a leaf that always ends there: such a leaf is not asked first
+pub kind-filled : (options : ParseOptions) (on : HeldLeaf) (r : Rest) (l : LeafName) →
+    line_kind options on r ≡ LeafRow l → (insider on ≡ Some l → ⊥) → is_blank r.bytes ≡ false
+kind-filled options on r l e other = by (insider on) refl e
+  where
+    starts : LeafName → Bool
+    starts k = (leaf k).starts options on r
+
+    outer : (blank : Bool) (found : Option LeafName) → cond blank BlankRow (kind_of found) ≡ LeafRow l → blank ≡ false
+    outer true found e = cc
+    outer false found e = refl
+
+    to : RowKind
+    to = cond (is_blank r.bytes) BlankRow (kind_of (first_of starts trials))
+
+    by : (o : Option LeafName) → insider on ≡ o → inside_or starts o to ≡ LeafRow l → is_blank r.bytes ≡ false
+    by None i e = outer (is_blank r.bytes) (first_of starts trials) e
+    by (Some k) i e = go (starts k) e
+      where
+        go : (t : Bool) → cond t (LeafRow k) to ≡ LeafRow l → is_blank r.bytes ≡ false
+        go true e = absurd (other (i ∙ same))
+          where
+            same : Some k ≡ Some l
+            same = cc
+        go false e = outer (is_blank r.bytes) (first_of starts trials) e
 
 -- where no leaf is asked first, the line is blank, or the first leaf that starts there, or text
 pub kind-plain : (options : ParseOptions) (on : HeldLeaf) (r : Rest) → insider on ≡ None →

@@ -17,8 +17,9 @@ use Rattle.md_seam.specs.Events.Nested.{around, enter, exit, pair}
 use Rattle.md_seam.specs.Events.Spelled.{Holds, IsEnding, IsPrefix, IsQuiet, LeafKind, Opens, Role, Tells}
 use Rattle.md_seam.specs.Events.Spelled.{role}
 use Rattle.md_seam.proofs.SpelledLemmas.{Between, Quiet, Roles}
+use Rattle.markdown_blocks.specs.LineFlags.{ending_name}
 use Rattle.markdown_blocks.specs.Document.{mark_end, mark_events}
-use Rattle.markdown_blocks.specs.Rows.{BlankRow, LeafRow, Row, RowKind, TextRow, ending_events, ending_of}
+use Rattle.markdown_blocks.specs.Rows.{Row, ending_events}
 
 -- What is open.
 
@@ -155,10 +156,9 @@ ending-roles P name row h = go row.after
     go None = tt
     go (Some q) = (h, (h, tt))
 
-pub ending-between : (kind : RowKind) (row : Row) → Roles Between (ending_events (ending_of kind) row)
-ending-between BlankRow row = ending-roles Between n.BlankLineEnding row tt
-ending-between (LeafRow l) row = ending-roles Between n.LineEnding row tt
-ending-between TextRow row = ending-roles Between n.LineEnding row tt
+pub ending-between : (blank : Bool) (row : Row) → Roles Between (ending_events (ending_name blank) row)
+ending-between true row = ending-roles Between n.BlankLineEnding row tt
+ending-between false row = ending-roles Between n.LineEnding row tt
 
 pub mark-between : (bytes : List ℕ) → Roles Between (mark_events bytes)
 mark-between bytes = go (has_mark bytes)

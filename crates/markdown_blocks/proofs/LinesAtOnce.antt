@@ -40,7 +40,7 @@ use Rattle.markdown_blocks.specs.Flow.{before_transition, blank_line_before_tran
 use Rattle.markdown_blocks.specs.Flow.{flow_end_code, flow_end_transition}
 use Rattle.markdown_blocks.specs.Flow.{flow_own_transition, leaf_transition, new_before_transition, opener_transition}
 use Rattle.markdown_blocks.specs.Flow.{trial_code}
-use Rattle.markdown_blocks.specs.LineFlags.{asking, begun_line, blanked, ending_name, next_line, stays}
+use Rattle.markdown_blocks.specs.LineFlags.{asking, begun_line, blank_here, blanked, ending_name, next_line, stays}
 use Rattle.markdown_blocks.specs.Registry.{LeafName, container_rules, front_of, leaf, may_open, next_of}
 use Rattle.markdown_blocks.specs.Registry.{next_opener, opener_at, opener_front, openers, opens_with}
 use Rattle.markdown_blocks.specs.Registry.{trials, tried_at}
@@ -289,7 +289,9 @@ inside-leaves w = go (insider w.flags.leaf)
   where
     go : (o : Option LeafName) → Leaves (inside_code w o) w
     go None = ((refl, refl), refl)
-    go (Some l) = trial-leaves (leaf l).start (n.Flow flow.After) (n.Flow flow.Start) w w true refl refl refl
+    go (Some l) =
+        trial-leaves (leaf l).start (n.Flow flow.After) (n.Flow flow.Start)
+        (record w { flags = blank_here (ends_line w.current) w.flags }) w true refl refl refl
 
 leaf-leaves : (l : LeafName) (w : World) → Leaves (before_transition l w) w
 leaf-leaves l w =

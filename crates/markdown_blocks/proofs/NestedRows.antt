@@ -20,8 +20,8 @@ use Rattle.md_seam.proofs.NestedLemmas.{at_or_before-refl, balanced-none, forwar
 use Rattle.md_seam.proofs.NestedLemmas.{open_after-append}
 use Rattle.markdown_blocks.specs.Change.{Change, ends_of, is_none, open_behind}
 use Rattle.markdown_blocks.specs.Fronted.{contained, rest_from, rest_line}
-use Rattle.markdown_blocks.specs.Rows.{Span, is_further, onto_leaf, final_row, first_row, group_done, group_kind}
-use Rattle.markdown_blocks.specs.Rows.{LeafRow, ending_of, BlankRow, Group, Lines, Row, RowKind, Single, TextRow}
+use Rattle.markdown_blocks.specs.Rows.{Span, is_further, onto_leaf, final_row, first_row, group_done}
+use Rattle.markdown_blocks.specs.Rows.{LeafRow, BlankRow, Group, Lines, Row, RowKind, Single, TextRow}
 use Rattle.markdown_blocks.specs.Rows.{behind_row, closes_before, ending_events, goes_on, groups, groups_events}
 use Rattle.markdown_blocks.specs.Rows.{last_row, onto_groups, tail_events}
 use Rattle.markdown_blocks.proofs.ContainedLemmas.{contained-shapes, none-nil}
@@ -36,6 +36,7 @@ use Rattle.markdown_blocks.proofs.Text.Order.{ending-order}
 use Rattle.markdown_blocks.proofs.RowFacts.{AreRows, IsEnding, IsLine, IsRow, behind_line}
 use Rattle.markdown_blocks.proofs.SpanLemmas.{Nested_in, Spans}
 use Rattle.markdown_blocks.proofs.ContainerNames.{open_names}
+use Rattle.markdown_blocks.specs.Rows.{group_ending}
 
 -- Lines.
 
@@ -100,13 +101,13 @@ pub under-group : (bytes : List ℕ) (names kept : List Name) (p : Point) (group
     Keeps names group kept → Nested_in (first_row group).first (final_row group).end inside →
     Under kept (behind_row (final_row group)) events →
     Under names p
-    (((first_row group).front ++ inside ++ tail_events (ending_of (group_kind group)) (final_row group)) ++ events)
+    (((first_row group).front ++ inside ++ tail_events (group_ending group) (final_row group)) ++ events)
 under-group bytes names kept p group inside events o keeps h on =
     let row : Row = first_row group in
     let last : Row = final_row group in
     let all : List Name = open_names row.change.opens ++ names in
     let ends : List Event = ends_of last.leaves last.end in
-    let ending : List Event = ending_events (ending_of (group_kind group)) last in
+    let ending : List Event = ending_events (group_ending group) last in
     let apart : (row.front ++ inside ++ (ends ++ ending)) ++ events ≡
     row.front ++ (inside ++ (ends ++ (ending ++ events))) = simp append_assoc in
     subst (Under names p) (sym apart)
@@ -118,7 +119,7 @@ under-group bytes names kept p group inside events o keeps h on =
     (subst (λ (l : List Name). Turns l kept ends) (sym keeps) (ends-turn last.leaves kept last.end))
     (ends-spans last.leaves last.end)
     (under-before kept last.end (behind_row last) ending events
-    (ending-nested (ending_of (group_kind group)) last o.ends) on))))
+    (ending-nested (group_ending group) last o.ends) on))))
 
 -- What holds of no groups where nothing is open, and group by group, of the names that are open where they begin
 -- (behind the ends of the containers that end before the line), and of the point where they begin.

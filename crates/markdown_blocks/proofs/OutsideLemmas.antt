@@ -8,17 +8,19 @@ use Rattle.md_engine.specs.declared.event.Name.{Name}
 use Rattle.md_engine.specs.declared.event.Name.TheVariants as n
 use Rattle.md_engine.specs.declared.event.Point.{Point}
 use Rattle.md_seam.specs.Events.Nested.{around, exit, pair, is_enter}
+use Rattle.markdown_blocks.specs.LineFlags.{ending_name}
 use Rattle.markdown_blocks.proofs.ContainerNames.{is_front}
 use Rattle.markdown_blocks.proofs.EachEvent.{each-as}
 use Rattle.markdown_blocks.specs.Change.{ends_of}
 use Rattle.markdown_blocks.specs.Registry.{is_own, resolved}
-use Rattle.markdown_blocks.specs.Rows.{BlankRow, LeafRow, Row, RowKind, TextRow, ending_events, ending_of, tail_events}
+use Rattle.markdown_blocks.specs.Rows.{Row, ending_events, tail_events}
 use Rattle.markdown_blocks.specs.Unread.{linked_lines}
 use Rattle.markdown_blocks.proofs.FrontNames.{HasFront, ends-are, fronts-are}
 use Rattle.markdown_blocks.proofs.OutsideFacts.{AreOutside, outside-append, IsOutside}
 use Rattle.markdown_blocks.proofs.Registry.{front-own, outside-passes}
 use Rattle.markdown_blocks.proofs.SubstitutedLemmas.{EachPrefixed}
 use Rattle.markdown_blocks.proofs.PrefixNames.{AreFront, prefixes-front, IsNamed}
+use Rattle.std.specs.Prelude.{Bool, true}
 
 -- where nothing is their own, resolvers change nothing
 pub outside-same : (es : List Event) → AreOutside es → resolved es ≡ es
@@ -47,10 +49,9 @@ tail-outside name row h =
     (front-outside (ends_of row.leaves row.end) (ends-are row.leaves row.end)) (ending-outside name row h)
 
 -- the name of an ending is of no resolver
-pub ending-own : (kind : RowKind) → is_own (ending_of kind) ≡ false
-ending-own BlankRow = refl
-ending-own (LeafRow l) = refl
-ending-own TextRow = refl
+pub ending-own : (blank : Bool) → is_own (ending_name blank) ≡ false
+ending-own true = refl
+ending-own false = refl
 
 -- the lines of a part
 pub linked-outside : (link : Link) (row : Row) (rows : List Row) → EachPrefixed rows →

@@ -10,15 +10,18 @@ use Rattle.md_seam.specs.Events.Nested.{pair}
 use Rattle.md_seam.specs.Events.Spelled.{role}
 use Rattle.md_seam.proofs.SpelledLemmas.{Roles, roles-append}
 use Rattle.md_outline.specs.Outlined.{are_parted}
+use Rattle.markdown_blocks.specs.LineFlags.{ending_name}
 use Rattle.markdown_blocks.specs.Change.{ends_of}
-use Rattle.markdown_blocks.specs.Rows.{final_row, first_row, group_done, group_kind, BlankRow, Group, Row, RowKind}
-use Rattle.markdown_blocks.specs.Rows.{TextRow, ending_events, groups, groups_events, tail_events, LeafRow, ending_of}
+use Rattle.markdown_blocks.specs.Rows.{final_row, first_row, group_done, Group, Row}
+use Rattle.markdown_blocks.specs.Rows.{ending_events, groups, groups_events, tail_events}
 use Rattle.markdown_blocks.proofs.FrontLemmas.{ends-roles}
 use Rattle.markdown_blocks.proofs.FrontStands.{fronts-sit}
 use Rattle.markdown_blocks.proofs.RowFacts.{AreRows}
 use Rattle.markdown_blocks.proofs.PartedFacts.{Sits, Still, sits-append, sits-still}
 use Rattle.markdown_blocks.proofs.NestedRows.{ByGroups, rows-hold}
 use Rattle.markdown_blocks.proofs.ContainerNames.{container-facts}
+use Rattle.std.specs.Prelude.{Bool, false}
+use Rattle.markdown_blocks.specs.Rows.{group_ending, is_blank_group}
 
 -- Events outside of texts.
 
@@ -36,10 +39,9 @@ sits-tail bytes name row h =
 -- A line.
 
 -- whatever ends it
-ending-still : (kind : RowKind) → Still (role (ending_of kind))
-ending-still BlankRow = tt
-ending-still (LeafRow l) = tt
-ending-still TextRow = tt
+ending-still : (blank : Bool) → Still (role (ending_name blank))
+ending-still true = tt
+ending-still false = tt
 
 -- what stands in front of it, its leaf, and what stands behind it
 line-sits : (bytes : List ℕ) (name : Name) (front inside : List Event) (row : Row) → Still (role name) →
@@ -59,8 +61,8 @@ parted-by_groups bytes = record {
   group = λ names kept p group gs o keeps on.
       let row : Row = first_row group in
       let front : Sits bytes row.front = fronts-sit bytes row.change.opens p row.first row.front o.front in
-      line-sits bytes (ending_of (group_kind group)) row.front (group_done bytes group) (final_row group)
-      (ending-still (group_kind group)) front o.leaf.2.parted (groups_events bytes gs) on;
+      line-sits bytes (group_ending group) row.front (group_done bytes group) (final_row group)
+      (ending-still (is_blank_group group)) front o.leaf.2.parted (groups_events bytes gs) on;
 }
 
 -- no text of a whole text is parted but those of lines, where these begin

@@ -2,6 +2,7 @@
 use Rattle.md_engine.specs.declared.tokenizer.held_leaf.HeldLeaf.TheVariants as held_leaf
 use Rattle.md_engine.specs.declared.tokenizer.held_leaf.HeldLeaf.{HeldLeaf}
 use Rattle.std.proofs.Common.{◌≡◌, ℕ, Bool, true, false, cond, List, [], ◌∷◌, ◌++◌, slice_range, refl, ap, sym, subst}
+use Rattle.markdown_blocks.specs.LineFlags.{ending_name}
 use Rattle.markdown_blocks.specs.Rows.{Span}
 use Rattle.std.proofs.Common.{arith}
 use Rattle.std.specs.Prelude.{Option, Some, None}
@@ -22,9 +23,9 @@ use Rattle.markdown_blocks.specs.Registry.{container_name}
 use Rattle.markdown_blocks.specs.Change.{ends_of}
 use Rattle.markdown_blocks.specs.Document.{body_point, mark_end, mark_events}
 use Rattle.markdown_blocks.specs.Fronted.{contained, rest_from, rest_line}
-use Rattle.markdown_blocks.specs.Rows.{final_row, first_row, group_done, group_kind, BlankRow, Group}
-use Rattle.markdown_blocks.specs.Rows.{Lines, Row, RowKind, Single, TextRow, ending_events, group_events, groups}
-use Rattle.markdown_blocks.specs.Rows.{groups_events, tail_events, LeafRow, ending_of}
+use Rattle.markdown_blocks.specs.Rows.{final_row, first_row, group_done, Group}
+use Rattle.markdown_blocks.specs.Rows.{Lines, Row, Single, ending_events, group_events, groups}
+use Rattle.markdown_blocks.specs.Rows.{groups_events, tail_events}
 use Rattle.markdown_blocks.specs.Unread.{group_unread, listed_group, listed_groups}
 use Rattle.markdown_blocks.proofs.EachRow.{EachGroup, EachRow, OfGroup, groups-each, last-each}
 use Rattle.markdown_blocks.proofs.FrontStands.{fronts-stood}
@@ -32,6 +33,7 @@ use Rattle.markdown_blocks.proofs.PieceFacts.{Stood, over-stands, stood-append, 
 use Rattle.markdown_blocks.proofs.ChunkFacts.{ending-stands, line-ending}
 use Rattle.markdown_blocks.proofs.RowFacts.{AreRows, IsEnding, IsLine, IsRow, behind_line}
 use Rattle.markdown_blocks.proofs.NestedRows.{ByGroups, Ordered, rows-hold}
+use Rattle.markdown_blocks.specs.Rows.{group_ending, is_blank_group}
 
 -- Containers.
 
@@ -51,10 +53,9 @@ blank-ending Return = refl
 blank-ending Both = refl
 
 -- whatever ends a line is one that its name may stand over
-ending-named : (kind : RowKind) (ending : Ending) → stands_over (ending_of kind) (ending_bytes ending) ≡ true
-ending-named BlankRow ending = blank-ending ending
-ending-named (LeafRow l) ending = line-ending ending
-ending-named TextRow ending = line-ending ending
+ending-named : (blank : Bool) (ending : Ending) → stands_over (ending_name blank) (ending_bytes ending) ≡ true
+ending-named true ending = blank-ending ending
+ending-named false ending = line-ending ending
 
 -- What is known of a line: the pieces behind it stand.
 record LineStands (bytes : List ℕ) (row : Row) : Type 0 where
@@ -118,13 +119,12 @@ final-stands bytes (Span row rows) h = last-each (LineStands bytes) row rows h.0
 -- what stands in front of the first line of a group, in its place, and behind it
 group-stood : (bytes : List ℕ) (p : Point) (group : Group) (es : List Event) → Ordered bytes p group →
     OfGroup (LineStands bytes) group → Stood bytes es →
-    Stood bytes ((first_row group).front ++ es ++ tail_events (ending_of (group_kind group)) (final_row group))
+    Stood bytes ((first_row group).front ++ es ++ tail_events (group_ending group) (final_row group))
 group-stood bytes p group es o h stood =
     let row : Row = first_row group in
-    let kind : RowKind = group_kind group in
-    stood-append bytes (row.front ++ es) (tail_events (ending_of kind) (final_row group))
+    stood-append bytes (row.front ++ es) (tail_events (group_ending group) (final_row group))
     (stood-append bytes row.front es (fronts-stood bytes row.change.opens p row.first row.front o.front) stood)
-    ((final-stands bytes group h).tail (ending_of kind) (ending-named kind))
+    ((final-stands bytes group h).tail (group_ending group) (ending-named (is_blank_group group)))
 
 -- groups of such lines, before texts are read
 abbrev UnreadStood : List ℕ → List Name → Point → List Group → Type 0

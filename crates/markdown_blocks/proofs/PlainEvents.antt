@@ -3,6 +3,7 @@ use Rattle.md_engine.specs.declared.tokenizer.held_leaf.HeldLeaf.TheVariants as 
 use Rattle.md_engine.specs.declared.tokenizer.held_leaf.HeldLeaf.{HeldLeaf}
 use Rattle.md_outline.specs.Roles.{is_plain, is_told}
 use Rattle.std.proofs.Common.{◌≡◌, ℕ, Bool, true, false, ◌||◌, not, List, [], ◌∷◌, ◌++◌, map, refl, sym, subst}
+use Rattle.markdown_blocks.specs.LineFlags.{ending_name}
 use Rattle.markdown_blocks.specs.Rows.{Span}
 use Rattle.std.specs.Prelude.{Option, Some, None}
 use Rattle.std.specs.List.{list_all}
@@ -20,9 +21,9 @@ use Rattle.md_outline.specs.Between.{is_between}
 use Rattle.md_outline.specs.Outlined.{IsUnlisted, tells_between}
 use Rattle.markdown_blocks.specs.Change.{Change, ends_of}
 use Rattle.markdown_blocks.specs.Fronted.{contained, rest_from, rest_line}
-use Rattle.markdown_blocks.specs.Rows.{final_row, first_row, group_done, group_kind, BlankRow, Group}
-use Rattle.markdown_blocks.specs.Rows.{Lines, Row, RowKind, Single, TextRow, ending_events, group_events, groups}
-use Rattle.markdown_blocks.specs.Rows.{groups_events, tail_events, LeafRow, ending_of}
+use Rattle.markdown_blocks.specs.Rows.{final_row, first_row, group_done, Group}
+use Rattle.markdown_blocks.specs.Rows.{Lines, Row, Single, ending_events, group_events, groups}
+use Rattle.markdown_blocks.specs.Rows.{groups_events, tail_events}
 use Rattle.markdown_blocks.specs.Registry.{container_name, shape_of}
 use Rattle.markdown_blocks.proofs.ContainedLemmas.{contained-shapes}
 use Rattle.markdown_blocks.proofs.EachRow.{EachGroup, EachRow, OfGroup, groups-each, last-each}
@@ -35,6 +36,7 @@ use Rattle.markdown_blocks.proofs.PlainFacts.{ArePlain, Untold, is_clear, plain-
 use Rattle.markdown_blocks.proofs.PartedFacts.{clear, clear-between}
 use Rattle.markdown_blocks.proofs.NestedRows.{ByGroups, rows-hold}
 use Rattle.markdown_blocks.proofs.ContainerNames.{container-facts}
+use Rattle.markdown_blocks.specs.Rows.{group_ending, is_blank_group}
 
 -- Containers.
 
@@ -95,10 +97,9 @@ plain-line bytes name front inside row u leaves h k =
     (plain-tail bytes name row u leaves)
 
 -- whatever ends a line
-ending-untold : (kind : RowKind) → Untold (role (ending_of kind))
-ending-untold BlankRow = (refl, refl)
-ending-untold (LeafRow l) = (refl, refl)
-ending-untold TextRow = (refl, refl)
+ending-untold : (blank : Bool) → Untold (role (ending_name blank))
+ending-untold true = (refl, refl)
+ending-untold false = (refl, refl)
 
 -- of a group, the first line and the last
 first-plain : (bytes : List ℕ) (group : Group) → OfGroup (IsPlainRow bytes) group → IsPlainRow bytes (first_row group)
@@ -120,9 +121,9 @@ plain-by_groups bytes = record {
   none = λ p h. plain-nil bytes;
   group = λ names kept p group gs o keeps on h.
       let row : Row = first_row group in
-      let kind : RowKind = group_kind group in
       plain-append bytes (group_events bytes group) (groups_events bytes gs)
-      (plain-line bytes (ending_of kind) row.front (group_done bytes group) (final_row group) (ending-untold kind)
+      (plain-line bytes (group_ending group) row.front (group_done bytes group) (final_row group)
+      (ending-untold (is_blank_group group))
       (final-plain bytes group h.0).leaves (plain-front bytes row.change.opens p row.first row.front o.front)
       (o.leaf.2.plain (first-plain bytes group h.0).first))
       (on h.1);

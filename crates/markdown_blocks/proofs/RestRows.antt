@@ -1,7 +1,8 @@
 -- The rest of a line as a row: its bytes as they stand in the text, and its cells.
 use Rattle.std.proofs.Common.{◌≡◌, ℕ, zero, suc, ◌≤◌, Bool, true, false, cond, ◌==◌, List, [], ◌∷◌, ◌++◌, refl, sym, ap}
-use Rattle.std.proofs.Common.{◌∙◌}
-use Rattle.std.proofs.lemmas.Bool.{and_parts, or_right}
+use Rattle.std.proofs.Common.{◌∙◌, ◌+◌, length, arith}
+use Rattle.std.proofs.lemmas.Bool.Decides.{nat_tests}
+use Rattle.std.proofs.lemmas.Bool.{and_parts, or_parts, or_right}
 use Rattle.md_engine.specs.declared.event.Event.{Event}
 use Rattle.md_engine.specs.declared.event.Name.TheVariants as n
 use Rattle.md_engine.specs.declared.event.Point.{Point}
@@ -15,7 +16,9 @@ use Rattle.md_definition.specs.Rest.{Rest, cut_tab, is_blank, is_white}
 use Rattle.md_seam.proofs.FeedLines.{Stops, all-spread, bytes_of, cell, columns_more, from_ending-append}
 use Rattle.md_seam.proofs.FeedLines.{no_feed-spread, past_text-whole, spread, stops-white, tab_cells, tab_end}
 use Rattle.md_seam.proofs.FeedLines.{tab_end-stop}
-use Rattle.md_seam.proofs.RestCells.{Cut, past_cut, past_rest, rest_cells}
+use Rattle.md_seam.specs.Look.{first_seen}
+use Rattle.md_seam.specs.Spaces.{ends_line}
+use Rattle.md_seam.proofs.RestCells.{Cut, cells_by, past_cut, past_rest, rest_cells}
 use Rattle.md_definition.proofs.TextsLemmas.{NoEnding}
 use Rattle.markdown_blocks.specs.Fronted.{rest_line}
 use Rattle.markdown_blocks.specs.Rows.{blank_line}
@@ -73,6 +76,42 @@ rest-ending said r p stop h k one cut =
     rest-same (List Cell) from_ending said (λ at cs. refl) r p stop one cut
     ∙ from_ending-append (spread said (rest_line r) p) stop (no_feed-spread said (rest_line r) p (rest-no_ending r h))
     ∙ stops-rest stop k
+
+-- nothing stands there if there are none
+pub rest-empty : (said : Line) (r : Rest) (p : Point) (stop : List Cell) (q : ℕ) → NoEnding r.bytes → Stops stop →
+    q ≡ p.index + length (rest_line r) →
+    ends_line (first_seen (rest_cells said r p ++ stop)) ≡ (p.index == q)
+rest-empty said r p stop q none k e = go r.spaces r.bytes none e
+  where
+    nothing : q ≡ p.index + 0 → true ≡ (p.index == q)
+    nothing e = grind (arith, nat_tests)
+
+    some : (n : ℕ) → q ≡ p.index + suc n → false ≡ (p.index == q)
+    some n e = grind (arith, nat_tests)
+
+    ended : (stop : List Cell) → Stops stop → ends_line (first_seen stop) ≡ true
+    ended [] k = refl
+    ended (c ∷ cs) k = k
+
+    tab : (n byte : ℕ) (more : List Cell) → (byte == 10) ≡ false →
+        ends_line (first_seen ((tab_cells said n byte p ++ more) ++ stop)) ≡ false
+    tab zero byte more other = other
+    tab (suc n) byte more other = other
+
+    first : (b : ℕ) (x : Bool) (more : List Cell) → (b == 10) ≡ false →
+        ends_line
+        (first_seen
+        ((cond x (tab_cells said (columns_more p) 9 p) (cell b (past_byte b p) said ∷ []) ++ more) ++ stop)) ≡
+        false
+    first b true more other = tab (columns_more p) 9 more refl
+    first b false more other = other
+
+    go : (spaces : ℕ) (bytes : List ℕ) → NoEnding bytes → q ≡ p.index + length (cut_tab spaces ++ bytes) →
+        ends_line (first_seen (cells_by said spaces bytes p ++ stop)) ≡ (p.index == q)
+    go zero [] none e = ended stop k ∙ nothing e
+    go zero (b ∷ bs) none e =
+        first b (b == 9) (spread said bs (past_byte b p)) (or_parts (b == 10) (b == 13) none.0).0 ∙ some (length bs) e
+    go (suc n) bytes none e = tab n 32 (spread said bytes (tab_end n p)) refl ∙ some (length bytes) e
 
 -- it is blank if the bytes of the rest are
 pub rest-blank : (said : Line) (r : Rest) (p : Point) (stop : List Cell) → NoEnding r.bytes → Stops stop →

@@ -14,7 +14,8 @@ use Rattle.markdown_blocks.specs.Change.{open_behind}
 use Rattle.markdown_blocks.proofs.LeafFacts.{LineAt}
 use Rattle.md_definition.specs.Rest.{Rest}
 use Rattle.markdown_blocks.specs.Fronted.{contained, rest_from, rest_line}
-use Rattle.markdown_blocks.specs.Rows.{BlankRow, LeafRow, Row, TextRow, blank_line, line_behind, line_kind}
+use Rattle.markdown_blocks.specs.Rows.{BlankRow, LeafRow, Row, TextRow, blank_line, is_empty_row, line_behind}
+use Rattle.markdown_blocks.specs.Rows.{line_kind}
 use Rattle.markdown_blocks.proofs.FrontFacts.{LinePrefix}
 use Rattle.markdown_blocks.proofs.PieceFacts.{CutsFirst}
 
@@ -34,6 +35,8 @@ pub record IsRow (options : ParseOptions) (bytes line : List ℕ) (row : Row) : 
   pub end_whole : row.end.vs ≡ 0
   pub cut_first : CutsFirst row.first line
   pub cut : Cut rest.spaces row.first
+  -- nothing stands there if it ends where it begins
+  pub empty : row.empty ≡ is_empty_row row
   -- what flow adds for it
   pub blank : row.kind ≡ BlankRow → row.inside ≡ blank_line line row.first
   pub leaf_is : (l : LeafName) → row.kind ≡ LeafRow l → row.inside ≡ (leaf l).added options row.on line row.first

@@ -1,19 +1,23 @@
 -- What is known of the leaf of a line of a text, by the laws of its construct.
-use Rattle.std.proofs.Common.{◌≡◌, ◌≢◌, ℕ, Bool, true, false, List, refl, sym, ◌∙◌, subst}
-use Rattle.std.specs.Prelude.{Option, Some, None}
+use Rattle.std.proofs.Common.{◌≡◌, ◌≢◌, ℕ, Bool, true, false, List, [], ◌∷◌, ◌+◌, length, arith}
+use Rattle.std.proofs.Common.{refl, sym, ap, ◌∙◌, subst, subst₂}
+use Rattle.std.proofs.lemmas.Bool.Decides.{nat_tests}
+use Rattle.std.specs.Prelude.{Option, Some, None, not}
 use Rattle.md_engine.specs.declared.configuration.ParseOptions.{ParseOptions}
 use Rattle.md_engine.specs.declared.event.Content.{Content}
 use Rattle.md_engine.specs.declared.event.Content.TheVariants as content
 use Rattle.md_engine.specs.declared.event.Event.{Event}
-use Rattle.md_definition.specs.Rest.{Rest}
+use Rattle.md_definition.specs.Rest.{Rest, is_blank}
 use Rattle.md_definition.specs.Tree.{Block}
 use Rattle.md_seam.specs.Substituted.{Readings}
 use Rattle.markdown_blocks.specs.Fronted.{rest_line}
 use Rattle.markdown_blocks.specs.Registry.{LeafName, leaf}
 use Rattle.markdown_blocks.specs.Rows.{BlankRow, LeafRow, Row, RowKind, TextRow, blank_line, leaf_done, leaf_unread}
-use Rattle.markdown_blocks.specs.Rows.{row_line}
+use Rattle.markdown_blocks.specs.Rows.{is_blank_by, is_blank_row, is_empty_row, row_line}
 use Rattle.markdown_blocks.proofs.BlankLine.{blank-facts, blank-unlinked}
-use Rattle.markdown_blocks.proofs.KindLemmas.{kind-blank, kind-starts}
+use Rattle.markdown_blocks.proofs.KindLemmas.{kind-blank, kind-filled, kind-starts}
+use Rattle.markdown_blocks.proofs.Registry.{insider-open}
+use Rattle.markdown_blocks.proofs.RestRows.{line-blank}
 use Rattle.markdown_blocks.proofs.LeafFacts.{LeafFacts, LineAt, ReadsText}
 use Rattle.markdown_blocks.proofs.Registry.{laws}
 use Rattle.markdown_blocks.proofs.RowFacts.{IsRow, line-at}
@@ -24,12 +28,6 @@ abbrev pub block_of : RowKind → Rest → Option Block
 block_of BlankRow r = None
 block_of (LeafRow l) r = Some ((leaf l).block r)
 block_of TextRow r = None
-
--- whether something stands on it
-abbrev pub fills : RowKind → Bool
-fills BlankRow = false
-fills (LeafRow l) = true
-fills TextRow = true
 
 -- a leaf that takes such a line always ends on it
 abbrev pub EndsOnLine : RowKind → Type 0
@@ -45,17 +43,32 @@ pub leaf-at : (options : ParseOptions) (bytes line : List ℕ) (row : Row) → (
 leaf-at options bytes line row is =
     subst (λ (l : List ℕ). LineAt bytes is.rest l row.first row.end) is.line_is (line-at options bytes line row is)
 
+-- something stands on the line of a leaf that always ends there
+pub leaf-filled : (options : ParseOptions) (bytes line : List ℕ) (row : Row) (l : LeafName) →
+    IsRow options bytes line row → row.kind ≡ LeafRow l → (leaf l).ends ≡ true → row.empty ≡ false
+leaf-filled options bytes line row l is e ends =
+    let some : is_blank (rest_line is.rest) ≡ false =
+    line-blank is.rest
+    ∙ kind-filled options row.on is.rest l (sym is.kind ∙ e)
+    (λ i. let bad : true ≡ false = sym ends ∙ insider-open row.on l i in cc) in
+    is.empty ∙ go line (ap is_blank is.line_is ∙ some) is.size
+  where
+    go : (line : List ℕ) → is_blank line ≡ false → row.end.index ≡ row.first.index + length line →
+        is_empty_row row ≡ false
+    go [] some size = cc
+    go (b ∷ bs) some size = grind (arith, nat_tests)
+
 -- A line that is no text, and no line of a leaf of several, by its kind.
 
 abbrev Facts : List ℕ → Row → Rest → RowKind → Type 0
 Facts bytes row r kind =
-    LeafFacts bytes (block_of kind r) (fills kind) row.first row.end (leaf_unread bytes kind row)
+    LeafFacts bytes (block_of kind r) (not (is_blank_by kind row)) row.first row.end (leaf_unread bytes kind row)
     (leaf_done bytes kind row)
 
 pub row-facts : (options : ParseOptions) (bytes line : List ℕ) (row : Row) → (is : IsRow options bytes line row) →
     row.kind ≢ TextRow → EndsOnLine row.kind →
-    LeafFacts bytes (block_of row.kind is.rest) (fills row.kind) row.first row.end (leaf_unread bytes row.kind row)
-    (leaf_done bytes row.kind row)
+    LeafFacts bytes (block_of row.kind is.rest) (not (is_blank_row row)) row.first row.end
+    (leaf_unread bytes row.kind row) (leaf_done bytes row.kind row)
 row-facts options bytes line row is other ends = go row.kind refl
   where
     go : (kind : RowKind) → row.kind ≡ kind → Facts bytes row is.rest row.kind
@@ -68,9 +81,11 @@ row-facts options bytes line row is other ends = go row.kind refl
         let starts : (leaf l).starts options row.on is.rest ≡ true =
         kind-starts options row.on is.rest l (sym is.kind ∙ e) in
         subst (Facts bytes row is.rest) (sym e)
-        (subst (λ (own : List ℕ). LeafFacts bytes (Some ((leaf l).block is.rest)) true row.first row.end
-        ((leaf l).unread own row.first) ((leaf l).done bytes own row.first))
-        (sym (row-text options bytes line row is))
+        (subst₂
+        (λ (own : List ℕ) (empty : Bool).
+        LeafFacts bytes (Some ((leaf l).block is.rest)) (not empty) row.first row.end ((leaf l).unread own row.first)
+        ((leaf l).done bytes own row.first))
+        (sym (row-text options bytes line row is)) (sym (leaf-filled options bytes line row l is e (ends l e)))
         ((laws l).facts (ends l e) options row.on bytes is.rest row.first row.end starts
         (leaf-at options bytes line row is)))
     go TextRow e = absurd (other e)
@@ -84,7 +99,7 @@ IsLeaf bytes row =
 pub row-leaf : (options : ParseOptions) (bytes line : List ℕ) (row : Row) → IsRow options bytes line row →
     row.kind ≢ TextRow → EndsOnLine row.kind → IsLeaf bytes row
 row-leaf options bytes line row is other ends =
-    (block_of row.kind is.rest, fills row.kind, row-facts options bytes line row is other ends)
+    (block_of row.kind is.rest, not (is_blank_row row), row-facts options bytes line row is other ends)
 
 -- its text parts are read in the places of their chunks
 pub row-becomes : (options : ParseOptions) (bytes line : List ℕ) (row : Row) → IsRow options bytes line row →

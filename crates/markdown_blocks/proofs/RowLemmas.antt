@@ -33,7 +33,9 @@ use Rattle.markdown_blocks.specs.Rows.{held_at, inside_of}
 use Rattle.markdown_blocks.specs.Rows.{line_kind, onto_rows, row_kind, row_of, rows_at, rows_by}
 use Rattle.markdown_blocks.proofs.FrontRows.{HasHeld, held-is}
 use Rattle.markdown_blocks.proofs.RestFacts.{rest-line_end, rest-no_ending}
-use Rattle.markdown_blocks.proofs.RestRows.{rest-cut, rest-ending, rest-past, rest-whole}
+use Rattle.md_seam.specs.Look.{first_seen}
+use Rattle.md_seam.specs.Spaces.{ends_line}
+use Rattle.markdown_blocks.proofs.RestRows.{rest-cut, rest-empty, rest-ending, rest-past, rest-whole}
 use Rattle.markdown_blocks.proofs.RowFacts.{AreRows, IsEnding, IsLine, IsRow, behind_line}
 use Rattle.markdown_blocks.proofs.RowKinds.{behind-rest, blank-inside, kind-rest, leaf-inside}
 use Rattle.markdown_blocks.proofs.RegistryRead.{AreRead}
@@ -80,6 +82,9 @@ held-row options bytes behind said r stop h below fed short is none k =
       end_whole = ap (λ (q : Point). q.vs) end ∙ rest-whole r p is.cut;
       cut_first = rest-cut r p is.cut;
       cut = is.cut;
+      empty =
+          ap (λ (l : List Cell). ends_line (first_seen l)) fed
+          ∙ rest-empty said r p stop (line_end h.cells p).index none k index;
       blank =
           λ e. inside (row_kind options h.on h.cells)
           ∙ blank-inside options h.on said bytes behind r p stop (row_kind options h.on h.cells) is none k kind e;

@@ -3,6 +3,7 @@
 use Rattle.md_engine.specs.declared.tokenizer.held_leaf.HeldLeaf.TheVariants as held_leaf
 use Rattle.md_engine.specs.declared.tokenizer.held_leaf.HeldLeaf.{HeldLeaf}
 use Rattle.std.proofs.Common.{◌≡◌, ◌≢◌, ℕ, zero, suc, ◌+◌, ◌-◌, Bool, true, false, cond, ◌&&◌, List, [], ◌∷◌, ◌++◌}
+use Rattle.markdown_blocks.specs.LineFlags.{ending_name}
 use Rattle.markdown_blocks.specs.Registry.{leaf}
 use Rattle.markdown_blocks.proofs.JoinedLemmas.{leaf-first}
 use Rattle.markdown_blocks.proofs.Registry.{leaf-ends}
@@ -52,6 +53,7 @@ use Rattle.markdown_blocks.proofs.SpelledParagraphs.{IsRead, read-lines, read-mo
 use Rattle.markdown_blocks.proofs.PrefixFacts.{begins}
 use Rattle.markdown_blocks.proofs.PrefixNames.{prefixes-roles}
 use Rattle.markdown_blocks.proofs.ContainerNames.{container-facts}
+use Rattle.markdown_blocks.specs.Rows.{is_blank_row}
 
 -- The ends and begins of containers.
 
@@ -496,10 +498,9 @@ still-line options bytes a p line row built plain is =
     ∙ sym (line-behind options bytes (containers_of a) (still_of a) p line row is)
 
 -- the ending of a line opens no line of a leaf
-ending-role : (kind : RowKind) → Between (role (ending_of kind))
-ending-role BlankRow = tt
-ending-role (LeafRow l) = tt
-ending-role TextRow = tt
+ending-role : (blank : Bool) → Between (role (ending_name blank))
+ending-role true = tt
+ending-role false = tt
 
 -- a line that is no text comes to the block that it shows
 shown-leaf : (options : ParseOptions) (p : Path) (r : Rest) (kind : RowKind) → kind ≢ TextRow →
@@ -558,7 +559,7 @@ row-means options bytes p a line row gs last built plain is follows = go (goes_l
     single : row.kind ≢ TextRow → Follows options bytes (to row.kind) row gs last →
         Reads options bytes p row.change.closes (Single row ∷ gs) last
     single other further =
-        single-reads options bytes p c row gs last (to row.kind) (ending_of row.kind)
+        single-reads options bytes p c row gs last (to row.kind) (ending_of row.kind row)
         (leaf_done bytes row.kind row) shapes is.change a is.front
         (λ s same.
         ap (λ (x : Reading). read bytes x (leaf_done bytes row.kind row)) same
@@ -567,7 +568,8 @@ row-means options bytes p a line row gs last built plain is follows = go (goes_l
         ∙ ap (λ (r : Rest). shown (block_of row.kind r) (reading options o)) is.rest_is
         ∙ shown-leaf options o c.rest row.kind other
         ∙ sym (reading-with options o (λ bs. spot_by bs [] c.rest row.kind) none))
-        (ending-role row.kind) (no-joins options bytes (to row.kind) row gs last (other-kind row.kind other) further)
+        (ending-role (is_blank_row row))
+        (no-joins options bytes (to row.kind) row gs last (other-kind row.kind other) further)
 
     -- text is read with the lines that go on it
     text-reads : StartsLines options bytes o row (onto_groups row TextRow gs) last →

@@ -16,14 +16,15 @@ use Rattle.md_seam.proofs.SpelledLemmas.{Between}
 use Rattle.markdown_blocks.specs.Change.{ends_of}
 use Rattle.markdown_blocks.specs.Document.{body_point, mark_events}
 use Rattle.markdown_blocks.specs.Registry.{container_name, shape_of}
-use Rattle.markdown_blocks.specs.Rows.{Group, Row, ending_events, ending_of, final_row, first_row, group_done}
-use Rattle.markdown_blocks.specs.Rows.{group_kind, groups, groups_events}
+use Rattle.markdown_blocks.specs.Rows.{Group, Row, ending_events, final_row, first_row, group_done}
+use Rattle.markdown_blocks.specs.Rows.{groups, groups_events}
 use Rattle.markdown_blocks.proofs.ContainerNames.{container-facts, open_names}
 use Rattle.markdown_blocks.proofs.FrontFacts.{Begins, Behind, Goes, LinePrefix}
 use Rattle.markdown_blocks.proofs.LeafStands.{between-stand, ending-between, mark-between, moves-stand}
 use Rattle.markdown_blocks.proofs.NestedRows.{ByGroups, Keeps, Ordered, rows-hold}
 use Rattle.markdown_blocks.proofs.PrefixNames.{prefixes-roles}
 use Rattle.markdown_blocks.proofs.RowFacts.{AreRows}
+use Rattle.markdown_blocks.specs.Rows.{group_ending, is_blank_group}
 
 -- What is open.
 
@@ -100,7 +101,7 @@ group-stands bytes names kept p group gs o keeps on =
     (subst (λ (l : List Name). StandsTo bytes (under l) (under kept) ends) (sym keeps)
     (ends-stand bytes last.leaves kept last.end))
     (stand-through bytes (under kept) (under kept) ending events
-    (between-stand bytes (items_of kept) ending (ending-between (group_kind group) last)) on))))
+    (between-stand bytes (items_of kept) ending (ending-between (is_blank_group group) last)) on))))
   where
     row : Row
     row = first_row group
@@ -118,7 +119,7 @@ group-stands bytes names kept p group gs o keeps on =
     ends = ends_of last.leaves last.end
 
     ending : List Event
-    ending = ending_events (ending_of (group_kind group)) last
+    ending = ending_events (group_ending group) last
 
     events : List Event
     events = groups_events bytes gs

@@ -22,8 +22,8 @@ use Rattle.md_seam.proofs.InlineLemmas.{same-refl}
 use Rattle.markdown_blocks.specs.Registry.{leaf, container_name}
 use Rattle.markdown_blocks.specs.Change.{ends_of}
 use Rattle.markdown_blocks.specs.Document.{body_point, mark_end, mark_events}
-use Rattle.markdown_blocks.specs.Rows.{Span, final_row, first_row, group_kind, is_further, onto_leaf, LeafRow}
-use Rattle.markdown_blocks.specs.Rows.{ending_of, BlankRow, Group, Lines, Row, RowKind, Single, TextRow, behind_row}
+use Rattle.markdown_blocks.specs.Rows.{Span, final_row, first_row, group_ending, is_further, onto_leaf, LeafRow}
+use Rattle.markdown_blocks.specs.Rows.{BlankRow, Group, Lines, Row, RowKind, Single, TextRow, behind_row}
 use Rattle.markdown_blocks.specs.Rows.{ending_events, goes_on as joins_on, groups, last_row, onto_groups, tail_events}
 use Rattle.markdown_blocks.specs.Unread.{group_unread, listed_group, listed_groups}
 use Rattle.markdown_blocks.proofs.JoinedLemmas.{behind-is, behind-none}
@@ -88,7 +88,7 @@ laid-by_groups bytes = record {
       let last : Row = final_row group in
       follows-append p (behind_row last) (behind_groups (behind_row last) gs) (listed_group bytes group)
       (listed_groups bytes gs)
-      (line-covers (ending_of (group_kind group)) row last p (group_unread bytes group)
+      (line-covers (group_ending group) row last p (group_unread bytes group)
       (fronts-tiled bytes row.change.opens p row.first row.front o.front) o.leaf.2.tiled) more;
 }
 

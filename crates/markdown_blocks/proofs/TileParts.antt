@@ -13,11 +13,12 @@ use Rattle.md_seam.specs.Events.Places.{first_point}
 use Rattle.md_definition.specs.Preamble.{has_mark}
 use Rattle.md_definition.specs.State.{Container}
 use Rattle.md_seam.specs.Events.Tiles.{chunks_stand, part_kind, parts_stand}
+use Rattle.markdown_blocks.specs.LineFlags.{ending_name}
 use Rattle.markdown_blocks.specs.Change.{ends_of}
 use Rattle.markdown_blocks.specs.Document.{body_point, mark_end, mark_events}
 use Rattle.markdown_blocks.specs.HeldLeaf.{has_lines}
-use Rattle.markdown_blocks.specs.Rows.{final_row, first_row, group_kind, LeafRow, ending_of, BlankRow, Group, Row}
-use Rattle.markdown_blocks.specs.Rows.{RowKind, TextRow, ending_events, groups, tail_events}
+use Rattle.markdown_blocks.specs.Rows.{final_row, first_row, Group, Row}
+use Rattle.markdown_blocks.specs.Rows.{ending_events, groups, tail_events}
 use Rattle.markdown_blocks.specs.Unread.{group_unread, listed_group, listed_groups}
 use Rattle.markdown_blocks.proofs.GroupLemmas.{AreGroups, HasFront, groups-are}
 use Rattle.markdown_blocks.proofs.JoinedLemmas.{EachNoContent}
@@ -27,6 +28,7 @@ use Rattle.markdown_blocks.proofs.GroupFacts.{group-front, group-leaf, more-grou
 use Rattle.markdown_blocks.proofs.RowFacts.{AreRows}
 use Rattle.markdown_blocks.proofs.PartsStand.{Stands, stands-append, stands-outside}
 use Rattle.markdown_blocks.proofs.FrontNames.{ends-no_parts, ends-unlinked, fronts-no_parts, fronts-unlinked}
+use Rattle.markdown_blocks.specs.Rows.{group_ending, is_blank_group}
 
 -- Events in front of others.
 
@@ -54,18 +56,17 @@ stands-line bytes name row last es other front h =
 -- Groups.
 
 -- a line ending is no text part
-pub ending-no_part : (kind : RowKind) → part_kind (ending_of kind) ≡ None
-ending-no_part BlankRow = refl
-ending-no_part (LeafRow l) = refl
-ending-no_part TextRow = refl
+pub ending-no_part : (blank : Bool) → part_kind (ending_name blank) ≡ None
+ending-no_part true = refl
+ending-no_part false = refl
 
 stands-groups : (options : ParseOptions) (bytes : List ℕ) (gs : List Group) → AreGroups options bytes gs →
     Stands bytes (listed_groups bytes gs)
 stands-groups options bytes [] are = stands-outside bytes [] tt tt
 stands-groups options bytes (group ∷ gs) are =
     stands-append bytes (listed_group bytes group) (listed_groups bytes gs)
-    (stands-line bytes (ending_of (group_kind group)) (first_row group) (final_row group) (group_unread bytes group)
-    (ending-no_part (group_kind group)) (group-front options bytes group gs are)
+    (stands-line bytes (group_ending group) (first_row group) (final_row group) (group_unread bytes group)
+    (ending-no_part (is_blank_group group)) (group-front options bytes group gs are)
     (group-leaf options bytes group gs are).2.parts)
     (stands-groups options bytes gs (more-groups options bytes group gs are))
 

@@ -23,7 +23,7 @@ use Rattle.markdown_blocks.specs.Document.{body_point, mark_end, mark_events}
 use Rattle.markdown_blocks.specs.FlowReads.{text_cells, text_rows}
 use Rattle.markdown_blocks.specs.Parsed.{reads_plain}
 use Rattle.markdown_blocks.specs.HeldLeaf.{has_lines}
-use Rattle.markdown_blocks.specs.Rows.{final_row, first_row, group_done, group_kind, ending_of, Group, Row}
+use Rattle.markdown_blocks.specs.Rows.{final_row, first_row, group_done, Group, Row}
 use Rattle.markdown_blocks.specs.Rows.{ending_events, group_events, groups, groups_events, held_at, tail_events}
 use Rattle.markdown_blocks.specs.Unread.{group_unread, listed_group, listed_groups}
 use Rattle.markdown_blocks.proofs.GroupLemmas.{AreGroups, HasFront, groups-are}
@@ -33,6 +33,7 @@ use Rattle.markdown_blocks.proofs.RowFacts.{AreRows}
 use Rattle.markdown_blocks.proofs.TileParts.{ending-no_part}
 use Rattle.markdown_blocks.proofs.FillFacts.{Fill, fill-append, fill-same}
 use Rattle.markdown_blocks.proofs.FrontNames.{ends-no_parts, ends-unlinked, fronts-no_parts, fronts-unlinked}
+use Rattle.markdown_blocks.specs.Rows.{group_ending, is_blank_group}
 
 -- events that are those of a block list, with what is read in the place of each chunk
 pub record IsFilled (bytes : List ℕ) (blocks events : List Event) : Type 0 where
@@ -91,8 +92,8 @@ fill-groups options bytes [] are = fill-same bytes [] tt tt
 fill-groups options bytes (group ∷ gs) are =
     fill-append bytes (listed_group bytes group) (group_events bytes group) (listed_groups bytes gs)
     (groups_events bytes gs)
-    (fill-line bytes (ending_of (group_kind group)) (first_row group) (final_row group) (group_unread bytes group)
-    (group_done bytes group) (ending-no_part (group_kind group)) (group-front options bytes group gs are)
+    (fill-line bytes (group_ending group) (first_row group) (final_row group) (group_unread bytes group)
+    (group_done bytes group) (ending-no_part (is_blank_group group)) (group-front options bytes group gs are)
     (group-leaf options bytes group gs are).2.filled)
     (fill-groups options bytes gs (more-groups options bytes group gs are))
 

@@ -17,8 +17,8 @@ use Rattle.md_containers.specs.Listed.{listed}
 use Rattle.md_seam.specs.Events.Nested.{around, enter_link, exit}
 use Rattle.markdown_blocks.specs.Document.{body_point, mark_events}
 use Rattle.markdown_blocks.specs.Registry.{text_leaf}
-use Rattle.markdown_blocks.specs.Rows.{Group, Lines, Row, Span, final_row, first_row, group_kind, RowKind, Single}
-use Rattle.markdown_blocks.specs.Rows.{behind_row, span_by}
+use Rattle.markdown_blocks.specs.Rows.{Group, Lines, Row, Span, final_row, first_row, RowKind, Single}
+use Rattle.markdown_blocks.specs.Rows.{behind_row, group_ending, span_by}
 use Rattle.markdown_blocks.specs.Rows.{ending_of, groups, last_row, leaf_unread, tail_events}
 use Rattle.markdown_blocks.specs.TextRows.{text_rows}
 
@@ -39,7 +39,7 @@ text_unread row rows = around text_leaf.name row.first (last_row row rows).end (
 
 -- a line that is no text
 abbrev pub listed_row_by : List ℕ → RowKind → Row → List Event
-listed_row_by bytes kind row = row.front ++ leaf_unread bytes kind row ++ tail_events (ending_of kind) row
+listed_row_by bytes kind row = row.front ++ leaf_unread bytes kind row ++ tail_events (ending_of kind row) row
 
 -- the leaf of such a line, or of the lines of a text
 abbrev pub group_unread : List ℕ → Group → List Event
@@ -50,7 +50,7 @@ group_unread bytes (Span row rows) = span_by (λ (r : Row). r.inside) row rows
 -- with what stands in front of it, and behind it
 abbrev pub listed_group : List ℕ → Group → List Event
 listed_group bytes group =
-    (first_row group).front ++ group_unread bytes group ++ tail_events (ending_of (group_kind group)) (final_row group)
+    (first_row group).front ++ group_unread bytes group ++ tail_events (group_ending group) (final_row group)
 
 abbrev pub listed_groups : List ℕ → List Group → List Event
 listed_groups bytes [] = []

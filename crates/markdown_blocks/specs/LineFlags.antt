@@ -49,6 +49,10 @@ abbrev pub begun_line : Flags → Flags
 begun_line g =
     record g { leaf_before = g.leaf; leaf = met_by (not (nat_lt g.continued (length g.containers))) g.leaf }
 
+-- in front of the leaf that is asked first, by whether the line ends here: its ending is that of a blank line then
+abbrev pub blank_here : Bool → Flags → Flags
+blank_here ends g = record g { blank = ends }
+
 -- behind a leaf on one line none is open
 abbrev pub shut_leaf : Flags → Flags
 shut_leaf g = record g { leaf = held_leaf.None }

@@ -17,11 +17,14 @@ use Rattle.md_content.specs.Chunks.{content_link}
 use Rattle.md_leaves.specs.BlankRule.{blank_events}
 use Rattle.md_seam.specs.declared.inline.Chunk.{Chunk}
 use Rattle.md_seam.specs.Ahead.{from_ending, line_bytes, line_end}
+use Rattle.md_seam.specs.Look.{first_seen}
+use Rattle.md_seam.specs.Spaces.{ends_line}
 use Rattle.md_seam.specs.Events.Inline.{plain_chunk}
 use Rattle.md_seam.specs.Events.Places.{past_text}
 use Rattle.md_seam.specs.Events.Nested.{around, enter_link, exit, pair}
 use Rattle.md_definition.specs.Rest.{Rest, is_blank}
 use Rattle.md_definition.specs.State.{Container}
+use Rattle.markdown_blocks.specs.LineFlags.{ending_name}
 use Rattle.markdown_blocks.specs.Passed.{Passed}
 use Rattle.markdown_blocks.specs.Registry.{LeafName, first_of, goes_at, insider, leaf, opens_at, text_leaf, trials}
 use Rattle.markdown_blocks.specs.Change.{Change, change_by, ends_of, interrupts, is_none, met, open_behind, others_of}
@@ -44,9 +47,11 @@ pub record Row : Type 0 where
   pub change : Change
   -- those that end behind it, the outermost first
   pub leaves : List Container
-  -- behind its containers: where it begins, what flow adds for it unless it is text (the whitespace of a blank line, or
-  -- a leaf from its begin to its end), where its ending begins, and where it has ended, if it has an ending
+  -- behind its containers: where it begins, whether it ends there too, what flow adds for it unless it is text (the
+  -- whitespace of a blank line, or a leaf from its begin to its end), where its ending begins, and where it has ended,
+  -- if it has an ending
   pub first : Point
+  pub empty : Bool
   pub inside : List Event
   pub end : Point
   pub after : Option Point
@@ -200,6 +205,7 @@ row_of options h below = record {
   change = h.change;
   leaves = closes_before (open_behind h.change) below;
   first = h.point;
+  empty = ends_line (first_seen h.cells);
   inside = inside_of options h.on h.cells h.point (row_kind options h.on h.cells);
   end = line_end h.cells h.point;
   after = after_ending (from_ending h.cells);
@@ -233,13 +239,22 @@ ending_events name row = elim row.after [ None ↦ [] | Some q ↦ pair name row
 abbrev pub tail_events : Name → Row → List Event
 tail_events name row = ends_of row.leaves row.end ++ ending_events name row
 
-abbrev pub ending_of : RowKind → Name
-ending_of BlankRow = n.BlankLineEnding
-ending_of _ = n.LineEnding
-
 -- whether nothing at all stands on the rest of a line
 abbrev pub is_empty_row : Row → Bool
 is_empty_row row = row.first.index == row.end.index
+
+-- whether a line is blank to its ending: so is a line of a leaf on which nothing stands, as an empty one of fenced
+-- code; a line of text never is
+abbrev pub is_blank_by : RowKind → Row → Bool
+is_blank_by BlankRow row = true
+is_blank_by (LeafRow l) row = row.empty
+is_blank_by TextRow row = false
+
+abbrev pub is_blank_row : Row → Bool
+is_blank_row row = is_blank_by row.kind row
+
+abbrev pub ending_of : RowKind → Row → Name
+ending_of kind row = ending_name (is_blank_by kind row)
 
 -- what flow adds for the rest of a line
 abbrev pub leaf_events : RowKind → Row → List Event
@@ -248,7 +263,7 @@ leaf_events (LeafRow l) row = row.inside
 leaf_events TextRow row = enter_link n.Content row.first content_link ∷ exit n.Content row.end ∷ []
 
 abbrev pub row_events_by : RowKind → Row → List Event
-row_events_by kind row = row.front ++ leaf_events kind row ++ tail_events (ending_of kind) row
+row_events_by kind row = row.front ++ leaf_events kind row ++ tail_events (ending_of kind row) row
 
 -- all events of a line
 abbrev pub row_events : Row → List Event
@@ -278,7 +293,7 @@ leaf_done bytes TextRow row = leaf_events TextRow row
 
 -- the events of a line that is no text, once its parts are read
 abbrev pub single_events_by : List ℕ → RowKind → Row → List Event
-single_events_by bytes kind row = row.front ++ leaf_done bytes kind row ++ tail_events (ending_of kind) row
+single_events_by bytes kind row = row.front ++ leaf_done bytes kind row ++ tail_events (ending_of kind row) row
 
 -- Texts.
 
@@ -388,6 +403,13 @@ group_kind (Single row) = row.kind
 group_kind (Lines row rows) = TextRow
 group_kind (Span row rows) = (last_row row rows).kind
 
+-- whether that line is blank to its ending, and the name of this
+abbrev pub is_blank_group : Group → Bool
+is_blank_group group = is_blank_by (group_kind group) (final_row group)
+
+abbrev pub group_ending : Group → Name
+group_ending group = ending_name (is_blank_group group)
+
 abbrev pub group_done : List ℕ → Group → List Event
 group_done bytes (Single row) = leaf_done bytes row.kind row
 group_done bytes (Lines row rows) = text_done bytes row rows
@@ -396,7 +418,7 @@ group_done bytes (Span row rows) = span_done bytes row rows
 -- what stands in front of its first line, its leaf, and what stands behind its last line
 abbrev pub group_events : List ℕ → Group → List Event
 group_events bytes group =
-    (first_row group).front ++ group_done bytes group ++ tail_events (ending_of (group_kind group)) (final_row group)
+    (first_row group).front ++ group_done bytes group ++ tail_events (group_ending group) (final_row group)
 
 -- the events of a text, once all its parts are read
 abbrev pub groups_events : List ℕ → List Group → List Event

@@ -325,7 +325,7 @@ pub fn containers_after(tokenizer: &mut Tokenizer) -> State
 }
 
 /// Behind all containers of a line, where a leaf is open in which none opens: it is asked first whether the line goes on
-/// it.
+/// it. It may do so over an empty line, whose ending is that of a blank line.
 ///
 /// ```markdown
 ///   | ~~~
@@ -340,6 +340,7 @@ pub fn flow_inside(tokenizer: &mut Tokenizer) -> State
     match registry::inside_start(tokenizer.flags.leaf) {
         None => State::Retry(StateName::Flow(FlowState::Start)),
         Some(start) => {
+            tokenizer.flags.blank = ends_line(tokenizer.current);
             or_error!(tokenizer.attempt(
                 State::Next(StateName::Flow(FlowState::After)),
                 State::Next(StateName::Flow(FlowState::Start))
