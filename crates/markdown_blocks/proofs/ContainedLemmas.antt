@@ -131,6 +131,7 @@ lazy-opens (held_leaf.Fence marker size indent) (c ∷ cs) kind e = cc
 record MeetsLines (still : HeldLeaf) (others opens : List Container) : Type 0 where
   opened : opens ≡ []
   ended : others ≡ []
+  is : met still others opens ≡ still
   still_lines : takes_lazy still ≡ false
 
 met-lines : (still : HeldLeaf) (others opens : List Container) → has_lines (met still others opens) ≡ true →
@@ -139,9 +140,9 @@ met-lines still others (c ∷ opens) h = cc
 met-lines held_leaf.None [] [] h = cc
 met-lines held_leaf.None (c ∷ others) [] h = cc
 met-lines held_leaf.Text others [] h = cc
-met-lines held_leaf.Code [] [] h = record { opened = refl; ended = refl; still_lines = refl }
+met-lines held_leaf.Code [] [] h = record { opened = refl; ended = refl; is = refl; still_lines = refl }
 met-lines held_leaf.Code (c ∷ others) [] h = cc
-met-lines (held_leaf.Fence marker size indent) [] [] h = record { opened = refl; ended = refl; still_lines = refl }
+met-lines (held_leaf.Fence marker size indent) [] [] h = record { opened = refl; ended = refl; is = refl; still_lines = refl }
 met-lines (held_leaf.Fence marker size indent) (c ∷ others) [] h = cc
 
 -- where it takes no lazy line, those that did not go on end
@@ -173,3 +174,12 @@ contained-met options cs still r h =
 
     kind : RowKind
     kind = line_kind options (met still others new.containers) new.rest
+
+-- it is the leaf that was open
+pub contained-still : (options : ParseOptions) (cs : List Container) (still : HeldLeaf) (r : Rest) →
+    has_lines (contained options cs still r).on ≡ true → (contained options cs still r).on ≡ still
+unfolding contained
+contained-still options cs still r h =
+    let on : Prefixed = prefixes_on options cs r in
+    let others : List Container = others_of cs on.containers in
+    let new : Prefixed = prefixes_behind options still others on in (met-lines still others new.containers h).is

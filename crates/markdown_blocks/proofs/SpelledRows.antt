@@ -3,7 +3,9 @@
 use Rattle.md_engine.specs.declared.tokenizer.held_leaf.HeldLeaf.TheVariants as held_leaf
 use Rattle.md_engine.specs.declared.tokenizer.held_leaf.HeldLeaf.{HeldLeaf}
 use Rattle.std.proofs.Common.{◌≡◌, ◌≢◌, ℕ, zero, suc, ◌+◌, ◌-◌, Bool, true, false, cond, ◌&&◌, List, [], ◌∷◌, ◌++◌}
-use Rattle.markdown_blocks.specs.Registry.{leaf}
+use Rattle.markdown_blocks.specs.Registry.{LeafName, insider, leaf}
+use Rattle.md_definition.specs.Leaves.{Came}
+use Rattle.md_definition.specs.Step.{came}
 use Rattle.markdown_blocks.proofs.JoinedLemmas.{leaf-first}
 use Rattle.markdown_blocks.proofs.Registry.{leaf-ends}
 use Rattle.markdown_blocks.specs.Rows.{Span, onto_leaf}
@@ -12,7 +14,7 @@ use Rattle.markdown_blocks.specs.Rows.{line_behind}
 use Rattle.markdown_blocks.specs.HeldLeaf.{takes_lazy}
 use Rattle.std.proofs.Common.{length, map, take, refl, ap, ap₂, sym, ◌∙◌, subst, append_assoc, take_all, inl, inr, ◌⊎◌}
 use Rattle.std.proofs.Common.{arith}
-use Rattle.std.specs.Prelude.{None}
+use Rattle.std.specs.Prelude.{None, Some}
 use Rattle.md_engine.specs.declared.configuration.ParseOptions.{ParseOptions}
 use Rattle.md_engine.specs.declared.event.Event.{Event}
 use Rattle.md_engine.specs.declared.event.Name.{Name}
@@ -39,9 +41,10 @@ use Rattle.markdown_blocks.specs.Stands.{IsPlain, around_of, containers_of, fina
 use Rattle.markdown_blocks.specs.Stands.{reading, reading_on}
 use Rattle.markdown_blocks.proofs.ContainedLemmas.{contained-shapes, lazy-opens}
 use Rattle.markdown_blocks.proofs.FrontFacts.{Behind, Begins, LinePrefix, Goes}
-use Rattle.markdown_blocks.proofs.LineSteps.{behind_path, contained-lazy, contained_at, containers-step}
-use Rattle.markdown_blocks.proofs.LineSteps.{still-step, goes_lazy, kept_to, lazy-text, longer, new_line, new_path}
-use Rattle.markdown_blocks.proofs.LineSteps.{plain-step, renewed, spot_by, step-contained}
+use Rattle.markdown_blocks.proofs.LineSteps.{behind_path, contained-lazy, contained_at, goes_further, goes_lazy}
+use Rattle.markdown_blocks.proofs.LineSteps.{kept_to, longer, new_line, new_path, path_by, renewed, spot_by}
+use Rattle.markdown_blocks.proofs.LineSteps.{step-contained}
+use Rattle.markdown_blocks.proofs.StepBehind.{containers-step, goes-on, lazy-text, plain-step, still-step}
 use Rattle.markdown_blocks.specs.Leaf.Paragraph.{held_of}
 use Rattle.markdown_blocks.proofs.Registry.{laws, text-laws}
 use Rattle.markdown_blocks.proofs.RowFacts as f
@@ -197,22 +200,22 @@ behind-ap (At x) f g each = each x.here
 behind-ap (Within before container p) f g each = ap (Within before container) (behind-ap p f g each)
 
 new-with : (options : ParseOptions) (on : HeldLeaf) (opens : List Container) (r : Rest) (bs : Blocks) →
-    new_line options on opens r bs ≡ with_spot (new_none opens bs) (λ cs. spot_by cs [] r (line_kind options on r))
+    new_line options on opens r bs ≡ with_spot (new_none opens bs) (λ cs. spot_by options cs [] r (line_kind options on r))
 new-with options on [] r bs = refl
 new-with options on (c ∷ opens) r bs = ap (Within bs c) (new-with options on opens r End)
 
 -- what a line begins stands behind its containers
 new-path : (options : ParseOptions) (p : Path) (c : Contained) (kind : RowKind) →
     line_kind options c.on c.rest ≡ kind →
-    new_path options p c ≡ with_spot (open_path options p c) (λ bs. spot_by bs [] c.rest kind)
+    new_path options p c ≡ with_spot (open_path options p c) (λ bs. spot_by options bs [] c.rest kind)
 new-path options p c kind e =
     let k : Path = kept_to options c.change.stays p in
     behind-ap k (new_line options c.on c.change.opens c.rest)
-    (λ bs. with_spot (new_none c.change.opens bs) (λ cs. spot_by cs [] c.rest kind))
+    (λ bs. with_spot (new_none c.change.opens bs) (λ cs. spot_by options cs [] c.rest kind))
     (λ bs.
     new-with options c.on c.change.opens c.rest bs
-    ∙ ap (λ (x : RowKind). with_spot (new_none c.change.opens bs) (λ cs. spot_by cs [] c.rest x)) e)
-    ∙ sym (behind-behind k (new_none c.change.opens) (λ bs. spot_by bs [] c.rest kind))
+    ∙ ap (λ (x : RowKind). with_spot (new_none c.change.opens bs) (λ cs. spot_by options cs [] c.rest x)) e)
+    ∙ sym (behind-behind k (new_none c.change.opens) (λ bs. spot_by options bs [] c.rest kind))
 
 none-none : (opens : List Container) (bs : Blocks) → (spot (new_none opens bs)).leaf ≡ NoLeaf
 none-none [] bs = refl
@@ -504,15 +507,22 @@ ending-role TextRow = tt
 -- a line that is no text comes to the block that it shows
 shown-leaf : (options : ParseOptions) (p : Path) (r : Rest) (kind : RowKind) → kind ≢ TextRow →
     shown (block_of kind r) (reading options p) ≡
-    record (reading options p) { here = shut options (spot_by (reading options p).here [] r kind) }
+    record (reading options p) { here = shut options (spot_by options (reading options p).here [] r kind) }
 shown-leaf options p r BlankRow other = refl
-shown-leaf options p r (LeafRow l) other = refl
+shown-leaf options p r (LeafRow l) other =
+    ap (λ (c : Came). record (reading options p) { here = shut options (came (reading options p).here c) })
+    (sym ((laws l).finishes (leaf-ends l) options NoLeaf r))
 shown-leaf options p r TextRow other = absurd (other refl)
 
 no-joins : (options : ParseOptions) (bytes : List ℕ) (p : Path) (row : Row) (gs : List Group) (last : Reading) →
     is_text row.kind ≡ false → Follows options bytes p row gs last → Reads options bytes p row.leaves gs last
 no-joins options bytes p row gs last none (inl parts) = parts.reads
 no-joins options bytes p row gs last none (inr joins) = let text = joins.text in cc
+
+-- none is asked first yet
+no-insider : (on : HeldLeaf) (l : LeafName) → insider on ≡ Some l → ⊥
+unfolding insider
+no-insider on l e = cc
 
 -- One line, and what follows.
 row-means : (options : ParseOptions) (bytes : List ℕ) (p : Path) (a : Point) (line : List ℕ) (row : Row)
@@ -529,12 +539,16 @@ row-means options bytes p a line row gs last built plain is follows = go (goes_l
     kind-is : row.kind ≡ line_kind options c.on c.rest
     kind-is = line-is options bytes (containers_of p) (still_of p) a line row is
 
-    stepped : (x : Bool) → goes_lazy options p c ≡ x →
-        step options p (rest_from a line) ≡
-        cond x (longer (renewed c.change.stays p) (kept c.rest ∷ [])) (new_path options p c)
-    stepped x e =
-        step-contained options p (rest_from a line) built plain
-        ∙ ap (λ (t : Bool). cond t (longer (renewed c.change.stays p) (kept c.rest ∷ [])) (new_path options p c)) e
+    stepped : (x : Bool) → goes_lazy options p c ≡ x → (y : Bool) → goes_further options c ≡ y →
+        step options p (rest_from a line) ≡ path_by options p c x y
+    stepped x e y f = step-contained options p (rest_from a line) built plain ∙ ap₂ (path_by options p c) e f
+
+    no_further : (x : Bool) → goes_further options c ≡ x → x ≡ false
+    no_further true e = let is = (goes-on options p (rest_from a line) plain e).is in absurd (no-insider _ _ is.asked)
+    no_further false e = refl
+
+    none_further : goes_further options c ≡ false
+    none_further = no_further (goes_further options c) refl
 
     same : is_lazy (still_of p) row.change.opens row.kind ≡ goes_lazy options p c
     same =
@@ -549,7 +563,7 @@ row-means options bytes p a line row gs last built plain is follows = go (goes_l
 
     -- what the line leads to, by its kind
     to : RowKind → Path
-    to kind = with_spot o (λ bs. spot_by bs [] c.rest kind)
+    to kind = with_spot o (λ bs. spot_by options bs [] c.rest kind)
 
     none : (spot o).leaf ≡ NoLeaf
     none = open-none options p c
@@ -565,7 +579,7 @@ row-means options bytes p a line row gs last built plain is follows = go (goes_l
         ∙ (row-facts options bytes (rest_line c.rest) row is.is other).reads (reading options o) refl refl
         ∙ ap (λ (r : Rest). shown (block_of row.kind r) (reading options o)) is.rest_is
         ∙ shown-leaf options o c.rest row.kind other
-        ∙ sym (reading-with options o (λ bs. spot_by bs [] c.rest row.kind) none))
+        ∙ sym (reading-with options o (λ bs. spot_by options bs [] c.rest row.kind) none))
         (ending-role row.kind) (no-joins options bytes (to row.kind) row gs last (other-kind row.kind other) further)
 
     -- text is read with the lines that go on it
@@ -617,12 +631,12 @@ row-means options bytes p a line row gs last built plain is follows = go (goes_l
         (λ lines. reading-renewed options c.change.stays c.change.closes [] p lines shapes)
         (starts-lines options bytes (rest_line c.rest) (renewed c.change.stays p) row gs last is.is is_row
         (subst (λ (x : Path). Follows options bytes x row gs last)
-        (stepped true e ∙ ap (λ (r : Rest). longer (renewed c.change.stays p) (kept r ∷ [])) (sym is.rest_is)) follows))))
+        (stepped true e (goes_further options c) refl ∙ ap (λ (r : Rest). longer (renewed c.change.stays p) (kept r ∷ [])) (sym is.rest_is)) follows))))
     go false e =
         subst (λ (x : Bool). Means options bytes p x row (onto_groups row row.kind gs) last) (sym (same ∙ e))
         (by row.kind refl
         (subst (λ (x : Path). Follows options bytes x row gs last)
-        (stepped false e ∙ new-path options p c row.kind (sym kind-is)) follows))
+        (stepped false e false none_further ∙ new-path options p c row.kind (sym kind-is)) follows))
 
 -- where nothing follows
 row-ends : (options : ParseOptions) (bytes : List ℕ) (p : Path) (a : Point) (line : List ℕ) (row : Row) →
@@ -775,8 +789,8 @@ rows-below options bytes a p line next lines row below rows built plain are =
     (sym still) are.5)
 
 -- what so many lines, and one more, come to, but for the containers that end behind them
-abbrev Came : ParseOptions → List ℕ → Path → ℕ → List Rest → List Row → Type 0
-Came options bytes a n rests rows =
+abbrev LinesMean : ParseOptions → List ℕ → Path → ℕ → List Rest → List Row → Type 0
+LinesMean options bytes a n rests rows =
     RowsMean options bytes a
     (close_containers (length (last_leaves (take (suc n) rows)))
     (reading options (steps options a (take (suc n) rests))))
@@ -787,7 +801,7 @@ rows-mean : (options : ParseOptions) (bytes : List ℕ) (a : Path) (p : Point) (
     (rows : List Row) →
     IsBuilt options → IsPlain a →
     f.AreRows options bytes (containers_of a) (still_of a) p lines rows →
-    Came options bytes a n (rests_from p lines) rows
+    LinesMean options bytes a n (rests_from p lines) rows
 rows-mean options bytes a p zero (line ∷ []) (row ∷ []) built plain are =
     row-ends options bytes a p line row built plain are.0
 rows-mean options bytes a p (suc n) (line ∷ []) (row ∷ []) built plain are =
@@ -801,7 +815,7 @@ rows-mean options bytes a p (suc n) (line ∷ next ∷ lines) (row ∷ below ∷
     let still : still_of b ≡ row.behind = still-line options bytes a p line row built plain are.0 in
     let plain_b : IsPlain b = plain-step options a r built plain in
     let are_b = rows-below options bytes a p line next lines row below rows built plain are in
-    let further : Came options bytes b n (rests_from q (next ∷ lines)) (below ∷ rows) = rows-mean options bytes b q n
+    let further : LinesMean options bytes b n (rests_from q (next ∷ lines)) (below ∷ rows) = rows-mean options bytes b q n
     (next ∷ lines) (below ∷ rows) built plain_b are_b in
     let some : List Row = take n rows in
     let last : Reading = close_containers (length (last_leaves (below ∷ some)))
@@ -811,7 +825,7 @@ rows-mean options bytes a p (suc n) (line ∷ next ∷ lines) (row ∷ below ∷
     (behind-lazy options bytes (rest_line (contained_at options a r).rest) row are.0.is) still are.1 are.4
     (first-line options bytes (containers_of b) (still_of b) q (next ∷ lines) (below ∷ rows) are_b)
     (is_lazy (still_of b) below.change.opens below.kind) refl
-    (subst (λ (rests : List Rest). Came options bytes b n rests (below ∷ rows))
+    (subst (λ (rests : List Rest). LinesMean options bytes b n rests (below ∷ rows))
     (rests-behind q (next ∷ lines) are.4.column) further))
 rows-mean options bytes a p n lines rows built plain are = absurd are
 
@@ -850,7 +864,7 @@ lines-read options bytes p (suc n) lines rows built are =
     none (c ∷ stays) closes e = cc
 
     go : (ls : List (List ℕ)) (rs : List Row) → First options bytes [] held_leaf.None p ls rs →
-        Came options bytes (At (spot_of End)) n (rests_from p lines) rs →
+        LinesMean options bytes (At (spot_of End)) n (rests_from p lines) rs →
         read bytes unread (groups_events bytes (groups (take (suc n) rs))) ≡
         close_containers (length (last_leaves (take (suc n) rs)))
         (reading options (steps options (At (spot_of End)) (take (suc n) (rests_from p lines))))

@@ -28,7 +28,7 @@ use Rattle.markdown_blocks.specs.Stands.{AreOpen, IsPlain, StandsFor, containers
 use Rattle.markdown_blocks.specs.States.{FlowStep}
 use Rattle.markdown_blocks.specs.TextRows.{text_rows, text_setting}
 use Rattle.markdown_blocks.proofs.LinesFed.{LineFed, line-fed, lines-fed, open_after, leaf_after}
-use Rattle.markdown_blocks.proofs.LineSteps.{containers-step, plain-step}
+use Rattle.markdown_blocks.proofs.StepBehind.{containers-step, plain-step}
 use Rattle.markdown_blocks.proofs.RowFacts as f
 use Rattle.markdown_blocks.proofs.RowLemmas.{fresh-rows}
 use Rattle.markdown_blocks.proofs.SpelledRows.{still-line, lines-read, rests-behind, rows-below}

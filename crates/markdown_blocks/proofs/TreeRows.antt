@@ -3,12 +3,13 @@
 use Rattle.md_engine.specs.declared.tokenizer.held_leaf.HeldLeaf.TheVariants as held_leaf
 use Rattle.md_engine.specs.declared.tokenizer.held_leaf.HeldLeaf.{HeldLeaf}
 use Rattle.std.proofs.Common.{◌≡◌, ℕ, zero, suc, ◌-◌, Bool, true, false, cond, not, ◌==◌, ◌&&◌, ◌||◌, List, [], ◌∷◌}
+use Rattle.md_definition.specs.Leaves.{Came}
 use Rattle.md_definition.specs.State.{spot}
 use Rattle.markdown_blocks.proofs.Registry.{insider-none, insider-text}
 use Rattle.markdown_blocks.specs.HeldLeaf.{kind_of_leaf, met_by}
 use Rattle.markdown_blocks.specs.Change.{is_none}
-use Rattle.markdown_blocks.specs.Registry.{insider}
-use Rattle.markdown_blocks.specs.Rows.{is_inside}
+use Rattle.markdown_blocks.specs.Registry.{IsOpenSpan, insider}
+use Rattle.markdown_blocks.specs.Rows.{is_further, is_inside}
 use Rattle.markdown_blocks.specs.Fronted.{prefixes_behind}
 use Rattle.markdown_blocks.specs.Change.{met}
 use Rattle.std.proofs.Common.{◌++◌, map, length, drop, take, refl, ap, sym, ◌∙◌, subst, inl, inr, ◌⊎◌}
@@ -39,20 +40,22 @@ use Rattle.markdown_blocks.specs.Fed.{rests_from}
 use Rattle.markdown_blocks.specs.Fronted.{Contained, Prefixed, contained, no_prefix, one_more, prefixes_new}
 use Rattle.markdown_blocks.specs.Fronted.{prefixes_on}
 use Rattle.markdown_blocks.specs.Parsed.{IsBuilt}
-use Rattle.markdown_blocks.specs.Registry.{leaf, text_leaf}
+use Rattle.markdown_blocks.specs.Registry.{text_leaf}
 use Rattle.markdown_blocks.specs.Rows.{BlankRow, LeafRow, Row, RowKind, TextRow, groups, groups_events, is_lazy}
 use Rattle.markdown_blocks.specs.Rows.{line_kind}
 use Rattle.markdown_blocks.specs.HeldLeaf.{IsBuiltLeaf}
 use Rattle.markdown_blocks.specs.Stands.{IsPlain, containers_of, still_of}
 use Rattle.markdown_blocks.proofs.ContainedLemmas.{contained-kinds}
-use Rattle.markdown_blocks.proofs.KindLemmas.{kind-plain, kind-starts}
-use Rattle.markdown_blocks.proofs.LineSteps.{behind_path, contained_at, goes_lazy, kept_to, longer}
-use Rattle.markdown_blocks.proofs.LineSteps.{new_line, new_path, plain-step, renewed, spot_by, step-contained, step-new}
-use Rattle.markdown_blocks.proofs.LineSteps.{stepped_on}
+use Rattle.markdown_blocks.proofs.KindLemmas.{kind-plain}
+use Rattle.markdown_blocks.proofs.LineSteps.{behind_path, come_by, contained_at, further_path, goes_further, goes_lazy}
+use Rattle.markdown_blocks.proofs.LineSteps.{kept_to, longer, new_line, path_by, renewed, spot_by, step-contained}
+use Rattle.markdown_blocks.proofs.LineSteps.{step-new, stepped, stepped_on, with_came}
+use Rattle.markdown_blocks.proofs.OpenSpan.{ComesShallow}
+use Rattle.markdown_blocks.proofs.StepBehind.{GoesOn, begun-leaf, goes-on, plain-step}
 use Rattle.markdown_blocks.proofs.MarkLemmas.{without-mark}
 use Rattle.markdown_blocks.proofs.RowFacts as f
 use Rattle.markdown_blocks.proofs.SpelledRows.{spelled-rows}
-use Rattle.markdown_blocks.proofs.Registry.{leaf-shallow, text-laws}
+use Rattle.markdown_blocks.proofs.Registry.{open-span, text-laws}
 use Rattle.markdown_blocks.proofs.ShallowBlocks.{shallow-then}
 use Rattle.markdown_blocks.proofs.RegistryRead.{AreRead, IsRead, IsReadTaken, kinds-read, read-front}
 use Rattle.markdown_blocks.proofs.RegistryContainers.{opens-read, over-empty, read-shallow}
@@ -121,7 +124,8 @@ shallow-read (Within before container p) h = (h.1, shallow-read p h.2)
 shallow-shut : (options : ParseOptions) (s : Spot) → IsBuilt options → IsBuiltLeaf s.leaf → are_shallow s.here ≡ true →
     are_shallow (shut options s) ≡ true
 shallow-shut options s built plain h =
-    text-laws.cases (λ (leaf : Leaf). are_shallow (then_leaf options s.here leaf) ≡ true) h text s.leaf plain
+    text-laws.cases (λ (leaf : Leaf). are_shallow (then_leaf options s.here leaf) ≡ true) h text
+    (λ l is. (open-span l is).closed options s.here h) s.leaf plain
   where
     text : (k : Kept) (ks : List Kept) → are_shallow (then_leaf options s.here (text_leaf.held (k ∷ ks))) ≡ true
     text k ks =
@@ -157,25 +161,39 @@ shallow-behind : (p : Path) (f : Blocks → Path) → HoldsShallow p →
 shallow-behind (At s) f h each = each s.here h
 shallow-behind (Within before container p) f h each = (h.0, h.1, shallow-behind p f h.2 each)
 
-shallow-line : (options : ParseOptions) (on : HeldLeaf) (bs : Blocks) (r : Rest) → are_shallow bs ≡ true →
-    are_shallow (spot_by bs [] r (line_kind options on r)).here ≡ true
-shallow-line options on bs r h = go (line_kind options on r) refl
+shallow-came : (p : Path) (c : Came) → ComesShallow c → HoldsShallow p → HoldsShallow (with_came p c)
+shallow-came (At s) c shallow h = shallow s.here h
+shallow-came (Within before container p) c shallow h = (h.0, h.1, shallow-came p c shallow h.2)
+
+shallow-line : (options : ParseOptions) (on : HeldLeaf) (bs : Blocks) (r : Rest) →
+    is_further (line_kind options on r) on ≡ false → are_shallow bs ≡ true →
+    are_shallow (spot_by options bs [] r (line_kind options on r)).here ≡ true
+shallow-line options on bs r begins h = go (line_kind options on r) refl
   where
-    go : (kind : RowKind) → line_kind options on r ≡ kind → are_shallow (spot_by bs [] r kind).here ≡ true
+    go : (kind : RowKind) → line_kind options on r ≡ kind → are_shallow (spot_by options bs [] r kind).here ≡ true
     go BlankRow e = h
-    go (LeafRow l) e =
-        shallow-then bs ((leaf l).block r) h (leaf-shallow l options on r (kind-starts options on r l e))
+    go (LeafRow l) e = (begun-leaf options on r begins l e).shallow bs h
     go TextRow e = h
 
 shallow-new_line : (options : ParseOptions) (on : HeldLeaf) (cs : List Container) (r : Rest) (bs : Blocks) →
-    AreRead cs → are_shallow bs ≡ true → HoldsShallow (new_line options on cs r bs)
-shallow-new_line options on [] r bs read h = shallow-line options on bs r h
-shallow-new_line options on (c ∷ cs) r bs read h = (h, read.0, shallow-new_line options on cs r End read.1 refl)
+    is_further (line_kind options on r) on ≡ false → AreRead cs → are_shallow bs ≡ true →
+    HoldsShallow (new_line options on cs r bs)
+shallow-new_line options on [] r bs begins read h = shallow-line options on bs r begins h
+shallow-new_line options on (c ∷ cs) r bs begins read h =
+    (h, read.0, shallow-new_line options on cs r End begins read.1 refl)
+
+shallow-further : (options : ParseOptions) (p : Path) (c : Contained) → GoesOn options p c → AreRead c.change.stays →
+    HoldsShallow p → HoldsShallow (further_path options p c)
+shallow-further options p c goes stay h =
+    shallow-came (renewed c.change.stays p) (come_by options (spot p).leaf c.rest (line_kind options c.on c.rest))
+    (subst (λ (kind : RowKind). ComesShallow (come_by options (spot p).leaf c.rest kind)) (sym goes.kind)
+    (goes.is.shallow options c.rest)) (shallow-renewed c.change.stays p stay h)
 
 shallow-step : (options : ParseOptions) (p : Path) (r : Rest) → IsBuilt options → IsPlain p → HoldsShallow p →
     HoldsShallow (step options p r)
 shallow-step options p r built plain h =
-    subst HoldsShallow (sym (step-contained options p r built plain)) (go (goes_lazy options p c))
+    subst HoldsShallow (sym (step-contained options p r built plain))
+    (go (goes_lazy options p c) (goes_further options c) refl)
   where
     c : Contained
     c = contained_at options p r
@@ -186,13 +204,14 @@ shallow-step options p r built plain h =
     open_new : AreRead c.change.opens
     open_new = read-open options (containers_of p) (still_of p) r built
 
-    go : (x : Bool) →
-        HoldsShallow (cond x (longer (renewed c.change.stays p) (kept c.rest ∷ [])) (new_path options p c))
-    go true = shallow-longer (renewed c.change.stays p) (kept c.rest ∷ []) (shallow-renewed c.change.stays p stay h)
-    go false =
+    go : (x y : Bool) → goes_further options c ≡ y → HoldsShallow (path_by options p c x y)
+    go true y e =
+        shallow-longer (renewed c.change.stays p) (kept c.rest ∷ []) (shallow-renewed c.change.stays p stay h)
+    go false true e = shallow-further options p c (goes-on options p r plain e) stay h
+    go false false e =
         shallow-behind (kept_to options c.change.stays p) (new_line options c.on c.change.opens c.rest)
         (shallow-kept options c.change.stays p built plain stay h)
-        (λ bs k. shallow-new_line options c.on c.change.opens c.rest bs open_new k)
+        (λ bs k. shallow-new_line options c.on c.change.opens c.rest bs e open_new k)
 
 plain-steps : (options : ParseOptions) (p : Path) (rs : List Rest) → IsBuilt options → IsPlain p →
     IsPlain (steps options p rs)
@@ -247,7 +266,7 @@ on-empty options (c ∷ cs) column read =
 closed-empty : (options : ParseOptions) (n : ℕ) (p : Path) (column : ℕ) →
     closed options
     (behind_path (kept_to options (take n (containers_of p)) p)
-    (λ (bs : Blocks). At (spot_by bs [] (rest_at column []) BlankRow))) ≡
+    (λ (bs : Blocks). At (spot_by options bs [] (rest_at column []) BlankRow))) ≡
     closed options p
 closed-empty options zero p column = refl
 closed-empty options (suc n) (At s) column = refl
@@ -256,9 +275,10 @@ closed-empty options (suc n) (Within before c p) column =
 
 -- where nothing is open but text, no leaf is asked first
 met-plain : (p : Path) (others : List Container) → IsPlain p → insider (met (still_of p) others []) ≡ None
+unfolding IsOpenSpan
 met-plain p others plain =
     text-laws.cases (λ (leaf : Leaf). insider (met (kind_of_leaf leaf) others []) ≡ None) (none (is_none others))
-    (λ k ks. insider-text) (spot p).leaf plain
+    (λ k ks. insider-text) (λ l is. absurd is) (spot p).leaf plain
   where
     none : (all : Bool) → insider (met_by all held_leaf.None) ≡ None
     none true = insider-none
@@ -269,12 +289,14 @@ step-empty : (options : ParseOptions) (p : Path) (column : ℕ) → IsBuilt opti
 step-empty options p column built plain read =
     ap (closed options) (step-new options p r built plain)
     ∙ ap (λ (on : Prefixed). closed options (stepped_on options p on)) on.1
+    ∙ ap (λ (x : Prefixed). closed options (stepped options p went x)) (none (is_inside (still_of p) others))
     ∙ ap
     (λ (k : RowKind).
     closed options
     (cond (is_lazy (still_of p) [] k)
     (longer (renewed (went ++ others_of (containers_of p) went) p) (kept r ∷ []))
-    (behind_path (kept_to options went p) (λ (bs : Blocks). At (spot_by bs [] r k)))))
+    (cond (is_further k (met (still_of p) others [])) (with_came (renewed went p) (come_by options (spot p).leaf r k))
+    (behind_path (kept_to options went p) (λ (bs : Blocks). At (spot_by options bs [] r k))))))
     (kind-plain options (met (still_of p) (others_of (containers_of p) went) []) r
     (met-plain p (others_of (containers_of p) went) plain))
     ∙ go (still_of p)
@@ -289,10 +311,18 @@ step-empty options p column built plain read =
     went : List Container
     went = take on.0 (containers_of p)
 
+    others : List Container
+    others = others_of (containers_of p) went
+
+    none : (x : Bool) →
+        cond x (no_prefix r) (prefixes_new options (interrupts (still_of p) others) 0 r) ≡ no_prefix r
+    none true = refl
+    none false = refl
+
     other : Path
     other =
         behind_path (kept_to options (take on.0 (containers_of p)) p)
-        (λ (bs : Blocks). At (spot_by bs [] (rest_at column []) BlankRow))
+        (λ (bs : Blocks). At (spot_by options bs [] (rest_at column []) BlankRow))
 
     go : (x : HeldLeaf) →
         closed options
