@@ -78,6 +78,7 @@ pub mod RegistryFound
 pub mod Paragraph
 pub mod LineSteps
 pub mod StepBehind
+pub mod LastLine
 pub mod PlainRoles
 pub mod SpelledParagraphs
 pub mod SpelledRows

@@ -44,6 +44,7 @@ use Rattle.markdown_blocks.proofs.FrontFacts.{Behind, Begins, LinePrefix, Goes}
 use Rattle.markdown_blocks.proofs.LineSteps.{behind_path, contained-lazy, contained_at, goes_further, goes_lazy}
 use Rattle.markdown_blocks.proofs.LineSteps.{kept_to, longer, new_line, new_path, path_by, renewed, spot_by}
 use Rattle.markdown_blocks.proofs.LineSteps.{step-contained}
+use Rattle.markdown_blocks.proofs.LastLine.{Told, containers-over, no_bytes, step_over, steps_over, told}
 use Rattle.markdown_blocks.proofs.StepBehind.{containers-step, goes-on, lazy-text, plain-step, still-step}
 use Rattle.markdown_blocks.specs.Leaf.Paragraph.{held_of}
 use Rattle.markdown_blocks.proofs.Registry.{laws, text-laws}
@@ -639,14 +640,27 @@ row-means options bytes p a line row gs last built plain is follows = go (goes_l
         (stepped false e false none_further ∙ new-path options p c row.kind (sym kind-is)) follows))
 
 -- where nothing follows
-row-ends : (options : ParseOptions) (bytes : List ℕ) (p : Path) (a : Point) (line : List ℕ) (row : Row) →
+row-ends : (options : ParseOptions) (bytes : List ℕ) (p : Path) (a : Point) (line : List ℕ) (row : Row) (over : Bool) →
     IsBuilt options → IsPlain p → f.IsLine options bytes (containers_of p) (still_of p) a line row →
     Means options bytes p (is_lazy (still_of p) row.change.opens row.kind) row (groups (row ∷ []))
-    (close_containers (length row.leaves) (reading options (step options p (rest_from a line))))
-row-ends options bytes p a line row built plain is =
-    row-means options bytes p a line row []
+    (close_containers (length row.leaves) (reading options (step_over options over p (rest_from a line))))
+row-ends options bytes p a line row over built plain is =
+    subst
+    (λ (x : Path).
+    Means options bytes p (is_lazy (still_of p) row.change.opens row.kind) row (groups (row ∷ []))
+    (close_containers (length row.leaves) (reading options x))) (sym (same over (goes_further options c) refl))
+    (row-means options bytes p a line row []
     (close_containers (length row.leaves) (reading options (step options p (rest_from a line)))) built plain is
-    (inl (record { apart = λ text. refl; reads = refl }))
+    (inl (record { apart = λ text. refl; reads = refl })))
+  where
+    c : Contained
+    c = contained_at options p (rest_from a line)
+
+    same : (x y : Bool) → goes_further options c ≡ y →
+        cond (x && y) (renewed c.change.stays p) (step options p (rest_from a line)) ≡ step options p (rest_from a line)
+    same x true e = let is = (goes-on options p (rest_from a line) plain e).is in absurd (no-insider _ _ is.asked)
+    same true false e = refl
+    same false false e = refl
 
 -- Lines, one after another.
 
@@ -793,7 +807,7 @@ abbrev LinesMean : ParseOptions → List ℕ → Path → ℕ → List Rest → 
 LinesMean options bytes a n rests rows =
     RowsMean options bytes a
     (close_containers (length (last_leaves (take (suc n) rows)))
-    (reading options (steps options a (take (suc n) rests))))
+    (reading options (steps_over options a (take (suc n) (told rests)))))
     (take (suc n) rows)
 
 -- The groups of the lines of a text, up to any of them, are read as what these lines do.
@@ -803,11 +817,11 @@ rows-mean : (options : ParseOptions) (bytes : List ℕ) (a : Path) (p : Point) (
     f.AreRows options bytes (containers_of a) (still_of a) p lines rows →
     LinesMean options bytes a n (rests_from p lines) rows
 rows-mean options bytes a p zero (line ∷ []) (row ∷ []) built plain are =
-    row-ends options bytes a p line row built plain are.0
+    row-ends options bytes a p line row (no_bytes line) built plain are.0
 rows-mean options bytes a p (suc n) (line ∷ []) (row ∷ []) built plain are =
-    row-ends options bytes a p line row built plain are.0
+    row-ends options bytes a p line row (no_bytes line) built plain are.0
 rows-mean options bytes a p zero (line ∷ next ∷ lines) (row ∷ below ∷ rows) built plain are =
-    row-ends options bytes a p line row built plain are.0
+    row-ends options bytes a p line row false built plain are.0
 rows-mean options bytes a p (suc n) (line ∷ next ∷ lines) (row ∷ below ∷ rows) built plain are =
     let r : Rest = rest_from p line in
     let b : Path = step options a r in
@@ -819,7 +833,7 @@ rows-mean options bytes a p (suc n) (line ∷ next ∷ lines) (row ∷ below ∷
     (next ∷ lines) (below ∷ rows) built plain_b are_b in
     let some : List Row = take n rows in
     let last : Reading = close_containers (length (last_leaves (below ∷ some)))
-    (reading options (steps options b (take (suc n) (map (rest_at 0) (next ∷ lines))))) in
+    (reading options (steps_over options b (take (suc n) (told (map (rest_at 0) (next ∷ lines)))))) in
     row-means options bytes a p line row (groups (below ∷ some)) last built plain are.0
     (follows-below options bytes b row below (groups some) q next last built plain_b
     (behind-lazy options bytes (rest_line (contained_at options a r).rest) row are.0.is) still are.1 are.4
@@ -833,15 +847,15 @@ rows-mean options bytes a p n lines rows built plain are = absurd are
 all-leave : (options : ParseOptions) (bytes : List ℕ) (a : Path) (p : Point) (lines : List (List ℕ)) (rows : List Row) →
     IsBuilt options → IsPlain a →
     f.AreRows options bytes (containers_of a) (still_of a) p lines rows →
-    last_leaves rows ≡ containers_of (steps options a (rests_from p lines))
+    last_leaves rows ≡ containers_of (steps_over options a (told (rests_from p lines)))
 all-leave options bytes a p (line ∷ []) (row ∷ []) built plain are =
-    are.1 ∙ sym (containers-step options a (rest_from p line) built plain)
+    are.1 ∙ sym (containers-over options (no_bytes line) a (rest_from p line) built plain)
 all-leave options bytes a p (line ∷ next ∷ lines) (row ∷ below ∷ rows) built plain are =
     let b : Path = step options a (rest_from p line) in
     all-leave options bytes b are.2 (next ∷ lines) (below ∷ rows) built
     (plain-step options a (rest_from p line) built plain)
     (rows-below options bytes a p line next lines row below rows built plain are)
-    ∙ ap (λ (rests : List Rest). containers_of (steps options b rests)) (rests-behind are.2 (next ∷ lines) are.4.column)
+    ∙ ap (λ (rests : List Rest). containers_of (steps_over options b (told rests))) (rests-behind are.2 (next ∷ lines) are.4.column)
 all-leave options bytes a p lines rows built plain are = absurd are
 
 -- The events of a text, up to any of its lines, are read as what these lines come to, but for the containers that end
@@ -851,7 +865,7 @@ pub lines-read : (options : ParseOptions) (bytes : List ℕ) (p : Point) (n : �
     IsBuilt options → f.AreRows options bytes [] held_leaf.None p lines rows →
     read bytes unread (groups_events bytes (groups (take n rows))) ≡
     close_containers (length (last_leaves (take n rows)))
-    (reading options (steps options (At (spot_of End)) (take n (rests_from p lines))))
+    (reading options (steps_over options (At (spot_of End)) (take n (told (rests_from p lines)))))
 lines-read options bytes p zero lines rows built are = refl
 lines-read options bytes p (suc n) lines rows built are =
     go lines rows (first-line options bytes [] held_leaf.None p lines rows are)
@@ -867,7 +881,7 @@ lines-read options bytes p (suc n) lines rows built are =
         LinesMean options bytes (At (spot_of End)) n (rests_from p lines) rs →
         read bytes unread (groups_events bytes (groups (take (suc n) rs))) ≡
         close_containers (length (last_leaves (take (suc n) rs)))
-        (reading options (steps options (At (spot_of End)) (take (suc n) (rests_from p lines))))
+        (reading options (steps_over options (At (spot_of End)) (take (suc n) (told (rests_from p lines)))))
     go (line ∷ ls) (row ∷ rs) is means =
         let c : Contained = contained_at options (At (spot_of End)) (rest_from p line) in
         let first : row.change.closes ≡ [] = ap (λ (x : Change). x.closes) is.change
@@ -884,26 +898,26 @@ lines-read options bytes p (suc n) lines rows built are =
 rows-final : (options : ParseOptions) (bytes : List ℕ) (p : Point) (lines : List (List ℕ)) (rows : List Row) →
     IsBuilt options → f.AreRows options bytes [] held_leaf.None p lines rows →
     read bytes unread (groups_events bytes (groups rows)) ≡
-    final options (steps options (At (spot_of End)) (rests_from p lines))
+    final options (steps_over options (At (spot_of End)) (told (rests_from p lines)))
 rows-final options bytes p lines rows built are =
-    let rests : List Rest = rests_from p lines in
+    let rests : List Told = told (rests_from p lines) in
     let start : Path = At (spot_of End) in
     let n : ℕ = length rows + length rests in
     ap (λ (rs : List Row). read bytes unread (groups_events bytes (groups rs))) (sym (take_all n rows (omega arith)))
     ∙ lines-read options bytes p n lines rows built are
     ∙ ap₂
-    (λ (rs : List Row) (xs : List Rest).
-    close_containers (length (last_leaves rs)) (reading options (steps options start xs)))
+    (λ (rs : List Row) (xs : List Told).
+    close_containers (length (last_leaves rs)) (reading options (steps_over options start xs)))
     (take_all n rows (omega arith)) (take_all n rests (omega arith))
-    ∙ ap (λ (cs : List Container). close_containers (length cs) (reading options (steps options start rests)))
+    ∙ ap (λ (cs : List Container). close_containers (length cs) (reading options (steps_over options start rests)))
     (all-leave options bytes start p lines rows built tt are)
-    ∙ close_containers-all options [] (steps options start rests)
+    ∙ close_containers-all options [] (steps_over options start rests)
 
 -- So they spell it.
 pub spelled-rows : (options : ParseOptions) (bytes : List ℕ) (p : Point) (lines : List (List ℕ)) (rows : List Row) →
     IsBuilt options → f.AreRows options bytes [] held_leaf.None p lines rows →
     spelled (groups_events bytes (groups rows)) bytes ≡
-    closed options (steps options (At (spot_of End)) (rests_from p lines))
+    closed options (steps_over options (At (spot_of End)) (told (rests_from p lines)))
 unfolding spelled
 spelled-rows options bytes p lines rows built are =
     ap (λ (r : Reading). r.here) (rows-final options bytes p lines rows built are)

@@ -41,7 +41,7 @@ pub record GoesOn (options : ParseOptions) (p : Path) (c : Contained) : Type 0 w
   pub closes : c.change.closes ≡ []
 
 -- a path in which a leaf of several lines is open
-span-open : (open_leaf : Leaf) → IsBuiltLeaf open_leaf → has_lines (kind_of_leaf open_leaf) ≡ true → OpenSpan open_leaf
+pub span-open : (open_leaf : Leaf) → IsBuiltLeaf open_leaf → has_lines (kind_of_leaf open_leaf) ≡ true → OpenSpan open_leaf
 span-open open_leaf plain =
     text-laws.cases (λ (l : Leaf). has_lines (kind_of_leaf l) ≡ true → OpenSpan l) (λ e. cc) (λ k ks e. cc)
     (λ l is e. open-span l is) open_leaf plain
@@ -89,7 +89,7 @@ goes-on options p r plain goes =
 
 -- Plain paths stay such.
 
-plain-renewed : (cs : List Container) (p : Path) → IsPlain p → IsPlain (renewed cs p)
+pub plain-renewed : (cs : List Container) (p : Path) → IsPlain p → IsPlain (renewed cs p)
 plain-renewed cs p plain = subst (λ (s : Spot). IsBuiltLeaf s.leaf) (sym (renewed-spot cs p)) plain
 
 pub plain-longer : (p : Path) (k : Kept) (ks : List Kept) → IsPlain p → IsPlain (longer p (k ∷ ks))
@@ -202,6 +202,17 @@ containers-came (At s) c = refl
 containers-came (Within before container p) c =
     ap (λ (cs : List Container). container ∷ cs) (containers-came p c)
 
+-- where none ends, those that stay are all
+pub containers-all : (options : ParseOptions) (p : Path) (r : Rest) →
+    (contained_at options p r).change.closes ≡ [] →
+    containers_of (renewed (contained_at options p r).change.stays p) ≡ (contained_at options p r).change.stays
+containers-all options p r e =
+    let change = (contained_at options p r).change in
+    let sizes : length change.stays + length change.closes ≡ length (containers_of p) = contained-size options
+    (containers_of p) (still_of p) r in
+    let none : length change.closes ≡ 0 = ap length e in
+    containers-renewed change.stays p (omega (arith, sizes))
+
 pub containers-step : (options : ParseOptions) (p : Path) (r : Rest) → IsBuilt options → IsPlain p →
     containers_of (step options p r) ≡ open_behind (contained_at options p r).change
 containers-step options p r built plain =
@@ -215,9 +226,7 @@ containers-step options p r built plain =
     sizes = contained-size options (containers_of p) (still_of p) r
 
     all : c.change.closes ≡ [] → containers_of (renewed c.change.stays p) ≡ c.change.stays
-    all e =
-        containers-renewed c.change.stays p
-        (let none : length c.change.closes ≡ 0 = ap length e in omega (arith, sizes))
+    all e = containers-all options p r e
 
     go : (x y : Bool) → goes_lazy options p c ≡ x → goes_further options c ≡ y →
         containers_of (path_by options p c x y) ≡ c.change.stays ++ c.change.opens
