@@ -1,8 +1,11 @@
 -- The endings of blank lines are told from others, before the text of a document is read and once it is.
 use Rattle.md_engine.specs.declared.tokenizer.held_leaf.HeldLeaf.TheVariants as held_leaf
 use Rattle.std.proofs.Common.{◌≡◌, ℕ, Bool, true, false, cond, List, [], ◌∷◌, ◌++◌, refl, ap, sym, ◌∙◌, append_assoc}
-use Rattle.markdown_blocks.proofs.GroupLemmas.{no-span}
-use Rattle.markdown_blocks.specs.Rows.{Span}
+use Rattle.markdown_blocks.proofs.GroupFacts.{span-block, span-leaf}
+use Rattle.markdown_blocks.proofs.GroupsAre.{AreSpan, span-begins}
+use Rattle.markdown_blocks.proofs.Registry.{leaf-ends}
+use Rattle.markdown_blocks.specs.Rows.{is_empty_row, last_row}
+use Rattle.std.specs.Prelude.{not}
 use Rattle.markdown_blocks.specs.Registry.{leaf}
 use Rattle.markdown_blocks.specs.Rows.{Span, is_further, onto_leaf}
 use Rattle.std.proofs.Common.{◌≢◌}
@@ -17,7 +20,6 @@ use Rattle.md_seam.specs.Events.Nested.{exit, pair}
 use Rattle.md_seam.specs.Events.Places.{first_point}
 use Rattle.md_definition.specs.Preamble.{has_mark}
 use Rattle.md_definition.specs.State.{Container}
-use Rattle.md_definition.specs.Rest.{Rest}
 use Rattle.md_definition.specs.Tree.{Block}
 use Rattle.md_seam.proofs.EndingsLemmas.{AreOthers, Leads, leads-append, others-append, others-lead}
 use Rattle.markdown_blocks.specs.Registry.{container_name, text_leaf}
@@ -173,6 +175,15 @@ ending-leads BlankRow p q other ys = refl
 ending-leads (LeafRow l) p q other ys = refl
 ending-leads TextRow p q other ys = absurd (other refl)
 
+-- no leaf of several lines is built; behind one an ending has a name that says whether something stands on its line
+span-ends : (options : ParseOptions) (bytes : List ℕ) (row : Row) (rows : List Row) → AreSpan options bytes row rows →
+    (p q : Point) →
+    Leads (spot_behind (not (is_empty_row (last_row row rows)))) line_start
+    (pair (ending_of (group_kind (Span row rows))) p q)
+span-ends options bytes row rows are p q =
+    let is = span-begins options bytes row rows are in
+    let ends = leaf-ends is.name in let open_leaf = is.open_leaf in cc
+
 -- the leaf of each group is such
 group-ends : (options : ParseOptions) (bytes : List ℕ) (group : Group) (gs : List Group) →
     AreGroups options bytes (group ∷ gs) → LeafEnds bytes group
@@ -181,10 +192,16 @@ group-ends options bytes (Single row) gs are =
     record {
       block = block_of row.kind is.is.rest;
       filled = fills row.kind;
-      facts = row-facts options bytes is.line row is.is is.other;
+      facts = row-facts options bytes is.line row is.is is.other is.ends;
       ends = λ p q. ending-leads row.kind p q is.other;
     }
-group-ends options bytes (Span row rows) gs are = absurd (no-span options bytes row rows are.0)
+group-ends options bytes (Span row rows) gs are =
+    record {
+      block = Some (span-block options bytes row rows are.0);
+      filled = not (is_empty_row (last_row row rows));
+      facts = span-leaf options bytes row rows are.0 are.4;
+      ends = span-ends options bytes row rows are.0;
+    }
 group-ends options bytes (Lines row rows) gs are =
     record {
       block = Some (text_leaf.block (texts (kept-of options bytes row rows are.0)));
@@ -223,7 +240,7 @@ endings-with options bytes lines rows leaf events within same are quiet =
     mark-leads bytes events
     ∙ ap (endings_stand_from line_start) (sym same)
     ∙ groups-stand options bytes leaf (groups rows) within
-    (groups-are options bytes [] held_leaf.None p lines rows are quiet)
+    (groups-are options bytes [] held_leaf.None p lines rows refl are quiet)
     (groups-ended rows (rows-end options bytes [] held_leaf.None p lines rows are))
 
 -- The endings of a text stand before its text parts are read,

@@ -1,13 +1,14 @@
--- What is known of the leaf of a group, be it one line or the lines of a text.
-use Rattle.std.proofs.Common.{ℕ, List, ◌∷◌, Bool, true}
-use Rattle.markdown_blocks.proofs.GroupLemmas.{no-span}
-use Rattle.markdown_blocks.specs.Rows.{Span}
-use Rattle.std.specs.Prelude.{Option, Some}
+-- What is known of the leaf of a group, be it one line, the lines of a text, or those of a leaf of several.
+use Rattle.std.proofs.Common.{ℕ, List, ◌∷◌, Bool, true, false}
+use Rattle.markdown_blocks.proofs.GroupsAre.{AreSpan, Begins, behind-first, line-further, line-of, span-begins}
+use Rattle.markdown_blocks.proofs.Registry.{span-laws}
+use Rattle.std.specs.Prelude.{not, Option, Some}
 use Rattle.md_engine.specs.declared.configuration.ParseOptions.{ParseOptions}
 use Rattle.md_definition.specs.State.{texts}
 use Rattle.md_definition.specs.Tree.{Block}
 use Rattle.markdown_blocks.specs.Registry.{text_leaf}
-use Rattle.markdown_blocks.specs.Rows.{Group, Lines, Row, Single, final_row, first_row, group_done}
+use Rattle.markdown_blocks.specs.Rows.{Span, is_empty_row, last_row, Group, Lines, Row, Single, final_row, first_row}
+use Rattle.markdown_blocks.specs.Rows.{group_done}
 use Rattle.markdown_blocks.specs.Unread.{group_unread}
 use Rattle.markdown_blocks.proofs.GroupLemmas.{AreGroups, AreLines, HasFront}
 use Rattle.markdown_blocks.proofs.LeafFacts.{LeafFacts}
@@ -26,18 +27,44 @@ pub text-leaf : (options : ParseOptions) (bytes : List ℕ) (row : Row) (rows : 
 text-leaf options bytes row rows h =
     (Some (text_leaf.block (texts (kept-of options bytes row rows h))), true, text-facts options bytes row rows h)
 
+-- the block that the lines of a leaf of several show, and what is known of their events
+abbrev pub span-block : (options : ParseOptions) (bytes : List ℕ) (row : Row) (rows : List Row) →
+    AreSpan options bytes row rows → Block
+span-block options bytes row rows are =
+    let is = span-begins options bytes row rows are in
+    (span-laws is.name is.open_leaf).block options bytes row rows (line-of options bytes row is)
+    (behind-first options bytes row rows are)
+
+pub span-leaf : (options : ParseOptions) (bytes : List ℕ) (row : Row) (rows : List Row) →
+    (are : AreSpan options bytes row rows) → Begins row →
+    LeafFacts bytes (Some (span-block options bytes row rows are)) (not (is_empty_row (last_row row rows))) row.first
+    (last_row row rows).end (group_unread bytes (Span row rows)) (group_done bytes (Span row rows))
+span-leaf options bytes row rows are begins =
+    let is = span-begins options bytes row rows are in
+    (span-laws is.name is.open_leaf).facts options bytes row rows (line-of options bytes row is)
+    (line-further options bytes row is false begins) (behind-first options bytes row rows are)
+
+pub span-group : (options : ParseOptions) (bytes : List ℕ) (row : Row) (rows : List Row) →
+    AreSpan options bytes row rows → Begins row → IsGroupLeaf bytes (Span row rows)
+span-group options bytes row rows are begins = (
+  Some (span-block options bytes row rows are),
+  not (is_empty_row (last_row row rows)),
+  span-leaf options bytes row rows are begins,
+)
+
 -- that of the first of groups, what stands in front of it, and the others
 pub group-leaf : (options : ParseOptions) (bytes : List ℕ) (group : Group) (gs : List Group) →
     AreGroups options bytes (group ∷ gs) → IsGroupLeaf bytes group
-group-leaf options bytes (Single row) gs are = row-leaf options bytes are.0.line row are.0.is are.0.other
+group-leaf options bytes (Single row) gs are =
+    row-leaf options bytes are.0.line row are.0.is are.0.other are.0.ends
 group-leaf options bytes (Lines row rows) gs are = text-leaf options bytes row rows are.0
-group-leaf options bytes (Span row rows) gs are = absurd (no-span options bytes row rows are.0)
+group-leaf options bytes (Span row rows) gs are = span-group options bytes row rows are.0 are.4
 
 pub group-front : (options : ParseOptions) (bytes : List ℕ) (group : Group) (gs : List Group) →
     AreGroups options bytes (group ∷ gs) → HasFront bytes (first_row group)
 group-front options bytes (Single row) gs are = are.0.front
 group-front options bytes (Lines row rows) gs are = are.2
-group-front options bytes (Span row rows) gs are = absurd (no-span options bytes row rows are.0)
+group-front options bytes (Span row rows) gs are = (span-begins options bytes row rows are.0).front
 
 pub more-groups : (options : ParseOptions) (bytes : List ℕ) (group : Group) (gs : List Group) →
     AreGroups options bytes (group ∷ gs) → AreGroups options bytes gs

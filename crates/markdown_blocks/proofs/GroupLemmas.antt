@@ -1,10 +1,8 @@
 -- The events of the lines of a text, joined and read, are those of its blocks.
 use Rattle.md_engine.specs.declared.tokenizer.held_leaf.HeldLeaf.{HeldLeaf}
-use Rattle.std.proofs.Common.{◌≡◌, ◌≢◌, ℕ, ◌<◌, ◌≤◌, Bool, true, false, cond, ◌&&◌, List, [], ◌∷◌, ◌++◌, length, drop}
-use Rattle.markdown_blocks.specs.Change.{Change}
-use Rattle.markdown_blocks.proofs.ContainedLemmas.{contained-met}
+use Rattle.std.proofs.Common.{◌≡◌, ℕ, ◌<◌, ◌≤◌, Bool, true, false, cond, ◌&&◌, List, [], ◌∷◌, ◌++◌, length, drop}
 use Rattle.markdown_blocks.specs.HeldLeaf.{has_lines}
-use Rattle.markdown_blocks.specs.Rows.{Span, first_row, is_further, onto_leaf}
+use Rattle.markdown_blocks.specs.Rows.{Span, group_kind, is_further, span_by, span_done}
 use Rattle.std.proofs.Common.{slice_range, refl, ap, sym, ◌∙◌, subst, append_assoc, append-nil, arith, length-append}
 use Rattle.std.specs.Prelude.{◌==◌, Option, Some, None}
 use Rattle.std.specs.List.{list_all}
@@ -32,30 +30,30 @@ use Rattle.md_definition.specs.State.{Container}
 use Rattle.md_seam.specs.Substituted.{Readings, Substituted, belongs, chunks_behind}
 use Rattle.md_definition.specs.Texts.{split_lines}
 use Rattle.markdown_blocks.specs.Change.{ends_of}
-use Rattle.markdown_blocks.specs.Change as change
 use Rattle.markdown_blocks.specs.Registry.{container_name, first_of, leaf as line_leaf, LeafName, resolved, text_leaf}
 use Rattle.markdown_blocks.specs.Registry.{trials}
 use Rattle.markdown_blocks.specs.Rows.{BlankRow, Group, LeafRow, Lines, Row, RowKind, Single, TextRow}
-use Rattle.markdown_blocks.specs.Rows.{behind_row, blank_line, chunks_of, ending_events, ending_of, goes_on}
+use Rattle.markdown_blocks.specs.Rows.{behind_row, blank_line, chunks_of, ending_events, ending_of}
 use Rattle.markdown_blocks.specs.Rows.{group_events, groups, groups_events, kind_of, last_row, leaf_done}
-use Rattle.markdown_blocks.specs.Rows.{leaf_events, leaf_unread, line_kind, onto_groups, read_lines, row_events}
+use Rattle.markdown_blocks.specs.Rows.{leaf_events, leaf_unread, line_kind, read_lines, row_events}
 use Rattle.markdown_blocks.specs.Rows.{row_events_by, rows_events, single_events_by, tail_events}
-use Rattle.markdown_blocks.specs.Fronted.{contained, cut_tab, rest_from, rest_line}
+use Rattle.markdown_blocks.specs.Fronted.{cut_tab}
 use Rattle.markdown_blocks.specs.Unread.{joined_groups, linked, linked_lines, listed_group, listed_groups}
 use Rattle.markdown_blocks.specs.Unread.{listed_row_by, unread_group, unread_groups, text_unread, unread_lines}
 use Rattle.md_seam.proofs.FeedLines.{ending-some}
-pub use Rattle.markdown_blocks.proofs.FrontNames.{HasFront}
+pub use Rattle.markdown_blocks.proofs.GroupsAre.{AreGroups, AreLines, AreSpan, EndsBeforeGroups, HasFront, IsSingle}
+pub use Rattle.markdown_blocks.proofs.GroupsAre.{IsSpanLine, groups-are}
+use Rattle.markdown_blocks.proofs.GroupsAre.{behind-first, line-further, line-of, span-begins}
 use Rattle.markdown_blocks.proofs.FrontNames.{ends-first, fronts-prefixes}
 use Rattle.markdown_blocks.proofs.FrontPlaces.{fronts-grow}
 use Rattle.markdown_blocks.proofs.JoinedLemmas.{EachEnds, EachFront, EachNoContent, HasNoContent, behind-is, ending-is}
 use Rattle.markdown_blocks.proofs.JoinedLemmas.{ending-other, events-no_content, has_front-no_content, joined-rows}
 use Rattle.markdown_blocks.proofs.JoinedLemmas.{tail-no_content}
-use Rattle.markdown_blocks.proofs.FrontFacts.{LinePrefix}
-use Rattle.markdown_blocks.proofs.RowFacts.{AreRows, IsEnding, IsLine, IsRow, behind_line, line-text}
+use Rattle.markdown_blocks.proofs.RowFacts.{AreRows, IsEnding, IsRow, behind_line, line-text}
 use Rattle.markdown_blocks.proofs.SubstitutedLemmas.{AllBelong, Becomes, CutAt, EachPrefixed, NextBelongs, Rest}
 use Rattle.markdown_blocks.proofs.SubstitutedLemmas.{Unwanted, becomes-append, becomes-same, behind-exit, line_after}
 use Rattle.markdown_blocks.proofs.SubstitutedLemmas.{lines-becomes, passes, places}
-use Rattle.markdown_blocks.proofs.LeafFacts.{ReadsText}
+use Rattle.markdown_blocks.proofs.LeafFacts.{ReadsString, ReadsText}
 use Rattle.markdown_blocks.proofs.ContentFacts.{NoContent, WantsContent, no_content-append, no_content-unwanted}
 use Rattle.markdown_blocks.proofs.ContainerNames.{container-facts}
 use Rattle.md_definition.specs.Rest.{Rest as LineRest, is_blank}
@@ -63,279 +61,9 @@ use Rattle.markdown_blocks.proofs.LineTexts.{one-last, one-next, piece, without-
 use Rattle.markdown_blocks.proofs.OutsideFacts.{AreOutside}
 use Rattle.markdown_blocks.proofs.OutsideLemmas.{around-outside, ending-own, has_front-outside, leaf-set}
 use Rattle.markdown_blocks.proofs.OutsideLemmas.{linked-outside, tail-outside}
-use Rattle.markdown_blocks.proofs.Registry.{laws, leaf-ends, outside-passes}
+use Rattle.markdown_blocks.proofs.Registry.{laws, leaf-ends, outside-passes, span-laws}
 use Rattle.markdown_blocks.proofs.RowLeaf.{row-becomes}
 use Rattle.markdown_blocks.proofs.KindLemmas.{kind-starts, kind-text}
-
--- The groups of a text.
-
--- lines of text that follow one another
-abbrev pub AreLines : ParseOptions → List ℕ → Row → List Row → Type 0
-AreLines options bytes row [] = (line : List ℕ) × (is : IsRow options bytes line row) × (row.kind ≡ TextRow)
-AreLines options bytes row (next ∷ rows) =
-    (line : List ℕ) × (is : IsRow options bytes line row) × (text : row.kind ≡ TextRow)
-    × (q : Point) × (after : row.after ≡ Some q) × (ending : IsEnding bytes row.end q) ×
-    (front : LinePrefix bytes [] q next.first next.front) × AreLines options bytes next rows
-
--- a line has an ending if more follows
-abbrev pub EndsBeforeGroups : Row → List Group → Type 0
-EndsBeforeGroups row [] = Unit {0}
-EndsBeforeGroups row (group ∷ gs) = (q : Point) × (row.after ≡ Some q)
-
--- a line that is no text
-pub record IsSingle (options : ParseOptions) (bytes : List ℕ) (row : Row) : Type 0 where
-  pub line : List ℕ
-  pub is : IsRow options bytes line row
-  pub other : row.kind ≢ TextRow
-  pub quiet : HasNoContent row
-  pub front : HasFront bytes row
-
--- lines of a leaf of several: the first, and others that go on it; between them no container ends or opens
-pub record IsSpanLine (options : ParseOptions) (bytes : List ℕ) (row : Row) : Type 0 where
-  pub line : List ℕ
-  pub is : IsRow options bytes line row
-  pub name : LeafName
-  pub kind : row.kind ≡ LeafRow name
-  pub open_leaf : (line_leaf name).ends ≡ false
-  pub quiet : HasNoContent row
-  pub front : HasFront bytes row
-
-abbrev pub AreSpan : ParseOptions → List ℕ → Row → List Row → Type 0
-AreSpan options bytes row [] = IsSpanLine options bytes row
-AreSpan options bytes row (next ∷ rows) =
-    (is : IsSpanLine options bytes row) × (q : Point) × (after : row.after ≡ Some q)
-    × (ending : IsEnding bytes row.end q) × (front : LinePrefix bytes [] q next.first next.front)
-    × (leaves : row.leaves ≡ []) × (further : is_further next.kind next.on ≡ true) × AreSpan options bytes next rows
-
--- no such leaf is built
-pub no-span : (options : ParseOptions) (bytes : List ℕ) (row : Row) (rows : List Row) → AreSpan options bytes row rows → ⊥
-no-span options bytes row [] are = let ends = leaf-ends are.name in let open_leaf = are.open_leaf in cc
-no-span options bytes row (next ∷ rows) are = let ends = leaf-ends are.0.name in let open_leaf = are.0.open_leaf in cc
-
--- groups that are such
-abbrev pub AreGroups : ParseOptions → List ℕ → List Group → Type 0
-AreGroups options bytes [] = Unit {0}
-AreGroups options bytes (Single row ∷ gs) = IsSingle options bytes row × AreGroups options bytes gs
-AreGroups options bytes (Span row rows ∷ gs) =
-    AreSpan options bytes row rows × EndsBeforeGroups (last_row row rows) gs × AreGroups options bytes gs
-AreGroups options bytes (Lines row rows ∷ gs) =
-    AreLines options bytes row rows × EndsBeforeGroups (last_row row rows) gs × HasFront bytes row ×
-    AreGroups options bytes gs
-
--- the first line of groups is such
-abbrev FirstIs : (Row → Type 0) → List Group → Type 0
-FirstIs P [] = Unit {0}
-FirstIs P (group ∷ gs) = P (first_row group)
-
-span-first : (P : Row → Type 0) (row : Row) (ends : Bool) (gs : List Group) → P row → FirstIs P (onto_leaf ends row gs)
-span-first P row true gs h = h
-span-first P row false [] h = h
-span-first P row false (Single first ∷ gs) h = h
-span-first P row false (Lines first rows ∷ gs) h = h
-span-first P row false (Span first rows ∷ gs) h = go (is_further first.kind first.on)
-  where
-    go : (x : Bool) → FirstIs P (cond x (Span row (first ∷ rows) ∷ gs) (Span row [] ∷ Span first rows ∷ gs))
-    go true = h
-    go false = h
-
-onto-first : (P : Row → Type 0) (row : Row) (kind : RowKind) (gs : List Group) → P row →
-    FirstIs P (onto_groups row kind gs)
-onto-first P row BlankRow gs h = h
-onto-first P row (LeafRow l) gs h = span-first P row (line_leaf l).ends gs h
-onto-first P row TextRow [] h = h
-onto-first P row TextRow (Single first ∷ gs) h = h
-onto-first P row TextRow (Span first rows ∷ gs) h = h
-onto-first P row TextRow (Lines first rows ∷ gs) h = go (goes_on row first)
-  where
-    go : (x : Bool) → FirstIs P (cond x (Lines row (first ∷ rows) ∷ gs) (Lines row [] ∷ Lines first rows ∷ gs))
-    go true = h
-    go false = h
-
--- what is known of the line behind another: it stands behind this point, and where it goes on the leaf of that one, no
--- container ends or opens between them
-record IsBehind (bytes : List ℕ) (p : Point) (row below : Row) : Type 0 where
-  front : LinePrefix bytes below.change.opens p below.first below.front
-  met : is_further below.kind below.on ≡ true → (row.leaves ≡ []) × (below.change.opens ≡ [])
-
--- a line, with what stands in front of it
-record IsBegun (options : ParseOptions) (bytes line : List ℕ) (p : Point) (row : Row) : Type 0 where
-  is : IsRow options bytes line row
-  front : LinePrefix bytes row.change.opens p row.first row.front
-  quiet : HasNoContent row
-
-alone-is : (options : ParseOptions) (bytes line : List ℕ) (p : Point) (row : Row) → IsBegun options bytes line p row →
-    row.kind ≢ TextRow → IsSingle options bytes row
-alone-is options bytes line p row is other = record {
-  line = line;
-  is = is.is;
-  other = other;
-  quiet = is.quiet;
-  front = (p, is.front);
-}
-
-span-line : (options : ParseOptions) (bytes line : List ℕ) (p : Point) (row : Row) (l : LeafName) →
-    IsBegun options bytes line p row → row.kind ≡ LeafRow l → (line_leaf l).ends ≡ false → IsSpanLine options bytes row
-span-line options bytes line p row l is e ends = record {
-  line = line;
-  is = is.is;
-  name = l;
-  kind = e;
-  open_leaf = ends;
-  quiet = is.quiet;
-  front = (p, is.front);
-}
-
--- a line of a leaf goes before groups
-leaf-are : (options : ParseOptions) (bytes line : List ℕ) (p : Point) (row : Row) (l : LeafName) (q : Point)
-    (gs : List Group) →
-    IsBegun options bytes line p row → row.kind ≡ LeafRow l → row.after ≡ Some q → IsEnding bytes row.end q →
-    FirstIs (IsBehind bytes q row) gs → AreGroups options bytes gs → (ends : Bool) → (line_leaf l).ends ≡ ends →
-    AreGroups options bytes (onto_leaf ends row gs)
-leaf-are options bytes line p row l q gs is e after ending first are true k =
-    (alone-is options bytes line p row is (λ h. let bad : LeafRow l ≡ TextRow = sym e ∙ h in cc), are)
-leaf-are options bytes line p row l q [] is e after ending first are false k =
-    (span-line options bytes line p row l is e k, tt, tt)
-leaf-are options bytes line p row l q (Single below ∷ gs) is e after ending first are false k =
-    (span-line options bytes line p row l is e k, (q, after), are)
-leaf-are options bytes line p row l q (Lines below rows ∷ gs) is e after ending first are false k =
-    (span-line options bytes line p row l is e k, (q, after), are)
-leaf-are options bytes line p row l q (Span below rows ∷ gs) is e after ending first are false k =
-    go (is_further below.kind below.on) refl
-  where
-    go : (x : Bool) → is_further below.kind below.on ≡ x →
-        AreGroups options bytes (cond x (Span row (below ∷ rows) ∷ gs) (Span row [] ∷ Span below rows ∷ gs))
-    go true f =
-        let met = first.met f in (
-          (
-            span-line options bytes line p row l is e k,
-            q,
-            after,
-            ending,
-            subst (λ (cs : List Container). LinePrefix bytes cs q below.first below.front) met.1 first.front,
-            met.0,
-            f,
-            are.0,
-          ),
-          are.1,
-          are.2,
-        )
-    go false f = (span-line options bytes line p row l is e k, (q, after), are)
-
--- a line goes before groups
-onto-are : (options : ParseOptions) (bytes line : List ℕ) (p : Point) (row : Row) (q : Point) (gs : List Group) →
-    IsBegun options bytes line p row → row.after ≡ Some q → IsEnding bytes row.end q →
-    FirstIs (IsBehind bytes q row) gs → AreGroups options bytes gs → (kind : RowKind) → row.kind ≡ kind →
-    AreGroups options bytes (onto_groups row kind gs)
-onto-are options bytes line p row q gs is after ending first are BlankRow e =
-    (alone-is options bytes line p row is (λ k. cc), are)
-onto-are options bytes line p row q gs is after ending first are (LeafRow l) e =
-    leaf-are options bytes line p row l q gs is e after ending first are (line_leaf l).ends refl
-onto-are options bytes line p row q [] is after ending first are TextRow e = ((line, is.is, e), tt, (p, is.front), tt)
-onto-are options bytes line p row q (Single below ∷ gs) is after ending first are TextRow e =
-    ((line, is.is, e), (q, after), (p, is.front), are)
-onto-are options bytes line p row q (Span below rows ∷ gs) is after ending first are TextRow e =
-    ((line, is.is, e), (q, after), (p, is.front), are)
-onto-are options bytes line p row q (Lines below rows ∷ gs) is after ending first are TextRow e =
-    go (change.is_none row.leaves) below.change.opens refl
-  where
-    go : (x : Bool) (opens : List Container) → below.change.opens ≡ opens →
-        AreGroups options bytes
-        (cond (x && change.is_none opens) (Lines row (below ∷ rows) ∷ gs) (Lines row [] ∷ Lines below rows ∷ gs))
-    go true [] none = (
-      (
-        line,
-        is.is,
-        e,
-        q,
-        after,
-        ending,
-        subst (λ (l : List Container). LinePrefix bytes l q below.first below.front) none first.front,
-        are.0,
-      ),
-      are.1,
-      (p, is.front),
-      are.3,
-    )
-    go true (c ∷ opens) k = ((line, is.is, e), (q, after), (p, is.front), are)
-    go false opens k = ((line, is.is, e), (q, after), (p, is.front), are)
-
-last-are : (options : ParseOptions) (bytes line : List ℕ) (p : Point) (row : Row) → IsBegun options bytes line p row →
-    (kind : RowKind) → row.kind ≡ kind → AreGroups options bytes (onto_groups row kind [])
-last-are options bytes line p row is BlankRow e = (alone-is options bytes line p row is (λ k. cc), tt)
-last-are options bytes line p row is (LeafRow l) e = go (line_leaf l).ends refl
-  where
-    go : (ends : Bool) → (line_leaf l).ends ≡ ends → AreGroups options bytes (onto_leaf ends row [])
-    go true k = (alone-is options bytes line p row is (λ h. let bad : LeafRow l ≡ TextRow = sym e ∙ h in cc), tt)
-    go false k = (span-line options bytes line p row l is e k, tt, tt)
-last-are options bytes line p row is TextRow e = ((line, is.is, e), tt, (p, is.front), tt)
-
-line-begun : (options : ParseOptions) (bytes : List ℕ) (open_before : List Container) (still : HeldLeaf) (p : Point)
-    (line : List ℕ) (row : Row) →
-    IsLine options bytes open_before still p line row → HasNoContent row →
-    IsBegun options bytes (rest_line (contained options open_before still (rest_from p line)).rest) p row
-line-begun options bytes open_before still p line row is quiet = record { is = is.is; front = is.front; quiet = quiet }
-
--- the first line, where these containers and this leaf are open
-abbrev FirstLine : ParseOptions → List ℕ → List Container → HeldLeaf → Point → List (List ℕ) → Row → Type 0
-FirstLine options bytes cs still p [] row = ⊥
-FirstLine options bytes cs still p (line ∷ lines) row = IsLine options bytes cs still p line row
-
-first-line : (options : ParseOptions) (bytes : List ℕ) (cs : List Container) (still : HeldLeaf) (p : Point)
-    (lines : List (List ℕ)) (row : Row) (rows : List Row) →
-    AreRows options bytes cs still p lines (row ∷ rows) → FirstLine options bytes cs still p lines row
-first-line options bytes cs still p [] row rows h = absurd h
-first-line options bytes cs still p (line ∷ []) row [] h = h.0
-first-line options bytes cs still p (line ∷ []) row (below ∷ rows) h = absurd h
-first-line options bytes cs still p (line ∷ next ∷ lines) row [] h = absurd h
-first-line options bytes cs still p (line ∷ next ∷ lines) row (below ∷ rows) h = h.0
-
--- where a line goes on the leaf that it meets, no container ends in front of it, and none opens
-line-met : (options : ParseOptions) (bytes : List ℕ) (cs : List Container) (still : HeldLeaf) (p : Point)
-    (line : List ℕ) (row : Row) →
-    IsLine options bytes cs still p line row → is_further row.kind row.on ≡ true →
-    (row.change.opens ≡ []) × (row.change.closes ≡ [])
-line-met options bytes cs still p line row is f =
-    let met = contained-met options cs still (rest_from p line) (ap has_lines (sym is.on) ∙ lines row.kind refl f) in
-    (ap (λ (c : Change). c.opens) is.change ∙ met.0, ap (λ (c : Change). c.closes) is.change ∙ met.1)
-  where
-    lines : (kind : RowKind) → row.kind ≡ kind → is_further kind row.on ≡ true → has_lines row.on ≡ true
-    lines BlankRow e f = cc
-    lines TextRow e f = cc
-    lines (LeafRow l) e f =
-        (laws l).meets options row.on is.is.rest
-        (kind-starts options row.on is.is.rest l (sym is.is.kind ∙ e)) f
-
-line-behind : (options : ParseOptions) (bytes : List ℕ) (cs : List Container) (still : HeldLeaf) (p : Point)
-    (lines : List (List ℕ)) (row below : Row) →
-    FirstLine options bytes cs still p lines below → row.leaves ≡ below.change.closes →
-    IsBehind bytes p row below
-line-behind options bytes cs still p [] row below is leaves = absurd is
-line-behind options bytes cs still p (line ∷ lines) row below is leaves = record {
-  front = is.front;
-  met = λ f. let met = line-met options bytes cs still p line below is f in (leaves ∙ met.1, met.0);
-}
-
--- The groups of the lines of a text are lines of text that belong together, and lines that are no text.
-pub groups-are : (options : ParseOptions) (bytes : List ℕ) (open_before : List Container) (still : HeldLeaf) (p : Point)
-    (lines : List (List ℕ)) (rows : List Row) →
-    AreRows options bytes open_before still p lines rows → EachNoContent rows → AreGroups options bytes (groups rows)
-groups-are options bytes open_before still p [] rows h k = absurd h
-groups-are options bytes open_before still p (line ∷ []) [] h k = absurd h
-groups-are options bytes open_before still p (line ∷ next ∷ lines) [] h k = absurd h
-groups-are options bytes open_before still p (line ∷ []) (row ∷ []) h k =
-    last-are options bytes (rest_line (contained options open_before still (rest_from p line)).rest) p row
-    (line-begun options bytes open_before still p line row h.0 k.0) row.kind refl
-groups-are options bytes open_before still p (line ∷ []) (row ∷ below ∷ rows) h k = absurd h
-groups-are options bytes open_before still p (line ∷ next ∷ lines) (row ∷ []) h k = absurd h
-groups-are options bytes open_before still p (line ∷ next ∷ lines) (row ∷ below ∷ rows) h k =
-    let open_next = behind_line options open_before still p line in
-    let still_next = row.behind in
-    onto-are options bytes (rest_line (contained options open_before still (rest_from p line)).rest) p row h.2
-    (groups (below ∷ rows)) (line-begun options bytes open_before still p line row h.0 k.0) h.3 h.4
-    (onto-first (IsBehind bytes h.2 row) below below.kind (groups rows)
-    (line-behind options bytes open_next still_next h.2 (next ∷ lines) row below
-    (first-line options bytes open_next still_next h.2 (next ∷ lines) below rows h.5) h.1))
-    (groups-are options bytes open_next still_next h.2 (next ∷ lines) (below ∷ rows) h.5 k.1) row.kind refl
 
 -- each line of a text but the last has an ending
 pub rows-end : (options : ParseOptions) (bytes : List ℕ) (open_before : List Container) (still : HeldLeaf) (p : Point)
@@ -472,23 +200,25 @@ single-unwanted options bytes wants row is w =
     (is.quiet wants w))
 
 span-quiet : (options : ParseOptions) (bytes : List ℕ) (wants : Content → Bool) (row : Row) →
-    IsSpanLine options bytes row → WantsContent wants → NoContent wants (row_events row)
-span-quiet options bytes wants row is w =
+    IsSpanLine options bytes row → HasNoContent row → WantsContent wants → NoContent wants (row_events row)
+span-quiet options bytes wants row is quiet w =
     events-no_content wants row row.kind refl (λ h. let bad : LeafRow is.name ≡ TextRow = sym is.kind ∙ h in cc)
-    (has_front-no_content wants bytes row is.front) (is.quiet wants w)
+    (has_front-no_content wants bytes row is.front) (quiet wants w)
 
 spans-quiet : (options : ParseOptions) (bytes : List ℕ) (wants : Content → Bool) (row : Row) (rows : List Row) →
-    AreSpan options bytes row rows → WantsContent wants → NoContent wants (rows_events (row ∷ rows))
-spans-quiet options bytes wants row [] are w =
-    no_content-append wants (row_events row) [] (span-quiet options bytes wants row are w) tt
-spans-quiet options bytes wants row (next ∷ rows) are w =
-    no_content-append wants (row_events row) (rows_events (next ∷ rows)) (span-quiet options bytes wants row are.0 w)
-    (spans-quiet options bytes wants next rows are.7 w)
+    AreSpan options bytes row rows → EachNoContent (row ∷ rows) → WantsContent wants →
+    NoContent wants (rows_events (row ∷ rows))
+spans-quiet options bytes wants row [] are quiet w =
+    no_content-append wants (row_events row) [] (span-quiet options bytes wants row are quiet.0 w) tt
+spans-quiet options bytes wants row (next ∷ rows) are quiet w =
+    no_content-append wants (row_events row) (rows_events (next ∷ rows))
+    (span-quiet options bytes wants row are.0 quiet.0 w) (spans-quiet options bytes wants next rows are.8 quiet.1 w)
 
 span-unwanted : (options : ParseOptions) (bytes : List ℕ) (wants : Content → Bool) (row : Row) (rows : List Row) →
-    AreSpan options bytes row rows → WantsContent wants → Unwanted wants (rows_events (row ∷ rows))
-span-unwanted options bytes wants row rows are w =
-    no_content-unwanted wants (rows_events (row ∷ rows)) (spans-quiet options bytes wants row rows are w)
+    AreSpan options bytes row rows → EachNoContent (row ∷ rows) → WantsContent wants →
+    Unwanted wants (rows_events (row ∷ rows))
+span-unwanted options bytes wants row rows are quiet w =
+    no_content-unwanted wants (rows_events (row ∷ rows)) (spans-quiet options bytes wants row rows are quiet w)
 
 -- in front of the further lines of a text stand prefixes alone
 pub lines-prefixed : (options : ParseOptions) (bytes : List ℕ) (row : Row) (rows : List Row) →
@@ -631,7 +361,7 @@ groups-content options bytes wants reads w other unique (Span row rows ∷ gs) a
     let one : (rest : List Event) × (is : out ≡ rows_events (row ∷ rows) ++ rest) ×
     Substituted wants reads left 0 (joined_groups gs) rest =
     passes wants reads left 0 (rows_events (row ∷ rows)) (joined_groups gs) out
-    (span-unwanted options bytes wants row rows are.0 other) s in
+    (span-unwanted options bytes wants row rows are.0 are.3 other) s in
     one.1
     ∙ ap (λ (l : List Event). rows_events (row ∷ rows) ++ l)
     (groups-content options bytes wants reads w other unique gs are.2 left one.0 one.2)
@@ -660,19 +390,25 @@ groups-content options bytes wants reads w other unique (Lines row rows ∷ gs) 
 -- The events of the lines of a text, joined, and their content read: texts that are not read yet.
 pub content-read : (options : ParseOptions) (bytes : List ℕ) (open_before : List Container) (still : HeldLeaf)
     (p : Point) (lines : List (List ℕ)) (rows : List Row) →
-    AreRows options bytes open_before still p lines rows → EachNoContent rows →
+    has_lines still ≡ false → AreRows options bytes open_before still p lines rows → EachNoContent rows →
     (wants : Content → Bool) (reads : Readings) → wants content.Content ≡ true → WantsContent wants →
     ReadsContent options bytes reads →
     (unread : List Event) → Substituted wants reads [] 0 (joined (rows_events rows)) unread →
     unread ≡ unread_groups (groups rows)
-content-read options bytes open_before still p lines rows are quiet wants reads w other unique unread s =
+content-read options bytes open_before still p lines rows shut are quiet wants reads w other unique unread s =
     groups-content options bytes wants reads w other unique (groups rows)
-    (groups-are options bytes open_before still p lines rows are quiet) [] unread
+    (groups-are options bytes open_before still p lines rows shut are quiet) [] unread
     (subst (λ (l : List Event). Substituted wants reads [] 0 l unread)
     (joined-rows bytes rows (rows-front options bytes open_before still p lines rows are)
     (rows-end options bytes open_before still p lines rows are) quiet) s)
 
 -- Resolvers.
+
+-- none is built
+no-span : (options : ParseOptions) (bytes : List ℕ) (row : Row) (rows : List Row) → AreSpan options bytes row rows → ⊥
+no-span options bytes row rows are =
+    let is : IsSpanLine options bytes row = span-begins options bytes row rows are in
+    let ends = leaf-ends is.name in let open_leaf = is.open_leaf in cc
 
 -- the whitespace of a blank line stays
 blank-outside : (line : List ℕ) (p : Point) → AreOutside (blank_line line p)
@@ -694,7 +430,8 @@ single-set options bytes row es is kind e =
     leaf (LeafRow l) e es =
         ap (λ (added : List Event). resolved (added ++ es))
         (is.is.leaf_is l e ∙ ap (λ (line : List ℕ). (line_leaf l).added options row.on line row.first) is.is.line_is)
-        ∙ (laws l).set (leaf-ends l) options row.on is.is.rest row.first es (kind-starts options row.on is.is.rest l (sym is.is.kind ∙ e))
+        ∙ (laws l).set (is.ends l e) options row.on is.is.rest row.first es
+        (kind-starts options row.on is.is.rest l (sym is.is.kind ∙ e))
         ∙ ap (λ (line : List ℕ). (line_leaf l).unread line row.first ++ resolved es)
         (sym is.is.line_is ∙ sym is.is.text)
     leaf TextRow e es = absurd (is.other e)
@@ -719,10 +456,10 @@ groups-set options bytes (Span row rows ∷ gs) are = absurd (no-span options by
 -- Each leaf is set, and all else stays.
 pub leaves-set : (options : ParseOptions) (bytes : List ℕ) (open_before : List Container) (still : HeldLeaf) (p : Point)
     (lines : List (List ℕ)) (rows : List Row) →
-    AreRows options bytes open_before still p lines rows → EachNoContent rows →
+    has_lines still ≡ false → AreRows options bytes open_before still p lines rows → EachNoContent rows →
     resolved (unread_groups (groups rows)) ≡ listed_groups bytes (groups rows)
-leaves-set options bytes open_before still p lines rows are quiet =
-    groups-set options bytes (groups rows) (groups-are options bytes open_before still p lines rows are quiet)
+leaves-set options bytes open_before still p lines rows shut are quiet =
+    groups-set options bytes (groups rows) (groups-are options bytes open_before still p lines rows shut are quiet)
 
 -- The text of leaves, and texts.
 
@@ -742,7 +479,7 @@ single-becomes options bytes row wants reads w rt is =
     leaf-becomes wants reads row.front (leaf_unread bytes row.kind row) (leaf_done bytes row.kind row)
     (tail_events (ending_of row.kind) row) (front-unwanted wants bytes row is.front)
     (tail-unwanted wants row.kind row)
-    (row-becomes options bytes is.line row is.is is.other wants reads w rt)
+    (row-becomes options bytes is.line row is.is is.other is.ends wants reads w rt)
 
 -- The lines of a text, cut at the ends of its lines.
 
@@ -844,34 +581,55 @@ lines-become options bytes row rows wants reads w rt is front =
     (λ answer r.
     subst (λ (l : List Event). CutAt row rows l given) (sym (unique answer r)) (text-cut options bytes row rows is)))
 
+-- the lines of a leaf of several
+span-becomes : (options : ParseOptions) (bytes : List ℕ) (row : Row) (rows : List Row) (wants : Content → Bool)
+    (reads : Readings) →
+    wants content.Text ≡ true → wants content.String ≡ true → ReadsText bytes reads → ReadsString bytes reads →
+    AreSpan options bytes row rows → is_further row.kind row.on ≡ false →
+    Becomes wants reads (listed_group bytes (Span row rows)) (group_events bytes (Span row rows))
+span-becomes options bytes row rows wants reads w ws rt rs are begins =
+    let is : IsSpanLine options bytes row = span-begins options bytes row rows are in
+    let kind : RowKind = group_kind (Span row rows) in
+    leaf-becomes wants reads row.front (span_by (λ (r : Row). r.inside) row rows) (span_done bytes row rows)
+    (tail_events (ending_of kind) (last_row row rows)) (front-unwanted wants bytes row is.front)
+    (tail-unwanted wants kind (last_row row rows))
+    ((span-laws is.name is.open_leaf).becomes options bytes row rows (line-of options bytes row is)
+    (line-further options bytes row is false begins) (behind-first options bytes row rows are) wants reads w ws rt rs)
+
 groups-become : (options : ParseOptions) (bytes : List ℕ) (wants : Content → Bool) (reads : Readings) →
-    wants content.Text ≡ true → ReadsText bytes reads →
+    wants content.Text ≡ true → wants content.String ≡ true → ReadsText bytes reads → ReadsString bytes reads →
     (gs : List Group) → AreGroups options bytes gs →
     Becomes wants reads (listed_groups bytes gs) (groups_events bytes gs)
-groups-become options bytes wants reads w rt [] are = becomes-same wants reads [] tt
-groups-become options bytes wants reads w rt (Single row ∷ gs) are =
+groups-become options bytes wants reads w ws rt rs [] are = becomes-same wants reads [] tt
+groups-become options bytes wants reads w ws rt rs (Single row ∷ gs) are =
     becomes-append wants reads (listed_group bytes (Single row)) (group_events bytes (Single row))
     (listed_groups bytes gs) (groups_events bytes gs)
-    (single-becomes options bytes row wants reads w rt are.0) (groups-become options bytes wants reads w rt gs are.1)
-groups-become options bytes wants reads w rt (Span row rows ∷ gs) are = absurd (no-span options bytes row rows are.0)
-groups-become options bytes wants reads w rt (Lines row rows ∷ gs) are =
+    (single-becomes options bytes row wants reads w rt are.0)
+    (groups-become options bytes wants reads w ws rt rs gs are.1)
+groups-become options bytes wants reads w ws rt rs (Span row rows ∷ gs) are =
+    becomes-append wants reads (listed_group bytes (Span row rows)) (group_events bytes (Span row rows))
+    (listed_groups bytes gs) (groups_events bytes gs)
+    (span-becomes options bytes row rows wants reads w ws rt rs are.0 are.4)
+    (groups-become options bytes wants reads w ws rt rs gs are.2)
+groups-become options bytes wants reads w ws rt rs (Lines row rows ∷ gs) are =
     becomes-append wants reads (listed_group bytes (Lines row rows)) (group_events bytes (Lines row rows))
     (listed_groups bytes gs) (groups_events bytes gs)
     (lines-become options bytes row rows wants reads w rt are.0 are.2)
-    (groups-become options bytes wants reads w rt gs are.3)
+    (groups-become options bytes wants reads w ws rt rs gs are.3)
 
 -- The text of leaves, and texts, read: the events of a text.
 pub text-read : (options : ParseOptions) (bytes : List ℕ) (open_before : List Container) (still : HeldLeaf) (p : Point)
     (lines : List (List ℕ)) (rows : List Row) →
-    AreRows options bytes open_before still p lines rows → EachNoContent rows →
-    (wants : Content → Bool) (reads : Readings) → wants content.Text ≡ true → ReadsText bytes reads →
+    has_lines still ≡ false → AreRows options bytes open_before still p lines rows → EachNoContent rows →
+    (wants : Content → Bool) (reads : Readings) → wants content.Text ≡ true → wants content.String ≡ true →
+    ReadsText bytes reads → ReadsString bytes reads →
     (events : List Event) → Substituted wants reads [] 0 (listed_groups bytes (groups rows)) events →
     events ≡ groups_events bytes (groups rows)
-text-read options bytes open_before still p lines rows are quiet wants reads w rt events s =
+text-read options bytes open_before still p lines rows shut are quiet wants reads w ws rt rs events s =
     let unread : List Event = listed_groups bytes (groups rows) in
     let rest : Rest wants reads (groups_events bytes (groups rows)) [] events =
-    groups-become options bytes wants reads w rt (groups rows)
-    (groups-are options bytes open_before still p lines rows are quiet) [] [] events
+    groups-become options bytes wants reads w ws rt rs (groups rows)
+    (groups-are options bytes open_before still p lines rows shut are quiet) [] [] events
     (subst (λ (l : List Event). Substituted wants reads [] 0 l events) (sym (append-nil unread)) s) in
     rest.2 ∙ ap (λ (l : List Event). groups_events bytes (groups rows) ++ l) rest.3
     ∙ append-nil (groups_events bytes (groups rows))

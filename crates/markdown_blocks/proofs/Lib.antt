@@ -71,6 +71,7 @@ pub mod Registers
 pub mod StatesRegister
 pub mod JoinedLemmas
 pub mod GroupLemmas
+pub mod GroupsAre
 pub mod Text
 pub mod Span
 pub mod ShallowBlocks

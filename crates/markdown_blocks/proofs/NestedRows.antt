@@ -1,9 +1,11 @@
 -- The events of a text nest.
 use Rattle.md_engine.specs.declared.tokenizer.held_leaf.HeldLeaf.TheVariants as held_leaf
 use Rattle.md_engine.specs.declared.tokenizer.held_leaf.HeldLeaf.{HeldLeaf}
+use Rattle.markdown_blocks.specs.Registry.{LeafName, leaf}
+use Rattle.markdown_blocks.proofs.GroupsAre.{AreSpan, FirstBegins, FirstIs, IsBehind, IsSpanLine, begins-behind}
+use Rattle.markdown_blocks.proofs.GroupsAre.{blank-ends, first-begins, first-behind, leaf-row-ends, shut-behind}
+use Rattle.markdown_blocks.proofs.GroupsAre.{text-ends}
 use Rattle.std.proofs.Common.{◌≡◌, ◌≢◌, ℕ, Bool, true, false, cond, List, [], ◌∷◌, ◌++◌, refl, ap, sym, ◌∙◌, subst}
-use Rattle.markdown_blocks.proofs.Registry.{leaf-ends}
-use Rattle.markdown_blocks.specs.Rows.{Span, onto_leaf}
 use Rattle.std.proofs.Common.{append_assoc, append-nil}
 use Rattle.std.specs.Prelude.{IsTrue, Option, Some, None}
 use Rattle.std.proofs.lemmas.Bool.{and_parts}
@@ -18,18 +20,18 @@ use Rattle.md_seam.proofs.NestedLemmas.{at_or_before-refl, balanced-none, forwar
 use Rattle.md_seam.proofs.NestedLemmas.{open_after-append}
 use Rattle.markdown_blocks.specs.Change.{Change, ends_of, is_none, open_behind}
 use Rattle.markdown_blocks.specs.Fronted.{contained, rest_from, rest_line}
-use Rattle.markdown_blocks.specs.Rows.{final_row, first_row, group_done, group_kind, LeafRow, ending_of}
-use Rattle.markdown_blocks.specs.Rows.{BlankRow, Group, Lines, Row, RowKind, Single, TextRow, behind_row, closes_before}
-use Rattle.markdown_blocks.specs.Rows.{ending_events, goes_on, groups, groups_events, last_row, onto_groups}
-use Rattle.markdown_blocks.specs.Rows.{tail_events}
+use Rattle.markdown_blocks.specs.Rows.{Span, is_further, onto_leaf, final_row, first_row, group_done, group_kind}
+use Rattle.markdown_blocks.specs.Rows.{LeafRow, ending_of, BlankRow, Group, Lines, Row, RowKind, Single, TextRow}
+use Rattle.markdown_blocks.specs.Rows.{behind_row, closes_before, ending_events, goes_on, groups, groups_events}
+use Rattle.markdown_blocks.specs.Rows.{last_row, onto_groups, tail_events}
 use Rattle.markdown_blocks.proofs.ContainedLemmas.{contained-shapes, none-nil}
 use Rattle.markdown_blocks.proofs.FrontFacts.{LinePrefix}
 use Rattle.markdown_blocks.proofs.FrontLemmas.{Turns, ends-spans, ends-turn, fronts-spans, fronts-turn, names-append}
 use Rattle.markdown_blocks.proofs.FrontLemmas.{shapes-names, turns-balanced}
 use Rattle.markdown_blocks.proofs.JoinedLemmas.{behind-is, behind-none}
-use Rattle.markdown_blocks.proofs.GroupFacts.{IsGroupLeaf, text-leaf}
+use Rattle.markdown_blocks.proofs.GroupFacts.{span-group, IsGroupLeaf, text-leaf}
 use Rattle.markdown_blocks.proofs.GroupLemmas.{AreLines}
-use Rattle.markdown_blocks.proofs.RowLeaf.{row-leaf}
+use Rattle.markdown_blocks.proofs.RowLeaf.{EndsOnLine, row-leaf}
 use Rattle.markdown_blocks.proofs.Text.Order.{ending-order}
 use Rattle.markdown_blocks.proofs.RowFacts.{AreRows, IsEnding, IsLine, IsRow, behind_line}
 use Rattle.markdown_blocks.proofs.SpanLemmas.{Nested_in, Spans}
@@ -136,13 +138,23 @@ record Lined (options : ParseOptions) (bytes : List ℕ) (P : List Name → Poin
   keeps : Keeps names (Lines row rows) kept
   more : P kept (behind_row (last_row row rows)) gs
 
--- text with which groups begin
+-- lines of a leaf of several in front of groups
+record Spanned (options : ParseOptions) (bytes : List ℕ) (P : List Name → Point → List Group → Type 0)
+    (names : List Name) (p : Point) (row : Row) (rows : List Row) (gs : List Group) : Type 0 where
+  front : LinePrefix bytes row.change.opens p row.first row.front
+  are : AreSpan options bytes row rows
+  ends : IsTrue (at_or_before (last_row row rows).end (behind_row (last_row row rows)))
+  kept : List Name
+  keeps : Keeps names (Span row rows) kept
+  more : P kept (behind_row (last_row row rows)) gs
+
+-- lines with which groups begin
 abbrev Begun : ParseOptions → List ℕ → (List Name → Point → List Group → Type 0) → List Name → Point → List Group →
     Type 0
 Begun options bytes P names p [] = Unit {0}
 Begun options bytes P names p (Single row ∷ gs) = Unit {0}
 Begun options bytes P names p (Lines row rows ∷ gs) = Lined options bytes P names p row rows gs
-Begun options bytes P names p (Span row rows ∷ gs) = Unit {0}
+Begun options bytes P names p (Span row rows ∷ gs) = Spanned options bytes P names p row rows gs
 
 -- a line has an ending if more follows
 abbrev Ended : List ℕ → Row → List Group → Type 0
@@ -157,31 +169,59 @@ record IsBegun (options : ParseOptions) (bytes line : List ℕ) (names kept : Li
   ends : IsTrue (at_or_before row.end (behind_row row))
   keeps : Keeps names (Single row) kept
 
--- a line in front of others
+-- a line in front of others, of which it holds where they begin a leaf
 onto-holds : (options : ParseOptions) (bytes line : List ℕ) (P : List Name → Point → List Group → Type 0) →
-    ByGroups bytes P → (names kept : List Name) (p : Point) (row : Row) (gs : List Group) →
-    IsBegun options bytes line names kept p row → Ended bytes row gs → Begun options bytes P kept (behind_row row) gs →
-    P kept (behind_row row) gs → (kind : RowKind) → row.kind ≡ kind →
-    P names p (onto_groups row kind gs) × Begun options bytes P names p (onto_groups row kind gs)
-onto-holds options bytes line P by names kept p row gs begun ended below h kind e = go kind e gs ended below h
+    ByGroups bytes P → (names kept : List Name) (p q : Point) (row : Row) (gs : List Group) →
+    IsBegun options bytes line names kept p row → Ended bytes row gs → FirstIs (IsBehind bytes q row) gs →
+    Begun options bytes P kept (behind_row row) gs → (FirstBegins gs → P kept (behind_row row) gs) → (kind : RowKind) →
+    row.kind ≡ kind →
+    (FirstBegins (onto_groups row kind gs) → P names p (onto_groups row kind gs)) ×
+    Begun options bytes P names p (onto_groups row kind gs)
+onto-holds options bytes line P by names kept p q row gs begun ended first below h kind e =
+    go kind e gs ended first below h
   where
     Both_of : List Group → Type 0
-    Both_of groups = P names p groups × Begun options bytes P names p groups
+    Both_of groups = (FirstBegins groups → P names p groups) × Begun options bytes P names p groups
 
-    single : row.kind ≢ TextRow → (gs : List Group) → P kept (behind_row row) gs → Both_of (Single row ∷ gs)
-    single other gs h = (
-      by.group names kept p (Single row) gs
-          (record { front = begun.front; leaf = row-leaf options bytes line row begun.is other; ends = begun.ends }) begun.keeps h,
+    single : row.kind ≢ TextRow → EndsOnLine row.kind → (gs : List Group) → P kept (behind_row row) gs →
+        Both_of (Single row ∷ gs)
+    single other ends gs h = (
+      λ begins. by.group names kept p (Single row) gs
+          (record {
+            front = begun.front;
+            leaf = row-leaf options bytes line row begun.is other ends;
+            ends = begun.ends;
+          })
+          begun.keeps h,
       tt,
     )
 
     text : (rows : List Row) (gs : List Group) → Lined options bytes P names p row rows gs →
         Both_of (Lines row rows ∷ gs)
     text rows gs lined = (
-      by.group names lined.kept p (Lines row rows) gs
-          (record { front = lined.front; leaf = text-leaf options bytes row rows lined.are; ends = lined.ends }) lined.keeps lined.more,
+      λ begins. by.group names lined.kept p (Lines row rows) gs
+          (record { front = lined.front; leaf = text-leaf options bytes row rows lined.are; ends = lined.ends })
+          lined.keeps lined.more,
       lined,
     )
+
+    span : (rows : List Row) (gs : List Group) → Spanned options bytes P names p row rows gs →
+        Both_of (Span row rows ∷ gs)
+    span rows gs spanned = (
+      λ begins. by.group names spanned.kept p (Span row rows) gs
+          (record {
+            front = spanned.front;
+            leaf = span-group options bytes row rows spanned.are begins;
+            ends = spanned.ends;
+          })
+          spanned.keeps spanned.more,
+      spanned,
+    )
+
+    -- where no leaf of several lines is open behind it, what stands below begins one
+    all : (gs : List Group) → EndsOnLine row.kind → FirstIs (IsBehind bytes q row) gs →
+        (FirstBegins gs → P kept (behind_row row) gs) → P kept (behind_row row) gs
+    all gs ends first h = h (begins-behind bytes q row gs first (shut-behind options bytes line row begun.is ends))
 
     alone : row.kind ≡ TextRow → (gs : List Group) → P kept (behind_row row) gs → Both_of (Lines row [] ∷ gs)
     alone e gs h =
@@ -195,16 +235,90 @@ onto-holds options bytes line P by names kept p row gs begun ended below h kind 
           more = h;
         })
 
-    go : (kind : RowKind) → row.kind ≡ kind → (gs : List Group) → Ended bytes row gs →
-        Begun options bytes P kept (behind_row row) gs → P kept (behind_row row) gs → Both_of (onto_groups row kind gs)
-    go BlankRow e gs ended below h = single (λ k. cc) gs h
-    go (LeafRow l) e gs ended below h =
-        subst (λ (ends : Bool). Both_of (onto_leaf ends row gs)) (sym (leaf-ends l))
-        (single (λ k. let bad : LeafRow l ≡ TextRow = sym e ∙ k in cc) gs h)
-    go TextRow e [] ended below h = alone e [] h
-    go TextRow e (Single next ∷ gs) ended below h = alone e (Single next ∷ gs) h
-    go TextRow e (Span next rows ∷ gs) ended below h = alone e (Span next rows ∷ gs) h
-    go TextRow e (Lines next rows ∷ gs) ended below h = joins (goes_on row next) refl
+    -- a line that goes on the one above stands behind its prefixes
+    prefixes : (next : Row) (to : Point) → row.after ≡ Some to → next.change.opens ≡ [] →
+        LinePrefix bytes next.change.opens (behind_row row) next.first next.front →
+        LinePrefix bytes [] to next.first next.front
+    prefixes next to after opens front =
+        subst (λ (r : Point). LinePrefix bytes [] r next.first next.front) (behind-is row to after)
+        (subst (λ (cs : List Container). LinePrefix bytes cs (behind_row row) next.first next.front) opens front)
+
+    -- and what is open in both is what ends behind it and what is kept
+    both : (next last : Row) (more : List Name) → row.leaves ≡ [] → next.change.opens ≡ [] →
+        open_names next.change.opens ++ kept ≡ open_names last.leaves ++ more →
+        open_names row.change.opens ++ names ≡ open_names last.leaves ++ more
+    both next last more leaves opens keeps =
+        begun.keeps
+        ∙ ap (λ (cs : List Container). open_names cs ++ kept) leaves
+        ∙ ap (λ (cs : List Container). open_names cs ++ kept) (sym opens)
+        ∙ keeps
+
+    spans : (l : LeafName) → row.kind ≡ LeafRow l → (leaf l).ends ≡ false → (gs : List Group) → Ended bytes row gs →
+        FirstIs (IsBehind bytes q row) gs → Begun options bytes P kept (behind_row row) gs →
+        (FirstBegins gs → P kept (behind_row row) gs) → Both_of (onto_leaf false row gs)
+    spans l e k gs ended first below h = go gs ended first below h
+      where
+        is : IsSpanLine options bytes row
+        is = record {
+          line = line;
+          is = begun.is;
+          name = l;
+          kind = e;
+          open_leaf = k;
+          front = (p, begun.front);
+        }
+
+        one : (gs : List Group) → P kept (behind_row row) gs → Both_of (Span row [] ∷ gs)
+        one gs h =
+            span [] gs
+            (record {
+              front = begun.front;
+              are = is;
+              ends = begun.ends;
+              kept = kept;
+              keeps = begun.keeps;
+              more = h;
+            })
+
+        go : (gs : List Group) → Ended bytes row gs → FirstIs (IsBehind bytes q row) gs →
+            Begun options bytes P kept (behind_row row) gs → (FirstBegins gs → P kept (behind_row row) gs) →
+            Both_of (onto_leaf false row gs)
+        go [] ended first below h = one [] (h tt)
+        go (Single next ∷ gs) ended first below h = one (Single next ∷ gs) (h tt)
+        go (Lines next rows ∷ gs) ended first below h = one (Lines next rows ∷ gs) (h tt)
+        go (Span next rows ∷ gs) ended first below h = joins (is_further next.kind next.on) refl
+          where
+            joins : (x : Bool) → is_further next.kind next.on ≡ x →
+                Both_of (cond x (Span row (next ∷ rows) ∷ gs) (Span row [] ∷ Span next rows ∷ gs))
+            joins false f = one (Span next rows ∷ gs) (h f)
+            joins true f =
+                let met = first.met f in
+                span (next ∷ rows) gs (record {
+                  front = begun.front;
+                  are = (
+                    is,
+                    ended.0,
+                    ended.1,
+                    ended.2,
+                    prefixes next ended.0 ended.1 met.1 below.front,
+                    met.0,
+                    met.2,
+                    f,
+                    below.are,
+                  );
+                  ends = below.ends;
+                  kept = below.kept;
+                  keeps = both next (last_row next rows) below.kept met.0 met.1 below.keeps;
+                  more = below.more;
+                })
+
+    lines : row.kind ≡ TextRow → (gs : List Group) → Ended bytes row gs →
+        Begun options bytes P kept (behind_row row) gs → P kept (behind_row row) gs →
+        Both_of (onto_groups row TextRow gs)
+    lines e [] ended below h = alone e [] h
+    lines e (Single next ∷ gs) ended below h = alone e (Single next ∷ gs) h
+    lines e (Span next rows ∷ gs) ended below h = alone e (Span next rows ∷ gs) h
+    lines e (Lines next rows ∷ gs) ended below h = joins (goes_on row next) refl
       where
         joins : (x : Bool) → goes_on row next ≡ x →
             Both_of (cond x (Lines row (next ∷ rows) ∷ gs) (Lines row [] ∷ Lines next rows ∷ gs))
@@ -213,24 +327,32 @@ onto-holds options bytes line P by names kept p row gs begun ended below h kind 
             let parts = and_parts (is_none row.leaves) (is_none next.change.opens) k in
             let leaves : row.leaves ≡ [] = none-nil row.leaves parts.0 in
             let opens : next.change.opens ≡ [] = none-nil next.change.opens parts.1 in
-            let behind : behind_row row ≡ ended.0 = behind-is row ended.0 ended.1 in
-            let front : LinePrefix bytes [] ended.0 next.first next.front =
-            subst (λ (q : Point). LinePrefix bytes [] q next.first next.front) behind
-            (subst
-            (λ (cs : List Container). LinePrefix bytes cs (behind_row row) next.first next.front) opens below.front)
-            in
+            let front = prefixes next ended.0 ended.1 opens below.front in
             text (next ∷ rows) gs (record {
               front = begun.front;
               are = (line, begun.is, e, ended.0, ended.1, ended.2, front, below.are);
               ends = below.ends;
               kept = below.kept;
-              keeps =
-                  begun.keeps
-                  ∙ ap (λ (cs : List Container). open_names cs ++ kept) leaves
-                  ∙ ap (λ (cs : List Container). open_names cs ++ kept) (sym opens)
-                  ∙ below.keeps;
+              keeps = both next (last_row next rows) below.kept leaves opens below.keeps;
               more = below.more;
             })
+
+    leaves : (l : LeafName) → row.kind ≡ LeafRow l → (ends : Bool) → (leaf l).ends ≡ ends → (gs : List Group) →
+        Ended bytes row gs → FirstIs (IsBehind bytes q row) gs → Begun options bytes P kept (behind_row row) gs →
+        (FirstBegins gs → P kept (behind_row row) gs) → Both_of (onto_leaf ends row gs)
+    leaves l e false k gs ended first below h = spans l e k gs ended first below h
+    leaves l e true k gs ended first below h =
+        let ends : EndsOnLine row.kind = leaf-row-ends row.kind l e k in
+        single (λ j. let bad : LeafRow l ≡ TextRow = sym e ∙ j in cc) ends gs (all gs ends first h)
+
+    go : (kind : RowKind) → row.kind ≡ kind → (gs : List Group) → Ended bytes row gs →
+        FirstIs (IsBehind bytes q row) gs → Begun options bytes P kept (behind_row row) gs →
+        (FirstBegins gs → P kept (behind_row row) gs) → Both_of (onto_groups row kind gs)
+    go BlankRow e gs ended first below h =
+        let ends : EndsOnLine row.kind = blank-ends row.kind e in
+        single (λ k. cc) ends gs (all gs ends first h)
+    go (LeafRow l) e gs ended first below h = leaves l e (leaf l).ends refl gs ended first below h
+    go TextRow e gs ended first below h = lines e gs ended below (all gs (text-ends row.kind e) first h)
 
 -- What is known of the lines of a text from a point on, where these containers are open: some of them end before the
 -- first line, and where the others are left, it holds of the groups of the lines.
@@ -239,7 +361,7 @@ record Hold (options : ParseOptions) (bytes : List ℕ) (P : List Name → Point
   names : List Name
   left : open_names cs ≡ open_names (closes_before cs rows) ++ names
   begun : Begun options bytes P names p (groups rows)
-  holds : P names p (groups rows)
+  holds : FirstBegins (groups rows) → P names p (groups rows)
 
 -- what was open before a line ends there or stays
 change-names : (options : ParseOptions) (bytes line : List ℕ) (cs : List Container) (still : HeldLeaf) (p : Point)
@@ -266,14 +388,15 @@ change-keeps options bytes line cs still p row kept is h =
 
 line-holds : (options : ParseOptions) (bytes : List ℕ) (P : List Name → Point → List Group → Type 0) →
     ByGroups bytes P →
-    (cs : List Container) (still : HeldLeaf) (p : Point) (line : List ℕ) (row : Row) (rows : List Row)
+    (cs : List Container) (still : HeldLeaf) (p q : Point) (line : List ℕ) (row : Row) (rows : List Row)
     (kept : List Name) →
     IsLine options bytes cs still p line row →
     IsTrue (at_or_before row.end (behind_row row)) →
     open_names (behind_line options cs still p line) ≡ open_names row.leaves ++ kept →
-    Ended bytes row (groups rows) → Begun options bytes P kept (behind_row row) (groups rows) →
-    P kept (behind_row row) (groups rows) → Hold options bytes P cs p (row ∷ rows)
-line-holds options bytes P by cs still p line row rows kept is ends left ended begun h =
+    Ended bytes row (groups rows) → FirstIs (IsBehind bytes q row) (groups rows) →
+    Begun options bytes P kept (behind_row row) (groups rows) →
+    (FirstBegins (groups rows) → P kept (behind_row row) (groups rows)) → Hold options bytes P cs p (row ∷ rows)
+line-holds options bytes P by cs still p q line row rows kept is ends left ended first begun h =
     let rest : List ℕ = rest_line (contained options cs still (rest_from p line)).rest in
     let here : IsBegun options bytes rest
     (open_names row.change.stays) kept p row = record {
@@ -282,8 +405,8 @@ line-holds options bytes P by cs still p line row rows kept is ends left ended b
       ends = ends;
       keeps = change-keeps options bytes line cs still p row kept is left;
     } in
-    let both = onto-holds options bytes rest P by (open_names row.change.stays) kept p row
-    (groups rows) here ended begun h row.kind refl in
+    let both = onto-holds options bytes rest P by (open_names row.change.stays) kept p q row
+    (groups rows) here ended first begun h row.kind refl in
     record {
       names = open_names row.change.stays;
       left = change-names options bytes line cs still p row is;
@@ -301,7 +424,8 @@ lines-hold options bytes P by cs still p (line ∷ []) (row ∷ []) are =
     (sym (behind-none row are.2)) (at_or_before-refl row.end) in
     let left : open_names behind ≡
     open_names row.leaves ++ [] = sym (append-nil (open_names row.leaves) ∙ ap open_names are.1) in
-    line-holds options bytes P by cs still p line row [] [] are.0 ends left tt tt (by.none (behind_row row))
+    line-holds options bytes P by cs still p p line row [] [] are.0 ends left tt tt tt
+    (λ begins. by.none (behind_row row))
 lines-hold options bytes P by cs still p (line ∷ next ∷ lines) (row ∷ below ∷ rows) are =
     let many : List Container = behind_line options cs still p line in
     let behind : behind_row row ≡ are.2 = behind-is row are.2 are.3 in
@@ -309,11 +433,12 @@ lines-hold options bytes P by cs still p (line ∷ next ∷ lines) (row ∷ belo
     (sym behind) (ending-order bytes row.end are.2 are.4) in
     let more : Hold options bytes P many are.2 (below ∷ rows) = lines-hold options bytes P by many
     row.behind are.2 (next ∷ lines) (below ∷ rows) are.5 in
-    line-holds options bytes P by cs still p line row (below ∷ rows) more.names are.0 ends
+    line-holds options bytes P by cs still p are.2 line row (below ∷ rows) more.names are.0 ends
     (more.left ∙ ap (λ (l : List Container). open_names l ++ more.names) (sym are.1))
     (ended (groups (below ∷ rows)))
+    (first-behind options bytes many are.2 (next ∷ lines) row below rows are.5 are.1)
     (subst (λ (q : Point). Begun options bytes P more.names q (groups (below ∷ rows))) (sym behind) more.begun)
-    (subst (λ (q : Point). P more.names q (groups (below ∷ rows))) (sym behind) more.holds)
+    (λ begins. subst (λ (q : Point). P more.names q (groups (below ∷ rows))) (sym behind) (more.holds begins))
   where
     ended : (gs : List Group) → Ended bytes row gs
     ended [] = tt
@@ -332,7 +457,8 @@ pub rows-hold : (bytes : List ℕ) (P : List Name → Point → List Group → T
 rows-hold bytes P by options p lines rows are =
     let hold : Hold options bytes P [] p rows = lines-hold options bytes P by [] held_leaf.None p lines rows are in
     subst (λ (l : List Name). P l p (groups rows))
-    (none-left (open_names (closes_before [] rows)) hold.names hold.left) hold.holds
+    (none-left (open_names (closes_before [] rows)) hold.names hold.left)
+    (hold.holds (first-begins options bytes [] held_leaf.None p lines rows refl are))
 
 -- The events of a text.
 

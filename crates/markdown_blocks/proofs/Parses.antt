@@ -67,7 +67,7 @@ use Rattle.markdown_blocks.proofs.ListedMark.{listed-mark}
 use Rattle.markdown_blocks.proofs.ListedOutlined.{listed-outlined}
 use Rattle.markdown_blocks.proofs.ListedRead.{listed-read}
 use Rattle.markdown_blocks.proofs.TreeRows.{body-rows, body-shallow, body_of, tree-body}
-use Rattle.markdown_blocks.proofs.LeafFacts.{ReadsText}
+use Rattle.markdown_blocks.proofs.LeafFacts.{ReadsString, ReadsText}
 
 -- the lines of a text, behind its mark
 abbrev lines_of : List ℕ → List (List ℕ)
@@ -92,7 +92,7 @@ content-are : (options : ParseOptions) (bytes : List ℕ) → IsBuilt options �
     flow.content ≡ unread_groups (groups (rows_of options bytes))
 content-are options bytes built small found new flow =
     content-read options bytes [] held_leaf.None (body_point bytes) (lines_of bytes) (rows_of options bytes)
-    (text-are options bytes built small) (text-quiet options bytes (body_point bytes))
+    refl (text-are options bytes built small) (text-quiet options bytes (body_point bytes))
     wants_content (content_readings bytes options) refl content-alone
     (content-reads options options bytes small) flow.content flow.content_read
 
@@ -105,25 +105,27 @@ resolved-are options bytes built small found new flow =
     ∙ ap (λ (l : List Event). listed bytes (resolved l)) (content-are options bytes built small found new flow)
     ∙ ap (listed bytes)
     (leaves-set options bytes [] held_leaf.None (body_point bytes) (lines_of bytes) (rows_of options bytes)
-    (text-are options bytes built small) (text-quiet options bytes (body_point bytes)))
+    refl (text-are options bytes built small) (text-quiet options bytes (body_point bytes)))
 
 -- And then texts were read.
 pub events-are : (options : ParseOptions) (bytes : List ℕ) → IsBuilt options → length bytes < 2 ^ 61 →
     (found : Found) (new : World) → FlowReads bytes options (body_point bytes) found new →
-    (wants : Content → Bool) (reads : Readings) → wants content.Text ≡ true → ReadsText bytes reads →
+    (wants : Content → Bool) (reads : Readings) → wants content.Text ≡ true → wants content.String ≡ true →
+    ReadsText bytes reads → ReadsString bytes reads →
     (events : List Event) → Substituted wants reads [] 0 new.events events →
     events ≡ listed bytes (groups_events bytes (groups (text_rows options bytes (body_point bytes))))
-events-are options bytes built small found new flow wants reads wanted text events substituted =
+events-are options bytes built small found new flow wants reads wanted strings text string events substituted =
     let p : Point = body_point bytes in
     let lines : List (List ℕ) = lines_of bytes in
     let rows : List Row = rows_of options bytes in
     let are : AreRows options bytes [] held_leaf.None p lines rows = text-are options bytes built small in
     let quiet : EachNoContent rows = text-quiet options bytes p in
     listed-read wants reads bytes (mark_events bytes) (listed_groups bytes (groups rows))
-    (groups_events bytes (groups rows)) events (blocks-chunks options bytes [] held_leaf.None p lines rows are quiet)
+    (groups_events bytes (groups rows)) events
+    (blocks-chunks options bytes [] held_leaf.None p lines rows refl are quiet)
     (text-filled options bytes p lines are).read
     (λ read s.
-    text-read options bytes [] held_leaf.None p lines rows are quiet wants reads wanted text read s)
+    text-read options bytes [] held_leaf.None p lines rows refl are quiet wants reads wanted strings text string read s)
     (subst (λ (l : List Event). Substituted wants reads [] 0 l events)
     (resolved-are options bytes built small found new flow) substituted)
 
@@ -145,7 +147,7 @@ read-listed options bytes built small =
     ap (listed bytes) (text-filled options bytes p lines are).read
     ∙ sym
     (listed-plain bytes bytes (blocks_of options bytes)
-    (blocks-chunks options bytes [] held_leaf.None p lines rows are (text-quiet options bytes p)))
+    (blocks-chunks options bytes [] held_leaf.None p lines rows refl are (text-quiet options bytes p)))
 
 -- The blocks of a text, in front of the resolver of lists.
 blocks-unlisted : (options : ParseOptions) (bytes : List ℕ) → IsBuilt options → length bytes < 2 ^ 61 →
@@ -159,8 +161,8 @@ blocks-unlisted options bytes built small placed =
       nested = blocks-nested options bytes lines rows are;
       items = blocks-held options bytes lines rows are;
       placed = placed;
-      lines = blocks-stand options bytes [] held_leaf.None p lines rows are (text-quiet options bytes p);
-      chunks = blocks-chunks options bytes [] held_leaf.None p lines rows are (text-quiet options bytes p);
+      lines = blocks-stand options bytes [] held_leaf.None p lines rows refl are (text-quiet options bytes p);
+      chunks = blocks-chunks options bytes [] held_leaf.None p lines rows refl are (text-quiet options bytes p);
       grammar = blocks-grammar options bytes lines rows are (text-quiet options bytes p);
       pieces_are = blocks-pieces options bytes lines rows are;
       endings = blocks-endings options bytes lines rows are (text-quiet options bytes p);
@@ -268,11 +270,12 @@ pub parsed-reads : (options : ParseOptions) (bytes text : List ℕ) (start : Poi
     (mark items body events : List Event) →
     bytes ≡ text → IsBuilt options → IsUtf8 text → IsSmall text →
     start ≡ body_point bytes → mark ≡ mark_events bytes → FlowReads bytes options start found new →
-    (wants : Content → Bool) (reads : Readings) → wants content.Text ≡ true → ReadsText bytes reads →
+    (wants : Content → Bool) (reads : Readings) → wants content.Text ≡ true → wants content.String ≡ true →
+    ReadsText bytes reads → ReadsString bytes reads →
     items ≡ new.events → Substituted wants reads [] 0 items body → events ≡ mark ++ body →
     Reads options text (mark ++ items) events
 parsed-reads options bytes text start found new mark items body events same built utf8 most starts marks flow wants
-    reads wanted plain are substituted is =
+    reads wanted strings plain string are substituted is =
     let small : length text < 2 ^ 61 = omega (arith, most) in
     let here : length bytes < 2 ^ 61 = subst (λ (l : List ℕ). length l < 2 ^ 61) (sym same) small in
     let from : FlowReads bytes options (body_point bytes) found new = subst
@@ -280,7 +283,7 @@ parsed-reads options bytes text start found new mark items body events same buil
     let before : items ≡ listed bytes (listed_groups bytes (groups (rows_of options bytes))) = are
     ∙ resolved-are options bytes built here found new from in
     let body-is : body ≡ listed bytes (groups_events bytes (groups (rows_of options bytes))) =
-    events-are options bytes built here found new from wants reads wanted plain body
+    events-are options bytes built here found new from wants reads wanted strings plain string body
     (subst (λ (l : List Event). Substituted wants reads [] 0 l body) are substituted) in
     let front : mark ≡ mark_events text = marks ∙ ap mark_events same in
     subst (Reads options text (mark ++ items)) (sym is)

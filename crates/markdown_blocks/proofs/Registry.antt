@@ -131,6 +131,16 @@ pub leaf-ends : (l : LeafName) → (leaf l).ends ≡ true
 leaf-ends HeadingAtx = refl
 leaf-ends ThematicBreak = refl
 
+-- a line that goes on what a line of one has left is one of the leaf that takes its further lines
+pub further-is : (l m : LeafName) (options : ParseOptions) (on : HeldLeaf) (r : Rest) →
+    (leaf m).further ((leaf l).holds options on r) ≡ true → m ≡ further_of l
+further-is l HeadingAtx options on r e = cc
+further-is l ThematicBreak options on r e = cc
+
+-- which takes those behind its own lines too
+pub further-further : (l : LeafName) → further_of (further_of l) ≡ further_of l
+further-further l = refl
+
 -- the lines of one that does not, with those that go on it
 pub span-laws : (l : LeafName) → (leaf l).ends ≡ false → SpanLaws (leaf l) (leaf (further_of l))
 span-laws l e = let ends = leaf-ends l in cc

@@ -30,6 +30,7 @@ pub record IsRow (options : ParseOptions) (bytes line : List ℕ) (row : Row) : 
   pub size : row.end.index ≡ row.first.index + length line
   pub end : row.end ≡ past_text line row.first
   pub first_column : 1 ≤ row.first.column
+  pub column : row.first.column ≡ rest.column + 1
   pub end_whole : row.end.vs ≡ 0
   pub cut_first : CutsFirst row.first line
   pub cut : Cut rest.spaces row.first

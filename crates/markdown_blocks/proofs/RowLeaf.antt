@@ -9,13 +9,13 @@ use Rattle.md_definition.specs.Rest.{Rest}
 use Rattle.md_definition.specs.Tree.{Block}
 use Rattle.md_seam.specs.Substituted.{Readings}
 use Rattle.markdown_blocks.specs.Fronted.{rest_line}
-use Rattle.markdown_blocks.specs.Registry.{leaf}
+use Rattle.markdown_blocks.specs.Registry.{LeafName, leaf}
 use Rattle.markdown_blocks.specs.Rows.{BlankRow, LeafRow, Row, RowKind, TextRow, blank_line, leaf_done, leaf_unread}
 use Rattle.markdown_blocks.specs.Rows.{row_line}
 use Rattle.markdown_blocks.proofs.BlankLine.{blank-facts, blank-unlinked}
 use Rattle.markdown_blocks.proofs.KindLemmas.{kind-blank, kind-starts}
 use Rattle.markdown_blocks.proofs.LeafFacts.{LeafFacts, LineAt, ReadsText}
-use Rattle.markdown_blocks.proofs.Registry.{laws, leaf-ends}
+use Rattle.markdown_blocks.proofs.Registry.{laws}
 use Rattle.markdown_blocks.proofs.RowFacts.{IsRow, line-at}
 use Rattle.markdown_blocks.proofs.SubstitutedLemmas.{Becomes, becomes-same, no_links-unwanted}
 
@@ -31,26 +31,32 @@ fills BlankRow = false
 fills (LeafRow l) = true
 fills TextRow = true
 
+-- a leaf that takes such a line always ends on it
+abbrev pub EndsOnLine : RowKind → Type 0
+EndsOnLine kind = (l : LeafName) → kind ≡ LeafRow l → (leaf l).ends ≡ true
+
 -- its bytes in the text are those of its rest
 row-text : (options : ParseOptions) (bytes line : List ℕ) (row : Row) → (is : IsRow options bytes line row) →
     row_line bytes row ≡ rest_line is.rest
 row-text options bytes line row is = is.text ∙ is.line_is
 
-leaf-at : (options : ParseOptions) (bytes line : List ℕ) (row : Row) → (is : IsRow options bytes line row) →
+pub leaf-at : (options : ParseOptions) (bytes line : List ℕ) (row : Row) → (is : IsRow options bytes line row) →
     LineAt bytes is.rest (rest_line is.rest) row.first row.end
 leaf-at options bytes line row is =
     subst (λ (l : List ℕ). LineAt bytes is.rest l row.first row.end) is.line_is (line-at options bytes line row is)
 
--- A line that is no text, by its kind.
+-- A line that is no text, and no line of a leaf of several, by its kind.
 
 abbrev Facts : List ℕ → Row → Rest → RowKind → Type 0
 Facts bytes row r kind =
-    LeafFacts bytes (block_of kind r) (fills kind) row.first row.end (leaf_unread bytes kind row) (leaf_done bytes kind row)
+    LeafFacts bytes (block_of kind r) (fills kind) row.first row.end (leaf_unread bytes kind row)
+    (leaf_done bytes kind row)
 
 pub row-facts : (options : ParseOptions) (bytes line : List ℕ) (row : Row) → (is : IsRow options bytes line row) →
-    row.kind ≢ TextRow → LeafFacts bytes (block_of row.kind is.rest) (fills row.kind) row.first row.end (leaf_unread bytes row.kind row)
+    row.kind ≢ TextRow → EndsOnLine row.kind →
+    LeafFacts bytes (block_of row.kind is.rest) (fills row.kind) row.first row.end (leaf_unread bytes row.kind row)
     (leaf_done bytes row.kind row)
-row-facts options bytes line row is other = go row.kind refl
+row-facts options bytes line row is other ends = go row.kind refl
   where
     go : (kind : RowKind) → row.kind ≡ kind → Facts bytes row is.rest row.kind
     go BlankRow e =
@@ -65,7 +71,8 @@ row-facts options bytes line row is other = go row.kind refl
         (subst (λ (own : List ℕ). LeafFacts bytes (Some ((leaf l).block is.rest)) true row.first row.end
         ((leaf l).unread own row.first) ((leaf l).done bytes own row.first))
         (sym (row-text options bytes line row is))
-        ((laws l).facts (leaf-ends l) options row.on bytes is.rest row.first row.end starts (leaf-at options bytes line row is)))
+        ((laws l).facts (ends l e) options row.on bytes is.rest row.first row.end starts
+        (leaf-at options bytes line row is)))
     go TextRow e = absurd (other e)
 
 -- so much alone, whichever block it shows
@@ -75,14 +82,16 @@ IsLeaf bytes row =
     LeafFacts bytes block filled row.first row.end (leaf_unread bytes row.kind row) (leaf_done bytes row.kind row)
 
 pub row-leaf : (options : ParseOptions) (bytes line : List ℕ) (row : Row) → IsRow options bytes line row →
-    row.kind ≢ TextRow → IsLeaf bytes row
-row-leaf options bytes line row is other = (block_of row.kind is.rest, fills row.kind, row-facts options bytes line row is other)
+    row.kind ≢ TextRow → EndsOnLine row.kind → IsLeaf bytes row
+row-leaf options bytes line row is other ends =
+    (block_of row.kind is.rest, fills row.kind, row-facts options bytes line row is other ends)
 
 -- its text parts are read in the places of their chunks
 pub row-becomes : (options : ParseOptions) (bytes line : List ℕ) (row : Row) → IsRow options bytes line row →
-    row.kind ≢ TextRow → (wants : Content → Bool) (reads : Readings) → wants content.Text ≡ true →
-    ReadsText bytes reads → Becomes wants reads (leaf_unread bytes row.kind row) (leaf_done bytes row.kind row)
-row-becomes options bytes line row is other wants reads text read = go row.kind refl
+    row.kind ≢ TextRow → EndsOnLine row.kind →
+    (wants : Content → Bool) (reads : Readings) → wants content.Text ≡ true → ReadsText bytes reads →
+    Becomes wants reads (leaf_unread bytes row.kind row) (leaf_done bytes row.kind row)
+row-becomes options bytes line row is other ends wants reads text read = go row.kind refl
   where
     By : RowKind → Type 0
     By kind = Becomes wants reads (leaf_unread bytes kind row) (leaf_done bytes kind row)
@@ -99,6 +108,6 @@ row-becomes options bytes line row is other wants reads text read = go row.kind 
         subst By (sym e)
         (subst (λ (own : List ℕ). Becomes wants reads ((leaf l).unread own row.first)
         ((leaf l).done bytes own row.first)) (sym (row-text options bytes line row is))
-        ((laws l).becomes (leaf-ends l) options row.on bytes is.rest row.first row.end starts
+        ((laws l).becomes (ends l e) options row.on bytes is.rest row.first row.end starts
         (leaf-at options bytes line row is) wants reads text read))
     go TextRow e = absurd (other e)

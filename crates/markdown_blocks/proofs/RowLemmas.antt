@@ -76,6 +76,7 @@ held-row options bytes behind said r stop h below fed short is none k =
       size = index;
       end = end;
       first_column = one;
+      column = is.column;
       end_whole = ap (λ (q : Point). q.vs) end ∙ rest-whole r p is.cut;
       cut_first = rest-cut r p is.cut;
       cut = is.cut;

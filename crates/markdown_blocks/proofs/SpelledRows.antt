@@ -577,7 +577,8 @@ row-means options bytes p a line row gs last built plain is follows = go (goes_l
         (leaf_done bytes row.kind row) shapes is.change a is.front
         (λ s same.
         ap (λ (x : Reading). read bytes x (leaf_done bytes row.kind row)) same
-        ∙ (row-facts options bytes (rest_line c.rest) row is.is other).reads (reading options o) refl refl
+        ∙ (row-facts options bytes (rest_line c.rest) row is.is other (λ l k. leaf-ends l)).reads (reading options o)
+        refl refl
         ∙ ap (λ (r : Rest). shown (block_of row.kind r) (reading options o)) is.rest_is
         ∙ shown-leaf options o c.rest row.kind other
         ∙ sym (reading-with options o (λ bs. spot_by options bs [] c.rest row.kind) none))

@@ -15,6 +15,7 @@ use Rattle.md_definition.specs.State.{Container}
 use Rattle.md_seam.specs.Events.Tiles.{chunks_stand, part_kind, parts_stand}
 use Rattle.markdown_blocks.specs.Change.{ends_of}
 use Rattle.markdown_blocks.specs.Document.{body_point, mark_end, mark_events}
+use Rattle.markdown_blocks.specs.HeldLeaf.{has_lines}
 use Rattle.markdown_blocks.specs.Rows.{final_row, first_row, group_kind, LeafRow, ending_of, BlankRow, Group, Row}
 use Rattle.markdown_blocks.specs.Rows.{RowKind, TextRow, ending_events, groups, tail_events}
 use Rattle.markdown_blocks.specs.Unread.{group_unread, listed_group, listed_groups}
@@ -70,9 +71,10 @@ stands-groups options bytes (group ∷ gs) are =
 
 rows-stand : (options : ParseOptions) (bytes : List ℕ) (cs : List Container) (still : HeldLeaf) (p : Point)
     (lines : List (List ℕ)) (rows : List Row) →
-    AreRows options bytes cs still p lines rows → EachNoContent rows → Stands bytes (listed_groups bytes (groups rows))
-rows-stand options bytes cs still p lines rows are quiet =
-    stands-groups options bytes (groups rows) (groups-are options bytes cs still p lines rows are quiet)
+    has_lines still ≡ false → AreRows options bytes cs still p lines rows → EachNoContent rows →
+    Stands bytes (listed_groups bytes (groups rows))
+rows-stand options bytes cs still p lines rows shut are quiet =
+    stands-groups options bytes (groups rows) (groups-are options bytes cs still p lines rows shut are quiet)
 
 -- The text parts of a text.
 all-stand : (bytes : List ℕ) (xs : List Event) → Stands bytes xs → parts_stand bytes xs ≡ true
@@ -91,27 +93,27 @@ stands-mark bytes = go (has_mark bytes)
 
 blocks-both : (options : ParseOptions) (bytes : List ℕ) (cs : List Container) (still : HeldLeaf) (p : Point)
     (lines : List (List ℕ)) (rows : List Row) →
-    AreRows options bytes cs still p lines rows → EachNoContent rows →
+    has_lines still ≡ false → AreRows options bytes cs still p lines rows → EachNoContent rows →
     Stands bytes (mark_events bytes ++ listed_groups bytes (groups rows))
-blocks-both options bytes cs still p lines rows are quiet =
+blocks-both options bytes cs still p lines rows shut are quiet =
     stands-append bytes (mark_events bytes) (listed_groups bytes (groups rows)) (stands-mark bytes)
-    (rows-stand options bytes cs still p lines rows are quiet)
+    (rows-stand options bytes cs still p lines rows shut are quiet)
 
 pub blocks-stand : (options : ParseOptions) (bytes : List ℕ) (cs : List Container) (still : HeldLeaf) (p : Point)
     (lines : List (List ℕ)) (rows : List Row) →
-    AreRows options bytes cs still p lines rows → EachNoContent rows →
+    has_lines still ≡ false → AreRows options bytes cs still p lines rows → EachNoContent rows →
     parts_stand bytes (mark_events bytes ++ listed_groups bytes (groups rows)) ≡ true
-blocks-stand options bytes cs still p lines rows are quiet =
+blocks-stand options bytes cs still p lines rows shut are quiet =
     all-stand bytes (mark_events bytes ++ listed_groups bytes (groups rows))
-    (blocks-both options bytes cs still p lines rows are quiet)
+    (blocks-both options bytes cs still p lines rows shut are quiet)
 
 pub blocks-chunks : (options : ParseOptions) (bytes : List ℕ) (cs : List Container) (still : HeldLeaf) (p : Point)
     (lines : List (List ℕ)) (rows : List Row) →
-    AreRows options bytes cs still p lines rows → EachNoContent rows →
+    has_lines still ≡ false → AreRows options bytes cs still p lines rows → EachNoContent rows →
     chunks_stand 0 (mark_events bytes ++ listed_groups bytes (groups rows)) ≡ true
-blocks-chunks options bytes cs still p lines rows are quiet =
+blocks-chunks options bytes cs still p lines rows shut are quiet =
     all-chunks bytes (mark_events bytes ++ listed_groups bytes (groups rows))
-    (blocks-both options bytes cs still p lines rows are quiet)
+    (blocks-both options bytes cs still p lines rows shut are quiet)
 
 -- Their events nest.
 

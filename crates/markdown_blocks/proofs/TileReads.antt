@@ -22,6 +22,7 @@ use Rattle.markdown_blocks.specs.Change.{ends_of}
 use Rattle.markdown_blocks.specs.Document.{body_point, mark_end, mark_events}
 use Rattle.markdown_blocks.specs.FlowReads.{text_cells, text_rows}
 use Rattle.markdown_blocks.specs.Parsed.{reads_plain}
+use Rattle.markdown_blocks.specs.HeldLeaf.{has_lines}
 use Rattle.markdown_blocks.specs.Rows.{final_row, first_row, group_done, group_kind, ending_of, Group, Row}
 use Rattle.markdown_blocks.specs.Rows.{ending_events, group_events, groups, groups_events, held_at, tail_events}
 use Rattle.markdown_blocks.specs.Unread.{group_unread, listed_group, listed_groups}
@@ -106,15 +107,15 @@ fill-mark bytes = go (has_mark bytes)
 -- The same with a mark in front.
 pub blocks-filled : (options : ParseOptions) (bytes : List ℕ) (open_before : List Container) (still : HeldLeaf)
     (p : Point) (lines : List (List ℕ)) (rows : List Row) →
-    AreRows options bytes open_before still p lines rows → EachNoContent rows →
+    has_lines still ≡ false → AreRows options bytes open_before still p lines rows → EachNoContent rows →
     IsFilled bytes (mark_events bytes ++ listed_groups bytes (groups rows))
     (mark_events bytes ++ groups_events bytes (groups rows))
-blocks-filled options bytes open_before still p lines rows are quiet =
+blocks-filled options bytes open_before still p lines rows shut are quiet =
     let mark : List Event = mark_events bytes in
     fill-all bytes (mark ++ listed_groups bytes (groups rows)) (mark ++ groups_events bytes (groups rows))
     (fill-append bytes mark mark (listed_groups bytes (groups rows)) (groups_events bytes (groups rows))
     (fill-mark bytes)
-    (fill-groups options bytes (groups rows) (groups-are options bytes open_before still p lines rows are quiet)))
+    (fill-groups options bytes (groups rows) (groups-are options bytes open_before still p lines rows shut are quiet)))
 
 -- So it is with the lines that flow reads.
 pub text-filled : (options : ParseOptions) (bytes : List ℕ) (p : Point) (lines : List (List ℕ)) →
@@ -123,7 +124,7 @@ pub text-filled : (options : ParseOptions) (bytes : List ℕ) (p : Point) (lines
     (mark_events bytes ++ groups_events bytes (groups (text_rows options bytes p)))
 text-filled options bytes p lines are =
     let cells : List Cell = text_cells bytes options p in
-    blocks-filled options bytes [] held_leaf.None p lines (text_rows options bytes p) are
+    blocks-filled options bytes [] held_leaf.None p lines (text_rows options bytes p) refl are
     (rows_at-no_content options (suc (length cells)) [] held_leaf.None cells p)
 
 -- The empty text has no events.

@@ -52,6 +52,7 @@ returns c =
     c.in_ok-front.ensures.events c.in_ok-tokenizer.ensures
     wants_text
     (λ content chunks events. PlainReads bytes (record { kind = text_kind content; chunks = chunks }) events) refl
+    refl (λ chunks answer reads end lines whole. reads end lines whole)
     (λ chunks answer reads end lines whole. reads end lines whole)
     events_are c.in_ok-body.ensures.substituted c.in_ok-events.ensures in
     let of_mark : ArePlaced bytes c.in_ok-front.front.events.items = rw c.in_ok-front.ensures.bytes_are at

@@ -1,0 +1,501 @@
+-- What the groups of the lines of a text are: lines that are no text, lines of text that belong together, and the lines
+-- of a leaf of several.
+use Rattle.std.proofs.Common.{◌≡◌, ◌≢◌, ℕ, Bool, true, false, cond, ◌&&◌, List, [], ◌∷◌, refl, ap, sym, ◌∙◌, subst}
+use Rattle.std.specs.Prelude.{Some}
+use Rattle.md_engine.specs.declared.configuration.ParseOptions.{ParseOptions}
+use Rattle.md_engine.specs.declared.event.Point.{Point}
+use Rattle.md_engine.specs.declared.tokenizer.held_leaf.HeldLeaf.{HeldLeaf}
+use Rattle.md_definition.specs.State.{Container}
+use Rattle.markdown_blocks.specs.Change as change
+use Rattle.markdown_blocks.specs.Change.{Change}
+use Rattle.markdown_blocks.specs.Fronted.{contained, rest_from, rest_line}
+use Rattle.markdown_blocks.specs.HeldLeaf.{has_lines}
+use Rattle.markdown_blocks.specs.Registry.{LeafName, further_of, leaf}
+use Rattle.markdown_blocks.specs.Rows.{BlankRow, Group, LeafRow, Lines, Row, RowKind, Single, Span, TextRow, first_row}
+use Rattle.markdown_blocks.specs.Rows.{goes_on, groups, is_further, last_row, line_behind, onto_groups, onto_leaf}
+use Rattle.markdown_blocks.proofs.ContainedLemmas.{contained-met, contained-still}
+use Rattle.markdown_blocks.proofs.FrontFacts.{LinePrefix}
+pub use Rattle.markdown_blocks.proofs.FrontNames.{HasFront}
+use Rattle.markdown_blocks.proofs.JoinedLemmas.{EachNoContent, HasNoContent}
+use Rattle.markdown_blocks.proofs.KindLemmas.{kind-starts}
+use Rattle.markdown_blocks.proofs.Registry.{further-further, further-is, laws}
+use Rattle.markdown_blocks.proofs.RowFacts.{AreRows, IsEnding, IsLine, IsRow, behind_line}
+use Rattle.markdown_blocks.proofs.RowLeaf.{EndsOnLine, leaf-at}
+use Rattle.markdown_blocks.proofs.SpanLaws.{AreBehind, IsLineOf}
+
+-- The groups of a text.
+
+-- lines of text that follow one another
+abbrev pub AreLines : ParseOptions → List ℕ → Row → List Row → Type 0
+AreLines options bytes row [] = (line : List ℕ) × (is : IsRow options bytes line row) × (row.kind ≡ TextRow)
+AreLines options bytes row (next ∷ rows) =
+    (line : List ℕ) × (is : IsRow options bytes line row) × (text : row.kind ≡ TextRow)
+    × (q : Point) × (after : row.after ≡ Some q) × (ending : IsEnding bytes row.end q) ×
+    (front : LinePrefix bytes [] q next.first next.front) × AreLines options bytes next rows
+
+-- a line has an ending if more follows
+abbrev pub EndsBeforeGroups : Row → List Group → Type 0
+EndsBeforeGroups row [] = Unit {0}
+EndsBeforeGroups row (group ∷ gs) = (q : Point) × (row.after ≡ Some q)
+
+-- a line that is no text, and no line of a leaf of several
+pub record IsSingle (options : ParseOptions) (bytes : List ℕ) (row : Row) : Type 0 where
+  pub line : List ℕ
+  pub is : IsRow options bytes line row
+  pub other : row.kind ≢ TextRow
+  pub ends : EndsOnLine row.kind
+  pub quiet : HasNoContent row
+  pub front : HasFront bytes row
+
+-- a line of a leaf of several
+pub record IsSpanLine (options : ParseOptions) (bytes : List ℕ) (row : Row) : Type 0 where
+  pub line : List ℕ
+  pub is : IsRow options bytes line row
+  pub name : LeafName
+  pub kind : row.kind ≡ LeafRow name
+  pub open_leaf : (leaf name).ends ≡ false
+  pub front : HasFront bytes row
+
+-- such lines: one, and others that go on it; each meets what the one before leaves, and between them no container ends
+-- or opens
+abbrev pub AreSpan : ParseOptions → List ℕ → Row → List Row → Type 0
+AreSpan options bytes row [] = IsSpanLine options bytes row
+AreSpan options bytes row (next ∷ rows) =
+    (is : IsSpanLine options bytes row) × (q : Point) × (after : row.after ≡ Some q)
+    × (ending : IsEnding bytes row.end q) × (front : LinePrefix bytes [] q next.first next.front)
+    × (leaves : row.leaves ≡ []) × (on : next.on ≡ row.behind) × (further : is_further next.kind next.on ≡ true)
+    × AreSpan options bytes next rows
+
+-- a line goes on no leaf
+abbrev pub Begins : Row → Type 0
+Begins row = is_further row.kind row.on ≡ false
+
+-- groups that are such; the first line of a leaf of several goes on none
+abbrev pub AreGroups : ParseOptions → List ℕ → List Group → Type 0
+AreGroups options bytes [] = Unit {0}
+AreGroups options bytes (Single row ∷ gs) = IsSingle options bytes row × AreGroups options bytes gs
+AreGroups options bytes (Span row rows ∷ gs) =
+    AreSpan options bytes row rows × EndsBeforeGroups (last_row row rows) gs × AreGroups options bytes gs ×
+    EachNoContent (row ∷ rows) × Begins row
+AreGroups options bytes (Lines row rows ∷ gs) =
+    AreLines options bytes row rows × EndsBeforeGroups (last_row row rows) gs × HasFront bytes row ×
+    AreGroups options bytes gs
+
+-- the first line of groups is such
+abbrev pub FirstIs : (Row → Type 0) → List Group → Type 0
+FirstIs P [] = Unit {0}
+FirstIs P (group ∷ gs) = P (first_row group)
+
+span-first : (P : Row → Type 0) (row : Row) (ends : Bool) (gs : List Group) → P row → FirstIs P (onto_leaf ends row gs)
+span-first P row true gs h = h
+span-first P row false [] h = h
+span-first P row false (Single first ∷ gs) h = h
+span-first P row false (Lines first rows ∷ gs) h = h
+span-first P row false (Span first rows ∷ gs) h = go (is_further first.kind first.on)
+  where
+    go : (x : Bool) → FirstIs P (cond x (Span row (first ∷ rows) ∷ gs) (Span row [] ∷ Span first rows ∷ gs))
+    go true = h
+    go false = h
+
+pub onto-first : (P : Row → Type 0) (row : Row) (kind : RowKind) (gs : List Group) → P row →
+    FirstIs P (onto_groups row kind gs)
+onto-first P row BlankRow gs h = h
+onto-first P row (LeafRow l) gs h = span-first P row (leaf l).ends gs h
+onto-first P row TextRow [] h = h
+onto-first P row TextRow (Single first ∷ gs) h = h
+onto-first P row TextRow (Span first rows ∷ gs) h = h
+onto-first P row TextRow (Lines first rows ∷ gs) h = go (goes_on row first)
+  where
+    go : (x : Bool) → FirstIs P (cond x (Lines row (first ∷ rows) ∷ gs) (Lines row [] ∷ Lines first rows ∷ gs))
+    go true = h
+    go false = h
+
+-- The lines of a leaf of several.
+
+abbrev pub span-begins : (options : ParseOptions) (bytes : List ℕ) (row : Row) (rows : List Row) →
+    AreSpan options bytes row rows → IsSpanLine options bytes row
+span-begins options bytes row [] are = are
+span-begins options bytes row (next ∷ rows) are = are.0
+
+-- a line of it is one of its leaf
+abbrev pub line-as : (options : ParseOptions) (bytes : List ℕ) (row : Row) → IsSpanLine options bytes row →
+    (l : LeafName) → row.kind ≡ LeafRow l → IsLineOf options bytes (leaf l) row
+line-as options bytes row is l kind = record {
+  rest = is.is.rest;
+  at = leaf-at options bytes is.line row is.is;
+  column = is.is.column;
+  starts = kind-starts options row.on is.is.rest l (sym is.is.kind ∙ kind);
+  inside =
+      is.is.leaf_is l kind ∙ ap (λ (line : List ℕ). (leaf l).added options row.on line row.first) is.is.line_is;
+  behind = is.is.behind ∙ ap (line_behind options row.on is.is.rest) kind;
+}
+
+abbrev pub line-of : (options : ParseOptions) (bytes : List ℕ) (row : Row) → (is : IsSpanLine options bytes row) →
+    IsLineOf options bytes (leaf is.name) row
+line-of options bytes row is = line-as options bytes row is is.name is.kind
+
+-- whether it goes on the leaf that it meets, its leaf says
+pub line-further : (options : ParseOptions) (bytes : List ℕ) (row : Row) → (is : IsSpanLine options bytes row) →
+    (x : Bool) → is_further row.kind row.on ≡ x → (leaf is.name).further row.on ≡ x
+line-further options bytes row is x f = ap (λ (kind : RowKind). is_further kind row.on) (sym is.kind) ∙ f
+
+-- and those behind it are lines of the leaf that takes its further ones
+abbrev pub span-behind : (options : ParseOptions) (bytes : List ℕ) (l : LeafName) (row : Row) (rows : List Row) →
+    further_of l ≡ l → (are : AreSpan options bytes row rows) →
+    further_of (span-begins options bytes row rows are).name ≡ l → AreBehind options bytes (leaf l) row rows
+span-behind options bytes l row [] same are e = tt
+span-behind options bytes l row (next ∷ rows) same are e =
+    let below : IsSpanLine options bytes next = span-begins options bytes next rows are.8 in
+    let further : (leaf below.name).further next.on ≡ true = line-further options bytes next below true are.7 in
+    let above : IsLineOf options bytes (leaf are.0.name) row = line-of options bytes row are.0 in
+    let left : next.on ≡ (leaf are.0.name).holds options row.on above.rest = are.6 ∙ above.behind in
+    let name : below.name ≡ l =
+    further-is are.0.name below.name options row.on above.rest
+    (ap (leaf below.name).further (sym left) ∙ further)
+    ∙ e in (
+      are.1,
+      are.2,
+      are.3,
+      are.4,
+      are.6,
+      subst (λ (m : LeafName). (leaf m).further next.on ≡ true) name further,
+      line-as options bytes next below l (below.kind ∙ ap LeafRow name),
+      span-behind options bytes l next rows same are.8 (ap further_of name ∙ same),
+    )
+
+abbrev pub behind-first : (options : ParseOptions) (bytes : List ℕ) (row : Row) (rows : List Row) →
+    (are : AreSpan options bytes row rows) →
+    AreBehind options bytes (leaf (further_of (span-begins options bytes row rows are).name)) row rows
+behind-first options bytes row rows are =
+    let l : LeafName = (span-begins options bytes row rows are).name in
+    span-behind options bytes (further_of l) row rows (further-further l) are refl
+
+-- Lines in front of groups.
+
+-- what is known of the line behind another: it stands behind this point; where it goes on a leaf it meets what that one
+-- leaves, and no container ends or opens between them; and it goes on none where none of several lines is open
+pub record IsBehind (bytes : List ℕ) (p : Point) (row below : Row) : Type 0 where
+  pub front : LinePrefix bytes below.change.opens p below.first below.front
+  pub met : is_further below.kind below.on ≡ true →
+      (leaves : row.leaves ≡ []) × (opens : below.change.opens ≡ []) × (below.on ≡ row.behind)
+  pub begins : has_lines row.behind ≡ false → Begins below
+
+-- where a line goes on the leaf that it meets, that one has lines
+further-lines : (options : ParseOptions) (bytes line : List ℕ) (row : Row) → IsRow options bytes line row →
+    is_further row.kind row.on ≡ true → has_lines row.on ≡ true
+further-lines options bytes line row is f = go row.kind refl f
+  where
+    go : (kind : RowKind) → row.kind ≡ kind → is_further kind row.on ≡ true → has_lines row.on ≡ true
+    go BlankRow e f = cc
+    go TextRow e f = cc
+    go (LeafRow l) e f =
+        (laws l).meets options row.on is.rest (kind-starts options row.on is.rest l (sym is.kind ∙ e)) f
+
+-- no leaf of several lines is open behind a line of no such leaf
+pub shut-behind : (options : ParseOptions) (bytes line : List ℕ) (row : Row) → IsRow options bytes line row →
+    EndsOnLine row.kind → has_lines row.behind ≡ false
+shut-behind options bytes line row is ends = ap has_lines is.behind ∙ go row.kind refl
+  where
+    go : (kind : RowKind) → row.kind ≡ kind → has_lines (line_behind options row.on is.rest kind) ≡ false
+    go BlankRow e = refl
+    go TextRow e = refl
+    go (LeafRow l) e = ap has_lines (((laws l).shut (ends l e) options row.on).1 is.rest)
+
+-- a line begins a leaf where none of several lines is open
+pub line-begins : (options : ParseOptions) (bytes : List ℕ) (cs : List Container) (still : HeldLeaf) (p : Point)
+    (line : List ℕ) (row : Row) →
+    IsLine options bytes cs still p line row → has_lines still ≡ false → Begins row
+line-begins options bytes cs still p line row is shut = go (is_further row.kind row.on) refl
+  where
+    go : (x : Bool) → is_further row.kind row.on ≡ x → x ≡ false
+    go false f = refl
+    go true f =
+        let lines = further-lines options bytes _ row is.is f in
+        let met = contained-still options cs still (rest_from p line) (ap has_lines (sym is.on) ∙ lines) in
+        let bad : true ≡ false = sym lines ∙ ap has_lines (is.on ∙ met) ∙ shut in
+        cc
+
+-- where it goes on one, no container ends in front of it, and none opens
+line-met : (options : ParseOptions) (bytes : List ℕ) (cs : List Container) (still : HeldLeaf) (p : Point)
+    (line : List ℕ) (row : Row) →
+    IsLine options bytes cs still p line row → is_further row.kind row.on ≡ true →
+    (opens : row.change.opens ≡ []) × (closes : row.change.closes ≡ []) × (row.on ≡ still)
+line-met options bytes cs still p line row is f =
+    let lines = ap has_lines (sym is.on) ∙ further-lines options bytes _ row is.is f in
+    let met = contained-met options cs still (rest_from p line) lines in (
+      ap (λ (c : Change). c.opens) is.change ∙ met.0,
+      ap (λ (c : Change). c.closes) is.change ∙ met.1,
+      is.on ∙ contained-still options cs still (rest_from p line) lines,
+    )
+
+-- the first line, where these containers and this leaf are open
+abbrev FirstLine : ParseOptions → List ℕ → List Container → HeldLeaf → Point → List (List ℕ) → Row → Type 0
+FirstLine options bytes cs still p [] row = ⊥
+FirstLine options bytes cs still p (line ∷ lines) row = IsLine options bytes cs still p line row
+
+first-line : (options : ParseOptions) (bytes : List ℕ) (cs : List Container) (still : HeldLeaf) (p : Point)
+    (lines : List (List ℕ)) (row : Row) (rows : List Row) →
+    AreRows options bytes cs still p lines (row ∷ rows) → FirstLine options bytes cs still p lines row
+first-line options bytes cs still p [] row rows h = absurd h
+first-line options bytes cs still p (line ∷ []) row [] h = h.0
+first-line options bytes cs still p (line ∷ []) row (below ∷ rows) h = absurd h
+first-line options bytes cs still p (line ∷ next ∷ lines) row [] h = absurd h
+first-line options bytes cs still p (line ∷ next ∷ lines) row (below ∷ rows) h = h.0
+
+line-behind : (options : ParseOptions) (bytes : List ℕ) (cs : List Container) (p : Point) (lines : List (List ℕ))
+    (row below : Row) →
+    FirstLine options bytes cs row.behind p lines below → row.leaves ≡ below.change.closes → IsBehind bytes p row below
+line-behind options bytes cs p [] row below is leaves = absurd is
+line-behind options bytes cs p (line ∷ lines) row below is leaves = record {
+  front = is.front;
+  met =
+      λ f. let met = line-met options bytes cs row.behind p line below is f in (leaves ∙ met.1, met.0, met.2);
+  begins = line-begins options bytes cs row.behind p line below is;
+}
+
+-- the first line of the groups of the lines behind one
+pub first-behind : (options : ParseOptions) (bytes : List ℕ) (cs : List Container) (p : Point) (lines : List (List ℕ))
+    (row below : Row) (rows : List Row) →
+    AreRows options bytes cs row.behind p lines (below ∷ rows) → row.leaves ≡ below.change.closes →
+    FirstIs (IsBehind bytes p row) (groups (below ∷ rows))
+first-behind options bytes cs p lines row below rows are leaves =
+    onto-first (IsBehind bytes p row) below below.kind (groups rows)
+    (line-behind options bytes cs p lines row below (first-line options bytes cs row.behind p lines below rows are)
+    leaves)
+
+-- Groups.
+
+-- groups that may go on a leaf in front of them
+abbrev AreBelow : ParseOptions → List ℕ → List Group → Type 0
+AreBelow options bytes (Span row rows ∷ gs) =
+    AreSpan options bytes row rows × EndsBeforeGroups (last_row row rows) gs × AreGroups options bytes gs ×
+    EachNoContent (row ∷ rows)
+AreBelow options bytes gs = AreGroups options bytes gs
+
+-- the first of them goes on none
+abbrev pub FirstBegins : List Group → Type 0
+FirstBegins (Span row rows ∷ gs) = Begins row
+FirstBegins gs = Unit {0}
+
+below-are : (options : ParseOptions) (bytes : List ℕ) (gs : List Group) → FirstBegins gs → AreBelow options bytes gs →
+    AreGroups options bytes gs
+below-are options bytes [] begins are = are
+below-are options bytes (Single row ∷ gs) begins are = are
+below-are options bytes (Lines row rows ∷ gs) begins are = are
+below-are options bytes (Span row rows ∷ gs) begins are = (are.0, are.1, are.2, are.3, begins)
+
+first-begin : (gs : List Group) → FirstIs Begins gs → FirstBegins gs
+first-begin [] h = tt
+first-begin (Single row ∷ gs) h = tt
+first-begin (Lines row rows ∷ gs) h = tt
+first-begin (Span row rows ∷ gs) h = h
+
+-- so it is behind a line of no leaf of several
+pub begins-behind : (bytes : List ℕ) (p : Point) (row : Row) (gs : List Group) → FirstIs (IsBehind bytes p row) gs →
+    has_lines row.behind ≡ false → FirstBegins gs
+begins-behind bytes p row [] first shut = tt
+begins-behind bytes p row (Single below ∷ gs) first shut = tt
+begins-behind bytes p row (Lines below rows ∷ gs) first shut = tt
+begins-behind bytes p row (Span below rows ∷ gs) first shut = first.begins shut
+
+-- a line, with what stands in front of it
+record IsBegun (options : ParseOptions) (bytes line : List ℕ) (p : Point) (row : Row) : Type 0 where
+  is : IsRow options bytes line row
+  front : LinePrefix bytes row.change.opens p row.first row.front
+  quiet : HasNoContent row
+
+alone-is : (options : ParseOptions) (bytes line : List ℕ) (p : Point) (row : Row) → IsBegun options bytes line p row →
+    row.kind ≢ TextRow → EndsOnLine row.kind → IsSingle options bytes row
+alone-is options bytes line p row is other ends = record {
+  line = line;
+  is = is.is;
+  other = other;
+  ends = ends;
+  quiet = is.quiet;
+  front = (p, is.front);
+}
+
+span-line : (options : ParseOptions) (bytes line : List ℕ) (p : Point) (row : Row) (l : LeafName) →
+    IsBegun options bytes line p row → row.kind ≡ LeafRow l → (leaf l).ends ≡ false → IsSpanLine options bytes row
+span-line options bytes line p row l is e ends = record {
+  line = line;
+  is = is.is;
+  name = l;
+  kind = e;
+  open_leaf = ends;
+  front = (p, is.front);
+}
+
+-- which of them end on their line
+pub blank-ends : (kind : RowKind) → kind ≡ BlankRow → EndsOnLine kind
+blank-ends kind e l k = let bad : BlankRow ≡ LeafRow l = sym e ∙ k in cc
+
+pub text-ends : (kind : RowKind) → kind ≡ TextRow → EndsOnLine kind
+text-ends kind e l k = let bad : TextRow ≡ LeafRow l = sym e ∙ k in cc
+
+pub leaf-row-ends : (kind : RowKind) (l : LeafName) → kind ≡ LeafRow l → (leaf l).ends ≡ true → EndsOnLine kind
+leaf-row-ends kind l e ends m k = go (sym e ∙ k)
+  where
+    go : LeafRow l ≡ LeafRow m → (leaf m).ends ≡ true
+    go same = let name : l ≡ m = cc in subst (λ (n : LeafName). (leaf n).ends ≡ true) name ends
+
+-- a line of a leaf goes before groups
+leaf-are : (options : ParseOptions) (bytes line : List ℕ) (p : Point) (row : Row) (l : LeafName) (q : Point)
+    (gs : List Group) →
+    IsBegun options bytes line p row → row.kind ≡ LeafRow l → row.after ≡ Some q → IsEnding bytes row.end q →
+    FirstIs (IsBehind bytes q row) gs → AreBelow options bytes gs → (ends : Bool) → (leaf l).ends ≡ ends →
+    AreBelow options bytes (onto_leaf ends row gs)
+leaf-are options bytes line p row l q gs is e after ending first are true k =
+    let ends : EndsOnLine row.kind = leaf-row-ends row.kind l e k in (
+      alone-is options bytes line p row is (λ h. let bad : LeafRow l ≡ TextRow = sym e ∙ h in cc) ends,
+      below-are options bytes gs
+          (begins-behind bytes q row gs first (shut-behind options bytes line row is.is ends)) are,
+    )
+leaf-are options bytes line p row l q [] is e after ending first are false k =
+    (span-line options bytes line p row l is e k, tt, tt, (is.quiet, tt))
+leaf-are options bytes line p row l q (Single below ∷ gs) is e after ending first are false k =
+    (span-line options bytes line p row l is e k, (q, after), are, (is.quiet, tt))
+leaf-are options bytes line p row l q (Lines below rows ∷ gs) is e after ending first are false k =
+    (span-line options bytes line p row l is e k, (q, after), are, (is.quiet, tt))
+leaf-are options bytes line p row l q (Span below rows ∷ gs) is e after ending first are false k =
+    go (is_further below.kind below.on) refl
+  where
+    go : (x : Bool) → is_further below.kind below.on ≡ x →
+        AreBelow options bytes (cond x (Span row (below ∷ rows) ∷ gs) (Span row [] ∷ Span below rows ∷ gs))
+    go true f =
+        let met = first.met f in (
+          (
+            span-line options bytes line p row l is e k,
+            q,
+            after,
+            ending,
+            subst (λ (cs : List Container). LinePrefix bytes cs q below.first below.front) met.1 first.front,
+            met.0,
+            met.2,
+            f,
+            are.0,
+          ),
+          are.1,
+          are.2,
+          (is.quiet, are.3),
+        )
+    go false f = (
+      span-line options bytes line p row l is e k,
+      (q, after),
+      (are.0, are.1, are.2, are.3, f),
+      (is.quiet, tt),
+    )
+
+-- text goes before groups
+text-are : (options : ParseOptions) (bytes line : List ℕ) (p : Point) (row : Row) (q : Point) (gs : List Group) →
+    IsBegun options bytes line p row → row.kind ≡ TextRow → row.after ≡ Some q → IsEnding bytes row.end q →
+    FirstIs (IsBehind bytes q row) gs → AreGroups options bytes gs →
+    AreBelow options bytes (onto_groups row TextRow gs)
+text-are options bytes line p row q [] is e after ending first are = ((line, is.is, e), tt, (p, is.front), tt)
+text-are options bytes line p row q (Single below ∷ gs) is e after ending first are =
+    ((line, is.is, e), (q, after), (p, is.front), are)
+text-are options bytes line p row q (Span below rows ∷ gs) is e after ending first are =
+    ((line, is.is, e), (q, after), (p, is.front), are)
+text-are options bytes line p row q (Lines below rows ∷ gs) is e after ending first are =
+    go (change.is_none row.leaves) below.change.opens refl
+  where
+    go : (x : Bool) (opens : List Container) → below.change.opens ≡ opens →
+        AreBelow options bytes
+        (cond (x && change.is_none opens) (Lines row (below ∷ rows) ∷ gs) (Lines row [] ∷ Lines below rows ∷ gs))
+    go true [] none = (
+      (
+        line,
+        is.is,
+        e,
+        q,
+        after,
+        ending,
+        subst (λ (l : List Container). LinePrefix bytes l q below.first below.front) none first.front,
+        are.0,
+      ),
+      are.1,
+      (p, is.front),
+      are.3,
+    )
+    go true (c ∷ opens) k = ((line, is.is, e), (q, after), (p, is.front), are)
+    go false opens k = ((line, is.is, e), (q, after), (p, is.front), are)
+
+-- a line goes before groups
+onto-are : (options : ParseOptions) (bytes line : List ℕ) (p : Point) (row : Row) (q : Point) (gs : List Group) →
+    IsBegun options bytes line p row → row.after ≡ Some q → IsEnding bytes row.end q →
+    FirstIs (IsBehind bytes q row) gs → AreBelow options bytes gs → (kind : RowKind) → row.kind ≡ kind →
+    AreBelow options bytes (onto_groups row kind gs)
+onto-are options bytes line p row q gs is after ending first are BlankRow e =
+    let ends : EndsOnLine row.kind = blank-ends row.kind e in (
+      alone-is options bytes line p row is (λ k. cc) ends,
+      below-are options bytes gs
+          (begins-behind bytes q row gs first (shut-behind options bytes line row is.is ends)) are,
+    )
+onto-are options bytes line p row q gs is after ending first are (LeafRow l) e =
+    leaf-are options bytes line p row l q gs is e after ending first are (leaf l).ends refl
+onto-are options bytes line p row q gs is after ending first are TextRow e =
+    text-are options bytes line p row q gs is e after ending first
+    (below-are options bytes gs
+    (begins-behind bytes q row gs first (shut-behind options bytes line row is.is (text-ends row.kind e))) are)
+
+last-are : (options : ParseOptions) (bytes line : List ℕ) (p : Point) (row : Row) → IsBegun options bytes line p row →
+    (kind : RowKind) → row.kind ≡ kind → AreBelow options bytes (onto_groups row kind [])
+last-are options bytes line p row is BlankRow e =
+    (alone-is options bytes line p row is (λ k. cc) (blank-ends row.kind e), tt)
+last-are options bytes line p row is (LeafRow l) e = go (leaf l).ends refl
+  where
+    go : (ends : Bool) → (leaf l).ends ≡ ends → AreBelow options bytes (onto_leaf ends row [])
+    go true k = (
+      alone-is options bytes line p row is (λ h. let bad : LeafRow l ≡ TextRow = sym e ∙ h in cc)
+          (leaf-row-ends row.kind l e k),
+      tt,
+    )
+    go false k = (span-line options bytes line p row l is e k, tt, tt, (is.quiet, tt))
+last-are options bytes line p row is TextRow e = ((line, is.is, e), tt, (p, is.front), tt)
+
+line-begun : (options : ParseOptions) (bytes : List ℕ) (open_before : List Container) (still : HeldLeaf) (p : Point)
+    (line : List ℕ) (row : Row) →
+    IsLine options bytes open_before still p line row → HasNoContent row →
+    IsBegun options bytes (rest_line (contained options open_before still (rest_from p line)).rest) p row
+line-begun options bytes open_before still p line row is quiet = record { is = is.is; front = is.front; quiet = quiet }
+
+groups-below : (options : ParseOptions) (bytes : List ℕ) (open_before : List Container) (still : HeldLeaf) (p : Point)
+    (lines : List (List ℕ)) (rows : List Row) →
+    AreRows options bytes open_before still p lines rows → EachNoContent rows → AreBelow options bytes (groups rows)
+groups-below options bytes open_before still p [] rows h k = absurd h
+groups-below options bytes open_before still p (line ∷ []) [] h k = absurd h
+groups-below options bytes open_before still p (line ∷ next ∷ lines) [] h k = absurd h
+groups-below options bytes open_before still p (line ∷ []) (row ∷ []) h k =
+    last-are options bytes (rest_line (contained options open_before still (rest_from p line)).rest) p row
+    (line-begun options bytes open_before still p line row h.0 k.0) row.kind refl
+groups-below options bytes open_before still p (line ∷ []) (row ∷ below ∷ rows) h k = absurd h
+groups-below options bytes open_before still p (line ∷ next ∷ lines) (row ∷ []) h k = absurd h
+groups-below options bytes open_before still p (line ∷ next ∷ lines) (row ∷ below ∷ rows) h k =
+    let open_next = behind_line options open_before still p line in
+    onto-are options bytes (rest_line (contained options open_before still (rest_from p line)).rest) p row h.2
+    (groups (below ∷ rows)) (line-begun options bytes open_before still p line row h.0 k.0) h.3 h.4
+    (first-behind options bytes open_next h.2 (next ∷ lines) row below rows h.5 h.1)
+    (groups-below options bytes open_next row.behind h.2 (next ∷ lines) (below ∷ rows) h.5 k.1) row.kind refl
+
+-- The first line of a text begins a leaf, if no leaf of several lines is open in front of it.
+pub first-begins : (options : ParseOptions) (bytes : List ℕ) (open_before : List Container) (still : HeldLeaf)
+    (p : Point) (lines : List (List ℕ)) (rows : List Row) →
+    has_lines still ≡ false → AreRows options bytes open_before still p lines rows → FirstBegins (groups rows)
+first-begins options bytes open_before still p lines [] shut h = tt
+first-begins options bytes open_before still p lines (row ∷ rows) shut h =
+    first-begin (groups (row ∷ rows))
+    (onto-first Begins row row.kind (groups rows)
+    (go lines (first-line options bytes open_before still p lines row rows h)))
+  where
+    go : (lines : List (List ℕ)) → FirstLine options bytes open_before still p lines row → Begins row
+    go [] is = absurd is
+    go (line ∷ lines) is = line-begins options bytes open_before still p line row is shut
+
+-- The groups of the lines of a text are lines of text that belong together, lines of a leaf of several, and others.
+pub groups-are : (options : ParseOptions) (bytes : List ℕ) (open_before : List Container) (still : HeldLeaf) (p : Point)
+    (lines : List (List ℕ)) (rows : List Row) →
+    has_lines still ≡ false → AreRows options bytes open_before still p lines rows → EachNoContent rows →
+    AreGroups options bytes (groups rows)
+groups-are options bytes open_before still p lines rows shut h k =
+    below-are options bytes (groups rows) (first-begins options bytes open_before still p lines rows shut h)
+    (groups-below options bytes open_before still p lines rows h k)
