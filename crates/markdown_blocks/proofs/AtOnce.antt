@@ -25,7 +25,7 @@ use Rattle.md_engine.proofs.Walks.{Within, then-stays}
 use Rattle.md_containers.specs.Item.{at_least_one, least_width}
 use Rattle.md_containers.specs.PlainItem.{IsPlainIndent, indented}
 use Rattle.md_containers.proofs.PlainItem.{HasItem, indent-run, space-seen, spaces-fall, spaces-index}
-use Rattle.md_containers.proofs.PlainPrefix.{HasQuote, prefix-run}
+use Rattle.md_containers.proofs.QuotePrefix.{HasQuote, prefix-run}
 use Rattle.md_seam.specs.Spaces.{ends_line}
 use Rattle.md_seam.specs.Look.{behind_code, first_behind, looks_behind, may_with}
 use Rattle.md_seam.specs.Transition.{Transition, tried}

@@ -8,7 +8,7 @@ use Rattle.md_engine.specs.declared.event.Kind.TheVariants.{Enter, Exit}
 use Rattle.md_engine.specs.declared.event.Name.{Name}
 use Rattle.md_engine.specs.declared.event.Name.TheVariants as n
 use Rattle.md_engine.specs.declared.event.Point.{Point}
-use Rattle.md_containers.specs.ItemsStand.{InLeaf, InParagraph, Inner, IsPart, MayStand, Site, site_after}
+use Rattle.md_containers.specs.ItemsStand.{InLeaf, InText, Inner, IsPart, MayStand, Site, site_after}
 use Rattle.md_containers.specs.Unlisted.{in_place}
 use Rattle.md_containers.proofs.UnlistedLemmas.{NoListing, StandsTo, among, stands-append}
 use Rattle.md_engine.specs.Place.{first_point}
@@ -62,7 +62,7 @@ between-stand bytes held es h = roles-stand bytes (among held) Between (between-
 
 -- the same stands in a paragraph,
 text-stays : (bytes : List ℕ) (held : List Bool) (kind : Kind) (x : Role) (p : Point) → Between x →
-    Moves bytes (site_of held InParagraph) (site_of held InParagraph) kind x p
+    Moves bytes (site_of held InText) (site_of held InText) kind x p
 text-stays bytes held Enter IsQuiet p h = record { may = tt; behind = refl }
 text-stays bytes held Exit IsQuiet p h = record { may = tt; behind = refl }
 text-stays bytes held Enter IsPrefix p h = record { may = tt; behind = refl }
@@ -94,7 +94,7 @@ leaf-encloses bytes held kind = record {
   ends = λ p. record { may = tt; behind = refl };
 }
 
-text-encloses : (bytes : List ℕ) (held : List Bool) → Encloses bytes held InParagraph (Tells AsParagraph)
+text-encloses : (bytes : List ℕ) (held : List Bool) → Encloses bytes held InText (Tells AsParagraph)
 text-encloses bytes held = record {
   begins = λ p. record { may = tt; behind = refl };
   ends = λ p. record { may = tt; behind = refl };
@@ -122,8 +122,8 @@ pub text-stands : (bytes : List ℕ) (held : List Bool) (name : Name) (p q : Poi
     role name ≡ Tells AsParagraph → Roles Between inside →
     StandsTo bytes (among held) (among held) (around name p q inside)
 text-stands bytes held name p q inside is lines =
-    around-stands bytes held InParagraph name p q inside (rw is (text-encloses bytes held))
-    (roles-stand bytes (site_of held InParagraph) Between (text-stays bytes held) inside lines)
+    around-stands bytes held InText name p q inside (rw is (text-encloses bytes held))
+    (roles-stand bytes (site_of held InText) Between (text-stays bytes held) inside lines)
 
 -- No items and no lists.
 

@@ -8,7 +8,7 @@ use Rattle.md_engine.specs.declared.tokenizer.container.Container.{Container}
 use Rattle.md_engine.specs.World.{World, container_of}
 use Rattle.md_containers.specs.Item.{least_width}
 use Rattle.md_containers.specs.PlainItem.{IsPlainIndent, indented}
-use Rattle.md_containers.specs.PlainPrefix.{IsPlainPrefix, prefixed}
+use Rattle.md_containers.specs.QuotePrefix.{IsPlainPrefix, prefixed}
 use Rattle.markdown_blocks.specs.LineFlags.{asking, begun_line, next_container}
 use Rattle.markdown_blocks.specs.Registry.{leaf, may_open, openers, trials}
 
