@@ -18,7 +18,7 @@ use Rattle.md_seam.specs.Events.Spelled.{AsDigits, AsItemMarker, Holds, IsQuiet,
 use Rattle.md_seam.specs.Events.Spelled.{Tells, UnorderedShape, byte_at, is_ordered, role, spelled}
 use Rattle.md_containers.specs.ItemsHeld.{ItemsHeld}
 use Rattle.md_containers.specs.ItemsStand as stand
-use Rattle.md_containers.specs.ItemsStand.{AmongBlocks, InFront, InLabel, InLeaf, InParagraph, Inner, IsMarkerAt}
+use Rattle.md_containers.specs.ItemsStand.{AmongBlocks, InFront, InLabel, InLeaf, InText, Inner, IsMarkerAt}
 use Rattle.md_containers.specs.ItemsStand.{ItemsStand, MayBegin, MayStand, Site, inner_in, is_list_marker, root}
 use Rattle.md_containers.specs.ItemsStand.{site_after}
 use Rattle.md_containers.specs.Listed.{Begins, Ends, Place, Stays, Turn, given, given_by, goes_on, is_item, list_begin}

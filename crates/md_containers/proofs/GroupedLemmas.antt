@@ -4,7 +4,7 @@ use Rattle.std.specs.Prelude.{◌==◌, if◌then◌else◌, List}
 use Rattle.std.proofs.lemmas.Bool.{eq-eqb, eqb-true}
 use Rattle.md_definition.specs.Grouped.{grouped, grouped_block, with_front, with_item}
 use Rattle.md_definition.specs.State.{then_block}
-use Rattle.md_definition.specs.Tree.{Block, Blocks, End, Footnote, Item, ListOf, More, Quote}
+use Rattle.md_definition.specs.Tree.{Block, Blocks, End, Item, ListOf, More}
 
 -- no list
 abbrev pub NoList : Block → Type 0
@@ -40,10 +40,7 @@ no-lists-then (More a bs) b h k = (h.0, no-lists-then bs b h.1 k)
 
 no-list-grouped : (b : Block) → NoList b → NoList (grouped_block b)
 no-list-grouped (ListOf marker items) h = h
-no-list-grouped (Quote bs) h = tt
-no-list-grouped (Item marker digits bs) h = tt
-no-list-grouped (Footnote label bs) h = tt
-no-list-grouped _ h = h
+no-list-grouped _ h = tt
 
 -- An item more.
 
@@ -129,10 +126,8 @@ front-then _ gs b h = refl
 
 other-grouped : (b : Block) → IsOther b → IsOther (grouped_block b)
 other-grouped (ListOf marker items) h = h
-other-grouped (Quote bs) h = tt
 other-grouped (Item marker digits bs) h = h
-other-grouped (Footnote label bs) h = tt
-other-grouped _ h = h
+other-grouped _ h = tt
 
 front-other : (b : Block) → IsOther b → with_front b End ≡ More b End
 front-other (ListOf marker items) h = refl
@@ -179,8 +174,6 @@ last-apart m d x (More g gs) b h = last-behind m d x g gs b ∙ ap (More g) (las
 pub other-no-list : (m : ℕ) (b : Block) → IsOther b → IsNoListOf m (grouped_block b)
 other-no-list m (ListOf marker items) h = absurd h
 other-no-list m (Item marker digits bs) h = absurd h
-other-no-list m (Quote bs) h = tt
-other-no-list m (Footnote label bs) h = tt
 other-no-list m _ h = tt
 
 pub other-is-no-list : (b : Block) → IsOther b → NoList b

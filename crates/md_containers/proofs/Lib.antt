@@ -24,7 +24,7 @@ pub mod ListedParts
 pub mod ListedFilled
 pub mod PlainBullet
 pub mod PlainItem
-pub mod PlainPrefix
+pub mod QuotePrefix
 pub mod ItemDigits
 pub mod ItemMarker
 pub mod ItemOpens

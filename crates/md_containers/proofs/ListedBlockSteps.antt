@@ -1,5 +1,5 @@
 -- Among the blocks of a container: each event keeps what is known of both readings.
-use Rattle.std.proofs.Common.{◌≡◌, ℕ, Bool, true, false, List, [], ◌∷◌, map}
+use Rattle.std.proofs.Common.{◌≡◌, ℕ, Bool, true, false, cond, List, [], ◌∷◌, map}
 use Rattle.std.proofs.Common.{refl, ap, sym, subst, ◌∙◌}
 use Rattle.std.specs.Prelude.{◌==◌, ◌||◌, if◌then◌else◌, Option, Some, None, get_or}
 use Rattle.std.proofs.lemmas.Bool.{eqb-true}
@@ -10,14 +10,15 @@ use Rattle.md_definition.specs.Containers.{is_bullet}
 use Rattle.md_definition.specs.Grouped.{grouped, grouped_block}
 use Rattle.md_definition.specs.State.{then_block}
 use Rattle.md_definition.specs.Tree.{Block, Blocks, End, Item, ListOf, More}
-use Rattle.md_seam.specs.Events.Spelled.{Around, AsParagraph}
+use Rattle.md_seam.specs.Events.Blocks.{is_block}
+use Rattle.md_seam.specs.Events.Spelled.{Around, AsDigits}
 use Rattle.md_seam.specs.Events.Spelled.{FootnoteShape, Holds, IsEnding, IsPrefix, IsQuiet}
-use Rattle.md_seam.specs.Events.Spelled.{ItemShape, OpenLeaf, Opens, OrderedShape, QuoteShape}
-use Rattle.md_seam.specs.Events.Spelled.{Reading, Role, Shape, Tells, Text, UnorderedShape, begun, block_around}
-use Rattle.md_seam.specs.Events.Spelled.{fresh, is_ordered, left}
+use Rattle.md_seam.specs.Events.Spelled.{ItemShape, OpenLeaf, Opens, OrderedShape}
+use Rattle.md_seam.specs.Events.Spelled.{Purpose, Reading, Role, Shape, Tells, Text, UnorderedShape, begun}
+use Rattle.md_seam.specs.Events.Spelled.{block_around, fresh, is_ordered, left}
 use Rattle.md_seam.specs.Events.Spelled.{read_by}
-use Rattle.md_containers.specs.ItemsStand.{AmongBlocks, InFront, InLabel, InLeaf, InParagraph, Inner}
-use Rattle.md_containers.specs.ItemsStand.{IsBetween, MayBegin, MayEnd}
+use Rattle.md_containers.specs.ItemsStand.{AmongBlocks, InFront, InLabel, InLeaf, InText, Inner}
+use Rattle.md_containers.specs.ItemsStand.{IsBetween, IsOfItself, MayBegin, MayEnd}
 use Rattle.md_containers.specs.ItemsStand.{is_list_marker, site_after}
 use Rattle.md_containers.specs.Listed.{goes_on}
 use Rattle.md_containers.specs.Listed.{marker_by, next_by}
@@ -118,15 +119,18 @@ item-begins bytes p k d (Some l) ls r ahead next held e agree lists known =
       known = record { agree = (e, known.1, lists, agree); lists = tt; inner = (refl, same) };
     }
 
+-- a text that is a block of its own comes next, and is no item
+own-next : (purpose : Purpose) → IsOfItself purpose → (next : Option ℕ) →
+    cond (is_block (Tells purpose)) None next ≡ None
+own-next AsDigits h next = absurd h
+own-next _ h next = first_of (cc, search)
+
 pub among-begin : (bytes : List ℕ) (x : Role) (p : Point) (w : Option OpenList) (ls : List OpenList) (r : Reading)
     (ahead : ℕ) (next : Option ℕ) (held : List Bool) → MayBegin bytes p AmongBlocks x →
     Known bytes (record { held = held; inner = AmongBlocks }) w ls r
     (marker_by Enter x (get_or bytes p.index 0) ahead) (next_by Enter x ahead next) →
     Stepped bytes Enter x p w ls r ahead next held
     (site_after (record { held = held; inner = AmongBlocks }) Enter x p)
-among-begin bytes (Holds QuoteShape) p w ls r ahead next held may known =
-    holder-begins bytes p QuoteShape AmongBlocks w ls r ahead next held tt (λ outer h. h)
-    (λ s h. λ m e. subst (Apart m) (sym h) (apart-end m)) known.agree known.lists known.inner
 among-begin bytes (Holds (FootnoteShape label)) p w ls r ahead next held may known =
     holder-begins bytes p (FootnoteShape label) InLabel w ls r ahead next held tt (λ outer h. h) (λ s h. h)
     known.agree known.lists known.inner
@@ -134,13 +138,16 @@ among-begin bytes (Holds (ItemShape k d)) p w ls r ahead next held may known =
     item-begins bytes p k d w ls r ahead next held may known.agree known.lists known.inner
 among-begin bytes (Holds OrderedShape) p w ls r ahead next held may known = absurd may
 among-begin bytes (Holds UnorderedShape) p w ls r ahead next held may known = absurd may
+among-begin bytes (Holds shape) p w ls r ahead next held may known =
+    holder-begins bytes p shape AmongBlocks w ls r ahead next held tt (λ outer h. h)
+    (λ s h. λ m e. subst (Apart m) (sym h) (apart-end m)) known.agree known.lists known.inner
 among-begin bytes (Opens kind) p None ls r ahead next held may known =
     passed bytes Enter (Opens kind) p None ls r ahead next held InLeaf tt known.agree known.lists (fresh kind, refl)
 among-begin bytes (Opens kind) p (Some l) ls r ahead next held may known = none-some l.marker known.inner.0
-among-begin bytes (Tells AsParagraph) p None ls r ahead next held may known =
-    passed bytes Enter (Tells AsParagraph) p None ls r ahead next held InParagraph tt known.agree known.lists
-    (begun p, refl)
-among-begin bytes (Tells AsParagraph) p (Some l) ls r ahead next held may known = none-some l.marker known.inner.0
+among-begin bytes (Tells purpose) p None ls r ahead next held may known =
+    passed bytes Enter (Tells purpose) p None ls r ahead next held InText tt known.agree known.lists (begun p, refl)
+among-begin bytes (Tells purpose) p (Some l) ls r ahead next held may known =
+    none-some l.marker (sym (own-next purpose may next) ∙ known.inner.0)
 among-begin bytes IsPrefix p w ls r ahead next held may known =
     among-between bytes Enter IsPrefix p w ls r ahead next held tt known
 among-begin bytes IsEnding p w ls r ahead next held may known =
@@ -160,19 +167,17 @@ other-apart bs b lists h m d x =
     ∙ ap (λ (gs : Blocks). then_block gs (ListOf m (More (Item m d (grouped x)) End))) (sym (grouped-other bs b h))
 
 pub shape-other : (shape : Shape) → IsNoItem shape → (bs : Blocks) → IsOther (block_around shape bs)
-shape-other QuoteShape h bs = tt
-shape-other (FootnoteShape label) h bs = tt
 shape-other OrderedShape h bs = absurd h
 shape-other UnorderedShape h bs = absurd h
 shape-other (ItemShape k d) h bs = absurd h
+shape-other _ h bs = tt
 
 pub shape-grouped : (shape : Shape) → IsNoItem shape → (bs : Blocks) →
     grouped_block (block_around shape bs) ≡ block_around shape (grouped bs)
-shape-grouped QuoteShape h bs = refl
-shape-grouped (FootnoteShape label) h bs = refl
 shape-grouped OrderedShape h bs = absurd h
 shape-grouped UnorderedShape h bs = absurd h
 shape-grouped (ItemShape k d) h bs = absurd h
+shape-grouped _ h bs = refl
 
 -- a quote or a footnote definition ends
 pub holder-ends : (bytes : List ℕ) (p : Point) (shape : Shape) (w : Option OpenList) (ls : List OpenList)
@@ -370,10 +375,7 @@ item-ends bytes p k e None (l ∷ ls) (a ∷ arounds) here leaf text ahead next 
     go (ItemShape j d) h =
         subst (λ (m : ℕ). Of (ItemShape m d)) (sym h.0)
         (item-ended bytes p k e l ls d a.before arounds here leaf text ahead next held h.1 agree.1 agree.2 agree.3)
-    go QuoteShape h = absurd h
-    go OrderedShape h = absurd h
-    go UnorderedShape h = absurd h
-    go (FootnoteShape label) h = absurd h
+    go _ h = absurd h
 
 pub among-end : (bytes : List ℕ) (x : Role) (p : Point) (w : Option OpenList) (ls : List OpenList) (r : Reading)
     (ahead : ℕ) (next : Option ℕ) (held : List Bool) → MayEnd held p AmongBlocks x →
@@ -382,19 +384,14 @@ pub among-end : (bytes : List ℕ) (x : Role) (p : Point) (w : Option OpenList) 
     Stepped bytes Exit x p w ls r ahead next held
     (site_after (record { held = held; inner = AmongBlocks }) Exit x p)
 among-end bytes (Holds shape) p w ls r ahead next [] may known = absurd may
-among-end bytes (Holds QuoteShape) p w ls r ahead next (true ∷ held) may known = absurd (cc)
-among-end bytes (Holds QuoteShape) p w ls r ahead next (false ∷ held) may known =
-    holder-ends bytes p QuoteShape w ls r.outer r.here r.leaf r.text ahead next held tt known.agree known.lists
-    known.inner
-among-end bytes (Holds (FootnoteShape label)) p w ls r ahead next (true ∷ held) may known = absurd (cc)
-among-end bytes (Holds (FootnoteShape label)) p w ls r ahead next (false ∷ held) may known =
-    holder-ends bytes p (FootnoteShape label) w ls r.outer r.here r.leaf r.text ahead next held tt known.agree
-    known.lists known.inner
 among-end bytes (Holds (ItemShape k d)) p w ls r ahead next (true ∷ held) may known =
     item-ends bytes p k d w ls r.outer r.here r.leaf r.text ahead next held known.agree known.inner
 among-end bytes (Holds (ItemShape k d)) p w ls r ahead next (false ∷ held) may known = absurd (cc)
 among-end bytes (Holds OrderedShape) p w ls r ahead next (is_item ∷ held) may known = absurd may
 among-end bytes (Holds UnorderedShape) p w ls r ahead next (is_item ∷ held) may known = absurd may
+among-end bytes (Holds shape) p w ls r ahead next (true ∷ held) may known = absurd (cc)
+among-end bytes (Holds shape) p w ls r ahead next (false ∷ held) may known =
+    holder-ends bytes p shape w ls r.outer r.here r.leaf r.text ahead next held tt known.agree known.lists known.inner
 among-end bytes IsPrefix p w ls r ahead next held may known =
     among-between bytes Exit IsPrefix p w ls r ahead next held tt known
 among-end bytes IsEnding p w ls r ahead next held may known =

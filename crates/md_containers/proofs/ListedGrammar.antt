@@ -21,8 +21,8 @@ use Rattle.md_containers.proofs.ListedKept.{by-turn}
 use Rattle.md_containers.proofs.ListedLemmas.{passes-given}
 use Rattle.md_containers.proofs.ListedNests.{event, pass-next}
 use Rattle.md_containers.proofs.ListedParts.{by-list}
-use Rattle.md_containers.proofs.TamedLemmas.{AtBoth, AtFrontmatter, AtLine, AtMark, BehindBlock, IsTame, ItemFront, ListsWell}
-use Rattle.md_containers.proofs.TamedLemmas.{is_plain, tame-behind, tame-inside, tame-lists}
+use Rattle.md_containers.proofs.TamedLemmas.{AtBoth, AtFrontmatter, AtLine, AtMark, BehindBlock, IsTame, ListsWell}
+use Rattle.md_containers.proofs.TamedLemmas.{is_plain, tame-behind, tame-inside, tame-item, tame-lists}
 use Rattle.md_seam.specs.Events.Blocks.{is_block}
 use Rattle.md_seam.specs.Events.Grammar.{Expression, Many, Never, Then, behind, behind_block, blocks, inside, is_whole}
 use Rattle.md_seam.specs.Events.Grammar.{keeps_grammar, left_of, line_break, may_end, one, prefixes, some, texts}
@@ -198,7 +198,7 @@ module _ (text : Expression) (bytes : List ℕ) where
           (inr (inr (inl e))) whole
       go (inl e) same =
           let k : WholeWith (Free (inside text n.ListItem) (InItem a ∷ fs)) inner =
-          keeps (Free (inside text n.ListItem) (InItem a ∷ fs)) (inl (ItemFront, refl), (held.0, frames)) matches.1
+          keeps (Free (inside text n.ListItem) (InItem a ∷ fs)) (tame-item, (held.0, frames)) matches.1
           held.1
           (subst
           (λ (y : Expression).
@@ -226,7 +226,7 @@ module _ (text : Expression) (bytes : List ℕ) where
       dead-fails text es (inside text n.ListItem ∷ Never ∷ around_without fs) (inr (inr (inl refl))) whole
   begin-within p link es m true [] fs keeps good matches held whole =
       keeps (Free (inside text n.ListItem) (InItem (marker_ahead bytes es) ∷ fs))
-      (inl (ItemFront, refl), (good.1, good.0)) matches.1 held.1 whole
+      (tame-item, (good.1, good.0)) matches.1 held.1 whole
 
   -- An item ends.
   end-item : (p : Point) (link : Option Link) (es : List Event) (x : Expression) (m : ℕ) (fs : List Frame) →
@@ -360,30 +360,15 @@ module _ (text : Expression) (bytes : List ℕ) where
           ⊎ ((t : Bool) × (behind (in_place name) (in_container after) ≡ in_container t)
           × (behind name (in_list after) ≡ in_list t))
 
+      to-line : (name : Name) (after : Bool) → behind (in_place name) (in_container after) ≡ in_container true →
+          behind name (in_list after) ≡ in_list true → Goes name after
+      to-line name after e h = inr (true, e, h)
+
       goes : (name : Name) (after : Bool) → is_block (role name) ≡ false → Goes name after
       goes n.LineEnding false b = inr (true, refl, refl)
-      goes n.BlankLineEnding false b = inr (true, refl, refl)
-      goes n.SpaceOrTab true b = inr (true, refl, refl)
-      goes n.BlockQuotePrefix true b = inr (true, refl, refl)
+      goes _ false b = first_of (search inl, search to-line, cc)
       goes n.LineEnding true b = inr (true, refl, refl)
-      goes n.BlankLineEnding true b = inr (true, refl, refl)
-      goes n.BlockQuote after b = absurd (cc)
-      goes n.ListItem after b = absurd (cc)
-      goes n.ListOrdered after b = absurd (cc)
-      goes n.ListUnordered after b = absurd (cc)
-      goes n.GfmFootnoteDefinition after b = absurd (cc)
-      goes n.HeadingAtx after b = absurd (cc)
-      goes n.HeadingSetext after b = absurd (cc)
-      goes n.ThematicBreak after b = absurd (cc)
-      goes n.CodeIndented after b = absurd (cc)
-      goes n.CodeFenced after b = absurd (cc)
-      goes n.MathFlow after b = absurd (cc)
-      goes n.HtmlFlow after b = absurd (cc)
-      goes n.Definition after b = absurd (cc)
-      goes n.Paragraph after b = absurd (cc)
-      goes n.GfmTable after b = absurd (cc)
-      goes _ false b = inl refl
-      goes _ true b = inl refl
+      goes _ true b = first_of (search inl, search to-line, cc)
 
       rest : List Event
       rest = listed_from bytes (place_at (Within m after [] fs)) es

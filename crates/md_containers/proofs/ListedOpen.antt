@@ -15,15 +15,16 @@ use Rattle.md_engine.specs.declared.event.Point.{Point}
 use Rattle.md_definition.specs.Grouped.{grouped}
 use Rattle.md_definition.specs.State.{then_block}
 use Rattle.md_definition.specs.Tree.{Blocks, End, Item, Line, ListOf, More}
-use Rattle.md_seam.specs.Events.Spelled.{Around, AsDigits, AsFootnoteLabel, AsItemMarker, AsParagraph}
-use Rattle.md_seam.specs.Events.Spelled.{FootnoteShape, Holds, IsEnding}
-use Rattle.md_seam.specs.Events.Spelled.{ItemShape, OpenLeaf, Opens, OrderedShape, Purpose, QuoteShape}
+use Rattle.md_seam.specs.Events.Spelled.{Around, Holds, IsEnding}
+use Rattle.md_seam.specs.Events.Spelled.{ItemShape, OpenLeaf, Opens, OrderedShape, Purpose}
 use Rattle.md_seam.specs.Events.Spelled.{Reading, Role, Shape, Tells, Text, UnorderedShape, at_ending, begun}
 use Rattle.md_seam.specs.Events.Spelled.{is_ordered, left}
 use Rattle.md_seam.specs.Events.Spelled.{next_line, on_leaf, read, read_by, role, text_to, told, told_at}
+use Rattle.md_seam.specs.Events.Told.{OfItself, OfLeaf, Told, told_of}
 use Rattle.md_seam.specs.Events.Nested.{exit}
-use Rattle.md_containers.specs.ItemsStand.{AmongBlocks, InFront, InLabel, InLeaf, InMarker, InParagraph, Inner}
-use Rattle.md_containers.specs.ItemsStand.{IsMarkerAt, IsOfLeaf}
+use Rattle.md_seam.proofs.ToldLemmas.{told-noted}
+use Rattle.md_containers.specs.ItemsStand.{AmongBlocks, InFront, InLabel, InLeaf, InMarker, InText, Inner}
+use Rattle.md_containers.specs.ItemsStand.{IsForItself, IsForLeaf, IsMarkerAt, IsOfItself, IsOfLeaf}
 use Rattle.md_containers.specs.ItemsStand.{Site, is_list_marker}
 use Rattle.md_containers.specs.Listed.{Begins, Ends, Place, Stays, Turn, given_by, goes_on, list_begin, list_end, list_name}
 use Rattle.md_containers.specs.Listed.{place_by, turn}
@@ -92,9 +93,10 @@ IsBegun (ItemShape k d) = k ≡ 0
 IsBegun _ = ⊥
 
 abbrev pub IsNoItem : Shape → Type 0
-IsNoItem QuoteShape = Unit {0}
-IsNoItem (FootnoteShape label) = Unit {0}
-IsNoItem _ = ⊥
+IsNoItem (ItemShape k d) = ⊥
+IsNoItem OrderedShape = ⊥
+IsNoItem UnorderedShape = ⊥
+IsNoItem _ = Unit {0}
 
 -- of each open container
 abbrev pub Agree : List Bool → List OpenList → List Around → Type 0
@@ -127,7 +129,7 @@ Knows bytes (InMarker q) None ls r ahead next =
     (r.here ≡ End) × (get_or bytes q.index 0 ≡ first_marker ls) × IsMarkerAt bytes q × (r.text ≡ Some (begun q))
 Knows bytes InLabel None ls r ahead next = r.here ≡ End
 Knows bytes InLeaf None ls r ahead next = (leaf : OpenLeaf) × (r.leaf ≡ Some leaf)
-Knows bytes InParagraph None ls r ahead next = (text : Text) × (r.text ≡ Some text)
+Knows bytes InText None ls r ahead next = (text : Text) × (r.text ≡ Some text)
 Knows bytes _ (Some l) ls r ahead next = ⊥
 
 -- What is known of both readings at a site.
@@ -199,13 +201,25 @@ Passes Exit (Opens kind) = ⊥
 Passes Exit (Tells purpose) = IsOfLeaf purpose
 Passes Exit _ = Unit {0}
 
+pub of-leaf : (purpose : Purpose) → IsOfLeaf purpose → told_of purpose ≡ OfLeaf
+of-leaf purpose h = go (told_of purpose) h
+  where
+    go : (t : Told) → IsForLeaf t → t ≡ OfLeaf
+    go OfLeaf h = refl
+    go _ h = absurd h
+
+pub of-itself : (purpose : Purpose) → IsOfItself purpose → told_of purpose ≡ OfItself
+of-itself purpose h = go (told_of purpose) h
+  where
+    go : (t : Told) → IsForItself t → t ≡ OfItself
+    go OfItself h = refl
+    go _ h = absurd h
+
 pub told-moved : (purpose : Purpose) → IsOfLeaf purpose → (line : Line) (r : Reading) (outer : List Around) (here : Blocks) →
     told purpose line (moved r outer here) ≡ moved (told purpose line r) outer here
-told-moved AsParagraph h line r outer here = absurd h
-told-moved AsDigits h line r outer here = absurd h
-told-moved AsItemMarker h line r outer here = absurd h
-told-moved AsFootnoteLabel h line r outer here = absurd h
-told-moved _ h line r outer here = refl
+told-moved purpose h line r outer here =
+    told-noted purpose (of-leaf purpose h) line (moved r outer here)
+    ∙ ap (λ (s : Reading). moved s outer here) (sym (told-noted purpose (of-leaf purpose h) line r))
 
 pub told_at-moved : (bytes : List ℕ) (purpose : Purpose) → IsOfLeaf purpose → (p : Point) (text : Option Text) (r : Reading)
     (outer : List Around) (here : Blocks) →

@@ -1,5 +1,5 @@
--- In front of an item's marker, in a footnote's label, in a leaf block and in a paragraph: each event keeps what is known
--- of both readings.
+-- In front of an item's marker, in a footnote's label, in a leaf block and in a text that is a block of its own: each
+-- event keeps what is known of both readings.
 use Rattle.std.proofs.Common.{◌≡◌, ℕ, ◌+◌, ◌-◌, Bool, true, false, List, [], ◌∷◌, drop, take, length}
 use Rattle.std.proofs.Common.{slice_range, refl, ap, sym, subst, ◌∙◌, arith}
 use Rattle.std.specs.Prelude.{◌==◌, if◌then◌else◌, nat_lt, Option, Some, None, option_map, get_or}
@@ -9,16 +9,18 @@ use Rattle.md_engine.specs.declared.event.Kind.TheVariants.{Enter, Exit}
 use Rattle.md_engine.specs.declared.event.Point.{Point}
 use Rattle.md_definition.specs.Grouped.{grouped, grouped_block}
 use Rattle.md_definition.specs.State.{then_block}
-use Rattle.md_definition.specs.Texts.{first_byte, split_lines, trim_each}
-use Rattle.md_definition.specs.Tree.{Block, Blocks, End, Paragraph}
-use Rattle.md_seam.specs.Events.Spelled.{Around, AsDigits, AsFootnoteLabel, AsItemMarker, AsParagraph, BreakLeaf}
-use Rattle.md_seam.specs.Events.Spelled.{FootnoteShape, Holds, IsCell, IsEnding, IsFence, IsPrefix, IsQuiet, IsRow}
-use Rattle.md_seam.specs.Events.Spelled.{IsTitle, ItemShape, OpenLeaf, Opens, Purpose, QuoteShape}
+use Rattle.md_definition.specs.Texts.{first_byte}
+use Rattle.md_definition.specs.Tree.{Block, Blocks, End, Line}
+use Rattle.md_seam.specs.Events.Spelled.{Around, AsDigits, AsFootnoteLabel, AsItemMarker, BreakLeaf}
+use Rattle.md_seam.specs.Events.Spelled.{Holds, IsCell, IsEnding, IsFence, IsPrefix, IsQuiet, IsRow}
+use Rattle.md_seam.specs.Events.Spelled.{ItemShape, OpenLeaf, Opens, OrderedShape, Purpose, UnorderedShape}
 use Rattle.md_seam.specs.Events.Spelled.{Reading, Role, Shape, Tells, Text, at_ending, begun}
 use Rattle.md_seam.specs.Events.Spelled.{block_of, finished, named}
 use Rattle.md_seam.specs.Events.Spelled.{next_line, on_leaf, on_shape, read_by, text_to, told_at}
-use Rattle.md_seam.specs.Events.Spelled.{after_prefix, at_cell, at_fence, at_row, at_title, before_prefix, behind_title, noted}
-use Rattle.md_containers.specs.ItemsStand.{AmongBlocks, InFront, InLabel, InLeaf, InMarker, InParagraph, Inner}
+use Rattle.md_seam.specs.Events.Spelled.{after_prefix, before_prefix, noted}
+use Rattle.md_seam.specs.Events.Told.{block_told}
+use Rattle.md_seam.proofs.ToldLemmas.{told-block, told-noted}
+use Rattle.md_containers.specs.ItemsStand.{AmongBlocks, InFront, InLabel, InLeaf, InMarker, InText, Inner}
 use Rattle.md_containers.specs.ItemsStand.{IsBetween, IsMarkerAt, IsOfLeaf, IsPart, MayBegin, MayEnd}
 use Rattle.md_containers.specs.ItemsStand.{is_list_marker, site_after}
 use Rattle.md_containers.specs.Listed.{Stays, Turn}
@@ -26,7 +28,9 @@ use Rattle.md_containers.specs.Listed.{marker_by, next_by}
 use Rattle.md_containers.specs.Listed.{place_by, turn}
 use Rattle.md_containers.proofs.GroupedLemmas.{IsOther, NoLists, grouped-other}
 use Rattle.md_containers.proofs.GroupedLemmas.{no-lists-then, other-is-no-list}
-use Rattle.md_containers.proofs.ListedOpen.{OpenList, outer_by, moved, as_listed, place_of, Apart, IsItemOf, IsBegun, IsNoItem, Agree, AgreeFront, first_marker, Known, read_turn, Passes, passes-here, Stepped, passed}
+use Rattle.md_containers.proofs.ListedOpen.{Agree, AgreeFront, Apart, IsBegun, IsItemOf, IsNoItem, Known, OpenList, Passes}
+use Rattle.md_containers.proofs.ListedOpen.{Stepped, as_listed, first_marker, moved, of-itself, of-leaf, outer_by, passed}
+use Rattle.md_containers.proofs.ListedOpen.{passes-here, place_of, read_turn}
 use Rattle.md_containers.proofs.ListedBlockSteps.{between-passes, apart-end, other-apart}
 
 -- What tells something of a container.
@@ -112,9 +116,10 @@ item-label t m (ItemShape k d) h = h
 item-label t m _ h = absurd h
 
 pub no-item-label : (t : List ℕ) (shape : Shape) → IsNoItem shape → IsNoItem (named AsFootnoteLabel t shape)
-no-item-label t QuoteShape h = tt
-no-item-label t (FootnoteShape label) h = tt
-no-item-label t _ h = absurd h
+no-item-label t (ItemShape k d) h = absurd h
+no-item-label t OrderedShape h = absurd h
+no-item-label t UnorderedShape h = absurd h
+no-item-label t _ h = tt
 
 pub agree-label : (t : List ℕ) (held : List Bool) (ls : List OpenList) (outer : List Around) → Agree held ls outer →
     Agree held ls (on_shape (named AsFootnoteLabel t) outer)
@@ -296,13 +301,10 @@ changed-leaf f r h = (f h.0, ap (option_map f) h.1)
 pub told-leaf : (bytes : List ℕ) (purpose : Purpose) → IsOfLeaf purpose → (p : Point) (text : Option Text) (r : Reading) →
     HasLeaf r → HasLeaf (told_at bytes purpose p text r)
 told-leaf bytes purpose h p None r leaf = leaf
-told-leaf bytes AsParagraph h p (Some text) r leaf = absurd h
-told-leaf bytes AsDigits h p (Some text) r leaf = absurd h
-told-leaf bytes AsItemMarker h p (Some text) r leaf = absurd h
-told-leaf bytes AsFootnoteLabel h p (Some text) r leaf = absurd h
 told-leaf bytes purpose h p (Some text) r leaf =
-    changed-leaf (noted purpose (record { spaces = text.spaces; text = text_to bytes p.index text }))
-    (record r { text = None }) leaf
+    let line : Line = record { spaces = text.spaces; text = text_to bytes p.index text } in
+    subst HasLeaf (sym (told-noted purpose (of-leaf purpose h) line (record r { text = None })))
+    (changed-leaf (noted purpose line) (record r { text = None }) leaf)
 
 pub ending-leaf : (bytes : List ℕ) (p : Point) (text : Option Text) (r : Reading) → HasLeaf r →
     HasLeaf (at_ending bytes p text r)
@@ -320,13 +322,8 @@ part-leaf bytes kind (Holds shape) p h r leaf = absurd h
 part-leaf bytes kind (Opens k) p h r leaf = absurd h
 part-leaf bytes Enter (Tells purpose) p h r leaf = leaf
 part-leaf bytes Exit (Tells purpose) p h r leaf = told-leaf bytes purpose h p r.text r leaf
-part-leaf bytes Enter IsFence p h r leaf = changed-leaf at_fence r leaf
 part-leaf bytes Exit IsFence p h r leaf = leaf
-part-leaf bytes Enter IsTitle p h r leaf = changed-leaf at_title r leaf
-part-leaf bytes Exit IsTitle p h r leaf = changed-leaf behind_title r leaf
-part-leaf bytes Enter IsRow p h r leaf = changed-leaf at_row r leaf
 part-leaf bytes Exit IsRow p h r leaf = leaf
-part-leaf bytes Enter IsCell p h r leaf = changed-leaf at_cell r leaf
 part-leaf bytes Exit IsCell p h r leaf = leaf
 part-leaf bytes Enter IsPrefix p h r leaf = leaf
 part-leaf bytes Exit IsPrefix p h r leaf = leaf
@@ -334,6 +331,8 @@ part-leaf bytes Enter IsEnding p h r leaf = leaf
 part-leaf bytes Exit IsEnding p h r leaf = ending-leaf bytes p r.text r leaf
 part-leaf bytes Enter IsQuiet p h r leaf = leaf
 part-leaf bytes Exit IsQuiet p h r leaf = leaf
+part-leaf bytes Enter _ p h r leaf = changed-leaf _ r leaf
+part-leaf bytes Exit _ p h r leaf = changed-leaf _ r leaf
 
 pub leaf-part : (bytes : List ℕ) (kind : Kind) (x : Role) (p : Point) (ls : List OpenList) (r : Reading)
     (ahead other : ℕ) (next now : Option ℕ) (held : List Bool) → IsPart x →
@@ -408,7 +407,7 @@ leaf-end bytes (Opens kind) p ls r ahead other next now held may known =
 leaf-end bytes x p ls r ahead other next now held may known =
     leaf-part bytes Exit x p ls r ahead other next now held may known
 
--- In a paragraph.
+-- In a text that is a block of its own.
 
 abbrev pub HasText : Reading → Type 0
 HasText r = (text : Text) × (r.text ≡ Some text)
@@ -429,41 +428,44 @@ between-text bytes Enter IsQuiet p h r text = text
 between-text bytes Exit IsQuiet p h r text = text
 between-text bytes kind _ p h r text = absurd h
 
-pub paragraph-between : (bytes : List ℕ) (kind : Kind) (x : Role) (p : Point) (ls : List OpenList) (r : Reading)
+pub text-between : (bytes : List ℕ) (kind : Kind) (x : Role) (p : Point) (ls : List OpenList) (r : Reading)
     (ahead other : ℕ) (next now : Option ℕ) (held : List Bool) → IsBetween x →
-    Known bytes (record { held = held; inner = InParagraph }) None ls r other now →
-    Stepped bytes kind x p None ls r ahead next held (record { held = held; inner = InParagraph })
-paragraph-between bytes kind x p ls r ahead other next now held h known =
-    passed bytes kind x p None ls r ahead next held InParagraph (between-passes kind x h) known.agree known.lists
+    Known bytes (record { held = held; inner = InText }) None ls r other now →
+    Stepped bytes kind x p None ls r ahead next held (record { held = held; inner = InText })
+text-between bytes kind x p ls r ahead other next now held h known =
+    passed bytes kind x p None ls r ahead next held InText (between-passes kind x h) known.agree known.lists
     (between-text bytes kind x p h r known.inner)
 
-pub paragraph-begin : (bytes : List ℕ) (x : Role) (p : Point) (ls : List OpenList) (r : Reading) (ahead other : ℕ)
-    (next now : Option ℕ) (held : List Bool) → MayBegin bytes p InParagraph x →
-    Known bytes (record { held = held; inner = InParagraph }) None ls r other now →
+pub text-begin : (bytes : List ℕ) (x : Role) (p : Point) (ls : List OpenList) (r : Reading) (ahead other : ℕ)
+    (next now : Option ℕ) (held : List Bool) → MayBegin bytes p InText x →
+    Known bytes (record { held = held; inner = InText }) None ls r other now →
     Stepped bytes Enter x p None ls r ahead next held
-    (site_after (record { held = held; inner = InParagraph }) Enter x p)
-paragraph-begin bytes IsPrefix p ls r ahead other next now held may known =
-    paragraph-between bytes Enter IsPrefix p ls r ahead other next now held tt known
-paragraph-begin bytes IsEnding p ls r ahead other next now held may known =
-    paragraph-between bytes Enter IsEnding p ls r ahead other next now held tt known
-paragraph-begin bytes IsQuiet p ls r ahead other next now held may known =
-    paragraph-between bytes Enter IsQuiet p ls r ahead other next now held tt known
-paragraph-begin bytes _ p ls r ahead other next now held may known = absurd may
+    (site_after (record { held = held; inner = InText }) Enter x p)
+text-begin bytes IsPrefix p ls r ahead other next now held may known =
+    text-between bytes Enter IsPrefix p ls r ahead other next now held tt known
+text-begin bytes IsEnding p ls r ahead other next now held may known =
+    text-between bytes Enter IsEnding p ls r ahead other next now held tt known
+text-begin bytes IsQuiet p ls r ahead other next now held may known =
+    text-between bytes Enter IsQuiet p ls r ahead other next now held tt known
+text-begin bytes _ p ls r ahead other next now held may known = absurd may
 
-pub paragraph-end : (bytes : List ℕ) (x : Role) (p : Point) (ls : List OpenList) (r : Reading) (ahead other : ℕ)
-    (next now : Option ℕ) (held : List Bool) → MayEnd held p InParagraph x →
-    Known bytes (record { held = held; inner = InParagraph }) None ls r other now →
+pub text-end : (bytes : List ℕ) (x : Role) (p : Point) (ls : List OpenList) (r : Reading) (ahead other : ℕ)
+    (next now : Option ℕ) (held : List Bool) → MayEnd held p InText x →
+    Known bytes (record { held = held; inner = InText }) None ls r other now →
     Stepped bytes Exit x p None ls r ahead next held
-    (site_after (record { held = held; inner = InParagraph }) Exit x p)
-paragraph-end bytes (Tells AsParagraph) p ls r ahead other next now held may known =
-    added bytes (Tells AsParagraph) p ls r ahead next held
-    (Paragraph (trim_each (split_lines (text_to bytes p.index known.inner.0)))) r.leaf None refl tt refl
-    known.agree known.lists
-    (λ outer here. ap (λ (t : Option Text). told_at bytes AsParagraph p t (moved r outer here)) known.inner.1)
-paragraph-end bytes IsPrefix p ls r ahead other next now held may known =
-    paragraph-between bytes Exit IsPrefix p ls r ahead other next now held tt known
-paragraph-end bytes IsEnding p ls r ahead other next now held may known =
-    paragraph-between bytes Exit IsEnding p ls r ahead other next now held tt known
-paragraph-end bytes IsQuiet p ls r ahead other next now held may known =
-    paragraph-between bytes Exit IsQuiet p ls r ahead other next now held tt known
-paragraph-end bytes _ p ls r ahead other next now held may known = absurd may
+    (site_after (record { held = held; inner = InText }) Exit x p)
+text-end bytes (Tells purpose) p ls r ahead other next now held may known =
+    added bytes (Tells purpose) p ls r ahead next held
+    (block_told (text_to bytes p.index known.inner.0)) r.leaf None refl tt refl known.agree known.lists
+    (λ outer here.
+    ap (λ (t : Option Text). told_at bytes purpose p t (moved r outer here)) known.inner.1
+    ∙ told-block purpose (of-itself purpose may)
+    (record { spaces = known.inner.0.spaces; text = text_to bytes p.index known.inner.0 })
+    (record (moved r outer here) { text = None }))
+text-end bytes IsPrefix p ls r ahead other next now held may known =
+    text-between bytes Exit IsPrefix p ls r ahead other next now held tt known
+text-end bytes IsEnding p ls r ahead other next now held may known =
+    text-between bytes Exit IsEnding p ls r ahead other next now held tt known
+text-end bytes IsQuiet p ls r ahead other next now held may known =
+    text-between bytes Exit IsQuiet p ls r ahead other next now held tt known
+text-end bytes _ p ls r ahead other next now held may known = absurd may

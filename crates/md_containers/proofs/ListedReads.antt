@@ -11,7 +11,7 @@ use Rattle.md_seam.specs.Events.Spelled.{Reading, Role}
 use Rattle.md_seam.specs.Events.Spelled.{read, read_by, role, spelled}
 use Rattle.md_seam.specs.Events.Spelled.{unread}
 use Rattle.md_seam.proofs.SpelledLemmas.{read-append}
-use Rattle.md_containers.specs.ItemsStand.{AmongBlocks, InFront, InLabel, InLeaf, InMarker, InParagraph, Inner}
+use Rattle.md_containers.specs.ItemsStand.{AmongBlocks, InFront, InLabel, InLeaf, InMarker, InText, Inner}
 use Rattle.md_containers.specs.ItemsStand.{ItemsStand}
 use Rattle.md_containers.specs.ItemsStand.{MayStand, Site, root, site_after}
 use Rattle.md_containers.specs.Listed.{Place, given, listed}
@@ -19,7 +19,8 @@ use Rattle.md_containers.specs.Listed.{listed_from, marker_ahead, marker_by, nex
 use Rattle.md_containers.specs.Listed.{turn}
 use Rattle.md_containers.proofs.ListedOpen.{OpenList, as_listed, place_of, Knows, Known, read-turn, Stepped}
 use Rattle.md_containers.proofs.ListedBlockSteps.{none-some, apart-end, among-begin, among-end}
-use Rattle.md_containers.proofs.ListedPartSteps.{front-begin, front-end, marker-end, label-begin, label-end, leaf-begin, leaf-end, paragraph-begin, paragraph-end}
+use Rattle.md_containers.proofs.ListedPartSteps.{front-begin, front-end, label-begin, label-end, leaf-begin, leaf-end}
+use Rattle.md_containers.proofs.ListedPartSteps.{marker-end, text-begin, text-end}
 
 -- All events.
 
@@ -53,11 +54,11 @@ step bytes InLeaf Enter x p None ls r ahead next held may known =
 step bytes InLeaf Exit x p None ls r ahead next held may known =
     leaf-end bytes x p ls r ahead (marker_by Exit x (get_or bytes p.index 0) ahead) next
     (next_by Exit x ahead next) held may known
-step bytes InParagraph Enter x p None ls r ahead next held may known =
-    paragraph-begin bytes x p ls r ahead (marker_by Enter x (get_or bytes p.index 0) ahead) next
+step bytes InText Enter x p None ls r ahead next held may known =
+    text-begin bytes x p ls r ahead (marker_by Enter x (get_or bytes p.index 0) ahead) next
     (next_by Enter x ahead next) held may known
-step bytes InParagraph Exit x p None ls r ahead next held may known =
-    paragraph-end bytes x p ls r ahead (marker_by Exit x (get_or bytes p.index 0) ahead) next
+step bytes InText Exit x p None ls r ahead next held may known =
+    text-end bytes x p ls r ahead (marker_by Exit x (get_or bytes p.index 0) ahead) next
     (next_by Exit x ahead next) held may known
 step bytes inner kind x p (Some l) ls r ahead next held may known = absurd known.inner
 

@@ -12,15 +12,19 @@ use Rattle.md_seam.specs.Events.Names.{same_name}
 
 -- Containers.
 
--- Where one is in a container: before its prefix or in front of it, at the begin of a line or behind it; in a text, in
--- front of a byte order mark, of frontmatter or of both; or where nothing may come.
+-- a name of no whitespace, no list and no item
+pub record IsOfNoList (name : Name) : Type 0 where
+  pub space : same_name n.SpaceOrTab name ≡ false
+  pub ordered : same_name n.ListOrdered name ≡ false
+  pub unordered : same_name n.ListUnordered name ≡ false
+  pub item : same_name n.ListItem name ≡ false
+
+-- Where one is in a container: in front of its first prefix, which has this name, or behind the whitespace there; at
+-- the begin of a line or behind a block; in a text, in front of a byte order mark, of frontmatter or of both; or where
+-- nothing may come.
 pub data Stage : Type 0 where
-  QuoteFront : Stage
-  QuotePrefix : Stage
-  ItemFront : Stage
-  ItemPrefix : Stage
-  NoteFront : Stage
-  NotePrefix : Stage
+  AtFront : (prefix : Name) → IsOfNoList prefix → Stage
+  AtPrefix : (prefix : Name) → IsOfNoList prefix → Stage
   AtLine : Stage
   BehindBlock : Stage
   AtMark : Stage
@@ -29,12 +33,8 @@ pub data Stage : Type 0 where
   Dead : Stage
 
 abbrev pub left_at : Stage → Expression
-left_at QuoteFront = Then white (Then (one n.BlockQuotePrefix) blocks)
-left_at QuotePrefix = Then (one n.BlockQuotePrefix) blocks
-left_at ItemFront = Then white (Then (one n.ListItemPrefix) blocks)
-left_at ItemPrefix = Then (one n.ListItemPrefix) blocks
-left_at NoteFront = Then white (Then (one n.GfmFootnoteDefinitionPrefix) blocks)
-left_at NotePrefix = Then (one n.GfmFootnoteDefinitionPrefix) blocks
+left_at (AtFront prefix apart) = Then white (Then (one prefix) blocks)
+left_at (AtPrefix prefix apart) = Then (one prefix) blocks
 left_at AtLine = blocks
 left_at BehindBlock = behind_block
 left_at AtMark = Then (one n.ByteOrderMark) blocks
@@ -42,41 +42,36 @@ left_at AtFrontmatter = Then (one n.Frontmatter) behind_block
 left_at AtBoth = Then (one n.ByteOrderMark) (Then (one n.Frontmatter) behind_block)
 left_at Dead = Never
 
-stage-behind : (s : Stage) (name : Name) → (t : Stage) × (behind name (left_at s) ≡ left_at t)
-stage-behind QuoteFront n.SpaceOrTab = (QuotePrefix, refl)
-stage-behind QuoteFront n.BlockQuotePrefix = (AtLine, refl)
-stage-behind QuoteFront _ = (Dead, refl)
-stage-behind QuotePrefix n.BlockQuotePrefix = (AtLine, refl)
-stage-behind QuotePrefix _ = (Dead, refl)
-stage-behind ItemFront n.SpaceOrTab = (ItemPrefix, refl)
-stage-behind ItemFront n.ListItemPrefix = (AtLine, refl)
-stage-behind ItemFront _ = (Dead, refl)
-stage-behind ItemPrefix n.ListItemPrefix = (AtLine, refl)
-stage-behind ItemPrefix _ = (Dead, refl)
-stage-behind NoteFront n.SpaceOrTab = (NotePrefix, refl)
-stage-behind NoteFront n.GfmFootnoteDefinitionPrefix = (AtLine, refl)
-stage-behind NoteFront _ = (Dead, refl)
-stage-behind NotePrefix n.GfmFootnoteDefinitionPrefix = (AtLine, refl)
-stage-behind NotePrefix _ = (Dead, refl)
-stage-behind AtLine n.SpaceOrTab = (AtLine, refl)
-stage-behind AtLine n.BlockQuotePrefix = (AtLine, refl)
-stage-behind AtLine n.LineEnding = (AtLine, refl)
-stage-behind AtLine n.BlankLineEnding = (AtLine, refl)
-stage-behind AtLine n.BlockQuote = (BehindBlock, refl)
-stage-behind AtLine n.ListOrdered = (BehindBlock, refl)
-stage-behind AtLine n.ListUnordered = (BehindBlock, refl)
-stage-behind AtLine n.GfmFootnoteDefinition = (BehindBlock, refl)
-stage-behind AtLine n.HeadingAtx = (BehindBlock, refl)
-stage-behind AtLine n.HeadingSetext = (BehindBlock, refl)
-stage-behind AtLine n.ThematicBreak = (BehindBlock, refl)
-stage-behind AtLine n.CodeIndented = (BehindBlock, refl)
-stage-behind AtLine n.CodeFenced = (BehindBlock, refl)
-stage-behind AtLine n.MathFlow = (BehindBlock, refl)
-stage-behind AtLine n.HtmlFlow = (BehindBlock, refl)
-stage-behind AtLine n.Definition = (BehindBlock, refl)
-stage-behind AtLine n.Paragraph = (BehindBlock, refl)
-stage-behind AtLine n.GfmTable = (BehindBlock, refl)
-stage-behind AtLine _ = (Dead, refl)
+abbrev HasStage : Expression → Type 0
+HasStage x = (s : Stage) × (x ≡ left_at s)
+
+is-line : (x : Expression) → x ≡ blocks → HasStage x
+is-line x e = (AtLine, e)
+
+is-behind : (x : Expression) → x ≡ behind_block → HasStage x
+is-behind x e = (BehindBlock, e)
+
+is-dead : (x : Expression) → x ≡ Never → HasStage x
+is-dead x e = (Dead, e)
+
+-- behind a name that may be that of the prefix
+at-prefix : (same : Bool) → HasStage (or_else (and_then (cond same Nothing Never) blocks) Never)
+at-prefix true = (AtLine, refl)
+at-prefix false = (Dead, refl)
+
+-- at the begin of a line comes what leaves it there, or a block, or nothing
+line-behind : (name : Name) → HasStage (behind name blocks)
+line-behind n.SpaceOrTab = (AtLine, refl)
+line-behind _ = first_of (search is-line, search is-behind, search is-dead)
+
+stage-behind : (s : Stage) (name : Name) → HasStage (behind name (left_at s))
+stage-behind (AtFront prefix apart) n.SpaceOrTab =
+    let front : Bool → Expression =
+    λ same. or_else (Then (one prefix) blocks) (or_else (and_then (cond (same || false) Nothing Never) blocks) Never) in
+    (AtPrefix prefix apart, ap front apart.space)
+stage-behind (AtFront prefix apart) name = at-prefix (list_any (same_name name) (prefix ∷ []))
+stage-behind (AtPrefix prefix apart) name = at-prefix (list_any (same_name name) (prefix ∷ []))
+stage-behind AtLine name = line-behind name
 stage-behind BehindBlock n.LineEnding = (AtLine, refl)
 stage-behind BehindBlock n.BlankLineEnding = (AtLine, refl)
 stage-behind BehindBlock _ = (Dead, refl)
@@ -238,7 +233,7 @@ plain-never l is (Many x) h = never-then (behind l x) (Many x) (plain-never l is
 -- Both.
 
 abbrev pub IsTame : Expression → Type 0
-IsTame x = ((s : Stage) × (x ≡ left_at s)) ⊎ (is_plain x ≡ true)
+IsTame x = HasStage x ⊎ (is_plain x ≡ true)
 
 pub tame-behind : (name : Name) (x : Expression) → IsTame x → IsTame (behind name x)
 tame-behind name x (inl h) =
@@ -251,8 +246,24 @@ ListsWell x =
     ((behind n.ListOrdered x ≡ behind_block) ⊎ (behind n.ListOrdered x ≡ Never))
     × (behind n.ListUnordered x ≡ behind n.ListOrdered x) × (behind n.ListItem x ≡ Never)
 
+-- no list comes where the prefix must
+prefix-first : (same : Bool) → same ≡ false →
+    or_else (and_then (cond (same || false) Nothing Never) blocks) Never ≡ Never
+prefix-first same e =
+    ap (λ (same : Bool). or_else (and_then (cond (same || false) Nothing Never) blocks) Never) e
+
+prefix-lists : (prefix : Name) → IsOfNoList prefix → ListsWell (Then (one prefix) blocks)
+prefix-lists prefix apart =
+    let none = prefix-first (same_name n.ListOrdered prefix) apart.ordered in (
+      inr none,
+      prefix-first (same_name n.ListUnordered prefix) apart.unordered ∙ sym none,
+      prefix-first (same_name n.ListItem prefix) apart.item,
+    )
+
 stage-lists : (s : Stage) → ListsWell (left_at s)
 stage-lists AtLine = (inl refl, refl, refl)
+stage-lists (AtFront prefix apart) = prefix-lists prefix apart
+stage-lists (AtPrefix prefix apart) = prefix-lists prefix apart
 stage-lists _ = (inr refl, refl, refl)
 
 pub tame-lists : (x : Expression) → IsTame x → ListsWell x
@@ -271,23 +282,16 @@ tame-lists x (inr h) =
     let none : behind n.ListOrdered x ≡ Never = plain-never n.ListOrdered tt x h in
     (inr none, plain-never n.ListUnordered tt x h ∙ sym none, plain-never n.ListItem tt x h)
 
+-- a container in front of its first prefix
+tame-front : (prefix : Name) → IsOfNoList prefix →
+    IsTame (Then white (Then (one prefix) blocks))
+tame-front prefix apart = inl (AtFront prefix apart, refl)
+
+pub tame-item : IsTame (Then white (Then (one n.ListItemPrefix) blocks))
+tame-item = tame-front n.ListItemPrefix (record { space = refl; ordered = refl; unordered = refl; item = refl })
+
 -- what stands in a part that is no list is so
 pub tame-inside : (text : Expression) → is_plain text ≡ true → (name : Name) →
     IsTame (inside text name) ⊎ (in_place name ≡ n.ListItem)
-tame-inside text h n.BlockQuote = inl (inl (QuoteFront, refl))
-tame-inside text h n.ListItem = inl (inl (ItemFront, refl))
-tame-inside text h n.GfmFootnoteDefinition = inl (inl (NoteFront, refl))
-tame-inside text h n.ListOrdered = inr refl
-tame-inside text h n.ListUnordered = inr refl
-tame-inside text h n.GfmFootnoteDefinitionLabelString = inl (inr h)
-tame-inside text h n.HeadingAtxText = inl (inr h)
-tame-inside text h n.HeadingSetextText = inl (inr h)
-tame-inside text h n.CodeFencedFenceInfo = inl (inr h)
-tame-inside text h n.CodeFencedFenceMeta = inl (inr h)
-tame-inside text h n.MathFlowFenceMeta = inl (inr h)
-tame-inside text h n.DefinitionLabelString = inl (inr h)
-tame-inside text h n.DefinitionDestinationString = inl (inr h)
-tame-inside text h n.DefinitionTitleString = inl (inr h)
-tame-inside text h n.Paragraph = inl (inr h)
-tame-inside text h n.GfmTableCellText = inl (inr h)
-tame-inside text h _ = inl (inr refl)
+tame-inside text h n.ListItem = inl tame-item
+tame-inside text h _ = first_of (search (inl, inr), search (inl, tame-front))

@@ -14,7 +14,7 @@ use Rattle.md_containers.specs.QuoteRule.{indent_events}
 use Rattle.md_definition.specs.Containers.{is_bullet, is_digit}
 use Rattle.md_definition.specs.Leaves.{is_rule}
 use Rattle.md_definition.specs.Rest.{is_blank}
-use Rattle.md_definition.specs.State.{Container, InFootnote, InItem, InQuote}
+use Rattle.md_definition.specs.State.{Container, InItem}
 use Rattle.md_seam.specs.Ahead.{begins_white, line_bytes, white_end, white_rest, white_size}
 use Rattle.md_seam.specs.Events.Nested.{enter, exit, pair}
 use Rattle.md_seam.specs.Look.{first_seen}
@@ -138,15 +138,13 @@ item_further digits marker width blank cells p =
 -- How it is held: beside its kind its width, and whether it started blank.
 abbrev pub held_as : Held → Container → Held
 held_as held (InItem digits marker width blank) = record held { width = width; starts_blank = blank }
-held_as held InQuote = held
-held_as held (InFootnote label) = held
+held_as held _ = held
 
 -- What the tokenizer holds of an open one: so much, and an item is a column wide at least.
 abbrev pub item_holds : Held → Container → Type 0
 item_holds held (InItem digits marker width blank) =
     (held.width ≡ width) × (held.starts_blank ≡ blank) × (1 ≤ width)
-item_holds held InQuote = ⊥
-item_holds held (InFootnote label) = ⊥
+item_holds held _ = ⊥
 
 -- taken where it opens or goes on, and refused elsewhere
 abbrev pub item_by : Option ItemPassed → Here → Outcome

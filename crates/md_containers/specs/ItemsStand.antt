@@ -8,9 +8,10 @@ use Rattle.md_engine.specs.declared.event.Kind.{Kind}
 use Rattle.md_engine.specs.declared.event.Kind.TheVariants.{Enter, Exit}
 use Rattle.md_engine.specs.declared.event.Point.{Point}
 use Rattle.md_definition.specs.Containers.{is_bullet}
-use Rattle.md_seam.specs.Events.Spelled.{AsDigits, AsFootnoteLabel, AsItemMarker, AsParagraph, FootnoteShape, Holds}
-use Rattle.md_seam.specs.Events.Spelled.{IsEnding, IsPrefix, IsQuiet, ItemShape, Opens}
-use Rattle.md_seam.specs.Events.Spelled.{Purpose, QuoteShape, Role, Shape, Tells, is_ordered, role}
+use Rattle.md_seam.specs.Events.Spelled.{AsDigits, AsFootnoteLabel, AsItemMarker, FootnoteShape, Holds}
+use Rattle.md_seam.specs.Events.Spelled.{IsEnding, IsPrefix, IsQuiet, ItemShape, Opens, OrderedShape}
+use Rattle.md_seam.specs.Events.Spelled.{Purpose, Role, Shape, Tells, UnorderedShape, is_ordered, role}
+use Rattle.md_seam.specs.Events.Told.{OfItself, OfLeaf, Told, told_of}
 
 -- `*`, `+`, `-`, `.` and `)` are markers of items (CommonMark 5.2)
 abbrev pub is_list_marker : ℕ → Bool
@@ -28,7 +29,8 @@ pub data Inner : Type 0 where
   InLabel : Inner
   -- a leaf block
   InLeaf : Inner
-  InParagraph : Inner
+  -- a text that is a block of its own
+  InText : Inner
 
 pub record Site : Type 0 where
   -- for each container that is open, the innermost first, whether it is an item
@@ -52,18 +54,26 @@ IsBetween _ = ⊥
 
 -- a container that may be entered: no list
 abbrev pub IsHolder : Shape → Type 0
-IsHolder QuoteShape = Unit {0}
+IsHolder OrderedShape = ⊥
+IsHolder UnorderedShape = ⊥
 IsHolder (ItemShape marker digits) = marker ≡ 0
-IsHolder (FootnoteShape label) = Unit {0}
-IsHolder _ = ⊥
+IsHolder _ = Unit {0}
+
+abbrev pub IsForLeaf : Told → Type 0
+IsForLeaf OfLeaf = Unit {0}
+IsForLeaf _ = ⊥
 
 -- a text of a leaf block, and none that is a block or tells something of a container
 abbrev pub IsOfLeaf : Purpose → Type 0
-IsOfLeaf AsParagraph = ⊥
-IsOfLeaf AsDigits = ⊥
-IsOfLeaf AsItemMarker = ⊥
-IsOfLeaf AsFootnoteLabel = ⊥
-IsOfLeaf _ = Unit {0}
+IsOfLeaf purpose = IsForLeaf (told_of purpose)
+
+abbrev pub IsForItself : Told → Type 0
+IsForItself OfItself = Unit {0}
+IsForItself _ = ⊥
+
+-- a text that is a block of its own
+abbrev pub IsOfItself : Purpose → Type 0
+IsOfItself purpose = IsForItself (told_of purpose)
 
 -- what may stand in a leaf block
 abbrev pub IsPart : Role → Type 0
@@ -80,16 +90,16 @@ pub record IsMarkerAt (bytes : List ℕ) (p : Point) : Type 0 where
 -- whether a container of this shape is innermost
 abbrev pub Closes : List Bool → Shape → Type 0
 Closes [] shape = ⊥
-Closes (is_item ∷ held) QuoteShape = is_item ≡ false
-Closes (is_item ∷ held) (FootnoteShape label) = is_item ≡ false
 Closes (is_item ∷ held) (ItemShape marker digits) = is_item ≡ true
-Closes (is_item ∷ held) _ = ⊥
+Closes (is_item ∷ held) OrderedShape = ⊥
+Closes (is_item ∷ held) UnorderedShape = ⊥
+Closes (is_item ∷ held) _ = is_item ≡ false
 
 -- What may begin at a point.
 abbrev pub MayBegin : List ℕ → Point → Inner → Role → Type 0
 MayBegin bytes p AmongBlocks (Holds shape) = IsHolder shape
 MayBegin bytes p AmongBlocks (Opens kind) = Unit {0}
-MayBegin bytes p AmongBlocks (Tells AsParagraph) = Unit {0}
+MayBegin bytes p AmongBlocks (Tells purpose) = IsOfItself purpose
 MayBegin bytes p AmongBlocks role = IsBetween role
 MayBegin bytes p InFront IsQuiet = Unit {0}
 MayBegin bytes p InFront (Tells AsDigits) = Unit {0}
@@ -99,7 +109,7 @@ MayBegin bytes p (InMarker q) role = ⊥
 MayBegin bytes p InLabel (Tells AsFootnoteLabel) = Unit {0}
 MayBegin bytes p InLabel role = IsBetween role
 MayBegin bytes p InLeaf role = IsPart role
-MayBegin bytes p InParagraph role = IsBetween role
+MayBegin bytes p InText role = IsBetween role
 
 -- What may end at a point.
 abbrev pub MayEnd : List Bool → Point → Inner → Role → Type 0
@@ -114,15 +124,15 @@ MayEnd held p InLabel (Tells AsFootnoteLabel) = Unit {0}
 MayEnd held p InLabel role = IsBetween role
 MayEnd held p InLeaf (Opens kind) = Unit {0}
 MayEnd held p InLeaf role = IsPart role
-MayEnd held p InParagraph (Tells AsParagraph) = Unit {0}
-MayEnd held p InParagraph role = IsBetween role
+MayEnd held p InText (Tells purpose) = IsOfItself purpose
+MayEnd held p InText role = IsBetween role
 
 -- what is innermost behind a begin,
 abbrev pub inner_in : Point → Inner → Role → Inner
 inner_in p AmongBlocks (Holds (ItemShape marker digits)) = InFront
 inner_in p AmongBlocks (Holds (FootnoteShape label)) = InLabel
 inner_in p AmongBlocks (Opens kind) = InLeaf
-inner_in p AmongBlocks (Tells AsParagraph) = InParagraph
+inner_in p AmongBlocks (Tells purpose) = InText
 inner_in p InFront (Tells AsItemMarker) = InMarker p
 inner_in p inner role = inner
 
@@ -131,7 +141,7 @@ abbrev pub inner_behind : Inner → Role → Inner
 inner_behind (InMarker q) (Tells AsItemMarker) = AmongBlocks
 inner_behind InLabel (Tells AsFootnoteLabel) = AmongBlocks
 inner_behind InLeaf (Opens kind) = AmongBlocks
-inner_behind InParagraph (Tells AsParagraph) = AmongBlocks
+inner_behind InText (Tells purpose) = AmongBlocks
 inner_behind inner role = inner
 
 abbrev pub held_in : List Bool → Role → List Bool

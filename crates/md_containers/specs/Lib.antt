@@ -10,5 +10,5 @@ pub mod ListedWalk
 pub mod ItemsHeld
 pub mod PlainBullet
 pub mod PlainItem
-pub mod PlainPrefix
+pub mod QuotePrefix
 pub mod Unlisted

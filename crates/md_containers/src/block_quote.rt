@@ -11,7 +11,7 @@ ghost use Rattle.md_engine.specs.World.{world};
 ghost use Rattle.md_engine.specs.declared.state.Name.{Name as StateName};
 ghost use Rattle.md_engine.specs.declared.state.State.{State};
 ghost use Rattle.md_engine.specs.declared.state.block_quote.State.{State as QuoteState};
-ghost use Rattle.md_containers.specs.PlainPrefix.{IsPlainPrefix, prefixed};
+ghost use Rattle.md_containers.specs.QuotePrefix.{IsPlainPrefix, prefixed};
 ghost use Rattle.md_containers.specs.Quote.{cont_after_transition, cont_before_transition, cont_start_transition};
 ghost use Rattle.md_containers.specs.Quote.{may_begin, quote_transition, start_transition};
 ghost use Rattle.md_seam.specs.Look.{may_with};

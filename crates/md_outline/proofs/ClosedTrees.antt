@@ -10,7 +10,7 @@ use Rattle.md_definition.specs.State.{then_block}
 use Rattle.md_definition.specs.Texts.{first_byte}
 use Rattle.md_definition.specs.Tree.{Block, Blocks, End, Item, More}
 use Rattle.md_seam.specs.Events.Spelled.{Around, AsDigits, AsItemMarker, FootnoteShape, ItemShape, OrderedShape}
-use Rattle.md_seam.specs.Events.Spelled.{QuoteShape, Shape, UnorderedShape, block_around, is_ordered, list_marker}
+use Rattle.md_seam.specs.Events.Spelled.{Shape, UnorderedShape, block_around, is_ordered, list_marker}
 use Rattle.md_seam.specs.Events.Spelled.{named, on_shape}
 
 -- how many containers are open
@@ -83,11 +83,8 @@ first-word _ before a b e = refl
 -- whatever stands in it
 inside-word : (f : ℕ → Bool) (shape : Shape) (xs ys : Blocks) →
     list_marker f (More (block_around shape ys) End) ≡ list_marker f (More (block_around shape xs) End)
-inside-word f QuoteShape xs ys = refl
 inside-word f OrderedShape xs ys = refl
-inside-word f UnorderedShape xs ys = refl
-inside-word f (ItemShape m d) xs ys = refl
-inside-word f (FootnoteShape label) xs ys = refl
+inside-word f _ xs ys = refl
 
 around-word : (outer : List Around) (around : Around) (xs ys : Blocks) →
     SameWord outer (then_block around.before (block_around around.shape xs))
@@ -129,20 +126,23 @@ words-then outer here b h = words-stay outer here (then_block here b) (then-same
 
 -- Lines.
 
+-- a line in front of others
+in-front : (x : Entry) (xs ys zs : List Entry) → xs ≡ ys ++ zs → x ∷ xs ≡ (x ∷ ys) ++ zs
+in-front x xs ys zs h = ap (λ l. x ∷ l) h
+
 -- lines that are added to the innermost blocks are added to all
 inside-lines : (depth : ℕ) (shape : Shape) (xs ys : Blocks) (es : List Entry) →
     list_word shape ys ≡ list_word shape xs → outline (depth + 1) ys ≡ outline (depth + 1) xs ++ es →
     block_entries depth (block_around shape ys) ≡ block_entries depth (block_around shape xs) ++ es
-inside-lines depth QuoteShape xs ys es e h = ap (λ l. entry depth word.Quote ∷ l) h
 inside-lines depth OrderedShape xs ys es e h =
     ap (λ m. entry depth (word.List m) ∷ outline (depth + 1) ys) e
     ∙ ap (λ l. entry depth (word.List (list_marker is_ordered xs)) ∷ l) h
 inside-lines depth UnorderedShape xs ys es e h =
     ap (λ m. entry depth (word.List m) ∷ outline (depth + 1) ys) e
     ∙ ap (λ l. entry depth (word.List (list_marker is_bullet xs)) ∷ l) h
-inside-lines depth (ItemShape m d) xs ys es e h = ap (λ l. entry depth word.Item ∷ l) h
 inside-lines depth (FootnoteShape label) xs ys es e h =
     ap (λ l. entry depth word.Footnote ∷ entry_with (depth + 1) word.Label label ∷ l) h
+inside-lines depth _ xs ys es e h = in-front _ (outline (depth + 1) ys) (outline (depth + 1) xs) es h
 
 grown : (outer : List Around) (xs ys : Blocks) (es : List Entry) → SameWord outer xs ys →
     outline (depth_of outer) ys ≡ outline (depth_of outer) xs ++ es →

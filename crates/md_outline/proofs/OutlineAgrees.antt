@@ -27,7 +27,8 @@ use Rattle.md_outline.specs.Outlined.{begins_line, is_unparted, parts_by}
 use Rattle.md_outline.specs.OutlineSteps.{OutlineState, head_marked, leaf_ended, line_ended, parted_at}
 use Rattle.md_outline.specs.OutlineSteps.{state_by, state_enter, state_exit, told_at, told_leaf}
 use Rattle.md_outline.specs.OutlineSteps.{marked_at}
-use Rattle.md_outline.specs.ParagraphState.{begin_entries, text_block}
+use Rattle.md_outline.specs.ParagraphState.{begin_entries}
+use Rattle.md_seam.specs.Events.Told.{block_told}
 use Rattle.md_outline.specs.Roles.{is_plain, leaf_entries, noted, shown_as}
 use Rattle.md_outline.specs.TextLines.{full_entries}
 use Rattle.md_outline.specs.declared.outline.role.Note.{Note}
@@ -147,7 +148,7 @@ agrees-block bytes x p s r (Some span) (Some text) by h k is =
     subst (Agrees (told_at bytes purpose.Block p.index (Some span) s)) (sym (by.tree line (record r { text = None })))
     (record {
       depth = is.depth;
-      words = words-then r.outer r.here (text_block line.text) is.words;
+      words = words-then r.outer r.here (block_told line.text) is.words;
       untold = is.untold;
       leaf = is.leaf;
       lined = is.lined;
@@ -156,10 +157,10 @@ agrees-block bytes x p s r (Some span) (Some text) by h k is =
           pieces-last (shown r.outer r.here) s.depth s.lines span.is_parted text.front piece
           (sym (by.parted bytes p span) ∙ k) h.1
           ∙ ap
-          (λ i. shown r.outer r.here ++ block_entries s.depth (text_block (text.front ++ slice_range bytes i p.index)))
+          (λ i. shown r.outer r.here ++ block_entries s.depth (block_told (text.front ++ slice_range bytes i p.index)))
           (sym h.0)
-          ∙ ap (λ d. shown r.outer r.here ++ block_entries d (text_block line.text)) is.depth
-          ∙ sym (shown-then r.outer r.here (text_block line.text) is.words);
+          ∙ ap (λ d. shown r.outer r.here ++ block_entries d (block_told line.text)) is.depth
+          ∙ sym (shown-then r.outer r.here (block_told line.text) is.words);
     })
 
 -- a text that says something of a leaf

@@ -8,7 +8,8 @@ use Rattle.md_definition.specs.Outline.{Entry, block_entries, entry}
 use Rattle.md_seam.specs.Events.Places.{last_line}
 use Rattle.md_definition.specs.Rest.{is_blank}
 use Rattle.md_definition.specs.Texts.{split_lines}
-use Rattle.md_outline.specs.ParagraphState.{begin_entries, text_block}
+use Rattle.md_outline.specs.ParagraphState.{begin_entries}
+use Rattle.md_seam.specs.Events.Told.{block_told}
 use Rattle.md_outline.specs.TextLines.{full_entries, text_entries}
 use Rattle.md_outline.proofs.TextCuts.{piece-entries}
 
@@ -73,7 +74,7 @@ pieces-next before depth lines true front piece h blank k =
 pub pieces-last : (before : List Entry) (depth : ℕ) (lines : List Entry) (x : Bool) (front piece : List ℕ) →
     (not x || not (begins_with 10 piece)) ≡ true → Pieces before depth lines x front →
     (lines ++ begin_entries depth x) ++ text_entries (depth + 1) piece
-    ≡ before ++ block_entries depth (text_block (front ++ piece))
+    ≡ before ++ block_entries depth (block_told (front ++ piece))
 pieces-last before depth lines false front piece h k =
     ap (λ es. (es ++ entry depth word.Paragraph ∷ []) ++ text_entries (depth + 1) piece) k.0
     ∙ append_assoc before (entry depth word.Paragraph ∷ []) (text_entries (depth + 1) piece)

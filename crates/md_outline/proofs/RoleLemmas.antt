@@ -1,26 +1,24 @@
 -- What is needed of the blocks that an outline shows, by the kinds of their roles.
 --
 -- What is proved by these names no block.
-use Rattle.std.proofs.Common.{◌≡◌, ℕ, Bool, true, not, List, [], ◌∷◌, refl, sym, false, cond, length}
+use Rattle.std.proofs.Common.{◌≡◌, ℕ, Bool, true, not, List, [], ◌∷◌, refl, sym, subst, false, cond, length}
 use Rattle.std.specs.Prelude.{Option, Some, None, nat_lt}
 use Rattle.std.proofs.lemmas.Bool.{true≢false}
 use Rattle.md_engine.specs.declared.event.Point.{Point}
 use Rattle.md_definition.specs.declared.outline.Word.{Word}
-use Rattle.md_definition.specs.declared.outline.Word.TheVariants as word
 use Rattle.md_definition.specs.Outline.{block_entries, entry}
-use Rattle.md_seam.specs.Events.Spelled.{AsDigits, AsFootnoteLabel, AsHeading, AsItemMarker, AsMarkers, AsParagraph}
-use Rattle.md_seam.specs.Events.Spelled.{BreakLeaf, HeadingAtxLeaf, Holds, IsEnding, IsPrefix, IsQuiet, ItemShape}
-use Rattle.md_seam.specs.Events.Spelled.{LeafKind}
-use Rattle.md_seam.specs.Events.Spelled.{OfBreak, OfHeadingAtx, OpenLeaf, Opens, QuoteShape, Reading, Shape, Tells}
+use Rattle.md_seam.specs.Events.Spelled.{AsDigits, AsItemMarker, AsMarkers, CodeLeaf, Holds, IsEnding, IsPrefix}
+use Rattle.md_seam.specs.Events.Spelled.{IsQuiet, LeafKind, OfCode, OpenLeaf, Opens, OrderedShape, Reading, Shape}
+use Rattle.md_seam.specs.Events.Spelled.{Tells, UnorderedShape}
 use Rattle.md_seam.specs.Events.Spelled.{Text, add_block, at_ending, block_around, fresh, named, next_line, on_leaf}
 use Rattle.md_seam.specs.Events.Spelled.{on_shape, spelled, text_to}
 use Rattle.md_seam.specs.Events.Spelled as spelled
+use Rattle.md_seam.specs.Events.Told.{OfContainer, OfItself, OfLeaf, Told, block_told, told_of}
+use Rattle.md_seam.proofs.ToldLemmas.{told-block, told-named, told-noted}
 use Rattle.md_definition.specs.Tree.{Block, End, Line}
 use Rattle.md_outline.specs.Outlined.{begins_line, parts_exit, piece_to}
-use Rattle.md_outline.specs.ParagraphState.{text_block}
-use Rattle.md_outline.specs.Roles.{is_plain, leaf_of, noted, shown_as}
+use Rattle.md_outline.specs.Roles.{is_known, is_plain, leaf_of, noted, shown_as}
 use Rattle.md_outline.specs.declared.outline.role.Leaf.{Leaf}
-use Rattle.md_outline.specs.declared.outline.role.Leaf.TheVariants as leaf
 use Rattle.md_outline.specs.declared.outline.role.Note.{Note}
 use Rattle.md_outline.specs.declared.outline.role.Note.TheVariants as note
 use Rattle.md_outline.specs.declared.outline.role.Purpose.TheVariants as purpose
@@ -33,23 +31,19 @@ use Rattle.md_outline.proofs.ClosedTrees.{HasWord}
 
 -- those that an outline shows
 abbrev pub Knows : OpenLeaf → Type 0
-Knows BreakLeaf = Unit {0}
-Knows (HeadingAtxLeaf heading) = Unit {0}
-Knows _ = ⊥
+Knows leaf = is_known leaf ≡ true
 
 -- they stay so, whatever they are told
 pub knows-noted : (x : Note) (text : List ℕ) (leaf : OpenLeaf) → Knows leaf → Knows (noted x text leaf)
-knows-noted note.Markers text BreakLeaf k = tt
-knows-noted note.Markers text (HeadingAtxLeaf heading) k = tt
-knows-noted note.Title text BreakLeaf k = tt
-knows-noted note.Title text (HeadingAtxLeaf heading) k = tt
-knows-noted _ text _ k = absurd k
+knows-noted note.Markers text (CodeLeaf lines) k = k
+knows-noted note.Markers text _ k = k
+knows-noted _ text (CodeLeaf lines) k = k
+knows-noted _ text _ k = k
 
 -- and a line ending opens no line of them
 pub knows-line : (leaf : OpenLeaf) → Knows leaf → next_line leaf ≡ leaf
-knows-line BreakLeaf k = refl
-knows-line (HeadingAtxLeaf heading) k = refl
-knows-line _ k = absurd k
+knows-line (CodeLeaf lines) k = absurd (cc)
+knows-line _ k = cc
 
 -- Roles.
 
@@ -65,7 +59,7 @@ pub record IsBegun (kind : LeafKind) (l : Leaf) : Type 0 where
 
 -- A text that is a block of its own, and may be parted.
 pub record IsBlock (x : spelled.Purpose) : Type 0 where
-  pub tree : (line : Line) (r : Reading) → spelled.told x line r ≡ add_block (text_block line.text) r
+  pub tree : (line : Line) (r : Reading) → spelled.told x line r ≡ add_block (block_told line.text) r
   pub parted : (bytes : List ℕ) (p : Point) (text : Span) →
       parts_exit bytes (Tells x) p text ≡ begins_line text (piece_to bytes p text)
 
@@ -89,21 +83,17 @@ pub record ByRole (P : spelled.Role → Role → Type 0) : Type 0 where
 
 -- so it is known of all that are shown
 pub by-role : (P : spelled.Role → Role → Type 0) (x : spelled.Role) → ByRole P → is_plain x ≡ true → P x (shown_as x)
-by-role P (Holds QuoteShape) by h = by.container QuoteShape word.Quote (record { line = λ depth. refl; none = tt })
-by-role P (Holds (ItemShape marker digits)) by h =
-    by.container (ItemShape marker digits) word.Item (record { line = λ depth. refl; none = tt })
+by-role P (Holds OrderedShape) by h = absurd (cc)
+by-role P (Holds UnorderedShape) by h = absurd (cc)
+by-role P (Holds _) by h = first_of (cc, search (by.container))
 by-role P IsPrefix by h = by.prefix
-by-role P (Opens OfBreak) by h = by.begins OfBreak leaf.Break (record { same = refl; known = tt })
-by-role P (Opens OfHeadingAtx) by h =
-    by.begins OfHeadingAtx (leaf.Heading (record { markers = None; text = None })) (record { same = refl; known = tt })
-by-role P (Tells AsParagraph) by h =
-    by.block AsParagraph (record { tree = λ line r. refl; parted = λ bytes p text. refl })
+by-role P (Opens OfCode) by h = absurd (cc)
+by-role P (Opens _) by h = first_of (cc, search (by.begins))
 by-role P (Tells AsMarkers) by h =
     by.markers (record { tree = λ line r. refl; whole = λ bytes p text. refl })
-by-role P (Tells AsHeading) by h =
-    by.note AsHeading note.Title (record { tree = λ line r. refl; whole = λ bytes p text. refl })
 by-role P (Tells AsDigits) by h = by.digits
 by-role P (Tells AsItemMarker) by h = by.marker
+by-role P (Tells _) by h = first_of (cc, search (by.block), search (by.note))
 by-role P IsEnding by h = by.ending
 by-role P IsQuiet by h = by.quiet
 by-role P _ by h = absurd (true≢false (sym h))
@@ -119,11 +109,12 @@ pub record ByTold (P : Reading → Type 0) (r : Reading) : Type 0 where
 
 by-told : (P : Reading → Type 0) (x : spelled.Purpose) (line : Line) (r : Reading) → ByTold P r →
     P (spelled.told x line r)
-by-told P AsParagraph line r by = by.block (text_block line.text)
-by-told P AsDigits line r by = by.named (named AsDigits line.text)
-by-told P AsItemMarker line r by = by.named (named AsItemMarker line.text)
-by-told P AsFootnoteLabel line r by = by.named (named AsFootnoteLabel line.text)
-by-told P x line r by = by.noted (spelled.noted x line)
+by-told P x line r by = go (told_of x) refl
+  where
+    go : (t : Told) → told_of x ≡ t → P (spelled.told x line r)
+    go OfItself e = subst P (sym (told-block x e line r)) (by.block (block_told line.text))
+    go OfContainer e = subst P (sym (told-named x e line r)) (by.named (named x line.text))
+    go OfLeaf e = subst P (sym (told-noted x e line r)) (by.noted (spelled.noted x line))
 
 pub by-told_at : (P : Reading → Type 0) (bytes : List ℕ) (x : spelled.Purpose) (p : Point) (text : Option Text)
     (r : Reading) → P r → ByTold P (record r { text = None }) → P (spelled.told_at bytes x p text r)

@@ -2,12 +2,6 @@
 use Rattle.std.specs.Prelude.{ℕ, Bool, if◌then◌else◌, List, [], ◌∷◌}
 use Rattle.md_definition.specs.declared.outline.Word.TheVariants as word
 use Rattle.md_definition.specs.Outline.{Entry, entry}
-use Rattle.md_definition.specs.Texts.{split_lines, trim_each}
-use Rattle.md_definition.specs.Tree.{Block, Paragraph}
-
--- the block that a text is
-abbrev pub text_block : List ℕ → Block
-text_block text = Paragraph (trim_each (split_lines text))
 
 -- its begin, if it is not shown yet
 abbrev pub begin_entries : ℕ → Bool → List Entry

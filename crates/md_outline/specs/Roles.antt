@@ -1,17 +1,16 @@
 -- How an outline meets blocks: what the roles of event names mean to it, and what it knows of an open leaf block.
 --
--- A new block has its clauses in three files, here, in `outline/role.rt` and in `RoleLemmas`; what an outline knows and
--- shows of it stands in files of its own (as `HeadingState`).
+-- A new block has its clauses in two files, here and in `outline/role.rt`, and `RoleLemmas` goes by this table; what an
+-- outline knows and shows of a block stands in files of its own (as `HeadingState`).
 --
--- - A container that is shown by a word: `is_plain` and `shown_as` here, `role_of` in code, `by-role` in the lemmas.
+-- - A container that is shown by a word: `is_plain` and `shown_as` here, `role_of` in code.
 --   A list is shown with the marker of its first item, which its line is told later: so it is `is_shown` alone, and has
 --   `mark` in code, and `ListsBegin` and `ListLemmas`.
--- - A leaf block: the same three, and what is known of it: `leaf_of` here, `Leaf` with `noted` and `push_leaf` in code,
---   `Knows` with its two laws in the lemmas.
+-- - A leaf block: the same, and what is known of it: `leaf_of` and `is_known` here, `Leaf` with `noted` and `push_leaf`
+--   in code.
 -- - A leaf block of several lines (`has_lines`): `is_shown` and `shown_as` here, `role_of` in code; its lines are shown
 --   as they come (`LinedState`), where they may (`LinesStand`), and `LinedLemmas` has what is proved of it.
--- - A text that tells a leaf block something: the same three, and `told_as` here, `Note` in code, `knows-noted` in the
---   lemmas.
+-- - A text that tells a leaf block something: the same, and `told_as` here, `Note` in code.
 use Rattle.std.specs.Prelude.{ℕ, Bool, true, false, List, None}
 use Rattle.md_definition.specs.declared.outline.Word.TheVariants as word
 use Rattle.md_definition.specs.Outline.{Entry, block_entries}
@@ -21,6 +20,8 @@ use Rattle.md_seam.specs.Events.Spelled.{HeadingAtxLeaf, Holds, IsEnding, IsPref
 use Rattle.md_seam.specs.Events.Spelled.{OfHeadingAtx, OpenLeaf, Opens, OrderedShape, QuoteShape, Tells}
 use Rattle.md_seam.specs.Events.Spelled.{UnorderedShape, block_of}
 use Rattle.md_seam.specs.Events.Spelled as spelled
+use Rattle.md_seam.specs.Events.Told.{OfItself, told_of}
+pub use Rattle.md_seam.specs.Events.Told.{is_told}
 use Rattle.md_outline.specs.HeadingDepths.{fitted}
 use Rattle.md_outline.specs.HeadingState.{heading_of}
 use Rattle.md_outline.specs.declared.outline.role.Leaf.{Leaf}
@@ -71,15 +72,9 @@ is_shown (Tells AsInfo) = true
 is_shown (Tells AsMeta) = true
 is_shown x = is_listed x
 
--- what a text is read from
-abbrev pub is_told : spelled.Role → Bool
-is_told (Tells purpose) = true
-is_told _ = false
-
 -- the texts that are blocks of their own
 abbrev pub is_block : spelled.Purpose → Bool
-is_block AsParagraph = true
-is_block _ = false
+is_block purpose = elim (told_of purpose) [ OfItself ↦ true | _ ↦ false ]
 
 -- what the events of a name mean to an outline
 abbrev pub shown_as : spelled.Role → Role
@@ -109,6 +104,12 @@ shown_as _ = role.Quiet
 abbrev pub leaf_of : Leaf → OpenLeaf
 leaf_of leaf.Break = BreakLeaf
 leaf_of (leaf.Heading heading) = HeadingAtxLeaf (heading_of heading)
+
+-- the leaf blocks that are shown as they end, with what is known of them by then
+abbrev pub is_known : OpenLeaf → Bool
+is_known BreakLeaf = true
+is_known (HeadingAtxLeaf heading) = true
+is_known _ = false
 
 -- what a text tells a leaf block, as the tree reads it
 abbrev pub told_as : Note → spelled.Purpose

@@ -9,15 +9,16 @@ use Rattle.md_engine.specs.declared.event.Kind.{Kind}
 use Rattle.md_engine.specs.declared.event.Kind.TheVariants.{Enter, Exit}
 use Rattle.md_engine.specs.declared.event.Name.{Name}
 use Rattle.md_engine.specs.declared.event.Name.TheVariants as n
-use Rattle.md_seam.specs.Events.Spelled.{Reading, Text, Purpose, AsParagraph, AsHeading, AsInfo, AsMeta, AsLabel}
-use Rattle.md_seam.specs.Events.Spelled.{AsDestination, AsTitle, AsCell, AsFootnoteLabel, Role, Tells, IsQuiet}
+use Rattle.md_seam.specs.Events.Spelled.{Reading, Text, Purpose, Role, Tells, IsQuiet}
 use Rattle.md_seam.specs.Events.Spelled.{IsPrefix, role, begun, before_prefix, after_prefix, read_by, read, unread}
 use Rattle.md_seam.specs.Events.Spelled.{spelled}
 use Rattle.md_seam.specs.Events.Inline.{is_linked, is_inline}
 use Rattle.md_seam.specs.Events.Tiles.{stands_in_part, is_data, is_part, is_chunk, depth_behind, chunks_stand}
 use Rattle.md_seam.specs.Events.Tiles.{first_list, further_lists, filled_from, filled}
+use Rattle.md_seam.specs.Events.Told.{is_told}
 use Rattle.md_seam.specs.Events.Nested.{is_exit}
 use Rattle.md_seam.proofs.SpelledLemmas.{Roles, QuietOrPrefix, QuietOrEnding, read-append, read-inline}
+use Rattle.md_seam.proofs.ToldLemmas.{told-role}
 
 -- Names.
 
@@ -31,27 +32,18 @@ inline-role n.Data h = tt
 inline-role _ h = cc
 
 -- the slice of a text part is read
+part-told : (name : Name) → is_part name ≡ true → is_told (role name) ≡ true
+part-told n.Data h = cc
+part-told _ h = cc
+
 pub part-tells : (name : Name) → is_part name ≡ true → (purpose : Purpose) × (role name ≡ Tells purpose)
-part-tells n.Paragraph h = (AsParagraph, refl)
-part-tells n.HeadingAtxText h = (AsHeading, refl)
-part-tells n.HeadingSetextText h = (AsHeading, refl)
-part-tells n.GfmTableCellText h = (AsCell, refl)
-part-tells n.CodeFencedFenceInfo h = (AsInfo, refl)
-part-tells n.CodeFencedFenceMeta h = (AsMeta, refl)
-part-tells n.MathFlowFenceMeta h = (AsMeta, refl)
-part-tells n.DefinitionLabelString h = (AsLabel, refl)
-part-tells n.DefinitionDestinationString h = (AsDestination, refl)
-part-tells n.DefinitionTitleString h = (AsTitle, refl)
-part-tells n.GfmFootnoteDefinitionLabelString h = (AsFootnoteLabel, refl)
-part-tells _ h = cc
+part-tells name h = told-role (role name) (part-told name h)
 
 -- what stands inside a text part is quiet, or a container prefix
 pub stands-role : (kind : Kind) (name : Name) → stands_in_part kind name ≡ true → QuietOrPrefix (role name)
 stands-role Exit n.Data h = tt
 stands-role kind n.SpaceOrTab h = tt
-stands-role kind n.BlockQuotePrefix h = tt
-stands-role kind n.BlockQuoteMarker h = tt
-stands-role kind _ h = cc
+stands-role kind _ h = first_of (search, cc)
 
 data-role : (name : Name) → is_data name ≡ true → role name ≡ IsQuiet
 data-role n.Data h = refl

@@ -8,7 +8,7 @@ use Rattle.md_engine.specs.World.{World, after}
 use Rattle.md_engine.proofs.Points.{cells-fall}
 use Rattle.md_engine.proofs.StayLemmas.{seen-inside}
 use Rattle.md_containers.specs.Quote.{may_begin}
-use Rattle.md_containers.proofs.PlainPrefix.{HasQuote, prefix-run}
+use Rattle.md_containers.proofs.QuotePrefix.{HasQuote, prefix-run}
 use Rattle.md_seam.specs.Look.{behind_code, first_behind, looks_behind, may_with}
 use Rattle.md_seam.specs.Spaces.{ends_line}
 use Rattle.md_seam.specs.Transition.{Transition}

@@ -9,7 +9,7 @@ use Rattle.md_engine.specs.declared.state.document.State.TheVariants as document
 use Rattle.md_engine.specs.declared.tokenizer.container.name.ContainerKind.TheVariants as kind
 use Rattle.md_engine.specs.Meaning.{Cell}
 use Rattle.md_engine.specs.World.{container_of}
-use Rattle.md_containers.specs.PlainPrefix.{IsPlainPrefix, prefixed}
+use Rattle.md_containers.specs.QuotePrefix.{IsPlainPrefix, prefixed}
 use Rattle.md_containers.specs.Quote.{may_begin}
 use Rattle.md_containers.specs.QuoteRule.{prefix_at, prefix_end, prefix_events, prefix_rest, quote_at, takes_prefix}
 use Rattle.md_seam.specs.Events.Nested.{enter}

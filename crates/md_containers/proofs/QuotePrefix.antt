@@ -13,7 +13,7 @@ use Rattle.md_engine.specs.Run.{Step, reading}
 use Rattle.md_engine.specs.World.{World, looks}
 use Rattle.md_engine.proofs.Loops.{CameTo}
 use Rattle.md_engine.proofs.Walks.{Within, then-holds, then-stays, then-takes, within-more, within-one}
-use Rattle.md_containers.specs.PlainPrefix.{IsPlainPrefix, prefixed}
+use Rattle.md_containers.specs.QuotePrefix.{IsPlainPrefix, prefixed}
 use Rattle.md_containers.specs.Quote.{cont_after_code, cont_before_code, cont_start_code, quote_transition}
 use Rattle.md_seam.specs.Events.Nested.{enter, exit}
 use Rattle.md_seam.specs.Spaces.{is_current, sees_white}
