@@ -19,6 +19,7 @@ pub mod RowKinds
 pub mod Openers
 pub mod OpensAtOnce
 pub mod OutsideFacts
+pub mod SpannedFacts
 pub mod BetweenFacts
 pub mod PartedFacts
 pub mod Reached
@@ -70,6 +71,7 @@ pub mod Registers
 pub mod StatesRegister
 pub mod JoinedLemmas
 pub mod GroupLemmas
+pub mod SpannedGroups
 pub mod Text
 pub mod Span
 pub mod ShallowBlocks
