@@ -19,6 +19,7 @@ pub mod RowKinds
 pub mod Openers
 pub mod OpensAtOnce
 pub mod OutsideFacts
+pub mod SpannedFacts
 pub mod BetweenFacts
 pub mod PartedFacts
 pub mod Reached
@@ -71,6 +72,7 @@ pub mod StatesRegister
 pub mod JoinedLemmas
 pub mod GroupLemmas
 pub mod GroupsAre
+pub mod SpannedGroups
 pub mod Text
 pub mod Span
 pub mod ShallowBlocks
