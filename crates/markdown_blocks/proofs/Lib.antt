@@ -16,6 +16,7 @@ pub mod SpanLemmas
 pub mod ContentFacts
 pub mod LineTexts
 pub mod RowKinds
+pub mod OpenSpan
 pub mod Openers
 pub mod OpensAtOnce
 pub mod OutsideFacts
@@ -79,6 +80,8 @@ pub mod ShallowBlocks
 pub mod RegistryFound
 pub mod Paragraph
 pub mod LineSteps
+pub mod StepBehind
+pub mod LastLine
 pub mod PlainRoles
 pub mod SpelledParagraphs
 pub mod SpelledRows

@@ -1,66 +1,156 @@
 -- What one line does to the containers and the text that are open, where only leaves that are built may be on.
-use Rattle.markdown_blocks.specs.HeldLeaf.{takes_lazy}
+use Rattle.markdown_blocks.specs.HeldLeaf.{has_lines, takes_lazy}
 use Rattle.md_engine.specs.declared.tokenizer.held_leaf.HeldLeaf.TheVariants as held_leaf
 use Rattle.md_engine.specs.declared.tokenizer.held_leaf.HeldLeaf.{HeldLeaf}
-use Rattle.std.proofs.Common.{◌≡◌, ℕ, zero, suc, ◌+◌, ◌≤◌, Bool, true, false, cond, ◌&&◌, ◌||◌, List, [], ◌∷◌, ◌++◌}
-use Rattle.std.proofs.Common.{length, refl, ap, sym, ◌∙◌, subst, append-nil, arith}
+use Rattle.std.proofs.Common.{◌≡◌, ℕ, zero, suc, ◌≤◌, Bool, true, false, cond, ◌&&◌, ◌||◌, List, [], ◌∷◌, ◌++◌}
+use Rattle.std.proofs.Common.{length, refl, ap, sym, ◌∙◌, arith}
 use Rattle.std.specs.Prelude.{Option, Some, None}
 use Rattle.std.specs.Option.{is_some}
-use Rattle.std.proofs.lemmas.Bool.{and_parts}
 use Rattle.md_engine.specs.declared.configuration.ParseOptions.{ParseOptions}
 use Rattle.md_definition.specs.Containers.{Taken, continues, opens}
-use Rattle.md_definition.specs.Leaves.{Came, LazyText, NoText, Text, with_line}
+use Rattle.md_definition.specs.Leaves.{Came, LazyText, NoText, Opened, Text, goes_on, with_line}
 use Rattle.md_definition.specs.Rest.{Rest, is_blank}
-use Rattle.md_definition.specs.State.{At, Container, Kept, Leaf, Path, Spot, Within, at_spot, closed, container_block}
-use Rattle.md_definition.specs.State.{kept, shut, spot, texts, then_block}
-use Rattle.md_definition.specs.Step.{all_continued, all_continued_by, entered, fresh_by, fresh_line, is_concrete}
-use Rattle.md_definition.specs.Step.{is_open_text, lazy_by, leaf_line, opened, spot_of, step, stopped, stopped_by}
+use Rattle.md_definition.specs.State.{At, Container, Kept, Leaf, NoLeaf, OpenParagraph, Path, Spot, Within, at_spot}
+use Rattle.md_definition.specs.State.{closed, container_block, kept, shut, spot, texts, then_block, then_leaf}
+use Rattle.md_definition.specs.Step.{all_continued, all_continued_by, came, entered, fresh_by, fresh_line, is_concrete}
+use Rattle.md_definition.specs.Step.{is_open_text, lazy_by, leaf_line, leaf_line_by, on_or_fresh, opened, spot_of, step}
+use Rattle.md_definition.specs.Step.{stopped, stopped_by}
 use Rattle.md_definition.specs.Step.{text_by, text_line, with_lazy}
 use Rattle.md_definition.specs.Tree.{Blocks, End}
 use Rattle.md_definition.proofs.ColumnLemmas.{opened_by, step_by}
 use Rattle.md_definition.proofs.ContainerLemmas.{opens-leaves}
 use Rattle.md_definition.proofs.TakenLemmas.{LeavesFewer}
-use Rattle.markdown_blocks.specs.Change.{Change, change_by, interrupts, is_none, met, open_behind, others_of}
+use Rattle.markdown_blocks.specs.Change.{Change, change_by, interrupts, is_none, met, others_of}
 use Rattle.markdown_blocks.specs.Fronted.{Contained, Prefixed, contained, no_prefix, one_more, prefixes_new}
-use Rattle.markdown_blocks.specs.Fronted.{contained_of, prefixes_behind, prefixes_on}
+use Rattle.markdown_blocks.specs.Fronted.{prefixes_behind, prefixes_on}
 use Rattle.markdown_blocks.specs.Parsed.{IsBuilt}
-use Rattle.markdown_blocks.specs.Registry.{LeafName, insider, leaf, text_leaf}
-use Rattle.markdown_blocks.specs.Rows.{BlankRow, LeafRow, RowKind, TextRow, is_lazy, is_text, kind_of, line_behind}
-use Rattle.markdown_blocks.specs.Rows.{line_kind}
+use Rattle.markdown_blocks.specs.Registry.{LeafName, first_of, insider, leaf, text_leaf, trials}
+use Rattle.markdown_blocks.specs.Rows.{BlankRow, LeafRow, RowKind, TextRow, inside_or, is_further, is_lazy}
+use Rattle.markdown_blocks.specs.Rows.{kind_of, line_kind}
 use Rattle.markdown_blocks.specs.HeldLeaf.{IsBuiltLeaf, kind_of_leaf, met_by}
 use Rattle.markdown_blocks.specs.Stands.{IsPlain, containers_of, still_of}
 use Rattle.markdown_blocks.specs.Leaf.Paragraph.{held_of}
-use Rattle.markdown_blocks.proofs.ContainedLemmas.{change-opens, contained-size, lazy-opens, lazy-some}
-use Rattle.markdown_blocks.proofs.KindLemmas.{kind-plain}
-use Rattle.markdown_blocks.proofs.Registry.{came_of, insider-none, insider-text, laws, leaf-ends, leaf_at, text-laws}
+use Rattle.markdown_blocks.proofs.ContainedLemmas.{change-opens, lazy-some}
+use Rattle.markdown_blocks.proofs.KindLemmas.{kind-plain, kind-starts}
+use Rattle.markdown_blocks.proofs.OpenSpan.{AllBegin, OpenSpan}
+use Rattle.markdown_blocks.proofs.Registry.{came_of, insider-none, insider-text, laws, leaf_at, open-span, text-laws}
+use Rattle.markdown_blocks.proofs.Registry.{trials-begin}
 use Rattle.markdown_blocks.proofs.RegistryFound.{starts-found, table-off, underline-off}
+
+-- Leaves of several lines.
+
+-- a line that meets none goes on none
+pub none-further : (options : ParseOptions) (on : HeldLeaf) (r : Rest) → has_lines on ≡ false →
+    is_further (line_kind options on r) on ≡ false
+none-further options on r none = go (line_kind options on r) refl
+  where
+    not : (l : LeafName) (x : Bool) → (leaf l).further on ≡ x → (leaf l).starts options on r ≡ true → x ≡ false
+    not l true e starts = let lines = (laws l).meets options on r starts e in cc
+    not l false e starts = refl
+
+    go : (kind : RowKind) → line_kind options on r ≡ kind → is_further kind on ≡ false
+    go BlankRow e = refl
+    go (LeafRow l) e = not l ((leaf l).further on) refl (kind-starts options on r l e)
+    go TextRow e = refl
+
+-- no line goes on one lazily, and none is met where its containers did not go on
+lines-unlazy : (still : HeldLeaf) (opens : List Container) (kind : RowKind) → has_lines still ≡ true →
+    is_lazy still opens kind ≡ false
+lines-unlazy held_leaf.None opens kind lines = cc
+lines-unlazy held_leaf.Text opens kind lines = cc
+lines-unlazy held_leaf.Code opens kind lines = refl
+lines-unlazy (held_leaf.Fence marker size indent) opens kind lines = refl
+
+met-none : (still : HeldLeaf) → has_lines still ≡ true → met_by false still ≡ held_leaf.None
+met-none held_leaf.None lines = cc
+met-none held_leaf.Text lines = cc
+met-none held_leaf.Code lines = refl
+met-none (held_leaf.Fence marker size indent) lines = refl
+
+ended-lines : (still : HeldLeaf) → has_lines (met_by false still) ≡ false
+ended-lines held_leaf.None = refl
+ended-lines held_leaf.Text = refl
+ended-lines held_leaf.Code = refl
+ended-lines (held_leaf.Fence marker size indent) = refl
+
+met-all : (still : HeldLeaf) → met_by true still ≡ still
+met-all still = go (takes_lazy still)
+  where
+    go : (x : Bool) → cond (x || true) still held_leaf.None ≡ still
+    go true = refl
+    go false = refl
+
+-- one in which no container opens goes on or ends, and takes no lazy line
+concrete-line : (options : ParseOptions) (s : Spot) (r : Rest) (open_leaf : Leaf) → is_concrete open_leaf ≡ true →
+    leaf_line_by options s r open_leaf ≡ on_or_fresh options s r (goes_on options open_leaf r)
+concrete-line options s r NoLeaf e = cc
+concrete-line options s r (OpenParagraph lines) e = cc
+concrete-line options s r open_leaf e = refl
+
+concrete-lazy : (options : ParseOptions) (r : Rest) (open_leaf : Leaf) → is_concrete open_leaf ≡ true →
+    with_lazy options open_leaf r ≡ None
+concrete-lazy options r (OpenParagraph lines) e = cc
+concrete-lazy options r open_leaf e = refl
 
 -- Lines, one after another.
 
--- what is open behind a line of this kind
-abbrev pub spot_by : Blocks → List Kept → Rest → RowKind → Spot
-spot_by bs held r BlankRow = spot_of (text_leaf.behind bs (texts held))
-spot_by bs held r (LeafRow l) = spot_of (then_block (text_leaf.behind bs (texts held)) ((leaf l).block r))
-spot_by bs held r TextRow = with_line bs held r
+-- what is open behind a line of this kind, where nothing was but this text
+abbrev pub spot_by : ParseOptions → Blocks → List Kept → Rest → RowKind → Spot
+spot_by options bs held r BlankRow = spot_of (text_leaf.behind bs (texts held))
+spot_by options bs held r (LeafRow l) = came (text_leaf.behind bs (texts held)) ((leaf l).comes options NoLeaf r)
+spot_by options bs held r TextRow = with_line bs held r
 
--- a line where nothing is open
-pub fresh-found : (options : ParseOptions) (bs : Blocks) (r : Rest) → IsBuilt options →
-    fresh_line options bs r ≡ spot_by bs [] r (line_kind options held_leaf.None r)
+-- the kind of a line that does not go on the leaf that it meets
+abbrev pub plain_kind : ParseOptions → HeldLeaf → Rest → RowKind
+plain_kind options on r = cond (is_blank r.bytes) BlankRow (kind_of (leaf_at options on r))
+
+-- where a leaf is asked first, a line goes on it, or is another
+pub asked-kind : (options : ParseOptions) (on : HeldLeaf) (r : Rest) (l : LeafName) → insider on ≡ Some l →
+    line_kind options on r ≡ cond ((leaf l).starts options on r) (LeafRow l) (plain_kind options on r)
+asked-kind options on r l e =
+    ap
+    (λ (o : Option LeafName). inside_or (λ k. (leaf k).starts options on r) o (plain_kind options on r)) e
+
+-- and another goes on no leaf
+found-begins : (on : HeldLeaf) (test : LeafName → Bool) (ls : List LeafName) → AllBegin ls →
+    is_further (kind_of (first_of test ls)) on ≡ false
+found-begins on test [] all = refl
+found-begins on test (l ∷ ls) all = go (test l) (found-begins on test ls all.1)
+  where
+    go : (x : Bool) → is_further (kind_of (first_of test ls)) on ≡ false →
+        is_further (kind_of (cond x (Some l) (first_of test ls))) on ≡ false
+    go true below = all.0 on
+    go false below = below
+
+pub plain-begins : (options : ParseOptions) (on : HeldLeaf) (r : Rest) → is_further (plain_kind options on r) on ≡ false
+plain-begins options on r = go (is_blank r.bytes)
+  where
+    go : (x : Bool) → is_further (cond x BlankRow (kind_of (leaf_at options on r))) on ≡ false
+    go true = refl
+    go false = found-begins on (λ l. (leaf l).starts options on r) trials trials-begin
+
+-- a line where nothing is open, or what was open has ended
+fresh-plain : (options : ParseOptions) (on : HeldLeaf) (bs : Blocks) (r : Rest) → IsBuilt options →
+    fresh_line options bs r ≡ spot_by options bs [] r (plain_kind options on r)
 unfolding fresh_line
-fresh-found options bs r built =
-    rw (starts-found options held_leaf.None NoText r built)
-    (go (is_blank r.bytes) (leaf_at options held_leaf.None r)
-    ∙ ap (spot_by bs [] r) (sym (kind-plain options held_leaf.None r insider-none)))
+fresh-plain options on bs r built =
+    rw (starts-found options on NoText r built) (go (is_blank r.bytes) (leaf_at options on r))
   where
     go : (x : Bool) (o : Option LeafName) →
-        cond x (spot_of bs) (fresh_by bs r (came_of r o)) ≡ spot_by bs [] r (cond x BlankRow (kind_of o))
+        cond x (spot_of bs) (fresh_by bs r (came_of options r o)) ≡ spot_by options bs [] r (cond x BlankRow (kind_of o))
     go true o = refl
     go false (Some l) = refl
     go false None = refl
 
+pub fresh-found : (options : ParseOptions) (bs : Blocks) (r : Rest) → IsBuilt options →
+    fresh_line options bs r ≡ spot_by options bs [] r (line_kind options held_leaf.None r)
+fresh-found options bs r built =
+    fresh-plain options held_leaf.None bs r built
+    ∙ ap (spot_by options bs [] r) (sym (kind-plain options held_leaf.None r insider-none))
+
 -- a line where text is open
 text-found : (options : ParseOptions) (bs : Blocks) (lines : List Kept) (k : Kept) (r : Rest) → IsBuilt options →
-    text_line options bs (k ∷ lines) r ≡ spot_by bs (k ∷ lines) r (line_kind options held_leaf.Text r)
+    text_line options bs (k ∷ lines) r ≡ spot_by options bs (k ∷ lines) r (line_kind options held_leaf.Text r)
 unfolding text_line
 text-found options bs lines k r built =
     rw (
@@ -69,14 +159,15 @@ text-found options bs lines k r built =
       text-laws.shut options bs (k ∷ lines) built.definition,
     )
     (go (is_blank r.bytes) (leaf_at options held_leaf.Text r)
-    ∙ ap (spot_by bs (k ∷ lines) r) (sym (kind-plain options held_leaf.Text r insider-text)))
+    ∙ ap (spot_by options bs (k ∷ lines) r) (sym (kind-plain options held_leaf.Text r insider-text)))
   where
     go : (x : Bool) (o : Option LeafName) →
-        cond x (spot_of (text_leaf.behind bs (texts (k ∷ lines)))) (text_by options bs (k ∷ lines) r (came_of r o)) ≡
-        spot_by bs (k ∷ lines) r (cond x BlankRow (kind_of o))
+        cond x (spot_of (text_leaf.behind bs (texts (k ∷ lines))))
+        (text_by options bs (k ∷ lines) r (came_of options r o)) ≡
+        spot_by options bs (k ∷ lines) r (cond x BlankRow (kind_of o))
     go true o = refl
     go false (Some l) =
-        ap (λ (x : Blocks). spot_of (then_block x ((leaf l).block r)))
+        ap (λ (x : Blocks). came x ((leaf l).comes options NoLeaf r))
         (text-laws.shut options bs (k ∷ lines) built.definition)
     go false None = rw (table-off options bs (k ∷ lines) r built) refl
 
@@ -165,17 +256,29 @@ behind_path (Within before container p) f = Within before container (behind_path
 
 -- these new containers, and in the innermost a line of its kind, where it meets this leaf
 abbrev pub new_line : ParseOptions → HeldLeaf → List Container → Rest → Blocks → Path
-new_line options on [] r bs = At (spot_by bs [] r (line_kind options on r))
+new_line options on [] r bs = At (spot_by options bs [] r (line_kind options on r))
 new_line options on (c ∷ cs) r bs = Within bs c (new_line options on cs r End)
 
+-- what an open leaf comes to with a line of this kind
+abbrev pub come_by : ParseOptions → Leaf → Rest → RowKind → Came
+come_by options open_leaf r (LeafRow l) = (leaf l).comes options open_leaf r
+come_by options open_leaf r kind = Opened open_leaf
+
+-- with what the innermost leaf came to
+abbrev pub with_came : Path → Came → Path
+with_came (At s) c = At (came s.here c)
+with_came (Within before container p) c = Within before container (with_came p c)
+
 -- What a line does where these containers went on, and these open on it: it goes on the open text, and all containers
--- stay, or all else is closed, and it begins in the new ones.
+-- stay; or it goes on the open leaf of several lines; or all else is closed, and it begins in the new containers.
 abbrev pub stepped : ParseOptions → Path → List Container → Prefixed → Path
 stepped options p went new =
     let on = met (still_of p) (others_of (containers_of p) went) new.containers in
-    cond (is_lazy (still_of p) new.containers (line_kind options on new.rest))
+    let kind = line_kind options on new.rest in
+    cond (is_lazy (still_of p) new.containers kind)
     (longer (renewed (went ++ others_of (containers_of p) went) p) (kept new.rest ∷ []))
-    (behind_path (kept_to options went p) (new_line options on new.containers new.rest))
+    (cond (is_further kind on) (with_came (renewed went p) (come_by options (spot p).leaf new.rest kind))
+    (behind_path (kept_to options went p) (new_line options on new.containers new.rest)))
 
 renewed-same : (p : Path) → renewed (containers_of p) p ≡ p
 renewed-same (At s) = refl
@@ -190,11 +293,21 @@ stepped-more : (options : ParseOptions) (p : Path) (went : List Container) (c : 
     stepped options p went (one_more c new) ≡
     behind_path (kept_to options went p) (new_line options held_leaf.None (c ∷ new.containers) new.rest)
 stepped-more options p went c new =
-    ap
-    (λ (x : Bool).
-    cond x (longer (renewed (went ++ others_of (containers_of p) went) p) (kept new.rest ∷ []))
-    (behind_path (kept_to options went p) (new_line options held_leaf.None (c ∷ new.containers) new.rest)))
-    (lazy-some (still_of p) c new.containers (line_kind options held_leaf.None new.rest))
+    ap (λ (x : Bool). cond x lazy (cond (is_further kind held_leaf.None) further other))
+    (lazy-some (still_of p) c new.containers kind)
+    ∙ ap (λ (x : Bool). cond x further other) (none-further options held_leaf.None new.rest refl)
+  where
+    kind : RowKind
+    kind = line_kind options held_leaf.None new.rest
+
+    lazy : Path
+    lazy = longer (renewed (went ++ others_of (containers_of p) went) p) (kept new.rest ∷ [])
+
+    further : Path
+    further = with_came (renewed went p) (come_by options (spot p).leaf new.rest kind)
+
+    other : Path
+    other = behind_path (kept_to options went p) (new_line options held_leaf.None (c ∷ new.containers) new.rest)
 
 -- the containers that open in a new one
 opened-new : (options : ParseOptions) (n : ℕ) (r : Rest) → IsBuilt options →
@@ -222,63 +335,180 @@ entered-new options bs t built = ap (Within bs t.container) (opened-new options 
 -- One line.
 
 -- where all containers go on, and none opens
-leaf-stepped : (options : ParseOptions) (bs : Blocks) (leaf : Leaf) (r : Rest) → IsBuilt options → IsBuiltLeaf leaf →
-    At (leaf_line options (record { here = bs; leaf = leaf }) r) ≡
-    stepped options (At (record { here = bs; leaf = leaf })) [] (no_prefix r)
-leaf-stepped options bs leaf r built plain =
-    text-laws.cases
-    (λ (leaf : Leaf).
-    At (leaf_line options (record { here = bs; leaf = leaf }) r) ≡
-    stepped options (At (record { here = bs; leaf = leaf })) [] (no_prefix r)) (ap At (fresh-found options bs r built))
-    text leaf plain
+abbrev IsStepped : ParseOptions → Blocks → Rest → Leaf → Type 0
+IsStepped options bs r open_leaf =
+    At (leaf_line options (record { here = bs; leaf = open_leaf }) r) ≡
+    stepped options (At (record { here = bs; leaf = open_leaf })) [] (no_prefix r)
+
+text-stepped : (options : ParseOptions) (bs : Blocks) (r : Rest) → IsBuilt options → (k : Kept) (ks : List Kept) →
+    IsStepped options bs r (text_leaf.held (k ∷ ks))
+text-stepped options bs r built k ks =
+    ap At (text-found options bs ks k r built) ∙ go (line_kind options held_leaf.Text r)
+    ∙ sym
+    (ap (λ (x : Bool). by (line_kind options held_leaf.Text r) (cond x further other))
+    (none-further options held_leaf.Text r refl)
+    ∙ ap (λ (x : Blocks). by (line_kind options held_leaf.Text r)
+    (At (spot_by options x [] r (line_kind options held_leaf.Text r))))
+    (text-laws.shut options bs (k ∷ ks) built.definition))
   where
-    by : Kept → List Kept → RowKind → Spot → Path
-    by k ks kind s = cond (is_lazy held_leaf.Text [] kind) (At (with_line bs (k ∷ ks) r)) (At s)
+    further : Path
+    further = At (came bs (come_by options (text_leaf.held (k ∷ ks)) r (line_kind options held_leaf.Text r)))
 
-    go : (k : Kept) (ks : List Kept) (kind : RowKind) →
-        At (spot_by bs (k ∷ ks) r kind) ≡ by k ks kind (spot_by (text_leaf.behind bs (texts (k ∷ ks))) [] r kind)
-    go k ks BlankRow = refl
-    go k ks (LeafRow l) = refl
-    go k ks TextRow = refl
+    other : Path
+    other =
+        At
+        (spot_by options (then_leaf options bs (text_leaf.held (k ∷ ks))) [] r (line_kind options held_leaf.Text r))
 
-    text : (k : Kept) (ks : List Kept) →
-        At (leaf_line options (record { here = bs; leaf = text_leaf.held (k ∷ ks) }) r) ≡
-        stepped options (At (record { here = bs; leaf = text_leaf.held (k ∷ ks) })) [] (no_prefix r)
-    text k ks =
-        ap At (text-found options bs ks k r built)
-        ∙ go k ks (line_kind options held_leaf.Text r)
+    by : RowKind → Path → Path
+    by kind p = cond (is_lazy held_leaf.Text [] kind) (At (with_line bs (k ∷ ks) r)) p
+
+    go : (kind : RowKind) →
+        At (spot_by options bs (k ∷ ks) r kind) ≡
+        by kind (At (spot_by options (text_leaf.behind bs (texts (k ∷ ks))) [] r kind))
+    go BlankRow = refl
+    go (LeafRow l) = refl
+    go TextRow = refl
+
+span-stepped : (options : ParseOptions) (bs : Blocks) (r : Rest) → IsBuilt options → (open_leaf : Leaf) →
+    OpenSpan open_leaf → IsStepped options bs r open_leaf
+span-stepped options bs r built open_leaf is =
+    ap At (concrete-line options s r open_leaf is.concrete)
+    ∙ ap (λ (o : Option Came). At (on_or_fresh options s r o)) (is.goes options r)
+    ∙ go ((leaf is.name).starts options still r)
+    ∙ ap by (sym (asked-kind options still r is.name is.asked))
+    ∙ ap onto (sym (met-all still))
+  where
+    s : Spot
+    s = record { here = bs; leaf = open_leaf }
+
+    still : HeldLeaf
+    still = kind_of_leaf open_leaf
+
+    onto : HeldLeaf → Path
+    onto on =
+        cond (is_lazy still [] (line_kind options on r)) (longer (At s) (kept r ∷ []))
+        (cond (is_further (line_kind options on r) on)
+        (At (came bs (come_by options open_leaf r (line_kind options on r))))
+        (At (spot_by options (shut options s) [] r (line_kind options on r))))
+
+    further : RowKind → Path
+    further kind = At (came bs (come_by options open_leaf r kind))
+
+    other : RowKind → Path
+    other kind = At (spot_by options (shut options s) [] r kind)
+
+    by : RowKind → Path
+    by kind =
+        cond (is_lazy still [] kind) (longer (At s) (kept r ∷ []))
+        (cond (is_further kind still) (further kind) (other kind))
+
+    unlazy : (kind : RowKind) (x : Bool) → is_further kind still ≡ x → cond x (further kind) (other kind) ≡ by kind
+    unlazy kind x e =
+        ap (λ (t : Bool). cond t (further kind) (other kind)) (sym e)
         ∙ sym
-        (ap (by k ks (line_kind options held_leaf.Text r))
-        (ap (λ (x : Blocks). spot_by x [] r (line_kind options held_leaf.Text r))
-        (text-laws.shut options bs (k ∷ ks) built.definition)))
+        (ap
+        (λ (t : Bool).
+        cond t (longer (At s) (kept r ∷ [])) (cond (is_further kind still) (further kind) (other kind)))
+        (lines-unlazy still [] kind is.lines))
+
+    go : (x : Bool) →
+        At (on_or_fresh options s r (cond x (Some ((leaf is.name).comes options open_leaf r)) None)) ≡
+        by (cond x (LeafRow is.name) (plain_kind options still r))
+    go true = unlazy (LeafRow is.name) true is.further
+    go false =
+        ap At (fresh-plain options still (shut options s) r built)
+        ∙ unlazy (plain_kind options still r) false (plain-begins options still r)
+
+leaf-stepped : (options : ParseOptions) (bs : Blocks) (open_leaf : Leaf) (r : Rest) → IsBuilt options →
+    IsBuiltLeaf open_leaf → IsStepped options bs r open_leaf
+leaf-stepped options bs open_leaf r built plain =
+    text-laws.cases (IsStepped options bs r) none (text-stepped options bs r built)
+    (λ l is. span-stepped options bs r built l (open-span l is)) open_leaf plain
+  where
+    none : IsStepped options bs r NoLeaf
+    none =
+        ap At (fresh-found options bs r built)
+        ∙ sym
+        (ap
+        (λ (x : Bool).
+        cond x (At (came bs (come_by options NoLeaf r (line_kind options held_leaf.None r))))
+        (At (spot_by options bs [] r (line_kind options held_leaf.None r))))
+        (none-further options held_leaf.None r refl))
+
+-- where no leaf is asked first, containers open as often as they do; else none does where all went on
+new-all : (options : ParseOptions) (still : HeldLeaf) (others : List Container) (went : Prefixed) →
+    insider still ≡ None →
+    prefixes_behind options still others went ≡ all_new options (interrupts still others) went.rest
+new-all options still others went e =
+    ap
+    (λ (o : Option LeafName).
+    cond (is_some o && is_none others) (no_prefix went.rest) (all_new options (interrupts still others) went.rest)) e
+
+new-none : (options : ParseOptions) (still : HeldLeaf) (l : LeafName) (went : Prefixed) → insider still ≡ Some l →
+    prefixes_behind options still [] went ≡ no_prefix went.rest
+new-none options still l went e =
+    ap
+    (λ (o : Option LeafName).
+    cond (is_some o && true) (no_prefix went.rest) (all_new options (interrupts still []) went.rest)) e
+
+-- where one did not go on
+new-others : (options : ParseOptions) (still : HeldLeaf) (c : Container) (cs : List Container) (went : Prefixed) →
+    prefixes_behind options still (c ∷ cs) went ≡ all_new options (interrupts still (c ∷ cs)) went.rest
+new-others options still c cs went = go (is_some (insider still))
+  where
+    go : (x : Bool) →
+        cond (x && false) (no_prefix went.rest) (all_new options (interrupts still (c ∷ cs)) went.rest) ≡
+        all_new options (interrupts still (c ∷ cs)) went.rest
+    go true = refl
+    go false = refl
 
 -- where all containers go on
 step-at : (options : ParseOptions) (s : Spot) (r : Rest) → IsBuilt options → IsBuiltLeaf s.leaf →
-    all_continued options s r ≡ stepped options (At s) [] (all_new options (interrupts (kind_of_leaf s.leaf) []) r)
+    all_continued options s r ≡
+    stepped options (At s) [] (prefixes_behind options (kind_of_leaf s.leaf) [] (no_prefix r))
 unfolding all_continued
 step-at options s r built plain =
-    ap (all_continued_by options s r) (free s.leaf plain)
-    ∙ go (opens options interrupting r)
-    ∙ ap (stepped options (At s) []) (sym (new-found options interrupting (length r.bytes) r (omega arith)))
+    text-laws.cases By (by NoLeaf tt insider-none refl) (λ k ks. by (text_leaf.held (k ∷ ks)) tt insider-text refl)
+    (λ l is. span l (open-span l is)) s.leaf plain
   where
-    interrupting : Bool
-    interrupting = interrupts (kind_of_leaf s.leaf) []
+    at_leaf : Leaf → Spot
+    at_leaf open_leaf = record { here = s.here; leaf = open_leaf }
 
-    free : (leaf : Leaf) → IsBuiltLeaf leaf →
-        cond (is_concrete leaf) None (opens options (is_open_text leaf) r) ≡
-        opens options (interrupts (kind_of_leaf leaf) []) r
-    free leaf plain =
-        text-laws.cases
-        (λ (leaf : Leaf).
-        cond (is_concrete leaf) None (opens options (is_open_text leaf) r) ≡
-        opens options (interrupts (kind_of_leaf leaf) []) r) refl
-        (λ k ks. refl) leaf plain
+    By : Leaf → Type 0
+    By open_leaf =
+        all_continued_by options (at_leaf open_leaf) r
+        (cond (is_concrete open_leaf) None (opens options (is_open_text open_leaf) r)) ≡
+        stepped options (At (at_leaf open_leaf)) []
+        (prefixes_behind options (kind_of_leaf open_leaf) [] (no_prefix r))
 
-    go : (o : Option Taken) → all_continued_by options s r o ≡ stepped options (At s) [] (found_by options r o)
-    go None = leaf-stepped options s.here s.leaf r built plain
-    go (Some t) =
-        entered-new options (shut options s) t built
-        ∙ sym (stepped-more options (At s) [] t.container (all_new options false t.rest))
+    by : (open_leaf : Leaf) → IsBuiltLeaf open_leaf → insider (kind_of_leaf open_leaf) ≡ None →
+        cond (is_concrete open_leaf) None (opens options (is_open_text open_leaf) r) ≡
+        opens options (interrupts (kind_of_leaf open_leaf) []) r →
+        By open_leaf
+    by open_leaf plain none free =
+        let interrupting : Bool = interrupts (kind_of_leaf open_leaf) [] in
+        ap (all_continued_by options (at_leaf open_leaf) r) free ∙ go (opens options interrupting r)
+        ∙ ap (stepped options (At (at_leaf open_leaf)) [])
+        (sym (new-found options interrupting (length r.bytes) r (omega arith))
+        ∙ sym (new-all options (kind_of_leaf open_leaf) [] (no_prefix r) none))
+      where
+        go : (o : Option Taken) →
+            all_continued_by options (at_leaf open_leaf) r o ≡
+            stepped options (At (at_leaf open_leaf)) [] (found_by options r o)
+        go None = leaf-stepped options s.here open_leaf r built plain
+        go (Some t) =
+            entered-new options (shut options (at_leaf open_leaf)) t built
+            ∙ sym (stepped-more options (At (at_leaf open_leaf)) [] t.container (all_new options false t.rest))
+
+    span : (open_leaf : Leaf) → OpenSpan open_leaf → By open_leaf
+    span open_leaf is =
+        ap
+        (λ (x : Bool).
+        all_continued_by options (at_leaf open_leaf) r (cond x None (opens options (is_open_text open_leaf) r)))
+        is.concrete
+        ∙ span-stepped options s.here r built open_leaf is
+        ∙ ap (stepped options (At (at_leaf open_leaf)) [])
+        (sym (new-none options (kind_of_leaf open_leaf) is.name (no_prefix r) is.asked))
 
 at_spot-longer : (p : Path) (lines more : List Kept) → (spot p).leaf ≡ text_leaf.held lines →
     at_spot p (record { here = (spot p).here; leaf = text_leaf.held (lines ++ more) }) ≡ longer p more
@@ -293,15 +523,16 @@ lazy-stepped : (options : ParseOptions) (before : Blocks) (c : Container) (p : P
     cond (is_lazy (kind_of_leaf leaf) [] (line_kind options (met_by false (kind_of_leaf leaf)) r))
     (Within before c (longer (renewed (containers_of p) p) (kept r ∷ [])))
     (At
-    (spot_by (then_block before (container_block c (closed options p))) [] r
+    (spot_by options (then_block before (container_block c (closed options p))) [] r
     (line_kind options (met_by false (kind_of_leaf leaf)) r)))
-lazy-stepped options before c p r built leaf e plain = text-laws.cases By (λ e. fresh) text leaf plain e
+lazy-stepped options before c p r built leaf e plain =
+    text-laws.cases By (λ e. fresh) text (λ l is. span l (open-span l is)) leaf plain e
   where
     bs : Blocks
     bs = then_block before (container_block c (closed options p))
 
     other : RowKind → Path
-    other kind = At (spot_by bs [] r kind)
+    other kind = At (spot_by options bs [] r kind)
 
     fresh : At (fresh_line options bs r) ≡ other (line_kind options held_leaf.None r)
     fresh = ap At (fresh-found options bs r built)
@@ -319,7 +550,7 @@ lazy-stepped options before c p r built leaf e plain = text-laws.cases By (λ e.
     go : (k : Kept) (ks : List Kept) → (spot p).leaf ≡ text_leaf.held (k ∷ ks) → (x : Bool) (o : Option LeafName) →
         At (fresh_line options bs r) ≡ other (cond x BlankRow (kind_of o)) →
         lazy_by options before c p r
-        (cond (x || is_some (came_of r o)) None (Some (text_leaf.held (k ∷ ks ++ kept r ∷ [])))) ≡
+        (cond (x || is_some (came_of options r o)) None (Some (text_leaf.held (k ∷ ks ++ kept r ∷ [])))) ≡
         longer_by held_leaf.Text (cond x BlankRow (kind_of o))
     go k ks e true o same = same
     go k ks e false (Some l) same = same
@@ -338,17 +569,37 @@ lazy-stepped options before c p r built leaf e plain = text-laws.cases By (λ e.
         (fresh ∙ ap other (kind-plain options held_leaf.None r insider-none))
         ∙ ap (longer_by held_leaf.Text) (sym (kind-plain options held_leaf.Text r insider-text))
 
+    span : (l : Leaf) → OpenSpan l → By l
+    span l is e =
+        let still : HeldLeaf = kind_of_leaf l in
+        let kind : RowKind = line_kind options (met_by false still) r in
+        ap (lazy_by options before c p r) (concrete-lazy options r l is.concrete) ∙ fresh
+        ∙ ap (λ (on : HeldLeaf). other (line_kind options on r)) (sym (met-none still is.lines))
+        ∙ sym
+        (ap
+        (λ (x : Bool).
+        cond x (Within before c (longer (renewed (containers_of p) p) (kept r ∷ []))) (other kind))
+        (lines-unlazy still [] kind is.lines))
+
 step-stopped : (options : ParseOptions) (before : Blocks) (c : Container) (p : Path) (r : Rest) → IsBuilt options →
     IsPlain p →
     stopped options before c p r ≡
-    stepped options (Within before c p) [] (all_new options (interrupts (still_of p) (c ∷ containers_of p)) r)
+    stepped options (Within before c p) []
+    (prefixes_behind options (still_of p) (c ∷ containers_of p) (no_prefix r))
 unfolding stopped
 step-stopped options before c p r built plain =
     go (opens options false r)
     ∙ ap (stepped options (Within before c p) [])
     (sym (new-found options false (length r.bytes) r (omega arith))
-    ∙ ap (λ (x : Bool). all_new options x r) (never (still_of p)))
+    ∙ ap (λ (x : Bool). all_new options x r) (never (still_of p))
+    ∙ sym (new-others options (still_of p) c (containers_of p) (no_prefix r)))
   where
+    on : HeldLeaf
+    on = met_by false (still_of p)
+
+    kind : RowKind
+    kind = line_kind options on r
+
     never : (x : HeldLeaf) → false ≡ interrupts x (c ∷ containers_of p)
     never held_leaf.Text = refl
     never held_leaf.None = refl
@@ -357,7 +608,15 @@ step-stopped options before c p r built plain =
 
     go : (o : Option Taken) →
         stopped_by options before c p r o ≡ stepped options (Within before c p) [] (found_by options r o)
-    go None = lazy-stepped options before c p r built (spot p).leaf refl plain
+    go None =
+        lazy-stepped options before c p r built (spot p).leaf refl plain
+        ∙ ap (cond (is_lazy (still_of p) [] kind) (Within before c (longer (renewed (containers_of p) p) (kept r ∷ []))))
+        (sym
+        (ap
+        (λ (x : Bool).
+        cond x (with_came (Within before c p) (come_by options (spot p).leaf r kind))
+        (At (spot_by options (then_block before (container_block c (closed options p))) [] r kind)))
+        (none-further options on r (ended-lines (still_of p)))))
     go (Some t) =
         entered-new options (then_block before (container_block c (closed options p))) t built
         ∙ sym (stepped-more options (Within before c p) [] t.container (all_new options false t.rest))
@@ -365,20 +624,29 @@ step-stopped options before c p r built plain =
 stepped-within : (options : ParseOptions) (before : Blocks) (c d : Container) (p : Path) (went : List Container)
     (new : Prefixed) →
     Within before d (stepped options p went new) ≡ stepped options (Within before c p) (d ∷ went) new
-stepped-within options before c d p went new = go (is_lazy (still_of p) new.containers (line_kind options on new.rest))
+stepped-within options before c d p went new = go (is_lazy (still_of p) new.containers kind) (is_further kind on)
   where
     on : HeldLeaf
     on = met (still_of p) (others_of (containers_of p) went) new.containers
 
+    kind : RowKind
+    kind = line_kind options on new.rest
+
     lazy : Path
     lazy = longer (renewed (went ++ others_of (containers_of p) went) p) (kept new.rest ∷ [])
+
+    further : Path
+    further = with_came (renewed went p) (come_by options (spot p).leaf new.rest kind)
 
     other : Path
     other = behind_path (kept_to options went p) (new_line options on new.containers new.rest)
 
-    go : (x : Bool) → Within before d (cond x lazy other) ≡ cond x (Within before d lazy) (Within before d other)
-    go true = refl
-    go false = refl
+    go : (x y : Bool) →
+        Within before d (cond x lazy (cond y further other)) ≡
+        cond x (Within before d lazy) (cond y (Within before d further) (Within before d other))
+    go true y = refl
+    go false true = refl
+    go false false = refl
 
 -- by the containers that go on, and those that open behind them
 abbrev on_by : ParseOptions → List Container → Rest → Option Taken → Prefixed
@@ -387,7 +655,7 @@ on_by options cs r o = elim o [ None ↦ no_prefix r | Some t ↦ one_more t.con
 abbrev pub stepped_on : ParseOptions → Path → Prefixed → Path
 stepped_on options p on =
     stepped options p on.containers
-    (all_new options (interrupts (still_of p) (others_of (containers_of p) on.containers)) on.rest)
+    (prefixes_behind options (still_of p) (others_of (containers_of p) on.containers) on)
 
 pub step-new : (options : ParseOptions) (p : Path) (r : Rest) → IsBuilt options → IsPlain p →
     step options p r ≡ stepped_on options p (prefixes_on options (containers_of p) r)
@@ -402,24 +670,7 @@ step-new options (Within before c p) r built plain = go (λ s. step-new options 
         let on = prefixes_on options (containers_of p) t.rest in
         ap (Within before t.container) (below t.rest)
         ∙ stepped-within options before c t.container p on.containers
-        (all_new options (interrupts (still_of p) (others_of (containers_of p) on.containers)) on.rest)
-
--- where nothing is open but text, containers open as often as they do
-plain-new : (options : ParseOptions) (p : Path) (others : List Container) (on : Prefixed) → IsPlain p →
-    prefixes_behind options (still_of p) others on ≡ all_new options (interrupts (still_of p) others) on.rest
-plain-new options p others on plain =
-    text-laws.cases
-    (λ (leaf : Leaf).
-    prefixes_behind options (kind_of_leaf leaf) others on ≡
-    all_new options (interrupts (kind_of_leaf leaf) others) on.rest) (by held_leaf.None insider-none)
-    (λ k ks. by held_leaf.Text insider-text) (spot p).leaf plain
-  where
-    by : (still : HeldLeaf) → insider still ≡ None →
-        prefixes_behind options still others on ≡ all_new options (interrupts still others) on.rest
-    by still e =
-        ap
-        (λ (o : Option LeafName).
-        cond (is_some o && is_none others) (no_prefix on.rest) (all_new options (interrupts still others) on.rest)) e
+        (prefixes_behind options (still_of p) (others_of (containers_of p) on.containers) on)
 
 -- what a line does to the containers, where a path is open
 abbrev pub contained_at : ParseOptions → Path → Rest → Contained
@@ -429,27 +680,35 @@ contained_at options p r = contained options (containers_of p) (still_of p) r
 abbrev pub goes_lazy : ParseOptions → Path → Contained → Bool
 goes_lazy options p c = is_lazy (still_of p) c.change.opens (line_kind options c.on c.rest)
 
--- where it does not: some containers stay, and behind them it opens others, and begins in the innermost
+-- whether it goes on the leaf of several lines that it meets, and what is open behind it then
+abbrev pub goes_further : ParseOptions → Contained → Bool
+goes_further options c = is_further (line_kind options c.on c.rest) c.on
+
+abbrev pub further_path : ParseOptions → Path → Contained → Path
+further_path options p c =
+    with_came (renewed c.change.stays p) (come_by options (spot p).leaf c.rest (line_kind options c.on c.rest))
+
+-- where it does neither: some containers stay, and behind them it opens others, and begins in the innermost
 abbrev pub new_path : ParseOptions → Path → Contained → Path
 new_path options p c = behind_path (kept_to options c.change.stays p) (new_line options c.on c.change.opens c.rest)
 
--- What a line does to the containers and the text that are open, by its containers.
+-- by which of these it does
+abbrev pub path_by : ParseOptions → Path → Contained → Bool → Bool → Path
+path_by options p c lazy further =
+    cond lazy (longer (renewed c.change.stays p) (kept c.rest ∷ []))
+    (cond further (further_path options p c) (new_path options p c))
+
+-- What a line does to the containers and the leaf that are open, by its containers.
 pub step-contained : (options : ParseOptions) (p : Path) (r : Rest) → IsBuilt options → IsPlain p →
     let c = contained_at options p r in
-    step options p r ≡
-    cond (goes_lazy options p c) (longer (renewed c.change.stays p) (kept c.rest ∷ [])) (new_path options p c)
+    step options p r ≡ path_by options p c (goes_lazy options p c) (goes_further options c)
 unfolding contained
 step-contained options p r built plain =
     step-new options p r built plain ∙ go lazy
     ∙ sym
-    (ap (λ (opens : List Container). by (is_lazy (still_of p) opens (line_kind options leaf new.rest)) lazy)
+    (ap (λ (opens : List Container). by (is_lazy (still_of p) opens kind) lazy)
     (change-opens lazy on.containers others new.containers))
-    ∙ ap stepping (sym (ap (contained_of options (containers_of p) (still_of p) on) (plain-new options p others on plain)))
   where
-    stepping : Contained → Path
-    stepping c =
-        cond (goes_lazy options p c) (longer (renewed c.change.stays p) (kept c.rest ∷ [])) (new_path options p c)
-
     on : Prefixed
     on = prefixes_on options (containers_of p) r
 
@@ -457,23 +716,31 @@ step-contained options p r built plain =
     others = others_of (containers_of p) on.containers
 
     new : Prefixed
-    new = all_new options (interrupts (still_of p) others) on.rest
+    new = prefixes_behind options (still_of p) others on
 
     leaf : HeldLeaf
     leaf = met (still_of p) others new.containers
 
+    kind : RowKind
+    kind = line_kind options leaf new.rest
+
     lazy : Bool
-    lazy = is_lazy (still_of p) new.containers (line_kind options leaf new.rest)
+    lazy = is_lazy (still_of p) new.containers kind
+
+    come : Came
+    come = come_by options (spot p).leaf new.rest kind
 
     by : Bool → Bool → Path
     by x y =
         let change : Change = change_by y on.containers others new.containers in
         cond x (longer (renewed change.stays p) (kept new.rest ∷ []))
-        (behind_path (kept_to options change.stays p) (new_line options leaf change.opens new.rest))
+        (cond (is_further kind leaf) (with_came (renewed change.stays p) come)
+        (behind_path (kept_to options change.stays p) (new_line options leaf change.opens new.rest)))
 
     go : (x : Bool) →
         cond x (longer (renewed (on.containers ++ others) p) (kept new.rest ∷ []))
-        (behind_path (kept_to options on.containers p) (new_line options leaf new.containers new.rest)) ≡
+        (cond (is_further kind leaf) (with_came (renewed on.containers p) come)
+        (behind_path (kept_to options on.containers p) (new_line options leaf new.containers new.rest))) ≡
         by x x
     go true = refl
     go false = refl
@@ -507,160 +774,3 @@ contained-lazy options p r h =
     go : (x : Bool) → x ≡ true → (change_by x on.containers others new.containers).closes ≡ []
     go true e = refl
     go false e = cc
-
--- Plain paths stay such.
-
-plain-renewed : (cs : List Container) (p : Path) → IsPlain p → IsPlain (renewed cs p)
-plain-renewed cs p plain = subst (λ (s : Spot). IsBuiltLeaf s.leaf) (sym (renewed-spot cs p)) plain
-
-pub plain-longer : (p : Path) (k : Kept) (ks : List Kept) → IsPlain p → IsPlain (longer p (k ∷ ks))
-plain-longer (At s) k ks plain = go s.leaf plain
-  where
-    go : (leaf : Leaf) → IsBuiltLeaf leaf → IsBuiltLeaf (text_leaf.held (held_of leaf ++ k ∷ ks))
-    go leaf h =
-        text-laws.cases (λ (leaf : Leaf). IsBuiltLeaf (text_leaf.held (held_of leaf ++ k ∷ ks))) tt (λ j js. tt) leaf h
-plain-longer (Within before container p) k ks plain = plain-longer p k ks plain
-
-plain-behind : (p : Path) (f : Blocks → Path) → ((bs : Blocks) → IsPlain (f bs)) → IsPlain (behind_path p f)
-plain-behind (At s) f each = each s.here
-plain-behind (Within before container p) f each = plain-behind p f each
-
-plain-by : (bs : Blocks) (r : Rest) (kind : RowKind) → IsBuiltLeaf (spot_by bs [] r kind).leaf
-plain-by bs r BlankRow = tt
-plain-by bs r (LeafRow l) = tt
-plain-by bs r TextRow = tt
-
-plain-new_line : (options : ParseOptions) (on : HeldLeaf) (cs : List Container) (r : Rest) (bs : Blocks) →
-    IsPlain (new_line options on cs r bs)
-plain-new_line options on [] r bs = plain-by bs r (line_kind options on r)
-plain-new_line options on (c ∷ cs) r bs = plain-new_line options on cs r End
-
-pub plain-step : (options : ParseOptions) (p : Path) (r : Rest) → IsBuilt options → IsPlain p →
-    IsPlain (step options p r)
-plain-step options p r built plain =
-    subst IsPlain (sym (step-contained options p r built plain)) (go (goes_lazy options p c))
-  where
-    c : Contained
-    c = contained_at options p r
-
-    go : (x : Bool) → IsPlain (cond x (longer (renewed c.change.stays p) (kept c.rest ∷ [])) (new_path options p c))
-    go true = plain-longer (renewed c.change.stays p) (kept c.rest) [] (plain-renewed c.change.stays p plain)
-    go false =
-        plain-behind (kept_to options c.change.stays p) (new_line options c.on c.change.opens c.rest)
-        (plain-new_line options c.on c.change.opens c.rest)
-
--- a line that goes on the open text is text
-pub lazy-text : (still : HeldLeaf) (opens : List Container) (kind : RowKind) → is_lazy still opens kind ≡ true →
-    is_text kind ≡ true
-lazy-text still opens kind e = (and_parts (takes_lazy still && is_none opens) (is_text kind) e).1
-
--- Which containers are open behind a line.
-
-containers-longer : (p : Path) (ks : List Kept) → containers_of (longer p ks) ≡ containers_of p
-containers-longer (At s) ks = refl
-containers-longer (Within before container p) ks = ap (λ (cs : List Container). container ∷ cs) (containers-longer p ks)
-
-containers-behind : (p : Path) (f : Blocks → Path) (cs : List Container) → ((bs : Blocks) → containers_of (f bs) ≡ cs) →
-    containers_of (behind_path p f) ≡ containers_of p ++ cs
-containers-behind (At s) f cs each = each s.here
-containers-behind (Within before container p) f cs each =
-    ap (λ (l : List Container). container ∷ l) (containers-behind p f cs each)
-
-containers-kept : (options : ParseOptions) (cs : List Container) (p : Path) → length cs ≤ length (containers_of p) →
-    containers_of (kept_to options cs p) ≡ cs
-containers-kept options [] p le = refl
-containers-kept options (c ∷ cs) (At s) le = absurd (omega arith)
-containers-kept options (c ∷ cs) (Within before container p) le =
-    ap (λ (l : List Container). c ∷ l) (containers-kept options cs p (omega arith))
-
--- where all of them are told
-containers-renewed : (cs : List Container) (p : Path) → length cs ≡ length (containers_of p) →
-    containers_of (renewed cs p) ≡ cs
-containers-renewed [] (At s) e = refl
-containers-renewed [] (Within before container p) e = absurd (omega arith)
-containers-renewed (c ∷ cs) (At s) e = absurd (omega arith)
-containers-renewed (c ∷ cs) (Within before container p) e =
-    ap (λ (l : List Container). c ∷ l) (containers-renewed cs p (omega arith))
-
-containers-new_line : (options : ParseOptions) (on : HeldLeaf) (cs : List Container) (r : Rest) (bs : Blocks) →
-    containers_of (new_line options on cs r bs) ≡ cs
-containers-new_line options on [] r bs = refl
-containers-new_line options on (c ∷ cs) r bs =
-    ap (λ (l : List Container). c ∷ l) (containers-new_line options on cs r End)
-
-pub containers-step : (options : ParseOptions) (p : Path) (r : Rest) → IsBuilt options → IsPlain p →
-    containers_of (step options p r) ≡ open_behind (contained_at options p r).change
-containers-step options p r built plain =
-    ap containers_of (step-contained options p r built plain) ∙ go (goes_lazy options p c) refl
-  where
-    c : Contained
-    c = contained_at options p r
-
-    sizes : length c.change.stays + length c.change.closes ≡ length (containers_of p)
-    sizes = contained-size options (containers_of p) (still_of p) r
-
-    go : (x : Bool) → goes_lazy options p c ≡ x →
-        containers_of (cond x (longer (renewed c.change.stays p) (kept c.rest ∷ [])) (new_path options p c)) ≡
-        c.change.stays ++ c.change.opens
-    go true e =
-        containers-longer (renewed c.change.stays p) (kept c.rest ∷ [])
-        ∙ containers-renewed c.change.stays p
-        (let none : length c.change.closes ≡ 0 = ap length (contained-lazy options p r e) in omega (arith, sizes))
-        ∙ sym (append-nil c.change.stays)
-        ∙ ap (λ (l : List Container). c.change.stays ++ l)
-        (sym (lazy-opens (still_of p) c.change.opens (line_kind options c.on c.rest) e))
-    go false e =
-        containers-behind (kept_to options c.change.stays p) (new_line options c.on c.change.opens c.rest) c.change.opens
-        (λ bs. containers-new_line options c.on c.change.opens c.rest bs)
-        ∙ ap (λ (l : List Container). l ++ c.change.opens)
-        (containers-kept options c.change.stays p (omega (arith, sizes)))
-
--- The leaf that is open behind a line.
-
-text-behind : (options : ParseOptions) (on : HeldLeaf) (r : Rest) (kind : RowKind) → is_text kind ≡ true →
-    line_behind options on r kind ≡ held_leaf.Text
-text-behind options on r BlankRow e = cc
-text-behind options on r (LeafRow l) e = cc
-text-behind options on r TextRow e = refl
-
-still-longer : (p : Path) (ks : List Kept) → still_of (longer p ks) ≡ held_leaf.Text
-still-longer (At s) ks = refl
-still-longer (Within before container p) ks = still-longer p ks
-
-still-behind : (p : Path) (f : Blocks → Path) (x : HeldLeaf) → ((bs : Blocks) → still_of (f bs) ≡ x) →
-    still_of (behind_path p f) ≡ x
-still-behind (At s) f x each = each s.here
-still-behind (Within before container p) f x each = still-behind p f x each
-
-still-by : (options : ParseOptions) (on : HeldLeaf) (bs : Blocks) (r : Rest) (kind : RowKind) →
-    kind_of_leaf (spot_by bs [] r kind).leaf ≡ line_behind options on r kind
-still-by options on bs r BlankRow = refl
-still-by options on bs r (LeafRow l) = sym (((laws l).shut (leaf-ends l) options on).1 r)
-still-by options on bs r TextRow = refl
-
-still-new_line : (options : ParseOptions) (on : HeldLeaf) (cs : List Container) (r : Rest) (bs : Blocks) →
-    still_of (new_line options on cs r bs) ≡ line_behind options on r (line_kind options on r)
-still-new_line options on [] r bs = still-by options on bs r (line_kind options on r)
-still-new_line options on (c ∷ cs) r bs = still-new_line options on cs r End
-
-pub still-step : (options : ParseOptions) (p : Path) (r : Rest) → IsBuilt options → IsPlain p →
-    let c = contained_at options p r in
-    still_of (step options p r) ≡ line_behind options c.on c.rest (line_kind options c.on c.rest)
-still-step options p r built plain =
-    ap still_of (step-contained options p r built plain) ∙ go (goes_lazy options p c) refl
-  where
-    c : Contained
-    c = contained_at options p r
-
-    kind : RowKind
-    kind = line_kind options c.on c.rest
-
-    go : (x : Bool) → goes_lazy options p c ≡ x →
-        still_of (cond x (longer (renewed c.change.stays p) (kept c.rest ∷ [])) (new_path options p c)) ≡
-        line_behind options c.on c.rest kind
-    go true e =
-        still-longer (renewed c.change.stays p) (kept c.rest ∷ [])
-        ∙ sym (text-behind options c.on c.rest kind (lazy-text (still_of p) c.change.opens kind e))
-    go false e =
-        still-behind (kept_to options c.change.stays p) (new_line options c.on c.change.opens c.rest)
-        (line_behind options c.on c.rest kind) (still-new_line options c.on c.change.opens c.rest)

@@ -2,7 +2,7 @@
 -- names them.
 use Rattle.std.proofs.Common.{◌≡◌, ◌<◌, Bool, true, false, cond, List, [], ◌∷◌, ◌++◌, refl, ◌∙◌, ap, ap₂, arith}
 use Rattle.md_engine.specs.declared.tokenizer.held_leaf.HeldLeaf.TheVariants as held_leaf
-use Rattle.markdown_blocks.specs.Registry.{insider}
+use Rattle.markdown_blocks.specs.Registry.{IsOpenSpan, insider}
 use Rattle.md_engine.specs.declared.tokenizer.held_leaf.HeldLeaf.{HeldLeaf}
 use Rattle.std.specs.Option.{option_or}
 use Rattle.std.specs.Prelude.{Option, Some, None}
@@ -42,9 +42,10 @@ use Rattle.md_leaves.proofs.HeadingSteps.{heading_steps}
 use Rattle.md_seam.specs.Ahead.{HasWhite}
 use Rattle.md_seam.specs.Spaces.{rest_ready}
 use Rattle.md_definition.specs.Containers.{Taken, opens, opens_footnote, opens_item, opens_quote}
-use Rattle.md_definition.specs.Leaves.{Came, Finished, break_at, heading_at}
+use Rattle.md_definition.specs.Leaves.{Came, break_at, heading_at}
 use Rattle.md_definition.specs.Rest.{Rest}
-use Rattle.md_outline.specs.HeadingDepths.{is_shallow}
+use Rattle.md_definition.specs.State.{Leaf, NoLeaf}
+use Rattle.md_definition.specs.Tree.{Break}
 use Rattle.md_seam.proofs.SpacesGoods.{Does, WhiteFits}
 use Rattle.markdown_blocks.specs.FlowRule.{Rule}
 use Rattle.markdown_blocks.specs.Leaf.HeadingAtx.{heading_leaf}
@@ -67,8 +68,10 @@ use Rattle.markdown_blocks.proofs.LeafLaws.{LeafLaws}
 use Rattle.markdown_blocks.proofs.ListItem.Laws.{item-laws}
 use Rattle.markdown_blocks.proofs.ListItem.Registers.{item-registers}
 use Rattle.markdown_blocks.proofs.OutsideFacts.{AreOutside}
+use Rattle.markdown_blocks.proofs.OpenSpan.{AllBegin, Begun, OpenSpan}
 use Rattle.markdown_blocks.proofs.Paragraph.Laws.{paragraph-laws}
 use Rattle.markdown_blocks.proofs.Registers.{Registers}
+use Rattle.markdown_blocks.proofs.ShallowBlocks.{shallow-then}
 use Rattle.markdown_blocks.proofs.SpanLaws.{SpanLaws}
 use Rattle.markdown_blocks.proofs.TextLaws.{TextLaws}
 use Rattle.markdown_blocks.proofs.ThematicBreak.Found.{break-found}
@@ -86,33 +89,42 @@ abbrev pub leaf_at : ParseOptions → HeldLeaf → Rest → Option LeafName
 leaf_at options on r = first_of (λ l. (leaf l).starts options on r) trials
 
 -- what it comes to
-abbrev pub came_of : Rest → Option LeafName → Option Came
-came_of r None = None
-came_of r (Some l) = Some (Finished ((leaf l).block r))
+abbrev pub came_of : ParseOptions → Rest → Option LeafName → Option Came
+came_of options r None = None
+came_of options r (Some l) = Some ((leaf l).comes options NoLeaf r)
 
 -- of the leaves of the line definition these alone are built, in this order
 pub leaves-found : (options : ParseOptions) (on : HeldLeaf) (r : Rest) →
-    option_or (heading_at options r) (break_at options r) ≡ came_of r (leaf_at options on r)
+    option_or (heading_at options r) (break_at options r) ≡ came_of options r (leaf_at options on r)
 leaves-found options on r =
     ap₂ (λ (x y : Option Came). option_or x y) (heading-found options r) (break-found options r)
     ∙ go (heading_leaf.starts options on r) (break_leaf.starts options on r)
   where
     -- a leaf, if it starts
     one : Bool → LeafName → Option Came
-    one x l = cond x (Some (Finished ((leaf l).block r))) None
+    one x l = cond x (Some ((leaf l).comes options NoLeaf r)) None
 
     go : (x y : Bool) →
         option_or (one x HeadingAtx) (one y ThematicBreak) ≡
-        came_of r (cond x (Some HeadingAtx) (cond y (Some ThematicBreak) None))
+        came_of options r (cond x (Some HeadingAtx) (cond y (Some ThematicBreak) None))
     go true y = refl
     go false true = refl
     go false false = refl
 
--- an outline can show the block of each
-pub leaf-shallow : (l : LeafName) (options : ParseOptions) (on : HeldLeaf) (r : Rest) →
-    (leaf l).starts options on r ≡ true → is_shallow ((leaf l).block r) ≡ true
-leaf-shallow HeadingAtx options on r h = heading-shallow options r h
-leaf-shallow ThematicBreak options on r h = refl
+-- what a line comes to that begins one of them
+pub leaf-begun : (l : LeafName) (options : ParseOptions) (on : HeldLeaf) (r : Rest) →
+    (leaf l).starts options on r ≡ true → (leaf l).further on ≡ false → Begun l options on r
+leaf-begun HeadingAtx options on r h begins = record {
+  holds = refl;
+  built = tt;
+  shallow = λ bs shallow. shallow-then bs (heading_leaf.block r) shallow (heading-shallow options r h);
+}
+leaf-begun ThematicBreak options on r h begins =
+    record { holds = refl; built = tt; shallow = λ bs shallow. shallow-then bs Break shallow refl }
+
+-- those that are tried go on none
+pub trials-begin : AllBegin trials
+trials-begin = (λ on. refl, (λ on. refl, tt))
 
 -- each that is built always ends on its line
 pub leaf-ends : (l : LeafName) → (leaf l).ends ≡ true
@@ -181,6 +193,11 @@ insider-text = refl
 pub insider-open : (on : HeldLeaf) (l : LeafName) → insider on ≡ Some l → (leaf l).ends ≡ false
 unfolding insider
 insider-open on l e = cc
+
+-- what may be open of several lines is as the frame asks
+pub open-span : (open_leaf : Leaf) → IsOpenSpan open_leaf → OpenSpan open_leaf
+unfolding IsOpenSpan
+open-span open_leaf is = absurd is
 
 -- Lines of text.
 

@@ -60,7 +60,7 @@ table-off options bs lines r built = rw built.gfm_table refl
 
 -- The first leaf that starts on a line, other than text, is the first of the registry that does.
 pub starts-found : (options : ParseOptions) (on : HeldLeaf) (against : ParagraphContext) (r : Rest) → IsBuilt options →
-    starts options against r ≡ came_of r (leaf_at options on r)
+    starts options against r ≡ came_of options r (leaf_at options on r)
 unfolding starts
 starts-found options on against r built =
     rw (

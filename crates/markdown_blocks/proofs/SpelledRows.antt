@@ -4,7 +4,9 @@ use Rattle.md_engine.specs.declared.tokenizer.held_leaf.HeldLeaf.TheVariants as 
 use Rattle.md_engine.specs.declared.tokenizer.held_leaf.HeldLeaf.{HeldLeaf}
 use Rattle.std.proofs.Common.{◌≡◌, ◌≢◌, ℕ, zero, suc, ◌+◌, ◌-◌, Bool, true, false, cond, ◌&&◌, List, [], ◌∷◌, ◌++◌}
 use Rattle.markdown_blocks.specs.LineFlags.{ending_name}
-use Rattle.markdown_blocks.specs.Registry.{leaf}
+use Rattle.markdown_blocks.specs.Registry.{LeafName, insider, leaf}
+use Rattle.md_definition.specs.Leaves.{Came}
+use Rattle.md_definition.specs.Step.{came}
 use Rattle.markdown_blocks.proofs.JoinedLemmas.{leaf-first}
 use Rattle.markdown_blocks.proofs.Registry.{leaf-ends}
 use Rattle.markdown_blocks.specs.Rows.{Span, onto_leaf}
@@ -13,7 +15,7 @@ use Rattle.markdown_blocks.specs.Rows.{line_behind}
 use Rattle.markdown_blocks.specs.HeldLeaf.{takes_lazy}
 use Rattle.std.proofs.Common.{length, map, take, refl, ap, ap₂, sym, ◌∙◌, subst, append_assoc, take_all, inl, inr, ◌⊎◌}
 use Rattle.std.proofs.Common.{arith}
-use Rattle.std.specs.Prelude.{None}
+use Rattle.std.specs.Prelude.{None, Some}
 use Rattle.md_engine.specs.declared.configuration.ParseOptions.{ParseOptions}
 use Rattle.md_engine.specs.declared.event.Event.{Event}
 use Rattle.md_engine.specs.declared.event.Name.{Name}
@@ -40,9 +42,11 @@ use Rattle.markdown_blocks.specs.Stands.{IsPlain, around_of, containers_of, fina
 use Rattle.markdown_blocks.specs.Stands.{reading, reading_on}
 use Rattle.markdown_blocks.proofs.ContainedLemmas.{contained-shapes, lazy-opens}
 use Rattle.markdown_blocks.proofs.FrontFacts.{Behind, Begins, LinePrefix, Goes}
-use Rattle.markdown_blocks.proofs.LineSteps.{behind_path, contained-lazy, contained_at, containers-step}
-use Rattle.markdown_blocks.proofs.LineSteps.{still-step, goes_lazy, kept_to, lazy-text, longer, new_line, new_path}
-use Rattle.markdown_blocks.proofs.LineSteps.{plain-step, renewed, spot_by, step-contained}
+use Rattle.markdown_blocks.proofs.LineSteps.{behind_path, contained-lazy, contained_at, goes_further, goes_lazy}
+use Rattle.markdown_blocks.proofs.LineSteps.{kept_to, longer, new_line, new_path, path_by, renewed, spot_by}
+use Rattle.markdown_blocks.proofs.LineSteps.{step-contained}
+use Rattle.markdown_blocks.proofs.LastLine.{Told, containers-over, no_bytes, step_over, steps_over, told}
+use Rattle.markdown_blocks.proofs.StepBehind.{containers-step, goes-on, lazy-text, plain-step, still-step}
 use Rattle.markdown_blocks.specs.Leaf.Paragraph.{held_of}
 use Rattle.markdown_blocks.proofs.Registry.{laws, text-laws}
 use Rattle.markdown_blocks.proofs.RowFacts as f
@@ -199,22 +203,22 @@ behind-ap (At x) f g each = each x.here
 behind-ap (Within before container p) f g each = ap (Within before container) (behind-ap p f g each)
 
 new-with : (options : ParseOptions) (on : HeldLeaf) (opens : List Container) (r : Rest) (bs : Blocks) →
-    new_line options on opens r bs ≡ with_spot (new_none opens bs) (λ cs. spot_by cs [] r (line_kind options on r))
+    new_line options on opens r bs ≡ with_spot (new_none opens bs) (λ cs. spot_by options cs [] r (line_kind options on r))
 new-with options on [] r bs = refl
 new-with options on (c ∷ opens) r bs = ap (Within bs c) (new-with options on opens r End)
 
 -- what a line begins stands behind its containers
 new-path : (options : ParseOptions) (p : Path) (c : Contained) (kind : RowKind) →
     line_kind options c.on c.rest ≡ kind →
-    new_path options p c ≡ with_spot (open_path options p c) (λ bs. spot_by bs [] c.rest kind)
+    new_path options p c ≡ with_spot (open_path options p c) (λ bs. spot_by options bs [] c.rest kind)
 new-path options p c kind e =
     let k : Path = kept_to options c.change.stays p in
     behind-ap k (new_line options c.on c.change.opens c.rest)
-    (λ bs. with_spot (new_none c.change.opens bs) (λ cs. spot_by cs [] c.rest kind))
+    (λ bs. with_spot (new_none c.change.opens bs) (λ cs. spot_by options cs [] c.rest kind))
     (λ bs.
     new-with options c.on c.change.opens c.rest bs
-    ∙ ap (λ (x : RowKind). with_spot (new_none c.change.opens bs) (λ cs. spot_by cs [] c.rest x)) e)
-    ∙ sym (behind-behind k (new_none c.change.opens) (λ bs. spot_by bs [] c.rest kind))
+    ∙ ap (λ (x : RowKind). with_spot (new_none c.change.opens bs) (λ cs. spot_by options cs [] c.rest x)) e)
+    ∙ sym (behind-behind k (new_none c.change.opens) (λ bs. spot_by options bs [] c.rest kind))
 
 none-none : (opens : List Container) (bs : Blocks) → (spot (new_none opens bs)).leaf ≡ NoLeaf
 none-none [] bs = refl
@@ -505,15 +509,22 @@ ending-role false = tt
 -- a line that is no text comes to the block that it shows
 shown-leaf : (options : ParseOptions) (p : Path) (r : Rest) (kind : RowKind) → kind ≢ TextRow →
     shown (block_of kind r) (reading options p) ≡
-    record (reading options p) { here = shut options (spot_by (reading options p).here [] r kind) }
+    record (reading options p) { here = shut options (spot_by options (reading options p).here [] r kind) }
 shown-leaf options p r BlankRow other = refl
-shown-leaf options p r (LeafRow l) other = refl
+shown-leaf options p r (LeafRow l) other =
+    ap (λ (c : Came). record (reading options p) { here = shut options (came (reading options p).here c) })
+    (sym ((laws l).finishes (leaf-ends l) options NoLeaf r))
 shown-leaf options p r TextRow other = absurd (other refl)
 
 no-joins : (options : ParseOptions) (bytes : List ℕ) (p : Path) (row : Row) (gs : List Group) (last : Reading) →
     is_text row.kind ≡ false → Follows options bytes p row gs last → Reads options bytes p row.leaves gs last
 no-joins options bytes p row gs last none (inl parts) = parts.reads
 no-joins options bytes p row gs last none (inr joins) = let text = joins.text in cc
+
+-- none is asked first yet
+no-insider : (on : HeldLeaf) (l : LeafName) → insider on ≡ Some l → ⊥
+unfolding insider
+no-insider on l e = cc
 
 -- One line, and what follows.
 row-means : (options : ParseOptions) (bytes : List ℕ) (p : Path) (a : Point) (line : List ℕ) (row : Row)
@@ -530,12 +541,16 @@ row-means options bytes p a line row gs last built plain is follows = go (goes_l
     kind-is : row.kind ≡ line_kind options c.on c.rest
     kind-is = line-is options bytes (containers_of p) (still_of p) a line row is
 
-    stepped : (x : Bool) → goes_lazy options p c ≡ x →
-        step options p (rest_from a line) ≡
-        cond x (longer (renewed c.change.stays p) (kept c.rest ∷ [])) (new_path options p c)
-    stepped x e =
-        step-contained options p (rest_from a line) built plain
-        ∙ ap (λ (t : Bool). cond t (longer (renewed c.change.stays p) (kept c.rest ∷ [])) (new_path options p c)) e
+    stepped : (x : Bool) → goes_lazy options p c ≡ x → (y : Bool) → goes_further options c ≡ y →
+        step options p (rest_from a line) ≡ path_by options p c x y
+    stepped x e y f = step-contained options p (rest_from a line) built plain ∙ ap₂ (path_by options p c) e f
+
+    no_further : (x : Bool) → goes_further options c ≡ x → x ≡ false
+    no_further true e = let is = (goes-on options p (rest_from a line) plain e).is in absurd (no-insider _ _ is.asked)
+    no_further false e = refl
+
+    none_further : goes_further options c ≡ false
+    none_further = no_further (goes_further options c) refl
 
     same : is_lazy (still_of p) row.change.opens row.kind ≡ goes_lazy options p c
     same =
@@ -550,7 +565,7 @@ row-means options bytes p a line row gs last built plain is follows = go (goes_l
 
     -- what the line leads to, by its kind
     to : RowKind → Path
-    to kind = with_spot o (λ bs. spot_by bs [] c.rest kind)
+    to kind = with_spot o (λ bs. spot_by options bs [] c.rest kind)
 
     none : (spot o).leaf ≡ NoLeaf
     none = open-none options p c
@@ -567,7 +582,7 @@ row-means options bytes p a line row gs last built plain is follows = go (goes_l
         refl refl
         ∙ ap (λ (r : Rest). shown (block_of row.kind r) (reading options o)) is.rest_is
         ∙ shown-leaf options o c.rest row.kind other
-        ∙ sym (reading-with options o (λ bs. spot_by bs [] c.rest row.kind) none))
+        ∙ sym (reading-with options o (λ bs. spot_by options bs [] c.rest row.kind) none))
         (ending-role (is_blank_row row))
         (no-joins options bytes (to row.kind) row gs last (other-kind row.kind other) further)
 
@@ -620,22 +635,35 @@ row-means options bytes p a line row gs last built plain is follows = go (goes_l
         (λ lines. reading-renewed options c.change.stays c.change.closes [] p lines shapes)
         (starts-lines options bytes (rest_line c.rest) (renewed c.change.stays p) row gs last is.is is_row
         (subst (λ (x : Path). Follows options bytes x row gs last)
-        (stepped true e ∙ ap (λ (r : Rest). longer (renewed c.change.stays p) (kept r ∷ [])) (sym is.rest_is)) follows))))
+        (stepped true e (goes_further options c) refl ∙ ap (λ (r : Rest). longer (renewed c.change.stays p) (kept r ∷ [])) (sym is.rest_is)) follows))))
     go false e =
         subst (λ (x : Bool). Means options bytes p x row (onto_groups row row.kind gs) last) (sym (same ∙ e))
         (by row.kind refl
         (subst (λ (x : Path). Follows options bytes x row gs last)
-        (stepped false e ∙ new-path options p c row.kind (sym kind-is)) follows))
+        (stepped false e false none_further ∙ new-path options p c row.kind (sym kind-is)) follows))
 
 -- where nothing follows
-row-ends : (options : ParseOptions) (bytes : List ℕ) (p : Path) (a : Point) (line : List ℕ) (row : Row) →
+row-ends : (options : ParseOptions) (bytes : List ℕ) (p : Path) (a : Point) (line : List ℕ) (row : Row) (over : Bool) →
     IsBuilt options → IsPlain p → f.IsLine options bytes (containers_of p) (still_of p) a line row →
     Means options bytes p (is_lazy (still_of p) row.change.opens row.kind) row (groups (row ∷ []))
-    (close_containers (length row.leaves) (reading options (step options p (rest_from a line))))
-row-ends options bytes p a line row built plain is =
-    row-means options bytes p a line row []
+    (close_containers (length row.leaves) (reading options (step_over options over p (rest_from a line))))
+row-ends options bytes p a line row over built plain is =
+    subst
+    (λ (x : Path).
+    Means options bytes p (is_lazy (still_of p) row.change.opens row.kind) row (groups (row ∷ []))
+    (close_containers (length row.leaves) (reading options x))) (sym (same over (goes_further options c) refl))
+    (row-means options bytes p a line row []
     (close_containers (length row.leaves) (reading options (step options p (rest_from a line)))) built plain is
-    (inl (record { apart = λ text. refl; reads = refl }))
+    (inl (record { apart = λ text. refl; reads = refl })))
+  where
+    c : Contained
+    c = contained_at options p (rest_from a line)
+
+    same : (x y : Bool) → goes_further options c ≡ y →
+        cond (x && y) (renewed c.change.stays p) (step options p (rest_from a line)) ≡ step options p (rest_from a line)
+    same x true e = let is = (goes-on options p (rest_from a line) plain e).is in absurd (no-insider _ _ is.asked)
+    same true false e = refl
+    same false false e = refl
 
 -- Lines, one after another.
 
@@ -778,11 +806,11 @@ rows-below options bytes a p line next lines row below rows built plain are =
     (sym still) are.5)
 
 -- what so many lines, and one more, come to, but for the containers that end behind them
-abbrev Came : ParseOptions → List ℕ → Path → ℕ → List Rest → List Row → Type 0
-Came options bytes a n rests rows =
+abbrev LinesMean : ParseOptions → List ℕ → Path → ℕ → List Rest → List Row → Type 0
+LinesMean options bytes a n rests rows =
     RowsMean options bytes a
     (close_containers (length (last_leaves (take (suc n) rows)))
-    (reading options (steps options a (take (suc n) rests))))
+    (reading options (steps_over options a (take (suc n) (told rests)))))
     (take (suc n) rows)
 
 -- The groups of the lines of a text, up to any of them, are read as what these lines do.
@@ -790,13 +818,13 @@ rows-mean : (options : ParseOptions) (bytes : List ℕ) (a : Path) (p : Point) (
     (rows : List Row) →
     IsBuilt options → IsPlain a →
     f.AreRows options bytes (containers_of a) (still_of a) p lines rows →
-    Came options bytes a n (rests_from p lines) rows
+    LinesMean options bytes a n (rests_from p lines) rows
 rows-mean options bytes a p zero (line ∷ []) (row ∷ []) built plain are =
-    row-ends options bytes a p line row built plain are.0
+    row-ends options bytes a p line row (no_bytes line) built plain are.0
 rows-mean options bytes a p (suc n) (line ∷ []) (row ∷ []) built plain are =
-    row-ends options bytes a p line row built plain are.0
+    row-ends options bytes a p line row (no_bytes line) built plain are.0
 rows-mean options bytes a p zero (line ∷ next ∷ lines) (row ∷ below ∷ rows) built plain are =
-    row-ends options bytes a p line row built plain are.0
+    row-ends options bytes a p line row false built plain are.0
 rows-mean options bytes a p (suc n) (line ∷ next ∷ lines) (row ∷ below ∷ rows) built plain are =
     let r : Rest = rest_from p line in
     let b : Path = step options a r in
@@ -804,17 +832,17 @@ rows-mean options bytes a p (suc n) (line ∷ next ∷ lines) (row ∷ below ∷
     let still : still_of b ≡ row.behind = still-line options bytes a p line row built plain are.0 in
     let plain_b : IsPlain b = plain-step options a r built plain in
     let are_b = rows-below options bytes a p line next lines row below rows built plain are in
-    let further : Came options bytes b n (rests_from q (next ∷ lines)) (below ∷ rows) = rows-mean options bytes b q n
+    let further : LinesMean options bytes b n (rests_from q (next ∷ lines)) (below ∷ rows) = rows-mean options bytes b q n
     (next ∷ lines) (below ∷ rows) built plain_b are_b in
     let some : List Row = take n rows in
     let last : Reading = close_containers (length (last_leaves (below ∷ some)))
-    (reading options (steps options b (take (suc n) (map (rest_at 0) (next ∷ lines))))) in
+    (reading options (steps_over options b (take (suc n) (told (map (rest_at 0) (next ∷ lines)))))) in
     row-means options bytes a p line row (groups (below ∷ some)) last built plain are.0
     (follows-below options bytes b row below (groups some) q next last built plain_b
     (behind-lazy options bytes (rest_line (contained_at options a r).rest) row are.0.is) still are.1 are.4
     (first-line options bytes (containers_of b) (still_of b) q (next ∷ lines) (below ∷ rows) are_b)
     (is_lazy (still_of b) below.change.opens below.kind) refl
-    (subst (λ (rests : List Rest). Came options bytes b n rests (below ∷ rows))
+    (subst (λ (rests : List Rest). LinesMean options bytes b n rests (below ∷ rows))
     (rests-behind q (next ∷ lines) are.4.column) further))
 rows-mean options bytes a p n lines rows built plain are = absurd are
 
@@ -822,15 +850,15 @@ rows-mean options bytes a p n lines rows built plain are = absurd are
 all-leave : (options : ParseOptions) (bytes : List ℕ) (a : Path) (p : Point) (lines : List (List ℕ)) (rows : List Row) →
     IsBuilt options → IsPlain a →
     f.AreRows options bytes (containers_of a) (still_of a) p lines rows →
-    last_leaves rows ≡ containers_of (steps options a (rests_from p lines))
+    last_leaves rows ≡ containers_of (steps_over options a (told (rests_from p lines)))
 all-leave options bytes a p (line ∷ []) (row ∷ []) built plain are =
-    are.1 ∙ sym (containers-step options a (rest_from p line) built plain)
+    are.1 ∙ sym (containers-over options (no_bytes line) a (rest_from p line) built plain)
 all-leave options bytes a p (line ∷ next ∷ lines) (row ∷ below ∷ rows) built plain are =
     let b : Path = step options a (rest_from p line) in
     all-leave options bytes b are.2 (next ∷ lines) (below ∷ rows) built
     (plain-step options a (rest_from p line) built plain)
     (rows-below options bytes a p line next lines row below rows built plain are)
-    ∙ ap (λ (rests : List Rest). containers_of (steps options b rests)) (rests-behind are.2 (next ∷ lines) are.4.column)
+    ∙ ap (λ (rests : List Rest). containers_of (steps_over options b (told rests))) (rests-behind are.2 (next ∷ lines) are.4.column)
 all-leave options bytes a p lines rows built plain are = absurd are
 
 -- The events of a text, up to any of its lines, are read as what these lines come to, but for the containers that end
@@ -840,7 +868,7 @@ pub lines-read : (options : ParseOptions) (bytes : List ℕ) (p : Point) (n : �
     IsBuilt options → f.AreRows options bytes [] held_leaf.None p lines rows →
     read bytes unread (groups_events bytes (groups (take n rows))) ≡
     close_containers (length (last_leaves (take n rows)))
-    (reading options (steps options (At (spot_of End)) (take n (rests_from p lines))))
+    (reading options (steps_over options (At (spot_of End)) (take n (told (rests_from p lines)))))
 lines-read options bytes p zero lines rows built are = refl
 lines-read options bytes p (suc n) lines rows built are =
     go lines rows (first-line options bytes [] held_leaf.None p lines rows are)
@@ -853,10 +881,10 @@ lines-read options bytes p (suc n) lines rows built are =
     none (c ∷ stays) closes e = cc
 
     go : (ls : List (List ℕ)) (rs : List Row) → First options bytes [] held_leaf.None p ls rs →
-        Came options bytes (At (spot_of End)) n (rests_from p lines) rs →
+        LinesMean options bytes (At (spot_of End)) n (rests_from p lines) rs →
         read bytes unread (groups_events bytes (groups (take (suc n) rs))) ≡
         close_containers (length (last_leaves (take (suc n) rs)))
-        (reading options (steps options (At (spot_of End)) (take (suc n) (rests_from p lines))))
+        (reading options (steps_over options (At (spot_of End)) (take (suc n) (told (rests_from p lines)))))
     go (line ∷ ls) (row ∷ rs) is means =
         let c : Contained = contained_at options (At (spot_of End)) (rest_from p line) in
         let first : row.change.closes ≡ [] = ap (λ (x : Change). x.closes) is.change
@@ -873,26 +901,26 @@ lines-read options bytes p (suc n) lines rows built are =
 rows-final : (options : ParseOptions) (bytes : List ℕ) (p : Point) (lines : List (List ℕ)) (rows : List Row) →
     IsBuilt options → f.AreRows options bytes [] held_leaf.None p lines rows →
     read bytes unread (groups_events bytes (groups rows)) ≡
-    final options (steps options (At (spot_of End)) (rests_from p lines))
+    final options (steps_over options (At (spot_of End)) (told (rests_from p lines)))
 rows-final options bytes p lines rows built are =
-    let rests : List Rest = rests_from p lines in
+    let rests : List Told = told (rests_from p lines) in
     let start : Path = At (spot_of End) in
     let n : ℕ = length rows + length rests in
     ap (λ (rs : List Row). read bytes unread (groups_events bytes (groups rs))) (sym (take_all n rows (omega arith)))
     ∙ lines-read options bytes p n lines rows built are
     ∙ ap₂
-    (λ (rs : List Row) (xs : List Rest).
-    close_containers (length (last_leaves rs)) (reading options (steps options start xs)))
+    (λ (rs : List Row) (xs : List Told).
+    close_containers (length (last_leaves rs)) (reading options (steps_over options start xs)))
     (take_all n rows (omega arith)) (take_all n rests (omega arith))
-    ∙ ap (λ (cs : List Container). close_containers (length cs) (reading options (steps options start rests)))
+    ∙ ap (λ (cs : List Container). close_containers (length cs) (reading options (steps_over options start rests)))
     (all-leave options bytes start p lines rows built tt are)
-    ∙ close_containers-all options [] (steps options start rests)
+    ∙ close_containers-all options [] (steps_over options start rests)
 
 -- So they spell it.
 pub spelled-rows : (options : ParseOptions) (bytes : List ℕ) (p : Point) (lines : List (List ℕ)) (rows : List Row) →
     IsBuilt options → f.AreRows options bytes [] held_leaf.None p lines rows →
     spelled (groups_events bytes (groups rows)) bytes ≡
-    closed options (steps options (At (spot_of End)) (rests_from p lines))
+    closed options (steps_over options (At (spot_of End)) (told (rests_from p lines)))
 unfolding spelled
 spelled-rows options bytes p lines rows built are =
     ap (λ (r : Reading). r.here) (rows-final options bytes p lines rows built are)

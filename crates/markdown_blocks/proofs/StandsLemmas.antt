@@ -12,6 +12,8 @@ use Rattle.md_engine.specs.Resolvers.{same_name}
 use Rattle.md_engine.specs.Run.{Runs}
 use Rattle.md_engine.specs.TextFeed.{text_feed}
 use Rattle.md_engine.specs.World.{Flags, World}
+use Rattle.std.proofs.lemmas.List.{length-map}
+use Rattle.md_definition.specs.Preamble.{rest_at}
 use Rattle.md_definition.specs.Rest.{Rest}
 use Rattle.md_seam.specs.Events.Spelled.{Reading, read, unread}
 use Rattle.md_definition.specs.State.{At, Container, Path}
@@ -28,7 +30,8 @@ use Rattle.markdown_blocks.specs.Stands.{AreOpen, IsPlain, StandsFor, containers
 use Rattle.markdown_blocks.specs.States.{FlowStep}
 use Rattle.markdown_blocks.specs.TextRows.{text_rows, text_setting}
 use Rattle.markdown_blocks.proofs.LinesFed.{LineFed, line-fed, lines-fed, open_after, leaf_after}
-use Rattle.markdown_blocks.proofs.LineSteps.{containers-step, plain-step}
+use Rattle.markdown_blocks.proofs.StepBehind.{containers-step, plain-step}
+use Rattle.markdown_blocks.proofs.LastLine.{told-some}
 use Rattle.markdown_blocks.proofs.RowFacts as f
 use Rattle.markdown_blocks.proofs.RowLemmas.{fresh-rows}
 use Rattle.markdown_blocks.proofs.SpelledRows.{still-line, lines-read, rests-behind, rows-below}
@@ -72,21 +75,40 @@ steps-left options bytes a p (suc n) (line ∷ next ∷ lines) (row ∷ below �
     )
 steps-left options bytes a p (suc n) lines rows built plain are = absurd are
 
+-- as many rows as lines
+rows-size : (options : ParseOptions) (bytes : List ℕ) (cs : List Container) (still : HeldLeaf) (p : Point)
+    (lines : List (List ℕ)) (rows : List Row) →
+    f.AreRows options bytes cs still p lines rows → length rows ≡ length lines
+rows-size options bytes cs still p (line ∷ []) (row ∷ []) are = refl
+rows-size options bytes cs still p (line ∷ next ∷ lines) (row ∷ below ∷ rows) are =
+    ap (λ (n : ℕ). suc n)
+    (rows-size options bytes (f.behind_line options cs still p line) row.behind are.2 (next ∷ lines) (below ∷ rows)
+    are.5)
+rows-size options bytes cs still p lines rows are = absurd are
+
+rests-size : (p : Point) (lines : List (List ℕ)) → length (rests_from p lines) ≡ length lines
+rests-size p [] = refl
+rests-size p (line ∷ lines) = ap (λ (n : ℕ). suc n) (length-map lines (rest_at 0))
+
 -- What was read of so many lines of a text, but for the containers that end behind them, stands for what they come to:
 -- where the flags hold the containers of this path, and whether text is open.
 pub flags-stand : (options : ParseOptions) (bytes : List ℕ) (p : Point) (n : ℕ) (lines : List (List ℕ))
     (rows : List Row) (g : Flags) →
-    IsBuilt options → f.AreRows options bytes [] held_leaf.None p lines rows →
+    IsBuilt options → f.AreRows options bytes [] held_leaf.None p lines rows → n < length rows →
     let path : Path = steps options (At (spot_of End)) (take n (rests_from p lines)) in
     AreOpen g.containers (containers_of path) → g.leaf ≡ still_of path →
     (r : Reading) × StandsFor options g r path ×
     (read bytes unread (groups_events bytes (groups (take n rows))) ≡
     close_containers (length (last_leaves (take n rows))) r)
-flags-stand options bytes p n lines rows g built are containers still =
+flags-stand options bytes p n lines rows g built are further containers still =
     let path : Path = steps options (At (spot_of End)) (take n (rests_from p lines)) in (
       reading options path,
       record { containers = containers; leaf = still; reading = refl },
-      lines-read options bytes p n lines rows built are,
+      lines-read options bytes p n lines rows built are
+          ∙ ap (λ (x : Path). close_containers (length (last_leaves (take n rows))) (reading options x))
+          (told-some options (At (spot_of End)) n (rests_from p lines)
+          (subst (λ (size : ℕ). n < size)
+          (rows-size options bytes [] held_leaf.None p lines rows are ∙ sym (rests-size p lines)) further)),
     )
 
 -- Whenever a line of a text has been fed.
@@ -100,7 +122,7 @@ stands-behind bytes options p n w built small index whole column is =
     let are : f.AreRows options bytes [] held_leaf.None p lines rows = fresh-rows options bytes p built small index
     whole column in
     let left = steps-left options bytes (At (spot_of End)) p n lines rows built tt are in
-    let all = flags-stand options bytes p n lines rows w.flags built are
+    let all = flags-stand options bytes p n lines rows w.flags built are is.further
     (subst (AreOpen w.flags.containers) (sym left.0) is.containers) (is.leaf ∙ sym left.1) in
     record {
       frames = is.frames;

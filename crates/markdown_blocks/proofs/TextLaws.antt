@@ -8,12 +8,14 @@ use Rattle.md_definition.specs.State.{Kept, Leaf, NoLeaf, texts, then_leaf}
 use Rattle.md_definition.specs.Tree.{Blocks}
 use Rattle.md_outline.specs.HeadingDepths.{are_shallow}
 use Rattle.markdown_blocks.specs.HeldLeaf.{IsBuiltLeaf}
+use Rattle.markdown_blocks.specs.Registry.{IsOpenSpan}
 use Rattle.markdown_blocks.specs.TextLeaf.{TextLeaf}
 use Rattle.markdown_blocks.proofs.OutsideFacts.{AreOutside}
 
 pub record TextLaws (t : TextLeaf) : Type 1 where
-  -- What may be open is nothing, or lines of it.
+  -- What may be open is nothing, lines of it, or a leaf of several lines that are no text.
   pub cases : (P : Leaf → Type 0) → P NoLeaf → ((k : Kept) (ks : List Kept) → P (t.held (k ∷ ks))) →
+      ((leaf : Leaf) → IsOpenSpan leaf → P leaf) →
       (leaf : Leaf) → IsBuiltLeaf leaf → P leaf
   -- Where definitions are off, it is shut as a block of its lines, which an outline can show.
   pub shut : (options : ParseOptions) (bs : Blocks) (ks : List Kept) → options.constructs.definition ≡ false →

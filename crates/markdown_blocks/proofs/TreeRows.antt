@@ -3,12 +3,13 @@
 use Rattle.md_engine.specs.declared.tokenizer.held_leaf.HeldLeaf.TheVariants as held_leaf
 use Rattle.md_engine.specs.declared.tokenizer.held_leaf.HeldLeaf.{HeldLeaf}
 use Rattle.std.proofs.Common.{◌≡◌, ℕ, zero, suc, ◌-◌, Bool, true, false, cond, not, ◌==◌, ◌&&◌, ◌||◌, List, [], ◌∷◌}
+use Rattle.md_definition.specs.Leaves.{Came}
 use Rattle.md_definition.specs.State.{spot}
 use Rattle.markdown_blocks.proofs.Registry.{insider-none, insider-text}
 use Rattle.markdown_blocks.specs.HeldLeaf.{kind_of_leaf, met_by}
 use Rattle.markdown_blocks.specs.Change.{is_none}
-use Rattle.markdown_blocks.specs.Registry.{insider}
-use Rattle.markdown_blocks.specs.Rows.{is_inside}
+use Rattle.markdown_blocks.specs.Registry.{insider, leaf}
+use Rattle.markdown_blocks.specs.Rows.{is_further, is_inside}
 use Rattle.markdown_blocks.specs.Fronted.{prefixes_behind}
 use Rattle.markdown_blocks.specs.Change.{met}
 use Rattle.std.proofs.Common.{◌++◌, map, length, drop, take, refl, ap, sym, ◌∙◌, subst, inl, inr, ◌⊎◌}
@@ -39,20 +40,28 @@ use Rattle.markdown_blocks.specs.Fed.{rests_from}
 use Rattle.markdown_blocks.specs.Fronted.{Contained, Prefixed, contained, no_prefix, one_more, prefixes_new}
 use Rattle.markdown_blocks.specs.Fronted.{prefixes_on}
 use Rattle.markdown_blocks.specs.Parsed.{IsBuilt}
-use Rattle.markdown_blocks.specs.Registry.{leaf, text_leaf}
+use Rattle.markdown_blocks.specs.Registry.{text_leaf}
 use Rattle.markdown_blocks.specs.Rows.{BlankRow, LeafRow, Row, RowKind, TextRow, groups, groups_events, is_lazy}
 use Rattle.markdown_blocks.specs.Rows.{line_kind}
 use Rattle.markdown_blocks.specs.HeldLeaf.{IsBuiltLeaf}
 use Rattle.markdown_blocks.specs.Stands.{IsPlain, containers_of, still_of}
 use Rattle.markdown_blocks.proofs.ContainedLemmas.{contained-kinds}
-use Rattle.markdown_blocks.proofs.KindLemmas.{kind-plain, kind-starts}
-use Rattle.markdown_blocks.proofs.LineSteps.{behind_path, contained_at, goes_lazy, kept_to, longer}
-use Rattle.markdown_blocks.proofs.LineSteps.{new_line, new_path, plain-step, renewed, spot_by, step-contained, step-new}
-use Rattle.markdown_blocks.proofs.LineSteps.{stepped_on}
+use Rattle.markdown_blocks.proofs.KindLemmas.{kind-plain}
+use Rattle.markdown_blocks.proofs.LineSteps.{behind_path, come_by, contained_at, further_path, goes_further, goes_lazy}
+use Rattle.markdown_blocks.proofs.LineSteps.{kept_to, longer, new_line, path_by, renewed, spot_by, step-contained}
+use Rattle.markdown_blocks.proofs.LineSteps.{step-new, stepped, stepped_on, with_came}
+use Rattle.markdown_blocks.proofs.OpenSpan.{ComesShallow, OpenSpan}
+use Rattle.markdown_blocks.proofs.LastLine.{no_bytes, no_rests, step_over, steps_over, told}
+use Rattle.markdown_blocks.proofs.LineSteps.{asked-kind, plain_kind}
+use Rattle.markdown_blocks.proofs.StepBehind.{GoesOn, begun-leaf, goes-on, plain-step, span-open}
+use Rattle.markdown_blocks.proofs.ContainedLemmas.{contained-still}
+use Rattle.markdown_blocks.specs.HeldLeaf.{has_lines, takes_lazy}
+use Rattle.markdown_blocks.specs.Change.{Change}
+use Rattle.markdown_blocks.specs.Fronted.{contained_behind, contained_of}
 use Rattle.markdown_blocks.proofs.MarkLemmas.{without-mark}
 use Rattle.markdown_blocks.proofs.RowFacts as f
 use Rattle.markdown_blocks.proofs.SpelledRows.{spelled-rows}
-use Rattle.markdown_blocks.proofs.Registry.{leaf-shallow, text-laws}
+use Rattle.markdown_blocks.proofs.Registry.{open-span, text-laws}
 use Rattle.markdown_blocks.proofs.ShallowBlocks.{shallow-then}
 use Rattle.markdown_blocks.proofs.RegistryRead.{AreRead, IsRead, IsReadTaken, kinds-read, read-front}
 use Rattle.markdown_blocks.proofs.RegistryContainers.{opens-read, over-empty, read-shallow}
@@ -121,7 +130,8 @@ shallow-read (Within before container p) h = (h.1, shallow-read p h.2)
 shallow-shut : (options : ParseOptions) (s : Spot) → IsBuilt options → IsBuiltLeaf s.leaf → are_shallow s.here ≡ true →
     are_shallow (shut options s) ≡ true
 shallow-shut options s built plain h =
-    text-laws.cases (λ (leaf : Leaf). are_shallow (then_leaf options s.here leaf) ≡ true) h text s.leaf plain
+    text-laws.cases (λ (leaf : Leaf). are_shallow (then_leaf options s.here leaf) ≡ true) h text
+    (λ l is. (open-span l is).closed options s.here h) s.leaf plain
   where
     text : (k : Kept) (ks : List Kept) → are_shallow (then_leaf options s.here (text_leaf.held (k ∷ ks))) ≡ true
     text k ks =
@@ -157,25 +167,39 @@ shallow-behind : (p : Path) (f : Blocks → Path) → HoldsShallow p →
 shallow-behind (At s) f h each = each s.here h
 shallow-behind (Within before container p) f h each = (h.0, h.1, shallow-behind p f h.2 each)
 
-shallow-line : (options : ParseOptions) (on : HeldLeaf) (bs : Blocks) (r : Rest) → are_shallow bs ≡ true →
-    are_shallow (spot_by bs [] r (line_kind options on r)).here ≡ true
-shallow-line options on bs r h = go (line_kind options on r) refl
+shallow-came : (p : Path) (c : Came) → ComesShallow c → HoldsShallow p → HoldsShallow (with_came p c)
+shallow-came (At s) c shallow h = shallow s.here h
+shallow-came (Within before container p) c shallow h = (h.0, h.1, shallow-came p c shallow h.2)
+
+shallow-line : (options : ParseOptions) (on : HeldLeaf) (bs : Blocks) (r : Rest) →
+    is_further (line_kind options on r) on ≡ false → are_shallow bs ≡ true →
+    are_shallow (spot_by options bs [] r (line_kind options on r)).here ≡ true
+shallow-line options on bs r begins h = go (line_kind options on r) refl
   where
-    go : (kind : RowKind) → line_kind options on r ≡ kind → are_shallow (spot_by bs [] r kind).here ≡ true
+    go : (kind : RowKind) → line_kind options on r ≡ kind → are_shallow (spot_by options bs [] r kind).here ≡ true
     go BlankRow e = h
-    go (LeafRow l) e =
-        shallow-then bs ((leaf l).block r) h (leaf-shallow l options on r (kind-starts options on r l e))
+    go (LeafRow l) e = (begun-leaf options on r begins l e).shallow bs h
     go TextRow e = h
 
 shallow-new_line : (options : ParseOptions) (on : HeldLeaf) (cs : List Container) (r : Rest) (bs : Blocks) →
-    AreRead cs → are_shallow bs ≡ true → HoldsShallow (new_line options on cs r bs)
-shallow-new_line options on [] r bs read h = shallow-line options on bs r h
-shallow-new_line options on (c ∷ cs) r bs read h = (h, read.0, shallow-new_line options on cs r End read.1 refl)
+    is_further (line_kind options on r) on ≡ false → AreRead cs → are_shallow bs ≡ true →
+    HoldsShallow (new_line options on cs r bs)
+shallow-new_line options on [] r bs begins read h = shallow-line options on bs r begins h
+shallow-new_line options on (c ∷ cs) r bs begins read h =
+    (h, read.0, shallow-new_line options on cs r End begins read.1 refl)
+
+shallow-further : (options : ParseOptions) (p : Path) (c : Contained) → GoesOn options p c → AreRead c.change.stays →
+    HoldsShallow p → HoldsShallow (further_path options p c)
+shallow-further options p c goes stay h =
+    shallow-came (renewed c.change.stays p) (come_by options (spot p).leaf c.rest (line_kind options c.on c.rest))
+    (subst (λ (kind : RowKind). ComesShallow (come_by options (spot p).leaf c.rest kind)) (sym goes.kind)
+    (goes.is.shallow options c.rest)) (shallow-renewed c.change.stays p stay h)
 
 shallow-step : (options : ParseOptions) (p : Path) (r : Rest) → IsBuilt options → IsPlain p → HoldsShallow p →
     HoldsShallow (step options p r)
 shallow-step options p r built plain h =
-    subst HoldsShallow (sym (step-contained options p r built plain)) (go (goes_lazy options p c))
+    subst HoldsShallow (sym (step-contained options p r built plain))
+    (go (goes_lazy options p c) (goes_further options c) refl)
   where
     c : Contained
     c = contained_at options p r
@@ -186,13 +210,14 @@ shallow-step options p r built plain h =
     open_new : AreRead c.change.opens
     open_new = read-open options (containers_of p) (still_of p) r built
 
-    go : (x : Bool) →
-        HoldsShallow (cond x (longer (renewed c.change.stays p) (kept c.rest ∷ [])) (new_path options p c))
-    go true = shallow-longer (renewed c.change.stays p) (kept c.rest ∷ []) (shallow-renewed c.change.stays p stay h)
-    go false =
+    go : (x y : Bool) → goes_further options c ≡ y → HoldsShallow (path_by options p c x y)
+    go true y e =
+        shallow-longer (renewed c.change.stays p) (kept c.rest ∷ []) (shallow-renewed c.change.stays p stay h)
+    go false true e = shallow-further options p c (goes-on options p r plain e) stay h
+    go false false e =
         shallow-behind (kept_to options c.change.stays p) (new_line options c.on c.change.opens c.rest)
         (shallow-kept options c.change.stays p built plain stay h)
-        (λ bs k. shallow-new_line options c.on c.change.opens c.rest bs open_new k)
+        (λ bs k. shallow-new_line options c.on c.change.opens c.rest bs e open_new k)
 
 plain-steps : (options : ParseOptions) (p : Path) (rs : List Rest) → IsBuilt options → IsPlain p →
     IsPlain (steps options p rs)
@@ -247,94 +272,236 @@ on-empty options (c ∷ cs) column read =
 closed-empty : (options : ParseOptions) (n : ℕ) (p : Path) (column : ℕ) →
     closed options
     (behind_path (kept_to options (take n (containers_of p)) p)
-    (λ (bs : Blocks). At (spot_by bs [] (rest_at column []) BlankRow))) ≡
+    (λ (bs : Blocks). At (spot_by options bs [] (rest_at column []) BlankRow))) ≡
     closed options p
 closed-empty options zero p column = refl
 closed-empty options (suc n) (At s) column = refl
 closed-empty options (suc n) (Within before c p) column =
     ap (λ (bs : Blocks). then_block before (container_block c bs)) (closed-empty options n p column)
 
--- where nothing is open but text, no leaf is asked first
-met-plain : (p : Path) (others : List Container) → IsPlain p → insider (met (still_of p) others []) ≡ None
-met-plain p others plain =
-    text-laws.cases (λ (leaf : Leaf). insider (met (kind_of_leaf leaf) others []) ≡ None) (none (is_none others))
-    (λ k ks. insider-text) (spot p).leaf plain
+-- a line that goes on a leaf of several lines goes on no text
+further-unlazy : (still on : HeldLeaf) (opens : List Container) (kind : RowKind) → is_further kind on ≡ true →
+    is_lazy still opens kind ≡ false
+further-unlazy still on opens BlankRow e = cc
+further-unlazy still on opens (LeafRow l) e = go (takes_lazy still) (is_none opens)
   where
-    none : (all : Bool) → insider (met_by all held_leaf.None) ≡ None
-    none true = insider-none
-    none false = insider-none
+    go : (x y : Bool) → (x && y && false) ≡ false
+    go true true = refl
+    go true false = refl
+    go false y = refl
+further-unlazy still on opens TextRow e = cc
 
-step-empty : (options : ParseOptions) (p : Path) (column : ℕ) → IsBuilt options → IsPlain p →
-    AreRead (containers_of p) → closed options (step options p (rest_at column [])) ≡ closed options p
-step-empty options p column built plain read =
-    ap (closed options) (step-new options p r built plain)
-    ∙ ap (λ (on : Prefixed). closed options (stepped_on options p on)) on.1
-    ∙ ap
-    (λ (k : RowKind).
-    closed options
-    (cond (is_lazy (still_of p) [] k)
-    (longer (renewed (went ++ others_of (containers_of p) went) p) (kept r ∷ []))
-    (behind_path (kept_to options went p) (λ (bs : Blocks). At (spot_by bs [] r k)))))
-    (kind-plain options (met (still_of p) (others_of (containers_of p) went) []) r
-    (met-plain p (others_of (containers_of p) went) plain))
-    ∙ go (still_of p)
-    ∙ closed-empty options on.0 p column
+-- what an empty line does, where so many containers go on
+abbrev empty_contained : ParseOptions → Path → ℕ → ℕ → Contained
+empty_contained options p n column =
+    let went : Prefixed = record { containers = take n (containers_of p); rest = rest_at column [] } in
+    contained_of options (containers_of p) (still_of p) went (no_prefix (rest_at column []))
+
+empty-line : (options : ParseOptions) (p : Path) (column : ℕ) → AreRead (containers_of p) →
+    (n : ℕ) × (contained_at options p (rest_at column []) ≡ empty_contained options p n column)
+unfolding contained
+empty-line options p column read =
+    let on = on-empty options (containers_of p) column read in
+    let went : Prefixed = record { containers = take on.0 (containers_of p); rest = rest_at column [] } in
+    let others : List Container = others_of (containers_of p) went.containers in (
+      on.0,
+      ap (contained_behind options (containers_of p) (still_of p)) on.1
+          ∙ ap (contained_of options (containers_of p) (still_of p) went)
+          (none (interrupts (still_of p) others) (is_inside (still_of p) others)),
+    )
+  where
+    -- none opens
+    none : (interrupting x : Bool) →
+        cond x (no_prefix (rest_at column [])) (prefixes_new options interrupting 0 (rest_at column [])) ≡
+        no_prefix (rest_at column [])
+    none interrupting true = refl
+    none interrupting false = refl
+
+-- where it goes on no leaf of several lines, it is blank
+no_lines-asked : (on : HeldLeaf) → has_lines on ≡ false → insider on ≡ None
+no_lines-asked held_leaf.None e = insider-none
+no_lines-asked held_leaf.Text e = insider-text
+no_lines-asked held_leaf.Code e = cc
+no_lines-asked (held_leaf.Fence marker size indent) e = cc
+
+empty-blank : (options : ParseOptions) (p : Path) (column : ℕ) → IsPlain p →
+    let on = (contained_at options p (rest_at column [])).on in
+    is_further (line_kind options on (rest_at column [])) on ≡ false →
+    line_kind options on (rest_at column []) ≡ BlankRow
+empty-blank options p column plain e = go (has_lines on) refl
   where
     r : Rest
     r = rest_at column []
 
-    on : (n : ℕ) × (prefixes_on options (containers_of p) r ≡ record { containers = take n (containers_of p); rest = r })
-    on = on-empty options (containers_of p) column read
+    on : HeldLeaf
+    on = (contained_at options p r).on
+
+    by : (is : OpenSpan (spot p).leaf) (x : Bool) →
+        is_further (cond x (LeafRow is.name) (plain_kind options (still_of p) r)) (still_of p) ≡ false →
+        cond x (LeafRow is.name) (plain_kind options (still_of p) r) ≡ BlankRow
+    by is true f = let further = is.further in cc
+    by is false f = refl
+
+    go : (x : Bool) → has_lines on ≡ x → line_kind options on r ≡ BlankRow
+    go true lines =
+        let same : on ≡ still_of p = contained-still options (containers_of p) (still_of p) r lines in
+        let is : OpenSpan (spot p).leaf = span-open (spot p).leaf plain (ap has_lines (sym same) ∙ lines) in
+        let asked = asked-kind options (still_of p) r is.name is.asked in
+        ap (λ (x : HeldLeaf). line_kind options x r) same ∙ asked
+        ∙ by is ((leaf is.name).starts options (still_of p) r)
+        (ap (λ (kind : RowKind). is_further kind (still_of p)) (sym asked)
+        ∙ ap (λ (x : HeldLeaf). is_further (line_kind options x r) x) (sym same) ∙ e)
+    go false lines = kind-plain options on r (no_lines-asked on lines)
+
+renewed-some : (n : ℕ) (p : Path) → renewed (take n (containers_of p)) p ≡ p
+renewed-some zero p = refl
+renewed-some (suc n) (At s) = refl
+renewed-some (suc n) (Within before c p) = ap (Within before c) (renewed-some n p)
+
+step-empty : (options : ParseOptions) (p : Path) (column : ℕ) → IsBuilt options → IsPlain p →
+    AreRead (containers_of p) → closed options (step_over options true p (rest_at column [])) ≡ closed options p
+step-empty options p column built plain read = go (goes_further options c) refl
+  where
+    r : Rest
+    r = rest_at column []
+
+    c : Contained
+    c = contained_at options p r
+
+    line : (n : ℕ) × (c ≡ empty_contained options p n column)
+    line = empty-line options p column read
+
+    n : ℕ
+    n = line.0
 
     went : List Container
-    went = take on.0 (containers_of p)
+    went = take n (containers_of p)
 
-    other : Path
-    other =
-        behind_path (kept_to options (take on.0 (containers_of p)) p)
-        (λ (bs : Blocks). At (spot_by bs [] (rest_at column []) BlankRow))
+    others : List Container
+    others = others_of (containers_of p) went
 
-    go : (x : HeldLeaf) →
-        closed options
-        (cond (is_lazy x [] BlankRow)
-        (longer (renewed (went ++ others_of (containers_of p) went) p) (kept r ∷ [])) other) ≡
-        closed options other
-    go held_leaf.Text = refl
-    go held_leaf.None = refl
-    go held_leaf.Code = refl
-    go (held_leaf.Fence marker size indent) = refl
+    on : HeldLeaf
+    on = met (still_of p) others []
 
-steps-append : (options : ParseOptions) (p : Path) (rs ss : List Rest) →
-    steps options p (rs ++ ss) ≡ steps options (steps options p rs) ss
-steps-append options p [] ss = refl
-steps-append options p (r ∷ rs) ss = steps-append options (step options p r) rs ss
+    kind : RowKind
+    kind = line_kind options on r
+
+    -- a line that goes on a leaf leaves all as it was
+    stays : Bool → Path
+    stays lazy = renewed (change_by lazy went others []).stays p
+
+    -- any other is blank, and ends some containers
+    by : Bool → Path
+    by lazy =
+        let change : Change = change_by lazy went others [] in
+        cond (is_lazy (still_of p) change.opens kind) (longer (renewed change.stays p) (kept r ∷ []))
+        (behind_path (kept_to options change.stays p) (new_line options on change.opens r))
+
+    ended : RowKind → Path
+    ended k =
+        cond (is_lazy (still_of p) [] k) (longer (renewed went p) (kept r ∷ []))
+        (behind_path (kept_to options went p) (λ (bs : Blocks). At (spot_by options bs [] r k)))
+
+    go : (x : Bool) → goes_further options c ≡ x →
+        closed options (cond x (renewed c.change.stays p) (step options p r)) ≡ closed options p
+    go true e =
+        ap (λ (x : Contained). closed options (renewed x.change.stays p)) line.1
+        ∙ ap (λ (x : Bool). closed options (stays x))
+        (further-unlazy (still_of p) on [] kind (ap (goes_further options) (sym line.1) ∙ e))
+        ∙ ap (closed options) (renewed-some n p)
+    go false e =
+        let is_blank : kind ≡ BlankRow = empty-kind e in
+        ap (closed options) (step-contained options p r built plain)
+        ∙ ap (λ (x : Bool). closed options (path_by options p c (goes_lazy options p c) x)) e
+        ∙ ap (λ (x : Contained). closed options (path_by options p x (goes_lazy options p x) false)) line.1
+        ∙ ap (λ (x : Bool). closed options (by x)) (ap (is_lazy (still_of p) []) is_blank ∙ none (takes_lazy (still_of p)))
+        ∙ ap (λ (k : RowKind). closed options (ended k)) is_blank
+        ∙ ap (closed options) (last (takes_lazy (still_of p)))
+        ∙ closed-empty options n p column
+      where
+        rest-same : goes_further options c ≡ false → is_further (line_kind options c.on r) c.on ≡ false
+        rest-same e = subst (λ (x : Rest). is_further (line_kind options c.on x) c.on ≡ false) (ap (λ (x : Contained). x.rest) line.1) e
+
+        empty-kind : goes_further options c ≡ false → kind ≡ BlankRow
+        empty-kind e = subst (λ (x : Contained). line_kind options x.on r ≡ BlankRow) line.1 (empty-blank options p column plain (rest-same e))
+
+        none : (x : Bool) → (x && true && false) ≡ false
+        none true = refl
+        none false = refl
+
+        last : (x : Bool) →
+            cond (x && true && false) (longer (renewed went p) (kept r ∷ []))
+            (behind_path (kept_to options went p) (λ (bs : Blocks). At (spot_by options bs [] r BlankRow))) ≡
+            behind_path (kept_to options went p) (λ (bs : Blocks). At (spot_by options bs [] r BlankRow))
+        last true = refl
+        last false = refl
+
+-- The lines of a text, with the empty one behind its last ending.
+
+abbrev come_over : ParseOptions → List Rest → Blocks
+come_over options rs = closed options (steps_over options (At (spot_of End)) (told rs))
+
+behind-empty : (options : ParseOptions) (column : ℕ) (p : Path) (rs : List Rest) → IsBuilt options → IsPlain p →
+    HoldsShallow p →
+    closed options (steps_over options p (told (rs ++ rest_at column [] ∷ []))) ≡ closed options (steps options p rs)
+behind-empty options column p [] built plain h = step-empty options p column built plain (shallow-read p h)
+behind-empty options column p (r ∷ rs) built plain h =
+    ap
+    (λ (x : Bool).
+    closed options
+    (steps_over options (step_over options (x && no_bytes r.bytes) p r) (told (rs ++ rest_at column [] ∷ []))))
+    (some rs)
+    ∙ behind-empty options column (step options p r) rs built (plain-step options p r built plain)
+    (shallow-step options p r built plain h)
+  where
+    some : (xs : List Rest) → no_rests (xs ++ rest_at column [] ∷ []) ≡ false
+    some [] = refl
+    some (x ∷ xs) = refl
 
 come-empty : (options : ParseOptions) (column : ℕ) (lines : List (List ℕ)) → IsBuilt options →
-    come options (rests_at column (lines ++ [] ∷ [])) ≡ come options (rests_at column lines)
-come-empty options column [] built = step-empty options (At (spot_of End)) column built tt tt
+    come_over options (rests_at column (lines ++ [] ∷ [])) ≡ come options (rests_at column lines)
+come-empty options column [] built = behind-empty options column (At (spot_of End)) [] built tt refl
 come-empty options column (line ∷ lines) built =
-    let first : Path = step options (At (spot_of End)) (rest_at column line) in
-    let rs : List Rest = map (rest_at 0) lines in
-    let plain : IsPlain first = plain-step options (At (spot_of End)) (rest_at column line) built tt in
-    let shallow : HoldsShallow first = shallow-step options (At (spot_of End)) (rest_at column line) built tt refl in
-    ap (λ (l : List Rest). closed options (steps options first l)) (map-append (rest_at 0) lines ([] ∷ []))
-    ∙ ap (closed options) (steps-append options first rs (rest_at 0 [] ∷ []))
-    ∙ step-empty options (steps options first rs) 0 built (plain-steps options first rs built plain)
-    (shallow-read (steps options first rs) (shallow-steps options first rs built plain shallow))
+    ap (λ (l : List Rest). come_over options (rest_at column line ∷ l)) (map-append (rest_at 0) lines ([] ∷ []))
+    ∙ behind-empty options 0 (At (spot_of End)) (rest_at column line ∷ map (rest_at 0) lines) built tt refl
+
+-- the last of these lines is not empty
+abbrev FullLast : List (List ℕ) → Type 0
+FullLast [] = ⊥
+FullLast (line ∷ []) = no_bytes line ≡ false
+FullLast (line ∷ next ∷ lines) = FullLast (next ∷ lines)
+
+steps-full : (options : ParseOptions) (column : ℕ) (p : Path) (lines : List (List ℕ)) → FullLast lines →
+    steps_over options p (told (rests_at column lines)) ≡ steps options p (rests_at column lines)
+steps-full options column p [] full = absurd full
+steps-full options column p (line ∷ []) full =
+    ap (λ (x : Bool). step_over options x p (rest_at column line)) full
+steps-full options column p (line ∷ next ∷ lines) full =
+    steps-full options 0 (step options p (rest_at column line)) (next ∷ lines) full
+
+full-line : (line : List ℕ) (lines : List (List ℕ)) → FullLast lines → FullLast (line ∷ lines)
+full-line line [] full = absurd full
+full-line line (next ∷ lines) full = full
+
+full-byte : (b : ℕ) (lines : List (List ℕ)) → FullLast lines → FullLast (onto_first b lines)
+full-byte b [] full = absurd full
+full-byte b (line ∷ []) full = refl
+full-byte b (line ∷ next ∷ lines) full = full
 
 -- these lines, or these and an empty one
 abbrev IsOrEmpty : List (List ℕ) → List (List ℕ) → Type 0
-IsOrEmpty split lines = (split ≡ lines) ⊎ (split ≡ lines ++ [] ∷ [])
+IsOrEmpty split lines = ((split ≡ lines) × FullLast split) ⊎ (split ≡ lines ++ [] ∷ [])
 
 or_empty-line : (line : List ℕ) (split lines : List (List ℕ)) → IsOrEmpty split lines →
     IsOrEmpty (line ∷ split) (line ∷ lines)
-or_empty-line line split lines (inl e) = inl (ap (λ (x : List (List ℕ)). line ∷ x) e)
+or_empty-line line split lines (inl e) = inl (ap (λ (x : List (List ℕ)). line ∷ x) e.0, full-line line split e.1)
 or_empty-line line split lines (inr e) = inr (ap (λ (x : List (List ℕ)). line ∷ x) e)
 
 or_empty-byte : (b : ℕ) (split lines : List (List ℕ)) → IsOrEmpty split lines →
     IsOrEmpty (onto_first b split) (onto_first b lines)
-or_empty-byte b split lines (inl e) = inl (ap (onto_first b) e)
-or_empty-byte b split [] (inr e) = inl (ap (onto_first b) e)
+or_empty-byte b split lines (inl e) = inl (ap (onto_first b) e.0, full-byte b split e.1)
+or_empty-byte b split [] (inr e) =
+    inl (ap (onto_first b) e, subst (λ (l : List (List ℕ)). FullLast (onto_first b l)) (sym e) refl)
 or_empty-byte b split (line ∷ lines) (inr e) = inr (ap (onto_first b) e)
 
 without_ending-end : (b : ℕ) (line : List ℕ) → is_ending b ≡ true → without_ending (b ∷ line) ≡ []
@@ -383,10 +550,12 @@ split-or_empty (b ∷ bs) = go (ends_line b bs) (is_ending b) refl refl (split-o
         (or_empty-byte b (split_lines bs) (lines_of bs) s)
 
 come-split : (options : ParseOptions) (column : ℕ) (split lines : List (List ℕ)) → IsBuilt options →
-    IsOrEmpty split lines → come options (rests_at column split) ≡ come options (rests_at column lines)
-come-split options column split lines built (inl e) = ap (λ (l : List (List ℕ)). come options (rests_at column l)) e
+    IsOrEmpty split lines → come_over options (rests_at column split) ≡ come options (rests_at column lines)
+come-split options column split lines built (inl e) =
+    ap (closed options) (steps-full options column (At (spot_of End)) split e.1)
+    ∙ ap (λ (l : List (List ℕ)). come options (rests_at column l)) e.0
 come-split options column split lines built (inr e) =
-    ap (λ (l : List (List ℕ)). come options (rests_at column l)) e ∙ come-empty options column lines built
+    ap (λ (l : List (List ℕ)). come_over options (rests_at column l)) e ∙ come-empty options column lines built
 
 -- The tree of a text.
 
@@ -437,7 +606,7 @@ body-rows options built bytes rows are =
     let p : Point = body_point bytes in
     let text : List ℕ = without_mark bytes in
     spelled-rows options bytes p (split_lines (drop p.index bytes)) rows built are
-    ∙ ap (come options) (rests-at p (split_lines (drop p.index bytes)))
-    ∙ ap (λ (k : ℕ). come options (rests_at k (split_lines (drop p.index bytes)))) (body-first bytes)
-    ∙ ap (λ (l : List ℕ). come options (rests_at (first_column bytes) (split_lines l))) (sym (without-mark bytes))
+    ∙ ap (come_over options) (rests-at p (split_lines (drop p.index bytes)))
+    ∙ ap (λ (k : ℕ). come_over options (rests_at k (split_lines (drop p.index bytes)))) (body-first bytes)
+    ∙ ap (λ (l : List ℕ). come_over options (rests_at (first_column bytes) (split_lines l))) (sym (without-mark bytes))
     ∙ come-split options (first_column bytes) (split_lines text) (lines_of text) built (split-or_empty text)

@@ -10,6 +10,7 @@ use Rattle.md_engine.specs.declared.tokenizer.held_leaf.HeldLeaf.TheVariants as 
 use Rattle.md_definition.specs.Leaves.{Came, Finished, Opened}
 use Rattle.md_definition.specs.State.{Leaf, NoLeaf, OpenCode, OpenFence, OpenParagraph}
 use Rattle.markdown_blocks.specs.Leaf.Paragraph.{IsOpenText}
+use Rattle.markdown_blocks.specs.Registry.{IsOpenSpan}
 
 -- whether a line goes on it that starts no other leaf, although not all containers went on (CommonMark 5.1, "laziness")
 abbrev pub takes_lazy : HeldLeaf → Bool
@@ -43,7 +44,8 @@ left_by (Finished block) = NoLeaf
 abbrev pub MatchesLeaf : HeldLeaf → Leaf → Type 0
 MatchesLeaf held leaf = held ≡ kind_of_leaf leaf
 
--- What may be open in what is built: nothing, or a text with a line at least.
+-- What may be open in what is built: nothing, a text with a line at least, or a leaf of several lines.
 abbrev pub IsBuiltLeaf : Leaf → Type 0
 IsBuiltLeaf NoLeaf = Unit {0}
-IsBuiltLeaf leaf = IsOpenText leaf
+IsBuiltLeaf (OpenParagraph lines) = IsOpenText (OpenParagraph lines)
+IsBuiltLeaf leaf = IsOpenSpan leaf

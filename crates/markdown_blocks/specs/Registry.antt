@@ -34,7 +34,7 @@ use Rattle.md_leaves.specs.Heading.{heading_scheme, heading_transition}
 use Rattle.md_leaves.specs.HeadingRule.{heading_behaves}
 use Rattle.md_leaves.specs.HeadingText.{headings_resolved, is_heading}
 use Rattle.md_seam.specs.Events.Spelled.{FootnoteShape, ItemShape, OrderedShape, QuoteShape, Shape, UnorderedShape}
-use Rattle.md_definition.specs.State.{Container, InFootnote, InItem, InQuote}
+use Rattle.md_definition.specs.State.{Container, InFootnote, InItem, InQuote, Leaf}
 use Rattle.md_seam.specs.Transition.{Transition}
 use Rattle.markdown_blocks.specs.ContainerRules.{ContainerRules}
 use Rattle.markdown_blocks.specs.Containers.BlockQuote.{quote_rules}
@@ -68,6 +68,10 @@ insider on = None
 -- the one that takes the further lines of a leaf whose first line this takes
 abbrev pub further_of : LeafName → LeafName
 further_of l = l
+
+-- The leaves of several lines that may be open between two lines, but for text: none is built.
+unfoldable pub IsOpenSpan : Leaf → Type 0
+IsOpenSpan open_leaf = ⊥
 
 -- the first of them that passes a test
 abbrev pub first_of : (LeafName → Bool) → List LeafName → Option LeafName

@@ -18,16 +18,19 @@ use Rattle.md_definition.specs.Tree.{Blocks, Paragraph}
 use Rattle.md_outline.specs.HeadingDepths.{are_shallow}
 use Rattle.markdown_blocks.specs.Leaf.Paragraph.{paragraph_leaf}
 use Rattle.markdown_blocks.specs.HeldLeaf.{IsBuiltLeaf}
+use Rattle.markdown_blocks.specs.Registry.{IsOpenSpan}
 use Rattle.markdown_blocks.proofs.EachEvent.{settled-each}
 use Rattle.markdown_blocks.proofs.OutsideFacts.{AreOutside, IsOutside, outside-append}
 use Rattle.markdown_blocks.proofs.ShallowBlocks.{shallow-then}
 use Rattle.markdown_blocks.proofs.TextLaws.{TextLaws}
 
 open-cases : (P : Leaf → Type 0) → P NoLeaf → ((k : Kept) (ks : List Kept) → P (OpenParagraph (k ∷ ks))) →
+    ((leaf : Leaf) → IsOpenSpan leaf → P leaf) →
     (leaf : Leaf) → IsBuiltLeaf leaf → P leaf
-open-cases P none text NoLeaf plain = none
-open-cases P none text (OpenParagraph (k ∷ ks)) plain = text k ks
-open-cases P none text leaf plain = absurd plain
+open-cases P none text span NoLeaf plain = none
+open-cases P none text span (OpenParagraph []) plain = absurd plain
+open-cases P none text span (OpenParagraph (k ∷ ks)) plain = text k ks
+open-cases P none text span leaf plain = span leaf plain
 
 shut-lines : (options : ParseOptions) (bs : Blocks) (ks : List Kept) → options.constructs.definition ≡ false →
     then_leaf options bs (OpenParagraph ks) ≡ then_paragraph bs (texts ks)
@@ -69,7 +72,7 @@ content-outside bytes options chunks =
 
 pub paragraph-laws : TextLaws paragraph_leaf
 paragraph-laws = record {
-  cases = λ P none text leaf plain. open-cases P none text leaf plain;
+  cases = λ P none text span leaf plain. open-cases P none text span leaf plain;
   shut = λ options bs ks off. shut-lines options bs ks off;
   shallow = λ bs lines h. shallow-behind bs lines h;
   outside = λ bytes options chunks. content-outside bytes options chunks;

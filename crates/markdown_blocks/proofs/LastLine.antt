@@ -1,0 +1,77 @@
+-- The empty line behind the last ending of a text: it is a row, but no line of the line definition.
+--
+-- Where it goes on a leaf of several lines, it adds nothing to that leaf; elsewhere it does what any empty line does,
+-- and that adds nothing either.
+use Rattle.std.proofs.Common.{◌≡◌, ℕ, zero, suc, ◌<◌, Bool, true, false, cond, ◌&&◌, List, [], ◌∷◌, ◌++◌, length, take}
+use Rattle.std.proofs.Common.{refl, ap, sym, ◌∙◌, append-nil, arith}
+use Rattle.md_engine.specs.declared.configuration.ParseOptions.{ParseOptions}
+use Rattle.md_definition.specs.Rest.{Rest}
+use Rattle.md_definition.specs.State.{Container, Path}
+use Rattle.md_definition.specs.Step.{step, steps}
+use Rattle.markdown_blocks.specs.Change.{open_behind}
+use Rattle.markdown_blocks.specs.Fronted.{Contained}
+use Rattle.markdown_blocks.specs.Parsed.{IsBuilt}
+use Rattle.markdown_blocks.specs.Stands.{IsPlain, containers_of}
+use Rattle.markdown_blocks.proofs.LineSteps.{contained_at, goes_further, renewed}
+use Rattle.markdown_blocks.proofs.StepBehind.{GoesOn, containers-all, containers-step, goes-on, plain-renewed, plain-step}
+
+-- what a line does, of which it is told whether it stands over the end of the text
+abbrev pub step_over : ParseOptions → Bool → Path → Rest → Path
+step_over options over p r =
+    let c = contained_at options p r in
+    cond (over && goes_further options c) (renewed c.change.stays p) (step options p r)
+
+pub record Told : Type 0 where
+  pub rest : Rest
+  pub over : Bool
+
+abbrev pub no_bytes : List ℕ → Bool
+no_bytes [] = true
+no_bytes (b ∷ bytes) = false
+
+abbrev pub no_rests : List Rest → Bool
+no_rests [] = true
+no_rests (r ∷ rs) = false
+
+-- the lines of a text: the last of them stands over its end if it is empty
+abbrev pub told : List Rest → List Told
+told [] = []
+told (r ∷ rs) = record { rest = r; over = no_rests rs && no_bytes r.bytes } ∷ told rs
+
+abbrev pub steps_over : ParseOptions → Path → List Told → Path
+steps_over options p [] = p
+steps_over options p (t ∷ ts) = steps_over options (step_over options t.over p t.rest) ts
+
+-- all but the last are lines of the line definition
+pub told-some : (options : ParseOptions) (p : Path) (n : ℕ) (rs : List Rest) → n < length rs →
+    steps_over options p (take n (told rs)) ≡ steps options p (take n rs)
+told-some options p zero rs less = refl
+told-some options p (suc n) [] less = absurd (omega arith)
+told-some options p (suc n) (r ∷ []) less = absurd (omega arith)
+told-some options p (suc n) (r ∷ s ∷ rs) less = told-some options (step options p r) n (s ∷ rs) (omega arith)
+
+-- What is open behind such a line.
+
+pub plain-over : (options : ParseOptions) (over : Bool) (p : Path) (r : Rest) → IsBuilt options → IsPlain p →
+    IsPlain (step_over options over p r)
+plain-over options over p r built plain = go (over && goes_further options (contained_at options p r))
+  where
+    go : (x : Bool) → IsPlain (cond x (renewed (contained_at options p r).change.stays p) (step options p r))
+    go true = plain-renewed (contained_at options p r).change.stays p plain
+    go false = plain-step options p r built plain
+
+pub containers-over : (options : ParseOptions) (over : Bool) (p : Path) (r : Rest) → IsBuilt options → IsPlain p →
+    containers_of (step_over options over p r) ≡ open_behind (contained_at options p r).change
+containers-over options over p r built plain = go over (goes_further options c) refl
+  where
+    c : Contained
+    c = contained_at options p r
+
+    go : (x y : Bool) → goes_further options c ≡ y →
+        containers_of (cond (x && y) (renewed c.change.stays p) (step options p r)) ≡ open_behind c.change
+    go true true e =
+        let goes : GoesOn options p c = goes-on options p r plain e in
+        containers-all options p r goes.closes ∙ sym (append-nil c.change.stays)
+        ∙ ap (λ (l : List Container). c.change.stays ++ l) (sym goes.opens)
+    go true false e = containers-step options p r built plain
+    go false y e = containers-step options p r built plain

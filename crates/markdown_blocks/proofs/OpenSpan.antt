@@ -1,0 +1,48 @@
+-- What the frame asks of a leaf of several lines that is open between two lines, and of what a line begins.
+use Rattle.std.proofs.Common.{◌≡◌, true, false, cond, List, [], ◌∷◌}
+use Rattle.std.specs.Prelude.{Some, None}
+use Rattle.md_engine.specs.declared.configuration.ParseOptions.{ParseOptions}
+use Rattle.md_engine.specs.declared.tokenizer.held_leaf.HeldLeaf.{HeldLeaf}
+use Rattle.md_definition.specs.Leaves.{Came, goes_on}
+use Rattle.md_definition.specs.Rest.{Rest}
+use Rattle.md_definition.specs.State.{Leaf, NoLeaf, then_leaf}
+use Rattle.md_definition.specs.Step.{came, is_concrete}
+use Rattle.md_definition.specs.Tree.{Blocks}
+use Rattle.md_outline.specs.HeadingDepths.{are_shallow}
+use Rattle.markdown_blocks.specs.HeldLeaf.{IsBuiltLeaf, has_lines, kind_of_leaf, left_by}
+use Rattle.markdown_blocks.specs.Registry.{LeafName, insider, leaf}
+
+-- an outline can show the block that this has come to, if it has
+abbrev pub ComesShallow : Came → Type 0
+ComesShallow c = (bs : Blocks) → are_shallow bs ≡ true → are_shallow (came bs c).here ≡ true
+
+-- A leaf of several lines in which no container opens: one is asked whether a line goes on it, and takes that line as
+-- the line definition does.
+pub record OpenSpan (open_leaf : Leaf) : Type 0 where
+  pub name : LeafName
+  pub asked : insider (kind_of_leaf open_leaf) ≡ Some name
+  pub further : (leaf name).further (kind_of_leaf open_leaf) ≡ true
+  pub lines : has_lines (kind_of_leaf open_leaf) ≡ true
+  pub concrete : is_concrete open_leaf ≡ true
+  pub goes : (options : ParseOptions) (r : Rest) →
+      goes_on options open_leaf r ≡
+      cond ((leaf name).starts options (kind_of_leaf open_leaf) r) (Some ((leaf name).comes options open_leaf r)) None
+  -- what it comes to may be open, and an outline can show it
+  pub built : (options : ParseOptions) (r : Rest) → (leaf name).starts options (kind_of_leaf open_leaf) r ≡ true →
+      IsBuiltLeaf (left_by ((leaf name).comes options open_leaf r))
+  pub shallow : (options : ParseOptions) (r : Rest) → ComesShallow ((leaf name).comes options open_leaf r)
+  -- so can it where it is closed
+  pub closed : (options : ParseOptions) (bs : Blocks) → are_shallow bs ≡ true →
+      are_shallow (then_leaf options bs open_leaf) ≡ true
+
+-- What a line comes to that begins a leaf: what is held behind it is what the line definition has there, it may be open,
+-- and an outline can show it.
+pub record Begun (l : LeafName) (options : ParseOptions) (on : HeldLeaf) (r : Rest) : Type 0 where
+  pub holds : kind_of_leaf (left_by ((leaf l).comes options NoLeaf r)) ≡ (leaf l).holds options on r
+  pub built : IsBuiltLeaf (left_by ((leaf l).comes options NoLeaf r))
+  pub shallow : ComesShallow ((leaf l).comes options NoLeaf r)
+
+-- these leaves go on none
+abbrev pub AllBegin : List LeafName → Type 0
+AllBegin [] = Unit {0}
+AllBegin (l ∷ ls) = ((on : HeldLeaf) → (leaf l).further on ≡ false) × AllBegin ls

@@ -1,0 +1,316 @@
+-- What is open behind one line: its containers, the kind of the leaf, and that it is such as may be open.
+use Rattle.std.proofs.Common.{◌≡◌, ◌+◌, ◌≤◌, Bool, true, false, cond, ◌&&◌, List, [], ◌∷◌, ◌++◌}
+use Rattle.std.proofs.Common.{length, refl, ap, sym, ◌∙◌, subst, append-nil, arith}
+use Rattle.std.proofs.lemmas.Bool.{and_parts}
+use Rattle.md_engine.specs.declared.configuration.ParseOptions.{ParseOptions}
+use Rattle.md_engine.specs.declared.tokenizer.held_leaf.HeldLeaf.{HeldLeaf}
+use Rattle.md_engine.specs.declared.tokenizer.held_leaf.HeldLeaf.TheVariants as held_leaf
+use Rattle.md_definition.specs.Leaves.{Came, Finished, Opened}
+use Rattle.md_definition.specs.Rest.{Rest}
+use Rattle.md_definition.specs.State.{At, Container, Kept, Leaf, NoLeaf, Path, Spot, Within, kept, spot}
+use Rattle.md_definition.specs.Step.{came, step}
+use Rattle.md_definition.specs.Tree.{Blocks, End}
+use Rattle.markdown_blocks.specs.Change.{is_none, open_behind}
+use Rattle.markdown_blocks.specs.Fronted.{Contained}
+use Rattle.markdown_blocks.specs.HeldLeaf.{IsBuiltLeaf, has_lines, kind_of_leaf, left_by, takes_lazy}
+use Rattle.markdown_blocks.specs.Leaf.Paragraph.{held_of}
+use Rattle.markdown_blocks.specs.Parsed.{IsBuilt}
+use Rattle.markdown_blocks.specs.Registry.{LeafName, leaf, text_leaf}
+use Rattle.markdown_blocks.specs.Rows.{BlankRow, LeafRow, RowKind, TextRow, is_further, is_lazy, is_text, line_behind}
+use Rattle.markdown_blocks.specs.Rows.{line_kind}
+use Rattle.markdown_blocks.specs.Stands.{IsPlain, containers_of, still_of}
+use Rattle.markdown_blocks.proofs.ContainedLemmas.{contained-met, contained-size, contained-still, lazy-opens}
+use Rattle.markdown_blocks.proofs.KindLemmas.{kind-starts}
+use Rattle.markdown_blocks.proofs.LineSteps.{asked-kind, behind_path, come_by, contained-lazy, contained_at, further_path}
+use Rattle.markdown_blocks.proofs.LineSteps.{goes_further, goes_lazy, kept_to, longer, new_line, none-further}
+use Rattle.markdown_blocks.proofs.LineSteps.{path_by, plain-begins, plain_kind, renewed, renewed-spot, spot_by}
+use Rattle.markdown_blocks.proofs.LineSteps.{step-contained, with_came}
+use Rattle.markdown_blocks.proofs.OpenSpan.{Begun, OpenSpan}
+use Rattle.markdown_blocks.proofs.Registry.{laws, leaf-begun, open-span, text-laws}
+
+-- Where a line goes on the leaf of several lines that is open.
+
+pub record GoesOn (options : ParseOptions) (p : Path) (c : Contained) : Type 0 where
+  pub is : OpenSpan (spot p).leaf
+  -- it meets that leaf, which takes it,
+  pub on : c.on ≡ still_of p
+  pub kind : line_kind options c.on c.rest ≡ LeafRow is.name
+  pub starts : (leaf is.name).starts options (still_of p) c.rest ≡ true
+  -- and no container ends in front of it or opens on it
+  pub opens : c.change.opens ≡ []
+  pub closes : c.change.closes ≡ []
+
+-- a path in which a leaf of several lines is open
+pub span-open : (open_leaf : Leaf) → IsBuiltLeaf open_leaf → has_lines (kind_of_leaf open_leaf) ≡ true → OpenSpan open_leaf
+span-open open_leaf plain =
+    text-laws.cases (λ (l : Leaf). has_lines (kind_of_leaf l) ≡ true → OpenSpan l) (λ e. cc) (λ k ks e. cc)
+    (λ l is e. open-span l is) open_leaf plain
+
+pub goes-on : (options : ParseOptions) (p : Path) (r : Rest) → IsPlain p →
+    goes_further options (contained_at options p r) ≡ true → GoesOn options p (contained_at options p r)
+goes-on options p r plain goes =
+    let met = contained-met options (containers_of p) (still_of p) r lines in
+    let starts : (leaf is.name).starts options (still_of p) c.rest ≡ true = goes_by
+    ((leaf is.name).starts options (still_of p) c.rest)
+    (sym (ap (λ (k : RowKind). is_further k (still_of p)) (asked-kind options (still_of p) c.rest is.name is.asked))
+    ∙ ap (λ (on : HeldLeaf). is_further (line_kind options on c.rest) on) (sym on) ∙ goes) in
+    record {
+      is = is;
+      on = on;
+      kind =
+          ap (λ (on : HeldLeaf). line_kind options on c.rest) on
+          ∙ asked-kind options (still_of p) c.rest is.name is.asked
+          ∙ ap (λ (x : Bool). cond x (LeafRow is.name) (plain_kind options (still_of p) c.rest)) starts;
+      starts = starts;
+      opens = met.0;
+      closes = met.1;
+    }
+  where
+    c : Contained
+    c = contained_at options p r
+
+    some : (x : Bool) → has_lines c.on ≡ x → x ≡ true
+    some true e = refl
+    some false e = let none = none-further options c.on c.rest e in cc
+
+    lines : has_lines c.on ≡ true
+    lines = some (has_lines c.on) refl
+
+    on : c.on ≡ still_of p
+    on = contained-still options (containers_of p) (still_of p) r lines
+
+    is : OpenSpan (spot p).leaf
+    is = span-open (spot p).leaf plain (ap has_lines (sym on) ∙ lines)
+
+    goes_by : (x : Bool) →
+        is_further (cond x (LeafRow is.name) (plain_kind options (still_of p) c.rest)) (still_of p) ≡ true → x ≡ true
+    goes_by true e = refl
+    goes_by false e = let begins = plain-begins options (still_of p) c.rest in cc
+
+-- Plain paths stay such.
+
+pub plain-renewed : (cs : List Container) (p : Path) → IsPlain p → IsPlain (renewed cs p)
+plain-renewed cs p plain = subst (λ (s : Spot). IsBuiltLeaf s.leaf) (sym (renewed-spot cs p)) plain
+
+pub plain-longer : (p : Path) (k : Kept) (ks : List Kept) → IsPlain p → IsPlain (longer p (k ∷ ks))
+plain-longer (At s) k ks plain = some (held_of s.leaf)
+  where
+    some : (lines : List Kept) → IsBuiltLeaf (text_leaf.held (lines ++ k ∷ ks))
+    some [] = tt
+    some (j ∷ js) = tt
+plain-longer (Within before container p) k ks plain = plain-longer p k ks plain
+
+plain-behind : (p : Path) (f : Blocks → Path) → ((bs : Blocks) → IsPlain (f bs)) → IsPlain (behind_path p f)
+plain-behind (At s) f each = each s.here
+plain-behind (Within before container p) f each = plain-behind p f each
+
+came-leaf : (bs : Blocks) (c : Came) → (came bs c).leaf ≡ left_by c
+came-leaf bs (Opened open_leaf) = refl
+came-leaf bs (Finished block) = refl
+
+came-spot : (p : Path) (c : Came) → (spot (with_came p c)).leaf ≡ left_by c
+came-spot (At s) c = came-leaf s.here c
+came-spot (Within before container p) c = came-spot p c
+
+-- a line that begins a leaf, where it goes on none
+pub begun-leaf : (options : ParseOptions) (on : HeldLeaf) (r : Rest) → is_further (line_kind options on r) on ≡ false →
+    (l : LeafName) → line_kind options on r ≡ LeafRow l → Begun l options on r
+begun-leaf options on r begins l e =
+    leaf-begun l options on r (kind-starts options on r l e)
+    (sym (ap (λ (kind : RowKind). is_further kind on) e) ∙ begins)
+
+plain-line : (options : ParseOptions) (on : HeldLeaf) (r : Rest) (bs : Blocks) →
+    is_further (line_kind options on r) on ≡ false →
+    IsBuiltLeaf (spot_by options bs [] r (line_kind options on r)).leaf
+plain-line options on r bs begins = go (line_kind options on r) refl
+  where
+    go : (kind : RowKind) → line_kind options on r ≡ kind → IsBuiltLeaf (spot_by options bs [] r kind).leaf
+    go BlankRow e = tt
+    go (LeafRow l) e =
+        subst IsBuiltLeaf (sym (came-leaf bs ((leaf l).comes options NoLeaf r))) (begun-leaf options on r begins l e).built
+    go TextRow e = tt
+
+plain-new_line : (options : ParseOptions) (on : HeldLeaf) (cs : List Container) (r : Rest) (bs : Blocks) →
+    is_further (line_kind options on r) on ≡ false → IsPlain (new_line options on cs r bs)
+plain-new_line options on [] r bs begins = plain-line options on r bs begins
+plain-new_line options on (c ∷ cs) r bs begins = plain-new_line options on cs r End begins
+
+plain-further : (options : ParseOptions) (p : Path) (c : Contained) → GoesOn options p c →
+    IsPlain (further_path options p c)
+plain-further options p c goes =
+    subst IsBuiltLeaf (sym (came-spot (renewed c.change.stays p) (come_by options (spot p).leaf c.rest (line_kind options c.on c.rest))))
+    (subst (λ (kind : RowKind). IsBuiltLeaf (left_by (come_by options (spot p).leaf c.rest kind))) (sym goes.kind)
+    (goes.is.built options c.rest goes.starts))
+
+pub plain-step : (options : ParseOptions) (p : Path) (r : Rest) → IsBuilt options → IsPlain p →
+    IsPlain (step options p r)
+plain-step options p r built plain =
+    subst IsPlain (sym (step-contained options p r built plain))
+    (go (goes_lazy options p c) (goes_further options c) refl)
+  where
+    c : Contained
+    c = contained_at options p r
+
+    go : (x y : Bool) → goes_further options c ≡ y → IsPlain (path_by options p c x y)
+    go true y e = plain-longer (renewed c.change.stays p) (kept c.rest) [] (plain-renewed c.change.stays p plain)
+    go false true e = plain-further options p c (goes-on options p r plain e)
+    go false false e =
+        plain-behind (kept_to options c.change.stays p) (new_line options c.on c.change.opens c.rest)
+        (λ bs. plain-new_line options c.on c.change.opens c.rest bs e)
+
+-- a line that goes on the open text is text
+pub lazy-text : (still : HeldLeaf) (opens : List Container) (kind : RowKind) → is_lazy still opens kind ≡ true →
+    is_text kind ≡ true
+lazy-text still opens kind e = (and_parts (takes_lazy still && is_none opens) (is_text kind) e).1
+
+-- Which containers are open behind a line.
+
+containers-longer : (p : Path) (ks : List Kept) → containers_of (longer p ks) ≡ containers_of p
+containers-longer (At s) ks = refl
+containers-longer (Within before container p) ks = ap (λ (cs : List Container). container ∷ cs) (containers-longer p ks)
+
+containers-behind : (p : Path) (f : Blocks → Path) (cs : List Container) → ((bs : Blocks) → containers_of (f bs) ≡ cs) →
+    containers_of (behind_path p f) ≡ containers_of p ++ cs
+containers-behind (At s) f cs each = each s.here
+containers-behind (Within before container p) f cs each =
+    ap (λ (l : List Container). container ∷ l) (containers-behind p f cs each)
+
+containers-kept : (options : ParseOptions) (cs : List Container) (p : Path) → length cs ≤ length (containers_of p) →
+    containers_of (kept_to options cs p) ≡ cs
+containers-kept options [] p le = refl
+containers-kept options (c ∷ cs) (At s) le = absurd (omega arith)
+containers-kept options (c ∷ cs) (Within before container p) le =
+    ap (λ (l : List Container). c ∷ l) (containers-kept options cs p (omega arith))
+
+-- where all of them are told
+containers-renewed : (cs : List Container) (p : Path) → length cs ≡ length (containers_of p) →
+    containers_of (renewed cs p) ≡ cs
+containers-renewed [] (At s) e = refl
+containers-renewed [] (Within before container p) e = absurd (omega arith)
+containers-renewed (c ∷ cs) (At s) e = absurd (omega arith)
+containers-renewed (c ∷ cs) (Within before container p) e =
+    ap (λ (l : List Container). c ∷ l) (containers-renewed cs p (omega arith))
+
+containers-new_line : (options : ParseOptions) (on : HeldLeaf) (cs : List Container) (r : Rest) (bs : Blocks) →
+    containers_of (new_line options on cs r bs) ≡ cs
+containers-new_line options on [] r bs = refl
+containers-new_line options on (c ∷ cs) r bs =
+    ap (λ (l : List Container). c ∷ l) (containers-new_line options on cs r End)
+
+containers-came : (p : Path) (c : Came) → containers_of (with_came p c) ≡ containers_of p
+containers-came (At s) c = refl
+containers-came (Within before container p) c =
+    ap (λ (cs : List Container). container ∷ cs) (containers-came p c)
+
+-- where none ends, those that stay are all
+pub containers-all : (options : ParseOptions) (p : Path) (r : Rest) →
+    (contained_at options p r).change.closes ≡ [] →
+    containers_of (renewed (contained_at options p r).change.stays p) ≡ (contained_at options p r).change.stays
+containers-all options p r e =
+    let change = (contained_at options p r).change in
+    let sizes : length change.stays + length change.closes ≡ length (containers_of p) = contained-size options
+    (containers_of p) (still_of p) r in
+    let none : length change.closes ≡ 0 = ap length e in
+    containers-renewed change.stays p (omega (arith, sizes))
+
+pub containers-step : (options : ParseOptions) (p : Path) (r : Rest) → IsBuilt options → IsPlain p →
+    containers_of (step options p r) ≡ open_behind (contained_at options p r).change
+containers-step options p r built plain =
+    ap containers_of (step-contained options p r built plain)
+    ∙ go (goes_lazy options p c) (goes_further options c) refl refl
+  where
+    c : Contained
+    c = contained_at options p r
+
+    sizes : length c.change.stays + length c.change.closes ≡ length (containers_of p)
+    sizes = contained-size options (containers_of p) (still_of p) r
+
+    all : c.change.closes ≡ [] → containers_of (renewed c.change.stays p) ≡ c.change.stays
+    all e = containers-all options p r e
+
+    go : (x y : Bool) → goes_lazy options p c ≡ x → goes_further options c ≡ y →
+        containers_of (path_by options p c x y) ≡ c.change.stays ++ c.change.opens
+    go true y e f =
+        containers-longer (renewed c.change.stays p) (kept c.rest ∷ [])
+        ∙ all (contained-lazy options p r e) ∙ sym (append-nil c.change.stays)
+        ∙ ap (λ (l : List Container). c.change.stays ++ l)
+        (sym (lazy-opens (still_of p) c.change.opens (line_kind options c.on c.rest) e))
+    go false true e f =
+        let goes = goes-on options p r plain f in
+        containers-came (renewed c.change.stays p) (come_by options (spot p).leaf c.rest (line_kind options c.on c.rest))
+        ∙ all goes.closes ∙ sym (append-nil c.change.stays)
+        ∙ ap (λ (l : List Container). c.change.stays ++ l) (sym goes.opens)
+    go false false e f =
+        containers-behind (kept_to options c.change.stays p) (new_line options c.on c.change.opens c.rest) c.change.opens
+        (λ bs. containers-new_line options c.on c.change.opens c.rest bs)
+        ∙ ap (λ (l : List Container). l ++ c.change.opens)
+        (containers-kept options c.change.stays p (omega (arith, sizes)))
+
+-- The leaf that is open behind a line.
+
+text-behind : (options : ParseOptions) (on : HeldLeaf) (r : Rest) (kind : RowKind) → is_text kind ≡ true →
+    line_behind options on r kind ≡ held_leaf.Text
+text-behind options on r BlankRow e = cc
+text-behind options on r (LeafRow l) e = cc
+text-behind options on r TextRow e = refl
+
+still-longer : (p : Path) (ks : List Kept) → still_of (longer p ks) ≡ held_leaf.Text
+still-longer (At s) ks = refl
+still-longer (Within before container p) ks = still-longer p ks
+
+still-behind : (p : Path) (f : Blocks → Path) (x : HeldLeaf) → ((bs : Blocks) → still_of (f bs) ≡ x) →
+    still_of (behind_path p f) ≡ x
+still-behind (At s) f x each = each s.here
+still-behind (Within before container p) f x each = still-behind p f x each
+
+still-line : (options : ParseOptions) (on : HeldLeaf) (bs : Blocks) (r : Rest) →
+    is_further (line_kind options on r) on ≡ false →
+    kind_of_leaf (spot_by options bs [] r (line_kind options on r)).leaf ≡
+    line_behind options on r (line_kind options on r)
+still-line options on bs r begins = go (line_kind options on r) refl
+  where
+    go : (kind : RowKind) → line_kind options on r ≡ kind →
+        kind_of_leaf (spot_by options bs [] r kind).leaf ≡ line_behind options on r kind
+    go BlankRow e = refl
+    go (LeafRow l) e =
+        ap kind_of_leaf (came-leaf bs ((leaf l).comes options NoLeaf r)) ∙ (begun-leaf options on r begins l e).holds
+    go TextRow e = refl
+
+still-new_line : (options : ParseOptions) (on : HeldLeaf) (cs : List Container) (r : Rest) (bs : Blocks) →
+    is_further (line_kind options on r) on ≡ false →
+    still_of (new_line options on cs r bs) ≡ line_behind options on r (line_kind options on r)
+still-new_line options on [] r bs begins = still-line options on bs r begins
+still-new_line options on (c ∷ cs) r bs begins = still-new_line options on cs r End begins
+
+still-further : (options : ParseOptions) (p : Path) (c : Contained) → GoesOn options p c →
+    still_of (further_path options p c) ≡ line_behind options c.on c.rest (line_kind options c.on c.rest)
+still-further options p c goes =
+    ap kind_of_leaf
+    (came-spot (renewed c.change.stays p) (come_by options (spot p).leaf c.rest (line_kind options c.on c.rest)))
+    ∙ ap (λ (kind : RowKind). kind_of_leaf (left_by (come_by options (spot p).leaf c.rest kind))) goes.kind
+    ∙ (laws goes.is.name).holds_is options (spot p).leaf c.rest goes.starts
+    ∙ ap (λ (on : HeldLeaf). (leaf goes.is.name).holds options on c.rest) (sym goes.on)
+    ∙ ap (line_behind options c.on c.rest) (sym goes.kind)
+
+pub still-step : (options : ParseOptions) (p : Path) (r : Rest) → IsBuilt options → IsPlain p →
+    let c = contained_at options p r in
+    still_of (step options p r) ≡ line_behind options c.on c.rest (line_kind options c.on c.rest)
+still-step options p r built plain =
+    ap still_of (step-contained options p r built plain)
+    ∙ go (goes_lazy options p c) (goes_further options c) refl refl
+  where
+    c : Contained
+    c = contained_at options p r
+
+    kind : RowKind
+    kind = line_kind options c.on c.rest
+
+    go : (x y : Bool) → goes_lazy options p c ≡ x → goes_further options c ≡ y →
+        still_of (path_by options p c x y) ≡ line_behind options c.on c.rest kind
+    go true y e f =
+        still-longer (renewed c.change.stays p) (kept c.rest ∷ [])
+        ∙ sym (text-behind options c.on c.rest kind (lazy-text (still_of p) c.change.opens kind e))
+    go false true e f = still-further options p c (goes-on options p r plain f)
+    go false false e f =
+        still-behind (kept_to options c.change.stays p) (new_line options c.on c.change.opens c.rest)
+        (line_behind options c.on c.rest kind) (λ bs. still-new_line options c.on c.change.opens c.rest bs f)
