@@ -70,7 +70,7 @@ use Rattle.markdown_blocks.proofs.Openers.{left-front}
 use Rattle.markdown_blocks.proofs.States.{flow_does}
 use Rattle.markdown_blocks.proofs.Trials.{left-before, left-next}
 use Rattle.markdown_blocks.proofs.Registry.{construct-steps, container-states, leaf-states, opener-before, tried-before, white_has}
-use Rattle.markdown_blocks.proofs.Registry.{container-laws, laws}
+use Rattle.markdown_blocks.proofs.Registry.{container-laws, laws, trial-asked}
 
 -- an attempt that was begun here
 abbrev frame_here : State → State → World → Frame
@@ -311,9 +311,9 @@ flow-ends B options next has true cells h = has.leaves flow.LeafAfter cells h
 flow-ends B options next has false cells h = has.leaves flow.After cells h
 
 before_steps : (l : LeafName) (B : Behaviour) (feed : Feed) (w : World) (options : ParseOptions) (next : Rule) →
-    HasFlow B options next → Sees feed w → IsRest w.scratch →
+    HasFlow B options next → Sees feed w → IsRest w.scratch → (leaf l).asked w.flags.leaf ≡ true →
     Steps B feed (Next (n.Flow (leaf l).before)) w (before_transition l w).to (before_transition l w).world
-before_steps l B feed w options next has s is =
+before_steps l B feed w options next has s is asked =
     let otherwise : Scratch → Flags → Outcome =
     λ s g. leaves_of options next (behind l) (feed w.point) (record (here w) { scratch = s; flags = g }) in
     trial_steps B feed w w.flags _ _ _ _ (may_with (leaf l).may_begin (looks_behind w)) (record {
@@ -327,7 +327,7 @@ before_steps l B feed w options next has s is =
       looked = λ no.
           let first = refused-first (leaf l).may_begin feed w s no in
           has.starts l _ _
-          ∙ (laws l).refused options _ (here w) is ((laws l).looked options _ _ first.0 first.1 first.2);
+          ∙ (laws l).refused options _ (here w) asked is ((laws l).looked options _ _ first.0 first.1 first.2);
     })
 
 before_content_steps : (B : Behaviour) (feed : Feed) (w : World) (options : ParseOptions) (next : Rule) →
@@ -474,7 +474,7 @@ leaf_steps B feed next state None e w has s at = absurd at
 leaf_steps B feed next state (Some l) e w has s at =
     let P : FlowState →
     Type 0 = λ x. Steps B feed (Next (n.Flow x)) w (before_transition l w).to (before_transition l w).world in
-    subst P (tried-before state l e) (before_steps l B feed w _ _ has s at.0.0)
+    subst P (tried-before state l e) (before_steps l B feed w _ _ has s at.0.0 (trial-asked state l e w.flags.leaf))
 
 -- and those in front of none, or behind it
 leaves_steps : (B : Behaviour) (feed : Feed) (next : Rule) (state : FlowState) (w : World) →

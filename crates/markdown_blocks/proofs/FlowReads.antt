@@ -1,6 +1,7 @@
 -- What flow has read of a text, by what pushing and flushing it do.
 use Rattle.md_engine.specs.declared.tokenizer.held_leaf.HeldLeaf.TheVariants as held_leaf
 use Rattle.std.proofs.Common.{◌≡◌, ◌≢◌, ◌⊎◌, inl, inr, ◌^◌, ◌<◌, ℕ, suc, Bool, true, false, List, [], ◌∷◌, ◌++◌, length}
+use Rattle.std.proofs.Common.{◌≤◌}
 use Rattle.std.proofs.Common.{Option, refl, sym, ◌∙◌, ap, ap₂, subst, arith, map}
 use Rattle.std.proofs.lemmas.Bool.{or_from}
 use Rattle.md_engine.specs.declared.configuration.ParseOptions.{ParseOptions}
@@ -49,6 +50,8 @@ use Rattle.markdown_blocks.proofs.OutsideFacts.{AreOutside, IsNoEnd, NoEnds}
 use Rattle.markdown_blocks.proofs.OutsideLemmas.{outside-same}
 use Rattle.markdown_blocks.proofs.Registers.{Registers, goes-back, named, none-yet}
 use Rattle.markdown_blocks.proofs.StandsLemmas.{flow-ran}
+use Rattle.markdown_blocks.proofs.LinesFed.{text-follows_it}
+use Rattle.md_seam.specs.Spaces.{any_size}
 use Rattle.markdown_blocks.proofs.StatesRegister.{went-registers}
 
 left-registers : (w : World) (outer : List Frame) (f : Frame) (b : Bool) → Registers w → Registers (left w outer f b)
@@ -336,10 +339,13 @@ flow-reads bytes options p end at found items lines more new small run f joining
         (reads_to (fresh bytes options p) (length bytes)) end at run) f.runs)
         done.0 f.none_left (ap (λ (x : Setting). text_feed x f.at.point) (sym kept) ∙ done.1)
 
+    few : length (text_cells bytes options p) ≤ any_size
+    few = let short = (text-follows_it bytes options p small).short p in omega (arith, short)
+
     events : f.at.events ≡ rows_events (text_rows options bytes p)
     events =
         flow_at-rows options (text_cells bytes options p) (here (fresh bytes options p))
-        (here f.at) [] refl refl refl refl refl refl refl out
+        (here f.at) [] few refl refl refl refl refl refl refl out
 
     setting : f.at.setting ≡ text_setting bytes options p
     setting = runs-setting (FlowStep same_name) true end at f.end f.at f.runs ∙ kept

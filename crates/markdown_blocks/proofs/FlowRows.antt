@@ -41,7 +41,7 @@ use Rattle.md_seam.specs.Ahead.{from_ending, line_bytes, line_end}
 use Rattle.md_seam.specs.Events.Nested.{enter, enter_link, exit, pair}
 use Rattle.md_definition.specs.Rest.{is_blank}
 use Rattle.md_seam.specs.Look.{first_seen}
-use Rattle.md_seam.specs.Spaces.{IsRest, ends_line}
+use Rattle.md_seam.specs.Spaces.{IsRest, any_size, ends_line}
 use Rattle.md_definition.specs.State.{Container}
 use Rattle.markdown_blocks.specs.Change.{Change, change_by, ends_of, interrupts, is_none, open_behind, others_of}
 use Rattle.markdown_blocks.specs.FlowRule.{Rule, asking_here, behind_containers, blank_ended, ended, ended_to, existing_by}
@@ -61,7 +61,7 @@ use Rattle.markdown_blocks.specs.Stands.{AreOpen}
 use Rattle.markdown_blocks.proofs.ContainedLemmas.{lazy-some}
 use Rattle.markdown_blocks.proofs.FromEnding.{from_ending-shrinks}
 use Rattle.markdown_blocks.proofs.LeafRows.{blank-refused, blank-took, chunk-took}
-use Rattle.markdown_blocks.proofs.Registry.{insider-open, laws}
+use Rattle.markdown_blocks.proofs.Registry.{AreAsked, insider-asked, insider-open, laws, trials-asked}
 use Rattle.markdown_blocks.proofs.RegistryContainers.{further-is, goes-over, goes-same, goes-shorter, goes-within}
 use Rattle.markdown_blocks.proofs.RegistryContainers.{known-name, opening-is, opens-ended, opens-same, opens-shorter}
 
@@ -135,10 +135,11 @@ leaf-left options next l cells h false flag e =
 
 -- of leaves that are tried one after another, the first that takes the line has it; if none does, it is text
 leaves-are : (options : ParseOptions) (next : Rule) (ls : List LeafName) (cells : List Cell) (h : Here) →
-    IsRest h.scratch → h.flags.blank ≡ false → ends_line (first_seen cells) ≡ false →
+    AreAsked ls → length cells ≤ any_size → IsRest h.scratch → h.flags.blank ≡ false →
+    ends_line (first_seen cells) ≡ false →
     leaves_of options next ls cells h ≡
     line_ended next (from_ending cells) (leaf_here options cells h (kind_of (taker options h.flags.leaf cells ls)))
-leaves-are options next [] cells h is flag going =
+leaves-are options next [] cells h asked few is flag going =
     ap (λ (o : Outcome). tried o (line_ended next) Refuses) (chunk-took cells h)
     ∙ ap
     (λ (blank : Bool).
@@ -148,8 +149,9 @@ leaves-are options next [] cells h is flag going =
       point = line_end cells h.point;
       flags = record h.flags { leaf = held_leaf.Text; blank = blank };
     })) flag
-leaves-are options next (l ∷ ls) cells h is flag going =
-    go ((leaf l).takes options h.flags.leaf cells) refl (leaves-are options next ls cells h is flag going)
+leaves-are options next (l ∷ ls) cells h asked few is flag going =
+    go ((leaf l).takes options h.flags.leaf cells) refl
+    (leaves-are options next ls cells h asked.1 few is flag going)
   where
     onward : Outcome → Outcome
     onward o =
@@ -167,9 +169,10 @@ leaves-are options next (l ∷ ls) cells h is flag going =
         (leaf_here options cells h (kind_of (taker options h.flags.leaf cells ls))) →
         Done (cond x (Some l) (taker options h.flags.leaf cells ls))
     go true takes more =
-        ap onward ((laws l).took options cells h is takes)
+        ap onward ((laws l).took options cells h is few takes)
         ∙ leaf-left options next l cells h (leaf l).ends (flag ∙ sym going) refl
-    go false takes more = ap onward ((laws l).refused options cells h is takes) ∙ more
+    go false takes more =
+        ap onward ((laws l).refused options cells h (asked.0 h.flags.leaf) is takes) ∙ more
 
 -- something stands on a line that is not blank
 going-on : (cells : List Cell) → is_blank (line_bytes cells) ≡ false → ends_line (first_seen cells) ≡ false
@@ -181,11 +184,12 @@ going-on (c ∷ cs) e = go (nat_eq c.byte 10) refl e
     go false at e = refl
 
 -- the rest of a line is what its kind says, where no leaf is asked first,
-leaf-is : (options : ParseOptions) (next : Rule) (cells : List Cell) (h : Here) → IsRest h.scratch →
+leaf-is : (options : ParseOptions) (next : Rule) (cells : List Cell) (h : Here) → length cells ≤ any_size →
+    IsRest h.scratch →
     (is_blank (line_bytes cells) ≡ false → h.flags.blank ≡ false) →
     leaf_of options next cells h ≡
     line_ended next (from_ending cells) (leaf_here options cells h (outer_kind options h.flags.leaf cells))
-leaf-is options next cells h is flag = go (is_blank (line_bytes cells)) refl
+leaf-is options next cells h few is flag = go (is_blank (line_bytes cells)) refl
   where
     onward : Outcome → Outcome
     onward o = tried o (blank_ended next) (λ s g. nonblank_of options next cells (record h { scratch = s; flags = g }))
@@ -198,15 +202,15 @@ leaf-is options next cells h is flag = go (is_blank (line_bytes cells)) refl
     go true e = ap onward (blank-took cells h e) ∙ ap behind (sym (kind-by options h.flags.leaf cells true e))
     go false e =
         ap onward (blank-refused cells h e)
-        ∙ leaves-are options next trials cells h is (flag e) (going-on cells e)
+        ∙ leaves-are options next trials cells h trials-asked few is (flag e) (going-on cells e)
         ∙ ap behind (sym (kind-by options h.flags.leaf cells false e))
 
 -- and where one is
-inside-is : (options : ParseOptions) (next : Rule) (cells : List Cell) (h : Here) → IsRest h.scratch →
-    h.flags.blank ≡ false →
+inside-is : (options : ParseOptions) (next : Rule) (cells : List Cell) (h : Here) → length cells ≤ any_size →
+    IsRest h.scratch → h.flags.blank ≡ false →
     asked_inside options next cells h ≡
     line_ended next (from_ending cells) (leaf_here options cells h (row_kind options h.flags.leaf cells))
-inside-is options next cells h is flag = by (insider h.flags.leaf) refl
+inside-is options next cells h few is flag = by (insider h.flags.leaf) refl
   where
     other : RowKind
     other = outer_kind options h.flags.leaf cells
@@ -221,7 +225,7 @@ inside-is options next cells h is flag = by (insider h.flags.leaf) refl
     onward o = tried o (line_ended next) (λ s g. leaf_of options next cells (record h { scratch = s; flags = g }))
 
     by : (o : Option LeafName) → insider h.flags.leaf ≡ o → inside_by options next o cells h ≡ to (inside_or takes o other)
-    by None e = leaf-is options next cells h is (λ some. flag)
+    by None e = leaf-is options next cells h few is (λ some. flag)
     by (Some l) e = go (takes l) refl
       where
         held : Bool → HeldLeaf
@@ -232,7 +236,7 @@ inside-is options next cells h is flag = by (insider h.flags.leaf) refl
 
         go : (t : Bool) → takes l ≡ t → onward ((leaf l).trial options cells here) ≡ to (cond t (LeafRow l) other)
         go true e' =
-            ap onward ((laws l).took options cells here is e')
+            ap onward ((laws l).took options cells here is few e')
             ∙ ap
             (λ (ends : Bool).
             line_ended next (from_ending cells)
@@ -242,8 +246,8 @@ inside-is options next cells h is flag = by (insider h.flags.leaf) refl
               flags = record h.flags { leaf = held ends; blank = ends_line (first_seen cells) };
             })) (insider-open h.flags.leaf l e)
         go false e' =
-            ap onward ((laws l).refused options cells here is e')
-            ∙ leaf-is options next cells here is (going-on cells)
+            ap onward ((laws l).refused options cells here (insider-asked h.flags.leaf l e) is e')
+            ∙ leaf-is options next cells here few is (going-on cells)
 
 -- The containers that the tokenizer holds.
 
@@ -939,13 +943,13 @@ meets-is still went others g leaf are continued =
 abbrev met_here : HeldLeaf → Here → Here
 met_here on h = record h { flags = record h.flags { leaf_before = h.flags.leaf; leaf = on } }
 
-begun-is : (options : ParseOptions) (next : Rule) (cells : List Cell) (h : Here) (on : HeldLeaf) → IsRest h.scratch →
-    h.flags.blank ≡ false → (begun_line h.flags).leaf ≡ on →
+begun-is : (options : ParseOptions) (next : Rule) (cells : List Cell) (h : Here) (on : HeldLeaf) →
+    length cells ≤ any_size → IsRest h.scratch → h.flags.blank ≡ false → (begun_line h.flags).leaf ≡ on →
     behind_containers options next cells h ≡
     line_ended next (from_ending cells) (leaf_here options cells (met_here on h) (row_kind options on cells))
-begun-is options next cells h on is flag meets =
+begun-is options next cells h on few is flag meets =
     ap (λ (x : HeldLeaf). asked_inside options next cells (met_here x h)) meets
-    ∙ inside-is options next cells (met_here on h) is flag
+    ∙ inside-is options next cells (met_here on h) few is flag
 
 -- those that stay, and those that end, are all that went on or did not
 change-parts : (x : Bool) (went others : List Container) → let c =
@@ -973,13 +977,13 @@ regroup-line front ends tail w begin more added = simp append_assoc
 -- no container opens
 done-none : (options : ParseOptions) (next : Rule) (front tail : List Event) (p : Point) (cs : List Container)
     (still : HeldLeaf) (w : Front) (cells : List Cell) (h : Here) →
-    Between front tail p cs still w h →
+    length cells ≤ any_size → Between front tail p cs still w h →
     Done next options front tail p (held_of options cs still w (no_front cells h.point))
     (behind_containers options next cells h)
-done-none options next front tail p cs still w cells h b = record {
+done-none options next front tail p cs still w cells h few b = record {
   new = ended_to keep leaf.flags.line_end leaf;
   is =
-      begun-is options next cells h on b.rest b.blank
+      begun-is options next cells h on few b.rest b.blank
       (meets-is still w.containers (others_of cs w.containers) h.flags b.leaf b.containers b.continued);
   rest = b.rest;
   events =
@@ -1035,15 +1039,15 @@ done-none options next front tail p cs still w cells h b = record {
 -- containers open
 done-some : (options : ParseOptions) (next : Rule) (front tail : List Event) (p : Point) (cs : List Container)
     (still : HeldLeaf) (w f : Front) (t : Passed) (h : Here) (o : Outcome) →
-    Between front tail p cs still w h →
+    length f.cells ≤ any_size → Between front tail p cs still w h →
     Opened options next (w.containers ++ t.container ∷ []) (opened_by t h) f o →
     Done next options front tail p (held_of options cs still w (in_front t f)) o
-done-some options next front tail p cs still w f t h out b o =
+done-some options next front tail p cs still w f t h out few b o =
     subst P (sym (lazy-some still t.container f.containers k)) (record {
       new = ended_to keep leaf.flags.line_end leaf;
       is =
           o.is
-          ∙ begun-is options next f.cells o.new held_leaf.None o.rest (o.blank ∙ b.blank)
+          ∙ begun-is options next f.cells o.new held_leaf.None few o.rest (o.blank ∙ b.blank)
           (ap (met_by (not (nat_lt o.new.flags.continued (length o.new.flags.containers)))) o.leaf
           ∙ met-none (not (nat_lt o.new.flags.continued (length o.new.flags.containers))));
       rest = o.rest;
@@ -1117,15 +1121,16 @@ interrupts-is still went others g leaf are continued =
 
 new-done : (options : ParseOptions) (next : Rule) (front tail : List Event) (p : Point) (cs : List Container)
     (still : HeldLeaf) (interrupting : Bool) (w : Front) (m size : ℕ) (cells : List Cell) (h : Here) →
-    Between front tail p cs still w h → interrupting ≡ by_flags h.flags → length cells ≤ m → length cells ≤ size →
+    length cells ≤ any_size → Between front tail p cs still w h → interrupting ≡ by_flags h.flags →
+    length cells ≤ m → length cells ≤ size →
     Done next options front tail p (held_of options cs still w (new_front options interrupting size cells h.point))
     (new_from options next (suc m) cells h)
-new-done options next front tail p cs still interrupting w m zero cells h b by some most =
+new-done options next front tail p cs still interrupting w m zero cells h few b by some most =
     let r = new-none options next interrupting m cells h b.rest by (opens-none options interrupting cells h.point most) in
     done-same options next front tail p _ _ _ r.is
-    (done-none options next front tail p cs still w cells (asked_at r.asked r.column h)
+    (done-none options next front tail p cs still w cells (asked_at r.asked r.column h) few
     (between-asked front tail p cs still w h r.asked r.column b))
-new-done options next front tail p cs still interrupting w m (suc size) cells h b by some most =
+new-done options next front tail p cs still interrupting w m (suc size) cells h few b by some most =
     go (opens_at options interrupting cells h.point) refl
   where
     go : (x : Option Passed) → opens_at options interrupting cells h.point ≡ x →
@@ -1139,7 +1144,7 @@ new-done options next front tail p cs still interrupting w m (suc size) cells h 
     go None e =
         let r = new-none options next interrupting m cells h b.rest by e in
         done-same options next front tail p _ _ _ r.is
-        (done-none options next front tail p cs still w cells (asked_at r.asked r.column h)
+        (done-none options next front tail p cs still w cells (asked_at r.asked r.column h) few
         (between-asked front tail p cs still w h r.asked r.column b))
     go (Some t) e =
         let shorter = opens-shorter options interrupting cells h.point t e in
@@ -1150,7 +1155,8 @@ new-done options next front tail p cs still interrupting w m (suc size) cells h 
         open-append (take h.flags.continued h.flags.containers) (t.held ∷ []) w.containers (t.container ∷ []) stayed
         (opens-same options interrupting cells h.point t e, tt) in
         done-same options next front tail p _ _ _ (new-one options next interrupting m cells h t b.rest by e)
-        (done-some options next front tail p cs still w (new_front options false size t.cells t.point) t h _ b
+        (done-some options next front tail p cs still w (new_front options false size t.cells t.point) t h _
+        (let less = new-shorter options false size t.cells t.point in omega (arith, few, less, shorter)) b
         (new-more options next m size (w.containers ++ t.container ∷ []) t.cells (opened_by t h) b.rest
         (omega (arith, shorter)) (omega (arith, shorter)) begun refl refl))
 
@@ -1180,10 +1186,10 @@ pub record Begins (front tail : List Event) (p : Point) (cs : List Container) (s
 
 pub line-done : (options : ParseOptions) (next : Rule) (front tail : List Event) (p : Point) (cs : List Container)
     (still : HeldLeaf) (cells : List Cell) (h : Here) →
-    Begins front tail p cs still h →
+    length cells ≤ any_size → Begins front tail p cs still h →
     Done next options front tail p (held_at options cs still cells h.point) (line_then options next cells h)
 unfolding line_then new_of held_at
-line-done options next front tail p cs still cells h b =
+line-done options next front tail p cs still cells h few b =
     done-same options next front tail p _ _ _
     (g.is
     ∙ ap
@@ -1211,6 +1217,9 @@ line-done options next front tail p cs still cells h b =
       ends = let E : ℕ → Type 0 = λ n. Ends n tail p in subst E (sym g.size) b.ends;
     }
 
+    fewer : length w.cells ≤ any_size
+    fewer = let less = went-shorter options cs cells h.point in omega (arith, few, less)
+
     interrupting : Bool
     interrupting = interrupts still (others_of cs w.containers)
 
@@ -1226,7 +1235,7 @@ line-done options next front tail p cs still cells h b =
 
     none : Done next options front tail p (held_of options cs still w (no_front w.cells g.new.point))
         (behind_containers options next w.cells g.new)
-    none = done-none options next front tail p cs still w w.cells g.new between
+    none = done-none options next front tail p cs still w w.cells g.new fewer between
 
     by : (x : Bool) → ends_line (first_seen w.cells) ≡ x → (y : Bool) →
         Done next options front tail p
@@ -1240,7 +1249,7 @@ line-done options next front tail p cs still cells h b =
     by false going true = none
     by false going false =
         new-done options next front tail p cs still interrupting w (length w.cells) (length w.cells) w.cells g.new
-        between
+        fewer between
         (interrupts-is still w.containers (others_of cs w.containers) g.new.flags between.leaf between.containers
         between.continued) (omega arith) (omega arith)
 
@@ -1402,11 +1411,11 @@ row-adds next options front tail p x o d ls left below more e =
 
 -- flow adds the events of the rows, and the ends of the containers that the first of them closes in front of the ending
 -- before it
-flow-adds : (options : ParseOptions) (m : ℕ) → Adds options m (flow_lines options m)
+flow-adds : (options : ParseOptions) (m : ℕ) → m ≤ suc any_size → Adds options m (flow_lines options m)
 unfolding flow_lines
-flow-adds options zero front tail p cs still cells h new rest fits b e = absurd (omega arith)
-flow-adds options (suc m) front tail p cs still cells h new rest fits b e =
-    ended-adds options m (flow_lines options m) (flow-adds options m) (open_behind x.change)
+flow-adds options zero most front tail p cs still cells h new rest fits b e = absurd (omega arith)
+flow-adds options (suc m) most front tail p cs still cells h new rest fits b e =
+    ended-adds options m (flow_lines options m) (flow-adds options m (omega (arith, most))) (open_behind x.change)
     (behind_held options x) left d.new new rest
     (omega (arith, from_ending-shrinks x.cells, held-shorter options cs still cells h.point)) d.rest d.leaf d.containers
     (sym d.is ∙ e)
@@ -1415,7 +1424,7 @@ flow-adds options (suc m) front tail p cs still cells h new rest fits b e =
   where
     d : Done (flow_lines options m) options front tail p (held_at options cs still cells h.point)
         (line_then options (flow_lines options m) cells h)
-    d = line-done options (flow_lines options m) front tail p cs still cells h b
+    d = line-done options (flow_lines options m) front tail p cs still cells h (omega (arith, most, fits)) b
 
     x : Held
     x = held_at options cs still cells h.point
@@ -1448,14 +1457,16 @@ text-begins h is none shut continued leaf blank line_end = record {
 }
 
 -- so the rule of all lines adds the events of all rows
-pub flow_at-rows : (options : ParseOptions) (cells : List Cell) (h new : Here) (rest : List Cell) → IsRest h.scratch →
+pub flow_at-rows : (options : ParseOptions) (cells : List Cell) (h new : Here) (rest : List Cell) →
+    length cells ≤ any_size → IsRest h.scratch →
     h.events ≡ [] → h.flags.containers ≡ [] → h.flags.continued ≡ 0 → h.flags.leaf ≡ held_leaf.None →
     h.flags.blank ≡ false → h.flags.line_end ≡ 0 →
     flow_at options cells h ≡ Accepts new rest →
     new.events ≡ rows_events (rows_at options (suc (length cells)) [] held_leaf.None cells h.point)
 unfolding flow_at
-flow_at-rows options cells h new rest is none shut continued leaf blank line_end e =
-    flow-adds options (suc (length cells)) [] [] h.point [] held_leaf.None cells h new rest (omega arith)
+flow_at-rows options cells h new rest few is none shut continued leaf blank line_end e =
+    flow-adds options (suc (length cells)) (omega (arith, few)) [] [] h.point [] held_leaf.None cells h new rest
+    (omega arith)
     (text-begins h is none shut continued leaf blank line_end) e
     ∙ ap
     (λ (cs : List Container).

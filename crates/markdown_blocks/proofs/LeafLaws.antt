@@ -13,7 +13,7 @@ use Rattle.md_engine.specs.declared.tokenizer.held_leaf.HeldLeaf.TheVariants as 
 use Rattle.md_engine.specs.Meaning.{Accepts, Cell, Fails, Here, Outcome, Refuses}
 use Rattle.md_seam.specs.Ahead.{from_ending, line_end}
 use Rattle.md_seam.specs.Look.{seen_behind}
-use Rattle.md_seam.specs.Spaces.{IsRest}
+use Rattle.md_seam.specs.Spaces.{IsRest, any_size}
 use Rattle.md_definition.specs.Leaves.{Finished}
 use Rattle.md_definition.specs.Rest.{Rest}
 use Rattle.md_definition.specs.State.{Leaf}
@@ -65,14 +65,15 @@ pub record LeafLaws (l : LineLeaf) : Type 1 where
   -- A line of it that goes on a leaf meets one of several lines.
   pub meets : (options : ParseOptions) (on : HeldLeaf) (r : Rest) → l.starts options on r ≡ true →
       l.further on ≡ true → has_lines on ≡ true
-  -- Its trial takes a line to its end, or refuses it and leaves all as it was.
-  pub took : (options : ParseOptions) (cells : List Cell) (h : Here) → IsRest h.scratch →
+  -- Where it is tried, it takes a line to its end, or refuses it and leaves all as it was.
+  pub took : (options : ParseOptions) (cells : List Cell) (h : Here) → IsRest h.scratch → length cells ≤ any_size →
       l.takes options h.flags.leaf cells ≡ true →
       l.trial options cells h ≡
       whole_line (l.adds options h.flags.leaf cells h.point)
       (left_open l.ends (l.keeps options h.flags.leaf cells h.point) h.flags.leaf) cells h
-  pub refused : (options : ParseOptions) (cells : List Cell) (h : Here) → IsRest h.scratch →
-      l.takes options h.flags.leaf cells ≡ false → l.trial options cells h ≡ Refuses h.scratch h.flags
+  pub refused : (options : ParseOptions) (cells : List Cell) (h : Here) → l.asked h.flags.leaf ≡ true →
+      IsRest h.scratch → l.takes options h.flags.leaf cells ≡ false →
+      l.trial options cells h ≡ Refuses h.scratch h.flags
   pub shrinks : (options : ParseOptions) (cells : List Cell) (h : Here) →
       Shrinks (length cells) (l.trial options cells h)
   -- It takes the lines that the line definition says, and adds what it says of their bytes.

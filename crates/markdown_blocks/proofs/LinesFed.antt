@@ -5,6 +5,7 @@
 use Rattle.md_engine.specs.declared.tokenizer.held_leaf.HeldLeaf.TheVariants as held_leaf
 use Rattle.md_engine.specs.declared.tokenizer.held_leaf.HeldLeaf.{HeldLeaf}
 use Rattle.std.proofs.Common.{◌≡◌, ◌^◌, ◌<◌, ◌⊎◌, inl, inr, ℕ, zero, suc, ◌+◌, Bool, true, false, cond, nat_eq, List}
+use Rattle.std.proofs.Common.{◌≤◌}
 use Rattle.std.proofs.Common.{[], ◌∷◌, ◌++◌, length, take, drop, Option, Some, None, refl, sym, ◌∙◌, ap, subst, arith}
 use Rattle.std.proofs.Common.{append_assoc, append-nil, length-drop}
 use Rattle.std.proofs.lemmas.Bool.{eqb-true}
@@ -29,6 +30,7 @@ use Rattle.md_engine.proofs.Falls.{leaves_stands}
 use Rattle.md_engine.proofs.Keeps.{leaves-keep, plain-same, runs-setting, steps-keep}
 use Rattle.md_engine.proofs.StepOf.{sees, steps-as}
 use Rattle.md_engine.proofs.TextFeed.{text-follows}
+use Rattle.md_seam.specs.Spaces.{any_size}
 use Rattle.md_seam.specs.Ahead.{from_ending, line_end}
 use Rattle.md_seam.specs.Events.Nested.{pair}
 use Rattle.md_definition.specs.State.{Container}
@@ -128,6 +130,7 @@ record LineAt (options : ParseOptions) (from : Point) (all : List Row) (n : ℕ)
   -- the further lines are read from here on
   size : ℕ
   fits : length left < size
+  few : length left ≤ any_size
   rows : drop n all ≡ rows_at options size containers still left h.point
   -- the events of the lines before it, with the ends of the containers that the line closes, and without them
   read : front ++ (ends_of (closes_before containers (drop n all)) point ++ tail) ≡ rows_events (take n all)
@@ -151,7 +154,7 @@ line-next options from all n left h l rest new is = by l.size l.fits l.rows
 
     d : Done line_stop options l.front l.tail l.point (held_at options l.containers l.still left h.point)
         (line_then options line_stop left h)
-    d = line-done options line_stop l.front l.tail l.point l.containers l.still left h l.begins
+    d = line-done options line_stop l.front l.tail l.point l.containers l.still left h l.few l.begins
 
     behind : List Container
     behind = open_behind (held_at options l.containers l.still left h.point).change
@@ -192,6 +195,11 @@ line-next options from all n left h l rest new is = by l.size l.fits l.rows
             ∙ ap (λ (cells : List Cell). ended line_stop cells d.new) e in
             absurd (subst (AtStop (λ cells k. Unit {0})) none tt)
         go (c ∷ xs) e stops short rows =
+            let fewer : length (c ∷ xs) ≤ any_size =
+            let same = ap length e in
+            omega
+            (arith, same, l.few, from_ending-shrinks x.cells, held-shorter options l.containers l.still left h.point)
+            in
             let below : List Row = rows_at options m behind text xs c.after in
             let row : Row = row_of options x below in
             let taken : take (suc n) all ≡ take n all ++ row ∷ [] = take-next n all row below rows in
@@ -211,6 +219,7 @@ line-next options from all n left h l rest new is = by l.size l.fits l.rows
               begins = next-begins behind text c d.new d.rest d.leaf d.containers;
               size = m;
               fits = omega arith;
+              few = omega (arith, fewer);
               rows = dropped;
               read =
                   ap
@@ -452,7 +461,7 @@ ending-fed name o one = go (none-or-ending name o)
 abbrev feed_of : List ℕ → ParseOptions → Point → Feed
 feed_of bytes options p = text_feed (text_setting bytes options p)
 
-text-follows_it : (bytes : List ℕ) (options : ParseOptions) (p : Point) → length bytes < 2 ^ 61 →
+pub text-follows_it : (bytes : List ℕ) (options : ParseOptions) (p : Point) → length bytes < 2 ^ 61 →
     Follows (feed_of bytes options p) (text_setting bytes options p) true
 text-follows_it bytes options p small =
     text-follows (text_setting bytes options p) (length bytes) true small (omega arith) (λ e. refl)
@@ -485,6 +494,7 @@ text-within is_name bytes options p small t v run =
         begins = text-begins (here (flow_begins bytes options p)) refl refl refl refl refl refl refl;
         size = suc (length (text_cells bytes options p));
         fits = omega arith;
+        few = let short = (text-follows_it bytes options p small).short p in omega (arith, short);
         rows = refl;
         read = ap (λ (cs : List Container). ends_of cs p ++ []) closed;
         events = refl;
@@ -545,7 +555,7 @@ line-last options from all n left h l new is = by l.size l.fits l.rows
 
     d : Done line_stop options l.front l.tail l.point (held_at options l.containers l.still left h.point)
         (line_then options line_stop left h)
-    d = line-done options line_stop l.front l.tail l.point l.containers l.still left h l.begins
+    d = line-done options line_stop l.front l.tail l.point l.containers l.still left h l.few l.begins
 
     behind : List Container
     behind = open_behind (held_at options l.containers l.still left h.point).change

@@ -145,6 +145,21 @@ further-further l = refl
 pub span-laws : (l : LeafName) → (leaf l).ends ≡ false → SpanLaws (leaf l) (leaf (further_of l))
 span-laws l e = let ends = leaf-ends l in cc
 
+-- Where a leaf is tried behind others, it is asked whichever leaf the line meets.
+
+abbrev pub AreAsked : List LeafName → Type 0
+AreAsked [] = Unit {0}
+AreAsked (l ∷ ls) = ((on : HeldLeaf) → (leaf l).asked on ≡ true) × AreAsked ls
+
+pub trials-asked : AreAsked trials
+trials-asked = (λ on. refl, (λ on. refl, tt))
+
+pub trial-asked : (state : FlowState) (l : LeafName) → tried_at state ≡ Some l → (on : HeldLeaf) →
+    (leaf l).asked on ≡ true
+trial-asked flow.BeforeHeadingAtx HeadingAtx e on = refl
+trial-asked flow.BeforeThematicBreak ThematicBreak e on = refl
+trial-asked _ _ e on = cc
+
 -- In the table of flow.
 
 -- each is tried at the state in front of it alone
@@ -193,6 +208,11 @@ insider-text = refl
 pub insider-open : (on : HeldLeaf) (l : LeafName) → insider on ≡ Some l → (leaf l).ends ≡ false
 unfolding insider
 insider-open on l e = cc
+
+-- and is asked of that leaf
+pub insider-asked : (on : HeldLeaf) (l : LeafName) → insider on ≡ Some l → (leaf l).asked on ≡ true
+unfolding insider
+insider-asked on l e = cc
 
 -- what may be open of several lines is as the frame asks
 pub open-span : (open_leaf : Leaf) → IsOpenSpan open_leaf → OpenSpan open_leaf

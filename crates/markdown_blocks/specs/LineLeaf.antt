@@ -24,6 +24,8 @@ pub record LineLeaf : Type 0 where
   pub ends : Bool
   -- Whether a line of it, where it meets a leaf, goes on that leaf.
   pub further : HeldLeaf → Bool
+  -- Which leaf a line meets where this one is tried.
+  pub asked : HeldLeaf → Bool
   -- What may stand first behind whitespace where it begins: elsewhere it is refused at once.
   pub may_begin : ℕ → Bool
   -- By the cells of the rest of a line: what is left of it at its first state, whether it takes the line, and then

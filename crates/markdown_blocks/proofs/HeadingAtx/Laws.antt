@@ -99,8 +99,8 @@ heading-facts options bytes r p q starts is = record {
 pub heading-laws : LeafLaws heading_leaf
 heading-laws = record {
   looked = λ options on. trial-looked options;
-  took = trial-took;
-  refused = trial-refused;
+  took = λ options cells h is few. trial-took options cells h is;
+  refused = λ options cells h asked. trial-refused options cells h;
   meets = λ options on r starts further. cc;
   shrinks = trial-shrinks;
   fits = λ options on. heading-fits options;

@@ -13,8 +13,8 @@ use Rattle.markdown_blocks.proofs.ThematicBreak.Outside.{break-own}
 pub break-laws : LeafLaws break_leaf
 break-laws = record {
   looked = λ options on. break-looked options;
-  took = break-took;
-  refused = break-refused;
+  took = λ options cells h is few. break-took options cells h is;
+  refused = λ options cells h asked. break-refused options cells h;
   meets = λ options on r starts further. cc;
   shrinks = break-shrinks;
   fits = λ options on. break-fits options;

@@ -1,6 +1,6 @@
 -- The opening line of fenced code and of math (CommonMark 4.5, own choice), as a leaf on one line: a block without
 -- lines that is open behind it.
-use Rattle.std.specs.Prelude.{ℕ, Bool, false, ◌&&◌, ◌==◌, if◌then◌else◌, List, [], ◌∷◌, ◌++◌, length, take, drop}
+use Rattle.std.specs.Prelude.{ℕ, Bool, true, false, ◌&&◌, ◌==◌, if◌then◌else◌, List, [], ◌∷◌, ◌++◌, length, take, drop}
 use Rattle.std.specs.Prelude.{Option, Some, None}
 use Rattle.std.specs.List.{prefix_len}
 use Rattle.std.specs.Option.{is_some}
@@ -130,6 +130,7 @@ fence_leaf = record {
   before = flow.BeforeRaw;
   ends = false;
   further = λ on. false;
+  asked = λ on. true;
   may_begin = may_begin;
   trial = fence_at;
   takes = λ options on cells. is_fence options cells;

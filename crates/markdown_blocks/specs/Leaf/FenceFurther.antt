@@ -127,6 +127,7 @@ fence_further = record {
   before = flow.Start;
   ends = false;
   further = λ on. is_fence on;
+  asked = λ on. is_fence on;
   may_begin = λ b. true;
   trial = further_at;
   takes = λ options on cells. is_fence on;

@@ -48,6 +48,7 @@ heading_leaf = record {
   before = flow.BeforeHeadingAtx;
   ends = true;
   further = λ on. false;
+  asked = λ on. true;
   may_begin = may_begin;
   trial = heading_at;
   takes = λ options on cells. is_heading_line options cells;

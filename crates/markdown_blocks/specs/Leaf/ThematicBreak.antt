@@ -61,6 +61,7 @@ break_leaf = record {
   before = flow.BeforeThematicBreak;
   ends = true;
   further = λ on. false;
+  asked = λ on. true;
   may_begin = may_begin;
   trial = break_at;
   takes = λ options on cells. is_break options cells;
