@@ -141,7 +141,7 @@ whole-clear bytes p e = low-clear bytes p (λ some. absurd (none some))
     none some = grind (arith, nat_tests, e)
 
 -- behind whitespace: a tab is cut, if any byte is
-left-clear : (bytes behind : List ℕ) (r : Rest) (p : Point) → RestAt bytes behind r p → clear bytes p ≡ true
+pub left-clear : (bytes behind : List ℕ) (r : Rest) (p : Point) → RestAt bytes behind r p → clear bytes p ≡ true
 left-clear bytes behind r p is = go r.spaces is.cut is.text_is
   where
     go : (spaces : ℕ) → Cut spaces p → drop p.index bytes ≡ (cut_tab spaces ++ r.bytes ++ behind) →
