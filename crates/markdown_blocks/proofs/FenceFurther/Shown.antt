@@ -134,7 +134,7 @@ further-between options bytes on r p q e is begin end =
 
 -- Each begins and ends clear.
 
-whole-clear : (bytes : List ℕ) (p : Point) → p.vs ≡ 0 → clear bytes p ≡ true
+pub whole-clear : (bytes : List ℕ) (p : Point) → p.vs ≡ 0 → clear bytes p ≡ true
 whole-clear bytes p e = low-clear bytes p (λ some. absurd (none some))
   where
     none : (p.vs == 0) ≡ false → ⊥

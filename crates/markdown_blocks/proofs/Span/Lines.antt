@@ -78,7 +78,7 @@ AreFurther bytes unread done name left leaf to row (next ∷ rows) =
 
 -- Such lines by their events: a begin, what stands inside, and the end.
 
-ends-by : (unread done : Row → List Event) (name : Name) (row : Row) (us es : List Event) → row.end.vs ≡ 0 →
+pub ends-by : (unread done : Row → List Event) (name : Name) (row : Row) (us es : List Event) → row.end.vs ≡ 0 →
     unread row ≡ us ++ exit name row.end ∷ [] → done row ≡ es ++ exit name row.end ∷ [] →
     EndsLeaf unread done name row
 ends-by unread done name row us es whole unread_is is = record {
