@@ -117,6 +117,7 @@ pub mod GroupFacts
 pub mod BlankLine
 pub mod Fence
 pub mod FenceFurther
+pub mod FenceSpan
 pub mod HeadingAtx
 pub mod ThematicBreak
 pub mod Registry

@@ -2,7 +2,7 @@
 --
 -- One value of `LineLeaf` takes its first line, and one its further lines; both may be the same.
 use Rattle.std.proofs.Common.{◌≡◌, ℕ, ◌+◌, Bool, true, false, List, [], ◌∷◌, ◌++◌, length}
-use Rattle.std.specs.Prelude.{nat_lt, not, if◌then◌else◌, Some}
+use Rattle.std.specs.Prelude.{◌&&◌, nat_lt, not, if◌then◌else◌, Some}
 use Rattle.md_engine.specs.declared.configuration.ParseOptions.{ParseOptions}
 use Rattle.md_engine.specs.declared.event.Content.{Content}
 use Rattle.md_engine.specs.declared.event.Content.TheVariants as content
@@ -45,6 +45,14 @@ AreBehind options bytes l row (next ∷ rows) =
     × (on : next.on ≡ row.behind) × (further : l.further next.on ≡ true)
     × (is : IsLineOf options bytes l next) × AreBehind options bytes l next rows
 
+-- whether nothing at all stands on a line, and no prefix in front of it
+abbrev pub is_bare : List Event → Bool
+is_bare [] = true
+is_bare (e ∷ es) = false
+
+abbrev pub is_bare_row : Row → Bool
+is_bare_row row = is_bare row.front && is_empty_row row
+
 -- What the line definition comes to with them, behind what it came to before. An empty line behind the ending that the
 -- text ends with is none of its lines.
 abbrev pub come_behind : (options : ParseOptions) (bytes : List ℕ) (l : LineLeaf) (row : Row) (rows : List Row) →
@@ -86,7 +94,7 @@ pub record SpanLaws (first further : LineLeaf) : Type 1 where
   pub facts : (options : ParseOptions) (bytes : List ℕ) (row : Row) (rows : List Row) →
       (is : IsLineOf options bytes first row) → first.further row.on ≡ false →
       (are : AreBehind options bytes further row rows) →
-      LeafFacts bytes (Some (block options bytes row rows is are)) (not (is_empty_row (last_row row rows))) row.first
+      LeafFacts bytes (Some (block options bytes row rows is are)) (not (is_bare_row (last_row row rows))) row.first
       (last_row row rows).end (span_by (λ (r : Row). r.inside) row rows) (span_done bytes row rows)
   pub shuts : (options : ParseOptions) (bytes : List ℕ) (row : Row) (rows : List Row) →
       (is : IsLineOf options bytes first row) → first.further row.on ≡ false →
