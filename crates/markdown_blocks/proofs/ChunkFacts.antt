@@ -1,7 +1,7 @@
 -- What the plain layer gives for a chunk: its pieces stand, and it keeps the grammar of a text.
-use Rattle.std.proofs.Common.{◌≡◌, ℕ, ◌+◌, ◌<◌, Bool, true, false, cond, List, [], ◌∷◌, ◌++◌, length, drop, slice_range}
+use Rattle.std.proofs.Common.{◌≡◌, ℕ, suc, ◌+◌, ◌<◌, Bool, true, false, cond, List, [], ◌∷◌, ◌++◌, length, drop, slice_range}
 use Rattle.std.proofs.Common.{refl, ap, sym, ◌∙◌, subst, append_assoc, append-nil, arith}
-use Rattle.std.specs.Prelude.{◌==◌, not}
+use Rattle.std.specs.Prelude.{◌==◌, not, IsTrue}
 use Rattle.std.proofs.lemmas.Bool.{and_from, and_parts}
 use Rattle.std.proofs.lemmas.Bool.Decides.{nat_tests}
 use Rattle.std.proofs.lemmas.List.{length-append}
@@ -14,7 +14,7 @@ use Rattle.md_seam.specs.Events.Grammar.{Expression, behind, may_end, plain_text
 use Rattle.md_seam.specs.Events.Inline.{is_one_line, line_end, pair_unless_empty, plain_chunk}
 use Rattle.md_seam.specs.Events.Nested.{pair}
 use Rattle.md_seam.specs.Events.Pieces.{is_in_line, is_line_ending, piece_stands, stands_over}
-use Rattle.md_seam.specs.Events.Places.{past_text, same_place}
+use Rattle.md_seam.specs.Events.Places.{at_or_before, past_text, same_place}
 use Rattle.md_definition.specs.Lines.{is_ending, without_ending}
 use Rattle.md_definition.specs.Texts.{split_lines}
 use Rattle.md_seam.proofs.FeedLines.{IsEnding, ending-some, slice-split}
@@ -184,3 +184,15 @@ chunk-word bytes first chunk =
     ends false true false = refl
     ends false false true = refl
     ends false false false = refl
+
+-- an ending has a byte at least
+pub ending-order : (bytes : List ℕ) (p q : Point) → IsEnding bytes p q → IsTrue (at_or_before p q)
+ending-order bytes p q is = go is.ending is.size
+  where
+    further : (size : ℕ) → q.index ≡ p.index + suc size → IsTrue (at_or_before p q)
+    further size e = grind (arith, nat_tests)
+
+    go : (ending : Ending) → q.index ≡ p.index + length (ending_bytes ending) → IsTrue (at_or_before p q)
+    go LineFeed e = further 0 e
+    go Return e = further 0 e
+    go Both e = further 1 e

@@ -12,7 +12,7 @@ use Rattle.md_seam.specs.declared.inline.PartKind.{PartKind}
 use Rattle.md_seam.specs.Events.Inline.{Fills, Part, pieces, plain_chunk, plain_chunks, together}
 use Rattle.md_seam.specs.Events.Nested.{around, enter, exit}
 use Rattle.md_seam.specs.Events.Tiles.{EachRead, chunks, filled_from, first_list, further_lists, part_at, part_kind}
-use Rattle.md_seam.specs.Events.Tiles.{part_of, parts, plain_lists}
+use Rattle.md_seam.specs.Events.Tiles.{part_of, parts, plain_lists, plain_read}
 use Rattle.md_seam.proofs.NestsLemmas.{part-none, together-append}
 use Rattle.markdown_blocks.specs.Parsed.{reads_plain}
 use Rattle.markdown_blocks.specs.Unread.{linked}
@@ -155,3 +155,16 @@ fill-part bytes name kind p q list inside out is h fills into = record {
       ∙ ap (λ (l : List Event). enter name p ∷ l)
       (sym (append_assoc out (exit name q ∷ []) (filled_from false ys more)));
 }
+
+-- so it is with what stands alone
+pub filled-read : (bytes : List ℕ) (blocks events : List Event) → Fill bytes blocks events →
+    plain_read bytes blocks ≡ events
+filled-read bytes blocks events fill =
+    let own : fill.own ≡
+    parts blocks = sym (ap parts (sym (append-nil blocks)) ∙ fill.parts_are [] ∙ append-nil fill.own) in
+    sym
+    (sym (append-nil events)
+    ∙ sym (fill.read [] [])
+    ∙ ap (λ (l : List Event). filled_from false l (together (plain_lists bytes fill.own) ++ [])) (append-nil blocks)
+    ∙ ap (λ (l : List (List Event)). filled_from false blocks l) (append-nil (together (plain_lists bytes fill.own)))
+    ∙ ap (λ (l : List Part). filled_from false blocks (together (plain_lists bytes l))) own)

@@ -29,6 +29,7 @@ use Rattle.md_containers.specs.Listed.{listed}
 use Rattle.md_content.specs.ContentReads.{content_readings, wants_content}
 use Rattle.md_content.specs.Joined.{is_content, joined}
 use Rattle.md_content.specs.Resolves.{Resolves, found_in_content}
+use Rattle.md_leaves.specs.Spanned.{spanned}
 use Rattle.md_seam.specs.Substituted.{Substituted}
 use Rattle.markdown_blocks.specs.Fed.{FlowRan}
 use Rattle.markdown_blocks.specs.FlowReads.{FlowReads, has_text, text_cells, text_rows, text_setting}
@@ -252,15 +253,17 @@ pub flushed-frames : (T : Step) (end : State) (at : World) (found : Found) (new 
 flushed-frames T end at found new f =
     resolved-frames (record f.at { resolvers = [] }) f.at.resolvers found new f.resolved ∙ f.none_left
 
--- what flow has read of a text from a point on, once all of it was pushed and flushed, and lists were put around items
+-- what flow has read of a text from a point on, once all of it was pushed and flushed, the lines of leaves were joined,
+-- and lists were put around items
 pub flow-reads : (bytes : List ℕ) (options : ParseOptions) (p : Point) (end : State) (at : World) (found : Found)
-    (items : World) (more : Option Found) (new : World) →
+    (items lines : World) (more : Option Found) (new : World) →
     length bytes < 2 ^ 61 →
     Runs (FlowStep same_name) false (Next (s.Document document.ContainerExistingBefore))
     (reads_to (fresh bytes options p) (length bytes)) end at →
-    Flushes (FlowStep same_name) resolved_as end at true found items → resolved_as r.ListItem items more new →
+    Flushes (FlowStep same_name) resolved_as end at true found items →
+    lines ≡ record items { events = spanned items.events } → resolved_as r.ListItem lines more new →
     FlowReads bytes options p found new
-flow-reads bytes options p end at found items more new small run f listing =
+flow-reads bytes options p end at found items lines more new small run f joining listing =
     go
     (runs-register true end at
     (runs-register false (Next (s.Document document.ContainerExistingBefore))
@@ -378,12 +381,14 @@ flow-reads bytes options p end at found items more new small run f listing =
         (rows-outside rows framed (subst Q events (registers.no_own e))) read.read) ran.sets in
         let before : items ≡ record w { events = resolved ran.mid.events } = set.1
         ∙ ap (λ (x : World). record x { events = resolved ran.mid.events }) read.rest in
-        let text : items.setting.bytes ≡ bytes = ap (λ (x : World). x.setting.bytes) before
+        let joined_up : lines ≡ record w { events = spanned (resolved ran.mid.events) } = joining
+        ∙ ap (λ (x : World). record x { events = spanned x.events }) before in
+        let text : lines.setting.bytes ≡ bytes = ap (λ (x : World). x.setting.bytes) joined_up
         ∙ ap (λ (x : Setting). x.bytes) setting in
-        let all : new ≡ record w { events = listed bytes (resolved ran.mid.events) } = listing.1
-        ∙ ap (λ (x : World). record x { events = listed items.setting.bytes x.events }) before
-        ∙ ap (λ (l : List ℕ). record w { events = listed l (resolved ran.mid.events) }) text in
-        let is : new.events ≡ listed bytes (resolved ran.mid.events) = ap (λ (x : World). x.events) all in
+        let all : new ≡ record w { events = listed bytes (spanned (resolved ran.mid.events)) } = listing.1
+        ∙ ap (λ (x : World). record x { events = listed lines.setting.bytes x.events }) joined_up
+        ∙ ap (λ (l : List ℕ). record w { events = listed l (spanned (resolved ran.mid.events)) }) text in
+        let is : new.events ≡ listed bytes (spanned (resolved ran.mid.events)) = ap (λ (x : World). x.events) all in
         let F : Found →
         Type 0 = λ x. ((has_text rows ≡ false) × (x ≡ nothing)) ⊎ (x ≡ found_in_content ran.mid.events) in
         record {
@@ -402,14 +407,16 @@ flow-reads bytes options p end at found items more new small run f listing =
 
 -- the same for a tokenizer that is known to be fresh, whose test of names is known to be that one
 pub flow-reads-from : (is_name : ResolveName → ResolveName → Bool) (bytes : List ℕ) (options : ParseOptions) (p : Point)
-    (start : World) (to : ℕ) (end : State) (at : World) (found : Found) (items : World) (more : Option Found)
+    (start : World) (to : ℕ) (end : State) (at : World) (found : Found) (items lines : World) (more : Option Found)
     (new : World) →
     ((a b : ResolveName) → is_name a b ≡ same_name a b) → start ≡ fresh bytes options p → to ≡ length bytes →
     length bytes < 2 ^ 61 →
     Runs (FlowStep is_name) false (Next (s.Document document.ContainerExistingBefore)) (reads_to start to) end at →
-    Flushes (FlowStep is_name) resolved_as end at true found items → resolved_as r.ListItem items more new →
+    Flushes (FlowStep is_name) resolved_as end at true found items →
+    lines ≡ record items { events = spanned items.events } → resolved_as r.ListItem lines more new →
     FlowReads bytes options p found new
-flow-reads-from is_name bytes options p start to end at found items more new names same all small run f listing =
+flow-reads-from is_name bytes options p start to end at found items lines more new names same all small run f joining
+    listing =
     let named : is_name ≡ same_name = λ i a b. names a b i in
     let P : World →
     Type 0 = λ w. Runs (FlowStep same_name) false (Next (s.Document document.ContainerExistingBefore))
@@ -422,8 +429,8 @@ flow-reads-from is_name bytes options p start to end at found items more new nam
     (reads_to start to) end at in
     let F : (ResolveName → ResolveName → Bool) →
     Type 0 = λ t. Flushes (FlowStep t) resolved_as end at true found items in
-    flow-reads bytes options p end at found items more new small (subst P same (subst Q all (subst S named run)))
-    (subst F named f) listing
+    flow-reads bytes options p end at found items lines more new small
+    (subst P same (subst Q all (subst S named run))) (subst F named f) joining listing
 
 -- What is known behind the resolvers of flow.
 

@@ -39,7 +39,8 @@ use Rattle.markdown_blocks.specs.Rows.{leaf_events, leaf_unread, line_kind, read
 use Rattle.markdown_blocks.specs.Rows.{row_events_by, rows_events, single_events_by, tail_events}
 use Rattle.markdown_blocks.specs.Fronted.{cut_tab}
 use Rattle.markdown_blocks.specs.Unread.{joined_groups, linked, linked_lines, listed_group, listed_groups}
-use Rattle.markdown_blocks.specs.Unread.{listed_row_by, unread_group, unread_groups, text_unread, unread_lines}
+use Rattle.markdown_blocks.specs.Unread.{listed_row_by, set_groups, text_unread, unread_group, unread_groups}
+use Rattle.markdown_blocks.specs.Unread.{unread_lines}
 use Rattle.md_seam.proofs.FeedLines.{ending-some}
 pub use Rattle.markdown_blocks.proofs.GroupsAre.{AreGroups, AreLines, AreSpan, EndsBeforeGroups, HasFront, IsSingle}
 pub use Rattle.markdown_blocks.proofs.GroupsAre.{IsSpanLine, groups-are}
@@ -58,10 +59,10 @@ use Rattle.markdown_blocks.proofs.ContentFacts.{NoContent, WantsContent, no_cont
 use Rattle.markdown_blocks.proofs.ContainerNames.{container-facts}
 use Rattle.md_definition.specs.Rest.{Rest as LineRest, is_blank}
 use Rattle.markdown_blocks.proofs.LineTexts.{one-last, one-next, piece, without-none, without-one}
-use Rattle.markdown_blocks.proofs.OutsideFacts.{AreOutside}
+use Rattle.markdown_blocks.proofs.OutsideFacts.{AreOutside, outside-append}
 use Rattle.markdown_blocks.proofs.OutsideLemmas.{around-outside, ending-own, has_front-outside, leaf-set}
 use Rattle.markdown_blocks.proofs.OutsideLemmas.{linked-outside, tail-outside}
-use Rattle.markdown_blocks.proofs.Registry.{laws, leaf-ends, outside-passes, span-laws}
+use Rattle.markdown_blocks.proofs.Registry.{laws, outside-passes, span-laws}
 use Rattle.markdown_blocks.proofs.RowLeaf.{row-becomes}
 use Rattle.markdown_blocks.proofs.KindLemmas.{kind-starts, kind-text}
 use Rattle.markdown_blocks.specs.Rows.{is_blank_by}
@@ -405,12 +406,6 @@ content-read options bytes open_before still p lines rows shut are quiet wants r
 
 -- Resolvers.
 
--- none is built
-no-span : (options : ParseOptions) (bytes : List ℕ) (row : Row) (rows : List Row) → AreSpan options bytes row rows → ⊥
-no-span options bytes row rows are =
-    let is : IsSpanLine options bytes row = span-begins options bytes row rows are in
-    let ends = leaf-ends is.name in let open_leaf = is.open_leaf in cc
-
 -- the whitespace of a blank line stays
 blank-outside : (line : List ℕ) (p : Point) → AreOutside (blank_line line p)
 blank-outside [] p = tt
@@ -438,8 +433,34 @@ single-set options bytes row es is kind e =
         (sym is.is.line_is ∙ sym is.is.text)
     leaf TextRow e es = absurd (is.other e)
 
+-- the lines of a leaf of several are left to the resolver that joins them
+span_line-outside : (options : ParseOptions) (bytes : List ℕ) (row : Row) → IsSpanLine options bytes row →
+    (kind : RowKind) → row.kind ≡ kind → AreOutside (row_events_by kind row)
+span_line-outside options bytes row is kind e =
+    outside-append (row.front ++ leaf_events kind row) (tail_events (ending_of kind row) row)
+    (outside-append row.front (leaf_events kind row) (has_front-outside bytes row is.front) (leaf kind e))
+    (tail-outside (ending_of kind row) row (ending-own (is_blank_by kind row)))
+  where
+    leaf : (kind : RowKind) → row.kind ≡ kind → AreOutside (leaf_events kind row)
+    leaf BlankRow e = let bad : LeafRow is.name ≡ BlankRow = sym is.kind ∙ e in cc
+    leaf TextRow e = let bad : LeafRow is.name ≡ TextRow = sym is.kind ∙ e in cc
+    leaf (LeafRow l) e =
+        subst AreOutside (sym (is.is.leaf_is is.name is.kind))
+        (subst (λ (line : List ℕ). AreOutside ((line_leaf is.name).added options row.on line row.first))
+        (sym is.is.line_is)
+        ((laws is.name).outside is.open_leaf options row.on is.is.rest row.first
+        (kind-starts options row.on is.is.rest is.name (sym is.is.kind ∙ is.kind))))
+
+span-outside : (options : ParseOptions) (bytes : List ℕ) (row : Row) (rows : List Row) →
+    AreSpan options bytes row rows → AreOutside (rows_events (row ∷ rows))
+span-outside options bytes row [] are =
+    outside-append (row_events row) [] (span_line-outside options bytes row are row.kind refl) tt
+span-outside options bytes row (next ∷ rows) are =
+    outside-append (row_events row) (rows_events (next ∷ rows))
+    (span_line-outside options bytes row are.0 row.kind refl) (span-outside options bytes next rows are.8)
+
 groups-set : (options : ParseOptions) (bytes : List ℕ) (gs : List Group) → AreGroups options bytes gs →
-    resolved (unread_groups gs) ≡ listed_groups bytes gs
+    resolved (unread_groups gs) ≡ set_groups bytes gs
 groups-set options bytes [] are = refl
 groups-set options bytes (Single row ∷ gs) are =
     single-set options bytes row (unread_groups gs) are.0 row.kind refl
@@ -453,13 +474,15 @@ groups-set options bytes (Lines row rows ∷ gs) are =
     (around-outside text_leaf.name row.first last.end (unread_lines row rows) refl
     (linked-outside text_link row rows (lines-prefixed options bytes row rows are.0))))
     ∙ ap (λ (l : List Event). unread_group (Lines row rows) ++ l) (groups-set options bytes gs are.3)
-groups-set options bytes (Span row rows ∷ gs) are = absurd (no-span options bytes row rows are.0)
+groups-set options bytes (Span row rows ∷ gs) are =
+    outside-passes (rows_events (row ∷ rows)) (unread_groups gs) (span-outside options bytes row rows are.0)
+    ∙ ap (λ (l : List Event). rows_events (row ∷ rows) ++ l) (groups-set options bytes gs are.2)
 
--- Each leaf is set, and all else stays.
+-- Each leaf on one line is set, and all else stays.
 pub leaves-set : (options : ParseOptions) (bytes : List ℕ) (open_before : List Container) (still : HeldLeaf) (p : Point)
     (lines : List (List ℕ)) (rows : List Row) →
     has_lines still ≡ false → AreRows options bytes open_before still p lines rows → EachNoContent rows →
-    resolved (unread_groups (groups rows)) ≡ listed_groups bytes (groups rows)
+    resolved (unread_groups (groups rows)) ≡ set_groups bytes (groups rows)
 leaves-set options bytes open_before still p lines rows shut are quiet =
     groups-set options bytes (groups rows) (groups-are options bytes open_before still p lines rows shut are quiet)
 

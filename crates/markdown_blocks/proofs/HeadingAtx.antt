@@ -20,4 +20,5 @@ pub mod Stands
 pub mod Texts
 pub mod Tiled
 pub mod Trial
+pub mod Unspanned
 pub mod Words

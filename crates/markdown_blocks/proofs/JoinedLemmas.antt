@@ -32,6 +32,7 @@ use Rattle.markdown_blocks.specs.Rows as lines
 use Rattle.markdown_blocks.specs.Unread.{joined_groups, linked_lines}
 use Rattle.markdown_blocks.proofs.FrontNames.{HasFront, ends-are, ends-first, front-content, fronts-are}
 use Rattle.markdown_blocks.proofs.FrontNames.{fronts-prefixes, fronts-stop, prefixes-content}
+pub use Rattle.markdown_blocks.proofs.Span.Cuts.{ending-is}
 use Rattle.markdown_blocks.proofs.SubstitutedLemmas.{no_link-unwanted}
 use Rattle.markdown_blocks.proofs.Registry.{laws}
 use Rattle.markdown_blocks.proofs.ContentFacts.{NoContent, WantsContent, no_content-append, nothing, nothing-wanted}
@@ -172,10 +173,6 @@ abbrev pub EachEnds : List Row → Type 0
 EachEnds [] = Unit {0}
 EachEnds (row ∷ []) = Unit {0}
 EachEnds (row ∷ below ∷ rows) = (q : Point) × (after : row.after ≡ Some q) × EachEnds (below ∷ rows)
-
-pub ending-is : (name : Name) (row : Row) (q : Point) → row.after ≡ Some q →
-    ending_events name row ≡ pair name row.end q
-ending-is name row q after = ap (λ (x : Option Point). elim x [ None ↦ [] | Some q ↦ pair name row.end q ]) after
 
 -- behind a line stands the end of its ending
 pub behind-is : (row : Row) (q : Point) → row.after ≡ Some q → behind_row row ≡ q

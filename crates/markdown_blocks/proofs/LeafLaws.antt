@@ -25,6 +25,7 @@ use Rattle.markdown_blocks.specs.LineLeaf.{LineLeaf}
 use Rattle.markdown_blocks.specs.Registry.{is_own, resolved}
 use Rattle.markdown_blocks.proofs.OutsideFacts.{AreOutside, NoEnds}
 use Rattle.markdown_blocks.proofs.LeafFacts.{LeafFacts, LineAt, ReadsText}
+use Rattle.markdown_blocks.proofs.SpannedFacts.{AreUnspanned}
 use Rattle.markdown_blocks.proofs.SubstitutedLemmas.{Becomes}
 use Rattle.md_seam.specs.Substituted.{Readings}
 use Rattle.markdown_blocks.proofs.ContentFacts.{NoContent, WantsContent}
@@ -109,10 +110,16 @@ pub record LeafLaws (l : LineLeaf) : Type 1 where
   -- Where no part ends in what it adds that a resolver rewrites, so that none is registered, none begins there.
   pub own : (options : ParseOptions) (on : HeldLeaf) (cells : List Cell) (p : Point) →
       NoEnds is_own (l.adds options on cells p) → AreOutside (l.adds options on cells p)
+  -- If it is open behind its line, no resolver rewrites it but the one that joins its lines.
+  pub outside : l.ends ≡ false → (options : ParseOptions) (on : HeldLeaf) (r : Rest) (p : Point) →
+      l.starts options on r ≡ true → AreOutside (l.added options on (rest_line r) p)
   -- If it always ends on its line, resolvers set what is its own,
   pub set : l.ends ≡ true → (options : ParseOptions) (on : HeldLeaf) (r : Rest) (p : Point) (es : List Event) →
       l.starts options on r ≡ true →
       resolved (l.added options on (rest_line r) p ++ es) ≡ l.unread (rest_line r) p ++ resolved es
+  -- and the one that joins the lines of leaves of several passes it;
+  pub unspanned : l.ends ≡ true → (options : ParseOptions) (on : HeldLeaf) (r : Rest) (p : Point) →
+      l.starts options on r ≡ true → AreUnspanned (l.unread (rest_line r) p)
   -- its events are known, and show its block.
   pub facts : l.ends ≡ true → (options : ParseOptions) (on : HeldLeaf) (bytes : List ℕ) (r : Rest) (p q : Point) →
       l.starts options on r ≡ true →

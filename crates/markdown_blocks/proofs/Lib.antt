@@ -20,6 +20,7 @@ pub mod OpenSpan
 pub mod Openers
 pub mod OpensAtOnce
 pub mod OutsideFacts
+pub mod SpannedFacts
 pub mod BetweenFacts
 pub mod PartedFacts
 pub mod Reached
@@ -73,6 +74,7 @@ pub mod StatesRegister
 pub mod JoinedLemmas
 pub mod GroupLemmas
 pub mod GroupsAre
+pub mod SpannedGroups
 pub mod Text
 pub mod Span
 pub mod ShallowBlocks
@@ -116,6 +118,7 @@ pub mod GroupFacts
 pub mod BlankLine
 pub mod Fence
 pub mod FenceFurther
+pub mod FenceSpan
 pub mod HeadingAtx
 pub mod ThematicBreak
 pub mod Registry

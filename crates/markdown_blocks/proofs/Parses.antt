@@ -14,6 +14,7 @@ use Rattle.md_engine.specs.World.{World}
 use Rattle.md_containers.specs.ItemsHeld.{ItemsHeld}
 use Rattle.md_containers.specs.ItemsStand.{ItemsStand, root}
 use Rattle.md_containers.specs.Listed.{listed}
+use Rattle.md_leaves.specs.Spanned.{spanned}
 use Rattle.md_containers.proofs.ListedBlocks.{IsUnlisted, listed-blocks, listed-covers}
 use Rattle.md_containers.proofs.ListedFilled.{listed-plain}
 use Rattle.md_containers.proofs.ListedGrammar.{listed-grammar}
@@ -49,7 +50,8 @@ use Rattle.markdown_blocks.proofs.GrammarRows.{blocks-grammar, events-grammar}
 use Rattle.markdown_blocks.proofs.HeldRows.{blocks-held, events-held}
 use Rattle.markdown_blocks.proofs.StandRows.{events-stand}
 use Rattle.markdown_blocks.proofs.ContentFacts.{content-alone}
-use Rattle.markdown_blocks.proofs.GroupLemmas.{content-read, leaves-set, text-read}
+use Rattle.markdown_blocks.proofs.GroupLemmas.{content-read, text-read}
+use Rattle.markdown_blocks.proofs.SpannedGroups.{lines-joined}
 use Rattle.markdown_blocks.proofs.JoinedLemmas.{EachNoContent, rows_at-no_content}
 use Rattle.markdown_blocks.proofs.ListedOutlined.{listed-outlined}
 use Rattle.markdown_blocks.proofs.MarkLemmas.{body-between, body-column, body-index, body-vs, mark-nested}
@@ -96,15 +98,15 @@ content-are options bytes built small found new flow =
     wants_content (content_readings bytes options) refl content-alone
     (content-reads options options bytes small) flow.content flow.content_read
 
--- Then the other resolvers ran, that of lists last.
+-- Then the resolvers of leaves ran, the lines of each leaf of several were joined, and lists were put around items.
 resolved-are : (options : ParseOptions) (bytes : List ℕ) → IsBuilt options → length bytes < 2 ^ 61 →
     (found : Found) (new : World) → (flow : FlowReads bytes options (body_point bytes) found new) →
     new.events ≡ listed bytes (listed_groups bytes (groups (rows_of options bytes)))
 resolved-are options bytes built small found new flow =
     flow.events_are
-    ∙ ap (λ (l : List Event). listed bytes (resolved l)) (content-are options bytes built small found new flow)
+    ∙ ap (λ (l : List Event). listed bytes (spanned (resolved l))) (content-are options bytes built small found new flow)
     ∙ ap (listed bytes)
-    (leaves-set options bytes [] held_leaf.None (body_point bytes) (lines_of bytes) (rows_of options bytes)
+    (lines-joined options bytes [] held_leaf.None (body_point bytes) (lines_of bytes) (rows_of options bytes)
     refl (text-are options bytes built small) (text-quiet options bytes (body_point bytes)))
 
 -- And then texts were read.

@@ -2,7 +2,7 @@
 --
 -- One value of `LineLeaf` takes its first line, and one its further lines; both may be the same.
 use Rattle.std.proofs.Common.{◌≡◌, ℕ, ◌+◌, Bool, true, false, List, [], ◌∷◌, ◌++◌, length}
-use Rattle.std.specs.Prelude.{nat_lt, not, if◌then◌else◌, Some}
+use Rattle.std.specs.Prelude.{◌&&◌, nat_lt, not, if◌then◌else◌, Some}
 use Rattle.md_engine.specs.declared.configuration.ParseOptions.{ParseOptions}
 use Rattle.md_engine.specs.declared.event.Content.{Content}
 use Rattle.md_engine.specs.declared.event.Content.TheVariants as content
@@ -10,10 +10,9 @@ use Rattle.md_engine.specs.declared.event.Event.{Event}
 use Rattle.md_engine.specs.declared.event.Point.{Point}
 use Rattle.md_definition.specs.Leaves.{Came}
 use Rattle.md_definition.specs.Rest.{Rest}
-use Rattle.md_definition.specs.State.{NoLeaf, Spot, shut, then_block}
+use Rattle.md_definition.specs.State.{NoLeaf, shut, then_block}
 use Rattle.md_definition.specs.Step.{came}
 use Rattle.md_definition.specs.Tree.{Block, Blocks}
-use Rattle.md_leaves.specs.Spanned.{has_lines, links_back}
 use Rattle.md_leaves.proofs.SpannedLines.{IsBegin, IsEnd, IsFurther, NoLines}
 use Rattle.md_seam.specs.Substituted.{Readings}
 use Rattle.markdown_blocks.specs.Fronted.{rest_line}
@@ -23,6 +22,7 @@ use Rattle.markdown_blocks.specs.Rows.{Row, is_empty_row, last_row, span_by, spa
 use Rattle.markdown_blocks.proofs.FrontFacts.{LinePrefix}
 use Rattle.markdown_blocks.proofs.LeafFacts.{LeafFacts, LineAt, ReadsText, ReadsString}
 use Rattle.markdown_blocks.proofs.RowFacts.{IsEnding}
+use Rattle.markdown_blocks.proofs.SpannedFacts.{AreUnspanned}
 use Rattle.markdown_blocks.proofs.SubstitutedLemmas.{Becomes}
 
 -- Lines.
@@ -45,6 +45,14 @@ AreBehind options bytes l row (next ∷ rows) =
     × (on : next.on ≡ row.behind) × (further : l.further next.on ≡ true)
     × (is : IsLineOf options bytes l next) × AreBehind options bytes l next rows
 
+-- whether nothing at all stands on a line, and no prefix in front of it
+abbrev pub is_bare : List Event → Bool
+is_bare [] = true
+is_bare (e ∷ es) = false
+
+abbrev pub is_bare_row : Row → Bool
+is_bare_row row = is_bare row.front && is_empty_row row
+
 -- What the line definition comes to with them, behind what it came to before. An empty line behind the ending that the
 -- text ends with is none of its lines.
 abbrev pub come_behind : (options : ParseOptions) (bytes : List ℕ) (l : LineLeaf) (row : Row) (rows : List Row) →
@@ -54,14 +62,20 @@ come_behind options bytes l row (next ∷ rows) are c =
     come_behind options bytes l next rows are.7
     (if nat_lt are.0.index (length bytes) then l.comes options (left_by c) are.6.rest else c)
 
--- Events, as the resolver that joins them meets them: a line is a begin behind others, what stands inside, and an end.
-pub record IsSpanned (Begins : Event → Type 0) (es : List Event) : Type 0 where
+-- Events, as the resolver that joins them meets them: a line is a begin, what stands inside, and an end.
+
+-- none stand there
+abbrev pub IsNone : List Event → Type 0
+IsNone es = es ≡ []
+
+-- with so much in front of the begin: what it passes, in front of a first line; in front of a further one nothing
+pub record IsSpanned (Lead : List Event → Type 0) (Begins : Event → Type 0) (es : List Event) : Type 0 where
   pub lead : List Event
   pub begin : Event
   pub inside : List Event
   pub end : Event
   pub is : es ≡ lead ++ begin ∷ inside ++ end ∷ []
-  pub lead_plain : NoLines lead
+  pub lead_plain : Lead lead
   pub begins : Begins begin
   pub inside_plain : NoLines inside
   pub ends : IsEnd end
@@ -71,16 +85,16 @@ pub record IsSpanned (Begins : Event → Type 0) (es : List Event) : Type 0 wher
 pub record SpanLaws (first further : LineLeaf) : Type 1 where
   -- Each line is a block by itself at first; a further one says by the link of its begin that it goes on the one before.
   pub first_spanned : (options : ParseOptions) (bytes : List ℕ) (row : Row) → IsLineOf options bytes first row →
-      first.further row.on ≡ false → IsSpanned IsBegin row.inside
+      first.further row.on ≡ false → IsSpanned AreUnspanned IsBegin row.inside
   pub further_spanned : (options : ParseOptions) (bytes : List ℕ) (row : Row) → IsLineOf options bytes further row →
-      further.further row.on ≡ true → IsSpanned IsFurther row.inside
+      further.further row.on ≡ true → IsSpanned IsNone IsFurther row.inside
   -- Joined, the lines are known, and show the block to which the line definition comes with them.
   pub block : (options : ParseOptions) (bytes : List ℕ) (row : Row) (rows : List Row) →
       IsLineOf options bytes first row → AreBehind options bytes further row rows → Block
   pub facts : (options : ParseOptions) (bytes : List ℕ) (row : Row) (rows : List Row) →
       (is : IsLineOf options bytes first row) → first.further row.on ≡ false →
       (are : AreBehind options bytes further row rows) →
-      LeafFacts bytes (Some (block options bytes row rows is are)) (not (is_empty_row (last_row row rows))) row.first
+      LeafFacts bytes (Some (block options bytes row rows is are)) (not (is_bare_row (last_row row rows))) row.first
       (last_row row rows).end (span_by (λ (r : Row). r.inside) row rows) (span_done bytes row rows)
   pub shuts : (options : ParseOptions) (bytes : List ℕ) (row : Row) (rows : List Row) →
       (is : IsLineOf options bytes first row) → first.further row.on ≡ false →

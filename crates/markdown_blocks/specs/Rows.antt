@@ -384,7 +384,7 @@ span_by f row rows = but_end (f row) ++ span_rest f row rows ++ end_of (f (last_
 
 -- once their text parts are read
 abbrev pub span_done : List ℕ → Row → List Row → List Event
-span_done bytes row rows = span_by (λ (r : Row). plain_read bytes r.inside) row rows
+span_done bytes row rows = plain_read bytes (span_by (λ (r : Row). r.inside) row rows)
 
 -- Of a group: its first line and its last, what its last line is, and its leaf.
 

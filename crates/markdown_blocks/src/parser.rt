@@ -22,6 +22,7 @@ use md_engine::state::{Name as StateName, State};
 use md_engine::subtokenize::Subresult;
 use md_engine::table::{flush, push};
 use md_engine::tokenizer::Tokenizer;
+use md_leaves::spans;
 use md_seam::inline::{Chunk, Inline, PartKind};
 use md_seam::plain::Plain;
 use md_seam::subtokenize::{Reader, subtokenize};
@@ -133,7 +134,8 @@ fn flow_tokenizer<'a>(
     Ok(tokenizer)
 }
 
-/// Reads the lines of a text from a point on by flow, and then its content.
+/// Reads the lines of a text from a point on by flow, and then its content; joins the lines of each leaf of several, and
+/// puts lists around items.
 ///
 /// An `Err` says that memory ran out.
 fn read_flow<'a>(
@@ -153,6 +155,7 @@ fn read_flow<'a>(
         end => end,
     };
     let found = flush::<FlowTable>(&mut tokenizer, end, true)?;
+    spans::resolve(&mut tokenizer)?;
     resolve::call(&mut tokenizer, ResolveName::ListItem)?;
     Ok((tokenizer, found))
 }

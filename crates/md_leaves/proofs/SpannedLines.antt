@@ -60,7 +60,7 @@ spanned-inside es rest h = spanned-passes Inside es rest (inside-passes es h)
 -- What stands ahead.
 
 -- lines are of blocks
-lines-block : (x : Role) → has_lines x ≡ true → is_block x ≡ true
+pub lines-block : (x : Role) → has_lines x ≡ true → is_block x ≡ true
 lines-block (Opens kind) h = refl
 lines-block _ h = absurd (let none : false ≡ true = h in cc)
 

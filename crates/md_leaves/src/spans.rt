@@ -79,7 +79,7 @@ fn goes_on(events: &[Event]) -> bool
 
 /// Where a walk over the events stands.
 #[derive(Clone, Copy)]
-enum Place {
+pub enum Place {
     /// Neither in a block of several lines nor between two lines of one.
     Outside,
     /// In a line of such a block.

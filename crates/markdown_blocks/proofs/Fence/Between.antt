@@ -36,7 +36,7 @@ use Rattle.markdown_blocks.proofs.PieceFacts.{over-front}
 
 -- Places.
 
-abbrev IsPlace : List ℕ → Point → Type 0
+abbrev pub IsPlace : List ℕ → Point → Type 0
 IsPlace bytes p = is_between bytes p.index ≡ true
 
 -- markers are of ASCII
@@ -61,7 +61,7 @@ marks-low m ys h = go (m == 36) h
     go false h = by (is_run 3 96 ys) refl h
 
 -- behind bytes of ASCII
-low-behind : (bytes : List ℕ) (b : ℕ) (bs rest : List ℕ) (p : Point) → drop p.index bytes ≡ (b ∷ bs) ++ rest →
+pub low-behind : (bytes : List ℕ) (b : ℕ) (bs rest : List ℕ) (p : Point) → drop p.index bytes ≡ (b ∷ bs) ++ rest →
     list_all is_low (b ∷ bs) ≡ true → IsPlace bytes (past_text (b ∷ bs) p)
 low-behind bytes b bs rest p is low =
     let q = past_text (b ∷ bs) p in
@@ -71,7 +71,7 @@ low-behind bytes b bs rest p is low =
     (low-at bytes (b ∷ bs) p.index q.index (q.index - 1) over.slice size low (omega (arith, size))
     (omega (arith, size)))
 
-walks-between : (bytes : List ℕ) →
+pub walks-between : (bytes : List ℕ) →
     Walks bytes (read_inner bytes) (read_inner bytes) (IsPlace bytes) (λ p q es ds. AreBetween bytes es)
 walks-between bytes = record {
   behind_white = λ b bs rest p is blank. low-behind bytes b bs rest p is (blank-low (b ∷ bs) blank);
@@ -131,7 +131,7 @@ part-sits bytes n.CodeFencedFenceMeta p q e ys h = part-goes bytes n.CodeFencedF
 part-sits bytes n.MathFlowFenceMeta p q e ys h = part-goes bytes n.MathFlowFenceMeta p q ys h
 part-sits bytes _ p q e ys h = absurd (cc)
 
-walks-sit : (bytes : List ℕ) →
+pub walks-sit : (bytes : List ℕ) →
     Walks bytes (read_inner bytes) (read_inner bytes) Anywhere (λ p q es ds. Sits bytes es)
 walks-sit bytes = record {
   behind_white = λ b bs rest p is blank. tt;

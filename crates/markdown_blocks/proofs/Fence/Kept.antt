@@ -62,17 +62,17 @@ name-part n.MathFlowFenceSequence e = tt
 name-part n.MathFlowFenceMeta e = tt
 name-part _ e = cc
 
-inside-parts : (inner : Inner) → ((p q : Point) → Roles IsPart (inner p q)) → (m : ℕ) (text : List ℕ) (p q : Point) →
+pub inside-parts : (inner : Inner) → ((p q : Point) → Roles IsPart (inner p q)) → (m : ℕ) (text : List ℕ) (p q : Point) →
     Roles IsPart (around (fence_name m) p q (fence_parts inner m text p))
 inside-parts inner h m text p q =
     roles-each IsPart (around (fence_name m) p q (fence_parts inner m text p))
     (inside-each (λ e. IsPart (role e.name)) (λ name is r. (name-part name is, name-part name is)) inner
     (λ x y. each-roles IsPart (inner x y) (h x y)) m text p q)
 
-linked-parts : (p q : Point) → Roles IsPart (linked p q)
+pub linked-parts : (p q : Point) → Roles IsPart (linked p q)
 linked-parts p q = (tt, (tt, tt))
 
-read-parts : (bytes : List ℕ) (p q : Point) → Roles IsPart (read_inner bytes p q)
+pub read-parts : (bytes : List ℕ) (p q : Point) → Roles IsPart (read_inner bytes p q)
 read-parts bytes p q = plain-roles IsPart bytes (record { first = p; after = q } ∷ []) tt tt
 
 -- the whitespace in front the tree does not show
@@ -131,7 +131,7 @@ fence-stands bytes line p held =
 
 -- It ends no line.
 
-abbrev Other : Name → Type 0
+abbrev pub Other : Name → Type 0
 Other name = is_other (on_line name) ≡ true
 
 text-other : (name : Name) → is_text_name name ≡ true → Other name
@@ -146,7 +146,7 @@ marks-other m = by-math Other (m == 36) n.MathFlowFenceSequence n.CodeFencedFenc
 others-more : (e : Event) (es : List Event) → Other e.name → AreOthers es → AreOthers (e ∷ es)
 others-more e es h k = and_from (is_other (on_line e.name)) (list_all (λ (f : Event). is_other (on_line f.name)) es) h k
 
-others-around : (name : Name) (p q : Point) (es : List Event) → Other name → AreOthers es →
+pub others-around : (name : Name) (p q : Point) (es : List Event) → Other name → AreOthers es →
     AreOthers (around name p q es)
 others-around name p q es h k =
     others-more (enter name p) (es ++ exit name q ∷ []) h
@@ -176,10 +176,10 @@ read-others bytes b bs rest p at =
     pairs false true h = refl
     pairs x false h = cc
 
-abbrev Both : Point → Point → List Event → List Event → Type 0
+abbrev pub Both : Point → Point → List Event → List Event → Type 0
 Both p q es ds = AreOthers es × AreOthers ds
 
-walks-others : (bytes : List ℕ) → Walks bytes linked (read_inner bytes) Anywhere Both
+pub walks-others : (bytes : List ℕ) → Walks bytes linked (read_inner bytes) Anywhere Both
 walks-others bytes = record {
   behind_white = λ b bs rest p is blank. tt;
   before_white = λ b rest p is white. tt;

@@ -27,14 +27,14 @@ use Rattle.markdown_blocks.proofs.SpanLemmas.{Nested_in, around-nested, chunk-ne
 none-nested : (p q : Point) → IsTrue (at_or_before p q) → Nested_in p q []
 none-nested p q h = (balanced-none, (tt, h))
 
-abbrev Both : Point → Point → List Event → List Event → Type 0
+abbrev pub Both : Point → Point → List Event → List Event → Type 0
 Both p q es ds = Nested_in p q es × Nested_in p q ds
 
 pair-nested : (name : Name) (xs : List ℕ) (p : Point) →
     Nested_in p (past_text xs p) (around name p (past_text xs p) [])
 pair-nested name xs p = around-nested name p (past_text xs p) [] (none-nested p (past_text xs p) (before-text xs p))
 
-walks-nested : (bytes : List ℕ) → Walks bytes linked (read_inner bytes) Anywhere Both
+pub walks-nested : (bytes : List ℕ) → Walks bytes linked (read_inner bytes) Anywhere Both
 walks-nested bytes = record {
   behind_white = λ b bs rest p is blank. tt;
   before_white = λ b rest p is white. tt;
@@ -83,7 +83,7 @@ fence-nested options bytes line rest p is =
 
 -- They cover it.
 
-walks-tiled : (bytes : List ℕ) → Walks bytes linked linked Anywhere (λ p q es ds. Tiled p q es)
+pub walks-tiled : (bytes : List ℕ) → Walks bytes linked linked Anywhere (λ p q es ds. Tiled p q es)
 walks-tiled bytes = record {
   behind_white = λ b bs rest p is blank. tt;
   before_white = λ b rest p is white. tt;

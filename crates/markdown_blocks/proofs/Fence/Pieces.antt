@@ -23,7 +23,7 @@ use Rattle.markdown_blocks.proofs.Fence.Walk.{Anywhere, At, Walks}
 use Rattle.markdown_blocks.proofs.PieceFacts.{Stood, begins-cut, begins-whole, chunk_span, over-front, over-stands}
 use Rattle.markdown_blocks.proofs.PieceFacts.{starts-append, stood-append, stood-around, stood-none, stood-pair}
 
-abbrev Both : List ℕ → Point → Point → List Event → List Event → Type 0
+abbrev pub Both : List ℕ → Point → Point → List Event → List Event → Type 0
 Both bytes p q es ds = Stood bytes es × Stood bytes ds
 
 pub text-chunked : (bytes : List ℕ) (b : ℕ) (bs rest : List ℕ) (p : Point) → At bytes (b ∷ bs) p rest →
@@ -33,7 +33,7 @@ text-chunked bytes b bs rest p at =
     let over = over-front bytes p q (b ∷ bs) rest at.stands (omega arith) refl in
     chunked-alone bytes (b ∷ bs) p q (omega arith) at.none over.whole (past-index (b ∷ bs) p) over.slice
 
-walks-stood : (bytes : List ℕ) → Walks bytes linked (read_inner bytes) Anywhere (Both bytes)
+pub walks-stood : (bytes : List ℕ) → Walks bytes linked (read_inner bytes) Anywhere (Both bytes)
 walks-stood bytes = record {
   behind_white = λ b bs rest p is blank. tt;
   before_white = λ b rest p is white. tt;

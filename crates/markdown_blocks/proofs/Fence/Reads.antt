@@ -27,8 +27,8 @@ use Rattle.md_seam.specs.Events.Spelled.{text_to, told}
 use Rattle.md_seam.proofs.BlocksLemmas.{read-around, read-leaf, read-told}
 use Rattle.md_seam.proofs.SpelledLemmas.{Between, Quiet, QuietOrEnding, Roles, read-from, read-quiet, text-inline}
 use Rattle.markdown_blocks.specs.Fronted.{rest_line}
-use Rattle.markdown_blocks.specs.Leaf.Fence.{behind_parts, fence_around, fence_line, opening_at, past_white, read_inner}
-use Rattle.markdown_blocks.specs.Leaf.Fence.{text_part, white_part}
+use Rattle.markdown_blocks.specs.Leaf.Fence.{behind_parts, fence_around, fence_line, fence_parts, opening_at, past_white}
+use Rattle.markdown_blocks.specs.Leaf.Fence.{read_inner, text_part, white_part}
 use Rattle.markdown_blocks.proofs.Fence.Kept.{white-roles}
 use Rattle.markdown_blocks.proofs.Fence.Laid.{Laid}
 use Rattle.markdown_blocks.proofs.Fence.Walk.{At, at-drop, at-take, sequence-over}
@@ -54,11 +54,11 @@ text-told bytes b bs rest p at r name purpose inside tells none between quiet =
     ∙ ap (λ (l : List ℕ). told purpose (record { spaces = columns_left p; text = l }) r) slice
 
 -- a leaf is open
-abbrev opened : Reading → OpenLeaf → Reading
+abbrev pub opened : Reading → OpenLeaf → Reading
 opened r leaf = record r { leaf = Some leaf }
 
 -- a block whose first fence has these markers
-abbrev fenced : List ℕ → Fenced
+abbrev pub fenced : List ℕ → Fenced
 fenced markers = record { markers = markers; lines = []; closed = false }
 
 part-told : (bytes : List ℕ) (b : ℕ) (bs rest : List ℕ) (p : Point) → At bytes (b ∷ bs) p rest → (r : Reading)
@@ -122,7 +122,7 @@ code-told bytes xs rest p at r ys none =
 
 -- The fence.
 
-abbrev leaf_by : Bool → List ℕ → List ℕ → OpenLeaf
+abbrev pub leaf_by : Bool → List ℕ → List ℕ → OpenLeaf
 leaf_by true ys xs = MathLeaf (fenced ys) (nonempty xs)
 leaf_by false ys xs = FenceLeaf (fenced ys) (nonempty (first_word xs)) (nonempty (behind_word xs))
 
@@ -206,9 +206,59 @@ block-is r = go (m == 36)
     go true = refl
     go false = refl
 
-abbrev FirstIs : List ℕ → ℕ → Type 0
+abbrev pub FirstIs : List ℕ → ℕ → Type 0
 FirstIs [] m = Unit {0}
 FirstIs (c ∷ cs) m = c ≡ m
+
+-- the first of some markers is the first byte
+pub take-first : (k : ℕ) (l : List ℕ) → FirstIs (take k l) (first_byte l)
+take-first zero l = tt
+take-first (suc k) [] = tt
+take-first (suc k) (b ∷ bs) = refl
+
+-- some stand in a sequence
+pub sequence-some : (m : ℕ) → stands_over (sequence_name m) [] ≡ true → ⊥
+sequence-some m k = empty (m == 36) k
+  where
+    empty : (x : Bool) → stands_over (cond x n.MathFlowFenceSequence n.CodeFencedFenceSequence) [] ≡ true → ⊥
+    empty true k = cc
+    empty false k = cc
+
+-- What stands in the block, where the leaf is open.
+pub fence-opened : (options : ParseOptions) (bytes line rest : List ℕ) (p e : Point) (o : Reading) →
+    Laid options bytes line p rest → o.text ≡ None →
+    let text = trim_start line in
+    let m = first_byte text in
+    let size = run_len m text in
+    read bytes (opened o (fresh (cond (m == 36) OfMath OfFence)))
+    (around (fence_name m) (past_white line p) e (fence_parts (read_inner bytes) m text (past_white line p))) ≡
+    opened o (leaf_by (m == 36) (take size text) (trim_start (drop size text)))
+fence-opened options bytes line rest p e o is none =
+    by (take size text) (at-take bytes text rest q size is.at) (sequence-over options text is.fence)
+    (at-drop bytes text rest q size is.at)
+  where
+    text : List ℕ
+    text = trim_start line
+
+    m : ℕ
+    m = first_byte (trim_start line)
+
+    size : ℕ
+    size = run_len m text
+
+    q : Point
+    q = past_white line p
+
+    by : (ys : List ℕ) → At bytes ys q (drop size text ++ rest) → stands_over (sequence_name m) ys ≡ true →
+        At bytes (drop size text) (past_text ys q) rest →
+        read bytes (opened o (fresh (cond (m == 36) OfMath OfFence)))
+        (around (fence_name m) q e
+        (pair (sequence_name m) q (past_text ys q)
+        ++ behind_parts (read_inner bytes) m (drop size text) (past_text ys q))) ≡
+        opened o (leaf_by (m == 36) ys (trim_start (drop size text)))
+    by [] here over behind = absurd (sequence-some m over)
+    by (c ∷ cs) here over behind =
+        fence-read bytes o (m == 36) c cs (drop size text) rest (drop size text ++ rest) q e here behind none
 
 pub fence-reads : (options : ParseOptions) (bytes : List ℕ) (r : Rest) (rest : List ℕ) (p : Point) (o : Reading) →
     Laid options bytes (rest_line r) p rest → o.text ≡ None → o.leaf ≡ None →
@@ -217,7 +267,7 @@ fence-reads options bytes r rest p o is none shut =
     read-from bytes o o (white_part line p) (fence_around (read_inner bytes) m text q e)
     (read-quiet bytes o (white_part line p) (white-roles Quiet tt line p))
     ∙ by (take size text) (at-take bytes text rest q size is.at) (sequence-over options text is.fence)
-    (at-drop bytes text rest q size is.at) (first size text refl)
+    (at-drop bytes text rest q size is.at) (take-first size text)
     ∙ ap (λ (l : List ℕ). add_block (of_text l) o) (rest-trim r)
     ∙ ap (λ (b : t.Block). add_block b o) (block-is r)
   where
@@ -242,12 +292,6 @@ fence-reads options bytes r rest p o is none shut =
     of_text : List ℕ → t.Block
     of_text l = block_by (first_byte l == 36) (first_byte l) (trim_start (drop (run_len (first_byte l) l) l))
 
-    -- the first of some markers is the first byte
-    first : (k : ℕ) (l : List ℕ) → first_byte l ≡ first_byte l → FirstIs (take k l) (first_byte l)
-    first zero l h = tt
-    first (suc k) [] h = tt
-    first (suc k) (b ∷ bs) h = refl
-
     by : (ys : List ℕ) → At bytes ys q (drop size text ++ rest) → stands_over (sequence_name m) ys ≡ true →
         At bytes (drop size text) (past_text ys q) rest → FirstIs ys m →
         read bytes o
@@ -256,11 +300,7 @@ fence-reads options bytes r rest p o is none shut =
         (pair (sequence_name m) q (past_text ys q)
         ++ behind_parts (read_inner bytes) m (drop size text) (past_text ys q)))) ≡
         add_block (of_text text) o
-    by [] here over behind is = absurd (empty (m == 36) over)
-      where
-        empty : (x : Bool) → stands_over (cond x n.MathFlowFenceSequence n.CodeFencedFenceSequence) [] ≡ true → ⊥
-        empty true k = cc
-        empty false k = cc
+    by [] here over behind is = absurd (sequence-some m over)
     by (c ∷ cs) here over behind is =
         block-read bytes o (m == 36) c cs (drop size text) rest (drop size text ++ rest) q e here behind none shut
         ∙ ap (λ (x : ℕ). add_block (block_by (m == 36) x (trim_start (drop size text))) o) is

@@ -55,7 +55,7 @@ text-apart _ e = cc
 block-kind : (m : ℕ) → part_kind (block_name m) ≡ None
 block-kind m = by-math (λ x. part_kind x ≡ None) (m == 36) n.MathFlow n.CodeFenced refl refl
 
-fence-kind : (m : ℕ) → part_kind (fence_name m) ≡ None
+pub fence-kind : (m : ℕ) → part_kind (fence_name m) ≡ None
 fence-kind m = by-math (λ x. part_kind x ≡ None) (m == 36) n.MathFlowFence n.CodeFencedFence refl refl
 
 marks-kind : (m : ℕ) → part_kind (sequence_name m) ≡ None
@@ -84,7 +84,7 @@ one-whole bytes b bs rest p at =
 
 -- Its parts are whole.
 
-walks-stand : (bytes : List ℕ) → Walks bytes linked linked Anywhere (λ p q es ds. Stands bytes es)
+pub walks-stand : (bytes : List ℕ) → Walks bytes linked linked Anywhere (λ p q es ds. Stands bytes es)
 walks-stand bytes = record {
   behind_white = λ b bs rest p is blank. tt;
   before_white = λ b rest p is white. tt;
@@ -118,7 +118,7 @@ fence-parts options bytes line rest p is =
 
 -- What is read fills them.
 
-walks-filled : (bytes : List ℕ) → Walks bytes linked (read_inner bytes) Anywhere (λ p q es ds. Fill bytes es ds)
+pub walks-filled : (bytes : List ℕ) → Walks bytes linked (read_inner bytes) Anywhere (λ p q es ds. Fill bytes es ds)
 walks-filled bytes = record {
   behind_white = λ b bs rest p is blank. tt;
   before_white = λ b rest p is white. tt;
@@ -159,7 +159,7 @@ fence-filled options bytes line rest p is =
 
 -- Whoever reads them as the plain layer does gives these events.
 
-walks-become : (bytes : List ℕ) (wants : Content → Bool) (reads : Readings) → wants content.String ≡ true →
+pub walks-become : (bytes : List ℕ) (wants : Content → Bool) (reads : Readings) → wants content.String ≡ true →
     ReadsString bytes reads →
     Walks bytes linked (read_inner bytes) Anywhere (λ p q es ds. Becomes wants reads es ds)
 walks-become bytes wants reads w rs = record {

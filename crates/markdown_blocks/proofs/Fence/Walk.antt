@@ -110,7 +110,7 @@ abbrev pub Anywhere : Point → Type 0
 Anywhere p = Unit {0}
 
 -- whitespace in front is blank
-front-blank : (xs : List ℕ) → is_blank (take (prefix_len is_white xs) xs) ≡ true
+pub front-blank : (xs : List ℕ) → is_blank (take (prefix_len is_white xs) xs) ≡ true
 front-blank [] = refl
 front-blank (b ∷ bs) = go (is_white b) refl (front-blank bs)
   where

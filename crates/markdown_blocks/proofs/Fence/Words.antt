@@ -26,13 +26,13 @@ use Rattle.markdown_blocks.proofs.ChunkFacts.{chunk-word}
 use Rattle.markdown_blocks.proofs.Fence.Walk.{CutsWord, behind-first}
 
 -- What stands in info and in meta is a text.
-abbrev Word : Expression → Inner → Type 0
+abbrev pub Word : Expression → Inner → Type 0
 Word text inner = (p q : Point) → IsWord text (text ∷ []) (inner p q)
 
-linked-word : Word unread_text linked
+pub linked-word : Word unread_text linked
 linked-word p q = record { left = behind n.Data unread_text; leads = λ outer. refl; ends = refl }
 
-read-word : (bytes : List ℕ) → Word plain_text (read_inner bytes)
+pub read-word : (bytes : List ℕ) → Word plain_text (read_inner bytes)
 read-word bytes p q =
     let chunk : Chunk = record { first = p; after = q } in
     subst (IsWord plain_text (plain_text ∷ [])) (sym (append-nil (plain_chunk bytes chunk)))
@@ -169,7 +169,7 @@ parts_by math inner xs p =
     ++ white_part left q
     ++ text_part inner (cond math n.MathFlowFenceMeta n.CodeFencedFenceMeta) (trim_start left) (past_white left q))
 
-fence-word : (text : Expression) (inner : Inner) → Word text inner → (math : Bool) (xs : List ℕ) (p q : Point) →
+pub fence-word : (text : Expression) (inner : Inner) → Word text inner → (math : Bool) (xs : List ℕ) (p q : Point) →
     IsWord text (inside text (cond math n.MathFlowFence n.CodeFencedFence) ∷ [])
     (pair (cond math n.MathFlowFenceSequence n.CodeFencedFenceSequence) p q
     ++ (white_part xs q ++ parts_by math inner (trim_start xs) (past_white xs q)))

@@ -9,6 +9,7 @@ use Rattle.md_engine.specs.declared.event.Event.{Event}
 use Rattle.md_engine.specs.declared.event.Name.TheVariants as n
 use Rattle.md_engine.specs.declared.event.Point.{Point}
 use Rattle.md_engine.specs.declared.tokenizer.held_leaf.HeldLeaf.{HeldLeaf}
+use Rattle.md_definition.specs.Leaves.{closes}
 use Rattle.md_definition.specs.Rest.{Rest, has_small_indent, lose}
 use Rattle.md_leaves.specs.Spanned.{has_lines}
 use Rattle.md_leaves.proofs.SpannedLines.{IsEnd, IsFurther}
@@ -18,7 +19,7 @@ use Rattle.md_seam.specs.Events.Nested.{enter_link, exit, pair}
 use Rattle.md_seam.specs.Events.Spelled.{role, without_last}
 use Rattle.markdown_blocks.specs.Fronted.{rest_line}
 use Rattle.markdown_blocks.specs.Leaf.FenceFurther.{chunk_line, closing_line, fence_further, further_parts, is_fence}
-use Rattle.markdown_blocks.specs.Leaf.FenceFurther.{part_over, past_columns}
+use Rattle.markdown_blocks.specs.Leaf.FenceFurther.{opening_of, part_over, past_columns}
 use Rattle.markdown_blocks.proofs.FenceFurther.Cells.{fence-some, rest-again}
 use Rattle.markdown_blocks.proofs.FenceFurther.Names.{either-name}
 use Rattle.markdown_blocks.proofs.FenceFurther.Places.{FurtherAt, further-rest}
@@ -63,17 +64,29 @@ further-ends m q = record { kind = refl; lines = block-lines m }
 
 -- Nothing stands in an empty line, as behind the last ending of a text.
 
-abbrev nothing_from : ℕ → Rest
+abbrev pub nothing_from : ℕ → Rest
 nothing_from column = record { column = column; spaces = 0; bytes = [] }
 
 lose-nothing : (n column : ℕ) → lose n (nothing_from column) ≡ nothing_from column
 lose-nothing zero column = refl
 lose-nothing (suc n) column = lose-nothing n column
 
+-- no closing fence does
+pub nothing-open : (options : ParseOptions) (on : HeldLeaf) (column : ℕ) → is_fence on ≡ true →
+    closes options (opening_of on) (nothing_from column) ≡ false
+nothing-open options on column e = other (has_small_indent options (nothing_from column))
+  where
+    few : nat_le (held_size on) 0 ≡ false
+    few = let some = fence-some on e in grind (arith, nat_tests)
+
+    other : (small : Bool) → (small && nat_le (held_size on) 0 && true) ≡ false
+    other true = ap (λ (x : Bool). x && true) few
+    other false = refl
+
 pub further-empty : (options : ParseOptions) (on : HeldLeaf) (column : ℕ) (p q : Point) → is_fence on ≡ true →
     further_parts options on (nothing_from column) p q ≡ []
 further-empty options on column p q e =
-    ap (λ (x : Bool). cond x (closing_line m r p q) (chunk_line m lost r p q)) (other (has_small_indent options r))
+    ap (λ (x : Bool). cond x (closing_line m r p q) (chunk_line m lost r p q)) (nothing-open options on column e)
     ∙ ap (λ (x : Bool). cond x (pair n.SpaceOrTab p at) [] ++ part_over (chunk_name m) (rest_line (lose lost r)) at q)
     (bare (nat_lt 0 lost))
     ∙ ap (λ (s : Rest). part_over (chunk_name m) (rest_line s) at q) (lose-nothing lost column)
@@ -89,13 +102,6 @@ further-empty options on column p q e =
 
     at : Point
     at = past_columns (held_indent on) (nothing_from column) p
-
-    few : nat_le (held_size on) 0 ≡ false
-    few = let some = fence-some on e in grind (arith, nat_tests)
-
-    other : (small : Bool) → (small && nat_le (held_size on) 0 && true) ≡ false
-    other true = ap (λ (x : Bool). x && true) few
-    other false = refl
 
     bare : (x : Bool) → (x && false) ≡ false
     bare true = refl

@@ -134,14 +134,14 @@ further-between options bytes on r p q e is begin end =
 
 -- Each begins and ends clear.
 
-whole-clear : (bytes : List ℕ) (p : Point) → p.vs ≡ 0 → clear bytes p ≡ true
+pub whole-clear : (bytes : List ℕ) (p : Point) → p.vs ≡ 0 → clear bytes p ≡ true
 whole-clear bytes p e = low-clear bytes p (λ some. absurd (none some))
   where
     none : (p.vs == 0) ≡ false → ⊥
     none some = grind (arith, nat_tests, e)
 
 -- behind whitespace: a tab is cut, if any byte is
-left-clear : (bytes behind : List ℕ) (r : Rest) (p : Point) → RestAt bytes behind r p → clear bytes p ≡ true
+pub left-clear : (bytes behind : List ℕ) (r : Rest) (p : Point) → RestAt bytes behind r p → clear bytes p ≡ true
 left-clear bytes behind r p is = go r.spaces is.cut is.text_is
   where
     go : (spaces : ℕ) → Cut spaces p → drop p.index bytes ≡ (cut_tab spaces ++ r.bytes ++ behind) →

@@ -1,10 +1,11 @@
 -- The begin and the end of the events of a line.
+use Rattle.std.specs.Prelude.{Option, Some, None}
 use Rattle.std.proofs.Common.{◌≡◌, List, [], ◌∷◌, ◌++◌, drop, refl, ap, sym, ◌∙◌, append_assoc, append-nil}
 use Rattle.md_engine.specs.declared.event.Event.{Event}
 use Rattle.md_engine.specs.declared.event.Name.{Name}
 use Rattle.md_engine.specs.declared.event.Point.{Point}
-use Rattle.md_seam.specs.Events.Nested.{around, enter, exit}
-use Rattle.markdown_blocks.specs.Rows.{Row, last_row}
+use Rattle.md_seam.specs.Events.Nested.{around, enter, exit, pair}
+use Rattle.markdown_blocks.specs.Rows.{Row, ending_events, last_row}
 use Rattle.markdown_blocks.specs.Rows.{but_end, but_ends, end_of, span_by, span_rest}
 
 -- events in front of an end
@@ -49,3 +50,8 @@ span-alone f row es e is =
     ∙ ap (λ (l : List Event). l ++ end_of (es ++ e ∷ [])) (append-nil (but_end (es ++ e ∷ [])) ∙ but_end-is es e)
     ∙ ap (λ (l : List Event). es ++ l) (end-is es e)
     ∙ sym is
+
+-- the ending of a line
+pub ending-is : (name : Name) (row : Row) (q : Point) → row.after ≡ Some q →
+    ending_events name row ≡ pair name row.end q
+ending-is name row q after = ap (λ (x : Option Point). elim x [ None ↦ [] | Some q ↦ pair name row.end q ]) after

@@ -18,7 +18,7 @@ use Rattle.md_seam.proofs.NestedLemmas.{at_or_before-refl, balanced-none}
 use Rattle.md_seam.proofs.SpelledLemmas.{QuietOrPrefix, Roles, read-from, read-prefixes, roles-append}
 use Rattle.md_outline.specs.Between.{is_between}
 use Rattle.markdown_blocks.proofs.BetweenFacts.{AreBetween, between-append, between-pair}
-use Rattle.markdown_blocks.proofs.ChunkFacts.{ending-stands, line-ending}
+use Rattle.markdown_blocks.proofs.ChunkFacts.{ending-order, ending-stands, line-ending}
 use Rattle.markdown_blocks.proofs.ContainerNames.{TakesPrefixes}
 use Rattle.markdown_blocks.proofs.FillFacts.{Fill, fill-append, fill-same}
 use Rattle.markdown_blocks.proofs.FrontFacts.{LinePrefix}
@@ -36,7 +36,6 @@ use Rattle.markdown_blocks.proofs.PlainFacts.{ArePlain, plain-append, plain-nil,
 use Rattle.markdown_blocks.proofs.PrefixNames.{ArePrefixes, prefixes-roles}
 use Rattle.markdown_blocks.proofs.RowFacts.{IsEnding}
 use Rattle.markdown_blocks.proofs.SpanLemmas.{Nested_in, nested_in-append}
-use Rattle.markdown_blocks.proofs.Text.Order.{ending-order}
 
 -- where this leaf is open and no text, that leaf is open behind these events
 abbrev pub ReadsLeaf : List ℕ → OpenLeaf → OpenLeaf → List Event → Type 0

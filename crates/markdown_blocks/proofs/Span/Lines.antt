@@ -1,7 +1,6 @@
 -- The lines of one leaf that are joined: from what is known of each, all that the frame asks of the leaf.
 use Rattle.std.proofs.Common.{◌≡◌, ℕ, Bool, true, List, [], ◌∷◌, ◌++◌, ap, sym, ◌∙◌, subst, append_assoc}
 use Rattle.std.specs.Prelude.{◌==◌, ◌||◌, Some}
-use Rattle.md_engine.specs.declared.configuration.ParseOptions.{ParseOptions}
 use Rattle.md_engine.specs.declared.event.Event.{Event}
 use Rattle.md_engine.specs.declared.event.Name.{Name}
 use Rattle.md_engine.specs.declared.event.Name.TheVariants as n
@@ -16,17 +15,15 @@ use Rattle.markdown_blocks.proofs.BetweenFacts.{ending-before, ending-behind}
 use Rattle.markdown_blocks.proofs.ContainerNames.{TakesPrefixes}
 use Rattle.markdown_blocks.proofs.FrontFacts.{LinePrefix}
 use Rattle.markdown_blocks.proofs.FrontStands.{fronts-between, fronts-clear}
-use Rattle.markdown_blocks.proofs.JoinedLemmas.{ending-is}
 use Rattle.markdown_blocks.proofs.LeafFacts.{LeafFacts}
 use Rattle.markdown_blocks.proofs.PartedFacts.{clear}
 use Rattle.markdown_blocks.proofs.PieceFacts.{Starts, starts-append}
-use Rattle.markdown_blocks.proofs.RowFacts.{IsEnding, IsRow}
-use Rattle.markdown_blocks.proofs.Span.Cuts.{but_end-is, but_ends-is, end-is, span-is}
+use Rattle.markdown_blocks.proofs.RowFacts.{IsEnding}
+use Rattle.markdown_blocks.proofs.Span.Cuts.{but_end-is, but_ends-is, end-is, ending-is, span-is}
 use Rattle.markdown_blocks.proofs.Span.Inside.{InsideFacts, Meets, behind_ending, ending-inside, front-inside}
 use Rattle.markdown_blocks.proofs.Span.Inside.{inside-append, inside-none}
 use Rattle.markdown_blocks.proofs.Span.Lead.{LeadFacts}
 use Rattle.markdown_blocks.proofs.Span.Leaf.{IsLeafName, inside-leaf}
-use Rattle.markdown_blocks.proofs.Text.Parted.{rest-clear}
 
 -- A line.
 
@@ -81,7 +78,7 @@ AreFurther bytes unread done name left leaf to row (next ∷ rows) =
 
 -- Such lines by their events: a begin, what stands inside, and the end.
 
-ends-by : (unread done : Row → List Event) (name : Name) (row : Row) (us es : List Event) → row.end.vs ≡ 0 →
+pub ends-by : (unread done : Row → List Event) (name : Name) (row : Row) (us es : List Event) → row.end.vs ≡ 0 →
     unread row ≡ us ++ exit name row.end ∷ [] → done row ≡ es ++ exit name row.end ∷ [] →
     EndsLeaf unread done name row
 ends-by unread done name row us es whole unread_is is = record {
@@ -91,16 +88,16 @@ ends-by unread done name row us es whole unread_is is = record {
 }
 
 -- a first one, behind whitespace
-pub span-first : (options : ParseOptions) (bytes line : List ℕ) (unread done : Row → List Event) (name : Name)
+pub span-first : (bytes : List ℕ) (unread done : Row → List Event) (name : Name)
     (begin left : Expression) (from to : OpenLeaf) (row : Row) (at : Point) (lead us es : List Event) →
-    IsRow options bytes line row → LeadFacts bytes row.first at lead → Starts us → Starts es →
+    row.end.vs ≡ 0 → LeadFacts bytes row.first at lead → Starts us → Starts es →
     unread row ≡ lead ++ around name at row.end us → done row ≡ lead ++ around name at row.end es →
     InsideFacts bytes at row.end begin left from to us es →
     SpanFirst bytes unread done name begin from row
-span-first options bytes line unread done name x left from to row at lead us es is white starts more first last facts =
+span-first bytes unread done name x left from to row at lead us es whole white starts more first last facts =
     record {
       ends =
-          ends-by unread done name row (lead ++ enter name at ∷ us) (lead ++ enter name at ∷ es) is.end_whole
+          ends-by unread done name row (lead ++ enter name at ∷ us) (lead ++ enter name at ∷ es) whole
           (first ∙ by us) (last ∙ by es);
       lead = lead;
       at = at;
@@ -120,14 +117,14 @@ span-first options bytes line unread done name x left from to row at lead us es 
     by xs = sym (append_assoc lead (enter name at ∷ xs) (exit name row.end ∷ []))
 
 -- a further one
-pub span-line : (options : ParseOptions) (bytes line : List ℕ) (unread done : Row → List Event) (name : Name)
+pub span-line : (bytes : List ℕ) (unread done : Row → List Event) (name : Name)
     (x left : Expression) (from to : OpenLeaf) (row : Row) (e f : Event) (us es : List Event) →
-    IsRow options bytes line row →
+    row.end.vs ≡ 0 → clear bytes row.first ≡ true →
     unread row ≡ e ∷ us ++ exit name row.end ∷ [] → done row ≡ f ∷ es ++ exit name row.end ∷ [] →
     InsideFacts bytes row.first row.end x left from to us es → SpanLine bytes unread done name x from row
-span-line options bytes line unread done name x left from to row e f us es is unread_is done_is facts = record {
-  ends = ends-by unread done name row (e ∷ us) (f ∷ es) is.end_whole unread_is done_is;
-  clear = rest-clear options bytes line row is;
+span-line bytes unread done name x left from to row e f us es whole begin unread_is done_is facts = record {
+  ends = ends-by unread done name row (e ∷ us) (f ∷ es) whole unread_is done_is;
+  clear = begin;
   left = left;
   leaf = to;
   facts =

@@ -1,34 +1,21 @@
 -- The lines of a text stand one behind the other.
-use Rattle.std.proofs.Common.{◌≡◌, ℕ, suc, ◌+◌, true, List, [], ◌∷◌, length, refl, sym, subst, arith, ◌&&◌}
+use Rattle.std.proofs.Common.{◌≡◌, ℕ, true, List, [], ◌∷◌, refl, sym, subst, ◌&&◌}
 use Rattle.std.specs.Prelude.{IsTrue}
 use Rattle.std.proofs.lemmas.Bool.{and_from}
-use Rattle.std.proofs.lemmas.Bool.Decides.{nat_tests}
 use Rattle.md_engine.specs.declared.configuration.ParseOptions.{ParseOptions}
 use Rattle.md_engine.specs.declared.event.Point.{Point}
 use Rattle.md_seam.specs.Events.Inline.{in_order}
 use Rattle.md_seam.specs.Events.Places.{at_or_before}
 use Rattle.md_seam.proofs.InlineLemmas.{before-text}
 use Rattle.md_seam.proofs.NestedLemmas.{at_or_before-refl, at_or_before-trans}
-use Rattle.md_definition.proofs.TextsLemmas.{Both, Ending, LineFeed, Return, ending_bytes}
 use Rattle.markdown_blocks.specs.Rows.{Row, TextRow, behind_row, chunks_of}
+pub use Rattle.markdown_blocks.proofs.ChunkFacts.{ending-order}
 use Rattle.markdown_blocks.proofs.FrontFacts.{LinePrefix}
 use Rattle.markdown_blocks.proofs.FrontLemmas.{fronts-order}
 use Rattle.markdown_blocks.proofs.JoinedLemmas.{behind-is}
-use Rattle.markdown_blocks.proofs.RowFacts.{IsEnding, IsRow}
+use Rattle.markdown_blocks.proofs.RowFacts.{IsRow}
 use Rattle.md_seam.proofs.PartsLemmas.{order-from}
 use Rattle.markdown_blocks.proofs.GroupLemmas.{AreLines}
-
--- an ending has a byte at least
-pub ending-order : (bytes : List ℕ) (p q : Point) → IsEnding bytes p q → IsTrue (at_or_before p q)
-ending-order bytes p q is = go is.ending is.size
-  where
-    further : (size : ℕ) → q.index ≡ p.index + suc size → IsTrue (at_or_before p q)
-    further size e = grind (arith, nat_tests)
-
-    go : (ending : Ending) → q.index ≡ p.index + length (ending_bytes ending) → IsTrue (at_or_before p q)
-    go LineFeed e = further 0 e
-    go Return e = further 0 e
-    go Both e = further 1 e
 
 -- a line ends no earlier than it begins
 pub line-order : (options : ParseOptions) (bytes line : List ℕ) (row : Row) → IsRow options bytes line row →

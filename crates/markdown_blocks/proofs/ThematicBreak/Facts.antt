@@ -46,6 +46,7 @@ use Rattle.markdown_blocks.proofs.PiecesLemmas.{Tiled, tiled-around}
 use Rattle.markdown_blocks.proofs.PlainFacts.{plain-around, plain-quiet}
 use Rattle.markdown_blocks.proofs.RestFacts.{rest-trim}
 use Rattle.markdown_blocks.proofs.SpanLemmas.{Nested_in, around-nested, either}
+use Rattle.markdown_blocks.proofs.SpannedFacts.{AreUnspanned, IsUnspanned}
 use Rattle.markdown_blocks.proofs.ThematicBreak.Kinds.{first-behind, marker-black, rule-first}
 use Rattle.md_seam.proofs.BreakReads.{read-break}
 
@@ -103,6 +104,23 @@ break-set line p es =
     ∙ ap (λ (l : List Event). enter n.ThematicBreak p ∷ l) (runs-set Apart m line p (exit n.ThematicBreak q ∷ es))
     ∙ ap (λ (l : List Event). enter n.ThematicBreak p ∷ l)
     (sym (append_assoc (marks_of Apart m line p) (exit n.ThematicBreak q ∷ []) (resolved es)))
+
+-- and so does the walk that joins the lines of leaves of several
+runs-unspanned : (run : Run) (m : ℕ) (bs : List ℕ) (p : Point) → AreUnspanned (marks_of run m bs p)
+runs-unspanned run m bs p = runs-each AreUnspanned n.ThematicBreakSequence tt more run m bs p
+  where
+    more : (kind : Kind) (white : Bool) (p : Point) (es : List Event) → AreUnspanned es →
+        AreUnspanned (run_event n.ThematicBreakSequence kind white p ∷ es)
+    more kind true p es h = (refl, h)
+    more kind false p es h = (refl, h)
+
+pub break-unspanned : (line : List ℕ) (p : Point) → AreUnspanned (break_line line p)
+break-unspanned line p =
+    let m : ℕ = first_byte (trim_start line) in (
+      refl,
+      each-append IsUnspanned (marks_of Apart m line p) (exit n.ThematicBreak (past_text line p) ∷ [])
+          (runs-unspanned Apart m line p) (refl, tt),
+    )
 
 -- nothing is read of it later
 pub break-unlinked : (line : List ℕ) (p : Point) → NoLinks (break_line line p)

@@ -4,7 +4,7 @@ use Rattle.markdown_blocks.specs.Fronted.{rest_line}
 use Rattle.markdown_blocks.specs.Leaf.ThematicBreak.{break_leaf}
 use Rattle.markdown_blocks.proofs.LeafLaws.{LeafLaws}
 use Rattle.markdown_blocks.proofs.SubstitutedLemmas.{becomes-same, no_links-unwanted}
-use Rattle.markdown_blocks.proofs.ThematicBreak.Facts.{break-facts, break-set, break-unlinked}
+use Rattle.markdown_blocks.proofs.ThematicBreak.Facts.{break-facts, break-set, break-unlinked, break-unspanned}
 use Rattle.markdown_blocks.proofs.ThematicBreak.Kinds.{break-fits}
 use Rattle.markdown_blocks.proofs.ThematicBreak.Runs.{break-adds, break-no_content}
 use Rattle.markdown_blocks.proofs.ThematicBreak.Trial.{break-looked, break-refused, break-shrinks, break-took}
@@ -26,6 +26,8 @@ break-laws = record {
   not_lazy = λ options on. (λ cells p. refl, λ r. refl);
   no_content = λ wants only options on. break-no_content wants options;
   own = λ options on. break-own options;
+  outside = λ open_leaf options on r p starts. cc;
+  unspanned = λ ends options on r p starts. break-unspanned (rest_line r) p;
   set = λ ends options on r p es starts. break-set (rest_line r) p es;
   facts = λ ends options on. break-facts options;
   becomes = λ ends options on bytes r p q starts at wants reads text read.

@@ -1,0 +1,228 @@
+-- The opening line of fenced code or math as the first line of its block: what is known of what stands in it behind its
+-- begin.
+use Rattle.std.proofs.Common.{◌≡◌, ℕ, Bool, true, false, cond, List, [], ◌∷◌, ◌++◌, length, take, drop, refl, sym, ap, ◌∙◌}
+use Rattle.std.proofs.Common.{◌||◌, not, suc, subst, arith}
+use Rattle.std.specs.Prelude.{◌==◌, Option, Some, None}
+use Rattle.std.proofs.lemmas.Bool.Decides.{nat_tests}
+use Rattle.md_engine.specs.declared.configuration.ParseOptions.{ParseOptions}
+use Rattle.md_engine.specs.declared.event.Event.{Event}
+use Rattle.md_engine.specs.declared.event.Name.{Name}
+use Rattle.md_engine.specs.declared.event.Name.TheVariants as n
+use Rattle.md_engine.specs.declared.event.Point.{Point}
+use Rattle.md_containers.specs.ItemsStand.{IsPart}
+use Rattle.md_definition.specs.Leaves.{behind_word, fence_at, first_word, nonempty, opening}
+use Rattle.md_definition.specs.Rest.{Rest, indent, run_len, trim_start}
+use Rattle.md_definition.specs.State.{Opening}
+use Rattle.md_definition.specs.Texts.{first_byte}
+use Rattle.md_lines.specs.Fence.{block_name, fence_name, sequence_name}
+use Rattle.md_seam.specs.Events.Grammar.{Expression, plain_text, unread_text}
+use Rattle.md_seam.specs.Events.Nested.{around, pair}
+use Rattle.md_seam.specs.Events.Pieces.{stands_over}
+use Rattle.md_seam.specs.Events.Places.{past_text}
+use Rattle.md_seam.specs.Events.Spelled.{OpenLeaf, Reading, fresh, read, role}
+use Rattle.md_seam.proofs.FeedLines.{past_text-whole}
+use Rattle.md_seam.proofs.EndingsLemmas.{AreOthers, stays-others}
+use Rattle.md_seam.proofs.GrammarLemmas.{Leads, leads-around}
+use Rattle.md_seam.proofs.SpelledLemmas.{Roles}
+use Rattle.md_outline.specs.Between.{is_between}
+use Rattle.md_outline.specs.Roles.{is_plain, is_told}
+use Rattle.markdown_blocks.specs.Leaf.Fence.{Inner, fence_parts, linked, opening_at, past_white, read_inner}
+use Rattle.markdown_blocks.proofs.BetweenFacts.{AreBetween, around-between}
+use Rattle.markdown_blocks.proofs.Fence.Between as place
+use Rattle.markdown_blocks.proofs.Fence.Each.{by-math}
+use Rattle.markdown_blocks.proofs.Fence.Kept as kept
+use Rattle.markdown_blocks.proofs.Fence.Laid.{Laid, Walked, line-walk}
+use Rattle.markdown_blocks.proofs.Fence.Nested as nest
+use Rattle.markdown_blocks.proofs.Fence.Pieces as piece
+use Rattle.markdown_blocks.proofs.Fence.Reads as reading
+use Rattle.markdown_blocks.proofs.Fence.Texts as texts
+use Rattle.markdown_blocks.proofs.Fence.Walk.{Anywhere, parts-walk, sequence-over}
+use Rattle.markdown_blocks.proofs.Fence.Words.{Word, fence-word, linked-word, read-word}
+use Rattle.markdown_blocks.proofs.FenceFurther.Grammar.{behind_line}
+use Rattle.markdown_blocks.proofs.FenceFurther.Shown.{whole-clear}
+use Rattle.markdown_blocks.proofs.FenceSpan.Open.{AreMarks, ShowsFences, begin_of, by-marker, kind_of, leaf_by, leaf_of}
+use Rattle.markdown_blocks.proofs.FenceSpan.Plain.{walks-plain}
+use Rattle.markdown_blocks.proofs.FillFacts.{Fill, fill-around}
+use Rattle.markdown_blocks.proofs.PartedFacts.{Sits, Still, around-sits, clear}
+use Rattle.markdown_blocks.proofs.PartsStand.{Stands, stands-around}
+use Rattle.markdown_blocks.proofs.PieceFacts.{stood-around}
+use Rattle.markdown_blocks.proofs.PiecesLemmas.{Tiled, tiled-around}
+use Rattle.markdown_blocks.proofs.PlainFacts.{ArePlain, plain-around}
+use Rattle.markdown_blocks.proofs.RestFacts.{rest-trim}
+use Rattle.markdown_blocks.proofs.Span.Inside.{InsideFacts, ReadsLeaf}
+use Rattle.markdown_blocks.proofs.SpanLemmas.{Nested_in, around-nested}
+
+-- What a fence opens, by what stands behind its whitespace.
+abbrev pub opened_by : ℕ → List ℕ → Opening
+opened_by columns text =
+    let m = first_byte text in
+    let size = run_len m text in
+    opening m size columns (trim_start (drop size text))
+
+-- its markers
+abbrev pub marks_of : List ℕ → List ℕ
+marks_of text = take (run_len (first_byte text) text) text
+
+pub marks-are : (options : ParseOptions) (bytes line rest : List ℕ) (p : Point) (columns : ℕ) →
+    Laid options bytes line p rest → AreMarks (opened_by columns (trim_start line)) (marks_of (trim_start line))
+marks-are options bytes line rest p columns is =
+    go (marks_of text) (sequence-over options text is.fence) (reading.take-first (run_len (first_byte text) text) text)
+  where
+    text : List ℕ
+    text = trim_start line
+
+    positive : (k : ℕ) → (suc k == 0) ≡ false
+    positive k = grind (arith, nat_tests)
+
+    go : (ys : List ℕ) → stands_over (sequence_name (first_byte text)) ys ≡ true →
+        reading.FirstIs ys (first_byte text) → AreMarks (opened_by columns text) ys
+    go [] over first = absurd (reading.sequence-some (first_byte text) over)
+    go (c ∷ cs) over first = record { some = positive (length cs); first = first }
+
+-- as it is read
+leaf-same : (columns : ℕ) (text : List ℕ) →
+    reading.leaf_by (first_byte text == 36) (marks_of text) (trim_start (drop (run_len (first_byte text) text) text)) ≡
+    leaf_of (opened_by columns text) (marks_of text) [] false
+leaf-same columns text = go (first_byte text == 36)
+  where
+    xs : List ℕ
+    xs = trim_start (drop (run_len (first_byte text) text) text)
+
+    go : (x : Bool) →
+        reading.leaf_by x (marks_of text) xs ≡
+        leaf_by x (record { markers = marks_of text; lines = []; closed = false })
+        (cond x None (nonempty (first_word xs))) (nonempty (cond x xs (behind_word xs)))
+    go true = refl
+    go false = refl
+
+-- What stands behind its begin.
+abbrev pub first_inside : Inner → List ℕ → Point → Point → List Event
+first_inside inner line p e =
+    let text = trim_start line in
+    let m = first_byte text in
+    let q = past_white line p in
+    around (fence_name m) q e (fence_parts inner m text q)
+
+first-leads : (text : Expression) (inner : Inner) → Word text inner → (line : List ℕ) (p e : Point) →
+    let m = first_byte (trim_start line) in
+    Leads text (begin_of m ∷ []) (behind_line plain_text m ∷ []) (first_inside inner line p e)
+first-leads text inner word line p e =
+    let xs = trim_start line in
+    let m = first_byte xs in
+    let q = past_white line p in
+    let size = run_len m xs in
+    leads-around text (begin_of m) (fence_name m) q e (fence_parts inner m xs q)
+    (fence-word text inner word (m == 36) (drop size xs) q (past_text (take size xs) q))
+
+fence-plain : ShowsFences → (m : ℕ) → is_plain (role (fence_name m)) ≡ true
+fence-plain shows m =
+    by-math (λ x. is_plain (role x) ≡ true) (m == 36) n.MathFlowFence n.CodeFencedFence shows.fences shows.fences
+
+fence-untold : (m : ℕ) → is_told (role (fence_name m)) ≡ false
+fence-untold m = by-math (λ x. is_told (role x) ≡ false) (m == 36) n.MathFlowFence n.CodeFencedFence refl refl
+
+pub first-facts : ShowsFences → (options : ParseOptions) (bytes line rest : List ℕ) (p : Point) (columns : ℕ) →
+    Laid options bytes line p rest →
+    let text = trim_start line in
+    let m = first_byte text in
+    let e = past_text line p in
+    InsideFacts bytes (past_white line p) e (begin_of m) (behind_line plain_text m) (fresh (kind_of m))
+    (leaf_of (opened_by columns text) (marks_of text) [] false) (first_inside linked line p e)
+    (first_inside (read_inner bytes) line p e)
+first-facts shows options bytes line rest p columns is = record {
+  unread_nested = around-nested name q e unread nested.parts.0;
+  nested = around-nested name q e done nested.parts.1;
+  tiled = tiled-around name q e unread tiled.parts;
+  unread_stood = stood-around bytes name q e unread refl stood.parts.0;
+  stood = stood-around bytes name q e done refl stood.parts.1;
+  unread_word = first-leads unread_text linked linked-word line p e;
+  word = first-leads plain_text (read_inner bytes) (read-word bytes) line p e;
+  unread_stays = stays-others (around name q e unread) (kept.others-around name q e unread other others.parts.0);
+  stays = stays-others (around name q e done) (kept.others-around name q e done other others.parts.1);
+  unread_roles = kept.inside-parts linked kept.linked-parts m text q e;
+  roles = kept.inside-parts (read_inner bytes) (kept.read-parts bytes) m text q e;
+  parts = stands-around bytes name q e unread (texts.fence-kind m) stand.parts;
+  filled = fill-around bytes name q e unread done (texts.fence-kind m) filled.parts;
+  between = λ first last. around-between bytes name q e done first last (between first last);
+  parted =
+      around-sits bytes name q e done
+      (by-math (λ x. Still (role x)) (m == 36) n.MathFlowFence n.CodeFencedFence tt tt) sits.parts;
+  plain = λ first. plain-around bytes name q e done (fence-plain shows m) (untold q) (untold e) (plain first);
+  reads = λ s none at.
+      ap (λ (o : Option OpenLeaf). read bytes (record s { leaf = o }) (around name q e done)) at
+      ∙ reading.fence-opened options bytes line rest p e s is none
+      ∙ ap (λ (l : OpenLeaf). let x : Reading = record s { leaf = Some l } in x) (leaf-same columns text);
+}
+  where
+    text : List ℕ
+    text = trim_start line
+
+    m : ℕ
+    m = first_byte (trim_start line)
+
+    q : Point
+    q = past_white line p
+
+    e : Point
+    e = past_text line p
+
+    name : Name
+    name = fence_name (first_byte (trim_start line))
+
+    unread : List Event
+    unread = fence_parts linked (first_byte (trim_start line)) (trim_start line) (past_white line p)
+
+    done : List Event
+    done = fence_parts (read_inner bytes) (first_byte (trim_start line)) (trim_start line) (past_white line p)
+
+    other : kept.Other (fence_name (first_byte (trim_start line)))
+    other =
+        by-math kept.Other (first_byte (trim_start line) == 36) n.MathFlowFence n.CodeFencedFence refl refl
+
+    nested : Walked linked (read_inner bytes) Anywhere nest.Both line p
+    nested =
+        line-walk options bytes linked (read_inner bytes) Anywhere nest.Both (nest.walks-nested bytes) line rest p is tt tt
+
+    tiled : Walked linked linked Anywhere (λ p q es ds. Tiled p q es) line p
+    tiled =
+        line-walk options bytes linked linked Anywhere (λ p q es ds. Tiled p q es) (nest.walks-tiled bytes) line rest p is
+        tt tt
+
+    stood : Walked linked (read_inner bytes) Anywhere (piece.Both bytes) line p
+    stood =
+        line-walk options bytes linked (read_inner bytes) Anywhere (piece.Both bytes) (piece.walks-stood bytes) line rest
+        p is tt tt
+
+    others : Walked linked (read_inner bytes) Anywhere kept.Both line p
+    others =
+        line-walk options bytes linked (read_inner bytes) Anywhere kept.Both (kept.walks-others bytes) line rest p is tt tt
+
+    stand : Walked linked linked Anywhere (λ p q es ds. Stands bytes es) line p
+    stand =
+        line-walk options bytes linked linked Anywhere (λ p q es ds. Stands bytes es) (texts.walks-stand bytes) line rest
+        p is tt tt
+
+    filled : Walked linked (read_inner bytes) Anywhere (λ p q es ds. Fill bytes es ds) line p
+    filled =
+        line-walk options bytes linked (read_inner bytes) Anywhere (λ p q es ds. Fill bytes es ds)
+        (texts.walks-filled bytes) line rest p is tt tt
+
+    sits : Walked (read_inner bytes) (read_inner bytes) Anywhere (λ p q es ds. Sits bytes es) line p
+    sits =
+        line-walk options bytes (read_inner bytes) (read_inner bytes) Anywhere (λ p q es ds. Sits bytes es)
+        (place.walks-sit bytes) line rest p is tt tt
+
+    between : place.IsPlace bytes q → place.IsPlace bytes e → AreBetween bytes done
+    between first last =
+        parts-walk options bytes (read_inner bytes) (read_inner bytes) (place.IsPlace bytes)
+        (λ p q es ds. AreBetween bytes es) (place.walks-between bytes) text rest q is.fence first
+        (subst (place.IsPlace bytes) (sym is.ends) last) is.at
+
+    plain : clear bytes q ≡ true → ArePlain bytes done
+    plain first =
+        parts-walk options bytes (read_inner bytes) (read_inner bytes) (λ p. clear bytes p ≡ true)
+        (λ p q es ds. ArePlain bytes es) (walks-plain shows bytes) text rest q is.fence first
+        (whole-clear bytes (past_text text q) (past_text-whole text q is.at.whole)) is.at
+
+    untold : (x : Point) → (not (is_told (role (fence_name (first_byte (trim_start line))))) || clear bytes x) ≡ true
+    untold x = ap (λ (b : Bool). not b || clear bytes x) (fence-untold (first_byte (trim_start line)))

@@ -1,0 +1,290 @@
+-- The further lines of fenced code or math, one by one, as long as the block is open: from what each is follows what
+-- the block comes to with them, as events and by the line definition.
+use Rattle.std.proofs.Common.{◌≡◌, ℕ, Bool, true, false, cond, ◌&&◌, ◌||◌, not, List, [], ◌∷◌, ◌++◌, length, drop, refl}
+use Rattle.std.proofs.Common.{sym, ap, ap₂, ◌∙◌, subst}
+use Rattle.std.specs.Prelude.{◌==◌, nat_le, nat_lt, Some, if◌then◌else◌}
+use Rattle.std.specs.List.{list_all}
+use Rattle.std.proofs.lemmas.Bool.{and_parts, true≢false}
+use Rattle.md_engine.specs.declared.configuration.ParseOptions.{ParseOptions}
+use Rattle.md_engine.specs.declared.event.Event.{Event}
+use Rattle.md_engine.specs.declared.event.Kind.{Kind}
+use Rattle.md_engine.specs.declared.event.Kind.TheVariants.{Enter, Exit}
+use Rattle.md_engine.specs.declared.event.Name.{Name}
+use Rattle.md_engine.specs.declared.event.Name.TheVariants as n
+use Rattle.md_engine.specs.declared.event.Point.{Point}
+use Rattle.md_engine.specs.declared.tokenizer.held_leaf.HeldLeaf.{HeldLeaf}
+use Rattle.md_engine.specs.declared.tokenizer.held_leaf.HeldLeaf.TheVariants as held_leaf
+use Rattle.md_definition.specs.Leaves.{Came, Finished, Opened, closes}
+use Rattle.md_definition.specs.Rest.{Rest, line_of, lose}
+use Rattle.md_definition.specs.State.{OpenFence, Opening, fence_block, shut, then_block}
+use Rattle.md_definition.specs.Step.{came}
+use Rattle.md_definition.specs.Tree as t
+use Rattle.md_definition.specs.Tree.{Block, Blocks, Line}
+use Rattle.md_lines.specs.Fence.{block_name}
+use Rattle.md_lines.specs.Further.{further_link}
+use Rattle.md_seam.specs.Events.Endings.{Ends, IsLeaf, IsOther, OnLine, endings_stand_from, ends_rightly, on_line, spot_behind}
+use Rattle.md_seam.specs.Events.Grammar.{Expression, Nothing, behind, may_end, plain_text}
+use Rattle.md_seam.specs.Events.Inline.{is_linked}
+use Rattle.md_seam.specs.Events.Nested.{Balanced, Fits, enter_link, exit, pair}
+use Rattle.md_seam.specs.Events.Spelled.{OpenLeaf, block_of, next_line}
+use Rattle.md_seam.specs.Events.Tiles.{plain_read}
+use Rattle.md_seam.proofs.EndingsLemmas.{AreOthers, Leads, in_leaf, is_other, leads-append, others-lead}
+use Rattle.markdown_blocks.specs.Fronted.{rest_line}
+use Rattle.markdown_blocks.specs.Leaf.FenceFurther.{fence_comes, fence_further, further_holds, further_parts, is_fence}
+use Rattle.markdown_blocks.specs.Leaf.FenceFurther.{opening_of}
+use Rattle.markdown_blocks.specs.Rows.{Row, but_ends, ending_events, last_row, span_rest}
+use Rattle.markdown_blocks.proofs.ContainerNames.{TakesPrefixes}
+use Rattle.markdown_blocks.proofs.EachEvent.{each-append}
+use Rattle.markdown_blocks.proofs.FenceFurther.Definition.{further-goes, held_of}
+use Rattle.markdown_blocks.proofs.FenceFurther.Grammar.{behind-line-ends, ending-line, further_left, in-line-ends, in_line}
+use Rattle.markdown_blocks.proofs.FenceFurther.Grammar.{left_by, prefix-line, white-line}
+use Rattle.markdown_blocks.proofs.FenceFurther.Inside.{further-placed}
+use Rattle.markdown_blocks.proofs.FenceFurther.Joined.{further-is}
+use Rattle.markdown_blocks.proofs.FenceFurther.Parts.{further-others, further-unlinked}
+use Rattle.markdown_blocks.proofs.FenceFurther.Places.{FurtherAt, further-rest}
+use Rattle.markdown_blocks.proofs.FenceFurther.Shown.{left-clear}
+use Rattle.markdown_blocks.proofs.FenceSpan.Further.{IsBare, bare-facts, bare-same, closing-reads, end-bare, further-facts}
+use Rattle.markdown_blocks.proofs.FenceSpan.Further.{line-reads, same-bare}
+use Rattle.markdown_blocks.proofs.FenceSpan.Open.{AreMarks, ShowsFences, block-is, leaf_of}
+use Rattle.markdown_blocks.proofs.FrontFacts.{LinePrefix}
+use Rattle.markdown_blocks.proofs.FrontLemmas.{fronts-balanced}
+use Rattle.markdown_blocks.proofs.FrontNames.{fronts-unlinked}
+use Rattle.markdown_blocks.proofs.FrontPlaces.{fronts-grow}
+use Rattle.markdown_blocks.proofs.FrontStands.{fronts-others}
+use Rattle.markdown_blocks.proofs.PartedFacts.{clear}
+use Rattle.markdown_blocks.proofs.PartFacts.{IsUnlinked, NoLinks}
+use Rattle.markdown_blocks.proofs.RowFacts.{IsEnding}
+use Rattle.markdown_blocks.proofs.Span.Cuts.{but_ends-is, ending-is}
+use Rattle.markdown_blocks.proofs.Span.Inside.{InsideFacts, behind_ending}
+use Rattle.markdown_blocks.proofs.Span.Lines.{AreFurther, SpanLine, ends-by}
+use Rattle.markdown_blocks.proofs.SpanLaws.{AreBehind, IsLineOf, come_behind, is_bare, is_bare_row}
+
+-- What is read of a line: a further one, which is linked to the one in front, has no text parts.
+abbrev pub goes_back : List Event → Bool
+goes_back [] = false
+goes_back (e ∷ es) = is_linked e
+
+abbrev pub row_unread : Row → List Event
+row_unread row = row.inside
+
+abbrev pub row_done : List ℕ → Row → List Event
+row_done bytes row = if goes_back row.inside then row.inside else plain_read bytes row.inside
+
+-- What the line definition comes to: an open block, or one that is closed.
+abbrev pub IsCame : Came → Type 0
+IsCame (Finished block) = Unit {0}
+IsCame (Opened (OpenFence o lines)) = Unit {0}
+IsCame _ = ⊥
+
+abbrev pub block_by : Came → Block
+block_by (Finished block) = block
+block_by (Opened (OpenFence o lines)) = fence_block o lines false
+block_by _ = t.Break
+
+pub came-shut : (options : ParseOptions) (bs : Blocks) (c : Came) → IsCame c →
+    shut options (came bs c) ≡ then_block bs (block_by c)
+came-shut options bs (Finished block) is = refl
+came-shut options bs (Opened (OpenFence o lines)) is = refl
+came-shut options bs _ is = absurd is
+
+-- Whether anything stands on the last of some lines, in a leaf on a line on which something stands, or nothing.
+
+abbrev pub full_behind : Bool → List Row → Bool
+full_behind full [] = full
+full_behind full (next ∷ rows) = full_behind (not (is_bare_row next)) rows
+
+pub full-last : (full : Bool) (row : Row) (rows : List Row) → full ≡ not (is_bare_row row) →
+    full_behind full rows ≡ not (is_bare_row (last_row row rows))
+full-last full row [] e = e
+full-last full row (next ∷ rows) e = full-last (not (is_bare_row next)) next rows refl
+
+-- events that are parts of a leaf fill a line, if there are any
+others-fill : (full : Bool) (es : List Event) → AreOthers es → Balanced es →
+    Leads (in_leaf full) (in_leaf (full || not (is_bare es))) es
+others-fill true es others balanced = others-lead (in_leaf true) es refl others
+others-fill false [] others balanced = λ ys. refl
+others-fill false (e ∷ es) others balanced = λ ys.
+    let both : (is_other (on_line e.name) ≡ true) ×
+    AreOthers es = and_parts (is_other (on_line e.name))
+    (list_all (λ (f : Event). is_other (on_line f.name)) es) others in
+    one e.kind e.name (on_line e.name) (es ++ ys) balanced.matches.0 both.0
+    ∙ others-lead (in_leaf true) es refl both.1 ys
+  where
+    one : (kind : Kind) (name : Name) (x : OnLine) (zs : List Event) → Fits [] kind name → is_other x ≡ true →
+        (ends_rightly kind x (in_leaf false) && endings_stand_from (spot_behind kind x (in_leaf false)) zs) ≡
+        endings_stand_from (in_leaf true) zs
+    one Enter name IsOther zs fits h = refl
+    one Enter name IsLeaf zs fits h = cc
+    one Enter name (Ends blank) zs fits h = cc
+    one Exit name x zs fits h = absurd fits
+
+-- A further line, in front of which this is left of the grammar, and that behind it; it is read from this leaf to that.
+pub record FurtherLine (bytes : List ℕ) (o : Opening) (x left : Expression) (from leaf : OpenLeaf) (row : Row) : Type 0
+  where
+    pub parts : List Event
+    pub is : row.inside ≡
+        (enter_link (block_name o.marker) row.first further_link ∷ parts ++ exit (block_name o.marker) row.end ∷ [])
+    pub whole : row.end.vs ≡ 0
+    pub clear : clear bytes row.first ≡ true
+    pub others : AreOthers parts
+    pub balanced : Balanced parts
+    pub unlinked : NoLinks parts
+    -- nothing stands in it just where it ends where it began
+    pub bare : is_bare parts ≡ (row.first.index == row.end.index)
+    pub facts : InsideFacts bytes row.first row.end x left from leaf parts parts
+
+-- Further lines behind one: what they come to.
+pub record HasRest (bytes : List ℕ) (o : Opening) (left : Expression) (leaf : OpenLeaf) (row : Row) (rows : List Row)
+    (c : Came) : Type 0 where
+  pub to : OpenLeaf
+  pub further : AreFurther bytes row_unread (row_done bytes) (block_name o.marker) left leaf to row rows
+  -- the block is that of the line definition
+  pub came : IsCame c
+  pub block : block_of to ≡ block_by c
+  -- whether something stands on the last line, as its endings say
+  pub fills : (full : Bool) → Leads (in_leaf full) (in_leaf (full_behind full rows)) (span_rest row_unread row rows)
+  -- nothing is read of them later
+  pub unlinked : NoLinks (span_rest row_unread row rows)
+  pub same : span_rest (row_done bytes) row rows ≡ span_rest row_unread row rows
+
+-- none
+pub rest-none : (bytes : List ℕ) (o : Opening) (left : Expression) (leaf : OpenLeaf) (row : Row) (c : Came) →
+    may_end left ≡ true → IsCame c → block_of leaf ≡ block_by c → HasRest bytes o left leaf row [] c
+rest-none bytes o left leaf row c ends is block = record {
+  to = leaf;
+  further = (ends, refl);
+  came = is;
+  block = block;
+  fills = λ full ys. refl;
+  unlinked = tt;
+  same = refl;
+}
+
+-- one more in front
+pub rest-more : (bytes : List ℕ) (o : Opening) (left x after : Expression) (leaf to : OpenLeaf) (row next : Row)
+    (rows : List Row) (c : Came) (q : Point) →
+    row.after ≡ Some q → IsEnding bytes row.end q → LinePrefix bytes [] q next.first next.front →
+    behind n.LineEnding left ≡ x → TakesPrefixes x →
+    FurtherLine bytes o x after (behind_ending bytes q leaf) to next → HasRest bytes o after to next rows c →
+    HasRest bytes o left leaf row (next ∷ rows) c
+rest-more bytes o left x after leaf to row next rows c q ended_at ending front e takes line rest = record {
+  to = rest.to;
+  further = (q, ended_at, ending, front, subst TakesPrefixes (sym e) takes, one, rest.further);
+  came = rest.came;
+  block = rest.block;
+  fills = λ full.
+      leads-append (in_leaf full) (in_leaf (not (is_bare next.front) || not (is_bare line.parts)))
+      (in_leaf (full_behind full (next ∷ rows))) (ended ++ next.front ++ but_ends next.inside)
+      (span_rest row_unread next rows)
+      (leads-append (in_leaf full) (in_leaf (not (is_bare next.front)))
+      (in_leaf (not (is_bare next.front) || not (is_bare line.parts))) (ended ++ next.front) (but_ends next.inside)
+      (leads-append (in_leaf full) (in_leaf false) (in_leaf (not (is_bare next.front))) ended next.front
+      (subst (λ (es : List Event). Leads (in_leaf full) (in_leaf false) es) (sym (ending-is n.LineEnding row q ended_at))
+      (λ ys. refl))
+      (others-fill false next.front (fronts-others bytes [] q next.first next.front front)
+      (fronts-balanced bytes [] q next.first next.front front refl)))
+      (subst
+      (λ (es : List Event).
+      Leads (in_leaf (not (is_bare next.front))) (in_leaf (not (is_bare next.front) || not (is_bare line.parts))) es)
+      (sym parts) (others-fill (not (is_bare next.front)) line.parts line.others line.balanced)))
+      (subst
+      (λ (full : Bool). Leads (in_leaf full) (in_leaf (full_behind (not (is_bare_row next)) rows))
+      (span_rest row_unread next rows)) (sym filled) (rest.fills (not (is_bare_row next))));
+  unlinked =
+      each-append IsUnlinked (ended ++ next.front ++ but_ends next.inside) (span_rest row_unread next rows)
+      (each-append IsUnlinked (ended ++ next.front) (but_ends next.inside)
+      (each-append IsUnlinked ended next.front
+      (subst NoLinks (sym (ending-is n.LineEnding row q ended_at)) (refl, (refl, tt)))
+      (fronts-unlinked bytes [] q next.first next.front front)) (subst NoLinks (sym parts) line.unlinked)) rest.unlinked;
+  same =
+      ap₂ (λ (es fs : List Event). ended ++ next.front ++ but_ends es ++ fs) done rest.same;
+}
+  where
+    name : Name
+    name = block_name o.marker
+
+    ended : List Event
+    ended = ending_events n.LineEnding row
+
+    done : row_done bytes next ≡ next.inside
+    done =
+        ap (λ (es : List Event). cond (goes_back es) es (plain_read bytes es)) line.is ∙ sym line.is
+
+    parts : but_ends next.inside ≡ line.parts
+    parts = ap but_ends line.is ∙ but_ends-is (enter_link name next.first further_link) line.parts (exit name next.end)
+
+    filled : (not (is_bare next.front) || not (is_bare line.parts)) ≡ not (is_bare_row next)
+    filled =
+        ap (λ (b : Bool). not (is_bare next.front) || not b) line.bare
+        ∙ both (is_bare next.front) (next.first.index == next.end.index)
+      where
+        both : (a b : Bool) → (not a || not b) ≡ not (a && b)
+        both true b = refl
+        both false b = refl
+
+    one : SpanLine bytes row_unread (row_done bytes) name (behind n.LineEnding left) (behind_ending bytes q leaf) next
+    one = record {
+      ends =
+          ends-by row_unread (row_done bytes) name next (enter_link name next.first further_link ∷ line.parts)
+          (enter_link name next.first further_link ∷ line.parts) line.whole line.is (done ∙ line.is);
+      clear = line.clear;
+      left = after;
+      leaf = to;
+      facts =
+          subst
+          (λ (y : Expression).
+          InsideFacts bytes next.first next.end y after (behind_ending bytes q leaf) to
+          (but_ends next.inside) (but_ends (row_done bytes next))) (sym e)
+          (subst
+          (λ (es : List Event).
+          InsideFacts bytes next.first next.end x after (behind_ending bytes q leaf) to
+          (but_ends next.inside) (but_ends es)) (sym done)
+          (subst
+          (λ (es : List Event).
+          InsideFacts bytes next.first next.end x after (behind_ending bytes q leaf) to es es) (sym parts)
+          line.facts));
+    }
+
+-- A line, where the block is open.
+
+pub further-at : (options : ParseOptions) (bytes : List ℕ) (row : Row) → (is : IsLineOf options bytes fence_further row) →
+    FurtherAt bytes is.rest row.first row.end
+further-at options bytes row is = record { at = is.at; column = is.column }
+
+-- with what is known of what stands in it
+pub further-line : (options : ParseOptions) (bytes : List ℕ) (o : Opening) (x left : Expression) (from leaf : OpenLeaf)
+    (row : Row) → (is : IsLineOf options bytes fence_further row) → row.on ≡ held_of o → is_fence (held_of o) ≡ true →
+    InsideFacts bytes row.first row.end x left from leaf
+    (further_parts options (held_of o) is.rest row.first row.end)
+    (further_parts options (held_of o) is.rest row.first row.end) →
+    FurtherLine bytes o x left from leaf row
+further-line options bytes o x left from leaf row is on e facts = record {
+  parts = parts;
+  is =
+      is.inside ∙ ap (λ (h : HeldLeaf). fence_further.added options h (rest_line is.rest) row.first) on
+      ∙ further-is options bytes (held_of o) is.rest row.first row.end at;
+  whole = is.at.end_whole;
+  clear = left-clear bytes (drop row.end.index bytes) is.rest row.first (further-rest bytes is.rest row.first row.end at);
+  others = further-others options (held_of o) is.rest row.first row.end;
+  balanced = (further-placed options bytes (held_of o) is.rest row.first row.end e at).nested.0;
+  unlinked = further-unlinked options (held_of o) is.rest row.first row.end;
+  bare = bare;
+  facts = facts;
+}
+  where
+    parts : List Event
+    parts = further_parts options (held_of o) is.rest row.first row.end
+
+    at : FurtherAt bytes is.rest row.first row.end
+    at = further-at options bytes row is
+
+    bare : is_bare parts ≡ (row.first.index == row.end.index)
+    bare = go (row.first.index == row.end.index) refl parts refl
+      where
+        go : (same : Bool) → (row.first.index == row.end.index) ≡ same → (es : List Event) → parts ≡ es →
+            is_bare parts ≡ (row.first.index == row.end.index)
+        go true k es h =
+            ap is_bare (same-bare options bytes (held_of o) is.rest row.first row.end e at k).none ∙ sym k
+        go false k [] h =
+            absurd (true≢false (sym (bare-same options bytes (held_of o) is.rest row.first row.end e at h) ∙ k))
+        go false k (f ∷ es) h = ap is_bare h ∙ sym k

@@ -1,0 +1,192 @@
+-- All further lines of fenced code or math: as long as the block is open, each is one more line of it, or closes it.
+use Rattle.std.proofs.Common.{◌≡◌, ℕ, ◌≤◌, Bool, true, false, cond, List, [], ◌∷◌, ◌++◌, length, refl, sym, ap, ◌∙◌, subst}
+use Rattle.std.proofs.Common.{arith}
+use Rattle.std.specs.Prelude.{nat_lt}
+use Rattle.std.proofs.lemmas.Bool.Decides.{nat_tests}
+use Rattle.md_engine.specs.declared.configuration.ParseOptions.{ParseOptions}
+use Rattle.md_engine.specs.declared.event.Event.{Event}
+use Rattle.md_engine.specs.declared.event.Name.TheVariants as n
+use Rattle.md_engine.specs.declared.event.Point.{Point}
+use Rattle.md_engine.specs.declared.tokenizer.held_leaf.HeldLeaf.{HeldLeaf}
+use Rattle.md_engine.specs.declared.tokenizer.held_leaf.HeldLeaf.TheVariants as held_leaf
+use Rattle.md_definition.specs.Leaves.{Came, Finished, Opened, closes}
+use Rattle.md_definition.specs.Rest.{Rest, line_of, lose}
+use Rattle.md_definition.specs.State.{OpenFence, Opening, fence_block}
+use Rattle.md_definition.specs.Tree.{Line}
+use Rattle.md_seam.specs.Events.Grammar.{Expression, Nothing, behind, may_end, plain_text}
+use Rattle.md_seam.specs.Events.Spelled.{OpenLeaf, next_line}
+use Rattle.markdown_blocks.specs.Fronted.{rest_line}
+use Rattle.markdown_blocks.specs.Leaf.FenceFurther.{fence_comes, fence_further, further_holds, further_parts, is_fence}
+use Rattle.markdown_blocks.specs.Leaf.FenceFurther.{opening_of}
+use Rattle.markdown_blocks.specs.Rows.{Row}
+use Rattle.markdown_blocks.proofs.ContainerNames.{TakesPrefixes}
+use Rattle.markdown_blocks.proofs.FenceFurther.Definition.{further-goes, held_of}
+use Rattle.markdown_blocks.proofs.FenceFurther.Grammar.{behind-line-ends, ending-line, in-line-ends, in_line, left_by}
+use Rattle.markdown_blocks.proofs.FenceFurther.Grammar.{prefix-line, white-line}
+use Rattle.markdown_blocks.proofs.FenceFurther.Places.{FurtherAt}
+use Rattle.markdown_blocks.proofs.FenceSpan.Further.{IsBare, bare-facts, closing-reads, end-bare, further-facts, line-reads}
+use Rattle.markdown_blocks.proofs.FenceSpan.Open.{AreMarks, ShowsFences, block-is, leaf_of}
+use Rattle.markdown_blocks.proofs.FenceSpan.Rest.{HasRest, further-at, further-line, rest-more, rest-none}
+use Rattle.markdown_blocks.proofs.FrontPlaces.{fronts-grow}
+use Rattle.markdown_blocks.proofs.Span.Inside.{InsideFacts, ReadsLeaf, behind_ending}
+use Rattle.markdown_blocks.proofs.SpanLaws.{AreBehind, IsLineOf, come_behind}
+
+-- what is left of the grammar behind a line of the block
+left-ends : (m : ℕ) (line : List ℕ) → may_end (left_by plain_text m line) ≡ true
+left-ends m [] = in-line-ends plain_text m
+left-ends m (b ∷ bs) = behind-line-ends plain_text m
+
+left-line : (m : ℕ) (line : List ℕ) → behind n.LineEnding (left_by plain_text m line) ≡ in_line plain_text m
+left-line m [] = ending-line plain_text m
+left-line m (b ∷ bs) = refl
+
+line-takes : (m : ℕ) → TakesPrefixes (in_line plain_text m)
+line-takes m = (white-line plain_text m, prefix-line plain_text m)
+
+-- what is held behind a further line
+line-held : (options : ParseOptions) (bytes : List ℕ) (o : Opening) (row : Row) (closed : Bool) →
+    (is : IsLineOf options bytes fence_further row) → row.on ≡ held_of o → is_fence (held_of o) ≡ true →
+    closes options (opening_of (held_of o)) is.rest ≡ closed → row.behind ≡ cond closed held_leaf.None (held_of o)
+line-held options bytes o row closed is on e f =
+    is.behind
+    ∙ ap (λ (h : HeldLeaf). further_holds options h is.rest) on
+    ∙ ap
+    (λ (x : Bool).
+    cond x (cond (closes options (opening_of (held_of o)) is.rest) held_leaf.None (held_of o)) held_leaf.None) e
+    ∙ ap (λ (x : Bool). cond x held_leaf.None (held_of o)) f
+
+-- no line goes on it behind its closing fence
+rest-closed : (options : ParseOptions) (bytes : List ℕ) (o : Opening) (marks : List ℕ) (lines : List Line) (row : Row)
+    (rows : List Row) →
+    AreMarks o marks → row.behind ≡ held_leaf.None → (are : AreBehind options bytes fence_further row rows) →
+    HasRest bytes o Nothing (leaf_of o marks lines true) row rows
+    (come_behind options bytes fence_further row rows are (Finished (fence_block o lines true)))
+rest-closed options bytes o marks lines row [] marked none are =
+    rest-none bytes o Nothing (leaf_of o marks lines true) row (Finished (fence_block o lines true)) refl tt
+    (block-is o marks lines true marked)
+rest-closed options bytes o marks lines row (next ∷ rows) marked none are =
+    absurd (closed (sym (ap is_fence (are.4 ∙ none)) ∙ are.5))
+  where
+    closed : is_fence held_leaf.None ≡ true → ⊥
+    closed e = cc
+
+-- What further lines come to behind a line, whatever lines the block has there.
+abbrev Rests : (options : ParseOptions) (bytes : List ℕ) → Opening → List ℕ → Row → List Row → Type 0
+Rests options bytes o marks row rows =
+    (lines : List Line) (left : Expression) → may_end left ≡ true →
+    behind n.LineEnding left ≡ in_line plain_text o.marker → row.behind ≡ held_of o →
+    (are : AreBehind options bytes fence_further row rows) →
+    HasRest bytes o left (leaf_of o marks lines false) row rows
+    (come_behind options bytes fence_further row rows are (Opened (OpenFence o lines)))
+
+rest-next : ShowsFences → (options : ParseOptions) (bytes : List ℕ) (o : Opening) (marks : List ℕ) (lines : List Line)
+    (left : Expression) (row next : Row) (rows : List Row) →
+    AreMarks o marks → is_fence (held_of o) ≡ true → behind n.LineEnding left ≡ in_line plain_text o.marker →
+    row.behind ≡ held_of o → (are : AreBehind options bytes fence_further row (next ∷ rows)) →
+    Rests options bytes o marks next rows →
+    HasRest bytes o left (leaf_of o marks lines false) row (next ∷ rows)
+    (come_behind options bytes fence_further row (next ∷ rows) are (Opened (OpenFence o lines)))
+rest-next shows options bytes o marks lines left row next rows marked fence line held are rests =
+    go (nat_lt q.index (length bytes)) refl
+  where
+    q : Point
+    q = are.0
+
+    is : IsLineOf options bytes fence_further next
+    is = are.6
+
+    r : Rest
+    r = is.rest
+
+    on : next.on ≡ held_of o
+    on = are.4 ∙ held
+
+    at : FurtherAt bytes r next.first next.end
+    at = further-at options bytes next is
+
+    x : Expression
+    x = in_line plain_text o.marker
+
+    leaf : OpenLeaf
+    leaf = leaf_of o marks lines false
+
+    more : List Line
+    more = lines ++ line_of (lose o.indent r) ∷ []
+
+    closing : Bool
+    closing = closes options (opening_of (held_of o)) r
+
+    chunk : Expression
+    chunk = left_by plain_text o.marker (rest_line (lose o.indent r))
+
+    parts : List Event
+    parts = further_parts options (held_of o) r next.first next.end
+
+    After : Came → Type 0
+    After c =
+        HasRest bytes o left leaf row (next ∷ rows) (come_behind options bytes fence_further next rows are.7 c)
+
+    -- the line in front of those behind it
+    joined : (after : Expression) (to : OpenLeaf) (c : Came) →
+        InsideFacts bytes next.first next.end x after (behind_ending bytes q leaf) to parts parts →
+        HasRest bytes o after to next rows (come_behind options bytes fence_further next rows are.7 c) → After c
+    joined after to c facts rest =
+        rest-more bytes o left x after leaf to row next rows
+        (come_behind options bytes fence_further next rows are.7 c) q are.1
+        are.2 are.3 line (line-takes o.marker)
+        (further-line options bytes o x after (behind_ending bytes q leaf) to next is on fence facts) rest
+
+    -- a line that the text goes on with
+    told : (closed : Bool) (to : OpenLeaf) → nat_lt q.index (length bytes) ≡ true → closing ≡ closed →
+        ReadsLeaf bytes (next_line leaf) to parts →
+        InsideFacts bytes next.first next.end x (cond closed Nothing chunk) (behind_ending bytes q leaf) to parts parts
+    told closed to goes k reads =
+        subst
+        (λ (from : OpenLeaf). InsideFacts bytes next.first next.end x (cond closed Nothing chunk) from to parts parts)
+        (sym (ap (λ (b : Bool). cond b (next_line leaf) leaf) goes))
+        (subst (λ (y : Expression). InsideFacts bytes next.first next.end x y (next_line leaf) to parts parts)
+        (ap (λ (b : Bool). cond b Nothing chunk) k)
+        (further-facts shows options bytes (held_of o) r next.first next.end (next_line leaf) to fence at reads))
+
+    by : nat_lt q.index (length bytes) ≡ true → (closed : Bool) → closing ≡ closed →
+        After (cond closed (Finished (fence_block o lines true)) (Opened (OpenFence o more)))
+    by goes true k =
+        joined Nothing (leaf_of o marks lines true) (Finished (fence_block o lines true))
+        (told true (leaf_of o marks lines true) goes k
+        (closing-reads options bytes o marks lines r next.first next.end marked k))
+        (rest-closed options bytes o marks lines next rows marked (line-held options bytes o next true is on fence k)
+        are.7)
+    by goes false k =
+        joined chunk (leaf_of o marks more false) (Opened (OpenFence o more))
+        (told false (leaf_of o marks more false) goes k
+        (line-reads options bytes o marks lines r next.first next.end marked at k))
+        (rests more chunk (left-ends o.marker (rest_line (lose o.indent r)))
+        (left-line o.marker (rest_line (lose o.indent r))) (line-held options bytes o next false is on fence k) are.7)
+
+    -- where the text ends no line is told
+    ended : nat_lt q.index (length bytes) ≡ false → IsBare options (held_of o) r next.first next.end
+    ended goes =
+        let grow = fronts-grow bytes [] q next.first next.front are.3 in
+        let over : length bytes ≤ q.index = grind (arith, nat_tests) in
+        end-bare options bytes (held_of o) r next.first next.end fence at (omega (arith, grow, over))
+
+    go : (goes : Bool) → nat_lt q.index (length bytes) ≡ goes →
+        After (cond goes (fence_comes options (OpenFence o lines) r) (Opened (OpenFence o lines)))
+    go true goes = subst After (sym (further-goes options o lines r)) (by goes closing refl)
+    go false goes =
+        joined x leaf (Opened (OpenFence o lines))
+        (subst (λ (from : OpenLeaf). InsideFacts bytes next.first next.end x x from leaf parts parts)
+        (sym (ap (λ (b : Bool). cond b (next_line leaf) leaf) goes))
+        (bare-facts bytes options (held_of o) r next.first next.end x leaf (ended goes)))
+        (rests lines x (in-line-ends plain_text o.marker) (ending-line plain_text o.marker)
+        (line-held options bytes o next false is on fence (ended goes).other) are.7)
+
+pub rest-open : ShowsFences → (options : ParseOptions) (bytes : List ℕ) (o : Opening) (marks : List ℕ) (row : Row)
+    (rows : List Row) →
+    AreMarks o marks → is_fence (held_of o) ≡ true → Rests options bytes o marks row rows
+rest-open shows options bytes o marks row [] marked fence lines left ends line held are =
+    rest-none bytes o left (leaf_of o marks lines false) row (Opened (OpenFence o lines)) ends tt
+    (block-is o marks lines false marked)
+rest-open shows options bytes o marks row (next ∷ rows) marked fence lines left ends line held are =
+    rest-next shows options bytes o marks lines left row next rows marked fence line held are
+    (rest-open shows options bytes o marks next rows marked fence)

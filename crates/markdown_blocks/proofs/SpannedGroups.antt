@@ -1,0 +1,417 @@
+-- The lines of each leaf of several are joined, and all else stays.
+use Rattle.std.proofs.Common.{◌≡◌, ℕ, Bool, true, false, cond, ◌&&◌, map, List, [], ◌∷◌, ◌++◌, refl, ap, ap₂, sym, ◌∙◌}
+use Rattle.std.proofs.Common.{append_assoc, subst}
+use Rattle.std.specs.Prelude.{Option, Some, None}
+use Rattle.std.proofs.lemmas.Bool.{and_right}
+use Rattle.md_engine.specs.declared.configuration.ParseOptions.{ParseOptions}
+use Rattle.md_engine.specs.declared.event.Event.{Event}
+use Rattle.md_engine.specs.declared.event.Link.{Link}
+use Rattle.md_engine.specs.declared.event.Name.{Name}
+use Rattle.md_engine.specs.declared.event.Name.TheVariants as n
+use Rattle.md_engine.specs.declared.event.Point.{Point}
+use Rattle.md_engine.specs.declared.tokenizer.held_leaf.HeldLeaf.{HeldLeaf}
+use Rattle.md_leaves.specs.declared.spans.Place.TheVariants.{Between, Inside, Outside}
+use Rattle.md_leaves.specs.Spanned.{begins_further, goes_on, has_lines, links_back, name_at, renamed, spanned}
+use Rattle.md_leaves.specs.Spanned.{spanned_from}
+use Rattle.md_leaves.proofs.SpannedLines.{IsBegin, IsEnd, NoBlocks, NoLines, goes_on-other, line-begins, line-joined}
+use Rattle.md_leaves.proofs.SpannedLines.{IsFurther, line-last, lines-block, spanned-passes}
+use Rattle.md_seam.specs.Events.Blocks.{is_block}
+use Rattle.md_seam.specs.Events.Nested.{exit, is_enter, pair}
+use Rattle.md_seam.specs.Events.Prefix.{is_prefix}
+use Rattle.md_seam.specs.Events.Spelled.{role}
+use Rattle.md_definition.specs.State.{Container}
+use Rattle.markdown_blocks.specs.Change.{ends_of}
+use Rattle.markdown_blocks.specs.Registry.{LeafName, further_of, leaf, resolved, text_leaf}
+use Rattle.markdown_blocks.specs.Rows.{BlankRow, Group, LeafRow, Lines, Row, RowKind, Single, Span, TextRow, blank_line}
+use Rattle.markdown_blocks.specs.Rows.{but_end, but_ends, end_of, ending_events, ending_of, groups, last_row}
+use Rattle.markdown_blocks.specs.Rows.{leaf_events}
+use Rattle.markdown_blocks.specs.Rows.{leaf_unread, row_events, rows_events, span_by, span_rest, tail_events}
+use Rattle.markdown_blocks.specs.Unread.{linked_lines, listed_group, listed_groups, listed_row_by, set_groups}
+use Rattle.markdown_blocks.specs.Unread.{text_unread, unread_groups, unread_lines}
+use Rattle.markdown_blocks.proofs.EachEvent.{each-append}
+use Rattle.markdown_blocks.proofs.FrontNames.{HasFront, ends-are, fronts-are, fronts-prefixes}
+use Rattle.markdown_blocks.proofs.GroupLemmas.{AreGroups, AreSpan, IsSingle, groups-are, leaves-set}
+use Rattle.markdown_blocks.proofs.GroupLemmas.{lines-prefixed}
+use Rattle.markdown_blocks.proofs.GroupsAre.{Begins, IsSpanLine, behind-first, line-further, line-of, span-begins}
+use Rattle.markdown_blocks.specs.HeldLeaf.{has_lines as still_lines}
+use Rattle.markdown_blocks.specs.LineFlags.{ending_name}
+use Rattle.markdown_blocks.specs.Rows.{is_blank_by}
+use Rattle.markdown_blocks.proofs.JoinedLemmas.{EachNoContent}
+use Rattle.markdown_blocks.proofs.KindLemmas.{kind-starts}
+use Rattle.markdown_blocks.proofs.PrefixNames.{ArePrefixes, prefixes-front}
+use Rattle.markdown_blocks.proofs.Registry.{laws, span-laws}
+use Rattle.markdown_blocks.proofs.RowFacts.{AreRows}
+use Rattle.markdown_blocks.proofs.Span.Cuts.{but_end-is, but_ends-is, end-is}
+use Rattle.markdown_blocks.proofs.SpanLaws.{AreBehind, IsLineOf, IsNone, IsSpanned}
+use Rattle.markdown_blocks.proofs.SpannedFacts.{AreUnspanned, IsUnspanned, fronts-unspanned, unspanned-lines}
+use Rattle.markdown_blocks.proofs.SpannedFacts.{unspanned-pass}
+use Rattle.markdown_blocks.proofs.SubstitutedLemmas.{EachPrefixed}
+
+-- Endings.
+
+-- the name of the ending of a line: it begins and ends no block, and between two lines of a leaf it is an ending like
+-- any other
+record IsEndingName (name : Name) : Type 0 where
+  unspanned : (p : Point) → IsUnspanned (exit name p)
+  no_block : is_block (role name) ≡ false
+  between : name_at Between name ≡ n.LineEnding
+
+abbrev ending_at : Row → Name
+ending_at row = ending_of row.kind row
+
+ending-name : (kind : RowKind) (row : Row) → IsEndingName (ending_of kind row)
+ending-name kind row = go (is_blank_by kind row)
+  where
+    go : (blank : Bool) → IsEndingName (ending_name blank)
+    go true = record { unspanned = λ p. refl; no_block = refl; between = refl }
+    go false = record { unspanned = λ p. refl; no_block = refl; between = refl }
+
+ending-unspanned : (name : Name) (row : Row) → IsEndingName name → AreUnspanned (ending_events name row)
+ending-unspanned name row is = go row.after
+  where
+    go : (after : Option Point) → AreUnspanned (elim after [ None ↦ [] | Some q ↦ pair name row.end q ])
+    go None = tt
+    go (Some q) = (is.unspanned row.end, (is.unspanned q, tt))
+
+ending-no_blocks : (name : Name) (row : Row) → IsEndingName name → NoBlocks (ending_events name row)
+ending-no_blocks name row is = go row.after
+  where
+    go : (after : Option Point) → NoBlocks (elim after [ None ↦ [] | Some q ↦ pair name row.end q ])
+    go None = tt
+    go (Some q) = (is.no_block, (is.no_block, tt))
+
+ending-between : (name : Name) (row : Row) → IsEndingName name →
+    map (renamed Between) (ending_events name row) ≡ ending_events n.LineEnding row
+ending-between name row is = go row.after
+  where
+    go : (after : Option Point) →
+        map (renamed Between) (elim after [ None ↦ [] | Some q ↦ pair name row.end q ])
+        ≡ elim after [ None ↦ [] | Some q ↦ pair n.LineEnding row.end q ]
+    go None = refl
+    go (Some q) = ap (λ (m : Name). pair m row.end q) is.between
+
+-- what stands behind a line
+tail-unspanned : (kind : RowKind) (row : Row) → AreUnspanned (tail_events (ending_of kind row) row)
+tail-unspanned kind row =
+    each-append IsUnspanned (ends_of row.leaves row.end) (ending_events (ending_of kind row) row)
+    (fronts-unspanned (ends_of row.leaves row.end) (ends-are row.leaves row.end))
+    (ending-unspanned (ending_of kind row) row (ending-name kind row))
+
+-- where no container ends there
+tail-none : (name : Name) (row : Row) → row.leaves ≡ [] → tail_events name row ≡ ending_events name row
+tail-none name row none = ap (λ (cs : List Container). ends_of cs row.end ++ ending_events name row) none
+
+-- and in front of one
+front-unspanned : (bytes : List ℕ) (row : Row) → HasFront bytes row → AreUnspanned row.front
+front-unspanned bytes row h =
+    fronts-unspanned row.front (fronts-are bytes row.change.opens h.0 row.first row.front h.1)
+
+-- Prefixes between two lines of a leaf stay.
+
+prefix-no_block : (name : Name) → is_prefix name ≡ true → is_block (role name) ≡ false
+prefix-no_block n.Data h = refl
+prefix-no_block _ h = cc
+
+prefix-between : (name : Name) → is_prefix name ≡ true → name_at Between name ≡ name
+prefix-between n.BlankLineEnding h = cc
+prefix-between _ h = refl
+
+prefixes-no_blocks : (es : List Event) → ArePrefixes es → NoBlocks es
+prefixes-no_blocks [] h = tt
+prefixes-no_blocks (e ∷ es) h = (prefix-no_block e.name h.0.0, prefixes-no_blocks es h.1)
+
+-- what stands in front of a further line: an ending, and prefixes
+gap-no_blocks : (xs es : List Event) → NoBlocks xs → ArePrefixes es → NoBlocks (xs ++ es)
+gap-no_blocks [] es h k = prefixes-no_blocks es k
+gap-no_blocks (x ∷ xs) es h k = (h.0, gap-no_blocks xs es h.1 k)
+
+prefixes-between : (es : List Event) → ArePrefixes es → map (renamed Between) es ≡ es
+prefixes-between [] h = refl
+prefixes-between (e ∷ es) h =
+    ap₂ (λ (name : Name) (l : List Event). record e { name = name } ∷ l) (prefix-between e.name h.0.0)
+    (prefixes-between es h.1)
+
+gap-between : (xs ys es : List Event) → map (renamed Between) xs ≡ ys → ArePrefixes es →
+    map (renamed Between) (xs ++ es) ≡ ys ++ es
+gap-between xs ys es is h = go xs ∙ ap (λ (l : List Event). l ++ es) is
+  where
+    go : (xs : List Event) → map (renamed Between) (xs ++ es) ≡ map (renamed Between) xs ++ es
+    go [] = prefixes-between es h
+    go (x ∷ xs) = ap (λ (l : List Event). renamed Between x ∷ l) (go xs)
+
+-- What stands ahead.
+
+-- events of no such leaf are no further line
+plain-ahead : (es rest : List Event) → NoLines es → goes_on rest ≡ false → goes_on (es ++ rest) ≡ false
+plain-ahead [] rest h k = k
+plain-ahead (e ∷ es) rest h k = go (is_block (role e.name)) refl (plain-ahead es rest h.1 k)
+  where
+    go : (x : Bool) → is_block (role e.name) ≡ x → goes_on (es ++ rest) ≡ false → goes_on (e ∷ (es ++ rest)) ≡ false
+    go true block none =
+        goes_on-other e (es ++ rest) block
+        (and_right (is_enter e.kind) (has_lines (role e.name) && links_back e.link)
+        (ap (λ (x : Bool). x && links_back e.link) h.0))
+    go false block none = ap (λ (x : Bool). cond x (begins_further e) (goes_on (es ++ rest))) block ∙ none
+
+-- nor is the begin of a first line
+begin-ahead : (e : Event) (es : List Event) → IsBegin e → goes_on (e ∷ es) ≡ false
+begin-ahead e es is =
+    goes_on-other e es (lines-block (role e.name) is.lines)
+    (ap (λ (x : Bool). is_enter e.kind && (has_lines (role e.name) && x)) is.link
+    ∙ and_right (is_enter e.kind) (has_lines (role e.name) && false)
+    (and_right (has_lines (role e.name)) false refl))
+
+-- The lines of a leaf.
+
+-- which these are, as the laws of such a leaf ask for them
+record AreOfLeaf (options : ParseOptions) (bytes : List ℕ) (row : Row) (rows : List Row) : Type 0 where
+  name : LeafName
+  open_leaf : (leaf name).ends ≡ false
+  is : IsLineOf options bytes (leaf name) row
+  first : (leaf name).further row.on ≡ false
+  behind : AreBehind options bytes (leaf (further_of name)) row rows
+
+span-leaf : (options : ParseOptions) (bytes : List ℕ) (row : Row) (rows : List Row) → AreSpan options bytes row rows →
+    Begins row → AreOfLeaf options bytes row rows
+span-leaf options bytes row rows are begins =
+    let is : IsSpanLine options bytes row = span-begins options bytes row rows are in
+    record {
+      name = is.name;
+      open_leaf = is.open_leaf;
+      is = line-of options bytes row is;
+      first = line-further options bytes row is false begins;
+      behind = behind-first options bytes row rows are;
+    }
+
+-- rows of leaves, between which no container ends
+abbrev AreTogether : Row → List Row → Type 0
+AreTogether row [] = (l : LeafName) × (row.kind ≡ LeafRow l)
+AreTogether row (next ∷ rows) =
+    (l : LeafName) × (kind : row.kind ≡ LeafRow l) × (leaves : row.leaves ≡ []) × AreTogether next rows
+
+span-together : (options : ParseOptions) (bytes : List ℕ) (row : Row) (rows : List Row) →
+    AreSpan options bytes row rows → AreTogether row rows
+span-together options bytes row [] are = (are.name, are.kind)
+span-together options bytes row (next ∷ rows) are =
+    (are.0.name, are.0.kind, are.5, span-together options bytes next rows are.8)
+
+together-kind : (row : Row) (rows : List Row) → AreTogether row rows → (l : LeafName) × (row.kind ≡ LeafRow l)
+together-kind row [] h = h
+together-kind row (next ∷ rows) h = (h.0, h.1)
+
+span-front : (options : ParseOptions) (bytes : List ℕ) (row : Row) (rows : List Row) → AreSpan options bytes row rows →
+    HasFront bytes row
+span-front options bytes row [] are = are.front
+span-front options bytes row (next ∷ rows) are = are.0.front
+
+-- The events of a line of a leaf, and what stands behind it: in front, its begin, what stands inside, its end, and the
+-- rest.
+laid : (front lead : List Event) (b : Event) (inside : List Event) (e : Event) (tail more rest : List Event) →
+    ((front ++ (lead ++ b ∷ inside ++ e ∷ []) ++ tail) ++ more) ++ rest
+    ≡ front ++ (lead ++ b ∷ (inside ++ e ∷ (tail ++ (more ++ rest))))
+laid front lead b inside e tail more rest =
+    let line : List Event = lead ++ b ∷ inside ++ e ∷ [] in
+    let behind : List Event = tail ++ (more ++ rest) in
+    append_assoc (front ++ line ++ tail) more rest ∙ append_assoc (front ++ line) tail (more ++ rest)
+    ∙ append_assoc front line behind
+    ∙ ap (λ (l : List Event). front ++ l)
+    (append_assoc (lead ++ b ∷ inside) (e ∷ []) behind ∙ append_assoc lead (b ∷ inside) (e ∷ behind))
+
+row-laid : (Lead : List Event → Type 0) (Begins : Event → Type 0) (row : Row) (l : LeafName) (more rest : List Event) →
+    row.kind ≡ LeafRow l → (s : IsSpanned Lead Begins row.inside) →
+    (row_events row ++ more) ++ rest
+    ≡ row.front
+    ++ (s.lead ++ s.begin ∷ (s.inside ++ s.end ∷ (tail_events (ending_at row) row ++ (more ++ rest))))
+row-laid Lead Begins row l more rest kind s =
+    let tail : List Event = tail_events (ending_at row) row in
+    ap (λ (k : RowKind). ((row.front ++ leaf_events k row ++ tail) ++ more) ++ rest) kind
+    ∙ ap (λ (inside : List Event). ((row.front ++ inside ++ tail) ++ more) ++ rest) s.is
+    ∙ laid row.front s.lead s.begin s.inside s.end tail more rest
+
+-- behind the begin of a line, and behind the last
+abbrev last_tail : Row → List Row → List Event
+last_tail row rows = tail_events (ending_at (last_row row rows)) (last_row row rows)
+
+abbrev its_events : Row → List Event
+its_events row = row.inside
+
+abbrev joined_from : Row → List Row → List Event → List Event
+joined_from row rows rest =
+    span_rest its_events row rows ++ (end_of (last_row row rows).inside ++ (last_tail row rows ++ spanned rest))
+
+lines-from : (options : ParseOptions) (bytes : List ℕ) (name : LeafName) (row : Row) (rows : List Row)
+    (before inside : List Event) (e : Event) (rest : List Event) →
+    (leaf name).ends ≡ false → AreTogether row rows → AreBehind options bytes (leaf (further_of name)) row rows →
+    row.inside ≡ before ++ e ∷ [] → NoLines inside → IsEnd e → goes_on rest ≡ false →
+    spanned_from Inside (inside ++ e ∷ (tail_events (ending_at row) row ++ (rows_events rows ++ rest)))
+    ≡ inside ++ joined_from row rows rest
+lines-from options bytes name row [] before inside e rest open_leaf together are is plain end ahead =
+    let tail : List Event = tail_events (ending_at row) row in
+    let unspanned : AreUnspanned tail = tail-unspanned row.kind row in
+    line-last inside e (tail ++ rest) plain end (plain-ahead tail rest (unspanned-lines tail unspanned) ahead)
+    ∙ ap (λ (l : List Event). inside ++ e ∷ l) (spanned-passes Outside tail rest (unspanned-pass tail unspanned))
+    ∙ ap (λ (l : List Event). inside ++ (l ++ (tail ++ spanned rest)))
+    (sym (ap (λ (l : List Event). end_of l) is ∙ end-is before e))
+lines-from options bytes name row (next ∷ rows) before inside e rest open_leaf together are is plain end ahead =
+    let s : IsSpanned IsNone IsFurther next.inside =
+    (span-laws name open_leaf).further_spanned options bytes next are.6 are.5 in
+    let next_is : next.inside ≡ s.begin ∷ s.inside ++ s.end ∷ [] = s.is
+    ∙ ap (λ (lead : List Event). lead ++ s.begin ∷ s.inside ++ s.end ∷ []) s.lead_plain in
+    let kind = together-kind next rows together.3 in
+    let prefixes : ArePrefixes next.front = fronts-prefixes bytes [] are.0 next.first next.front refl are.3 in
+    let ending : List Event = ending_events (ending_at row) row in
+    let more : List Event = s.inside ++ s.end ∷ (tail_events (ending_at next) next ++ (rows_events rows ++ rest)) in
+    let gap : List Event = ending ++ next.front in
+    let given : List Event = ending_events n.LineEnding row ++ next.front in
+    let S : List Event = span_rest its_events next rows in
+    let Z : List Event = end_of (last_row next rows).inside ++ (last_tail next rows ++ spanned rest) in
+    ap (λ (l : List Event). spanned_from Inside (inside ++ e ∷ l))
+    (ap₂ (λ (x y : List Event). x ++ y) (tail-none (ending_at row) row together.2)
+    (row-laid IsNone IsFurther next kind.0 (rows_events rows) rest kind.1 s
+    ∙ ap (λ (lead : List Event). next.front ++ (lead ++ s.begin ∷ more)) s.lead_plain)
+    ∙ sym (append_assoc ending next.front (s.begin ∷ more)))
+    ∙ line-joined inside e gap s.begin more plain end
+    (gap-no_blocks ending next.front (ending-no_blocks (ending_at row) row (ending-name row.kind row)) prefixes) s.begins
+    ∙ ap₂ (λ (x y : List Event). inside ++ (x ++ y))
+    (gap-between ending (ending_events n.LineEnding row) next.front
+    (ending-between (ending_at row) row (ending-name row.kind row)) prefixes)
+    (lines-from options bytes name next rows (s.begin ∷ s.inside) s.inside s.end rest open_leaf together.3 are.7
+    next_is s.inside_plain s.ends ahead)
+    ∙ ap (λ (l : List Event). inside ++ l)
+    (sym (append_assoc given s.inside (S ++ Z)) ∙ sym (append_assoc (given ++ s.inside) S Z)
+    ∙ ap (λ (l : List Event). ((given ++ l) ++ S) ++ Z)
+    (sym (ap (λ (l : List Event). but_ends l) next_is ∙ but_ends-is s.begin s.inside s.end)))
+
+-- they are joined, from the first to the last
+span-joined : (options : ParseOptions) (bytes : List ℕ) (row : Row) (rows : List Row) (rest : List Event) →
+    AreSpan options bytes row rows → Begins row → goes_on rest ≡ false →
+    spanned (rows_events (row ∷ rows) ++ rest) ≡ listed_group bytes (Span row rows) ++ spanned rest
+span-joined options bytes row rows rest are begins ahead =
+    let of_leaf : AreOfLeaf options bytes row rows = span-leaf options bytes row rows are begins in
+    let together : AreTogether row rows = span-together options bytes row rows are in
+    let kind = together-kind row rows together in
+    let s : IsSpanned AreUnspanned IsBegin row.inside =
+    (span-laws of_leaf.name of_leaf.open_leaf).first_spanned options bytes row of_leaf.is of_leaf.first in
+    let front : List Event = row.front in
+    let tail : List Event = tail_events (ending_at row) row in
+    let more : List Event = s.inside ++ s.end ∷ (tail ++ (rows_events rows ++ rest)) in
+    let S : List Event = span_rest its_events row rows in
+    let E : List Event = end_of (last_row row rows).inside in
+    let T : List Event = last_tail row rows ++ spanned rest in
+    ap spanned (row-laid AreUnspanned IsBegin row kind.0 (rows_events rows) rest kind.1 s)
+    ∙ spanned-passes Outside front (s.lead ++ s.begin ∷ more)
+    (unspanned-pass front (front-unspanned bytes row (span-front options bytes row rows are)))
+    ∙ ap (λ (l : List Event). front ++ l)
+    (spanned-passes Outside s.lead (s.begin ∷ more) (unspanned-pass s.lead s.lead_plain)
+    ∙ ap (λ (l : List Event). s.lead ++ l)
+    (line-begins Outside s.begin more s.begins
+    ∙ ap (λ (l : List Event). s.begin ∷ l)
+    (lines-from options bytes of_leaf.name row rows (s.lead ++ s.begin ∷ s.inside) s.inside s.end rest
+    of_leaf.open_leaf together of_leaf.behind s.is s.inside_plain s.ends ahead))
+    ∙ sym (append_assoc s.lead (s.begin ∷ s.inside) (S ++ (E ++ T)))
+    ∙ ap (λ (l : List Event). l ++ (S ++ (E ++ T)))
+    (sym (ap (λ (l : List Event). but_end l) s.is ∙ but_end-is (s.lead ++ s.begin ∷ s.inside) s.end))
+    ∙ sym (append_assoc (but_end row.inside) S (E ++ T)) ∙ sym (append_assoc (but_end row.inside ++ S) E T))
+    ∙ sym (append_assoc front (span_by its_events row rows) T)
+    ∙ sym (append_assoc (front ++ span_by its_events row rows) (last_tail row rows) (spanned rest))
+
+-- Other groups.
+
+blank-unspanned : (line : List ℕ) (p : Point) → AreUnspanned (blank_line line p)
+blank-unspanned [] p = tt
+blank-unspanned (b ∷ line) p = (refl, (refl, tt))
+
+single-unspanned : (options : ParseOptions) (bytes : List ℕ) (row : Row) → IsSingle options bytes row →
+    (kind : RowKind) → row.kind ≡ kind → AreUnspanned (listed_row_by bytes kind row)
+single-unspanned options bytes row is kind e =
+    each-append IsUnspanned (row.front ++ leaf_unread bytes kind row) (tail_events (ending_of kind row) row)
+    (each-append IsUnspanned row.front (leaf_unread bytes kind row) (front-unspanned bytes row is.front)
+    (unread kind e))
+    (tail-unspanned kind row)
+  where
+    unread : (kind : RowKind) → row.kind ≡ kind → AreUnspanned (leaf_unread bytes kind row)
+    unread BlankRow e = subst AreUnspanned (sym (is.is.blank e)) (blank-unspanned is.line row.first)
+    unread (LeafRow l) e =
+        subst (λ (line : List ℕ). AreUnspanned ((leaf l).unread line row.first)) (sym (is.is.text ∙ is.is.line_is))
+        ((laws l).unspanned (is.ends l e) options row.on is.is.rest row.first
+        (kind-starts options row.on is.is.rest l (sym is.is.kind ∙ e)))
+    unread TextRow e = absurd (is.other e)
+
+linked-unspanned : (link : Link) (row : Row) (rows : List Row) → EachPrefixed rows →
+    AreUnspanned (linked_lines n.Data link row rows)
+linked-unspanned link row [] h = (refl, (refl, tt))
+linked-unspanned link row (next ∷ rows) h = (
+  refl,
+  (
+    refl,
+    each-append IsUnspanned next.front (linked_lines n.Data link next rows)
+        (fronts-unspanned next.front (prefixes-front next.front h.0)) (linked-unspanned link next rows h.1),
+  ),
+)
+
+text-unspanned : (bytes : List ℕ) (row : Row) (rows : List Row) → EachPrefixed rows → HasFront bytes row →
+    AreUnspanned (listed_group bytes (Lines row rows))
+text-unspanned bytes row rows h front =
+    let last : Row = last_row row rows in
+    each-append IsUnspanned (row.front ++ text_unread row rows) (tail_events (ending_of TextRow last) last)
+    (each-append IsUnspanned row.front (text_unread row rows) (front-unspanned bytes row front) (
+      refl,
+      each-append IsUnspanned (unread_lines row rows) (exit text_leaf.name last.end ∷ [])
+          (linked-unspanned text_leaf.link row rows h) (refl, tt),
+    ))
+    (tail-unspanned TextRow last)
+
+-- Groups.
+
+-- no group begins with a further line
+groups-ahead : (options : ParseOptions) (bytes : List ℕ) (gs : List Group) → AreGroups options bytes gs →
+    goes_on (set_groups bytes gs) ≡ false
+groups-ahead options bytes [] are = refl
+groups-ahead options bytes (Single row ∷ gs) are =
+    plain-ahead (listed_group bytes (Single row)) (set_groups bytes gs)
+    (unspanned-lines (listed_group bytes (Single row)) (single-unspanned options bytes row are.0 row.kind refl))
+    (groups-ahead options bytes gs are.1)
+groups-ahead options bytes (Lines row rows ∷ gs) are =
+    plain-ahead (listed_group bytes (Lines row rows)) (set_groups bytes gs)
+    (unspanned-lines (listed_group bytes (Lines row rows))
+    (text-unspanned bytes row rows (lines-prefixed options bytes row rows are.0) are.2))
+    (groups-ahead options bytes gs are.3)
+groups-ahead options bytes (Span row rows ∷ gs) are =
+    let of_leaf : AreOfLeaf options bytes row rows = span-leaf options bytes row rows are.0 are.4 in
+    let kind = together-kind row rows (span-together options bytes row rows are.0) in
+    let s : IsSpanned AreUnspanned IsBegin row.inside =
+    (span-laws of_leaf.name of_leaf.open_leaf).first_spanned options bytes row of_leaf.is of_leaf.first in
+    let more : List Event = s.inside ++
+    s.end ∷ (tail_events (ending_at row) row ++ (rows_events rows ++ set_groups bytes gs)) in
+    ap goes_on (row-laid AreUnspanned IsBegin row kind.0 (rows_events rows) (set_groups bytes gs) kind.1 s)
+    ∙ plain-ahead row.front (s.lead ++ s.begin ∷ more)
+    (unspanned-lines row.front (front-unspanned bytes row (span-front options bytes row rows are.0)))
+    (plain-ahead s.lead (s.begin ∷ more) (unspanned-lines s.lead s.lead_plain) (begin-ahead s.begin more s.begins))
+
+passed : (es rest : List Event) → AreUnspanned es → spanned (es ++ rest) ≡ es ++ spanned rest
+passed es rest h = spanned-passes Outside es rest (unspanned-pass es h)
+
+-- so each leaf of several lines is joined by itself
+groups-joined : (options : ParseOptions) (bytes : List ℕ) (gs : List Group) → AreGroups options bytes gs →
+    spanned (set_groups bytes gs) ≡ listed_groups bytes gs
+groups-joined options bytes [] are = refl
+groups-joined options bytes (Single row ∷ gs) are =
+    passed (listed_group bytes (Single row)) (set_groups bytes gs)
+    (single-unspanned options bytes row are.0 row.kind refl)
+    ∙ ap (λ (l : List Event). listed_group bytes (Single row) ++ l) (groups-joined options bytes gs are.1)
+groups-joined options bytes (Lines row rows ∷ gs) are =
+    passed (listed_group bytes (Lines row rows)) (set_groups bytes gs)
+    (text-unspanned bytes row rows (lines-prefixed options bytes row rows are.0) are.2)
+    ∙ ap (λ (l : List Event). listed_group bytes (Lines row rows) ++ l) (groups-joined options bytes gs are.3)
+groups-joined options bytes (Span row rows ∷ gs) are =
+    span-joined options bytes row rows (set_groups bytes gs) are.0 are.4 (groups-ahead options bytes gs are.2)
+    ∙ ap (λ (l : List Event). listed_group bytes (Span row rows) ++ l) (groups-joined options bytes gs are.2)
+
+-- The resolvers of leaves have run, and the lines of each leaf of several are joined.
+pub lines-joined : (options : ParseOptions) (bytes : List ℕ) (open_before : List Container) (still : HeldLeaf)
+    (p : Point) (lines : List (List ℕ)) (rows : List Row) →
+    still_lines still ≡ false → AreRows options bytes open_before still p lines rows → EachNoContent rows →
+    spanned (resolved (unread_groups (groups rows))) ≡ listed_groups bytes (groups rows)
+lines-joined options bytes open_before still p lines rows shut are quiet =
+    ap spanned (leaves-set options bytes open_before still p lines rows shut are quiet)
+    ∙ groups-joined options bytes (groups rows) (groups-are options bytes open_before still p lines rows shut are quiet)
