@@ -45,7 +45,7 @@ kind_of m = cond (m == 36) OfMath OfFence
 abbrev pub begin_of : ℕ → Expression
 begin_of m = inside plain_text (block_name m)
 
-pub fence-name : ShowsFences → (m : ℕ) → IsLeafName (block_name m) (kind_of m)
+unfoldable pub fence-name : ShowsFences → (m : ℕ) → IsLeafName (block_name m) (kind_of m)
 fence-name shows m = record {
   is =
       by-marker (λ x. role (cond x n.MathFlow n.CodeFenced) ≡ Opens (cond x OfMath OfFence)) m refl refl;
