@@ -7,3 +7,4 @@ pub mod Plain
 pub mod First
 pub mod White
 pub mod Opening
+pub mod Laws

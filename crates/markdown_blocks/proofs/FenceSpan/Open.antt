@@ -45,7 +45,7 @@ kind_of m = cond (m == 36) OfMath OfFence
 abbrev pub begin_of : ℕ → Expression
 begin_of m = inside plain_text (block_name m)
 
-unfoldable pub fence-name : ShowsFences → (m : ℕ) → IsLeafName (block_name m) (kind_of m)
+pub fence-name : ShowsFences → (m : ℕ) → IsLeafName (block_name m) (kind_of m)
 fence-name shows m = record {
   is =
       by-marker (λ x. role (cond x n.MathFlow n.CodeFenced) ≡ Opens (cond x OfMath OfFence)) m refl refl;
@@ -64,6 +64,10 @@ fence-name shows m = record {
         by-marker
         (λ x. inside text (cond x n.MathFlow n.CodeFenced) ≡ inside plain_text (cond x n.MathFlow n.CodeFenced)) m refl
         refl
+
+pub fence-begin : (shows : ShowsFences) (m : ℕ) → (fence-name shows m).begin ≡ begin_of m
+unfolding fence-name
+fence-begin shows m = refl
 
 -- The same behind its opening fence, and in a further line.
 pub behind-same : (text : Expression) (m : ℕ) → behind_line text m ≡ behind_line plain_text m
