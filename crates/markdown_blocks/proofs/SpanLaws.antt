@@ -10,10 +10,9 @@ use Rattle.md_engine.specs.declared.event.Event.{Event}
 use Rattle.md_engine.specs.declared.event.Point.{Point}
 use Rattle.md_definition.specs.Leaves.{Came}
 use Rattle.md_definition.specs.Rest.{Rest}
-use Rattle.md_definition.specs.State.{NoLeaf, Spot, shut, then_block}
+use Rattle.md_definition.specs.State.{NoLeaf, shut, then_block}
 use Rattle.md_definition.specs.Step.{came}
 use Rattle.md_definition.specs.Tree.{Block, Blocks}
-use Rattle.md_leaves.specs.Spanned.{has_lines, links_back}
 use Rattle.md_leaves.proofs.SpannedLines.{IsBegin, IsEnd, IsFurther, NoLines}
 use Rattle.md_seam.specs.Substituted.{Readings}
 use Rattle.markdown_blocks.specs.Fronted.{rest_line}

@@ -1,6 +1,6 @@
 -- The opening line of fenced code or math as the first line of its block: what is known of what stands in it behind its
 -- begin.
-use Rattle.std.proofs.Common.{◌≡◌, ℕ, Bool, true, false, cond, List, [], ◌∷◌, ◌++◌, length, take, drop, refl, sym, ap, ◌∙◌}
+use Rattle.std.proofs.Common.{◌≡◌, ℕ, Bool, true, false, cond, List, [], ◌∷◌, length, take, drop, refl, sym, ap, ◌∙◌}
 use Rattle.std.proofs.Common.{◌||◌, not, suc, subst, arith}
 use Rattle.std.specs.Prelude.{◌==◌, Option, Some, None}
 use Rattle.std.proofs.lemmas.Bool.Decides.{nat_tests}
@@ -11,25 +11,22 @@ use Rattle.md_engine.specs.declared.event.Event.{Event}
 use Rattle.md_engine.specs.declared.event.Name.{Name}
 use Rattle.md_engine.specs.declared.event.Name.TheVariants as n
 use Rattle.md_engine.specs.declared.event.Point.{Point}
-use Rattle.md_containers.specs.ItemsStand.{IsPart}
-use Rattle.md_definition.specs.Leaves.{behind_word, fence_at, first_word, nonempty, opening}
-use Rattle.md_definition.specs.Rest.{Rest, indent, run_len, trim_start}
+use Rattle.md_definition.specs.Leaves.{behind_word, first_word, nonempty, opening}
+use Rattle.md_definition.specs.Rest.{run_len, trim_start}
 use Rattle.md_definition.specs.State.{Opening}
 use Rattle.md_definition.specs.Texts.{first_byte}
-use Rattle.md_lines.specs.Fence.{block_name, fence_name, sequence_name}
+use Rattle.md_lines.specs.Fence.{fence_name, sequence_name}
 use Rattle.md_seam.specs.Events.Grammar.{Expression, plain_text, unread_text}
-use Rattle.md_seam.specs.Events.Nested.{around, pair}
+use Rattle.md_seam.specs.Events.Nested.{around}
 use Rattle.md_seam.specs.Events.Pieces.{stands_over}
 use Rattle.md_seam.specs.Events.Places.{past_text}
 use Rattle.md_seam.specs.Events.Spelled.{OpenLeaf, Reading, fresh, read, role}
 use Rattle.md_seam.proofs.FeedLines.{past_text-whole}
 use Rattle.md_seam.proofs.EndingsLemmas.{AreOthers, stays-others}
 use Rattle.md_seam.proofs.GrammarLemmas.{Leads, leads-around}
-use Rattle.md_seam.proofs.SpelledLemmas.{Roles}
-use Rattle.md_outline.specs.Between.{is_between}
 use Rattle.md_outline.specs.Roles.{is_plain, is_told}
 use Rattle.md_seam.specs.Substituted.{Readings}
-use Rattle.markdown_blocks.specs.Leaf.Fence.{Inner, fence_parts, linked, opening_at, past_white, read_inner}
+use Rattle.markdown_blocks.specs.Leaf.Fence.{Inner, fence_parts, linked, past_white, read_inner}
 use Rattle.markdown_blocks.proofs.BetweenFacts.{AreBetween, around-between}
 use Rattle.markdown_blocks.proofs.Fence.Between as place
 use Rattle.markdown_blocks.proofs.Fence.Each.{by-math}
@@ -43,7 +40,7 @@ use Rattle.markdown_blocks.proofs.Fence.Walk.{Anywhere, parts-walk, sequence-ove
 use Rattle.markdown_blocks.proofs.Fence.Words.{Word, fence-word, linked-word, read-word}
 use Rattle.markdown_blocks.proofs.FenceFurther.Grammar.{behind_line}
 use Rattle.markdown_blocks.proofs.FenceFurther.Shown.{whole-clear}
-use Rattle.markdown_blocks.proofs.FenceSpan.Open.{AreMarks, ShowsFences, begin_of, by-marker, kind_of, leaf_by, leaf_of}
+use Rattle.markdown_blocks.proofs.FenceSpan.Open.{AreMarks, ShowsFences, begin_of, kind_of, leaf_by, leaf_of}
 use Rattle.markdown_blocks.proofs.FenceSpan.Plain.{walks-plain}
 use Rattle.markdown_blocks.proofs.FillFacts.{Fill, fill-around}
 use Rattle.markdown_blocks.proofs.LeafFacts.{ReadsString}
@@ -53,9 +50,8 @@ use Rattle.markdown_blocks.proofs.PartsStand.{Stands, stands-around}
 use Rattle.markdown_blocks.proofs.PieceFacts.{stood-around}
 use Rattle.markdown_blocks.proofs.PiecesLemmas.{Tiled, tiled-around}
 use Rattle.markdown_blocks.proofs.PlainFacts.{ArePlain, plain-around}
-use Rattle.markdown_blocks.proofs.RestFacts.{rest-trim}
-use Rattle.markdown_blocks.proofs.Span.Inside.{InsideFacts, ReadsLeaf}
-use Rattle.markdown_blocks.proofs.SpanLemmas.{Nested_in, around-nested}
+use Rattle.markdown_blocks.proofs.Span.Inside.{InsideFacts}
+use Rattle.markdown_blocks.proofs.SpanLemmas.{around-nested}
 
 -- What a fence opens, by what stands behind its whitespace.
 abbrev pub opened_by : ℕ → List ℕ → Opening

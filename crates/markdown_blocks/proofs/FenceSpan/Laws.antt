@@ -1,7 +1,7 @@
 -- The laws of fenced code and math with all their lines, joined.
 --
 -- What is still asked is that an outline knows the names of such blocks and of what stands in them (`ShowsFences`).
-use Rattle.std.proofs.Common.{◌≡◌, ℕ, Bool, true, false, ◌&&◌, not, List, [], ◌∷◌, ◌++◌, drop, refl, sym, ap, ◌∙◌, subst}
+use Rattle.std.proofs.Common.{◌≡◌, ℕ, Bool, true, false, not, List, [], ◌∷◌, ◌++◌, drop, refl, sym, ◌∙◌, subst}
 use Rattle.std.proofs.Common.{append_assoc}
 use Rattle.std.specs.Prelude.{Some}
 use Rattle.md_engine.specs.declared.configuration.ParseOptions.{ParseOptions}
@@ -12,12 +12,11 @@ use Rattle.md_engine.specs.declared.event.Name.{Name}
 use Rattle.md_engine.specs.declared.event.Name.TheVariants as n
 use Rattle.md_engine.specs.declared.event.Point.{Point}
 use Rattle.md_containers.specs.ItemsStand.{IsPart}
-use Rattle.md_definition.specs.Leaves.{Came, Opened}
+use Rattle.md_definition.specs.Leaves.{Opened}
 use Rattle.md_definition.specs.Rest.{Rest}
-use Rattle.md_definition.specs.State.{NoLeaf, OpenFence, Opening, shut, then_block}
-use Rattle.md_definition.specs.Step.{came}
+use Rattle.md_definition.specs.State.{OpenFence, Opening}
 use Rattle.md_definition.specs.Texts.{first_byte}
-use Rattle.md_definition.specs.Tree.{Block, Blocks}
+use Rattle.md_definition.specs.Tree.{Block}
 use Rattle.md_leaves.specs.Spanned.{has_lines}
 use Rattle.md_leaves.proofs.SpannedLines.{IsBegin, IsFurther, NoLines}
 use Rattle.md_lines.specs.Fence.{block_name, held_marker}
@@ -26,7 +25,7 @@ use Rattle.md_seam.specs.Events.Grammar.{Expression, plain_text}
 use Rattle.md_seam.specs.Events.Nested.{enter, enter_link, exit}
 use Rattle.md_seam.specs.Events.Places.{first_point}
 use Rattle.md_seam.specs.Events.Endings.{endings_stand_from}
-use Rattle.md_seam.specs.Events.Spelled.{OpenLeaf, Opens, Role, block_of, fresh, role}
+use Rattle.md_seam.specs.Events.Spelled.{OpenLeaf, Opens, Role, fresh, role}
 use Rattle.md_seam.specs.Substituted.{Readings}
 use Rattle.md_seam.proofs.EndingsLemmas.{AreOthers, Leads, Stays, in_leaf, leads-append, others-lead}
 use Rattle.md_seam.proofs.SpelledLemmas.{Roles}
@@ -47,7 +46,7 @@ use Rattle.markdown_blocks.proofs.FenceSpan.Rest.{HasRest, block_by, came-shut, 
 use Rattle.markdown_blocks.proofs.FenceSpan.Rest.{row_done, row_unread}
 use Rattle.markdown_blocks.proofs.FenceSpan.Walk.{rest-open}
 use Rattle.markdown_blocks.proofs.FillFacts.{filled-read}
-use Rattle.markdown_blocks.proofs.LeafFacts.{LeafFacts, ReadsString, ReadsText}
+use Rattle.markdown_blocks.proofs.LeafFacts.{LeafFacts, ReadsString}
 use Rattle.markdown_blocks.proofs.PartFacts.{NoLinks}
 use Rattle.markdown_blocks.proofs.Span.Inside.{InsideFacts}
 use Rattle.markdown_blocks.proofs.Span.Leaf.{IsLeafName}

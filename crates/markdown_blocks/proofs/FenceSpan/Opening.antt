@@ -13,13 +13,13 @@ use Rattle.md_definition.specs.Rest.{Rest, indent, is_white, trim_start}
 use Rattle.md_definition.specs.State.{Opening}
 use Rattle.md_definition.specs.Texts.{first_byte}
 use Rattle.md_lines.specs.Fence.{block_name}
-use Rattle.md_seam.specs.Events.Grammar.{Expression, plain_text}
+use Rattle.md_seam.specs.Events.Grammar.{plain_text}
 use Rattle.md_seam.specs.Events.Nested.{around, enter, exit, pair}
 use Rattle.md_seam.specs.Events.Places.{past_text}
-use Rattle.md_seam.specs.Events.Spelled.{OpenLeaf, fresh}
+use Rattle.md_seam.specs.Events.Spelled.{fresh}
 use Rattle.md_seam.specs.Events.Tiles.{plain_read}
 use Rattle.markdown_blocks.specs.Fronted.{rest_line}
-use Rattle.markdown_blocks.specs.Leaf.Fence.{Inner, fence_leaf, fence_line, linked, opening_at, past_white, read_inner}
+use Rattle.markdown_blocks.specs.Leaf.Fence.{fence_leaf, fence_line, linked, opening_at, past_white, read_inner}
 use Rattle.markdown_blocks.specs.Leaf.Fence.{white_part}
 use Rattle.markdown_blocks.specs.Leaf.FenceFurther.{is_fence}
 use Rattle.markdown_blocks.specs.Rows.{Row, but_end}
