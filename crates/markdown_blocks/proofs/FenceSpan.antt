@@ -6,3 +6,5 @@ pub mod Walk
 pub mod Plain
 pub mod First
 pub mod White
+pub mod Opening
+pub mod Laws

@@ -53,7 +53,7 @@ further-inside options bytes on r p q is =
     (without-end (enter_link name p further_link ∷ further_parts options on r p q) (exit name q))
 
 -- its begin is that of a further line, and its end the end of one
-block-lines : (m : ℕ) → has_lines (role (block_name m)) ≡ true
+pub block-lines : (m : ℕ) → has_lines (role (block_name m)) ≡ true
 block-lines m = either-name (λ name. has_lines (role name) ≡ true) (m == 36) _ _ refl refl
 
 pub further-begins : (m : ℕ) (p : Point) → IsFurther (enter_link (block_name m) p further_link)

@@ -1,32 +1,32 @@
 -- The opening line of fenced code or math as the first line of its block: what is known of what stands in it behind its
 -- begin.
-use Rattle.std.proofs.Common.{◌≡◌, ℕ, Bool, true, false, cond, List, [], ◌∷◌, ◌++◌, length, take, drop, refl, sym, ap, ◌∙◌}
+use Rattle.std.proofs.Common.{◌≡◌, ℕ, Bool, true, false, cond, List, [], ◌∷◌, length, take, drop, refl, sym, ap, ◌∙◌}
 use Rattle.std.proofs.Common.{◌||◌, not, suc, subst, arith}
 use Rattle.std.specs.Prelude.{◌==◌, Option, Some, None}
 use Rattle.std.proofs.lemmas.Bool.Decides.{nat_tests}
 use Rattle.md_engine.specs.declared.configuration.ParseOptions.{ParseOptions}
+use Rattle.md_engine.specs.declared.event.Content.{Content}
+use Rattle.md_engine.specs.declared.event.Content.TheVariants as content
 use Rattle.md_engine.specs.declared.event.Event.{Event}
 use Rattle.md_engine.specs.declared.event.Name.{Name}
 use Rattle.md_engine.specs.declared.event.Name.TheVariants as n
 use Rattle.md_engine.specs.declared.event.Point.{Point}
-use Rattle.md_containers.specs.ItemsStand.{IsPart}
-use Rattle.md_definition.specs.Leaves.{behind_word, fence_at, first_word, nonempty, opening}
-use Rattle.md_definition.specs.Rest.{Rest, indent, run_len, trim_start}
+use Rattle.md_definition.specs.Leaves.{behind_word, first_word, nonempty, opening}
+use Rattle.md_definition.specs.Rest.{run_len, trim_start}
 use Rattle.md_definition.specs.State.{Opening}
 use Rattle.md_definition.specs.Texts.{first_byte}
-use Rattle.md_lines.specs.Fence.{block_name, fence_name, sequence_name}
+use Rattle.md_lines.specs.Fence.{fence_name, sequence_name}
 use Rattle.md_seam.specs.Events.Grammar.{Expression, plain_text, unread_text}
-use Rattle.md_seam.specs.Events.Nested.{around, pair}
+use Rattle.md_seam.specs.Events.Nested.{around}
 use Rattle.md_seam.specs.Events.Pieces.{stands_over}
 use Rattle.md_seam.specs.Events.Places.{past_text}
 use Rattle.md_seam.specs.Events.Spelled.{OpenLeaf, Reading, fresh, read, role}
 use Rattle.md_seam.proofs.FeedLines.{past_text-whole}
 use Rattle.md_seam.proofs.EndingsLemmas.{AreOthers, stays-others}
 use Rattle.md_seam.proofs.GrammarLemmas.{Leads, leads-around}
-use Rattle.md_seam.proofs.SpelledLemmas.{Roles}
-use Rattle.md_outline.specs.Between.{is_between}
 use Rattle.md_outline.specs.Roles.{is_plain, is_told}
-use Rattle.markdown_blocks.specs.Leaf.Fence.{Inner, fence_parts, linked, opening_at, past_white, read_inner}
+use Rattle.md_seam.specs.Substituted.{Readings}
+use Rattle.markdown_blocks.specs.Leaf.Fence.{Inner, fence_parts, linked, past_white, read_inner}
 use Rattle.markdown_blocks.proofs.BetweenFacts.{AreBetween, around-between}
 use Rattle.markdown_blocks.proofs.Fence.Between as place
 use Rattle.markdown_blocks.proofs.Fence.Each.{by-math}
@@ -40,17 +40,18 @@ use Rattle.markdown_blocks.proofs.Fence.Walk.{Anywhere, parts-walk, sequence-ove
 use Rattle.markdown_blocks.proofs.Fence.Words.{Word, fence-word, linked-word, read-word}
 use Rattle.markdown_blocks.proofs.FenceFurther.Grammar.{behind_line}
 use Rattle.markdown_blocks.proofs.FenceFurther.Shown.{whole-clear}
-use Rattle.markdown_blocks.proofs.FenceSpan.Open.{AreMarks, ShowsFences, begin_of, by-marker, kind_of, leaf_by, leaf_of}
+use Rattle.markdown_blocks.proofs.FenceSpan.Open.{AreMarks, ShowsFences, begin_of, kind_of, leaf_by, leaf_of}
 use Rattle.markdown_blocks.proofs.FenceSpan.Plain.{walks-plain}
 use Rattle.markdown_blocks.proofs.FillFacts.{Fill, fill-around}
+use Rattle.markdown_blocks.proofs.LeafFacts.{ReadsString}
+use Rattle.markdown_blocks.proofs.SubstitutedLemmas.{Becomes, becomes-around}
 use Rattle.markdown_blocks.proofs.PartedFacts.{Sits, Still, around-sits, clear}
 use Rattle.markdown_blocks.proofs.PartsStand.{Stands, stands-around}
 use Rattle.markdown_blocks.proofs.PieceFacts.{stood-around}
 use Rattle.markdown_blocks.proofs.PiecesLemmas.{Tiled, tiled-around}
 use Rattle.markdown_blocks.proofs.PlainFacts.{ArePlain, plain-around}
-use Rattle.markdown_blocks.proofs.RestFacts.{rest-trim}
-use Rattle.markdown_blocks.proofs.Span.Inside.{InsideFacts, ReadsLeaf}
-use Rattle.markdown_blocks.proofs.SpanLemmas.{Nested_in, around-nested}
+use Rattle.markdown_blocks.proofs.Span.Inside.{InsideFacts}
+use Rattle.markdown_blocks.proofs.SpanLemmas.{around-nested}
 
 -- What a fence opens, by what stands behind its whitespace.
 abbrev pub opened_by : ℕ → List ℕ → Opening
@@ -226,3 +227,29 @@ first-facts shows options bytes line rest p columns is = record {
 
     untold : (x : Point) → (not (is_told (role (fence_name (first_byte (trim_start line))))) || clear bytes x) ≡ true
     untold x = ap (λ (b : Bool). not b || clear bytes x) (fence-untold (first_byte (trim_start line)))
+
+-- No ending stands there, and no begin or end of a leaf,
+pub first-others : (options : ParseOptions) (bytes line rest : List ℕ) (p e : Point) → Laid options bytes line p rest →
+    AreOthers (first_inside linked line p e) × AreOthers (first_inside (read_inner bytes) line p e)
+first-others options bytes line rest p e is =
+    let m = first_byte (trim_start line) in
+    let q = past_white line p in
+    let walked = line-walk options bytes linked (read_inner bytes) Anywhere kept.Both (kept.walks-others bytes) line rest p
+    is tt tt in
+    let other : kept.Other (fence_name m) =
+    by-math kept.Other (m == 36) n.MathFlowFence n.CodeFencedFence refl refl in (
+      kept.others-around (fence_name m) q e (fence_parts linked m (trim_start line) q) other walked.parts.0,
+      kept.others-around (fence_name m) q e (fence_parts (read_inner bytes) m (trim_start line) q) other walked.parts.1,
+    )
+
+-- and whoever reads its strings as the plain layer does gives what is read there.
+pub first-becomes : (options : ParseOptions) (bytes line rest : List ℕ) (p e : Point) → Laid options bytes line p rest →
+    (wants : Content → Bool) (reads : Readings) → wants content.String ≡ true → ReadsString bytes reads →
+    Becomes wants reads (first_inside linked line p e) (first_inside (read_inner bytes) line p e)
+first-becomes options bytes line rest p e is wants reads w rs =
+    let m = first_byte (trim_start line) in
+    let q = past_white line p in
+    let walked = line-walk options bytes linked (read_inner bytes) Anywhere (λ p q es ds. Becomes wants reads es ds)
+    (texts.walks-become bytes wants reads w rs) line rest p is tt tt in
+    becomes-around wants reads (fence_name m) q e (fence_parts linked m (trim_start line) q)
+    (fence_parts (read_inner bytes) m (trim_start line) q) walked.parts

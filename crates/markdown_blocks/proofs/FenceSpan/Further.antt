@@ -1,8 +1,8 @@
 -- A further line of fenced code or math in its block: what is known of what stands in it.
 use Rattle.std.proofs.Common.{◌≡◌, ℕ, zero, suc, ◌≤◌, Bool, true, false, cond, List, [], ◌∷◌, ◌++◌, length, drop, refl, sym, ap, ◌∙◌}
 use Rattle.std.proofs.Common.{subst, arith}
-use Rattle.std.specs.Prelude.{◌==◌, Option, Some}
-use Rattle.std.proofs.lemmas.Bool.{and_parts, eq-eqb, eqb-true}
+use Rattle.std.specs.Prelude.{◌==◌, Some}
+use Rattle.std.proofs.lemmas.Bool.{and_parts, eqb-true}
 use Rattle.std.proofs.lemmas.List.{drop_all}
 use Rattle.md_engine.specs.declared.configuration.ParseOptions.{ParseOptions}
 use Rattle.md_engine.specs.declared.event.Event.{Event}
@@ -14,7 +14,7 @@ use Rattle.md_definition.specs.State.{Opening}
 use Rattle.md_definition.specs.Tree.{Line}
 use Rattle.md_lines.specs.Fence.{held_indent, held_marker}
 use Rattle.md_seam.specs.Events.Grammar.{Expression, Nothing, plain_text, unread_text}
-use Rattle.md_seam.specs.Events.Places.{past_text, same_place}
+use Rattle.md_seam.specs.Events.Places.{past_text}
 use Rattle.md_seam.specs.Events.Spelled.{OpenLeaf, Reading, next_line}
 use Rattle.md_seam.proofs.GrammarLemmas.{Leads}
 use Rattle.markdown_blocks.specs.Fronted.{rest_line}

@@ -1,14 +1,13 @@
 -- Fenced code and math while they are open: their name, what they are as they are read, and their block.
-use Rattle.std.proofs.Common.{◌≡◌, ℕ, Bool, true, false, cond, List, [], ◌∷◌, ◌++◌, length, refl, ap, ◌∙◌}
+use Rattle.std.proofs.Common.{◌≡◌, ℕ, Bool, true, false, cond, List, length, refl, ap}
 use Rattle.std.specs.Prelude.{◌==◌, Option, None}
 use Rattle.md_engine.specs.declared.event.Name.TheVariants as n
-use Rattle.md_engine.specs.declared.tokenizer.held_leaf.HeldLeaf.{HeldLeaf}
 use Rattle.md_containers.specs.Unlisted.{in_place}
 use Rattle.md_definition.specs.State.{Opening, fence_block}
 use Rattle.md_definition.specs.Texts.{first_byte}
 use Rattle.md_definition.specs.Tree as t
 use Rattle.md_definition.specs.Tree.{Line}
-use Rattle.md_lines.specs.Fence.{block_name, fence_name}
+use Rattle.md_lines.specs.Fence.{block_name}
 use Rattle.md_outline.specs.Roles.{is_plain}
 use Rattle.md_seam.specs.Events.Endings.{IsLeaf, on_line}
 use Rattle.md_seam.specs.Events.Grammar.{Expression, behind, behind_block, blocks, inside, plain_text}
@@ -64,6 +63,10 @@ fence-name shows m = record {
         by-marker
         (λ x. inside text (cond x n.MathFlow n.CodeFenced) ≡ inside plain_text (cond x n.MathFlow n.CodeFenced)) m refl
         refl
+
+pub fence-begin : (shows : ShowsFences) (m : ℕ) → (fence-name shows m).begin ≡ begin_of m
+unfolding fence-name
+fence-begin shows m = refl
 
 -- The same behind its opening fence, and in a further line.
 pub behind-same : (text : Expression) (m : ℕ) → behind_line text m ≡ behind_line plain_text m

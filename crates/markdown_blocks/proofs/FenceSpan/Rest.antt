@@ -1,8 +1,8 @@
 -- The further lines of fenced code or math, one by one, as long as the block is open: from what each is follows what
 -- the block comes to with them, as events and by the line definition.
-use Rattle.std.proofs.Common.{◌≡◌, ℕ, Bool, true, false, cond, ◌&&◌, ◌||◌, not, List, [], ◌∷◌, ◌++◌, length, drop, refl}
+use Rattle.std.proofs.Common.{◌≡◌, ℕ, Bool, true, false, cond, ◌&&◌, ◌||◌, not, List, [], ◌∷◌, ◌++◌, drop, refl}
 use Rattle.std.proofs.Common.{sym, ap, ap₂, ◌∙◌, subst}
-use Rattle.std.specs.Prelude.{◌==◌, nat_le, nat_lt, Some, if◌then◌else◌}
+use Rattle.std.specs.Prelude.{◌==◌, Some, if◌then◌else◌}
 use Rattle.std.specs.List.{list_all}
 use Rattle.std.proofs.lemmas.Bool.{and_parts, true≢false}
 use Rattle.md_engine.specs.declared.configuration.ParseOptions.{ParseOptions}
@@ -13,9 +13,7 @@ use Rattle.md_engine.specs.declared.event.Name.{Name}
 use Rattle.md_engine.specs.declared.event.Name.TheVariants as n
 use Rattle.md_engine.specs.declared.event.Point.{Point}
 use Rattle.md_engine.specs.declared.tokenizer.held_leaf.HeldLeaf.{HeldLeaf}
-use Rattle.md_engine.specs.declared.tokenizer.held_leaf.HeldLeaf.TheVariants as held_leaf
-use Rattle.md_definition.specs.Leaves.{Came, Finished, Opened, closes}
-use Rattle.md_definition.specs.Rest.{Rest, line_of, lose}
+use Rattle.md_definition.specs.Leaves.{Came, Finished, Opened}
 use Rattle.md_definition.specs.State.{OpenFence, Opening, fence_block, shut, then_block}
 use Rattle.md_definition.specs.Step.{came}
 use Rattle.md_definition.specs.Tree as t
@@ -23,33 +21,28 @@ use Rattle.md_definition.specs.Tree.{Block, Blocks, Line}
 use Rattle.md_lines.specs.Fence.{block_name}
 use Rattle.md_lines.specs.Further.{further_link}
 use Rattle.md_seam.specs.Events.Endings.{Ends, IsLeaf, IsOther, OnLine, endings_stand_from, ends_rightly, on_line, spot_behind}
-use Rattle.md_seam.specs.Events.Grammar.{Expression, Nothing, behind, may_end, plain_text}
+use Rattle.md_seam.specs.Events.Grammar.{Expression, behind, may_end}
 use Rattle.md_seam.specs.Events.Inline.{is_linked}
-use Rattle.md_seam.specs.Events.Nested.{Balanced, Fits, enter_link, exit, pair}
-use Rattle.md_seam.specs.Events.Spelled.{OpenLeaf, block_of, next_line}
+use Rattle.md_seam.specs.Events.Nested.{Balanced, Fits, enter_link, exit}
+use Rattle.md_seam.specs.Events.Spelled.{OpenLeaf, block_of}
 use Rattle.md_seam.specs.Events.Tiles.{plain_read}
 use Rattle.md_seam.proofs.EndingsLemmas.{AreOthers, Leads, in_leaf, is_other, leads-append, others-lead}
 use Rattle.markdown_blocks.specs.Fronted.{rest_line}
-use Rattle.markdown_blocks.specs.Leaf.FenceFurther.{fence_comes, fence_further, further_holds, further_parts, is_fence}
-use Rattle.markdown_blocks.specs.Leaf.FenceFurther.{opening_of}
+use Rattle.markdown_blocks.specs.Leaf.FenceFurther.{fence_further, further_parts, is_fence}
 use Rattle.markdown_blocks.specs.Rows.{Row, but_ends, ending_events, last_row, span_rest}
 use Rattle.markdown_blocks.proofs.ContainerNames.{TakesPrefixes}
 use Rattle.markdown_blocks.proofs.EachEvent.{each-append}
-use Rattle.markdown_blocks.proofs.FenceFurther.Definition.{further-goes, held_of}
-use Rattle.markdown_blocks.proofs.FenceFurther.Grammar.{behind-line-ends, ending-line, further_left, in-line-ends, in_line}
-use Rattle.markdown_blocks.proofs.FenceFurther.Grammar.{left_by, prefix-line, white-line}
+use Rattle.markdown_blocks.proofs.FenceFurther.Definition.{held_of}
 use Rattle.markdown_blocks.proofs.FenceFurther.Inside.{further-placed}
 use Rattle.markdown_blocks.proofs.FenceFurther.Joined.{further-is}
 use Rattle.markdown_blocks.proofs.FenceFurther.Parts.{further-others, further-unlinked}
 use Rattle.markdown_blocks.proofs.FenceFurther.Places.{FurtherAt, further-rest}
 use Rattle.markdown_blocks.proofs.FenceFurther.Shown.{left-clear}
-use Rattle.markdown_blocks.proofs.FenceSpan.Further.{IsBare, bare-facts, bare-same, closing-reads, end-bare, further-facts}
-use Rattle.markdown_blocks.proofs.FenceSpan.Further.{line-reads, same-bare}
-use Rattle.markdown_blocks.proofs.FenceSpan.Open.{AreMarks, ShowsFences, block-is, leaf_of}
+use Rattle.markdown_blocks.proofs.FenceSpan.Further.{bare-same}
+use Rattle.markdown_blocks.proofs.FenceSpan.Further.{same-bare}
 use Rattle.markdown_blocks.proofs.FrontFacts.{LinePrefix}
 use Rattle.markdown_blocks.proofs.FrontLemmas.{fronts-balanced}
 use Rattle.markdown_blocks.proofs.FrontNames.{fronts-unlinked}
-use Rattle.markdown_blocks.proofs.FrontPlaces.{fronts-grow}
 use Rattle.markdown_blocks.proofs.FrontStands.{fronts-others}
 use Rattle.markdown_blocks.proofs.PartedFacts.{clear}
 use Rattle.markdown_blocks.proofs.PartFacts.{IsUnlinked, NoLinks}
@@ -57,7 +50,7 @@ use Rattle.markdown_blocks.proofs.RowFacts.{IsEnding}
 use Rattle.markdown_blocks.proofs.Span.Cuts.{but_ends-is, ending-is}
 use Rattle.markdown_blocks.proofs.Span.Inside.{InsideFacts, behind_ending}
 use Rattle.markdown_blocks.proofs.Span.Lines.{AreFurther, SpanLine, ends-by}
-use Rattle.markdown_blocks.proofs.SpanLaws.{AreBehind, IsLineOf, come_behind, is_bare, is_bare_row}
+use Rattle.markdown_blocks.proofs.SpanLaws.{IsLineOf, is_bare, is_bare_row}
 
 -- What is read of a line: a further one, which is linked to the one in front, has no text parts.
 abbrev pub goes_back : List Event → Bool

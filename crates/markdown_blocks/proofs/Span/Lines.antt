@@ -138,7 +138,7 @@ span-line bytes unread done name x left from to row e f us es whole begin unread
 -- The last of them, and what stands behind one.
 
 -- the last line ends the leaf
-last-ends : (bytes : List ℕ) (unread done : Row → List Event) (name : Name) (left : Expression) (leaf to : OpenLeaf)
+pub last-ends : (bytes : List ℕ) (unread done : Row → List Event) (name : Name) (left : Expression) (leaf to : OpenLeaf)
     (row : Row) (rows : List Row) →
     EndsLeaf unread done name row → AreFurther bytes unread done name left leaf to row rows →
     EndsLeaf unread done name (last_row row rows)

@@ -1,0 +1,334 @@
+-- The laws of fenced code and math with all their lines, joined.
+--
+-- What is still asked is that an outline knows the names of such blocks and of what stands in them (`ShowsFences`).
+use Rattle.std.proofs.Common.{◌≡◌, ℕ, Bool, true, false, not, List, [], ◌∷◌, ◌++◌, drop, refl, sym, ◌∙◌, subst}
+use Rattle.std.proofs.Common.{append_assoc}
+use Rattle.std.specs.Prelude.{Some}
+use Rattle.md_engine.specs.declared.configuration.ParseOptions.{ParseOptions}
+use Rattle.md_engine.specs.declared.event.Content.{Content}
+use Rattle.md_engine.specs.declared.event.Content.TheVariants as content
+use Rattle.md_engine.specs.declared.event.Event.{Event}
+use Rattle.md_engine.specs.declared.event.Name.{Name}
+use Rattle.md_engine.specs.declared.event.Name.TheVariants as n
+use Rattle.md_engine.specs.declared.event.Point.{Point}
+use Rattle.md_containers.specs.ItemsStand.{IsPart}
+use Rattle.md_definition.specs.Leaves.{Opened}
+use Rattle.md_definition.specs.Rest.{Rest}
+use Rattle.md_definition.specs.State.{OpenFence, Opening}
+use Rattle.md_definition.specs.Texts.{first_byte}
+use Rattle.md_definition.specs.Tree.{Block}
+use Rattle.md_leaves.specs.Spanned.{has_lines}
+use Rattle.md_leaves.proofs.SpannedLines.{IsBegin, IsFurther, NoLines}
+use Rattle.md_lines.specs.Fence.{block_name, held_marker}
+use Rattle.md_lines.specs.Further.{further_link}
+use Rattle.md_seam.specs.Events.Grammar.{Expression, plain_text}
+use Rattle.md_seam.specs.Events.Nested.{enter, enter_link, exit}
+use Rattle.md_seam.specs.Events.Places.{first_point}
+use Rattle.md_seam.specs.Events.Endings.{endings_stand_from}
+use Rattle.md_seam.specs.Events.Spelled.{OpenLeaf, Opens, Role, fresh, role}
+use Rattle.md_seam.specs.Substituted.{Readings}
+use Rattle.md_seam.proofs.EndingsLemmas.{AreOthers, Leads, Stays, in_leaf, leads-append, others-lead}
+use Rattle.md_seam.proofs.SpelledLemmas.{Roles}
+use Rattle.markdown_blocks.specs.Fronted.{rest_line}
+use Rattle.markdown_blocks.specs.Leaf.Fence.{fence_leaf, linked, opening_at, past_white, read_inner, white_part}
+use Rattle.markdown_blocks.specs.Leaf.FenceFurther.{fence_further, further_parts}
+use Rattle.markdown_blocks.specs.Rows.{Row, but_end, end_of, last_row, span_by, span_done, span_rest}
+use Rattle.markdown_blocks.proofs.Fence.Kept as kept
+use Rattle.markdown_blocks.proofs.FenceFurther.Grammar.{behind-line-ends, behind_line}
+use Rattle.markdown_blocks.proofs.FenceFurther.Joined.{block-lines, further-begins, further-ends, further-is}
+use Rattle.markdown_blocks.proofs.FenceFurther.Parts.{further-lines}
+use Rattle.markdown_blocks.proofs.FenceSpan.First.{first-becomes, first-others, first_inside, marks_of}
+use Rattle.markdown_blocks.proofs.FenceSpan.Open.{ShowsFences, fence-begin, fence-name, kind_of, leaf_of}
+use Rattle.markdown_blocks.proofs.FenceSpan.Opening.{begin-is, done-is, line-ends, line-fence, line-full, line-held}
+use Rattle.markdown_blocks.proofs.FenceSpan.Opening.{line-inside, line-laid, line-lead, line-marks, name_of, opening-same}
+use Rattle.markdown_blocks.proofs.FenceSpan.Opening.{opening_of, text_of, unread-is}
+use Rattle.markdown_blocks.proofs.FenceSpan.Rest.{HasRest, block_by, came-shut, full-last, full_behind, further-at}
+use Rattle.markdown_blocks.proofs.FenceSpan.Rest.{row_done, row_unread}
+use Rattle.markdown_blocks.proofs.FenceSpan.Walk.{rest-open}
+use Rattle.markdown_blocks.proofs.FillFacts.{filled-read}
+use Rattle.markdown_blocks.proofs.LeafFacts.{LeafFacts, ReadsString}
+use Rattle.markdown_blocks.proofs.PartFacts.{NoLinks}
+use Rattle.markdown_blocks.proofs.Span.Inside.{InsideFacts}
+use Rattle.markdown_blocks.proofs.Span.Leaf.{IsLeafName}
+use Rattle.markdown_blocks.proofs.Span.Lines.{EndsLeaf, SpanFirst, last-ends, span-facts, span-inside}
+use Rattle.markdown_blocks.proofs.SpanLaws.{AreBehind, IsLineOf, IsSpanned, SpanLaws, come_behind, is_bare_row}
+use Rattle.markdown_blocks.proofs.SubstitutedLemmas.{Becomes, becomes-append, becomes-same, no_links-unwanted}
+
+-- Each line by itself.
+
+-- parts of a leaf are of no line
+part-lines : (x : Role) → IsPart x → has_lines x ≡ false
+part-lines (Opens kind) h = absurd h
+part-lines _ h = refl
+
+parts-lines : (es : List Event) → Roles IsPart es → NoLines es
+parts-lines [] h = tt
+parts-lines (e ∷ es) h = (part-lines (role e.name) h.0, parts-lines es h.1)
+
+first-spanned : (options : ParseOptions) (bytes : List ℕ) (row : Row) → IsLineOf options bytes fence_leaf row →
+    IsSpanned IsBegin row.inside
+first-spanned options bytes row is =
+    let line = rest_line is.rest in
+    let m = first_byte (text_of is.rest) in
+    let at = past_white line row.first in
+    record {
+      lead = white_part line row.first;
+      begin = enter (block_name m) at;
+      inside = first_inside linked line row.first row.end;
+      end = exit (block_name m) row.end;
+      is =
+          unread-is options bytes row is
+          ∙ sym
+          (append_assoc (white_part line row.first)
+          (enter (block_name m) at ∷ first_inside linked line row.first row.end)
+          (exit (block_name m) row.end ∷ []));
+      lead_plain = parts-lines (white_part line row.first) (kept.white-roles IsPart tt line row.first);
+      begins = record { kind = refl; lines = block-lines m; link = refl };
+      inside_plain =
+          parts-lines (first_inside linked line row.first row.end)
+          (kept.inside-parts linked kept.linked-parts m (text_of is.rest) at row.end);
+      ends = further-ends m row.end;
+    }
+
+further-spanned : (options : ParseOptions) (bytes : List ℕ) (row : Row) → IsLineOf options bytes fence_further row →
+    IsSpanned IsFurther row.inside
+further-spanned options bytes row is =
+    let m = held_marker row.on in record {
+      lead = [];
+      begin = enter_link (block_name m) row.first further_link;
+      inside = further_parts options row.on is.rest row.first row.end;
+      end = exit (block_name m) row.end;
+      is = is.inside ∙ further-is options bytes row.on is.rest row.first row.end (further-at options bytes row is);
+      lead_plain = tt;
+      begins = further-begins m row.first;
+      inside_plain = further-lines options row.on is.rest row.first row.end;
+      ends = further-ends m row.end;
+    }
+
+-- All lines.
+
+-- what stands behind the first
+rest-of : ShowsFences → (options : ParseOptions) (bytes : List ℕ) (row : Row) (rows : List Row) →
+    (is : IsLineOf options bytes fence_leaf row) → (are : AreBehind options bytes fence_further row rows) →
+    HasRest bytes (opening_of is.rest) (behind_line plain_text (first_byte (text_of is.rest)))
+    (leaf_of (opening_of is.rest) (marks_of (text_of is.rest)) [] false) row rows
+    (come_behind options bytes fence_further row rows are (Opened (OpenFence (opening_at is.rest) [])))
+rest-of shows options bytes row rows is are =
+    subst
+    (λ (o : Opening).
+    HasRest bytes (opening_of is.rest) (behind_line plain_text m) leaf row rows
+    (come_behind options bytes fence_further row rows are (Opened (OpenFence o [])))) (sym (opening-same is.rest))
+    (rest-open shows options bytes (opening_of is.rest) (marks_of (text_of is.rest)) row rows
+    (line-marks options bytes row is) (line-fence options bytes row is) [] (behind_line plain_text m)
+    (behind-line-ends plain_text m) refl (line-held options bytes row is) are)
+  where
+    m : ℕ
+    m = first_byte (text_of is.rest)
+
+    leaf : OpenLeaf
+    leaf = leaf_of (opening_of is.rest) (marks_of (text_of is.rest)) [] false
+
+-- Where events lead that stay in a leaf is told by them alone.
+stays-same : (es : List Event) (h : Stays es) (full : Bool) → Leads (in_leaf true) (in_leaf full) es →
+    (h true).0 ≡ full
+stays-same es h full leads = told (h true).0 full (sym ((h true).1 ending) ∙ leads ending)
+  where
+    -- behind a leaf stands its ending, if its last line is filled
+    ending : List Event
+    ending = exit n.CodeFenced first_point ∷ enter n.LineEnding first_point ∷ []
+
+    told : (a b : Bool) → endings_stand_from (in_leaf a) ending ≡ endings_stand_from (in_leaf b) ending → a ≡ b
+    told true true e = refl
+    told false false e = refl
+    told true false e = cc
+    told false true e = cc
+
+-- The facts.
+
+span-of : ShowsFences → (options : ParseOptions) (bytes : List ℕ) (row : Row) (rows : List Row) →
+    (is : IsLineOf options bytes fence_leaf row) → (are : AreBehind options bytes fence_further row rows) →
+    LeafFacts bytes
+    (Some (block_by (come_behind options bytes fence_further row rows are (Opened (OpenFence (opening_at is.rest) [])))))
+    (not (is_bare_row (last_row row rows))) row.first (last_row row rows).end (span_by row_unread row rows)
+    (span_by (row_done bytes) row rows)
+span-of shows options bytes row rows is are =
+    subst
+    (λ (b : Block).
+    LeafFacts bytes (Some b) full row.first (last_row row rows).end (span_by row_unread row rows)
+    (span_by (row_done bytes) row rows)) rest.block
+    (span-facts bytes row_unread (row_done bytes) name (kind_of m) rest.to row rows full named first rest.further
+    (stays-same (us ++ span_rest row_unread row rows)
+    (span-inside bytes row_unread (row_done bytes) name (kind_of m) rest.to row rows named first rest.further).unread_stays
+    full (filled us (span_rest row_unread row rows) others.0 rest.fills))
+    (stays-same (es ++ span_rest (row_done bytes) row rows)
+    (span-inside bytes row_unread (row_done bytes) name (kind_of m) rest.to row rows named first rest.further).stays
+    full
+    (filled es (span_rest (row_done bytes) row rows) others.1
+    (λ x.
+    subst (λ (l : List Event). Leads (in_leaf x) (in_leaf (full_behind x rows)) l) (sym rest.same) (rest.fills x)))))
+  where
+    r : Rest
+    r = is.rest
+
+    m : ℕ
+    m = first_byte (text_of is.rest)
+
+    name : Name
+    name = name_of is.rest
+
+    at : Point
+    at = past_white (rest_line is.rest) row.first
+
+    us : List Event
+    us = first_inside linked (rest_line is.rest) row.first row.end
+
+    es : List Event
+    es = first_inside (read_inner bytes) (rest_line is.rest) row.first row.end
+
+    full : Bool
+    full = not (is_bare_row (last_row row rows))
+
+    leaf : OpenLeaf
+    leaf = leaf_of (opening_of is.rest) (marks_of (text_of is.rest)) [] false
+
+    named : IsLeafName name (kind_of m)
+    named = fence-name shows m
+
+    first : SpanFirst bytes row_unread (row_done bytes) name named.begin (fresh (kind_of m)) row
+    first = record {
+      ends = line-ends options bytes row is;
+      lead = white_part (rest_line is.rest) row.first;
+      at = at;
+      lead_is = line-lead options bytes row is;
+      unread_inside = us;
+      inside = es;
+      unread_is =
+          begin-is name at row.end (white_part (rest_line is.rest) row.first) row.inside us
+          (unread-is options bytes row is);
+      is =
+          begin-is name at row.end (white_part (rest_line is.rest) row.first) (row_done bytes row) es
+          (done-is options bytes row is);
+      unread_starts = refl;
+      starts = refl;
+      left = behind_line plain_text m;
+      leaf = leaf;
+      facts =
+          subst
+          (λ (x : Expression). InsideFacts bytes at row.end x (behind_line plain_text m) (fresh (kind_of m)) leaf us es)
+          (sym (fence-begin shows m)) (line-inside shows options bytes row is);
+    }
+
+    rest :
+        HasRest bytes (opening_of is.rest) (behind_line plain_text (first_byte (text_of is.rest)))
+        (leaf_of (opening_of is.rest) (marks_of (text_of is.rest)) [] false) row rows
+        (come_behind options bytes fence_further row rows are (Opened (OpenFence (opening_at is.rest) [])))
+    rest = rest-of shows options bytes row rows is are
+
+    others : AreOthers us × AreOthers es
+    others =
+        first-others options bytes (rest_line is.rest) (drop row.end.index bytes) row.first row.end
+        (line-laid options bytes row is)
+
+    -- the first line is filled, so the last one is by itself
+    filled : (xs ys : List Event) → AreOthers xs →
+        ((x : Bool) → Leads (in_leaf x) (in_leaf (full_behind x rows)) ys) →
+        Leads (in_leaf true) (in_leaf full) (xs ++ ys)
+    filled xs ys h k =
+        subst (λ (x : Bool). Leads (in_leaf true) (in_leaf x) (xs ++ ys))
+        (full-last true row rows (sym (line-full options bytes row is)))
+        (leads-append (in_leaf true) (in_leaf true) (in_leaf (full_behind true rows)) xs ys
+        (others-lead (in_leaf true) xs refl h) (k true))
+
+-- what is read of them all is read of each
+done-read : ShowsFences → (options : ParseOptions) (bytes : List ℕ) (row : Row) (rows : List Row) →
+    IsLineOf options bytes fence_leaf row → AreBehind options bytes fence_further row rows →
+    span_by (row_done bytes) row rows ≡ span_done bytes row rows
+done-read shows options bytes row rows is are =
+    sym
+    (filled-read bytes (span_by row_unread row rows) (span_by (row_done bytes) row rows)
+    (span-of shows options bytes row rows is are).filled)
+
+-- Whoever reads strings as the plain layer does gives that.
+span-becomes : ShowsFences → (options : ParseOptions) (bytes : List ℕ) (row : Row) (rows : List Row) →
+    IsLineOf options bytes fence_leaf row → AreBehind options bytes fence_further row rows →
+    (wants : Content → Bool) (reads : Readings) → wants content.String ≡ true → ReadsString bytes reads →
+    Becomes wants reads (span_by row_unread row rows) (span_by (row_done bytes) row rows)
+span-becomes shows options bytes row rows is are wants reads w rs =
+    becomes-append wants reads (but_end row.inside ++ span_rest row_unread row rows)
+    (but_end (row_done bytes row) ++ span_rest (row_done bytes) row rows) (end_of (last_row row rows).inside)
+    (end_of (row_done bytes (last_row row rows)))
+    (becomes-append wants reads (but_end row.inside) (but_end (row_done bytes row)) (span_rest row_unread row rows)
+    (span_rest (row_done bytes) row rows) begins
+    (subst (λ (es : List Event). Becomes wants reads (span_rest row_unread row rows) es) (sym rest.same)
+    (same (span_rest row_unread row rows) rest.unlinked)))
+    (subst (λ (xs : List Event). Becomes wants reads xs (end_of (row_done bytes (last_row row rows))))
+    (sym ends.unread_end)
+    (subst (λ (xs : List Event). Becomes wants reads (exit name (last_row row rows).end ∷ []) xs) (sym ends.end)
+    (same (exit name (last_row row rows).end ∷ []) (refl, tt))))
+  where
+    name : Name
+    name = name_of is.rest
+
+    at : Point
+    at = past_white (rest_line is.rest) row.first
+
+    front : List Event
+    front = white_part (rest_line is.rest) row.first
+
+    us : List Event
+    us = first_inside linked (rest_line is.rest) row.first row.end
+
+    es : List Event
+    es = first_inside (read_inner bytes) (rest_line is.rest) row.first row.end
+
+    same : (xs : List Event) → NoLinks xs → Becomes wants reads xs xs
+    same xs h = becomes-same wants reads xs (no_links-unwanted wants xs h)
+
+    rest :
+        HasRest bytes (opening_of is.rest) (behind_line plain_text (first_byte (text_of is.rest)))
+        (leaf_of (opening_of is.rest) (marks_of (text_of is.rest)) [] false) row rows
+        (come_behind options bytes fence_further row rows are (Opened (OpenFence (opening_at is.rest) [])))
+    rest = rest-of shows options bytes row rows is are
+
+    ends : EndsLeaf row_unread (row_done bytes) name (last_row row rows)
+    ends =
+        last-ends bytes row_unread (row_done bytes) name (behind_line plain_text (first_byte (text_of is.rest)))
+        (leaf_of (opening_of is.rest) (marks_of (text_of is.rest)) [] false) rest.to row rows
+        (line-ends options bytes row is) rest.further
+
+    begins : Becomes wants reads (but_end row.inside) (but_end (row_done bytes row))
+    begins =
+        subst (λ (xs : List Event). Becomes wants reads xs (but_end (row_done bytes row)))
+        (sym (begin-is name at row.end front row.inside us (unread-is options bytes row is)))
+        (subst (λ (xs : List Event). Becomes wants reads (front ++ enter name at ∷ us) xs)
+        (sym (begin-is name at row.end front (row_done bytes row) es (done-is options bytes row is)))
+        (becomes-append wants reads front front (enter name at ∷ us) (enter name at ∷ es)
+        (same front (line-lead options bytes row is).unlinked)
+        (becomes-append wants reads (enter name at ∷ []) (enter name at ∷ []) us es
+        (same (enter name at ∷ []) (refl, tt))
+        (first-becomes options bytes (rest_line is.rest) (drop row.end.index bytes) row.first row.end
+        (line-laid options bytes row is) wants reads w rs))))
+
+-- The laws.
+pub fence-span : ShowsFences → SpanLaws fence_leaf fence_further
+fence-span shows = record {
+  first_spanned = λ options bytes row is first. first-spanned options bytes row is;
+  further_spanned = λ options bytes row is further. further-spanned options bytes row is;
+  block = λ options bytes row rows is are.
+      block_by (come_behind options bytes fence_further row rows are (Opened (OpenFence (opening_at is.rest) [])));
+  facts = λ options bytes row rows is first are.
+      subst
+      (λ (es : List Event).
+      LeafFacts bytes
+      (Some (block_by (come_behind options bytes fence_further row rows are (Opened (OpenFence (opening_at is.rest) [])))))
+      (not (is_bare_row (last_row row rows))) row.first (last_row row rows).end (span_by row_unread row rows) es)
+      (done-read shows options bytes row rows is are) (span-of shows options bytes row rows is are);
+  shuts = λ options bytes row rows is first are bs.
+      came-shut options bs
+      (come_behind options bytes fence_further row rows are (Opened (OpenFence (opening_at is.rest) [])))
+      (rest-of shows options bytes row rows is are).came;
+  becomes = λ options bytes row rows is first are wants reads text string texts strings.
+      subst (λ (es : List Event). Becomes wants reads (span_by row_unread row rows) es)
+      (done-read shows options bytes row rows is are)
+      (span-becomes shows options bytes row rows is are wants reads string strings);
+}
