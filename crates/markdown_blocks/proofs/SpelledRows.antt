@@ -3,6 +3,20 @@
 use Rattle.md_engine.specs.declared.tokenizer.held_leaf.HeldLeaf.TheVariants as held_leaf
 use Rattle.md_engine.specs.declared.tokenizer.held_leaf.HeldLeaf.{HeldLeaf}
 use Rattle.std.proofs.Common.{◌≡◌, ◌≢◌, ℕ, zero, suc, ◌+◌, ◌-◌, Bool, true, false, cond, ◌&&◌, List, [], ◌∷◌, ◌++◌}
+use Rattle.std.specs.Prelude.{nat_lt}
+use Rattle.std.proofs.Common.{◌≤◌, ◌<◌, not}
+use Rattle.std.proofs.lemmas.Bool.Decides.{nat_tests}
+use Rattle.md_definition.proofs.TextsLemmas.{Both, Ending, LineFeed, Return, ending_bytes}
+use Rattle.md_definition.specs.Leaves.{Finished, Opened}
+use Rattle.markdown_blocks.specs.HeldLeaf.{has_lines, kind_of_leaf, left_by}
+use Rattle.markdown_blocks.specs.Registry.{further_of}
+use Rattle.markdown_blocks.specs.Rows.{is_further, onto_span, span_done}
+use Rattle.markdown_blocks.proofs.GroupsAre.{line-begins, line-of, shut-behind}
+use Rattle.markdown_blocks.proofs.LineSteps.{come_by, renewed-spot, with_came}
+use Rattle.markdown_blocks.proofs.Registry.{further-is, insider-open, span-laws}
+use Rattle.markdown_blocks.proofs.RowLeaf.{EndsOnLine}
+use Rattle.markdown_blocks.proofs.SpanLaws.{AreBehind, IsLineOf, SpanLaws, come_behind}
+use Rattle.markdown_blocks.proofs.StepBehind.{GoesOn, came-spot, further-unlazy}
 use Rattle.markdown_blocks.specs.Registry.{LeafName, insider, leaf}
 use Rattle.md_definition.specs.Leaves.{Came}
 use Rattle.md_definition.specs.Step.{came}
@@ -328,18 +342,49 @@ record StartsLines (options : ParseOptions) (bytes : List ℕ) (p : Path) (row :
   groups_are : gs ≡ Lines row rows ∷ below
   reads : ReadsLines options bytes p row rows below last
 
--- by whether the first line goes on the open text
-abbrev Means : ParseOptions → List ℕ → Path → Bool → Row → List Group → Reading → Type 0
-Means options bytes p true row gs last = StartsLines options bytes p row gs last
-Means options bytes p false row gs last = Reads options bytes p row.change.closes gs last
+-- What an open leaf of several lines comes to with a further line that begins at this point; one behind the last ending of
+-- the text is no line of the definition.
+abbrev first_come : ParseOptions → List ℕ → LeafName → Path → Point → Rest → Came
+first_come options bytes l p a r =
+    cond (nat_lt a.index (length bytes)) ((leaf l).comes options (spot p).leaf r) (Opened (spot p).leaf)
 
--- Behind a line: what follows does not go on a text,
+-- what stands behind the last line of such a leaf
+abbrev span_tail : Row → List Row → List Event
+span_tail row rows = tail_events (ending_of (last_row row rows).kind) (last_row row rows)
+
+-- A line of it and those that go on it are with what follows read as this, where this leaf takes those behind the line,
+-- and the open leaf came to this with it.
+record ReadsSpan (options : ParseOptions) (bytes : List ℕ) (l : LeafName) (p : Path) (come : Came) (row : Row)
+    (gs : List Group) (last : Reading) : Type 0 where
+  rows : List Row
+  below : List Group
+  groups_are : gs ≡ Span row rows ∷ below
+  are : AreBehind options bytes (leaf l) row rows
+  behind : read bytes (reading options (with_came p (come_behind options bytes (leaf l) row rows are come)))
+      (span_tail row rows ++ groups_events bytes below) ≡
+      last
+
+-- the lines from this point on go on the leaf that is open on a path
+record StartsSpan (options : ParseOptions) (bytes : List ℕ) (l : LeafName) (p : Path) (a : Point) (row : Row)
+    (gs : List Group) (last : Reading) : Type 0 where
+  further : (leaf l).further row.on ≡ true
+  is : IsLineOf options bytes (leaf l) row
+  reads : ReadsSpan options bytes l p (first_come options bytes l p a is.rest) row gs last
+
+-- by whether the first line goes on the open text, or on an open leaf of several lines
+abbrev Means : ParseOptions → List ℕ → Path → Point → Bool → Bool → Row → List Group → Reading → Type 0
+Means options bytes p a true further row gs last = StartsLines options bytes p row gs last
+Means options bytes p a false true row gs last = (l : LeafName) × StartsSpan options bytes l p a row gs last
+Means options bytes p a false false row gs last = Reads options bytes p row.change.closes gs last
+
+-- Behind a line: what follows goes neither on a text nor on another leaf,
 record Parts (options : ParseOptions) (bytes : List ℕ) (p : Path) (row : Row) (gs : List Group)
     (last : Reading) : Type 0 where
   apart : row.kind ≡ TextRow → onto_groups row TextRow gs ≡ Lines row [] ∷ gs
+  alone : onto_span row gs ≡ Span row [] ∷ gs
   reads : Reads options bytes p row.leaves gs last
 
--- or it does
+-- or on a text,
 record Joins (options : ParseOptions) (bytes : List ℕ) (p : Path) (row : Row) (gs : List Group)
     (last : Reading) : Type 0 where
   text : is_text row.kind ≡ true
@@ -351,8 +396,24 @@ record Joins (options : ParseOptions) (bytes : List ℕ) (p : Path) (row : Row) 
   ending : f.IsEnding bytes row.end after
   fronts : LinePrefix bytes [] after next.first next.front
 
+-- or on a leaf of several lines
+record JoinsSpan (options : ParseOptions) (bytes : List ℕ) (p : Path) (row : Row) (gs : List Group)
+    (last : Reading) : Type 0 where
+  name : LeafName
+  next : Row
+  after : Point
+  after_is : row.after ≡ Some after
+  ending : f.IsEnding bytes row.end after
+  fronts : LinePrefix bytes [] after next.first next.front
+  on : next.on ≡ row.behind
+  further : is_further next.kind next.on ≡ true
+  still : still_of p ≡ row.behind
+  lines : has_lines row.behind ≡ true
+  starts : StartsSpan options bytes name p after next gs last
+
 abbrev Follows : ParseOptions → List ℕ → Path → Row → List Group → Reading → Type 0
-Follows options bytes p row gs last = Parts options bytes p row gs last ⊎ Joins options bytes p row gs last
+Follows options bytes p row gs last =
+    Parts options bytes p row gs last ⊎ (Joins options bytes p row gs last ⊎ JoinsSpan options bytes p row gs last)
 
 onto-joined : (row next : Row) (rows : List Row) (gs : List Group) → row.leaves ≡ [] → next.change.opens ≡ [] →
     onto_lines row next rows gs ≡ Lines row (next ∷ rows) ∷ gs
@@ -405,7 +466,12 @@ starts-lines options bytes line p row gs last is text (inl parts) = record {
         ∙ parts.reads;
   };
 }
-starts-lines options bytes line p row gs last is text (inr joins) =
+starts-lines options bytes line p row gs last is text (inr (inr joins)) =
+    let lines = joins.lines in
+    let none = shut-behind options bytes line row is
+    (λ l e. let bad : TextRow ≡ LeafRow l = sym text ∙ e in cc) in
+    cc
+starts-lines options bytes line p row gs last is text (inr (inl joins)) =
     let below = joins.starts in
     let reads = below.reads in
     record {
@@ -462,6 +528,9 @@ single-reads options bytes p c row gs last new name leaf shapes change a fronts 
     (found begin (read-open options p c row shapes change))
     (read-tail bytes name row (reading options new) between refl refl) reads
 
+kind-name : (l m : LeafName) → LeafRow l ≡ LeafRow m → l ≡ m
+kind-name l m e = cc
+
 text-kind : (kind : RowKind) → is_text kind ≡ true → kind ≡ TextRow
 text-kind TextRow e = refl
 text-kind BlankRow e = cc
@@ -505,34 +574,180 @@ ending-role BlankRow = tt
 ending-role (LeafRow l) = tt
 ending-role TextRow = tt
 
--- a line that is no text comes to the block that it shows
-shown-leaf : (options : ParseOptions) (p : Path) (r : Rest) (kind : RowKind) → kind ≢ TextRow →
+-- a line that is no text, and no line of a leaf of several, comes to the block that it shows
+shown-leaf : (options : ParseOptions) (p : Path) (r : Rest) (kind : RowKind) → kind ≢ TextRow → EndsOnLine kind →
     shown (block_of kind r) (reading options p) ≡
     record (reading options p) { here = shut options (spot_by options (reading options p).here [] r kind) }
-shown-leaf options p r BlankRow other = refl
-shown-leaf options p r (LeafRow l) other =
+shown-leaf options p r BlankRow other ends = refl
+shown-leaf options p r (LeafRow l) other ends =
     ap (λ (c : Came). record (reading options p) { here = shut options (came (reading options p).here c) })
-    (sym ((laws l).finishes (leaf-ends l) options NoLeaf r))
-shown-leaf options p r TextRow other = absurd (other refl)
+    (sym ((laws l).finishes (ends l refl) options NoLeaf r))
+shown-leaf options p r TextRow other ends = absurd (other refl)
 
-no-joins : (options : ParseOptions) (bytes : List ℕ) (p : Path) (row : Row) (gs : List Group) (last : Reading) →
-    is_text row.kind ≡ false → Follows options bytes p row gs last → Reads options bytes p row.leaves gs last
-no-joins options bytes p row gs last none (inl parts) = parts.reads
-no-joins options bytes p row gs last none (inr joins) = let text = joins.text in cc
+no-joins : (options : ParseOptions) (bytes line : List ℕ) (p : Path) (row : Row) (gs : List Group) (last : Reading) →
+    f.IsRow options bytes line row → is_text row.kind ≡ false → EndsOnLine row.kind →
+    Follows options bytes p row gs last → Reads options bytes p row.leaves gs last
+no-joins options bytes line p row gs last is none ends (inl parts) = parts.reads
+no-joins options bytes line p row gs last is none ends (inr (inl joins)) = let text = joins.text in cc
+no-joins options bytes line p row gs last is none ends (inr (inr joins)) =
+    let lines = joins.lines in let shut = shut-behind options bytes line row is ends in cc
 
--- none is asked first yet
-no-insider : (on : HeldLeaf) (l : LeafName) → insider on ≡ Some l → ⊥
-unfolding insider
-no-insider on l e = cc
+-- Leaves of several lines.
+
+came-with : (p : Path) (c : Came) → with_came p c ≡ with_spot p (λ bs. came bs c)
+came-with (At s) c = refl
+came-with (Within before container p) c = ap (Within before container) (came-with p c)
+
+came-open : (p : Path) → with_came p (Opened (spot p).leaf) ≡ p
+came-open (At s) = refl
+came-open (Within before container p) = ap (Within before container) (came-open p)
+
+came-came : (p : Path) (open_leaf : Leaf) (c : Came) → with_came (with_came p (Opened open_leaf)) c ≡ with_came p c
+came-came (At s) open_leaf c = refl
+came-came (Within before container p) open_leaf c = ap (Within before container) (came-came p open_leaf c)
+
+-- what has lines is open
+lines-opened : (c : Came) → has_lines (kind_of_leaf (left_by c)) ≡ true → c ≡ Opened (left_by c)
+lines-opened (Opened open_leaf) e = refl
+lines-opened (Finished block) e = cc
+
+-- what a line changes of the containers, the events do not tell
+reading-came : (options : ParseOptions) (stays closes : List Container) (outer : List Around) (p : Path) (c : Came) →
+    AreShapes stays closes p →
+    reading_on options outer (with_came (renewed stays p) c) ≡ reading_on options outer (with_came p c)
+reading-came options [] closes outer p c e = refl
+reading-came options (d ∷ stays) closes outer (At s) c e = refl
+reading-came options (d ∷ stays) closes outer (Within before container p) c e =
+    let same : shape_of d ≡ shape_of container = cc in
+    let more : AreShapes stays closes p = cc in
+    ap (λ (around : Around). reading_on options (around ∷ outer) (with_came (renewed stays p) c))
+    (around-same d container before same)
+    ∙ reading-came options stays closes (around_of container before ∷ outer) p c more
+
+span-alike : (options : ParseOptions) (bytes : List ℕ) (l : LeafName) (p q : Path) (come : Came) (row : Row)
+    (gs : List Group) (last : Reading) →
+    ((c : Came) → reading options (with_came p c) ≡ reading options (with_came q c)) →
+    ReadsSpan options bytes l p come row gs last → ReadsSpan options bytes l q come row gs last
+span-alike options bytes l p q come row gs last alike is = record {
+  rows = is.rows;
+  below = is.below;
+  groups_are = is.groups_are;
+  are = is.are;
+  behind =
+      ap (λ (r : Reading). read bytes r (span_tail row is.rows ++ groups_events bytes is.below))
+      (sym (alike (come_behind options bytes (leaf l) row is.rows is.are come)))
+      ∙ is.behind;
+}
+
+-- a line of a leaf, and what follows
+span-rows : (options : ParseOptions) (bytes : List ℕ) (l m : LeafName) (p : Path) (come : Came) (row : Row)
+    (gs : List Group) (last : Reading) →
+    (ends : is_text row.kind ≡ false) → further_of m ≡ l → IsLineOf options bytes (leaf m) row →
+    Follows options bytes (with_came p come) row gs last →
+    ReadsSpan options bytes l p come row (onto_span row gs) last
+span-rows options bytes l m p come row gs last other same is (inl parts) = record {
+  rows = [];
+  below = gs;
+  groups_are = parts.alone;
+  are = tt;
+  behind =
+      let s : Reading = reading options (with_came p come) in
+      read-from bytes s (close_containers (length row.leaves) s) (span_tail row []) (groups_events bytes gs)
+      (read-tail bytes (ending_of row.kind) row s (ending-role row.kind) refl refl)
+      ∙ parts.reads;
+}
+span-rows options bytes l m p come row gs last other same is (inr (inl joins)) = let text = joins.text in cc
+span-rows options bytes l m p come row gs last other same is (inr (inr joins)) =
+    let name : joins.name ≡ l = further-is m joins.name options row.on is.rest
+    (ap (leaf joins.name).further (sym (joins.on ∙ is.behind)) ∙ joins.starts.further)
+    ∙ same in
+    let next : StartsSpan options bytes l (with_came p come) joins.after joins.next gs
+    last = subst (λ (k : LeafName). StartsSpan options bytes k (with_came p come) joins.after joins.next gs last)
+    name joins.starts in
+    let reads = next.reads in
+    let left : (spot (with_came p come)).leaf ≡ left_by come = came-spot p come in
+    let opened : come ≡ Opened (left_by come) = lines-opened come
+    (ap (λ (x : Leaf). has_lines (kind_of_leaf x)) (sym left) ∙ ap has_lines joins.still ∙ joins.lines) in
+    let in_text : Bool = nat_lt joins.after.index (length bytes) in
+    let to : Path → Came → Reading =
+    λ (x : Path) (c : Came).
+    reading options (with_came x (come_behind options bytes (leaf l) joins.next reads.rows reads.are c)) in
+    let first : first_come options bytes l (with_came p come) joins.after next.is.rest ≡
+    cond in_text ((leaf l).comes options (left_by come) next.is.rest) come =
+    ap (λ (x : Leaf). cond in_text ((leaf l).comes options x next.is.rest) (Opened x)) left
+    ∙ ap (λ (c : Came). cond in_text ((leaf l).comes options (left_by come) next.is.rest) c) (sym opened) in
+    let twice : (c : Came) → with_came (with_came p come) c ≡ with_came p c =
+    λ c. ap (λ (d : Came). with_came (with_came p d) c) opened ∙ came-came p (left_by come) c in
+    record {
+      rows = joins.next ∷ reads.rows;
+      below = reads.below;
+      groups_are =
+          ap (onto_span row) reads.groups_are
+          ∙ ap
+          (λ (x : Bool).
+          cond x (Span row (joins.next ∷ reads.rows) ∷ reads.below)
+          (Span row [] ∷ Span joins.next reads.rows ∷ reads.below))
+          joins.further;
+      are = (
+        joins.after,
+        joins.after_is,
+        joins.ending,
+        joins.fronts,
+        joins.on,
+        next.further,
+        next.is,
+        reads.are,
+      );
+      behind =
+          ap (λ (r : Reading). read bytes r (span_tail joins.next reads.rows ++ groups_events bytes reads.below))
+          (sym
+          (ap (to (with_came p come)) first
+          ∙ ap (reading options)
+          (twice
+          (come_behind options bytes (leaf l) joins.next reads.rows reads.are
+          (cond in_text ((leaf l).comes options (left_by come) next.is.rest) come)))))
+          ∙ reads.behind;
+    }
+
+-- a line that begins a leaf is read with those that go on it
+begun-reads : (options : ParseOptions) (bytes : List ℕ) (l : LeafName) (o : Path) (row : Row) (gs : List Group)
+    (last : Reading) →
+    (leaf l).ends ≡ false → (is : IsLineOf options bytes (leaf l) row) → (leaf l).further row.on ≡ false →
+    (spot o).leaf ≡ NoLeaf → (begin : Reading) → begin ≡ reading options o →
+    (spans : ReadsSpan options bytes (further_of l) o ((leaf l).comes options NoLeaf is.rest) row gs last) →
+    read bytes begin
+    (span_done bytes row spans.rows ++ (span_tail row spans.rows ++ groups_events bytes spans.below)) ≡
+    last
+begun-reads options bytes l o row gs last ends is begins none begin same spans =
+    let laws : SpanLaws (leaf l) (leaf (further_of l)) = span-laws l ends in
+    let come : Came = come_behind options bytes (leaf (further_of l)) row spans.rows spans.are
+    ((leaf l).comes options NoLeaf is.rest) in
+    let block : Block = laws.block options bytes row spans.rows is spans.are in
+    let whole : List Event = span_done bytes row spans.rows in
+    let new : Reading = reading options (with_came o come) in
+    read-from bytes begin new whole (span_tail row spans.rows ++ groups_events bytes spans.below)
+    (ap (λ (x : Reading). read bytes x whole) same
+    ∙ (laws.facts options bytes row spans.rows is begins spans.are).reads (reading options o) refl refl
+    ∙ ap (λ (bs : Blocks). record (reading options o) { here = bs })
+    (sym (laws.shuts options bytes row spans.rows is begins spans.are (reading options o).here))
+    ∙ sym (reading-with options o (λ bs. came bs come) none)
+    ∙ ap (reading options) (sym (came-with o come)))
+    ∙ spans.behind
 
 -- One line, and what follows.
+
+abbrev MeansLine : ParseOptions → List ℕ → Path → Point → Row → List Group → Reading → Type 0
+MeansLine options bytes p a row gs last =
+    Means options bytes p a (is_lazy (still_of p) row.change.opens row.kind) (is_further row.kind row.on) row gs last
+
 row-means : (options : ParseOptions) (bytes : List ℕ) (p : Path) (a : Point) (line : List ℕ) (row : Row)
-    (gs : List Group) (last : Reading) →
+    (gs : List Group) (last : Reading) (over : Bool) →
     IsBuilt options → IsPlain p →
-    f.IsLine options bytes (containers_of p) (still_of p) a line row →
-    Follows options bytes (step options p (rest_from a line)) row gs last →
-    Means options bytes p (is_lazy (still_of p) row.change.opens row.kind) row (onto_groups row row.kind gs) last
-row-means options bytes p a line row gs last built plain is follows = go (goes_lazy options p c) refl
+    f.IsLine options bytes (containers_of p) (still_of p) a line row → nat_lt a.index (length bytes) ≡ not over →
+    Follows options bytes (step_over options over p (rest_from a line)) row gs last →
+    MeansLine options bytes p a row (onto_groups row row.kind gs) last
+row-means options bytes p a line row gs last over built plain is in_text follows =
+    go (goes_lazy options p c) (goes_further options c) refl refl
   where
     c : Contained
     c = contained_at options p (rest_from a line)
@@ -544,12 +759,23 @@ row-means options bytes p a line row gs last built plain is follows = go (goes_l
         step options p (rest_from a line) ≡ path_by options p c x y
     stepped x e y f = step-contained options p (rest_from a line) built plain ∙ ap₂ (path_by options p c) e f
 
-    no_further : (x : Bool) → goes_further options c ≡ x → x ≡ false
-    no_further true e = let is = (goes-on options p (rest_from a line) plain e).is in absurd (no-insider _ _ is.asked)
-    no_further false e = refl
+    -- where it goes on no leaf of several lines, it is a line like any other
+    step-same : goes_further options c ≡ false →
+        step_over options over p (rest_from a line) ≡ step options p (rest_from a line)
+    step-same e =
+        ap
+        (λ (t : Bool).
+        cond (over && t) (renewed c.change.stays p) (step options p (rest_from a line))) e
+        ∙ by over
+      where
+        by : (x : Bool) →
+            cond (x && false) (renewed c.change.stays p) (step options p (rest_from a line)) ≡
+            step options p (rest_from a line)
+        by true = refl
+        by false = refl
 
-    none_further : goes_further options c ≡ false
-    none_further = no_further (goes_further options c) refl
+    same-further : is_further row.kind row.on ≡ goes_further options c
+    same-further = ap₂ is_further kind-is is.on
 
     same : is_lazy (still_of p) row.change.opens row.kind ≡ goes_lazy options p c
     same =
@@ -570,19 +796,21 @@ row-means options bytes p a line row gs last built plain is follows = go (goes_l
     none = open-none options p c
 
     -- a line that is no text is read as its block
-    single : row.kind ≢ TextRow → Follows options bytes (to row.kind) row gs last →
+    single : row.kind ≢ TextRow → EndsOnLine row.kind → Follows options bytes (to row.kind) row gs last →
         Reads options bytes p row.change.closes (Single row ∷ gs) last
-    single other further =
+    single other ends further =
         single-reads options bytes p c row gs last (to row.kind) (ending_of row.kind)
         (leaf_done bytes row.kind row) shapes is.change a is.front
         (λ s same.
         ap (λ (x : Reading). read bytes x (leaf_done bytes row.kind row)) same
-        ∙ (row-facts options bytes (rest_line c.rest) row is.is other (λ l k. leaf-ends l)).reads (reading options o)
+        ∙ (row-facts options bytes (rest_line c.rest) row is.is other ends).reads (reading options o)
         refl refl
         ∙ ap (λ (r : Rest). shown (block_of row.kind r) (reading options o)) is.rest_is
         ∙ shown-leaf options o c.rest row.kind other
+        (subst EndsOnLine refl ends)
         ∙ sym (reading-with options o (λ bs. spot_by options bs [] c.rest row.kind) none))
-        (ending-role row.kind) (no-joins options bytes (to row.kind) row gs last (other-kind row.kind other) further)
+        (ending-role row.kind) (no-joins options bytes (rest_line c.rest) (to row.kind) row gs last is.is
+        (other-kind row.kind other) ends further)
 
     -- text is read with the lines that go on it
     text-reads : StartsLines options bytes o row (onto_groups row TextRow gs) last →
@@ -607,13 +835,55 @@ row-means options bytes p a line row gs last built plain is follows = go (goes_l
         ∙ sym (reading-longer options o reads.first reads.lines built none))
         ∙ reads.behind
 
-    by : (kind : RowKind) → row.kind ≡ kind → Follows options bytes (to row.kind) row gs last →
+    -- a line of a leaf
+    line-is-of : (l : LeafName) → row.kind ≡ LeafRow l → (leaf l).ends ≡ false → IsLineOf options bytes (leaf l) row
+    line-is-of l e ends =
+        line-of options bytes row
+        (record { line = rest_line c.rest; is = is.is; name = l; kind = e; open_leaf = ends; front = (a, is.front) })
+
+    -- a leaf of several lines is read with the lines that go on it
+    span-reads : (l : LeafName) → row.kind ≡ LeafRow l → (leaf l).ends ≡ false → goes_further options c ≡ false →
+        Follows options bytes (to row.kind) row gs last →
+        Reads options bytes p row.change.closes (onto_span row gs) last
+    span-reads l e ends begins further =
+        let start : Reading = close_containers (length row.change.closes) (reading options p) in
+        let begin : Reading = enters row.change.opens start in
+        let text = close_containers-between (length row.change.closes) (reading options p) refl refl in
+        let of : IsLineOf options bytes (leaf l) row = line-is-of l e ends in
+        let come : Came = (leaf l).comes options NoLeaf of.rest in
+        let on : to row.kind ≡ with_came o come =
+        ap to e ∙ sym (came-with o ((leaf l).comes options NoLeaf c.rest))
+        ∙ ap (λ (r : Rest). with_came o ((leaf l).comes options NoLeaf r)) (sym is.rest_is) in
+        let spans : ReadsSpan options bytes (further_of l) o come row (onto_span row gs) last = span-rows options bytes
+        (further_of l) l o come row gs last (ap is_text e) refl of
+        (subst (λ (x : Path). Follows options bytes x row gs last) on further) in
+        let whole : List Event = span_done bytes row spans.rows in
+        let tail : List Event = span_tail row spans.rows in
+        ap (λ (l : List Group). read bytes start (groups_events bytes l)) spans.groups_are
+        ∙ ap (read bytes start)
+        (append_assoc (row.front ++ whole) tail (groups_events bytes spans.below)
+        ∙ append_assoc row.front whole (tail ++ groups_events bytes spans.below))
+        ∙ read-from bytes start begin row.front (whole ++ (tail ++ groups_events bytes spans.below))
+        (read-fronts bytes row.change.opens a row.first row.front start is.front text.0)
+        ∙ begun-reads options bytes l o row (onto_span row gs) last ends of
+        (sym (ap (λ (k : RowKind). is_further k row.on) e) ∙ same-further ∙ begins) none begin
+        (read-open options p c row shapes is.change) spans
+
+    by : (kind : RowKind) → row.kind ≡ kind → goes_further options c ≡ false →
+        Follows options bytes (to row.kind) row gs last →
         Reads options bytes p row.change.closes (onto_groups row kind gs) last
-    by BlankRow e further = single (λ h. let bad : BlankRow ≡ TextRow = sym e ∙ h in cc) further
-    by (LeafRow l) e further =
-        subst (λ (ends : Bool). Reads options bytes p row.change.closes (onto_leaf ends row gs) last) (sym (leaf-ends l))
-        (single (λ h. let bad : LeafRow l ≡ TextRow = sym e ∙ h in cc) further)
-    by TextRow e further =
+    by BlankRow e begins further =
+        single (λ h. let bad : BlankRow ≡ TextRow = sym e ∙ h in cc)
+        (λ l h. let bad : BlankRow ≡ LeafRow l = sym e ∙ h in cc) further
+    by (LeafRow l) e begins further = leaf_by (leaf l).ends refl
+      where
+        leaf_by : (x : Bool) → (leaf l).ends ≡ x → Reads options bytes p row.change.closes (onto_leaf x row gs) last
+        leaf_by true ends =
+            single (λ h. let bad : LeafRow l ≡ TextRow = sym e ∙ h in cc)
+            (λ m h. let same : l ≡ m = kind-name l m (sym e ∙ h) in subst (λ (k : LeafName). (leaf k).ends ≡ true) same ends)
+            further
+        leaf_by false ends = span-reads l e ends begins further
+    by TextRow e begins further =
         let on : to row.kind ≡ longer o (kept is.is.rest ∷ []) =
         ap to e ∙ sym (longer-with o (kept c.rest ∷ []) none)
         ∙ ap (λ (r : Rest). longer o (kept r ∷ [])) (sym is.rest_is) in
@@ -621,47 +891,107 @@ row-means options bytes p a line row gs last built plain is follows = go (goes_l
         (starts-lines options bytes (rest_line c.rest) o row gs last is.is e
         (subst (λ (x : Path). Follows options bytes x row gs last) on further))
 
-    go : (x : Bool) → goes_lazy options p c ≡ x →
-        Means options bytes p (is_lazy (still_of p) row.change.opens row.kind) row (onto_groups row row.kind gs) last
-    go true e =
+    -- a line that goes on the leaf of several lines that is open
+    further_means : goes_further options c ≡ true →
+        (l : LeafName) × StartsSpan options bytes l p a row (onto_groups row row.kind gs) last
+    further_means f =
+        let goes : GoesOn options p c = goes-on options p (rest_from a line) plain f in
+        let l : LeafName = goes.is.name in
+        let e : row.kind ≡ LeafRow l = kind-is ∙ goes.kind in
+        let ends : (leaf l).ends ≡ false = insider-open (still_of p) l goes.is.asked in
+        let of : IsLineOf options bytes (leaf l) row = line-is-of l e ends in
+        let come : Came = first_come options bytes l p a of.rest in
+        let base : Path = renewed c.change.stays p in
+        let stepped_to : step_over options over p (rest_from a line) ≡ with_came base come = further_by over refl f goes in
+        let spans : ReadsSpan options bytes l base come row (onto_span row gs) last = span-rows options bytes l l base come
+        row gs last (ap is_text e) goes.is.same of
+        (subst (λ (x : Path). Follows options bytes x row gs last) stepped_to follows) in
+        let whole : ReadsSpan options bytes l p come row (onto_span row gs) last = span-alike options bytes l base p come
+        row (onto_span row gs) last (λ d. reading-came options c.change.stays c.change.closes [] p d shapes) spans in (
+          l,
+          subst (λ (k : RowKind). StartsSpan options bytes l p a row (onto_groups row k gs) last) (sym e)
+              (subst (λ (x : Bool). StartsSpan options bytes l p a row (onto_leaf x row gs) last) (sym ends)
+              (record {
+                further = ap (leaf l).further (is.on ∙ goes.on) ∙ goes.is.further;
+                is = of;
+                reads = whole;
+              })),
+        )
+      where
+        further_by : (x : Bool) → over ≡ x → goes_further options c ≡ true → (goes : GoesOn options p c) →
+            step_over options over p (rest_from a line) ≡
+            with_came (renewed c.change.stays p) (first_come options bytes goes.is.name p a is.is.rest)
+        further_by true e f goes =
+            ap₂ (λ (x y : Bool). cond (x && y) (renewed c.change.stays p) (step options p (rest_from a line))) e f
+            ∙ sym (came-open (renewed c.change.stays p))
+            ∙ ap (λ (s : Spot). with_came (renewed c.change.stays p) (Opened s.leaf)) (renewed-spot c.change.stays p)
+            ∙ ap
+            (λ (x : Bool).
+            with_came (renewed c.change.stays p)
+            (cond x ((leaf goes.is.name).comes options (spot p).leaf is.is.rest) (Opened (spot p).leaf)))
+            (sym (in_text ∙ ap not e))
+        further_by false e f goes =
+            ap (λ (x : Bool). cond (x && goes_further options c) (renewed c.change.stays p) (step options p (rest_from a line))) e
+            ∙ step-contained options p (rest_from a line) built plain
+            ∙ ap₂ (path_by options p c)
+            (further-unlazy (still_of p) c.on c.change.opens (line_kind options c.on c.rest) f) f
+            ∙ ap (λ (k : RowKind). with_came (renewed c.change.stays p) (come_by options (spot p).leaf c.rest k)) goes.kind
+            ∙ ap (λ (r : Rest). with_came (renewed c.change.stays p) ((leaf goes.is.name).comes options (spot p).leaf r))
+            (sym is.rest_is)
+            ∙ ap
+            (λ (x : Bool).
+            with_came (renewed c.change.stays p)
+            (cond x ((leaf goes.is.name).comes options (spot p).leaf is.is.rest) (Opened (spot p).leaf)))
+            (sym (in_text ∙ ap not e))
+
+    -- a line that goes on the text goes on no other leaf
+    begins-text : goes_lazy options p c ≡ true → (y : Bool) → goes_further options c ≡ y → y ≡ false
+    begins-text e true f =
+        let none = further-unlazy (still_of p) c.on c.change.opens (line_kind options c.on c.rest) f in cc
+    begins-text e false f = refl
+
+    means : (x y : Bool) → goes_lazy options p c ≡ x → goes_further options c ≡ y →
+        Means options bytes p a x y row (onto_groups row row.kind gs) last →
+        MeansLine options bytes p a row (onto_groups row row.kind gs) last
+    means x y e f is =
+        subst (λ (t : Bool). Means options bytes p a t (is_further row.kind row.on) row (onto_groups row row.kind gs) last)
+        (sym (same ∙ e))
+        (subst (λ (t : Bool). Means options bytes p a x t row (onto_groups row row.kind gs) last)
+        (sym (same-further ∙ f)) is)
+
+    go : (x y : Bool) → goes_lazy options p c ≡ x → goes_further options c ≡ y →
+        MeansLine options bytes p a row (onto_groups row row.kind gs) last
+    go true y e f =
         let text : is_text row.kind ≡ true = ap is_text kind-is
         ∙ lazy-text (still_of p) c.change.opens (line_kind options c.on c.rest) e in
         let is_row : row.kind ≡ TextRow = text-kind row.kind text in
-        subst (λ (x : Bool). Means options bytes p x row (onto_groups row row.kind gs) last) (sym (same ∙ e))
+        let begins : goes_further options c ≡ false = f ∙ begins-text e y f in
+        means true y e f
         (subst (λ (k : RowKind). StartsLines options bytes p row (onto_groups row k gs) last) (sym is_row)
         (starts-alike options bytes (renewed c.change.stays p) p row (onto_groups row TextRow gs) last
         (λ lines. reading-renewed options c.change.stays c.change.closes [] p lines shapes)
         (starts-lines options bytes (rest_line c.rest) (renewed c.change.stays p) row gs last is.is is_row
         (subst (λ (x : Path). Follows options bytes x row gs last)
-        (stepped true e (goes_further options c) refl ∙ ap (λ (r : Rest). longer (renewed c.change.stays p) (kept r ∷ [])) (sym is.rest_is)) follows))))
-    go false e =
-        subst (λ (x : Bool). Means options bytes p x row (onto_groups row row.kind gs) last) (sym (same ∙ e))
-        (by row.kind refl
+        (step-same begins ∙ stepped true e (goes_further options c) refl
+        ∙ ap (λ (r : Rest). longer (renewed c.change.stays p) (kept r ∷ [])) (sym is.rest_is)) follows))))
+    go false true e f = means false true e f (further_means f)
+    go false false e f =
+        means false false e f
+        (by row.kind refl f
         (subst (λ (x : Path). Follows options bytes x row gs last)
-        (stepped false e false none_further ∙ new-path options p c row.kind (sym kind-is)) follows))
+        (step-same f ∙ stepped false e false f ∙ new-path options p c row.kind (sym kind-is)) follows))
 
 -- where nothing follows
 row-ends : (options : ParseOptions) (bytes : List ℕ) (p : Path) (a : Point) (line : List ℕ) (row : Row) (over : Bool) →
     IsBuilt options → IsPlain p → f.IsLine options bytes (containers_of p) (still_of p) a line row →
-    Means options bytes p (is_lazy (still_of p) row.change.opens row.kind) row (groups (row ∷ []))
+    nat_lt a.index (length bytes) ≡ not over →
+    MeansLine options bytes p a row (groups (row ∷ []))
     (close_containers (length row.leaves) (reading options (step_over options over p (rest_from a line))))
-row-ends options bytes p a line row over built plain is =
-    subst
-    (λ (x : Path).
-    Means options bytes p (is_lazy (still_of p) row.change.opens row.kind) row (groups (row ∷ []))
-    (close_containers (length row.leaves) (reading options x))) (sym (same over (goes_further options c) refl))
-    (row-means options bytes p a line row []
-    (close_containers (length row.leaves) (reading options (step options p (rest_from a line)))) built plain is
-    (inl (record { apart = λ text. refl; reads = refl })))
-  where
-    c : Contained
-    c = contained_at options p (rest_from a line)
-
-    same : (x y : Bool) → goes_further options c ≡ y →
-        cond (x && y) (renewed c.change.stays p) (step options p (rest_from a line)) ≡ step options p (rest_from a line)
-    same x true e = let is = (goes-on options p (rest_from a line) plain e).is in absurd (no-insider _ _ is.asked)
-    same true false e = refl
-    same false false e = refl
+row-ends options bytes p a line row over built plain is in_text =
+    row-means options bytes p a line row []
+    (close_containers (length row.leaves) (reading options (step_over options over p (rest_from a line)))) over built
+    plain is in_text
+    (inl (record { apart = λ text. refl; alone = refl; reads = refl }))
 
 -- Lines, one after another.
 
@@ -732,23 +1062,69 @@ behind-lazy options bytes line row is = ap takes_lazy is.behind ∙ go row.kind
     go (LeafRow l) = ((laws l).not_lazy options row.on).1 is.rest
     go TextRow = refl
 
+-- where a line follows that goes on no leaf of several lines, a new group begins
+not-spanned : (row below : Row) (gs : List Group) → is_further below.kind below.on ≡ false →
+    onto_span row (onto_groups below below.kind gs) ≡ Span row [] ∷ onto_groups below below.kind gs
+not-spanned row below gs begins = go below.kind
+  where
+    apart : (rows : List Row) (more : List Group) →
+        onto_span row (Span below rows ∷ more) ≡ Span row [] ∷ Span below rows ∷ more
+    apart rows more =
+        ap (λ (x : Bool). cond x (Span row (below ∷ rows) ∷ more) (Span row [] ∷ Span below rows ∷ more)) begins
+
+    spans : (gs : List Group) → onto_span row (onto_span below gs) ≡ Span row [] ∷ onto_span below gs
+    spans [] = apart [] []
+    spans (Single next ∷ more) = apart [] (Single next ∷ more)
+    spans (Lines next rows ∷ more) = apart [] (Lines next rows ∷ more)
+    spans (Span next rows ∷ more) = join (is_further next.kind next.on)
+      where
+        join : (x : Bool) →
+            onto_span row (cond x (Span below (next ∷ rows) ∷ more) (Span below [] ∷ Span next rows ∷ more)) ≡
+            Span row [] ∷ cond x (Span below (next ∷ rows) ∷ more) (Span below [] ∷ Span next rows ∷ more)
+        join true = apart (next ∷ rows) more
+        join false = apart [] (Span next rows ∷ more)
+
+    leaves : (x : Bool) → onto_span row (onto_leaf x below gs) ≡ Span row [] ∷ onto_leaf x below gs
+    leaves true = refl
+    leaves false = spans gs
+
+    texts : (gs : List Group) →
+        onto_span row (onto_groups below TextRow gs) ≡ Span row [] ∷ onto_groups below TextRow gs
+    texts [] = refl
+    texts (Single next ∷ more) = refl
+    texts (Span next rows ∷ more) = refl
+    texts (Lines next rows ∷ more) = join (goes_on below next)
+      where
+        join : (x : Bool) →
+            onto_span row (cond x (Lines below (next ∷ rows) ∷ more) (Lines below [] ∷ Lines next rows ∷ more)) ≡
+            Span row [] ∷ cond x (Lines below (next ∷ rows) ∷ more) (Lines below [] ∷ Lines next rows ∷ more)
+        join true = refl
+        join false = refl
+
+    go : (kind : RowKind) → onto_span row (onto_groups below kind gs) ≡ Span row [] ∷ onto_groups below kind gs
+    go BlankRow = refl
+    go (LeafRow l) = leaves (leaf l).ends
+    go TextRow = texts gs
+
 -- what follows a line, by what is read of the lines below
 follows-below : (options : ParseOptions) (bytes : List ℕ) (p : Path) (row below : Row) (gs : List Group) (q : Point)
     (line : List ℕ) (last : Reading) →
     IsBuilt options → IsPlain p → takes_lazy row.behind ≡ is_text row.kind → still_of p ≡ row.behind →
-    row.leaves ≡ below.change.closes → f.IsEnding bytes row.end q →
+    row.leaves ≡ below.change.closes → row.after ≡ Some q → f.IsEnding bytes row.end q →
     f.IsLine options bytes (containers_of p) (still_of p) q line below →
-    (x : Bool) → is_lazy (still_of p) below.change.opens below.kind ≡ x →
-    Means options bytes p x below (onto_groups below below.kind gs) last →
+    (x y : Bool) → is_lazy (still_of p) below.change.opens below.kind ≡ x → is_further below.kind below.on ≡ y →
+    Means options bytes p q x y below (onto_groups below below.kind gs) last →
     Follows options bytes p row (onto_groups below below.kind gs) last
-follows-below options bytes p row below gs q line last built plain lazily still leaves ending is true lazy means =
+follows-below options bytes p row below gs q line last built plain lazily still leaves after ending is true y lazy far means =
     let c : Contained = contained_at options p (rest_from q line) in
     let kind_is = line-is options bytes (containers_of p) (still_of p) q line below is in
     let goes : goes_lazy options p c ≡ true =
     ap (is_lazy (still_of p) c.change.opens) (sym kind_is)
     ∙ ap (λ (x : Change). is_lazy (still_of p) x.opens below.kind) (sym is.change) ∙ lazy in
     let none : below.change.opens ≡ [] = lazy-opens (still_of p) below.change.opens below.kind lazy in
-    inr (record {
+    inr
+    (inl
+    (record {
       text =
           sym lazily ∙ ap takes_lazy (sym still)
           ∙ (and_parts (takes_lazy (still_of p)) (is_none below.change.opens)
@@ -760,14 +1136,36 @@ follows-below options bytes p row below gs q line last built plain lazily still 
       after = q;
       ending = ending;
       fronts = subst (λ (cs : List Container). LinePrefix bytes cs q below.first below.front) none is.front;
-    })
-follows-below options bytes p row below gs q line last built plain lazily still leaves ending is false lazy means =
+    }))
+follows-below options bytes p row below gs q line last built plain lazily still leaves after ending is false true lazy far means =
+    let c : Contained = contained_at options p (rest_from q line) in
+    let kind_is = line-is options bytes (containers_of p) (still_of p) q line below is in
+    let goes : GoesOn options p c = goes-on options p (rest_from q line) plain
+    (sym (ap₂ is_further kind_is is.on) ∙ far) in
+    let none : below.change.opens ≡ [] = ap (λ (x : Change). x.opens) is.change ∙ goes.opens in
+    inr
+    (inr
+    (record {
+      name = means.0;
+      next = below;
+      after = q;
+      after_is = after;
+      ending = ending;
+      fronts = subst (λ (cs : List Container). LinePrefix bytes cs q below.first below.front) none is.front;
+      on = is.on ∙ goes.on ∙ still;
+      further = far;
+      still = still;
+      lines = ap has_lines (sym still) ∙ goes.is.lines;
+      starts = means.1;
+    }))
+follows-below options bytes p row below gs q line last built plain lazily still leaves after ending is false false lazy far means =
     inl (record {
       apart =
           λ text. not-joined row below gs
           (ap (λ (x : Bool). x && is_none below.change.opens && is_text below.kind)
           (sym (ap takes_lazy still ∙ lazily ∙ ap is_text text))
           ∙ lazy);
+      alone = not-spanned row below gs far;
       reads =
           ap
           (λ (cs : List Container).
@@ -776,11 +1174,40 @@ follows-below options bytes p row below gs q line last built plain lazily still 
           ∙ means;
     })
 
+-- Where a line begins in the text.
+
+ending-some : (ending : Ending) → 1 ≤ length (ending_bytes ending)
+ending-some LineFeed = omega arith
+ending-some Return = omega arith
+ending-some Both = omega arith
+
+-- one with an ending
+begins-in : (options : ParseOptions) (bytes : List ℕ) (cs : List Container) (still : HeldLeaf) (p q : Point)
+    (line : List ℕ) (row : Row) →
+    f.IsLine options bytes cs still p line row → f.IsEnding bytes row.end q →
+    nat_lt p.index (length bytes) ≡ not false
+begins-in options bytes cs still p q line row is ending =
+    let extent = is.extent in
+    let size = ending.size in
+    let within = ending.in_text in
+    let some = ending-some ending.ending in
+    let less : p.index < length bytes = omega arith in
+    grind (arith, nat_tests)
+
+-- the last one, unless it is empty
+begins-last : (options : ParseOptions) (bytes : List ℕ) (cs : List Container) (still : HeldLeaf) (p : Point)
+    (line : List ℕ) (row : Row) →
+    f.IsLine options bytes cs still p line row → row.end.index ≡ length bytes →
+    nat_lt p.index (length bytes) ≡ not (no_bytes line)
+begins-last options bytes cs still p [] row is end =
+    let extent = is.extent in let same : p.index ≡ length bytes = omega arith in grind (arith, nat_tests)
+begins-last options bytes cs still p (b ∷ line) row is end =
+    let extent = is.extent in let less : p.index < length bytes = omega arith in grind (arith, nat_tests)
+
 -- what the first line is read as
-abbrev RowsMean : ParseOptions → List ℕ → Path → Reading → List Row → Type 0
-RowsMean options bytes p last [] = ⊥
-RowsMean options bytes p last (row ∷ rows) =
-    Means options bytes p (is_lazy (still_of p) row.change.opens row.kind) row (groups (row ∷ rows)) last
+abbrev RowsMean : ParseOptions → List ℕ → Path → Point → Reading → List Row → Type 0
+RowsMean options bytes p a last [] = ⊥
+RowsMean options bytes p a last (row ∷ rows) = MeansLine options bytes p a row (groups (row ∷ rows)) last
 
 -- the lines behind the first stand behind what it does
 pub rows-below : (options : ParseOptions) (bytes : List ℕ) (a : Path) (p : Point) (line next : List ℕ)
@@ -804,9 +1231,9 @@ rows-below options bytes a p line next lines row below rows built plain are =
     (sym still) are.5)
 
 -- what so many lines, and one more, come to, but for the containers that end behind them
-abbrev LinesMean : ParseOptions → List ℕ → Path → ℕ → List Rest → List Row → Type 0
-LinesMean options bytes a n rests rows =
-    RowsMean options bytes a
+abbrev LinesMean : ParseOptions → List ℕ → Path → Point → ℕ → List Rest → List Row → Type 0
+LinesMean options bytes a p n rests rows =
+    RowsMean options bytes a p
     (close_containers (length (last_leaves (take (suc n) rows)))
     (reading options (steps_over options a (take (suc n) (told rests)))))
     (take (suc n) rows)
@@ -816,13 +1243,16 @@ rows-mean : (options : ParseOptions) (bytes : List ℕ) (a : Path) (p : Point) (
     (rows : List Row) →
     IsBuilt options → IsPlain a →
     f.AreRows options bytes (containers_of a) (still_of a) p lines rows →
-    LinesMean options bytes a n (rests_from p lines) rows
+    LinesMean options bytes a p n (rests_from p lines) rows
 rows-mean options bytes a p zero (line ∷ []) (row ∷ []) built plain are =
     row-ends options bytes a p line row (no_bytes line) built plain are.0
+    (begins-last options bytes (containers_of a) (still_of a) p line row are.0 are.3)
 rows-mean options bytes a p (suc n) (line ∷ []) (row ∷ []) built plain are =
     row-ends options bytes a p line row (no_bytes line) built plain are.0
+    (begins-last options bytes (containers_of a) (still_of a) p line row are.0 are.3)
 rows-mean options bytes a p zero (line ∷ next ∷ lines) (row ∷ below ∷ rows) built plain are =
     row-ends options bytes a p line row false built plain are.0
+    (begins-in options bytes (containers_of a) (still_of a) p are.2 line row are.0 are.4)
 rows-mean options bytes a p (suc n) (line ∷ next ∷ lines) (row ∷ below ∷ rows) built plain are =
     let r : Rest = rest_from p line in
     let b : Path = step options a r in
@@ -830,17 +1260,18 @@ rows-mean options bytes a p (suc n) (line ∷ next ∷ lines) (row ∷ below ∷
     let still : still_of b ≡ row.behind = still-line options bytes a p line row built plain are.0 in
     let plain_b : IsPlain b = plain-step options a r built plain in
     let are_b = rows-below options bytes a p line next lines row below rows built plain are in
-    let further : LinesMean options bytes b n (rests_from q (next ∷ lines)) (below ∷ rows) = rows-mean options bytes b q n
+    let further : LinesMean options bytes b q n (rests_from q (next ∷ lines)) (below ∷ rows) = rows-mean options bytes b q n
     (next ∷ lines) (below ∷ rows) built plain_b are_b in
     let some : List Row = take n rows in
     let last : Reading = close_containers (length (last_leaves (below ∷ some)))
     (reading options (steps_over options b (take (suc n) (told (map (rest_at 0) (next ∷ lines)))))) in
-    row-means options bytes a p line row (groups (below ∷ some)) last built plain are.0
+    row-means options bytes a p line row (groups (below ∷ some)) last false built plain are.0
+    (begins-in options bytes (containers_of a) (still_of a) p q line row are.0 are.4)
     (follows-below options bytes b row below (groups some) q next last built plain_b
-    (behind-lazy options bytes (rest_line (contained_at options a r).rest) row are.0.is) still are.1 are.4
+    (behind-lazy options bytes (rest_line (contained_at options a r).rest) row are.0.is) still are.1 are.3 are.4
     (first-line options bytes (containers_of b) (still_of b) q (next ∷ lines) (below ∷ rows) are_b)
-    (is_lazy (still_of b) below.change.opens below.kind) refl
-    (subst (λ (rests : List Rest). LinesMean options bytes b n rests (below ∷ rows))
+    (is_lazy (still_of b) below.change.opens below.kind) (is_further below.kind below.on) refl refl
+    (subst (λ (rests : List Rest). LinesMean options bytes b q n rests (below ∷ rows))
     (rests-behind q (next ∷ lines) are.4.column) further))
 rows-mean options bytes a p n lines rows built plain are = absurd are
 
@@ -879,7 +1310,7 @@ lines-read options bytes p (suc n) lines rows built are =
     none (c ∷ stays) closes e = cc
 
     go : (ls : List (List ℕ)) (rs : List Row) → First options bytes [] held_leaf.None p ls rs →
-        LinesMean options bytes (At (spot_of End)) n (rests_from p lines) rs →
+        LinesMean options bytes (At (spot_of End)) p n (rests_from p lines) rs →
         read bytes unread (groups_events bytes (groups (take (suc n) rs))) ≡
         close_containers (length (last_leaves (take (suc n) rs)))
         (reading options (steps_over options (At (spot_of End)) (take (suc n) (told (rests_from p lines)))))
@@ -891,7 +1322,10 @@ lines-read options bytes p (suc n) lines rows built are =
         (λ (cs : List Container).
         read bytes (close_containers (length cs) unread) (groups_events bytes (groups (row ∷ take n rs))))
         (sym first)
-        ∙ means
+        ∙ subst (λ (x : Bool). Means options bytes (At (spot_of End)) p false x row (groups (row ∷ take n rs))
+        (close_containers (length (last_leaves (row ∷ take n rs)))
+        (reading options (steps_over options (At (spot_of End)) (take (suc n) (told (rests_from p lines)))))))
+        (line-begins options bytes [] held_leaf.None p line row is refl) means
     go [] rs is means = absurd is
     go (line ∷ ls) [] is means = absurd is
 
