@@ -85,6 +85,8 @@ pub mod StepBehind
 pub mod LastLine
 pub mod PlainRoles
 pub mod SpelledParagraphs
+pub mod SpelledPaths
+pub mod SpelledGroups
 pub mod SpelledRows
 pub mod StandsLemmas
 pub mod EachRow

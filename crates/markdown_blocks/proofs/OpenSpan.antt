@@ -10,7 +10,7 @@ use Rattle.md_definition.specs.Step.{came, is_concrete}
 use Rattle.md_definition.specs.Tree.{Blocks}
 use Rattle.md_outline.specs.HeadingDepths.{are_shallow}
 use Rattle.markdown_blocks.specs.HeldLeaf.{IsBuiltLeaf, has_lines, kind_of_leaf, left_by}
-use Rattle.markdown_blocks.specs.Registry.{LeafName, insider, leaf}
+use Rattle.markdown_blocks.specs.Registry.{LeafName, further_of, insider, leaf}
 
 -- an outline can show the block that this has come to, if it has
 abbrev pub ComesShallow : Came → Type 0
@@ -21,6 +21,7 @@ ComesShallow c = (bs : Blocks) → are_shallow bs ≡ true → are_shallow (came
 pub record OpenSpan (open_leaf : Leaf) : Type 0 where
   pub name : LeafName
   pub asked : insider (kind_of_leaf open_leaf) ≡ Some name
+  pub same : further_of name ≡ name
   pub further : (leaf name).further (kind_of_leaf open_leaf) ≡ true
   pub lines : has_lines (kind_of_leaf open_leaf) ≡ true
   pub concrete : is_concrete open_leaf ≡ true

@@ -69,6 +69,8 @@ pub record IsLine (options : ParseOptions) (bytes : List ℕ) (open_before : Lis
   -- where the line begins no tab is cut
   pub whole : p.vs ≡ 0
   pub column : 1 ≤ p.column
+  -- and it ends behind its bytes
+  pub extent : row.end.index ≡ p.index + length line
 
 -- which containers are open behind a line
 abbrev pub behind_line : ParseOptions → List Container → HeldLeaf → Point → List ℕ → List Container

@@ -235,6 +235,10 @@ has-row options bytes behind said open_before still line p stop built read short
             on = held.on;
             whole = whole;
             column = one;
+            extent =
+                ap (λ (q : Point). q.index)
+                ((row below).0.end ∙ rest-past c.rest h.point first held.stands.cut ∙ held.ends)
+                ∙ past-index line p;
           };
       open_is = ap open_behind held.change;
       read = held.read;

@@ -34,7 +34,8 @@ use Rattle.markdown_blocks.proofs.StepBehind.{containers-step, plain-step}
 use Rattle.markdown_blocks.proofs.LastLine.{told-some}
 use Rattle.markdown_blocks.proofs.RowFacts as f
 use Rattle.markdown_blocks.proofs.RowLemmas.{fresh-rows}
-use Rattle.markdown_blocks.proofs.SpelledRows.{still-line, lines-read, rests-behind, rows-below}
+use Rattle.markdown_blocks.proofs.SpelledGroups.{still-line}
+use Rattle.markdown_blocks.proofs.SpelledRows.{lines-read, rests-behind, rows-below}
 
 -- Lines, one after another.
 

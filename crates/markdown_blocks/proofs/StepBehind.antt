@@ -108,7 +108,7 @@ came-leaf : (bs : Blocks) (c : Came) → (came bs c).leaf ≡ left_by c
 came-leaf bs (Opened open_leaf) = refl
 came-leaf bs (Finished block) = refl
 
-came-spot : (p : Path) (c : Came) → (spot (with_came p c)).leaf ≡ left_by c
+pub came-spot : (p : Path) (c : Came) → (spot (with_came p c)).leaf ≡ left_by c
 came-spot (At s) c = came-leaf s.here c
 came-spot (Within before container p) c = came-spot p c
 
@@ -162,6 +162,18 @@ plain-step options p r built plain =
 pub lazy-text : (still : HeldLeaf) (opens : List Container) (kind : RowKind) → is_lazy still opens kind ≡ true →
     is_text kind ≡ true
 lazy-text still opens kind e = (and_parts (takes_lazy still && is_none opens) (is_text kind) e).1
+
+-- a line that goes on a leaf of several lines goes on no text
+pub further-unlazy : (still on : HeldLeaf) (opens : List Container) (kind : RowKind) → is_further kind on ≡ true →
+    is_lazy still opens kind ≡ false
+further-unlazy still on opens BlankRow e = cc
+further-unlazy still on opens (LeafRow l) e = go (takes_lazy still) (is_none opens)
+  where
+    go : (x y : Bool) → (x && y && false) ≡ false
+    go true true = refl
+    go true false = refl
+    go false y = refl
+further-unlazy still on opens TextRow e = cc
 
 -- Which containers are open behind a line.
 

@@ -53,7 +53,7 @@ use Rattle.markdown_blocks.proofs.LineSteps.{step-new, stepped, stepped_on, with
 use Rattle.markdown_blocks.proofs.OpenSpan.{ComesShallow, OpenSpan}
 use Rattle.markdown_blocks.proofs.LastLine.{no_bytes, no_rests, step_over, steps_over, told}
 use Rattle.markdown_blocks.proofs.LineSteps.{asked-kind, plain_kind}
-use Rattle.markdown_blocks.proofs.StepBehind.{GoesOn, begun-leaf, goes-on, plain-step, span-open}
+use Rattle.markdown_blocks.proofs.StepBehind.{GoesOn, begun-leaf, further-unlazy, goes-on, plain-step, span-open}
 use Rattle.markdown_blocks.proofs.ContainedLemmas.{contained-still}
 use Rattle.markdown_blocks.specs.HeldLeaf.{has_lines, takes_lazy}
 use Rattle.markdown_blocks.specs.Change.{Change}
@@ -278,18 +278,6 @@ closed-empty options zero p column = refl
 closed-empty options (suc n) (At s) column = refl
 closed-empty options (suc n) (Within before c p) column =
     ap (λ (bs : Blocks). then_block before (container_block c bs)) (closed-empty options n p column)
-
--- a line that goes on a leaf of several lines goes on no text
-further-unlazy : (still on : HeldLeaf) (opens : List Container) (kind : RowKind) → is_further kind on ≡ true →
-    is_lazy still opens kind ≡ false
-further-unlazy still on opens BlankRow e = cc
-further-unlazy still on opens (LeafRow l) e = go (takes_lazy still) (is_none opens)
-  where
-    go : (x y : Bool) → (x && y && false) ≡ false
-    go true true = refl
-    go true false = refl
-    go false y = refl
-further-unlazy still on opens TextRow e = cc
 
 -- what an empty line does, where so many containers go on
 abbrev empty_contained : ParseOptions → Path → ℕ → ℕ → Contained

@@ -22,7 +22,7 @@ use Rattle.markdown_blocks.specs.Rows.{Row}
 use Rattle.markdown_blocks.proofs.ContainerNames.{TakesPrefixes}
 use Rattle.markdown_blocks.proofs.FenceFurther.Definition.{further-goes, held_of}
 use Rattle.markdown_blocks.proofs.FenceFurther.Grammar.{behind-line-ends, ending-line, in-line-ends, in_line, left_by}
-use Rattle.markdown_blocks.proofs.FenceFurther.Grammar.{prefix-line, white-line}
+use Rattle.markdown_blocks.proofs.FenceFurther.Grammar.{takes-line}
 use Rattle.markdown_blocks.proofs.FenceFurther.Places.{FurtherAt}
 use Rattle.markdown_blocks.proofs.FenceSpan.Further.{IsBare, bare-facts, closing-reads, end-bare, further-facts, line-reads}
 use Rattle.markdown_blocks.proofs.FenceSpan.Open.{AreMarks, ShowsFences, block-is, leaf_of}
@@ -41,7 +41,7 @@ left-line m [] = ending-line plain_text m
 left-line m (b ∷ bs) = refl
 
 line-takes : (m : ℕ) → TakesPrefixes (in_line plain_text m)
-line-takes m = (white-line plain_text m, prefix-line plain_text m)
+line-takes m = takes-line plain_text m
 
 -- what is held behind a further line
 line-held : (options : ParseOptions) (bytes : List ℕ) (o : Opening) (row : Row) (closed : Bool) →

@@ -1,0 +1,531 @@
+-- What the lines of a leaf are read as, with what follows them: a line that is no text, the lines of a text, and those of
+-- a leaf of several.
+use Rattle.md_engine.specs.declared.tokenizer.held_leaf.HeldLeaf.TheVariants as held_leaf
+use Rattle.md_engine.specs.declared.tokenizer.held_leaf.HeldLeaf.{HeldLeaf}
+use Rattle.std.proofs.Common.{◌≡◌, ◌≢◌, ℕ, zero, suc, ◌+◌, ◌-◌, Bool, true, false, cond, ◌&&◌, List, [], ◌∷◌, ◌++◌}
+use Rattle.std.specs.Prelude.{nat_lt}
+use Rattle.std.proofs.Common.{◌≤◌, ◌<◌, not}
+use Rattle.std.proofs.lemmas.Bool.Decides.{nat_tests}
+use Rattle.md_definition.proofs.TextsLemmas.{Both, Ending, LineFeed, Return, ending_bytes}
+use Rattle.md_definition.specs.Leaves.{Finished, Opened}
+use Rattle.markdown_blocks.specs.HeldLeaf.{has_lines, kind_of_leaf, left_by}
+use Rattle.markdown_blocks.specs.Registry.{further_of}
+use Rattle.markdown_blocks.specs.LineFlags.{ending_name}
+use Rattle.markdown_blocks.specs.Rows.{is_blank_row}
+use Rattle.markdown_blocks.specs.Rows.{is_further, onto_span, span_done}
+use Rattle.markdown_blocks.proofs.GroupsAre.{line-begins, line-of, shut-behind}
+use Rattle.markdown_blocks.proofs.LineSteps.{come_by, renewed-spot, with_came}
+use Rattle.markdown_blocks.proofs.Registry.{further-is, insider-open, span-laws}
+use Rattle.markdown_blocks.proofs.RowLeaf.{EndsOnLine}
+use Rattle.markdown_blocks.proofs.SpanLaws.{AreBehind, IsLineOf, SpanLaws, come_behind}
+use Rattle.markdown_blocks.proofs.StepBehind.{GoesOn, came-spot, further-unlazy}
+use Rattle.markdown_blocks.specs.Registry.{LeafName, insider, leaf}
+use Rattle.md_definition.specs.Leaves.{Came}
+use Rattle.md_definition.specs.Step.{came}
+use Rattle.markdown_blocks.proofs.JoinedLemmas.{leaf-first}
+use Rattle.markdown_blocks.proofs.Registry.{leaf-ends}
+use Rattle.markdown_blocks.specs.Rows.{Span, onto_leaf}
+use Rattle.std.proofs.lemmas.Bool.{and_parts}
+use Rattle.markdown_blocks.specs.Rows.{line_behind}
+use Rattle.markdown_blocks.specs.HeldLeaf.{takes_lazy}
+use Rattle.std.proofs.Common.{length, map, take, refl, ap, ap₂, sym, ◌∙◌, subst, append_assoc, take_all, inl, inr, ◌⊎◌}
+use Rattle.std.proofs.Common.{arith}
+use Rattle.std.specs.Prelude.{None, Some}
+use Rattle.md_engine.specs.declared.configuration.ParseOptions.{ParseOptions}
+use Rattle.md_engine.specs.declared.event.Event.{Event}
+use Rattle.md_engine.specs.declared.event.Name.{Name}
+use Rattle.md_engine.specs.declared.event.Name.TheVariants as n
+use Rattle.md_engine.specs.declared.event.Point.{Point}
+use Rattle.md_seam.specs.Events.Nested.{around, enter, exit}
+use Rattle.md_definition.specs.Preamble.{rest_at}
+use Rattle.md_definition.specs.Rest.{Rest}
+use Rattle.md_seam.specs.Events.Spelled.{Around, Reading, Shape, add_block, left, read, role, spelled, unread}
+use Rattle.md_definition.specs.State.{At, Container, Kept, Leaf, NoLeaf, Path, Spot, Within, closed, kept, shut, spot}
+use Rattle.md_definition.specs.State.{texts, then_block, then_leaf}
+use Rattle.md_definition.specs.Step.{spot_of, step, steps}
+use Rattle.md_definition.specs.Tree.{Block, Blocks, End}
+use Rattle.md_seam.proofs.SpelledLemmas.{Between, QuietOrPrefix, read-between, read-from, read-prefixes}
+use Rattle.markdown_blocks.specs.Registry.{container_name, shape_of, text_leaf}
+use Rattle.markdown_blocks.specs.Change.{Change, ends_of, is_none}
+use Rattle.markdown_blocks.specs.Fed.{last_leaves, close_containers, rests_from}
+use Rattle.markdown_blocks.specs.Fronted.{Contained, contained, rest_from, rest_line}
+use Rattle.markdown_blocks.specs.Parsed.{IsBuilt}
+use Rattle.markdown_blocks.specs.Rows.{BlankRow, Group, LeafRow, Lines, Row, RowKind, Single, TextRow}
+use Rattle.markdown_blocks.specs.Rows.{ending_events, ending_of, goes_on, groups, groups_events, is_lazy, is_text}
+use Rattle.markdown_blocks.specs.Rows.{last_row, leaf_done, line_kind, onto_groups, onto_lines, read_lines, tail_events}
+use Rattle.markdown_blocks.specs.Stands.{IsPlain, around_of, containers_of, final, final_on, still_of, outer_on}
+use Rattle.markdown_blocks.specs.Stands.{reading, reading_on}
+use Rattle.markdown_blocks.proofs.ContainedLemmas.{contained-shapes, lazy-opens}
+use Rattle.markdown_blocks.proofs.FrontFacts.{Behind, Begins, LinePrefix, Goes}
+use Rattle.markdown_blocks.proofs.LineSteps.{behind_path, contained-lazy, contained_at, goes_further, goes_lazy}
+use Rattle.markdown_blocks.proofs.LineSteps.{kept_to, longer, new_line, new_path, path_by, renewed, spot_by}
+use Rattle.markdown_blocks.proofs.LineSteps.{step-contained}
+use Rattle.markdown_blocks.proofs.LastLine.{Told, containers-over, no_bytes, step_over, steps_over, told}
+use Rattle.markdown_blocks.proofs.StepBehind.{containers-step, goes-on, lazy-text, plain-step, still-step}
+use Rattle.markdown_blocks.specs.Leaf.Paragraph.{held_of}
+use Rattle.markdown_blocks.proofs.Registry.{laws, text-laws}
+use Rattle.markdown_blocks.proofs.RowFacts as f
+use Rattle.markdown_blocks.proofs.LeafFacts.{shown}
+use Rattle.markdown_blocks.proofs.LeafStands.{ending-roles}
+use Rattle.markdown_blocks.proofs.RowLeaf.{block_of, row-facts}
+use Rattle.markdown_blocks.proofs.SpelledParagraphs.{IsRead, read-lines, read-more, read-one}
+use Rattle.markdown_blocks.proofs.PrefixFacts.{begins}
+use Rattle.markdown_blocks.proofs.PrefixNames.{prefixes-roles}
+use Rattle.markdown_blocks.proofs.ContainerNames.{container-facts}
+use Rattle.markdown_blocks.proofs.SpelledPaths.{AreShapes, around-same, close_containers-between}
+use Rattle.markdown_blocks.proofs.SpelledPaths.{close_containers-one, enters, longer-longer, open_path, reading-open}
+use Rattle.markdown_blocks.proofs.SpelledPaths.{reading-with, with_spot}
+
+-- Events.
+
+-- each container ends alike
+pub read-ends : (bytes : List ℕ) (cs : List Container) (p : Point) (r : Reading) →
+    read bytes r (ends_of cs p) ≡ close_containers (length cs) r
+read-ends bytes [] p r = refl
+read-ends bytes (c ∷ cs) p r =
+    let inner : Reading = close_containers (length cs) r in
+    read-from bytes r inner (ends_of cs p) (exit (container_name c) p ∷ []) (read-ends bytes cs p r)
+    ∙ (container-facts c).read_end bytes p inner ∙ sym (close_containers-one (length cs) r)
+
+pub read-tail : (bytes : List ℕ) (name : Name) (row : Row) (r : Reading) → Between (role name) → r.text ≡ None →
+    r.leaf ≡ None → read bytes r (tail_events name row) ≡ close_containers (length row.leaves) r
+read-tail bytes name row r h t l =
+    let size : ℕ = length row.leaves in
+    let next = close_containers-between size r t l in
+    read-from bytes r (close_containers size r) (ends_of row.leaves row.end) (ending_events name row)
+    (read-ends bytes row.leaves row.end r)
+    ∙ read-between bytes (close_containers size r) (ending_events name row) next.0 next.1
+    (ending-roles Between name row h)
+
+-- what stands in front of a line is not read, but for the containers that begin there
+pub read-fronts : (bytes : List ℕ) (opens : List Container) (p q : Point) (es : List Event) (r : Reading) →
+    LinePrefix bytes opens p q es → r.text ≡ None → read bytes r es ≡ enters opens r
+read-fronts bytes opens p q es r (Behind a) t = refl
+read-fronts bytes opens p q es r (Goes many a b d xs ys further more) t =
+    read-from bytes r r xs ys (read-prefixes bytes r xs t (prefixes-roles QuietOrPrefix xs tt tt further.names))
+    ∙ read-fronts bytes many b d ys r more t
+read-fronts bytes opens p q es r (Begins c many a b d xs ys opening more) t =
+    read-from bytes r (begins c r) (enter (container_name c) a ∷ xs) ys (opening.read r t)
+    ∙ read-fronts bytes many b d ys (begins c r) more t
+
+-- the parts of the events of a line, and what follows
+pub read-parts : (bytes : List ℕ) (r a b c d : Reading) (xs ys zs more : List Event) → read bytes r xs ≡ a →
+    read bytes a ys ≡ b → read bytes b zs ≡ c → read bytes c more ≡ d → read bytes r ((xs ++ ys ++ zs) ++ more) ≡ d
+read-parts bytes r a b c d xs ys zs more e f g h =
+    read-from bytes r c (xs ++ ys ++ zs) more (read-from bytes r b (xs ++ ys) zs (read-from bytes r a xs ys e ∙ f) ∙ g)
+    ∙ h
+
+-- Groups.
+
+-- these groups, where a path is open of whose containers so many end first, are read as this
+abbrev pub Reads : ParseOptions → List ℕ → Path → List Container → List Group → Reading → Type 0
+Reads options bytes p closes gs last =
+    read bytes (close_containers (length closes) (reading options p)) (groups_events bytes gs) ≡ last
+
+-- the lines of a text go on an open one or begin one, and with what follows are read as this
+pub record ReadsLines (options : ParseOptions) (bytes : List ℕ) (p : Path) (row : Row) (rows : List Row) (gs : List Group)
+    (last : Reading) : Type 0 where
+  pub first : Kept
+  pub lines : List Kept
+  pub are : IsRead bytes row rows (first ∷ lines)
+  pub behind : read bytes (reading options (longer p (first ∷ lines)))
+      (tail_events n.LineEnding (last_row row rows) ++ groups_events bytes gs) ≡
+      last
+
+pub record StartsLines (options : ParseOptions) (bytes : List ℕ) (p : Path) (row : Row) (gs : List Group)
+    (last : Reading) : Type 0 where
+  pub rows : List Row
+  pub below : List Group
+  pub groups_are : gs ≡ Lines row rows ∷ below
+  pub reads : ReadsLines options bytes p row rows below last
+
+-- What an open leaf of several lines comes to with a further line that begins at this point; one behind the last ending of
+-- the text is no line of the definition.
+abbrev pub first_come : ParseOptions → List ℕ → LeafName → Path → Point → Rest → Came
+first_come options bytes l p a r =
+    cond (nat_lt a.index (length bytes)) ((leaf l).comes options (spot p).leaf r) (Opened (spot p).leaf)
+
+-- what stands behind the last line of such a leaf
+abbrev pub span_tail : Row → List Row → List Event
+span_tail row rows = tail_events (ending_name (is_blank_row (last_row row rows))) (last_row row rows)
+
+-- A line of it and those that go on it are with what follows read as this, where this leaf takes those behind the line,
+-- and the open leaf came to this with it.
+pub record ReadsSpan (options : ParseOptions) (bytes : List ℕ) (l : LeafName) (p : Path) (come : Came) (row : Row)
+    (gs : List Group) (last : Reading) : Type 0 where
+  pub rows : List Row
+  pub below : List Group
+  pub groups_are : gs ≡ Span row rows ∷ below
+  pub are : AreBehind options bytes (leaf l) row rows
+  pub behind : read bytes (reading options (with_came p (come_behind options bytes (leaf l) row rows are come)))
+      (span_tail row rows ++ groups_events bytes below) ≡
+      last
+
+-- the lines from this point on go on the leaf that is open on a path
+pub record StartsSpan (options : ParseOptions) (bytes : List ℕ) (l : LeafName) (p : Path) (a : Point) (row : Row)
+    (gs : List Group) (last : Reading) : Type 0 where
+  pub further : (leaf l).further row.on ≡ true
+  pub is : IsLineOf options bytes (leaf l) row
+  pub reads : ReadsSpan options bytes l p (first_come options bytes l p a is.rest) row gs last
+
+-- by whether the first line goes on the open text, or on an open leaf of several lines
+abbrev pub Means : ParseOptions → List ℕ → Path → Point → Bool → Bool → Row → List Group → Reading → Type 0
+Means options bytes p a true further row gs last = StartsLines options bytes p row gs last
+Means options bytes p a false true row gs last = (l : LeafName) × StartsSpan options bytes l p a row gs last
+Means options bytes p a false false row gs last = Reads options bytes p row.change.closes gs last
+
+-- Behind a line: what follows goes neither on a text nor on another leaf,
+pub record Parts (options : ParseOptions) (bytes : List ℕ) (p : Path) (row : Row) (gs : List Group)
+    (last : Reading) : Type 0 where
+  pub apart : row.kind ≡ TextRow → onto_groups row TextRow gs ≡ Lines row [] ∷ gs
+  pub alone : onto_span row gs ≡ Span row [] ∷ gs
+  pub reads : Reads options bytes p row.leaves gs last
+
+-- or on a text,
+pub record Joins (options : ParseOptions) (bytes : List ℕ) (p : Path) (row : Row) (gs : List Group)
+    (last : Reading) : Type 0 where
+  pub text : is_text row.kind ≡ true
+  pub next : Row
+  pub starts : StartsLines options bytes p next gs last
+  pub leaves : row.leaves ≡ []
+  pub opens : next.change.opens ≡ []
+  pub after : Point
+  pub ending : f.IsEnding bytes row.end after
+  pub fronts : LinePrefix bytes [] after next.first next.front
+
+-- or on a leaf of several lines
+pub record JoinsSpan (options : ParseOptions) (bytes : List ℕ) (p : Path) (row : Row) (gs : List Group)
+    (last : Reading) : Type 0 where
+  pub name : LeafName
+  pub next : Row
+  pub after : Point
+  pub after_is : row.after ≡ Some after
+  pub ending : f.IsEnding bytes row.end after
+  pub fronts : LinePrefix bytes [] after next.first next.front
+  pub on : next.on ≡ row.behind
+  pub further : is_further next.kind next.on ≡ true
+  pub still : still_of p ≡ row.behind
+  pub lines : has_lines row.behind ≡ true
+  pub starts : StartsSpan options bytes name p after next gs last
+
+abbrev pub Follows : ParseOptions → List ℕ → Path → Row → List Group → Reading → Type 0
+Follows options bytes p row gs last =
+    Parts options bytes p row gs last ⊎ (Joins options bytes p row gs last ⊎ JoinsSpan options bytes p row gs last)
+
+pub onto-joined : (row next : Row) (rows : List Row) (gs : List Group) → row.leaves ≡ [] → next.change.opens ≡ [] →
+    onto_lines row next rows gs ≡ Lines row (next ∷ rows) ∷ gs
+onto-joined row next rows gs e h =
+    ap₂
+    (λ (xs ys : List Container).
+    cond (is_none xs && is_none ys) (Lines row (next ∷ rows) ∷ gs) (Lines row [] ∷ Lines next rows ∷ gs)) e h
+
+-- A line of text goes on a text as well where the path is another that is read alike.
+pub starts-alike : (options : ParseOptions) (bytes : List ℕ) (p q : Path) (row : Row) (gs : List Group) (last : Reading) →
+    ((lines : List Kept) → reading options (longer p lines) ≡ reading options (longer q lines)) →
+    StartsLines options bytes p row gs last → StartsLines options bytes q row gs last
+starts-alike options bytes p q row gs last alike starts =
+    let reads = starts.reads in
+    record {
+      rows = starts.rows;
+      below = starts.below;
+      groups_are = starts.groups_are;
+      reads = record {
+        first = reads.first;
+        lines = reads.lines;
+        are = reads.are;
+        behind =
+            ap
+            (λ (r : Reading).
+            read bytes r (tail_events n.LineEnding (last_row row starts.rows) ++ groups_events bytes starts.below))
+            (sym (alike (reads.first ∷ reads.lines)))
+            ∙ reads.behind;
+      };
+    }
+
+-- a line of text, and what follows
+pub starts-lines : (options : ParseOptions) (bytes line : List ℕ) (p : Path) (row : Row) (gs : List Group)
+    (last : Reading) →
+    (is : f.IsRow options bytes line row) → row.kind ≡ TextRow →
+    Follows options bytes (longer p (kept is.rest ∷ [])) row gs last →
+    StartsLines options bytes p row (onto_groups row TextRow gs) last
+starts-lines options bytes line p row gs last is text (inl parts) = record {
+  rows = [];
+  below = gs;
+  groups_are = parts.apart text;
+  reads = record {
+    first = kept is.rest;
+    lines = [];
+    are = read-one options bytes line row is text;
+    behind =
+        let s : Reading = reading options (longer p (kept is.rest ∷ [])) in
+        read-from bytes s (close_containers (length row.leaves) s) (tail_events n.LineEnding row)
+        (groups_events bytes gs) (read-tail bytes n.LineEnding row s tt refl refl)
+        ∙ parts.reads;
+  };
+}
+starts-lines options bytes line p row gs last is text (inr (inr joins)) =
+    let lines = joins.lines in
+    let none = shut-behind options bytes line row is
+    (λ l e. let bad : TextRow ≡ LeafRow l = sym text ∙ e in cc) in
+    cc
+starts-lines options bytes line p row gs last is text (inr (inl joins)) =
+    let below = joins.starts in
+    let reads = below.reads in
+    record {
+      rows = joins.next ∷ below.rows;
+      below = below.below;
+      groups_are =
+          ap (onto_groups row TextRow) below.groups_are
+          ∙ onto-joined row joins.next below.rows below.below joins.leaves joins.opens;
+      reads = record {
+        first = kept is.rest;
+        lines = reads.first ∷ reads.lines;
+        are =
+            read-more options bytes line row joins.next below.rows joins.after
+            (reads.first ∷ reads.lines) is text joins.ending joins.fronts reads.are;
+        behind =
+            subst
+            (λ (x : Path).
+            read bytes (reading options x)
+            (tail_events n.LineEnding (last_row joins.next below.rows) ++ groups_events bytes below.below) ≡
+            last)
+            (longer-longer p (kept is.rest ∷ []) (reads.first ∷ reads.lines)) reads.behind;
+      };
+    }
+
+-- Lines.
+
+-- what is read in front of a line, and what it opens behind that
+pub read-open : (options : ParseOptions) (p : Path) (c : Contained) (row : Row) →
+    AreShapes c.change.stays c.change.closes p → row.change ≡ c.change →
+    enters row.change.opens (close_containers (length row.change.closes) (reading options p)) ≡
+    reading options (open_path options p c)
+read-open options p c row shapes same =
+    ap (λ (x : Change). enters x.opens (close_containers (length x.closes) (reading options p))) same
+    ∙ sym (reading-open options p c shapes)
+
+-- a line that is no text
+pub single-reads : (options : ParseOptions) (bytes : List ℕ) (p : Path) (c : Contained) (row : Row) (gs : List Group)
+    (last : Reading) (new : Path) (name : Name) (leaf : List Event) →
+    AreShapes c.change.stays c.change.closes p →
+    row.change ≡ c.change → (a : Point) → LinePrefix bytes row.change.opens a row.first row.front →
+    ((e : Reading) → e ≡ reading options (open_path options p c) → read bytes e leaf ≡ reading options new) →
+    Between (role name) → Reads options bytes new row.leaves gs last →
+    read bytes (close_containers (length row.change.closes) (reading options p))
+    ((row.front ++ leaf ++ tail_events name row) ++ groups_events bytes gs) ≡
+    last
+single-reads options bytes p c row gs last new name leaf shapes change a fronts found between reads =
+    let start : Reading = close_containers (length row.change.closes) (reading options p) in
+    let begin : Reading = enters row.change.opens start in
+    let text = close_containers-between (length row.change.closes) (reading options p) refl refl in
+    read-parts bytes start begin (reading options new)
+    (close_containers (length row.leaves) (reading options new)) last row.front leaf (tail_events name row)
+    (groups_events bytes gs)
+    (read-fronts bytes row.change.opens a row.first row.front start fronts text.0)
+    (found begin (read-open options p c row shapes change))
+    (read-tail bytes name row (reading options new) between refl refl) reads
+
+pub kind-name : (l m : LeafName) → LeafRow l ≡ LeafRow m → l ≡ m
+kind-name l m e = cc
+
+pub text-kind : (kind : RowKind) → is_text kind ≡ true → kind ≡ TextRow
+text-kind TextRow e = refl
+text-kind BlankRow e = cc
+text-kind (LeafRow l) e = cc
+
+pub other-kind : (kind : RowKind) → kind ≢ TextRow → is_text kind ≡ false
+other-kind BlankRow other = refl
+other-kind (LeafRow l) other = refl
+other-kind TextRow other = absurd (other refl)
+
+-- what a line is, by what is left of it behind its containers
+pub line-is : (options : ParseOptions) (bytes : List ℕ) (cs : List Container) (still : HeldLeaf) (p : Point) (line : List ℕ)
+    (row : Row) →
+    f.IsLine options bytes cs still p line row →
+    let c = contained options cs still (rest_from p line) in row.kind ≡ line_kind options c.on c.rest
+line-is options bytes cs still p line row is = is.is.kind ∙ ap₂ (line_kind options) is.on is.rest_is
+
+-- and what is open behind it
+pub line-behind : (options : ParseOptions) (bytes : List ℕ) (cs : List Container) (still : HeldLeaf) (p : Point)
+    (line : List ℕ) (row : Row) →
+    f.IsLine options bytes cs still p line row →
+    let c = contained options cs still (rest_from p line) in
+    row.behind ≡ line_behind options c.on c.rest (line_kind options c.on c.rest)
+line-behind options bytes cs still p line row is =
+    is.is.behind
+    ∙ ap₂ (λ (on : HeldLeaf) (r : Rest). line_behind options on r row.kind) is.on is.rest_is
+    ∙ ap (line_behind options (contained options cs still (rest_from p line)).on
+    (contained options cs still (rest_from p line)).rest) (line-is options bytes cs still p line row is)
+
+pub still-line : (options : ParseOptions) (bytes : List ℕ) (a : Path) (p : Point) (line : List ℕ) (row : Row) →
+    IsBuilt options →
+    IsPlain a → f.IsLine options bytes (containers_of a) (still_of a) p line row →
+    still_of (step options a (rest_from p line)) ≡ row.behind
+still-line options bytes a p line row built plain is =
+    still-step options a (rest_from p line) built plain
+    ∙ sym (line-behind options bytes (containers_of a) (still_of a) p line row is)
+
+-- the ending of a line opens no line of a leaf
+pub ending-role : (blank : Bool) → Between (role (ending_name blank))
+ending-role true = tt
+ending-role false = tt
+
+-- a line that is no text, and no line of a leaf of several, comes to the block that it shows
+pub shown-leaf : (options : ParseOptions) (p : Path) (r : Rest) (kind : RowKind) → kind ≢ TextRow → EndsOnLine kind →
+    shown (block_of kind r) (reading options p) ≡
+    record (reading options p) { here = shut options (spot_by options (reading options p).here [] r kind) }
+shown-leaf options p r BlankRow other ends = refl
+shown-leaf options p r (LeafRow l) other ends =
+    ap (λ (c : Came). record (reading options p) { here = shut options (came (reading options p).here c) })
+    (sym ((laws l).finishes (ends l refl) options NoLeaf r))
+shown-leaf options p r TextRow other ends = absurd (other refl)
+
+pub no-joins : (options : ParseOptions) (bytes line : List ℕ) (p : Path) (row : Row) (gs : List Group) (last : Reading) →
+    f.IsRow options bytes line row → is_text row.kind ≡ false → EndsOnLine row.kind →
+    Follows options bytes p row gs last → Reads options bytes p row.leaves gs last
+no-joins options bytes line p row gs last is none ends (inl parts) = parts.reads
+no-joins options bytes line p row gs last is none ends (inr (inl joins)) = let text = joins.text in cc
+no-joins options bytes line p row gs last is none ends (inr (inr joins)) =
+    let lines = joins.lines in let shut = shut-behind options bytes line row is ends in cc
+
+-- Leaves of several lines.
+
+pub came-with : (p : Path) (c : Came) → with_came p c ≡ with_spot p (λ bs. came bs c)
+came-with (At s) c = refl
+came-with (Within before container p) c = ap (Within before container) (came-with p c)
+
+pub came-open : (p : Path) → with_came p (Opened (spot p).leaf) ≡ p
+came-open (At s) = refl
+came-open (Within before container p) = ap (Within before container) (came-open p)
+
+pub came-came : (p : Path) (open_leaf : Leaf) (c : Came) → with_came (with_came p (Opened open_leaf)) c ≡ with_came p c
+came-came (At s) open_leaf c = refl
+came-came (Within before container p) open_leaf c = ap (Within before container) (came-came p open_leaf c)
+
+-- what has lines is open
+pub lines-opened : (c : Came) → has_lines (kind_of_leaf (left_by c)) ≡ true → c ≡ Opened (left_by c)
+lines-opened (Opened open_leaf) e = refl
+lines-opened (Finished block) e = cc
+
+-- what a line changes of the containers, the events do not tell
+pub reading-came : (options : ParseOptions) (stays closes : List Container) (outer : List Around) (p : Path) (c : Came) →
+    AreShapes stays closes p →
+    reading_on options outer (with_came (renewed stays p) c) ≡ reading_on options outer (with_came p c)
+reading-came options [] closes outer p c e = refl
+reading-came options (d ∷ stays) closes outer (At s) c e = refl
+reading-came options (d ∷ stays) closes outer (Within before container p) c e =
+    let same : shape_of d ≡ shape_of container = cc in
+    let more : AreShapes stays closes p = cc in
+    ap (λ (around : Around). reading_on options (around ∷ outer) (with_came (renewed stays p) c))
+    (around-same d container before same)
+    ∙ reading-came options stays closes (around_of container before ∷ outer) p c more
+
+pub span-alike : (options : ParseOptions) (bytes : List ℕ) (l : LeafName) (p q : Path) (come : Came) (row : Row)
+    (gs : List Group) (last : Reading) →
+    ((c : Came) → reading options (with_came p c) ≡ reading options (with_came q c)) →
+    ReadsSpan options bytes l p come row gs last → ReadsSpan options bytes l q come row gs last
+span-alike options bytes l p q come row gs last alike is = record {
+  rows = is.rows;
+  below = is.below;
+  groups_are = is.groups_are;
+  are = is.are;
+  behind =
+      ap (λ (r : Reading). read bytes r (span_tail row is.rows ++ groups_events bytes is.below))
+      (sym (alike (come_behind options bytes (leaf l) row is.rows is.are come)))
+      ∙ is.behind;
+}
+
+-- a line of a leaf, and what follows
+pub span-rows : (options : ParseOptions) (bytes : List ℕ) (l m : LeafName) (p : Path) (come : Came) (row : Row)
+    (gs : List Group) (last : Reading) →
+    (ends : is_text row.kind ≡ false) → further_of m ≡ l → IsLineOf options bytes (leaf m) row →
+    Follows options bytes (with_came p come) row gs last →
+    ReadsSpan options bytes l p come row (onto_span row gs) last
+span-rows options bytes l m p come row gs last other same is (inl parts) = record {
+  rows = [];
+  below = gs;
+  groups_are = parts.alone;
+  are = tt;
+  behind =
+      let s : Reading = reading options (with_came p come) in
+      read-from bytes s (close_containers (length row.leaves) s) (span_tail row []) (groups_events bytes gs)
+      (read-tail bytes (ending_of row.kind row) row s (ending-role (is_blank_row row)) refl refl)
+      ∙ parts.reads;
+}
+span-rows options bytes l m p come row gs last other same is (inr (inl joins)) = let text = joins.text in cc
+span-rows options bytes l m p come row gs last other same is (inr (inr joins)) =
+    let name : joins.name ≡ l = further-is m joins.name options row.on is.rest
+    (ap (leaf joins.name).further (sym (joins.on ∙ is.behind)) ∙ joins.starts.further)
+    ∙ same in
+    let next : StartsSpan options bytes l (with_came p come) joins.after joins.next gs
+    last = subst (λ (k : LeafName). StartsSpan options bytes k (with_came p come) joins.after joins.next gs last)
+    name joins.starts in
+    let reads = next.reads in
+    let left : (spot (with_came p come)).leaf ≡ left_by come = came-spot p come in
+    let opened : come ≡ Opened (left_by come) = lines-opened come
+    (ap (λ (x : Leaf). has_lines (kind_of_leaf x)) (sym left) ∙ ap has_lines joins.still ∙ joins.lines) in
+    let in_text : Bool = nat_lt joins.after.index (length bytes) in
+    let to : Path → Came → Reading =
+    λ (x : Path) (c : Came).
+    reading options (with_came x (come_behind options bytes (leaf l) joins.next reads.rows reads.are c)) in
+    let first : first_come options bytes l (with_came p come) joins.after next.is.rest ≡
+    cond in_text ((leaf l).comes options (left_by come) next.is.rest) come =
+    ap (λ (x : Leaf). cond in_text ((leaf l).comes options x next.is.rest) (Opened x)) left
+    ∙ ap (λ (c : Came). cond in_text ((leaf l).comes options (left_by come) next.is.rest) c) (sym opened) in
+    let twice : (c : Came) → with_came (with_came p come) c ≡ with_came p c =
+    λ c. ap (λ (d : Came). with_came (with_came p d) c) opened ∙ came-came p (left_by come) c in
+    record {
+      rows = joins.next ∷ reads.rows;
+      below = reads.below;
+      groups_are =
+          ap (onto_span row) reads.groups_are
+          ∙ ap
+          (λ (x : Bool).
+          cond x (Span row (joins.next ∷ reads.rows) ∷ reads.below)
+          (Span row [] ∷ Span joins.next reads.rows ∷ reads.below))
+          joins.further;
+      are = (
+        joins.after,
+        joins.after_is,
+        joins.ending,
+        joins.fronts,
+        joins.on,
+        next.further,
+        next.is,
+        reads.are,
+      );
+      behind =
+          ap (λ (r : Reading). read bytes r (span_tail joins.next reads.rows ++ groups_events bytes reads.below))
+          (sym
+          (ap (to (with_came p come)) first
+          ∙ ap (reading options)
+          (twice
+          (come_behind options bytes (leaf l) joins.next reads.rows reads.are
+          (cond in_text ((leaf l).comes options (left_by come) next.is.rest) come)))))
+          ∙ reads.behind;
+    }
+
+-- a line that begins a leaf is read with those that go on it
+pub begun-reads : (options : ParseOptions) (bytes : List ℕ) (l : LeafName) (o : Path) (row : Row) (gs : List Group)
+    (last : Reading) →
+    (leaf l).ends ≡ false → (is : IsLineOf options bytes (leaf l) row) → (leaf l).further row.on ≡ false →
+    (spot o).leaf ≡ NoLeaf → (begin : Reading) → begin ≡ reading options o →
+    (spans : ReadsSpan options bytes (further_of l) o ((leaf l).comes options NoLeaf is.rest) row gs last) →
+    read bytes begin
+    (span_done bytes row spans.rows ++ (span_tail row spans.rows ++ groups_events bytes spans.below)) ≡
+    last
+begun-reads options bytes l o row gs last ends is begins none begin same spans =
+    let laws : SpanLaws (leaf l) (leaf (further_of l)) = span-laws l ends in
+    let come : Came = come_behind options bytes (leaf (further_of l)) row spans.rows spans.are
+    ((leaf l).comes options NoLeaf is.rest) in
+    let block : Block = laws.block options bytes row spans.rows is spans.are in
+    let whole : List Event = span_done bytes row spans.rows in
+    let new : Reading = reading options (with_came o come) in
+    read-from bytes begin new whole (span_tail row spans.rows ++ groups_events bytes spans.below)
+    (ap (λ (x : Reading). read bytes x whole) same
+    ∙ (laws.facts options bytes row spans.rows is begins spans.are).reads (reading options o) refl refl
+    ∙ ap (λ (bs : Blocks). record (reading options o) { here = bs })
+    (sym (laws.shuts options bytes row spans.rows is begins spans.are (reading options o).here))
+    ∙ sym (reading-with options o (λ bs. came bs come) none)
+    ∙ ap (reading options) (sym (came-with o come)))
+    ∙ spans.behind
