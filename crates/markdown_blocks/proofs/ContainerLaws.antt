@@ -7,7 +7,7 @@ use Rattle.md_engine.specs.declared.tokenizer.container.Container.{Container as 
 use Rattle.md_engine.specs.declared.tokenizer.container.name.ContainerKind.{ContainerKind}
 use Rattle.md_engine.specs.declared.tokenizer.Line.{Line}
 use Rattle.md_engine.specs.Meaning.{Cell, Here, Refuses}
-use Rattle.md_engine.specs.Over.{kind_goes_over}
+use Rattle.md_engine.specs.ContainerName.{kind_goes_over}
 use Rattle.md_engine.specs.World.{container_of}
 use Rattle.md_containers.specs.Interrupts.{interrupts}
 use Rattle.md_containers.proofs.Shorter.{Shortens}

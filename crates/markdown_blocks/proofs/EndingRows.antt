@@ -2,9 +2,8 @@
 use Rattle.md_engine.specs.declared.tokenizer.held_leaf.HeldLeaf.TheVariants as held_leaf
 use Rattle.std.proofs.Common.{◌≡◌, ℕ, Bool, true, false, cond, List, [], ◌∷◌, ◌++◌, refl, ap, sym, ◌∙◌, append_assoc}
 use Rattle.std.proofs.Common.{subst}
-use Rattle.markdown_blocks.proofs.GroupFacts.{span-block, span-leaf}
-use Rattle.markdown_blocks.proofs.GroupsAre.{AreSpan}
-use Rattle.markdown_blocks.specs.Rows.{is_blank_by, is_empty_row, last_row}
+use Rattle.markdown_blocks.proofs.GroupsAre.{span-begins}
+use Rattle.markdown_blocks.proofs.Registry.{leaf-ends}
 use Rattle.markdown_blocks.specs.Registry.{leaf}
 use Rattle.markdown_blocks.specs.Rows.{Span, is_further, onto_leaf}
 use Rattle.std.specs.Prelude.{Option, Some, None, not}
@@ -175,12 +174,6 @@ ending-leads : (blank : Bool) (p q : Point) → Leads (spot_behind (not blank)) 
 ending-leads true p q ys = refl
 ending-leads false p q ys = refl
 
--- the lines of a leaf of several end as one on which something stands or not
-span-blank : (options : ParseOptions) (bytes : List ℕ) (row : Row) (rows : List Row) →
-    AreSpan options bytes row rows → is_blank_group (Span row rows) ≡ is_empty_row (last_row row rows)
-span-blank options bytes row [] are = ap (λ (kind : RowKind). is_blank_by kind row) are.kind ∙ are.is.empty
-span-blank options bytes row (next ∷ rows) are = span-blank options bytes next rows are.8
-
 -- the leaf of each group is such
 group-ends : (options : ParseOptions) (bytes : List ℕ) (group : Group) (gs : List Group) →
     AreGroups options bytes (group ∷ gs) → LeafEnds bytes group
@@ -190,15 +183,12 @@ group-ends options bytes (Single row) gs are =
       block = block_of row.kind is.is.rest;
       facts = row-facts options bytes is.line row is.is is.other is.ends;
     }
+-- none is built of several lines, whose last may have nothing on it but prefixes
 group-ends options bytes (Span row rows) gs are =
-    record {
-      block = Some (span-block options bytes row rows are.0);
-      facts =
-          subst (λ (blank : Bool).
-          LeafFacts bytes (Some (span-block options bytes row rows are.0)) (not blank) row.first (last_row row rows).end
-          (group_unread bytes (Span row rows)) (group_done bytes (Span row rows)))
-          (sym (span-blank options bytes row rows are.0)) (span-leaf options bytes row rows are.0 are.4);
-    }
+    let is = span-begins options bytes row rows are.0 in
+    let ends = leaf-ends is.name in
+    let open_leaf = is.open_leaf in
+    cc
 group-ends options bytes (Lines row rows) gs are =
     record {
       block = Some (text_leaf.block (texts (kept-of options bytes row rows are.0)));

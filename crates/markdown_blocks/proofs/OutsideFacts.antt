@@ -1,11 +1,11 @@
 -- Events among which no part of some names begins, or ends.
 --
 -- A resolver asks for the begins of the parts that it rewrites, and it is registered where such a part ends.
-use Rattle.std.proofs.Common.{◌≡◌, Bool, false, ◌&&◌, List, ◌++◌}
+use Rattle.std.proofs.Common.{◌≡◌, Bool, false, ◌&&◌, List, [], ◌∷◌, ◌++◌, refl, ap}
 use Rattle.md_engine.specs.declared.event.Event.{Event}
 use Rattle.md_engine.specs.declared.event.Name.{Name}
 use Rattle.md_seam.specs.Events.Nested.{is_enter, is_exit}
-use Rattle.markdown_blocks.specs.Registry.{is_own}
+use Rattle.markdown_blocks.specs.Registry.{is_own, resolved}
 use Rattle.markdown_blocks.proofs.EachEvent.{Each, each-append}
 
 -- no part with such a name ends with an event
@@ -24,3 +24,8 @@ AreOutside es = Each IsOutside es
 
 pub outside-append : (xs ys : List Event) → AreOutside xs → AreOutside ys → AreOutside (xs ++ ys)
 outside-append xs ys h k = each-append IsOutside xs ys h k
+
+-- resolvers pass them
+pub resolved-outside : (xs ys : List Event) → AreOutside xs → resolved (xs ++ ys) ≡ xs ++ resolved ys
+resolved-outside [] ys h = refl
+resolved-outside (e ∷ xs) ys h = rw h.0 (ap (λ (l : List Event). e ∷ l) (resolved-outside xs ys h.1))

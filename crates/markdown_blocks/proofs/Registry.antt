@@ -63,13 +63,13 @@ use Rattle.markdown_blocks.proofs.ContainerNames.{is_front}
 use Rattle.markdown_blocks.proofs.Goods.{Anywhere, ContainerFits, IsWithin}
 use Rattle.markdown_blocks.proofs.HeadingAtx.Found.{heading-found, heading-shallow}
 use Rattle.markdown_blocks.proofs.HeadingAtx.Laws.{heading-laws}
-use Rattle.markdown_blocks.proofs.HeadingAtx.Outside.{front-heading, heading-passes}
+use Rattle.markdown_blocks.proofs.HeadingAtx.Outside.{front-heading}
 use Rattle.markdown_blocks.proofs.HeadingAtx.Registers.{heading-registers}
 use Rattle.markdown_blocks.proofs.LeafLaws.{LeafLaws}
 use Rattle.markdown_blocks.proofs.ListItem.Laws.{item-laws}
 use Rattle.markdown_blocks.proofs.ListItem.Plain.{item-plain}
 use Rattle.markdown_blocks.proofs.ListItem.Registers.{item-registers}
-use Rattle.markdown_blocks.proofs.OutsideFacts.{AreOutside}
+use Rattle.markdown_blocks.proofs.OutsideFacts.{AreOutside, resolved-outside}
 use Rattle.markdown_blocks.proofs.OpenSpan.{AllBegin, Begun, OpenSpan}
 use Rattle.markdown_blocks.proofs.Paragraph.Laws.{paragraph-laws}
 use Rattle.markdown_blocks.proofs.PlainLaws.{PlainLaws}
@@ -234,7 +234,7 @@ text-laws = paragraph-laws
 
 -- they pass events where nothing begins that is their own
 pub outside-passes : (xs ys : List Event) → AreOutside xs → resolved (xs ++ ys) ≡ xs ++ resolved ys
-outside-passes xs ys h = heading-passes xs ys h
+outside-passes xs ys h = resolved-outside xs ys h
 
 -- nothing of this stands in front of a line
 pub front-own : (name : Name) → is_front name ≡ true → is_own name ≡ false

@@ -1,4 +1,5 @@
--- The names of the events of containers.
+-- The kinds of containers: the names of their events, and what else the engine tells by the kind.
+use Rattle.std.specs.Prelude.{Bool, false, not}
 use Rattle.md_engine.specs.declared.event.Name.{Name}
 use Rattle.md_engine.specs.declared.event.Name.TheVariants as n
 use Rattle.md_engine.specs.declared.tokenizer.container.name.ContainerKind.{ContainerKind}
@@ -8,3 +9,13 @@ use Rattle.md_engine.specs.declared.tokenizer.container.name.ContainerKind.TheVa
 abbrev pub name_of : ContainerKind → Name
 name_of kind.BlockQuote = n.BlockQuote
 name_of kind.ListItem = n.ListItem
+
+-- the first of them, of which is what no question is asked of yet
+abbrev pub first_kind : ContainerKind
+first_kind = kind.BlockQuote
+
+-- whether a container of a kind goes on over an empty line, by whether it started blank: a list item that did not
+-- (CommonMark 5.2)
+abbrev pub kind_goes_over : ContainerKind → Bool → Bool
+kind_goes_over kind.BlockQuote blank = false
+kind_goes_over kind.ListItem blank = not blank

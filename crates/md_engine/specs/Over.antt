@@ -1,17 +1,10 @@
 -- Open containers that go on over an empty line.
-use Rattle.std.specs.Prelude.{◌≡◌, ℕ, ◌<◌, ◌≤◌, Bool, true, false, not, List, length, get_or}
+use Rattle.std.specs.Prelude.{◌≡◌, ℕ, ◌<◌, ◌≤◌, Bool, true, false, List, length, get_or}
 use Rattle.md_engine.specs.declared.tokenizer.container.Container.{Container}
-use Rattle.md_engine.specs.declared.tokenizer.container.name.ContainerKind.{ContainerKind}
-use Rattle.md_engine.specs.declared.tokenizer.container.name.ContainerKind.TheVariants.{BlockQuote, ListItem}
 use Rattle.md_engine.specs.declared.over.Over.{Over}
+use Rattle.md_engine.specs.ContainerName.{kind_goes_over}
 
--- whether a container of a kind goes on over an empty line, by whether it started blank: a list item that did not
--- (CommonMark 5.2)
-abbrev pub kind_goes_over : ContainerKind → Bool → Bool
-kind_goes_over BlockQuote blank = false
-kind_goes_over ListItem blank = not blank
-
--- whether an open container does
+-- whether an open container does, by its kind
 abbrev pub goes_over_empty : Container → Bool
 goes_over_empty c = kind_goes_over c.kind c.starts_blank
 

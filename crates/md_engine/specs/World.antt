@@ -8,7 +8,7 @@ use Rattle.md_engine.specs.declared.event.Event.{Event}
 use Rattle.md_engine.specs.declared.resolve.name.Name.{Name as ResolveName}
 use Rattle.md_engine.specs.declared.tokenizer.container.Container.{Container}
 use Rattle.md_engine.specs.declared.tokenizer.container.name.ContainerKind.{ContainerKind}
-use Rattle.md_engine.specs.declared.tokenizer.container.name.ContainerKind.TheVariants as kind
+use Rattle.md_engine.specs.ContainerName.{first_kind}
 use Rattle.md_engine.specs.declared.tokenizer.held_leaf.HeldLeaf.{HeldLeaf}
 use Rattle.md_engine.specs.declared.tokenizer.held_leaf.HeldLeaf.TheVariants as held_leaf
 use Rattle.md_engine.specs.declared.tokenizer.Frame.{Frame}
@@ -136,7 +136,7 @@ fresh bytes options p = record {
     leaf_before = held_leaf.None;
     containers = [];
     continued = 0;
-    asked = container_of kind.BlockQuote;
+    asked = container_of first_kind;
     asked_column = 0;
     line_end = 0;
   };

@@ -25,7 +25,7 @@ use crate::resolve::Name as ResolveName;
 use crate::spread::Spread;
 use crate::state::State;
 use crate::stay::Stay;
-use crate::tokenizer::container::name::name_of;
+use crate::tokenizer::container::name::{first_kind, name_of};
 pub use crate::tokenizer::container::{Container, ContainerKind};
 pub use crate::tokenizer::held_leaf::HeldLeaf;
 use std::alloc::Global;
@@ -339,7 +339,7 @@ impl<'a> Tokenizer<'a> {
                 blank: false,
                 leaf_before: HeldLeaf::None,
                 continued: 0,
-                asked: Container::new(ContainerKind::BlockQuote),
+                asked: Container::new(first_kind()),
                 asked_column: 0,
                 line_end: 0,
             },

@@ -24,18 +24,17 @@ use Rattle.markdown_blocks.specs.Registry.{is_own, resolved}
 use Rattle.markdown_blocks.proofs.ContentFacts.{NoContent}
 use Rattle.markdown_blocks.proofs.EachEvent.{Each}
 use Rattle.markdown_blocks.proofs.Fence.Each.{adds-each, is_block_name, is_fence_name, line-each}
-use Rattle.markdown_blocks.proofs.HeadingAtx.Outside.{heading-passes}
-use Rattle.markdown_blocks.proofs.OutsideFacts.{AreOutside, IsOutside}
+use Rattle.markdown_blocks.proofs.OutsideFacts.{AreOutside, IsOutside, resolved-outside}
 
 -- Its names.
 
 name-own : (name : Name) → is_fence_name name ≡ true → is_own name ≡ false
-name-own n.HeadingAtx e = cc
-name-own _ e = refl
+name-own n.SpaceOrTab e = refl
+name-own _ e = cc
 
 block-own : (name : Name) → is_block_name name ≡ true → is_own name ≡ false
-block-own n.HeadingAtx e = cc
-block-own _ e = refl
+block-own n.CodeFenced e = refl
+block-own _ e = cc
 
 block-content : (name : Name) → is_block_name name ≡ true → is_content name ≡ false
 block-content n.Content e = cc
@@ -57,7 +56,7 @@ fence-own options leaf cells p =
 pub fence-set : (line : List ℕ) (p : Point) (es : List Event) →
     resolved (fence_line linked line p ++ es) ≡ fence_line linked line p ++ resolved es
 fence-set line p es =
-    heading-passes (fence_line linked line p) es
+    resolved-outside (fence_line linked line p) es
     (line-each IsOutside (λ name is q. (name-own name is, refl))
     (λ name is q. (block-own name is, refl)) linked (λ p q. (refl, (refl, tt))) line p)
 

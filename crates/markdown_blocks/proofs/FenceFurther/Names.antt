@@ -16,7 +16,6 @@ use Rattle.md_engine.specs.Meaning.{Cell}
 use Rattle.md_content.specs.Joined.{is_content}
 use Rattle.md_definition.specs.Leaves.{closes}
 use Rattle.md_definition.specs.Rest.{Rest, indent, lose, run_len, trim_start}
-use Rattle.md_leaves.specs.HeadingText.{is_heading}
 use Rattle.md_lines.specs.Fence.{block_name, chunk_name, fence_name, held_indent, held_marker, sequence_name}
 use Rattle.md_lines.specs.FenceLine.{chunk_events, closes_here, closing_end, closing_events, further_inside, spaces}
 use Rattle.md_lines.specs.FenceRule.{is_end, is_line, run_end, run_rest}
@@ -185,16 +184,16 @@ inside-each P more options on cells p es h = go (closes_here options on cells)
 
 -- What stands in the line has no name of a resolver's, and no content.
 
-inside-heading : (name : Name) → is_inside name ≡ true → is_heading name ≡ false
-inside-heading n.HeadingAtx e = absurd (cc)
-inside-heading _ e = refl
+inside-own : (name : Name) → is_inside name ≡ true → is_own name ≡ false
+inside-own n.SpaceOrTab e = refl
+inside-own _ e = cc
 
 inside-content : (name : Name) → is_inside name ≡ true → is_content name ≡ false
 inside-content n.Content e = absurd (cc)
 inside-content _ e = refl
 
-block-heading : (m : ℕ) → is_heading (block_name m) ≡ false
-block-heading m = either-name (λ a. is_heading a ≡ false) (m == 36) _ _ refl refl
+block-own : (m : ℕ) → is_own (block_name m) ≡ false
+block-own m = either-name (λ a. is_own a ≡ false) (m == 36) _ _ refl refl
 
 block-content : (m : ℕ) → is_content (block_name m) ≡ false
 block-content m = either-name (λ a. is_content a ≡ false) (m == 36) _ _ refl refl
@@ -207,8 +206,8 @@ and-false false = refl
 pub further-own : (options : ParseOptions) (on : HeldLeaf) (cells : List Cell) (p : Point) →
     NoEnds is_own (fence_further.adds options on cells p) → AreOutside (fence_further.adds options on cells p)
 further-own options on cells p h = (
-  block-heading (held_marker on),
-  inside-each AreOutside (λ kind name x es e k. (rw (inside-heading name e) (and-false (is_enter kind)), k)) options on
+  block-own (held_marker on),
+  inside-each AreOutside (λ kind name x es e k. (rw (inside-own name e) (and-false (is_enter kind)), k)) options on
       cells p _ (refl, tt),
 )
 
@@ -231,14 +230,14 @@ further-no_content wants flow options on cells p = (
 abbrev Set : List Event → Type 0
 Set es = (ys : List Event) → resolved (es ++ ys) ≡ es ++ resolved ys
 
-set-more : (e : Event) (es : List Event) → is_heading e.name ≡ false → Set es → Set (e ∷ es)
+set-more : (e : Event) (es : List Event) → is_own e.name ≡ false → Set es → Set (e ∷ es)
 set-more e es other h ys = rw (other, and-false (is_enter e.kind)) (ap (λ (l : List Event). e ∷ l) (h ys))
 
 -- what stands in the line
 pub parts-set : (options : ParseOptions) (on : HeldLeaf) (r : Rest) (p q : Point) (es : List Event) →
     resolved (further_parts options on r p q ++ es) ≡ further_parts options on r p q ++ resolved es
 parts-set options on r p q =
-    parts-each Set (λ ys. refl) (λ kind name x es e k. set-more (part_event kind name x) es (inside-heading name e) k)
+    parts-each Set (λ ys. refl) (λ kind name x es e k. set-more (part_event kind name x) es (inside-own name e) k)
     options on r p q
 
 -- and the whole line
@@ -250,8 +249,8 @@ further-set options on line p es =
     let r = rest_of p line in
     let inside = further_parts options on r p q in
     let last = exit (block_name m) q in
-    set-more (enter_link (block_name m) p further_link) (inside ++ last ∷ []) (block-heading m)
+    set-more (enter_link (block_name m) p further_link) (inside ++ last ∷ []) (block-own m)
     (λ ys. ap resolved (append_assoc inside (last ∷ []) ys)
     ∙ parts-set options on r p q (last ∷ ys)
-    ∙ ap (λ (l : List Event). inside ++ l) (set-more last [] (block-heading m) (λ ys. refl) ys)
+    ∙ ap (λ (l : List Event). inside ++ l) (set-more last [] (block-own m) (λ ys. refl) ys)
     ∙ sym (append_assoc inside (last ∷ []) (resolved ys))) es

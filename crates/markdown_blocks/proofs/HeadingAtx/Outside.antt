@@ -1,14 +1,13 @@
--- The resolver of headings passes events in which no heading begins; and none begins in a heading that does not end.
+-- No heading stands in front of a line, and none begins in a heading that does not end.
 use Rattle.md_engine.specs.declared.tokenizer.held_leaf.HeldLeaf.TheVariants as held_leaf
-use Rattle.std.proofs.Common.{◌≡◌, Bool, true, false, cond, List, [], ◌∷◌, ◌++◌, refl, ap, ◌∙◌}
+use Rattle.std.proofs.Common.{◌≡◌, true, false, List, [], ◌∷◌, refl}
 use Rattle.md_engine.specs.declared.configuration.ParseOptions.{ParseOptions}
-use Rattle.md_engine.specs.declared.event.Event.{Event}
 use Rattle.md_engine.specs.declared.event.Name.{Name}
 use Rattle.md_engine.specs.declared.event.Name.TheVariants as n
 use Rattle.md_engine.specs.declared.event.Point.{Point}
 use Rattle.md_engine.specs.Meaning.{Cell}
 use Rattle.md_leaves.specs.HeadingRule.{heading_inside}
-use Rattle.md_leaves.specs.HeadingText.{Before, Outside, headings_resolved, is_heading, resolved}
+use Rattle.md_leaves.specs.HeadingText.{is_heading}
 use Rattle.md_seam.specs.Ahead.{line_end}
 use Rattle.md_seam.specs.Events.Nested.{exit}
 use Rattle.markdown_blocks.specs.Leaf.HeadingAtx.{heading_leaf}
@@ -16,12 +15,6 @@ use Rattle.markdown_blocks.specs.Registry.{is_own}
 use Rattle.markdown_blocks.proofs.EachEvent.{each-behind}
 use Rattle.markdown_blocks.proofs.OutsideFacts.{AreOutside, IsNoEnd, NoEnds}
 use Rattle.markdown_blocks.proofs.ContainerNames.{is_front}
-
-pub heading-passes : (xs ys : List Event) → AreOutside xs → headings_resolved (xs ++ ys) ≡ xs ++ headings_resolved ys
-heading-passes [] ys h = refl
-heading-passes (e ∷ xs) ys h =
-    ap (λ (x : Bool). e ∷ resolved (cond x Before Outside) (xs ++ ys)) h.0
-    ∙ ap (λ (l : List Event). e ∷ l) (heading-passes xs ys h.1)
 
 -- no heading stands in front of a line
 pub front-heading : (name : Name) → is_front name ≡ true → is_heading name ≡ false

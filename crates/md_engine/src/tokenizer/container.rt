@@ -30,14 +30,10 @@ impl Container {
         }
     }
 
-    /// Whether it goes on over an empty line, of which it takes nothing: a list item does that did not start blank
-    /// (CommonMark 5.2).
+    /// Whether it goes on over an empty line, of which it takes nothing.
     pub fn goes_over_empty(self) -> bool
         ensures { result ≡ goes_over_empty self }
     {
-        match self.kind {
-            ContainerKind::BlockQuote => false,
-            ContainerKind::ListItem => !self.starts_blank,
-        }
+        name::kind_goes_over(self.kind, self.starts_blank)
     }
 }

@@ -1,7 +1,7 @@
-// The kinds of containers, and the names of their events.
+// The kinds of containers: the names of their events, and what else the engine tells by the kind.
 
 ghost use Rattle.std.specs.Prelude.{◌≡◌};
-ghost use Rattle.md_engine.specs.ContainerName.{name_of};
+ghost use Rattle.md_engine.specs.ContainerName.{first_kind, kind_goes_over, name_of};
 
 use crate::event::Name;
 
@@ -10,6 +10,26 @@ use crate::event::Name;
 pub enum ContainerKind {
     BlockQuote,
     ListItem,
+}
+
+/// The first of the kinds: of it is what no question is asked of yet.
+#[inline(always)]
+pub(crate) fn first_kind() -> ContainerKind
+    ensures { result ≡ first_kind }
+{
+    ContainerKind::BlockQuote
+}
+
+/// Whether a container of a kind goes on over an empty line, of which it takes nothing, by whether it started blank: a
+/// list item does that did not (CommonMark 5.2).
+#[inline(always)]
+pub(crate) fn kind_goes_over(kind: ContainerKind, starts_blank: bool) -> bool
+    ensures { result ≡ kind_goes_over kind starts_blank }
+{
+    match kind {
+        ContainerKind::BlockQuote => false,
+        ContainerKind::ListItem => !starts_blank,
+    }
 }
 
 /// The name of a container's events.
