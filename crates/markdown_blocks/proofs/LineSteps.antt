@@ -84,13 +84,12 @@ met-all still = go (takes_lazy still)
 concrete-line : (options : ParseOptions) (s : Spot) (r : Rest) (open_leaf : Leaf) → is_concrete open_leaf ≡ true →
     leaf_line_by options s r open_leaf ≡ on_or_fresh options s r (goes_on options open_leaf r)
 concrete-line options s r NoLeaf e = cc
-concrete-line options s r (OpenParagraph lines) e = cc
-concrete-line options s r open_leaf e = refl
+concrete-line options s r _ e = first_of (cc, refl)
 
 concrete-lazy : (options : ParseOptions) (r : Rest) (open_leaf : Leaf) → is_concrete open_leaf ≡ true →
     with_lazy options open_leaf r ≡ None
-concrete-lazy options r (OpenParagraph lines) e = cc
-concrete-lazy options r open_leaf e = refl
+concrete-lazy options r NoLeaf e = refl
+concrete-lazy options r _ e = first_of (cc, refl)
 
 -- Lines, one after another.
 

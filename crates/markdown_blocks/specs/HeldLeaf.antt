@@ -8,8 +8,8 @@ use Rattle.std.specs.Prelude.{◌≡◌, Bool, true, false, ◌||◌, if◌then�
 use Rattle.md_engine.specs.declared.tokenizer.held_leaf.HeldLeaf.{HeldLeaf}
 use Rattle.md_engine.specs.declared.tokenizer.held_leaf.HeldLeaf.TheVariants as held_leaf
 use Rattle.md_definition.specs.Leaves.{Came, Finished, Opened}
-use Rattle.md_definition.specs.State.{Leaf, NoLeaf, OpenCode, OpenFence, OpenParagraph}
-use Rattle.markdown_blocks.specs.Leaf.Paragraph.{IsOpenText}
+use Rattle.md_definition.specs.State.{Leaf, NoLeaf, OpenCode, OpenFence}
+use Rattle.markdown_blocks.specs.Leaf.Paragraph.{IsTextOr, held_or}
 use Rattle.markdown_blocks.specs.Registry.{IsOpenSpan}
 
 -- whether a line goes on it that starts no other leaf, although not all containers went on (CommonMark 5.1, "laziness")
@@ -28,12 +28,14 @@ has_lines leaf = true
 abbrev pub met_by : Bool → HeldLeaf → HeldLeaf
 met_by all leaf = if takes_lazy leaf || all then leaf else held_leaf.None
 
--- the kind of an open leaf of the line definition
+-- the kind of an open leaf of the line definition, of one that is no text and of any
+abbrev pub kind_of_other : Leaf → HeldLeaf
+kind_of_other (OpenCode lines) = held_leaf.Code
+kind_of_other (OpenFence o lines) = held_leaf.Fence o.marker o.size o.indent
+kind_of_other leaf = held_leaf.None
+
 abbrev pub kind_of_leaf : Leaf → HeldLeaf
-kind_of_leaf (OpenParagraph lines) = held_leaf.Text
-kind_of_leaf (OpenCode lines) = held_leaf.Code
-kind_of_leaf (OpenFence o lines) = held_leaf.Fence o.marker o.size o.indent
-kind_of_leaf leaf = held_leaf.None
+kind_of_leaf leaf = held_or kind_of_other leaf
 
 -- the leaf that is open behind a line, by what the line definition came to with it
 abbrev pub left_by : Came → Leaf
@@ -44,8 +46,10 @@ left_by (Finished block) = NoLeaf
 abbrev pub MatchesLeaf : HeldLeaf → Leaf → Type 0
 MatchesLeaf held leaf = held ≡ kind_of_leaf leaf
 
--- What may be open in what is built: nothing, a text with a line at least, or a leaf of several lines.
+-- What may be open in what is built: nothing, a leaf of several lines, or a text.
+abbrev pub IsNoneOrSpan : Leaf → Type 0
+IsNoneOrSpan NoLeaf = Unit {0}
+IsNoneOrSpan leaf = IsOpenSpan leaf
+
 abbrev pub IsBuiltLeaf : Leaf → Type 0
-IsBuiltLeaf NoLeaf = Unit {0}
-IsBuiltLeaf (OpenParagraph lines) = IsOpenText (OpenParagraph lines)
-IsBuiltLeaf leaf = IsOpenSpan leaf
+IsBuiltLeaf leaf = IsTextOr IsNoneOrSpan leaf

@@ -1,5 +1,7 @@
 -- Paragraphs (CommonMark 4.8), as a leaf of lines of text.
 use Rattle.md_engine.specs.declared.event.Name.TheVariants as n
+use Rattle.md_engine.specs.declared.tokenizer.held_leaf.HeldLeaf.{HeldLeaf}
+use Rattle.md_engine.specs.declared.tokenizer.held_leaf.HeldLeaf.TheVariants as held_leaf
 use Rattle.md_content.specs.Paragraph.{text_link}
 use Rattle.std.specs.Prelude.{List, [], ◌∷◌}
 use Rattle.md_definition.specs.State.{Kept, Leaf, OpenParagraph, then_paragraph}
@@ -20,7 +22,13 @@ abbrev pub held_of : Leaf → List Kept
 held_of (OpenParagraph lines) = lines
 held_of _ = []
 
--- a leaf that is open, and is a text with a line at least
-abbrev pub IsOpenText : Leaf → Type 0
-IsOpenText (OpenParagraph (k ∷ ks)) = Unit {0}
-IsOpenText _ = ⊥
+-- As what an open leaf is held, and whether it may be open: an open text has a line at least. Of any other leaf it is as
+-- this says.
+abbrev pub held_or : (Leaf → HeldLeaf) → Leaf → HeldLeaf
+held_or other (OpenParagraph lines) = held_leaf.Text
+held_or other leaf = other leaf
+
+abbrev pub IsTextOr : (Leaf → Type 0) → Leaf → Type 0
+IsTextOr Other (OpenParagraph []) = ⊥
+IsTextOr Other (OpenParagraph (k ∷ ks)) = Unit {0}
+IsTextOr Other leaf = Other leaf
