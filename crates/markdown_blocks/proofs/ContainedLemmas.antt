@@ -129,7 +129,8 @@ met-lines held_leaf.None (c ∷ others) [] h = cc
 met-lines held_leaf.Text others [] h = cc
 met-lines held_leaf.Code [] [] h = record { opened = refl; ended = refl; is = refl; still_lines = refl }
 met-lines held_leaf.Code (c ∷ others) [] h = cc
-met-lines (held_leaf.Fence marker size indent) [] [] h = record { opened = refl; ended = refl; is = refl; still_lines = refl }
+met-lines (held_leaf.Fence marker size indent) [] [] h =
+    record { opened = refl; ended = refl; is = refl; still_lines = refl }
 met-lines (held_leaf.Fence marker size indent) (c ∷ others) [] h = cc
 
 -- where it takes no lazy line, those that did not go on end

@@ -13,7 +13,8 @@ use Rattle.markdown_blocks.specs.Fronted.{Contained}
 use Rattle.markdown_blocks.specs.Parsed.{IsBuilt}
 use Rattle.markdown_blocks.specs.Stands.{IsPlain, containers_of}
 use Rattle.markdown_blocks.proofs.LineSteps.{contained_at, goes_further, renewed}
-use Rattle.markdown_blocks.proofs.StepBehind.{GoesOn, containers-all, containers-step, goes-on, plain-renewed, plain-step}
+use Rattle.markdown_blocks.proofs.StepBehind.{GoesOn, containers-all, containers-step, goes-on, plain-renewed}
+use Rattle.markdown_blocks.proofs.StepBehind.{plain-step}
 
 -- what a line does, of which it is told whether it stands over the end of the text
 abbrev pub step_over : ParseOptions → Bool → Path → Rest → Path

@@ -136,7 +136,8 @@ fresh-plain options on bs r built =
     rw (starts-found options on NoText r built) (go (is_blank r.bytes) (leaf_at options on r))
   where
     go : (x : Bool) (o : Option LeafName) →
-        cond x (spot_of bs) (fresh_by bs r (came_of options r o)) ≡ spot_by options bs [] r (cond x BlankRow (kind_of o))
+        cond x (spot_of bs) (fresh_by bs r (came_of options r o)) ≡
+        spot_by options bs [] r (cond x BlankRow (kind_of o))
     go true o = refl
     go false (Some l) = refl
     go false None = refl
@@ -609,7 +610,9 @@ step-stopped options before c p r built plain =
         stopped_by options before c p r o ≡ stepped options (Within before c p) [] (found_by options r o)
     go None =
         lazy-stepped options before c p r built (spot p).leaf refl plain
-        ∙ ap (cond (is_lazy (still_of p) [] kind) (Within before c (longer (renewed (containers_of p) p) (kept r ∷ []))))
+        ∙ ap
+        (cond (is_lazy (still_of p) [] kind)
+        (Within before c (longer (renewed (containers_of p) p) (kept r ∷ []))))
         (sym
         (ap
         (λ (x : Bool).

@@ -36,8 +36,8 @@ pub record OpenSpan (open_leaf : Leaf) : Type 0 where
   pub closed : (options : ParseOptions) (bs : Blocks) → are_shallow bs ≡ true →
       are_shallow (then_leaf options bs open_leaf) ≡ true
 
--- What a line comes to that begins a leaf: what is held behind it is what the line definition has there, it may be open,
--- and an outline can show it.
+-- What a line comes to that begins a leaf: what is held behind it is what the line definition has there, it may be
+-- open, and an outline can show it.
 pub record Begun (l : LeafName) (options : ParseOptions) (on : HeldLeaf) (r : Rest) : Type 0 where
   pub holds : kind_of_leaf (left_by ((leaf l).comes options NoLeaf r)) ≡ (leaf l).holds options on r
   pub built : IsBuiltLeaf (left_by ((leaf l).comes options NoLeaf r))

@@ -1,74 +1,59 @@
--- What the lines of a leaf are read as, with what follows them: a line that is no text, the lines of a text, and those of
--- a leaf of several.
-use Rattle.md_engine.specs.declared.tokenizer.held_leaf.HeldLeaf.TheVariants as held_leaf
+-- What the lines of a leaf are read as, with what follows them: a line that is no text, the lines of a text, and those
+-- of a leaf of several.
 use Rattle.md_engine.specs.declared.tokenizer.held_leaf.HeldLeaf.{HeldLeaf}
-use Rattle.std.proofs.Common.{◌≡◌, ◌≢◌, ℕ, zero, suc, ◌+◌, ◌-◌, Bool, true, false, cond, ◌&&◌, List, [], ◌∷◌, ◌++◌}
+use Rattle.std.proofs.Common.{append_assoc}
+use Rattle.std.proofs.Common.{◌≡◌, ◌≢◌, ℕ, Bool, true, false, cond, ◌&&◌, List, [], ◌∷◌, ◌++◌}
 use Rattle.std.specs.Prelude.{nat_lt}
-use Rattle.std.proofs.Common.{◌≤◌, ◌<◌, not}
-use Rattle.std.proofs.lemmas.Bool.Decides.{nat_tests}
-use Rattle.md_definition.proofs.TextsLemmas.{Both, Ending, LineFeed, Return, ending_bytes}
 use Rattle.md_definition.specs.Leaves.{Finished, Opened}
 use Rattle.markdown_blocks.specs.HeldLeaf.{has_lines, kind_of_leaf, left_by}
 use Rattle.markdown_blocks.specs.Registry.{further_of}
 use Rattle.markdown_blocks.specs.LineFlags.{ending_name}
 use Rattle.markdown_blocks.specs.Rows.{is_blank_row}
 use Rattle.markdown_blocks.specs.Rows.{is_further, onto_span, span_done}
-use Rattle.markdown_blocks.proofs.GroupsAre.{line-begins, line-of, shut-behind}
-use Rattle.markdown_blocks.proofs.LineSteps.{come_by, renewed-spot, with_came}
-use Rattle.markdown_blocks.proofs.Registry.{further-is, insider-open, span-laws}
+use Rattle.markdown_blocks.proofs.GroupsAre.{shut-behind}
+use Rattle.markdown_blocks.proofs.LineSteps.{with_came}
+use Rattle.markdown_blocks.proofs.Registry.{further-is, span-laws}
 use Rattle.markdown_blocks.proofs.RowLeaf.{EndsOnLine}
 use Rattle.markdown_blocks.proofs.SpanLaws.{AreBehind, IsLineOf, SpanLaws, come_behind}
-use Rattle.markdown_blocks.proofs.StepBehind.{GoesOn, came-spot, further-unlazy}
-use Rattle.markdown_blocks.specs.Registry.{LeafName, insider, leaf}
+use Rattle.markdown_blocks.proofs.StepBehind.{came-spot}
+use Rattle.markdown_blocks.specs.Registry.{LeafName, leaf}
 use Rattle.md_definition.specs.Leaves.{Came}
 use Rattle.md_definition.specs.Step.{came}
-use Rattle.markdown_blocks.proofs.JoinedLemmas.{leaf-first}
-use Rattle.markdown_blocks.proofs.Registry.{leaf-ends}
-use Rattle.markdown_blocks.specs.Rows.{Span, onto_leaf}
-use Rattle.std.proofs.lemmas.Bool.{and_parts}
+use Rattle.markdown_blocks.specs.Rows.{Span}
 use Rattle.markdown_blocks.specs.Rows.{line_behind}
-use Rattle.markdown_blocks.specs.HeldLeaf.{takes_lazy}
-use Rattle.std.proofs.Common.{length, map, take, refl, ap, ap₂, sym, ◌∙◌, subst, append_assoc, take_all, inl, inr, ◌⊎◌}
-use Rattle.std.proofs.Common.{arith}
+use Rattle.std.proofs.Common.{length, refl, ap, ap₂, sym, ◌∙◌, subst, inl, inr, ◌⊎◌}
 use Rattle.std.specs.Prelude.{None, Some}
 use Rattle.md_engine.specs.declared.configuration.ParseOptions.{ParseOptions}
 use Rattle.md_engine.specs.declared.event.Event.{Event}
 use Rattle.md_engine.specs.declared.event.Name.{Name}
 use Rattle.md_engine.specs.declared.event.Name.TheVariants as n
 use Rattle.md_engine.specs.declared.event.Point.{Point}
-use Rattle.md_seam.specs.Events.Nested.{around, enter, exit}
-use Rattle.md_definition.specs.Preamble.{rest_at}
+use Rattle.md_seam.specs.Events.Nested.{enter, exit}
 use Rattle.md_definition.specs.Rest.{Rest}
-use Rattle.md_seam.specs.Events.Spelled.{Around, Reading, Shape, add_block, left, read, role, spelled, unread}
-use Rattle.md_definition.specs.State.{At, Container, Kept, Leaf, NoLeaf, Path, Spot, Within, closed, kept, shut, spot}
-use Rattle.md_definition.specs.State.{texts, then_block, then_leaf}
-use Rattle.md_definition.specs.Step.{spot_of, step, steps}
-use Rattle.md_definition.specs.Tree.{Block, Blocks, End}
+use Rattle.md_seam.specs.Events.Spelled.{Around, Reading, read, role}
+use Rattle.md_definition.specs.State.{At, Container, Kept, Leaf, NoLeaf, Path, Within, kept, shut, spot}
+use Rattle.md_definition.specs.Step.{step}
+use Rattle.md_definition.specs.Tree.{Block, Blocks}
 use Rattle.md_seam.proofs.SpelledLemmas.{Between, QuietOrPrefix, read-between, read-from, read-prefixes}
-use Rattle.markdown_blocks.specs.Registry.{container_name, shape_of, text_leaf}
+use Rattle.markdown_blocks.specs.Registry.{container_name, shape_of}
 use Rattle.markdown_blocks.specs.Change.{Change, ends_of, is_none}
-use Rattle.markdown_blocks.specs.Fed.{last_leaves, close_containers, rests_from}
-use Rattle.markdown_blocks.specs.Fronted.{Contained, contained, rest_from, rest_line}
+use Rattle.markdown_blocks.specs.Fed.{close_containers}
+use Rattle.markdown_blocks.specs.Fronted.{Contained, contained, rest_from}
 use Rattle.markdown_blocks.specs.Parsed.{IsBuilt}
-use Rattle.markdown_blocks.specs.Rows.{BlankRow, Group, LeafRow, Lines, Row, RowKind, Single, TextRow}
-use Rattle.markdown_blocks.specs.Rows.{ending_events, ending_of, goes_on, groups, groups_events, is_lazy, is_text}
-use Rattle.markdown_blocks.specs.Rows.{last_row, leaf_done, line_kind, onto_groups, onto_lines, read_lines, tail_events}
-use Rattle.markdown_blocks.specs.Stands.{IsPlain, around_of, containers_of, final, final_on, still_of, outer_on}
+use Rattle.markdown_blocks.specs.Rows.{BlankRow, Group, LeafRow, Lines, Row, RowKind, TextRow}
+use Rattle.markdown_blocks.specs.Rows.{ending_events, ending_of, groups_events, is_text}
+use Rattle.markdown_blocks.specs.Rows.{last_row, line_kind, onto_groups, onto_lines, tail_events}
+use Rattle.markdown_blocks.specs.Stands.{IsPlain, around_of, containers_of, still_of}
 use Rattle.markdown_blocks.specs.Stands.{reading, reading_on}
-use Rattle.markdown_blocks.proofs.ContainedLemmas.{contained-shapes, lazy-opens}
 use Rattle.markdown_blocks.proofs.FrontFacts.{Behind, Begins, LinePrefix, Goes}
-use Rattle.markdown_blocks.proofs.LineSteps.{behind_path, contained-lazy, contained_at, goes_further, goes_lazy}
-use Rattle.markdown_blocks.proofs.LineSteps.{kept_to, longer, new_line, new_path, path_by, renewed, spot_by}
-use Rattle.markdown_blocks.proofs.LineSteps.{step-contained}
-use Rattle.markdown_blocks.proofs.LastLine.{Told, containers-over, no_bytes, step_over, steps_over, told}
-use Rattle.markdown_blocks.proofs.StepBehind.{containers-step, goes-on, lazy-text, plain-step, still-step}
-use Rattle.markdown_blocks.specs.Leaf.Paragraph.{held_of}
-use Rattle.markdown_blocks.proofs.Registry.{laws, text-laws}
+use Rattle.markdown_blocks.proofs.LineSteps.{longer, renewed, spot_by}
+use Rattle.markdown_blocks.proofs.StepBehind.{still-step}
+use Rattle.markdown_blocks.proofs.Registry.{laws}
 use Rattle.markdown_blocks.proofs.RowFacts as f
 use Rattle.markdown_blocks.proofs.LeafFacts.{shown}
 use Rattle.markdown_blocks.proofs.LeafStands.{ending-roles}
-use Rattle.markdown_blocks.proofs.RowLeaf.{block_of, row-facts}
-use Rattle.markdown_blocks.proofs.SpelledParagraphs.{IsRead, read-lines, read-more, read-one}
+use Rattle.markdown_blocks.proofs.RowLeaf.{block_of}
+use Rattle.markdown_blocks.proofs.SpelledParagraphs.{IsRead, read-more, read-one}
 use Rattle.markdown_blocks.proofs.PrefixFacts.{begins}
 use Rattle.markdown_blocks.proofs.PrefixNames.{prefixes-roles}
 use Rattle.markdown_blocks.proofs.ContainerNames.{container-facts}
@@ -139,8 +124,8 @@ pub record StartsLines (options : ParseOptions) (bytes : List ℕ) (p : Path) (r
   pub groups_are : gs ≡ Lines row rows ∷ below
   pub reads : ReadsLines options bytes p row rows below last
 
--- What an open leaf of several lines comes to with a further line that begins at this point; one behind the last ending of
--- the text is no line of the definition.
+-- What an open leaf of several lines comes to with a further line that begins at this point; one behind the last ending
+-- of the text is no line of the definition.
 abbrev pub first_come : ParseOptions → List ℕ → LeafName → Path → Point → Rest → Came
 first_come options bytes l p a r =
     cond (nat_lt a.index (length bytes)) ((leaf l).comes options (spot p).leaf r) (Opened (spot p).leaf)
@@ -435,10 +420,66 @@ span-alike options bytes l p q come row gs last alike is = record {
       ∙ is.behind;
 }
 
+-- a line of a leaf, where another goes on it
+span-joined : (options : ParseOptions) (bytes : List ℕ) (l : LeafName) (p : Path) (come : Came) (row : Row)
+    (gs : List Group) (last : Reading) →
+    (joins : JoinsSpan options bytes (with_came p come) row gs last) →
+    (next : StartsSpan options bytes l (with_came p come) joins.after joins.next gs last) →
+    come ≡ Opened (left_by come) →
+    ReadsSpan options bytes l p come row (onto_span row gs) last
+span-joined options bytes l p come row gs last joins next opened = record {
+  rows = joins.next ∷ rows;
+  below = below;
+  groups_are =
+      ap (onto_span row) next.reads.groups_are
+      ∙ ap
+      (λ (x : Bool).
+      cond x (Span row (joins.next ∷ rows) ∷ below) (Span row [] ∷ Span joins.next rows ∷ below)) joins.further;
+  are = (
+    joins.after,
+    joins.after_is,
+    joins.ending,
+    joins.fronts,
+    joins.on,
+    next.further,
+    next.is,
+    next.reads.are,
+  );
+  behind =
+      ap (λ (r : Reading). read bytes r (span_tail joins.next rows ++ groups_events bytes below))
+      (sym (ap (to (with_came p come)) first ∙ ap (reading options) (twice (come_to other)))) ∙ next.reads.behind;
+}
+  where
+    rows : List Row
+    rows = next.reads.rows
+
+    below : List Group
+    below = next.reads.below
+
+    come_to : Came → Came
+    come_to c = come_behind options bytes (leaf l) joins.next rows next.reads.are c
+
+    to : Path → Came → Reading
+    to x c = reading options (with_came x (come_to c))
+
+    in_text : Bool
+    in_text = nat_lt joins.after.index (length bytes)
+
+    other : Came
+    other = cond in_text ((leaf l).comes options (left_by come) next.is.rest) come
+
+    first : first_come options bytes l (with_came p come) joins.after next.is.rest ≡ other
+    first =
+        ap (λ (x : Leaf). cond in_text ((leaf l).comes options x next.is.rest) (Opened x)) (came-spot p come)
+        ∙ ap (λ (c : Came). cond in_text ((leaf l).comes options (left_by come) next.is.rest) c) (sym opened)
+
+    twice : (c : Came) → with_came (with_came p come) c ≡ with_came p c
+    twice c = ap (λ (d : Came). with_came (with_came p d) c) opened ∙ came-came p (left_by come) c
+
 -- a line of a leaf, and what follows
 pub span-rows : (options : ParseOptions) (bytes : List ℕ) (l m : LeafName) (p : Path) (come : Came) (row : Row)
     (gs : List Group) (last : Reading) →
-    (ends : is_text row.kind ≡ false) → further_of m ≡ l → IsLineOf options bytes (leaf m) row →
+    is_text row.kind ≡ false → further_of m ≡ l → IsLineOf options bytes (leaf m) row →
     Follows options bytes (with_came p come) row gs last →
     ReadsSpan options bytes l p come row (onto_span row gs) last
 span-rows options bytes l m p come row gs last other same is (inl parts) = record {
@@ -457,53 +498,11 @@ span-rows options bytes l m p come row gs last other same is (inr (inr joins)) =
     let name : joins.name ≡ l = further-is m joins.name options row.on is.rest
     (ap (leaf joins.name).further (sym (joins.on ∙ is.behind)) ∙ joins.starts.further)
     ∙ same in
-    let next : StartsSpan options bytes l (with_came p come) joins.after joins.next gs
-    last = subst (λ (k : LeafName). StartsSpan options bytes k (with_came p come) joins.after joins.next gs last)
-    name joins.starts in
-    let reads = next.reads in
-    let left : (spot (with_came p come)).leaf ≡ left_by come = came-spot p come in
-    let opened : come ≡ Opened (left_by come) = lines-opened come
-    (ap (λ (x : Leaf). has_lines (kind_of_leaf x)) (sym left) ∙ ap has_lines joins.still ∙ joins.lines) in
-    let in_text : Bool = nat_lt joins.after.index (length bytes) in
-    let to : Path → Came → Reading =
-    λ (x : Path) (c : Came).
-    reading options (with_came x (come_behind options bytes (leaf l) joins.next reads.rows reads.are c)) in
-    let first : first_come options bytes l (with_came p come) joins.after next.is.rest ≡
-    cond in_text ((leaf l).comes options (left_by come) next.is.rest) come =
-    ap (λ (x : Leaf). cond in_text ((leaf l).comes options x next.is.rest) (Opened x)) left
-    ∙ ap (λ (c : Came). cond in_text ((leaf l).comes options (left_by come) next.is.rest) c) (sym opened) in
-    let twice : (c : Came) → with_came (with_came p come) c ≡ with_came p c =
-    λ c. ap (λ (d : Came). with_came (with_came p d) c) opened ∙ came-came p (left_by come) c in
-    record {
-      rows = joins.next ∷ reads.rows;
-      below = reads.below;
-      groups_are =
-          ap (onto_span row) reads.groups_are
-          ∙ ap
-          (λ (x : Bool).
-          cond x (Span row (joins.next ∷ reads.rows) ∷ reads.below)
-          (Span row [] ∷ Span joins.next reads.rows ∷ reads.below))
-          joins.further;
-      are = (
-        joins.after,
-        joins.after_is,
-        joins.ending,
-        joins.fronts,
-        joins.on,
-        next.further,
-        next.is,
-        reads.are,
-      );
-      behind =
-          ap (λ (r : Reading). read bytes r (span_tail joins.next reads.rows ++ groups_events bytes reads.below))
-          (sym
-          (ap (to (with_came p come)) first
-          ∙ ap (reading options)
-          (twice
-          (come_behind options bytes (leaf l) joins.next reads.rows reads.are
-          (cond in_text ((leaf l).comes options (left_by come) next.is.rest) come)))))
-          ∙ reads.behind;
-    }
+    span-joined options bytes l p come row gs last joins
+    (subst (λ (k : LeafName). StartsSpan options bytes k (with_came p come) joins.after joins.next gs last) name
+    joins.starts)
+    (lines-opened come
+    (ap (λ (x : Leaf). has_lines (kind_of_leaf x)) (sym (came-spot p come)) ∙ ap has_lines joins.still ∙ joins.lines))
 
 -- a line that begins a leaf is read with those that go on it
 pub begun-reads : (options : ParseOptions) (bytes : List ℕ) (l : LeafName) (o : Path) (row : Row) (gs : List Group)
@@ -529,3 +528,23 @@ begun-reads options bytes l o row gs last ends is begins none begin same spans =
     ∙ sym (reading-with options o (λ bs. came bs come) none)
     ∙ ap (reading options) (sym (came-with o come)))
     ∙ spans.behind
+
+-- and with what stands in front of it
+pub starts-read : (options : ParseOptions) (bytes : List ℕ) (l : LeafName) (o : Path) (row : Row) (gs : List Group)
+    (last : Reading) →
+    (leaf l).ends ≡ false → (is : IsLineOf options bytes (leaf l) row) → (leaf l).further row.on ≡ false →
+    (spot o).leaf ≡ NoLeaf → (a : Point) → LinePrefix bytes row.change.opens a row.first row.front →
+    (start : Reading) → start.text ≡ None → enters row.change.opens start ≡ reading options o →
+    ReadsSpan options bytes (further_of l) o ((leaf l).comes options NoLeaf is.rest) row gs last →
+    read bytes start (groups_events bytes gs) ≡ last
+starts-read options bytes l o row gs last ends is begins none a front start text same spans =
+    let whole : List Event = span_done bytes row spans.rows in
+    let tail : List Event = span_tail row spans.rows in
+    ap (λ (gs : List Group). read bytes start (groups_events bytes gs)) spans.groups_are
+    ∙ ap (read bytes start)
+    (append_assoc (row.front ++ whole) tail (groups_events bytes spans.below)
+    ∙ append_assoc row.front whole (tail ++ groups_events bytes spans.below))
+    ∙ read-from bytes start (enters row.change.opens start) row.front
+    (whole ++ (tail ++ groups_events bytes spans.below))
+    (read-fronts bytes row.change.opens a row.first row.front start front text)
+    ∙ begun-reads options bytes l o row gs last ends is begins none (enters row.change.opens start) same spans

@@ -1,73 +1,28 @@
 -- What is read where a path is open: how containers end and begin, and the leaf of the innermost.
-use Rattle.md_engine.specs.declared.tokenizer.held_leaf.HeldLeaf.TheVariants as held_leaf
 use Rattle.md_engine.specs.declared.tokenizer.held_leaf.HeldLeaf.{HeldLeaf}
-use Rattle.std.proofs.Common.{◌≡◌, ◌≢◌, ℕ, zero, suc, ◌+◌, ◌-◌, Bool, true, false, cond, ◌&&◌, List, [], ◌∷◌, ◌++◌}
-use Rattle.std.specs.Prelude.{nat_lt}
-use Rattle.std.proofs.Common.{◌≤◌, ◌<◌, not}
-use Rattle.std.proofs.lemmas.Bool.Decides.{nat_tests}
-use Rattle.md_definition.proofs.TextsLemmas.{Both, Ending, LineFeed, Return, ending_bytes}
-use Rattle.md_definition.specs.Leaves.{Finished, Opened}
-use Rattle.markdown_blocks.specs.HeldLeaf.{has_lines, kind_of_leaf, left_by}
-use Rattle.markdown_blocks.specs.Registry.{further_of}
-use Rattle.markdown_blocks.specs.Rows.{is_further, onto_span, span_done}
-use Rattle.markdown_blocks.proofs.GroupsAre.{line-begins, line-of, shut-behind}
-use Rattle.markdown_blocks.proofs.LineSteps.{come_by, renewed-spot, with_came}
-use Rattle.markdown_blocks.proofs.Registry.{further-is, insider-open, span-laws}
-use Rattle.markdown_blocks.proofs.RowLeaf.{EndsOnLine}
-use Rattle.markdown_blocks.proofs.SpanLaws.{AreBehind, IsLineOf, SpanLaws, come_behind}
-use Rattle.markdown_blocks.proofs.StepBehind.{GoesOn, came-spot, further-unlazy}
-use Rattle.markdown_blocks.specs.Registry.{LeafName, insider, leaf}
-use Rattle.md_definition.specs.Leaves.{Came}
-use Rattle.md_definition.specs.Step.{came}
-use Rattle.markdown_blocks.proofs.JoinedLemmas.{leaf-first}
-use Rattle.markdown_blocks.proofs.Registry.{leaf-ends}
-use Rattle.markdown_blocks.specs.Rows.{Span, onto_leaf}
-use Rattle.std.proofs.lemmas.Bool.{and_parts}
-use Rattle.markdown_blocks.specs.Rows.{line_behind}
-use Rattle.markdown_blocks.specs.HeldLeaf.{takes_lazy}
-use Rattle.std.proofs.Common.{length, map, take, refl, ap, ap₂, sym, ◌∙◌, subst, append_assoc, take_all, inl, inr, ◌⊎◌}
-use Rattle.std.proofs.Common.{arith}
-use Rattle.std.specs.Prelude.{None, Some}
+use Rattle.std.proofs.Common.{◌≡◌, ℕ, zero, suc, List, [], ◌∷◌, ◌++◌}
+use Rattle.std.proofs.Common.{length, map, refl, ap, sym, ◌∙◌, append_assoc}
+use Rattle.std.specs.Prelude.{None}
 use Rattle.md_engine.specs.declared.configuration.ParseOptions.{ParseOptions}
-use Rattle.md_engine.specs.declared.event.Event.{Event}
-use Rattle.md_engine.specs.declared.event.Name.{Name}
-use Rattle.md_engine.specs.declared.event.Name.TheVariants as n
-use Rattle.md_engine.specs.declared.event.Point.{Point}
-use Rattle.md_seam.specs.Events.Nested.{around, enter, exit}
-use Rattle.md_definition.specs.Preamble.{rest_at}
 use Rattle.md_definition.specs.Rest.{Rest}
-use Rattle.md_seam.specs.Events.Spelled.{Around, Reading, Shape, add_block, left, read, role, spelled, unread}
-use Rattle.md_definition.specs.State.{At, Container, Kept, Leaf, NoLeaf, Path, Spot, Within, closed, kept, shut, spot}
+use Rattle.md_seam.specs.Events.Spelled.{Around, Reading, Shape, add_block, left}
+use Rattle.md_definition.specs.State.{At, Container, Kept, Leaf, NoLeaf, Path, Spot, Within, closed, shut, spot}
 use Rattle.md_definition.specs.State.{texts, then_block, then_leaf}
-use Rattle.md_definition.specs.Step.{spot_of, step, steps}
+use Rattle.md_definition.specs.Step.{spot_of}
 use Rattle.md_definition.specs.Tree.{Block, Blocks, End}
-use Rattle.md_seam.proofs.SpelledLemmas.{Between, QuietOrPrefix, read-between, read-from, read-prefixes}
-use Rattle.markdown_blocks.specs.Registry.{container_name, shape_of, text_leaf}
-use Rattle.markdown_blocks.specs.Change.{Change, ends_of, is_none}
-use Rattle.markdown_blocks.specs.Fed.{last_leaves, close_containers, rests_from}
-use Rattle.markdown_blocks.specs.Fronted.{Contained, contained, rest_from, rest_line}
+use Rattle.markdown_blocks.specs.Registry.{shape_of, text_leaf}
+use Rattle.markdown_blocks.specs.Fed.{close_containers}
+use Rattle.markdown_blocks.specs.Fronted.{Contained}
 use Rattle.markdown_blocks.specs.Parsed.{IsBuilt}
-use Rattle.markdown_blocks.specs.Rows.{BlankRow, Group, LeafRow, Lines, Row, RowKind, Single, TextRow}
-use Rattle.markdown_blocks.specs.Rows.{ending_events, ending_of, goes_on, groups, groups_events, is_lazy, is_text}
-use Rattle.markdown_blocks.specs.Rows.{last_row, leaf_done, line_kind, onto_groups, onto_lines, read_lines, tail_events}
-use Rattle.markdown_blocks.specs.Stands.{IsPlain, around_of, containers_of, final, final_on, still_of, outer_on}
+use Rattle.markdown_blocks.specs.Rows.{RowKind}
+use Rattle.markdown_blocks.specs.Rows.{line_kind}
+use Rattle.markdown_blocks.specs.Stands.{around_of, containers_of, final_on, outer_on}
 use Rattle.markdown_blocks.specs.Stands.{reading, reading_on}
-use Rattle.markdown_blocks.proofs.ContainedLemmas.{contained-shapes, lazy-opens}
-use Rattle.markdown_blocks.proofs.FrontFacts.{Behind, Begins, LinePrefix, Goes}
-use Rattle.markdown_blocks.proofs.LineSteps.{behind_path, contained-lazy, contained_at, goes_further, goes_lazy}
-use Rattle.markdown_blocks.proofs.LineSteps.{kept_to, longer, new_line, new_path, path_by, renewed, spot_by}
-use Rattle.markdown_blocks.proofs.LineSteps.{step-contained}
-use Rattle.markdown_blocks.proofs.LastLine.{Told, containers-over, no_bytes, step_over, steps_over, told}
-use Rattle.markdown_blocks.proofs.StepBehind.{containers-step, goes-on, lazy-text, plain-step, still-step}
+use Rattle.markdown_blocks.proofs.LineSteps.{behind_path}
+use Rattle.markdown_blocks.proofs.LineSteps.{kept_to, longer, new_line, new_path, renewed, spot_by}
 use Rattle.markdown_blocks.specs.Leaf.Paragraph.{held_of}
-use Rattle.markdown_blocks.proofs.Registry.{laws, text-laws}
-use Rattle.markdown_blocks.proofs.RowFacts as f
-use Rattle.markdown_blocks.proofs.LeafFacts.{shown}
-use Rattle.markdown_blocks.proofs.LeafStands.{ending-roles}
-use Rattle.markdown_blocks.proofs.RowLeaf.{block_of, row-facts}
-use Rattle.markdown_blocks.proofs.SpelledParagraphs.{IsRead, read-lines, read-more, read-one}
+use Rattle.markdown_blocks.proofs.Registry.{text-laws}
 use Rattle.markdown_blocks.proofs.PrefixFacts.{begins}
-use Rattle.markdown_blocks.proofs.PrefixNames.{prefixes-roles}
 use Rattle.markdown_blocks.proofs.ContainerNames.{container-facts}
 
 -- The ends and begins of containers.

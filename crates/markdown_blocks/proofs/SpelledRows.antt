@@ -7,78 +7,70 @@ use Rattle.std.specs.Prelude.{nat_lt}
 use Rattle.std.proofs.Common.{◌≤◌, ◌<◌, not}
 use Rattle.std.proofs.lemmas.Bool.Decides.{nat_tests}
 use Rattle.md_definition.proofs.TextsLemmas.{Both, Ending, LineFeed, Return, ending_bytes}
-use Rattle.md_definition.specs.Leaves.{Finished, Opened}
-use Rattle.markdown_blocks.specs.HeldLeaf.{has_lines, kind_of_leaf, left_by}
+use Rattle.md_definition.specs.Leaves.{Opened}
+use Rattle.markdown_blocks.specs.HeldLeaf.{has_lines}
 use Rattle.markdown_blocks.specs.Registry.{further_of}
-use Rattle.markdown_blocks.specs.Rows.{is_further, onto_span, span_done}
-use Rattle.markdown_blocks.proofs.GroupsAre.{line-begins, line-of, shut-behind}
+use Rattle.markdown_blocks.specs.Rows.{is_further, onto_span}
+use Rattle.markdown_blocks.proofs.GroupsAre.{line-begins, line-of}
 use Rattle.markdown_blocks.proofs.LineSteps.{come_by, renewed-spot, with_came}
-use Rattle.markdown_blocks.proofs.Registry.{further-is, insider-open, span-laws}
+use Rattle.markdown_blocks.proofs.Registry.{insider-open}
 use Rattle.markdown_blocks.proofs.RowLeaf.{EndsOnLine}
-use Rattle.markdown_blocks.proofs.SpanLaws.{AreBehind, IsLineOf, SpanLaws, come_behind}
-use Rattle.markdown_blocks.proofs.StepBehind.{GoesOn, came-spot, further-unlazy}
-use Rattle.markdown_blocks.specs.Registry.{LeafName, insider, leaf}
+use Rattle.markdown_blocks.proofs.SpanLaws.{IsLineOf}
+use Rattle.markdown_blocks.proofs.StepBehind.{GoesOn, further-unlazy}
+use Rattle.markdown_blocks.specs.Registry.{LeafName, leaf}
 use Rattle.md_definition.specs.Leaves.{Came}
-use Rattle.md_definition.specs.Step.{came}
 use Rattle.markdown_blocks.proofs.JoinedLemmas.{leaf-first}
-use Rattle.markdown_blocks.proofs.Registry.{leaf-ends}
 use Rattle.markdown_blocks.specs.Rows.{Span, onto_leaf}
 use Rattle.std.proofs.lemmas.Bool.{and_parts}
 use Rattle.markdown_blocks.specs.Rows.{line_behind}
 use Rattle.markdown_blocks.specs.HeldLeaf.{takes_lazy}
-use Rattle.std.proofs.Common.{length, map, take, refl, ap, ap₂, sym, ◌∙◌, subst, append_assoc, take_all, inl, inr, ◌⊎◌}
+use Rattle.std.proofs.Common.{length, map, take, refl, ap, ap₂, sym, ◌∙◌, subst, append_assoc, take_all, inl, inr}
 use Rattle.std.proofs.Common.{arith}
-use Rattle.std.specs.Prelude.{None, Some}
+use Rattle.std.specs.Prelude.{Some}
 use Rattle.md_engine.specs.declared.configuration.ParseOptions.{ParseOptions}
 use Rattle.md_engine.specs.declared.event.Event.{Event}
-use Rattle.md_engine.specs.declared.event.Name.{Name}
 use Rattle.md_engine.specs.declared.event.Name.TheVariants as n
 use Rattle.md_engine.specs.declared.event.Point.{Point}
-use Rattle.md_seam.specs.Events.Nested.{around, enter, exit}
+use Rattle.md_seam.specs.Events.Nested.{around}
 use Rattle.md_definition.specs.Preamble.{rest_at}
 use Rattle.md_definition.specs.Rest.{Rest}
-use Rattle.md_seam.specs.Events.Spelled.{Around, Reading, Shape, add_block, left, read, role, spelled, unread}
-use Rattle.md_definition.specs.State.{At, Container, Kept, Leaf, NoLeaf, Path, Spot, Within, closed, kept, shut, spot}
-use Rattle.md_definition.specs.State.{texts, then_block, then_leaf}
-use Rattle.md_definition.specs.Step.{spot_of, step, steps}
-use Rattle.md_definition.specs.Tree.{Block, Blocks, End}
-use Rattle.md_seam.proofs.SpelledLemmas.{Between, QuietOrPrefix, read-between, read-from, read-prefixes}
-use Rattle.markdown_blocks.specs.Registry.{container_name, shape_of, text_leaf}
-use Rattle.markdown_blocks.specs.Change.{Change, ends_of, is_none}
+use Rattle.md_seam.specs.Events.Spelled.{Reading, read, spelled, unread}
+use Rattle.md_definition.specs.State.{At, Container, NoLeaf, Path, Spot, closed, kept, spot}
+use Rattle.md_definition.specs.Step.{spot_of, step}
+use Rattle.md_definition.specs.Tree.{End}
+use Rattle.md_seam.proofs.SpelledLemmas.{read-from}
+use Rattle.markdown_blocks.specs.Registry.{shape_of, text_leaf}
+use Rattle.markdown_blocks.specs.Change.{Change, is_none}
 use Rattle.markdown_blocks.specs.Fed.{last_leaves, close_containers, rests_from}
-use Rattle.markdown_blocks.specs.Fronted.{Contained, contained, rest_from, rest_line}
+use Rattle.markdown_blocks.specs.Fronted.{Contained, rest_from, rest_line}
 use Rattle.markdown_blocks.specs.Parsed.{IsBuilt}
 use Rattle.markdown_blocks.specs.Rows.{BlankRow, Group, LeafRow, Lines, Row, RowKind, Single, TextRow}
-use Rattle.markdown_blocks.specs.Rows.{ending_events, ending_of, goes_on, groups, groups_events, is_lazy, is_text}
+use Rattle.markdown_blocks.specs.Rows.{ending_of, goes_on, groups, groups_events, is_lazy, is_text}
 use Rattle.markdown_blocks.specs.Rows.{last_row, leaf_done, line_kind, onto_groups, onto_lines, read_lines, tail_events}
-use Rattle.markdown_blocks.specs.Stands.{IsPlain, around_of, containers_of, final, final_on, still_of, outer_on}
-use Rattle.markdown_blocks.specs.Stands.{reading, reading_on}
+use Rattle.markdown_blocks.specs.Stands.{IsPlain, containers_of, final, still_of}
+use Rattle.markdown_blocks.specs.Stands.{reading}
 use Rattle.markdown_blocks.proofs.ContainedLemmas.{contained-shapes, lazy-opens}
-use Rattle.markdown_blocks.proofs.FrontFacts.{Behind, Begins, LinePrefix, Goes}
-use Rattle.markdown_blocks.proofs.LineSteps.{behind_path, contained-lazy, contained_at, goes_further, goes_lazy}
-use Rattle.markdown_blocks.proofs.LineSteps.{kept_to, longer, new_line, new_path, path_by, renewed, spot_by}
+use Rattle.markdown_blocks.proofs.FrontFacts.{LinePrefix}
+use Rattle.markdown_blocks.proofs.LineSteps.{contained-lazy, contained_at, goes_further, goes_lazy}
+use Rattle.markdown_blocks.proofs.LineSteps.{longer, path_by, renewed, spot_by}
 use Rattle.markdown_blocks.proofs.LineSteps.{step-contained}
 use Rattle.markdown_blocks.proofs.LastLine.{Told, containers-over, no_bytes, step_over, steps_over, told}
-use Rattle.markdown_blocks.proofs.StepBehind.{containers-step, goes-on, lazy-text, plain-step, still-step}
-use Rattle.markdown_blocks.specs.Leaf.Paragraph.{held_of}
-use Rattle.markdown_blocks.proofs.Registry.{laws, text-laws}
+use Rattle.markdown_blocks.proofs.StepBehind.{containers-step, goes-on, lazy-text, plain-step}
+use Rattle.markdown_blocks.proofs.Registry.{laws}
 use Rattle.markdown_blocks.proofs.RowFacts as f
 use Rattle.markdown_blocks.proofs.LeafFacts.{shown}
-use Rattle.markdown_blocks.proofs.LeafStands.{ending-roles}
 use Rattle.markdown_blocks.proofs.RowLeaf.{block_of, row-facts}
-use Rattle.markdown_blocks.proofs.SpelledParagraphs.{IsRead, read-lines, read-more, read-one}
+use Rattle.markdown_blocks.proofs.SpelledParagraphs.{read-lines}
 use Rattle.markdown_blocks.proofs.PrefixFacts.{begins}
-use Rattle.markdown_blocks.proofs.PrefixNames.{prefixes-roles}
-use Rattle.markdown_blocks.proofs.ContainerNames.{container-facts}
 use Rattle.markdown_blocks.specs.Rows.{is_blank_row}
 use Rattle.markdown_blocks.proofs.SpelledPaths.{AreShapes, close_containers-all, close_containers-between, enters}
 use Rattle.markdown_blocks.proofs.SpelledPaths.{longer-with, new-path, open-none, open_path, reading-longer}
 use Rattle.markdown_blocks.proofs.SpelledPaths.{reading-renewed, reading-with, with_spot}
 use Rattle.markdown_blocks.proofs.SpelledGroups.{Follows, Means, Reads, ReadsSpan, StartsLines, StartsSpan}
-use Rattle.markdown_blocks.proofs.SpelledGroups.{begun-reads, came-open, came-with, ending-role, first_come}
+use Rattle.markdown_blocks.proofs.SpelledGroups.{starts-read, came-open, came-with, ending-role, first_come}
 use Rattle.markdown_blocks.proofs.SpelledGroups.{kind-name, line-is, no-joins, other-kind, read-fronts, read-open}
 use Rattle.markdown_blocks.proofs.SpelledGroups.{reading-came, shown-leaf, single-reads, span-alike, span-rows}
-use Rattle.markdown_blocks.proofs.SpelledGroups.{span_tail, starts-alike, starts-lines, still-line, text-kind}
+use Rattle.markdown_blocks.proofs.SpelledGroups.{starts-alike, starts-lines, still-line, text-kind}
 
 -- One line, and what follows.
 
@@ -192,28 +184,17 @@ row-means options bytes p a line row gs last over built plain is in_text follows
         Follows options bytes (to row.kind) row gs last →
         Reads options bytes p row.change.closes (onto_span row gs) last
     span-reads l e ends begins further =
-        let start : Reading = close_containers (length row.change.closes) (reading options p) in
-        let begin : Reading = enters row.change.opens start in
-        let text = close_containers-between (length row.change.closes) (reading options p) refl refl in
-        let of : IsLineOf options bytes (leaf l) row = line-is-of l e ends in
-        let come : Came = (leaf l).comes options NoLeaf of.rest in
+        let come : Came = (leaf l).comes options NoLeaf is.is.rest in
         let on : to row.kind ≡ with_came o come =
         ap to e ∙ sym (came-with o ((leaf l).comes options NoLeaf c.rest))
         ∙ ap (λ (r : Rest). with_came o ((leaf l).comes options NoLeaf r)) (sym is.rest_is) in
-        let spans : ReadsSpan options bytes (further_of l) o come row (onto_span row gs) last = span-rows options bytes
-        (further_of l) l o come row gs last (ap is_text e) refl of
-        (subst (λ (x : Path). Follows options bytes x row gs last) on further) in
-        let whole : List Event = span_done bytes row spans.rows in
-        let tail : List Event = span_tail row spans.rows in
-        ap (λ (l : List Group). read bytes start (groups_events bytes l)) spans.groups_are
-        ∙ ap (read bytes start)
-        (append_assoc (row.front ++ whole) tail (groups_events bytes spans.below)
-        ∙ append_assoc row.front whole (tail ++ groups_events bytes spans.below))
-        ∙ read-from bytes start begin row.front (whole ++ (tail ++ groups_events bytes spans.below))
-        (read-fronts bytes row.change.opens a row.first row.front start is.front text.0)
-        ∙ begun-reads options bytes l o row (onto_span row gs) last ends of
-        (sym (ap (λ (k : RowKind). is_further k row.on) e) ∙ same-further ∙ begins) none begin
-        (read-open options p c row shapes is.change) spans
+        starts-read options bytes l o row (onto_span row gs) last ends (line-is-of l e ends)
+        (sym (ap (λ (k : RowKind). is_further k row.on) e) ∙ same-further ∙ begins) none a is.front
+        (close_containers (length row.change.closes) (reading options p))
+        (close_containers-between (length row.change.closes) (reading options p) refl refl).0
+        (read-open options p c row shapes is.change)
+        (span-rows options bytes (further_of l) l o come row gs last (ap is_text e) refl (line-is-of l e ends)
+        (subst (λ (x : Path). Follows options bytes x row gs last) on further))
 
     by : (kind : RowKind) → row.kind ≡ kind → goes_further options c ≡ false →
         Follows options bytes (to row.kind) row gs last →
@@ -226,7 +207,9 @@ row-means options bytes p a line row gs last over built plain is in_text follows
         leaf_by : (x : Bool) → (leaf l).ends ≡ x → Reads options bytes p row.change.closes (onto_leaf x row gs) last
         leaf_by true ends =
             single (λ h. let bad : LeafRow l ≡ TextRow = sym e ∙ h in cc)
-            (λ m h. let same : l ≡ m = kind-name l m (sym e ∙ h) in subst (λ (k : LeafName). (leaf k).ends ≡ true) same ends)
+            (λ m h.
+            let same : l ≡ m = kind-name l m (sym e ∙ h) in
+            subst (λ (k : LeafName). (leaf k).ends ≡ true) same ends)
             further
         leaf_by false ends = span-reads l e ends begins further
     by TextRow e begins further =
@@ -248,7 +231,8 @@ row-means options bytes p a line row gs last over built plain is in_text follows
         let of : IsLineOf options bytes (leaf l) row = line-is-of l e ends in
         let come : Came = first_come options bytes l p a of.rest in
         let base : Path = renewed c.change.stays p in
-        let stepped_to : step_over options over p (rest_from a line) ≡ with_came base come = further_by over refl f goes in
+        let stepped_to : step_over options over p (rest_from a line) ≡ with_came base come =
+        further_by over refl f goes in
         let spans : ReadsSpan options bytes l base come row (onto_span row gs) last = span-rows options bytes l l base come
         row gs last (ap is_text e) goes.is.same of
         (subst (λ (x : Path). Follows options bytes x row gs last) stepped_to follows) in
@@ -277,11 +261,14 @@ row-means options bytes p a line row gs last over built plain is in_text follows
             (cond x ((leaf goes.is.name).comes options (spot p).leaf is.is.rest) (Opened (spot p).leaf)))
             (sym (in_text ∙ ap not e))
         further_by false e f goes =
-            ap (λ (x : Bool). cond (x && goes_further options c) (renewed c.change.stays p) (step options p (rest_from a line))) e
+            ap
+            (λ (x : Bool).
+            cond (x && goes_further options c) (renewed c.change.stays p) (step options p (rest_from a line))) e
             ∙ step-contained options p (rest_from a line) built plain
             ∙ ap₂ (path_by options p c)
             (further-unlazy (still_of p) c.on c.change.opens (line_kind options c.on c.rest) f) f
-            ∙ ap (λ (k : RowKind). with_came (renewed c.change.stays p) (come_by options (spot p).leaf c.rest k)) goes.kind
+            ∙ ap (λ (k : RowKind). with_came (renewed c.change.stays p) (come_by options (spot p).leaf c.rest k))
+            goes.kind
             ∙ ap (λ (r : Rest). with_came (renewed c.change.stays p) ((leaf goes.is.name).comes options (spot p).leaf r))
             (sym is.rest_is)
             ∙ ap
@@ -300,7 +287,8 @@ row-means options bytes p a line row gs last over built plain is in_text follows
         Means options bytes p a x y row (onto_groups row row.kind gs) last →
         MeansLine options bytes p a row (onto_groups row row.kind gs) last
     means x y e f is =
-        subst (λ (t : Bool). Means options bytes p a t (is_further row.kind row.on) row (onto_groups row row.kind gs) last)
+        subst
+        (λ (t : Bool). Means options bytes p a t (is_further row.kind row.on) row (onto_groups row row.kind gs) last)
         (sym (same ∙ e))
         (subst (λ (t : Bool). Means options bytes p a x t row (onto_groups row row.kind gs) last)
         (sym (same-further ∙ f)) is)
@@ -461,7 +449,8 @@ follows-below : (options : ParseOptions) (bytes : List ℕ) (p : Path) (row belo
     (x y : Bool) → is_lazy (still_of p) below.change.opens below.kind ≡ x → is_further below.kind below.on ≡ y →
     Means options bytes p q x y below (onto_groups below below.kind gs) last →
     Follows options bytes p row (onto_groups below below.kind gs) last
-follows-below options bytes p row below gs q line last built plain lazily still leaves after ending is true y lazy far means =
+follows-below options bytes p row below gs q line last built plain lazily still leaves after ending is true y lazy far
+    means =
     let c : Contained = contained_at options p (rest_from q line) in
     let kind_is = line-is options bytes (containers_of p) (still_of p) q line below is in
     let goes : goes_lazy options p c ≡ true =
@@ -483,7 +472,8 @@ follows-below options bytes p row below gs q line last built plain lazily still 
       ending = ending;
       fronts = subst (λ (cs : List Container). LinePrefix bytes cs q below.first below.front) none is.front;
     }))
-follows-below options bytes p row below gs q line last built plain lazily still leaves after ending is false true lazy far means =
+follows-below options bytes p row below gs q line last built plain lazily still leaves after ending is false true lazy
+    far means =
     let c : Contained = contained_at options p (rest_from q line) in
     let kind_is = line-is options bytes (containers_of p) (still_of p) q line below is in
     let goes : GoesOn options p c = goes-on options p (rest_from q line) plain
@@ -504,7 +494,8 @@ follows-below options bytes p row below gs q line last built plain lazily still 
       lines = ap has_lines (sym still) ∙ goes.is.lines;
       starts = means.1;
     }))
-follows-below options bytes p row below gs q line last built plain lazily still leaves after ending is false false lazy far means =
+follows-below options bytes p row below gs q line last built plain lazily still leaves after ending is false false lazy
+    far means =
     inl (record {
       apart =
           λ text. not-joined row below gs
@@ -633,7 +624,8 @@ all-leave options bytes a p (line ∷ next ∷ lines) (row ∷ below ∷ rows) b
     all-leave options bytes b are.2 (next ∷ lines) (below ∷ rows) built
     (plain-step options a (rest_from p line) built plain)
     (rows-below options bytes a p line next lines row below rows built plain are)
-    ∙ ap (λ (rests : List Rest). containers_of (steps_over options b (told rests))) (rests-behind are.2 (next ∷ lines) are.4.column)
+    ∙ ap (λ (rests : List Rest). containers_of (steps_over options b (told rests)))
+    (rests-behind are.2 (next ∷ lines) are.4.column)
 all-leave options bytes a p lines rows built plain are = absurd are
 
 -- The events of a text, up to any of its lines, are read as what these lines come to, but for the containers that end

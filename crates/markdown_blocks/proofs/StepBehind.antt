@@ -21,7 +21,8 @@ use Rattle.markdown_blocks.specs.Rows.{line_kind}
 use Rattle.markdown_blocks.specs.Stands.{IsPlain, containers_of, still_of}
 use Rattle.markdown_blocks.proofs.ContainedLemmas.{contained-met, contained-size, contained-still, lazy-opens}
 use Rattle.markdown_blocks.proofs.KindLemmas.{kind-starts}
-use Rattle.markdown_blocks.proofs.LineSteps.{asked-kind, behind_path, come_by, contained-lazy, contained_at, further_path}
+use Rattle.markdown_blocks.proofs.LineSteps.{asked-kind, behind_path, come_by, contained-lazy, contained_at}
+use Rattle.markdown_blocks.proofs.LineSteps.{further_path}
 use Rattle.markdown_blocks.proofs.LineSteps.{goes_further, goes_lazy, kept_to, longer, new_line, none-further}
 use Rattle.markdown_blocks.proofs.LineSteps.{path_by, plain-begins, plain_kind, renewed, renewed-spot, spot_by}
 use Rattle.markdown_blocks.proofs.LineSteps.{step-contained, with_came}
@@ -41,7 +42,8 @@ pub record GoesOn (options : ParseOptions) (p : Path) (c : Contained) : Type 0 w
   pub closes : c.change.closes ≡ []
 
 -- a path in which a leaf of several lines is open
-pub span-open : (open_leaf : Leaf) → IsBuiltLeaf open_leaf → has_lines (kind_of_leaf open_leaf) ≡ true → OpenSpan open_leaf
+pub span-open : (open_leaf : Leaf) → IsBuiltLeaf open_leaf → has_lines (kind_of_leaf open_leaf) ≡ true →
+    OpenSpan open_leaf
 span-open open_leaf plain =
     text-laws.cases (λ (l : Leaf). has_lines (kind_of_leaf l) ≡ true → OpenSpan l) (λ e. cc) (λ k ks e. cc)
     (λ l is e. open-span l is) open_leaf plain
@@ -127,7 +129,8 @@ plain-line options on r bs begins = go (line_kind options on r) refl
     go : (kind : RowKind) → line_kind options on r ≡ kind → IsBuiltLeaf (spot_by options bs [] r kind).leaf
     go BlankRow e = tt
     go (LeafRow l) e =
-        subst IsBuiltLeaf (sym (came-leaf bs ((leaf l).comes options NoLeaf r))) (begun-leaf options on r begins l e).built
+        subst IsBuiltLeaf (sym (came-leaf bs ((leaf l).comes options NoLeaf r)))
+        (begun-leaf options on r begins l e).built
     go TextRow e = tt
 
 plain-new_line : (options : ParseOptions) (on : HeldLeaf) (cs : List Container) (r : Rest) (bs : Blocks) →
@@ -138,7 +141,9 @@ plain-new_line options on (c ∷ cs) r bs begins = plain-new_line options on cs 
 plain-further : (options : ParseOptions) (p : Path) (c : Contained) → GoesOn options p c →
     IsPlain (further_path options p c)
 plain-further options p c goes =
-    subst IsBuiltLeaf (sym (came-spot (renewed c.change.stays p) (come_by options (spot p).leaf c.rest (line_kind options c.on c.rest))))
+    subst IsBuiltLeaf
+    (sym
+    (came-spot (renewed c.change.stays p) (come_by options (spot p).leaf c.rest (line_kind options c.on c.rest))))
     (subst (λ (kind : RowKind). IsBuiltLeaf (left_by (come_by options (spot p).leaf c.rest kind))) (sym goes.kind)
     (goes.is.built options c.rest goes.starts))
 
@@ -249,7 +254,8 @@ containers-step options p r built plain =
         (sym (lazy-opens (still_of p) c.change.opens (line_kind options c.on c.rest) e))
     go false true e f =
         let goes = goes-on options p r plain f in
-        containers-came (renewed c.change.stays p) (come_by options (spot p).leaf c.rest (line_kind options c.on c.rest))
+        containers-came (renewed c.change.stays p)
+        (come_by options (spot p).leaf c.rest (line_kind options c.on c.rest))
         ∙ all goes.closes ∙ sym (append-nil c.change.stays)
         ∙ ap (λ (l : List Container). c.change.stays ++ l) (sym goes.opens)
     go false false e f =

@@ -6,8 +6,6 @@ use Rattle.std.proofs.Common.{◌≡◌, ℕ, zero, suc, ◌-◌, Bool, true, fa
 use Rattle.md_definition.specs.Leaves.{Came}
 use Rattle.md_definition.specs.State.{spot}
 use Rattle.markdown_blocks.proofs.Registry.{insider-none, insider-text}
-use Rattle.markdown_blocks.specs.HeldLeaf.{kind_of_leaf, met_by}
-use Rattle.markdown_blocks.specs.Change.{is_none}
 use Rattle.markdown_blocks.specs.Registry.{insider, leaf}
 use Rattle.markdown_blocks.specs.Rows.{is_further, is_inside}
 use Rattle.markdown_blocks.specs.Fronted.{prefixes_behind}
@@ -49,7 +47,7 @@ use Rattle.markdown_blocks.proofs.ContainedLemmas.{contained-kinds}
 use Rattle.markdown_blocks.proofs.KindLemmas.{kind-plain}
 use Rattle.markdown_blocks.proofs.LineSteps.{behind_path, come_by, contained_at, further_path, goes_further, goes_lazy}
 use Rattle.markdown_blocks.proofs.LineSteps.{kept_to, longer, new_line, path_by, renewed, spot_by, step-contained}
-use Rattle.markdown_blocks.proofs.LineSteps.{step-new, stepped, stepped_on, with_came}
+use Rattle.markdown_blocks.proofs.LineSteps.{with_came}
 use Rattle.markdown_blocks.proofs.OpenSpan.{ComesShallow, OpenSpan}
 use Rattle.markdown_blocks.proofs.LastLine.{no_bytes, no_rests, step_over, steps_over, told}
 use Rattle.markdown_blocks.proofs.LineSteps.{asked-kind, plain_kind}
@@ -402,16 +400,21 @@ step-empty options p column built plain read = go (goes_further options c) refl
         ap (closed options) (step-contained options p r built plain)
         ∙ ap (λ (x : Bool). closed options (path_by options p c (goes_lazy options p c) x)) e
         ∙ ap (λ (x : Contained). closed options (path_by options p x (goes_lazy options p x) false)) line.1
-        ∙ ap (λ (x : Bool). closed options (by x)) (ap (is_lazy (still_of p) []) is_blank ∙ none (takes_lazy (still_of p)))
+        ∙ ap (λ (x : Bool). closed options (by x))
+        (ap (is_lazy (still_of p) []) is_blank ∙ none (takes_lazy (still_of p)))
         ∙ ap (λ (k : RowKind). closed options (ended k)) is_blank
         ∙ ap (closed options) (last (takes_lazy (still_of p)))
         ∙ closed-empty options n p column
       where
         rest-same : goes_further options c ≡ false → is_further (line_kind options c.on r) c.on ≡ false
-        rest-same e = subst (λ (x : Rest). is_further (line_kind options c.on x) c.on ≡ false) (ap (λ (x : Contained). x.rest) line.1) e
+        rest-same e =
+            subst (λ (x : Rest). is_further (line_kind options c.on x) c.on ≡ false)
+            (ap (λ (x : Contained). x.rest) line.1) e
 
         empty-kind : goes_further options c ≡ false → kind ≡ BlankRow
-        empty-kind e = subst (λ (x : Contained). line_kind options x.on r ≡ BlankRow) line.1 (empty-blank options p column plain (rest-same e))
+        empty-kind e =
+            subst (λ (x : Contained). line_kind options x.on r ≡ BlankRow) line.1
+            (empty-blank options p column plain (rest-same e))
 
         none : (x : Bool) → (x && true && false) ≡ false
         none true = refl
