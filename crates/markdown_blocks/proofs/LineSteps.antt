@@ -10,7 +10,7 @@ use Rattle.md_engine.specs.declared.configuration.ParseOptions.{ParseOptions}
 use Rattle.md_definition.specs.Containers.{Taken, continues, opens}
 use Rattle.md_definition.specs.Leaves.{Came, LazyText, NoText, Opened, Text, goes_on, with_line}
 use Rattle.md_definition.specs.Rest.{Rest, is_blank}
-use Rattle.md_definition.specs.State.{At, Container, Kept, Leaf, NoLeaf, OpenParagraph, Path, Spot, Within, at_spot}
+use Rattle.md_definition.specs.State.{At, Container, Kept, Leaf, NoLeaf, OpenFence, OpenHtml, Path, Spot, Within, at_spot}
 use Rattle.md_definition.specs.State.{closed, container_block, kept, shut, spot, texts, then_block, then_leaf}
 use Rattle.md_definition.specs.Step.{all_continued, all_continued_by, came, entered, fresh_by, fresh_line, is_concrete}
 use Rattle.md_definition.specs.Step.{is_open_text, lazy_by, leaf_line, leaf_line_by, on_or_fresh, opened, spot_of, step}
@@ -83,13 +83,15 @@ met-all still = go (takes_lazy still)
 -- one in which no container opens goes on or ends, and takes no lazy line
 concrete-line : (options : ParseOptions) (s : Spot) (r : Rest) (open_leaf : Leaf) → is_concrete open_leaf ≡ true →
     leaf_line_by options s r open_leaf ≡ on_or_fresh options s r (goes_on options open_leaf r)
-concrete-line options s r NoLeaf e = cc
-concrete-line options s r _ e = first_of (cc, refl)
+concrete-line options s r (OpenFence o lines) e = refl
+concrete-line options s r (OpenHtml kind lines) e = refl
+concrete-line options s r _ e = cc
 
 concrete-lazy : (options : ParseOptions) (r : Rest) (open_leaf : Leaf) → is_concrete open_leaf ≡ true →
     with_lazy options open_leaf r ≡ None
-concrete-lazy options r NoLeaf e = refl
-concrete-lazy options r _ e = first_of (cc, refl)
+concrete-lazy options r (OpenFence o lines) e = refl
+concrete-lazy options r (OpenHtml kind lines) e = refl
+concrete-lazy options r _ e = cc
 
 -- Lines, one after another.
 

@@ -14,7 +14,7 @@ use Rattle.md_engine.specs.World.{World}
 use Rattle.md_containers.specs.ItemsHeld.{ItemsHeld}
 use Rattle.md_containers.specs.ItemsStand.{ItemsStand, root}
 use Rattle.md_containers.specs.Listed.{listed}
-use Rattle.md_leaves.specs.Spanned.{spanned}
+use Rattle.markdown_blocks.specs.FlowReads.{lines_joined}
 use Rattle.md_containers.proofs.ListedBlocks.{IsUnlisted, listed-blocks, listed-covers}
 use Rattle.md_containers.proofs.ListedFilled.{listed-plain}
 use Rattle.md_containers.proofs.ListedGrammar.{listed-grammar}
@@ -104,7 +104,7 @@ resolved-are : (options : ParseOptions) (bytes : List ℕ) → IsBuilt options �
     new.events ≡ listed bytes (listed_groups bytes (groups (rows_of options bytes)))
 resolved-are options bytes built small found new flow =
     flow.events_are
-    ∙ ap (λ (l : List Event). listed bytes (spanned (resolved l))) (content-are options bytes built small found new flow)
+    ∙ ap (λ (l : List Event). listed bytes (lines_joined options (resolved l))) (content-are options bytes built small found new flow)
     ∙ ap (listed bytes)
     (lines-joined options bytes [] held_leaf.None (body_point bytes) (lines_of bytes) (rows_of options bytes)
     refl (text-are options bytes built small) (text-quiet options bytes (body_point bytes)))

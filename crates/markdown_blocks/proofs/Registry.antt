@@ -164,6 +164,11 @@ trial-asked flow.BeforeHeadingAtx HeadingAtx e on = refl
 trial-asked flow.BeforeThematicBreak ThematicBreak e on = refl
 trial-asked _ _ e on = cc
 
+-- where the lines of one are read, they are joined
+pub lines-join : (l : LeafName) → (leaf l).ends ≡ false → (options : ParseOptions) (on : HeldLeaf) (r : Rest) →
+    (leaf l).starts options on r ≡ true → joins_lines options ≡ true
+lines-join l e options on r starts = let ends = leaf-ends l in cc
+
 -- In the table of flow.
 
 -- each is tried at the state in front of it alone

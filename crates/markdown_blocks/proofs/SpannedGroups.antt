@@ -35,7 +35,11 @@ use Rattle.markdown_blocks.proofs.GroupLemmas.{lines-prefixed}
 use Rattle.markdown_blocks.proofs.GroupsAre.{Begins, IsSpanLine, behind-first, line-further, line-of, span-begins}
 use Rattle.markdown_blocks.specs.HeldLeaf.{has_lines as still_lines}
 use Rattle.markdown_blocks.specs.LineFlags.{ending_name}
+use Rattle.markdown_blocks.specs.FlowReads.{lines_joined}
+use Rattle.markdown_blocks.specs.Registry.{joins_lines}
 use Rattle.markdown_blocks.specs.Rows.{is_blank_by}
+use Rattle.markdown_blocks.proofs.GroupsAre.{line-of, span-begins}
+use Rattle.markdown_blocks.proofs.Registry.{lines-join}
 use Rattle.markdown_blocks.proofs.JoinedLemmas.{EachNoContent}
 use Rattle.markdown_blocks.proofs.KindLemmas.{kind-starts}
 use Rattle.markdown_blocks.proofs.PrefixNames.{ArePrefixes, prefixes-front}
@@ -407,11 +411,37 @@ groups-joined options bytes (Span row rows ∷ gs) are =
     span-joined options bytes row rows (set_groups bytes gs) are.0 are.4 (groups-ahead options bytes gs are.2)
     ∙ ap (λ (l : List Event). listed_group bytes (Span row rows) ++ l) (groups-joined options bytes gs are.2)
 
+-- where none is read there is nothing to join
+groups-apart : (options : ParseOptions) (bytes : List ℕ) (gs : List Group) → joins_lines options ≡ false →
+    AreGroups options bytes gs → set_groups bytes gs ≡ listed_groups bytes gs
+groups-apart options bytes [] none are = refl
+groups-apart options bytes (Single row ∷ gs) none are =
+    ap (λ (l : List Event). listed_group bytes (Single row) ++ l) (groups-apart options bytes gs none are.1)
+groups-apart options bytes (Lines row rows ∷ gs) none are =
+    ap (λ (l : List Event). listed_group bytes (Lines row rows) ++ l) (groups-apart options bytes gs none are.3)
+groups-apart options bytes (Span row rows ∷ gs) none are =
+    let is = span-begins options bytes row rows are.0 in
+    let line = line-of options bytes row is in
+    let joins = lines-join is.name is.open_leaf options row.on line.rest line.starts in
+    let bad : true ≡ false = sym joins ∙ none in
+    cc
+
 -- The resolvers of leaves have run, and the lines of each leaf of several are joined.
 pub lines-joined : (options : ParseOptions) (bytes : List ℕ) (open_before : List Container) (still : HeldLeaf)
     (p : Point) (lines : List (List ℕ)) (rows : List Row) →
     still_lines still ≡ false → AreRows options bytes open_before still p lines rows → EachNoContent rows →
-    spanned (resolved (unread_groups (groups rows))) ≡ listed_groups bytes (groups rows)
+    lines_joined options (resolved (unread_groups (groups rows))) ≡ listed_groups bytes (groups rows)
 lines-joined options bytes open_before still p lines rows shut are quiet =
-    ap spanned (leaves-set options bytes open_before still p lines rows shut are quiet)
-    ∙ groups-joined options bytes (groups rows) (groups-are options bytes open_before still p lines rows shut are quiet)
+    ap (lines_joined options) (leaves-set options bytes open_before still p lines rows shut are quiet)
+    ∙ go (joins_lines options) refl
+  where
+    gs : List Group
+    gs = groups rows
+
+    laid : AreGroups options bytes gs
+    laid = groups-are options bytes open_before still p lines rows shut are quiet
+
+    go : (x : Bool) → joins_lines options ≡ x →
+        cond x (spanned (set_groups bytes gs)) (set_groups bytes gs) ≡ listed_groups bytes gs
+    go true e = groups-joined options bytes gs laid
+    go false e = groups-apart options bytes gs e laid

@@ -1,6 +1,6 @@
 -- What flow has read of a text: its lines, and behind them the steps of the resolvers, in their order. Each step is
 -- total: where nothing is its own, it changes nothing.
-use Rattle.std.specs.Prelude.{◌≡◌, ◌⊎◌, ℕ, Bool, false, ◌||◌, List, [], ◌∷◌}
+use Rattle.std.specs.Prelude.{◌≡◌, ◌⊎◌, ℕ, Bool, false, ◌||◌, if◌then◌else◌, List, [], ◌∷◌}
 use Rattle.md_engine.specs.declared.configuration.ParseOptions.{ParseOptions}
 use Rattle.md_engine.specs.declared.event.Event.{Event}
 use Rattle.md_engine.specs.declared.event.Point.{Point}
@@ -14,7 +14,7 @@ use Rattle.md_content.specs.Resolves.{found_in_content}
 use Rattle.md_leaves.specs.Spanned.{spanned}
 use Rattle.md_seam.specs.Substituted.{Substituted}
 use Rattle.markdown_blocks.specs.Fed.{FlowRan}
-use Rattle.markdown_blocks.specs.Registry.{resolved}
+use Rattle.markdown_blocks.specs.Registry.{joins_lines, resolved}
 use Rattle.markdown_blocks.specs.Rows.{Row, is_text, rows_events}
 pub use Rattle.markdown_blocks.specs.TextRows.{text_cells, text_rows, text_setting}
 
@@ -22,6 +22,10 @@ pub use Rattle.markdown_blocks.specs.TextRows.{text_cells, text_rows, text_setti
 abbrev pub has_text : List Row → Bool
 has_text [] = false
 has_text (row ∷ rows) = is_text row.kind || has_text rows
+
+-- the lines of each leaf of several are joined, where one may be on
+abbrev pub lines_joined : ParseOptions → List Event → List Event
+lines_joined options es = if joins_lines options then spanned es else es
 
 -- flow has read a text from a point to its end, and then its resolvers ran
 pub record FlowReads (bytes : List ℕ) (options : ParseOptions) (p : Point) (found : Found) (new : World) : Type 0 where
@@ -35,7 +39,7 @@ pub record FlowReads (bytes : List ℕ) (options : ParseOptions) (p : Point) (fo
   pub content_read : Substituted wants_content (content_readings bytes options) [] 0
       (joined (rows_events (text_rows options bytes p))) content
   -- then the resolvers of leaves run, the lines of each leaf of several are joined, and lists are put around items
-  pub events_are : new.events ≡ listed bytes (spanned (resolved content))
+  pub events_are : new.events ≡ listed bytes (lines_joined options (resolved content))
   -- all else stays, but that no resolver is left to run
   pub rest : new ≡ record ended { events = new.events; resolvers = [] }
   pub setting : new.setting ≡ text_setting bytes options p

@@ -65,6 +65,10 @@ trials = HeadingAtx ∷ ThematicBreak ∷ []
 unfoldable pub insider : HeldLeaf → Option LeafName
 insider on = None
 
+-- Whether a leaf of several lines may be on, so that a resolver joins its lines: none is built.
+unfoldable pub joins_lines : ParseOptions → Bool
+joins_lines options = false
+
 -- the one that takes the further lines of a leaf whose first line this takes
 abbrev pub further_of : LeafName → LeafName
 further_of l = l

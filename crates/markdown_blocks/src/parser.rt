@@ -1,16 +1,17 @@
 // From a text to events.
 
-ghost use Rattle.std.specs.Prelude.{◌≡◌, ◌++◌, IfOk, []};
+ghost use Rattle.std.specs.Prelude.{◌≡◌, ◌++◌, IfOk, OnOk, []};
 ghost use Rattle.md_engine.specs.Found.{found_in};
 ghost use Rattle.md_engine.specs.Place.{IsPlaced};
 ghost use Rattle.md_engine.specs.World.{fresh, world};
 ghost use Rattle.markdown_blocks.specs.Document.{ReadsMark};
-ghost use Rattle.markdown_blocks.specs.FlowReads.{FlowReads};
+ghost use Rattle.markdown_blocks.specs.FlowReads.{FlowReads, lines_joined};
 ghost use Rattle.markdown_blocks.specs.Parsed.{IsBuilt, IsParsed, IsSmall};
 ghost use Rattle.markdown_blocks.specs.TextReads.{text_kind, wants_text};
 
 use crate::construct::document::DocumentTable;
 use crate::construct::flow::FlowTable;
+use crate::construct::registry;
 use crate::resolve;
 use md_engine::configuration::ParseOptions;
 use md_engine::event::{Content, Event, Point};
@@ -134,6 +135,21 @@ fn flow_tokenizer<'a>(
     Ok(tokenizer)
 }
 
+/// Joins the lines of each leaf of several, where one may be on.
+///
+/// An `Err` says that memory ran out.
+fn join_lines(tokenizer: &mut Tokenizer, options: &ParseOptions) -> Result<(), Message>
+    requires { (world tokenizer.old).frames ≡ [] }
+    ensures { OnOk result
+        (world tokenizer.new ≡
+        record (world tokenizer.old) { events = lines_joined options.now (world tokenizer.old).events }) }
+{
+    if registry::joins_lines(options) {
+        spans::resolve(tokenizer)?;
+    }
+    Ok(())
+}
+
 /// Reads the lines of a text from a point on by flow, and then its content; joins the lines of each leaf of several, and
 /// puts lists around items.
 ///
@@ -155,7 +171,7 @@ fn read_flow<'a>(
         end => end,
     };
     let found = flush::<FlowTable>(&mut tokenizer, end, true)?;
-    spans::resolve(&mut tokenizer)?;
+    join_lines(&mut tokenizer, options)?;
     resolve::call(&mut tokenizer, ResolveName::ListItem)?;
     Ok((tokenizer, found))
 }

@@ -52,13 +52,15 @@ fence-own options leaf cells p =
     adds-each IsOutside (λ name is q. (name-own name is, refl)) (λ name is q. (block-own name is, refl))
     (λ q. (refl, refl)) options leaf cells p
 
+pub fence-outside : (line : List ℕ) (p : Point) → AreOutside (fence_line linked line p)
+fence-outside line p =
+    line-each IsOutside (λ name is q. (name-own name is, refl)) (λ name is q. (block-own name is, refl)) linked
+    (λ p q. (refl, (refl, tt))) line p
+
 -- so resolvers pass it
 pub fence-set : (line : List ℕ) (p : Point) (es : List Event) →
     resolved (fence_line linked line p ++ es) ≡ fence_line linked line p ++ resolved es
-fence-set line p es =
-    resolved-outside (fence_line linked line p) es
-    (line-each IsOutside (λ name is q. (name-own name is, refl))
-    (λ name is q. (block-own name is, refl)) linked (λ p q. (refl, (refl, tt))) line p)
+fence-set line p es = resolved-outside (fence_line linked line p) es (fence-outside line p)
 
 -- No content stands in it.
 

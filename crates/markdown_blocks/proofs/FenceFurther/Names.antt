@@ -31,7 +31,7 @@ use Rattle.markdown_blocks.specs.Leaf.FenceFurther.{chunk_line, further_parts, o
 use Rattle.markdown_blocks.specs.Leaf.FenceFurther.{rest_of}
 use Rattle.markdown_blocks.specs.Registry.{is_own, resolved}
 use Rattle.markdown_blocks.proofs.ContentFacts.{NoContent}
-use Rattle.markdown_blocks.proofs.OutsideFacts.{AreOutside, NoEnds}
+use Rattle.markdown_blocks.proofs.OutsideFacts.{AreOutside, NoEnds, outside-append}
 
 -- An event of a part.
 
@@ -210,6 +210,19 @@ further-own options on cells p h = (
   inside-each AreOutside (λ kind name x es e k. (rw (inside-own name e) (and-false (is_enter kind)), k)) options on
       cells p _ (refl, tt),
 )
+
+pub further-outside : (options : ParseOptions) (on : HeldLeaf) (line : List ℕ) (p : Point) →
+    AreOutside (fence_further.added options on line p)
+further-outside options on line p =
+    let q : Point = past_text line p in
+    let parts : List Event = further_parts options on (rest_of p line) p q in (
+      block-heading (held_marker on),
+      outside-append parts (exit (block_name (held_marker on)) q ∷ [])
+          (parts-each AreOutside tt
+          (λ kind name x es e k. (rw (inside-heading name e) (and-false (is_enter kind)), k)) options on
+          (rest_of p line) p q)
+          (refl, tt),
+    )
 
 -- It holds no content, and its link is to none that is read later.
 pub further-no_content : (wants : Content → Bool) → wants content.Flow ≡ false → (options : ParseOptions)

@@ -1,7 +1,8 @@
 -- The laws of fenced code and math with all their lines, joined.
 --
 -- What is still asked is that an outline knows the names of such blocks and of what stands in them (`ShowsFences`).
-use Rattle.std.proofs.Common.{◌≡◌, ℕ, Bool, true, false, not, List, [], ◌∷◌, ◌++◌, drop, refl, sym, ◌∙◌, subst}
+use Rattle.std.proofs.Common.{◌≡◌, ℕ, Bool, true, false, cond, not, List, [], ◌∷◌, ◌++◌, drop, refl, sym, ◌∙◌}
+use Rattle.std.proofs.Common.{subst}
 use Rattle.std.proofs.Common.{append_assoc}
 use Rattle.std.specs.Prelude.{Some}
 use Rattle.md_engine.specs.declared.configuration.ParseOptions.{ParseOptions}
@@ -13,7 +14,7 @@ use Rattle.md_engine.specs.declared.event.Name.TheVariants as n
 use Rattle.md_engine.specs.declared.event.Point.{Point}
 use Rattle.md_containers.specs.ItemsStand.{IsPart}
 use Rattle.md_definition.specs.Leaves.{Opened}
-use Rattle.md_definition.specs.Rest.{Rest}
+use Rattle.md_definition.specs.Rest.{Rest, is_white}
 use Rattle.md_definition.specs.State.{OpenFence, Opening}
 use Rattle.md_definition.specs.Texts.{first_byte}
 use Rattle.md_definition.specs.Tree.{Block}
@@ -22,7 +23,7 @@ use Rattle.md_leaves.proofs.SpannedLines.{IsBegin, IsFurther, NoLines}
 use Rattle.md_lines.specs.Fence.{block_name, held_marker}
 use Rattle.md_lines.specs.Further.{further_link}
 use Rattle.md_seam.specs.Events.Grammar.{Expression, plain_text}
-use Rattle.md_seam.specs.Events.Nested.{enter, enter_link, exit}
+use Rattle.md_seam.specs.Events.Nested.{enter, enter_link, exit, pair}
 use Rattle.md_seam.specs.Events.Places.{first_point}
 use Rattle.md_seam.specs.Events.Endings.{endings_stand_from}
 use Rattle.md_seam.specs.Events.Spelled.{OpenLeaf, Opens, Role, fresh, role}
@@ -51,7 +52,9 @@ use Rattle.markdown_blocks.proofs.PartFacts.{NoLinks}
 use Rattle.markdown_blocks.proofs.Span.Inside.{InsideFacts}
 use Rattle.markdown_blocks.proofs.Span.Leaf.{IsLeafName}
 use Rattle.markdown_blocks.proofs.Span.Lines.{EndsLeaf, SpanFirst, last-ends, span-facts, span-inside}
-use Rattle.markdown_blocks.proofs.SpanLaws.{AreBehind, IsLineOf, IsSpanned, SpanLaws, come_behind, is_bare_row}
+use Rattle.markdown_blocks.proofs.SpanLaws.{AreBehind, IsLineOf, IsNone, IsSpanned, SpanLaws, come_behind}
+use Rattle.markdown_blocks.proofs.SpanLaws.{is_bare_row}
+use Rattle.markdown_blocks.proofs.SpannedFacts.{AreUnspanned}
 use Rattle.markdown_blocks.proofs.SubstitutedLemmas.{Becomes, becomes-append, becomes-same, no_links-unwanted}
 
 -- Each line by itself.
@@ -65,8 +68,17 @@ parts-lines : (es : List Event) → Roles IsPart es → NoLines es
 parts-lines [] h = tt
 parts-lines (e ∷ es) h = (part-lines (role e.name) h.0, parts-lines es h.1)
 
+-- the whitespace in front of it
+white-unspanned : (line : List ℕ) (p : Point) → AreUnspanned (white_part line p)
+white-unspanned [] p = tt
+white-unspanned (b ∷ line) p = go (is_white b)
+  where
+    go : (x : Bool) → AreUnspanned (cond x (pair n.SpaceOrTab p (past_white (b ∷ line) p)) [])
+    go true = (refl, (refl, tt))
+    go false = tt
+
 first-spanned : (options : ParseOptions) (bytes : List ℕ) (row : Row) → IsLineOf options bytes fence_leaf row →
-    IsSpanned IsBegin row.inside
+    IsSpanned AreUnspanned IsBegin row.inside
 first-spanned options bytes row is =
     let line = rest_line is.rest in
     let m = first_byte (text_of is.rest) in
@@ -82,7 +94,7 @@ first-spanned options bytes row is =
           (append_assoc (white_part line row.first)
           (enter (block_name m) at ∷ first_inside linked line row.first row.end)
           (exit (block_name m) row.end ∷ []));
-      lead_plain = parts-lines (white_part line row.first) (kept.white-roles IsPart tt line row.first);
+      lead_plain = white-unspanned line row.first;
       begins = record { kind = refl; lines = block-lines m; link = refl };
       inside_plain =
           parts-lines (first_inside linked line row.first row.end)
@@ -91,7 +103,7 @@ first-spanned options bytes row is =
     }
 
 further-spanned : (options : ParseOptions) (bytes : List ℕ) (row : Row) → IsLineOf options bytes fence_further row →
-    IsSpanned IsFurther row.inside
+    IsSpanned IsNone IsFurther row.inside
 further-spanned options bytes row is =
     let m = held_marker row.on in record {
       lead = [];
@@ -99,7 +111,7 @@ further-spanned options bytes row is =
       inside = further_parts options row.on is.rest row.first row.end;
       end = exit (block_name m) row.end;
       is = is.inside ∙ further-is options bytes row.on is.rest row.first row.end (further-at options bytes row is);
-      lead_plain = tt;
+      lead_plain = refl;
       begins = further-begins m row.first;
       inside_plain = further-lines options row.on is.rest row.first row.end;
       ends = further-ends m row.end;

@@ -20,6 +20,7 @@ ghost use Rattle.md_engine.specs.declared.state.State.{State};
 ghost use Rattle.md_engine.specs.declared.state.flow.State.{State as FlowState};
 ghost use Rattle.markdown_blocks.specs.Flow.{before_transition, leaf_transition};
 ghost use Rattle.markdown_blocks.specs.LineFlags.{asking};
+ghost use Rattle.markdown_blocks.specs.Registry.{joins_lines};
 ghost use Rattle.markdown_blocks.specs.Registry.{construct_transition, goes_on_with, insider, leaf};
 ghost use Rattle.markdown_blocks.specs.AtOnce.{HasPrefix, all_asked, begins_none, opens_none, prefix_taken};
 ghost use Rattle.markdown_blocks.specs.Registry.{may_go_on, may_open, next_opener, opener_front, openers};
@@ -30,6 +31,7 @@ ghost use Rattle.md_seam.specs.Stays.{TakesEach};
 ghost use Rattle.md_seam.specs.Transition.{IsAt, NeedsNothing};
 
 use md_containers::{block_quote, list_item, lists, plain_item};
+use md_engine::configuration::ParseOptions;
 use md_engine::class::is_white;
 use md_engine::message::Message;
 use md_engine::or_error;
@@ -376,6 +378,14 @@ pub fn stays(name: StateName) -> Option<Stay>
         StateName::ThematicBreak(state) => thematic_break::stays(state),
         _ => None,
     }
+}
+
+/// Whether a leaf of several lines may be on, so that its lines are joined: none is built.
+#[inline(always)]
+pub fn joins_lines(_options: &ParseOptions) -> bool
+    ensures { result ≡ joins_lines _options.now }
+{
+    false
 }
 
 /// Runs the resolver of a construct; one that has none changes nothing.
