@@ -1,7 +1,6 @@
 -- The endings of blank lines are told from others, before the text of a document is read and once it is.
 use Rattle.md_engine.specs.declared.tokenizer.held_leaf.HeldLeaf.TheVariants as held_leaf
 use Rattle.std.proofs.Common.{◌≡◌, ℕ, Bool, true, false, cond, List, [], ◌∷◌, ◌++◌, refl, ap, sym, ◌∙◌, append_assoc}
-use Rattle.std.proofs.Common.{subst}
 use Rattle.markdown_blocks.proofs.GroupsAre.{span-begins}
 use Rattle.markdown_blocks.proofs.Registry.{leaf-ends}
 use Rattle.markdown_blocks.specs.Registry.{leaf}

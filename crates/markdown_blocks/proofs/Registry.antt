@@ -55,6 +55,7 @@ use Rattle.markdown_blocks.specs.Registry.{HeadingAtx, LeafName, ThematicBreak, 
 use Rattle.markdown_blocks.specs.Registry.{construct_transition, container_rules, first_of, further_of, is_own, leaf}
 use Rattle.markdown_blocks.specs.Registry.{opener_at}
 use Rattle.markdown_blocks.specs.Registry.{openers, openers_behind, resolved, text_leaf, trials, tried_at}
+use Rattle.markdown_blocks.specs.Registry.{joins_lines}
 use Rattle.markdown_blocks.specs.States.{flow_behaves_by, flow_owner, flow_table_scheme}
 use Rattle.markdown_blocks.proofs.BlockQuote.Laws.{quote-laws}
 use Rattle.markdown_blocks.proofs.BlockQuote.Plain.{quote-plain}

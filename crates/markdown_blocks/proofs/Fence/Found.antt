@@ -1,5 +1,5 @@
 -- Where the line definition has fenced code or math, and what it opens.
-use Rattle.std.proofs.Common.{◌≡◌, Bool, true, false, cond, Option, Some, None, refl, sym, ◌∙◌, ap, []}
+use Rattle.std.proofs.Common.{◌≡◌, cond, Option, Some, None, refl, sym, ◌∙◌, ap, []}
 use Rattle.std.specs.Option.{is_some}
 use Rattle.md_engine.specs.declared.configuration.ParseOptions.{ParseOptions}
 use Rattle.md_definition.specs.Leaves.{Came, Opened, fence_at}

@@ -216,10 +216,10 @@ pub further-outside : (options : ParseOptions) (on : HeldLeaf) (line : List ℕ)
 further-outside options on line p =
     let q : Point = past_text line p in
     let parts : List Event = further_parts options on (rest_of p line) p q in (
-      block-heading (held_marker on),
+      block-own (held_marker on),
       outside-append parts (exit (block_name (held_marker on)) q ∷ [])
           (parts-each AreOutside tt
-          (λ kind name x es e k. (rw (inside-heading name e) (and-false (is_enter kind)), k)) options on
+          (λ kind name x es e k. (rw (inside-own name e) (and-false (is_enter kind)), k)) options on
           (rest_of p line) p q)
           (refl, tt),
     )

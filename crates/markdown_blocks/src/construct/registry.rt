@@ -31,8 +31,8 @@ ghost use Rattle.md_seam.specs.Stays.{TakesEach};
 ghost use Rattle.md_seam.specs.Transition.{IsAt, NeedsNothing};
 
 use md_containers::{block_quote, list_item, lists, plain_item};
-use md_engine::configuration::ParseOptions;
 use md_engine::class::is_white;
+use md_engine::configuration::ParseOptions;
 use md_engine::message::Message;
 use md_engine::or_error;
 use md_engine::resolve::Name as ResolveName;
