@@ -23,11 +23,11 @@ ghost use Rattle.markdown_blocks.specs.Flow.{behind_all, existing_before_transit
 ghost use Rattle.markdown_blocks.specs.Flow.{inside_transition, new_after_transition};
 ghost use Rattle.markdown_blocks.specs.Registry.{insider};
 ghost use Rattle.std.specs.Option.{is_some};
-ghost use Rattle.markdown_blocks.specs.Flow.{new_before_transition, opener_transition};
+ghost use Rattle.markdown_blocks.specs.Flow.{new_before_transition};
 ghost use Rattle.markdown_blocks.specs.LineFlags.{asking, begun_line, ended_on, ending_name, next_container, stays};
 ghost use Rattle.markdown_blocks.specs.AtOnce.{GoesAtOnce, asking_next, openers_passed};
 ghost use Rattle.md_containers.specs.PlainBullet.{IsPlainBullet};
-ghost use Rattle.markdown_blocks.specs.Registry.{opener_at, opener_front, openers};
+ghost use Rattle.markdown_blocks.specs.Registry.{opener_front, openers};
 ghost use Rattle.markdown_blocks.specs.States.{FlowStep};
 ghost use Rattle.md_engine.specs.declared.resolve.name.Name.{Name as ResolveName};
 ghost use Rattle.markdown_blocks.specs.HeldLeaf.{takes_lazy};
@@ -36,6 +36,7 @@ ghost use Rattle.markdown_blocks.specs.Document.{document_table_scheme, document
 ghost use Rattle.md_seam.specs.Transition.{IsAt, NeedsNothing};
 
 use crate::construct::registry;
+pub use crate::construct::registry::{container_new_before, container_new_before_not_block_quote};
 use crate::resolve;
 use md_engine::event::Name;
 use md_engine::message::Message;
@@ -221,7 +222,7 @@ pub fn container_existing_after(tokenizer: &mut Tokenizer) -> State
 /// Before a container of a kind that may open: where it does not, the next kind is tried.
 #[inline(always)]
 #[tactic(auto, unfolding(md_seam::specs::Look::looks_behind))]
-fn try_new(tokenizer: &mut Tokenizer, kind: ContainerKind) -> State
+pub(crate) fn try_new(tokenizer: &mut Tokenizer, kind: ContainerKind) -> State
     ensures to { result ≢ State.Error → result ≡ (new_before_transition kind (world tokenizer.old)).to }
     ensures world { result ≢ State.Error →
         world tokenizer.new ≡ (new_before_transition kind (world tokenizer.old)).world }
@@ -235,25 +236,6 @@ fn try_new(tokenizer: &mut Tokenizer, kind: ContainerKind) -> State
         State::Next(StateName::Document(registry::next_opener(kind)))
     ));
     State::Retry(registry::opens_with(kind))
-}
-
-/// Before a container that may open: of the kind that is tried at this state.
-///
-/// ```markdown
-/// > | > a
-///     ^
-/// ```
-#[inline(always)]
-pub fn container_new_before(tokenizer: &mut Tokenizer, state: DocumentState) -> State
-    requires { IsAt NeedsNothing (StateName.Document state) (world tokenizer.old) }
-    ensures to { result ≢ State.Error → result ≡ (opener_transition (opener_at state) (world tokenizer.old)).to }
-    ensures world { result ≢ State.Error →
-        world tokenizer.new ≡ (opener_transition (opener_at state) (world tokenizer.old)).world }
-{
-    match registry::opener_at(state) {
-        None => State::Nok,
-        Some(kind) => try_new(tokenizer, kind),
-    }
 }
 
 /// Passes all containers that may open, where none does by what stands here, as the states do one after another.
@@ -449,7 +431,7 @@ pub fn call(tokenizer: &mut Tokenizer, state: DocumentState) -> State
         DocumentState::ContainersAfter => containers_after(tokenizer),
         DocumentState::FlowInside => flow_inside(tokenizer),
         DocumentState::FlowEnd => flow_end(tokenizer),
-        _ => container_new_before(tokenizer, state),
+        _ => registry::before_opener(tokenizer, state),
     }
 }
 

@@ -21,6 +21,7 @@ ghost use Rattle.markdown_blocks.specs.Flow.{flow_own_transition, leaf_after_tra
 ghost use Rattle.markdown_blocks.specs.Registry.{front_of, opener_front, openers, trials};
 ghost use Rattle.md_seam.specs.Transition.{IsAt, NeedsNothing};
 
+pub use crate::construct::registry::{before_heading_atx, before_thematic_break};
 use crate::construct::{document, registry};
 use crate::resolve;
 use md_content::content;
@@ -208,7 +209,7 @@ fn containers_new(tokenizer: &mut Tokenizer) -> State
     } else if registry::opens_plainly(tokenizer) {
         document::opens_at_once(tokenizer)
     } else {
-        document::container_new_before(tokenizer, registry::first_opener())
+        registry::before_opener(tokenizer, registry::first_opener())
     }
 }
 

@@ -18,7 +18,8 @@ ghost use Rattle.md_engine.specs.declared.resolve.name.Name.{Name as ResolveName
 ghost use Rattle.md_engine.specs.declared.state.Name.{Name as StateName};
 ghost use Rattle.md_engine.specs.declared.state.State.{State};
 ghost use Rattle.md_engine.specs.declared.state.flow.State.{State as FlowState};
-ghost use Rattle.markdown_blocks.specs.Flow.{before_transition, leaf_transition};
+ghost use Rattle.markdown_blocks.specs.Flow.{before_transition, leaf_transition, new_before_transition};
+ghost use Rattle.markdown_blocks.specs.Flow.{opener_transition};
 ghost use Rattle.markdown_blocks.specs.LineFlags.{asking};
 ghost use Rattle.markdown_blocks.specs.Registry.{joins_lines};
 ghost use Rattle.markdown_blocks.specs.Registry.{construct_transition, goes_on_with, insider, leaf};
@@ -30,6 +31,7 @@ ghost use Rattle.md_seam.specs.Look.{looks_behind, may_with};
 ghost use Rattle.md_seam.specs.Stays.{TakesEach};
 ghost use Rattle.md_seam.specs.Transition.{IsAt, NeedsNothing};
 
+use crate::construct::document;
 use md_containers::{block_quote, list_item, lists, plain_item};
 use md_engine::class::is_white;
 use md_engine::configuration::ParseOptions;
@@ -57,15 +59,55 @@ pub fn first_opener() -> DocumentState
     DocumentState::ContainerNewBefore
 }
 
-/// The kind that is tried at a state of the document, if one is.
+/// Before a block quote that may open.
+///
+/// ```markdown
+/// > | > a
+///     ^
+/// ```
 #[inline(always)]
-pub fn opener_at(state: DocumentState) -> Option<ContainerKind>
-    ensures { result ≡ opener_at state }
+pub fn container_new_before(tokenizer: &mut Tokenizer) -> State
+    requires { IsAt NeedsNothing (StateName.Document DocumentState.ContainerNewBefore) (world tokenizer.old) }
+    ensures to { result ≢ State.Error →
+        result ≡ (new_before_transition ContainerKind.BlockQuote (world tokenizer.old)).to }
+    ensures world { result ≢ State.Error →
+        world tokenizer.new ≡ (new_before_transition ContainerKind.BlockQuote (world tokenizer.old)).world }
+{
+    document::try_new(tokenizer, ContainerKind::BlockQuote)
+}
+
+/// Before a list item that may open.
+///
+/// ```markdown
+/// > | * a
+///     ^
+/// ```
+#[inline(always)]
+pub fn container_new_before_not_block_quote(tokenizer: &mut Tokenizer) -> State
+    requires { IsAt NeedsNothing (StateName.Document DocumentState.ContainerNewBeforeNotBlockQuote)
+        (world tokenizer.old) }
+    ensures to { result ≢ State.Error →
+        result ≡ (new_before_transition ContainerKind.ListItem (world tokenizer.old)).to }
+    ensures world { result ≢ State.Error →
+        world tokenizer.new ≡ (new_before_transition ContainerKind.ListItem (world tokenizer.old)).world }
+{
+    document::try_new(tokenizer, ContainerKind::ListItem)
+}
+
+/// Calls the state of the document in front of a container that may open; those of containers that are not built refuse.
+#[inline(always)]
+pub fn before_opener(tokenizer: &mut Tokenizer, state: DocumentState) -> State
+    requires { IsAt NeedsNothing (StateName.Document state) (world tokenizer.old) }
+    ensures to { result ≢ State.Error → result ≡ (opener_transition (opener_at state) (world tokenizer.old)).to }
+    ensures world { result ≢ State.Error →
+        world tokenizer.new ≡ (opener_transition (opener_at state) (world tokenizer.old)).world }
 {
     match state {
-        DocumentState::ContainerNewBefore => Some(ContainerKind::BlockQuote),
-        DocumentState::ContainerNewBeforeNotBlockQuote => Some(ContainerKind::ListItem),
-        _ => None,
+        DocumentState::ContainerNewBefore => container_new_before(tokenizer),
+        DocumentState::ContainerNewBeforeNotBlockQuote => {
+            container_new_before_not_block_quote(tokenizer)
+        }
+        _ => State::Nok,
     }
 }
 
@@ -144,7 +186,7 @@ pub fn is_first_trial(state: FlowState) -> bool
 /// > | # a
 ///     ^
 /// ```
-fn before_heading_atx(tokenizer: &mut Tokenizer) -> State
+pub fn before_heading_atx(tokenizer: &mut Tokenizer) -> State
     requires { IsAt NeedsNothing (StateName.Flow FlowState.BeforeHeadingAtx) (world tokenizer.old) }
     ensures to { result ≢ State.Error → result ≡ (before_transition LeafName.HeadingAtx (world tokenizer.old)).to }
     ensures world { result ≢ State.Error →
@@ -166,7 +208,7 @@ fn before_heading_atx(tokenizer: &mut Tokenizer) -> State
 /// > | ***
 ///     ^
 /// ```
-fn before_thematic_break(tokenizer: &mut Tokenizer) -> State
+pub fn before_thematic_break(tokenizer: &mut Tokenizer) -> State
     requires { IsAt NeedsNothing (StateName.Flow FlowState.BeforeThematicBreak) (world tokenizer.old) }
     ensures to { result ≢ State.Error → result ≡ (before_transition LeafName.ThematicBreak (world tokenizer.old)).to }
     ensures world { result ≢ State.Error →

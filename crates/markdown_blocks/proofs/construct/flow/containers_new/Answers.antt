@@ -85,11 +85,11 @@ returns-else-opens_plainly c =
     let w = world c.args.tokenizer.now in
     let at = ap opener_at c.first_opener.ensures in
     let is = ap (λ (o : Option ContainerKind). opener_transition o w) at in
-    let all = λ (fine : c.container_new_before.result ≢ Error).
-    ends-with is_name first first w w c.container_new_before.result (world c.container_new_before.new.tokenizer)
+    let all = λ (fine : c.before_opener.result ≢ Error).
+    ends-with is_name first first w w c.before_opener.result (world c.before_opener.new.tokenizer)
     (came-first (FlowStep is_name) first w) (tried-opener-leaves (opener_at (opener_front openers)) w)
-    (c.container_new_before.ensures.to fine ∙ ap (λ (x : Transition). x.to) is)
-    (c.container_new_before.ensures.world fine ∙ ap (λ (x : Transition). x.world) is) fine c.requires.current
+    (c.before_opener.ensures.to fine ∙ ap (λ (x : Transition). x.to) is)
+    (c.before_opener.ensures.world fine ∙ ap (λ (x : Transition). x.world) is) fine c.requires.current
     (within-world c.args.tokenizer.now) refl in
     record { runs = λ fine. (all fine).0; sees = λ fine. (all fine).1 }
 
