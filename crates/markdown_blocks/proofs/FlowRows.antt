@@ -1066,7 +1066,7 @@ done-some options next front tail p cs still w f t h out few b o =
           open-all keep o.new.flags.containers (w.containers ++ t.container ∷ f.containers) kept
           (subst Q (append_assoc w.containers (t.container ∷ []) f.containers) o.containers);
       leaf = ap (λ (q : Point). leaf_behind options held_leaf.None f.cells q k) o.point;
-      blank = refl;
+      blank = ap (λ (q : Point). blank_by k f.cells q) o.point;
     })
   where
     k : RowKind

@@ -73,9 +73,11 @@ use Rattle.markdown_blocks.proofs.BlockQuote.Registers.{quote-registers}
 use Rattle.markdown_blocks.proofs.ContainerLaws.{ContainerLaws}
 use Rattle.markdown_blocks.proofs.ContainerNames.{is_front}
 use Rattle.markdown_blocks.proofs.Fence.Found.{fence-found, fence-off, fence-shallow}
+use Rattle.markdown_blocks.proofs.Fence.Laws.{fence-laws}
 use Rattle.markdown_blocks.proofs.Fence.Opened.{fence-starts}
 use Rattle.markdown_blocks.proofs.Fence.Registers.{fence-registers}
 use Rattle.markdown_blocks.proofs.FenceFurther.Definition.{opening-fence}
+use Rattle.markdown_blocks.proofs.FenceFurther.Laws.{fence_further-laws}
 use Rattle.markdown_blocks.proofs.FenceSpan.Laws.{fence-span}
 use Rattle.markdown_blocks.proofs.Goods.{Anywhere, ContainerFits, IsWithin}
 use Rattle.markdown_blocks.proofs.HeadingAtx.Found.{heading-found, heading-shallow}
@@ -101,8 +103,8 @@ use Rattle.markdown_blocks.proofs.ThematicBreak.Registers.{break-registers}
 -- Leaves that take a line.
 
 pub laws : (l : LeafName) → LeafLaws (leaf l)
-laws Fence = ?
-laws FenceFurther = ?
+laws Fence = fence-laws
+laws FenceFurther = fence_further-laws
 laws HeadingAtx = heading-laws
 laws ThematicBreak = break-laws
 
@@ -335,7 +337,13 @@ fence-open o lines is = record {
 -- so its line goes on that one
 pub insider-further : (on : HeldLeaf) (l : LeafName) → insider on ≡ Some l → (leaf l).further on ≡ true
 unfolding insider
-insider-further on l e = cc
+insider-further on l e = go (is_fence on) refl l e
+  where
+    go : (x : Bool) → is_fence on ≡ x → (l : LeafName) → cond x (Some FenceFurther) None ≡ Some l →
+        (leaf l).further on ≡ true
+    go true f FenceFurther e = f
+    go true f l e = absurd (cc)
+    go false f l e = absurd (cc)
 
 -- what may be open of several lines is as the frame asks
 pub open-span : (open_leaf : Leaf) → IsOpenSpan open_leaf → OpenSpan open_leaf
