@@ -1,5 +1,5 @@
 -- The constructs that are built, and their order: the one place of the frame's definitions that names them.
-use Rattle.std.specs.Prelude.{◌≡◌, refl, Bool, ℕ, zero, suc, ◌+◌, ◌*◌, nat_lt, true, ◌==◌, if◌then◌else◌}
+use Rattle.std.specs.Prelude.{◌≡◌, ◌&&◌, refl, Bool, ℕ, zero, suc, ◌+◌, ◌*◌, nat_lt, true, ◌==◌, if◌then◌else◌}
 use Rattle.std.specs.Prelude.{◌||◌}
 use Rattle.md_engine.specs.declared.tokenizer.held_leaf.HeldLeaf.{HeldLeaf}
 use Rattle.md_engine.specs.declared.tokenizer.held_leaf.HeldLeaf.TheVariants as held_leaf
@@ -27,7 +27,7 @@ use Rattle.md_engine.specs.Scheme.{Rank, Scheme, nowhere, ranked}
 use Rattle.md_engine.specs.World.{World}
 use Rattle.md_containers.specs.Item.{item_scheme, item_transition}
 use Rattle.md_containers.specs.ItemRule.{item_behaves}
-use Rattle.md_containers.specs.Listed.{listed}
+use Rattle.md_containers.specs.Listed.{listed, passes as passes_lists}
 use Rattle.md_containers.specs.Quote.{quote_scheme, quote_transition}
 use Rattle.md_containers.specs.QuoteRule.{quote_behaves}
 use Rattle.md_leaves.specs.Break.{break_scheme, break_transition}
@@ -35,6 +35,8 @@ use Rattle.md_leaves.specs.BreakRule.{break_behaves}
 use Rattle.md_leaves.specs.Heading.{heading_scheme, heading_transition}
 use Rattle.md_leaves.specs.HeadingRule.{heading_behaves}
 use Rattle.md_leaves.specs.HeadingText.{headings_resolved, is_heading}
+use Rattle.md_leaves.specs.Spanned.{passes}
+use Rattle.md_leaves.specs.declared.spans.Place.TheVariants.{Outside}
 use Rattle.md_seam.specs.Events.Spelled.{FootnoteShape, ItemShape, OrderedShape, QuoteShape, Shape, UnorderedShape}
 use Rattle.md_definition.specs.State.{Container, InFootnote, InItem, InQuote, Leaf, OpenFence}
 use Rattle.md_lines.specs.Fence.{fence_scheme, fence_transition}
@@ -78,6 +80,10 @@ insider on = if is_fence on then Some FenceFurther else None
 -- Whether a leaf of several lines may be on, so that a resolver joins its lines.
 unfoldable pub joins_lines : ParseOptions → Bool
 joins_lines options = options.constructs.code_fenced || options.constructs.math_flow
+
+-- whether an event stays as it is where lines are joined and lists are put around items
+abbrev pub stays_alone : Event → Bool
+stays_alone e = passes Outside e && passes_lists e
 
 -- the one that takes the further lines of a leaf whose first line this takes
 abbrev pub further_of : LeafName → LeafName

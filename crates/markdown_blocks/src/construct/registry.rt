@@ -21,7 +21,7 @@ ghost use Rattle.md_engine.specs.declared.state.flow.State.{State as FlowState};
 ghost use Rattle.markdown_blocks.specs.Flow.{before_transition, leaf_transition, new_before_transition};
 ghost use Rattle.markdown_blocks.specs.Flow.{opener_transition};
 ghost use Rattle.markdown_blocks.specs.LineFlags.{asking};
-ghost use Rattle.markdown_blocks.specs.Registry.{joins_lines};
+ghost use Rattle.markdown_blocks.specs.Registry.{joins_lines, stays_alone};
 ghost use Rattle.markdown_blocks.specs.Registry.{construct_transition, goes_on_with, insider, leaf};
 ghost use Rattle.markdown_blocks.specs.AtOnce.{HasPrefix, all_asked, begins_none, opens_none, prefix_taken};
 ghost use Rattle.markdown_blocks.specs.Registry.{may_go_on, may_open, next_opener, opener_front, openers};
@@ -35,6 +35,7 @@ use crate::construct::document;
 use md_containers::{block_quote, list_item, lists, plain_item};
 use md_engine::class::is_white;
 use md_engine::configuration::ParseOptions;
+use md_engine::event::Event;
 use md_engine::message::Message;
 use md_engine::or_error;
 use md_engine::resolve::Name as ResolveName;
@@ -49,6 +50,7 @@ use md_engine::state::{Name as StateName, State};
 use md_engine::stay::Stay;
 use md_engine::subtokenize::Subresult;
 use md_engine::tokenizer::{Container, ContainerKind, HeldLeaf, Tokenizer};
+use md_leaves::spans::{self, Place};
 use md_leaves::{heading_atx, thematic_break};
 use md_lines::raw_flow;
 use md_seam::space_or_tab::look_behind;
@@ -462,6 +464,15 @@ pub fn joins_lines(options: &ParseOptions) -> bool
     ensures { result ≡ joins_lines options.now }
 {
     options.constructs.code_fenced || options.constructs.math_flow
+}
+
+/// Whether an event stays as it is where lines are joined and lists are put around items: it is of no leaf of several
+/// lines, and of no item.
+#[inline(always)]
+pub fn stays_alone(event: &Event) -> bool
+    ensures { result ≡ stays_alone event.now }
+{
+    spans::passes(Place::Outside, event) && !lists::is_item(event.name)
 }
 
 /// Runs the resolver of a construct; one that has none changes nothing.
