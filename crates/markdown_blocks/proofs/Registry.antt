@@ -227,6 +227,11 @@ pub insider-asked : (on : HeldLeaf) (l : LeafName) → insider on ≡ Some l →
 unfolding insider
 insider-asked on l e = cc
 
+-- so its line goes on that one
+pub insider-further : (on : HeldLeaf) (l : LeafName) → insider on ≡ Some l → (leaf l).further on ≡ true
+unfolding insider
+insider-further on l e = cc
+
 -- what may be open of several lines is as the frame asks
 pub open-span : (open_leaf : Leaf) → IsOpenSpan open_leaf → OpenSpan open_leaf
 unfolding IsOpenSpan
