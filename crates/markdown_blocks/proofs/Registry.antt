@@ -186,7 +186,7 @@ begins-none options bytes row is begins = let bad : true ≡ false = sym is.star
 further-span : SpanLaws fence_further fence_further
 further-span = record {
   first_spanned = λ options bytes row is begins. absurd (begins-none options bytes row is begins);
-  further_spanned = (fence-span ?).further_spanned;
+  further_spanned = fence-span.further_spanned;
   block = λ options bytes row rows is are. Break;
   facts = λ options bytes row rows is begins are. absurd (begins-none options bytes row is begins);
   shuts = λ options bytes row rows is begins are bs. absurd (begins-none options bytes row is begins);
@@ -196,7 +196,7 @@ further-span = record {
 
 -- the lines of one that does not end on its line, with those that go on it
 pub span-laws : (l : LeafName) → (leaf l).ends ≡ false → SpanLaws (leaf l) (leaf (further_of l))
-span-laws Fence e = fence-span ?
+span-laws Fence e = fence-span
 span-laws FenceFurther e = further-span
 span-laws HeadingAtx e = absurd (cc)
 span-laws ThematicBreak e = absurd (cc)
@@ -344,6 +344,11 @@ insider-further on l e = go (is_fence on) refl l e
     go true f FenceFurther e = f
     go true f l e = absurd (cc)
     go false f l e = absurd (cc)
+
+-- so its line goes on that one
+pub insider-further : (on : HeldLeaf) (l : LeafName) → insider on ≡ Some l → (leaf l).further on ≡ true
+unfolding insider
+insider-further on l e = cc
 
 -- what may be open of several lines is as the frame asks
 pub open-span : (open_leaf : Leaf) → IsOpenSpan open_leaf → OpenSpan open_leaf

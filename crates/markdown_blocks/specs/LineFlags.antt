@@ -1,7 +1,7 @@
 -- What the document knows of its containers, and how each step of a line changes it.
 use Rattle.markdown_blocks.specs.HeldLeaf.{met_by, takes_lazy}
-use Rattle.std.specs.Prelude.{ℕ, suc, ◌+◌, Bool, true, false, ◌&&◌, ◌==◌, not, nat_lt, if◌then◌else◌, List, [], ◌∷◌, ◌++◌}
-use Rattle.std.specs.Prelude.{drop, length, slice_get, slice_set, Option}
+use Rattle.std.specs.Prelude.{ℕ, suc, ◌+◌, Bool, true, false, ◌&&◌, ◌==◌, not, nat_lt, if◌then◌else◌, List, []}
+use Rattle.std.specs.Prelude.{◌∷◌, ◌++◌, drop, length, slice_get, slice_set, Option}
 use Rattle.md_engine.specs.declared.event.Name.{Name}
 use Rattle.md_engine.specs.declared.event.Name.TheVariants.{BlankLineEnding, LineEnding}
 use Rattle.md_engine.specs.declared.event.Point.{Point}
@@ -56,7 +56,8 @@ begun_line g =
 abbrev pub nothing_stands : Option ℕ → Point → Bool
 nothing_stands o p = ends_line o && (p.column == 1)
 
--- in front of the leaf that is asked first, by whether nothing stands on the line: its ending is that of a blank line then
+-- in front of the leaf that is asked first, by whether nothing stands on the line: its ending is then that of a blank
+-- line
 abbrev pub blank_here : Bool → Flags → Flags
 blank_here nothing g = record g { blank = nothing }
 

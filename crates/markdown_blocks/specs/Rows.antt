@@ -47,8 +47,8 @@ pub record Row : Type 0 where
   -- those that end behind it, the outermost first
   pub leaves : List Container
   -- behind its containers: where it begins, whether it ends there too and no prefix stands in front, what flow adds for
-  -- it unless it is text (the whitespace of a blank line, or a leaf from its begin to its end), where its ending begins,
-  -- and where it has ended, if it has an ending
+  -- it unless it is text (the whitespace of a blank line, or a leaf from its begin to its end), where its ending
+  -- begins, and where it has ended, if it has an ending
   pub first : Point
   pub empty : Bool
   pub inside : List Event
