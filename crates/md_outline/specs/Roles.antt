@@ -8,8 +8,8 @@
 --   `mark` in code, and `ListsBegin` and `ListLemmas`.
 -- - A leaf block: the same, and what is known of it: `leaf_of` and `is_known` here, `Leaf` with `noted` and `push_leaf`
 --   in code.
--- - A leaf block of several lines (`has_lines`): `is_unlisted` and `shown_as` here, `role_of` in code; its lines are shown
---   as they come (`LinedState`), where they may (`LinesStand`), and `LinedLemmas` has what is proved of it.
+-- - A leaf block of several lines (`has_lines`): `is_unlisted` and `shown_as` here, `role_of` in code; its lines are
+--   shown as they come (`LinedState`), where they may (`LinesStand`), and `LinedLemmas` has what is proved of it.
 -- - A text that tells a leaf block something: the same, and `told_as` here, `Note` in code.
 use Rattle.std.specs.Prelude.{ℕ, Bool, true, false, List, None}
 use Rattle.md_definition.specs.declared.outline.Word.TheVariants as word

@@ -151,9 +151,9 @@ first-facts options bytes line rest p columns is = record {
       around-sits bytes name q e done
       (by-math (λ x. Still (role x)) (m == 36) n.MathFlowFence n.CodeFencedFence tt tt) sits.parts;
   plain = λ first. record {
-        known = known-around bytes name q e done (fence-known m) (untold q) (untold e) (known first);
-        lines = first-passes options bytes line rest p e is;
-      };
+    known = known-around bytes name q e done (fence-known m) (untold q) (untold e) (known first);
+    lines = first-passes options bytes line rest p e is;
+  };
   reads = λ s none at.
       ap (λ (o : Option OpenLeaf). read bytes (record s { leaf = o }) (around name q e done)) at
       ∙ reading.fence-opened options bytes line rest p e s is none

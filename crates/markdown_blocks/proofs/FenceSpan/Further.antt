@@ -88,9 +88,9 @@ further-facts options bytes on r p q from to e is reads = record {
   between = λ first last. further-between options bytes on r p q e is first last;
   parted = further-sits options bytes on r p q;
   plain = λ first. record {
-        known = further-known options bytes on r p q e is first;
-        lines = further-passes options bytes on r p q;
-      };
+    known = further-known options bytes on r p q e is first;
+    lines = further-passes options bytes on r p q;
+  };
   reads = reads;
 }
   where

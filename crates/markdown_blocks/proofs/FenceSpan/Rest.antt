@@ -147,7 +147,8 @@ pub record HasRest (bytes : List ℕ) (o : Opening) (left : Expression) (leaf : 
 -- none
 pub rest-none : (bytes : List ℕ) (o : Opening) (left : Expression) (leaf : OpenLeaf) (site : Site) (row : Row)
     (c : Came) →
-    may_end left ≡ true → MayLeave site → IsCame c → block_of leaf ≡ block_by c → HasRest bytes o left leaf site row [] c
+    may_end left ≡ true → MayLeave site → IsCame c → block_of leaf ≡ block_by c →
+    HasRest bytes o left leaf site row [] c
 rest-none bytes o left leaf site row c ends leave is block = record {
   to = leaf;
   further = (ends, refl, leave);
@@ -255,7 +256,8 @@ further-at options bytes row is = record { at = is.at; column = is.column }
 
 -- with what is known of what stands in it
 pub further-line : (options : ParseOptions) (bytes : List ℕ) (o : Opening) (x left : Expression) (from leaf : OpenLeaf)
-    (start site : Site) (row : Row) → (is : IsLineOf options bytes fence_further row) → row.on ≡ held_of o → is_fence (held_of o) ≡ true →
+    (start site : Site) (row : Row) → (is : IsLineOf options bytes fence_further row) → row.on ≡ held_of o →
+    is_fence (held_of o) ≡ true →
     InsideFacts bytes row.first row.end x left from leaf start site
     (further_parts options (held_of o) is.rest row.first row.end)
     (further_parts options (held_of o) is.rest row.first row.end) →

@@ -1,5 +1,5 @@
 -- Where an outline is in fenced code and math, line by line: all that stands in such a block may stand there.
-use Rattle.std.proofs.Common.{◌≡◌, ℕ, ◌+◌, Bool, true, false, cond, ◌&&◌, ◌||◌, not, List, [], ◌∷◌, ◌++◌, length, take}
+use Rattle.std.proofs.Common.{◌≡◌, ℕ, ◌+◌, Bool, true, false, cond, ◌&&◌, not, List, [], ◌∷◌, ◌++◌, length, take}
 use Rattle.std.proofs.Common.{drop, refl, sym, ap, ◌∙◌, subst, slice_range, arith}
 use Rattle.std.specs.Prelude.{◌==◌, nat_lt}
 use Rattle.std.specs.List.{prefix_len}
@@ -18,8 +18,8 @@ use Rattle.md_lines.proofs.FenceOpened.{marker-may}
 use Rattle.md_lines.proofs.FenceParts.{prefix-take}
 use Rattle.md_outline.specs.LinesStand.{AtEnd, AtEnding, AtInfo, AtLine, AtMeta, InText, LinesStand, Site}
 use Rattle.md_outline.specs.LinesStand.{begun_site}
-use Rattle.md_outline.proofs.LinesPass.{IsOnLine, MayLeave, Passes, ended_site, passes-append, passes-none, passes-quiet}
-use Rattle.md_outline.proofs.LinesPass.{stand-both}
+use Rattle.md_outline.proofs.LinesPass.{IsOnLine, MayLeave, Passes, ended_site, passes-append, passes-none}
+use Rattle.md_outline.proofs.LinesPass.{passes-quiet, stand-both}
 use Rattle.md_seam.specs.Events.Inline.{pair_unless_empty}
 use Rattle.md_seam.specs.Events.Nested.{around, exit, pair}
 use Rattle.md_seam.specs.Events.Pieces.{stands_over}

@@ -141,8 +141,8 @@ rest-next options bytes o marks lines left told row next rows marked fence line 
 
     -- the line in front of those behind it
     joined : (after : Expression) (to : OpenLeaf) (end : Site) (c : Came) →
-        InsideFacts bytes next.first next.end x after (behind_ending bytes q leaf) to (ended_site bytes q site) end parts
-        parts →
+        InsideFacts bytes next.first next.end x after (behind_ending bytes q leaf) to (ended_site bytes q site) end
+        parts parts →
         HasRest bytes o after to end next rows (come_behind options bytes fence_further next rows are.7 c) → After c
     joined after to end c facts rest =
         rest-more bytes o left x after leaf to site end row next rows

@@ -175,9 +175,9 @@ ending-inside bytes p q x leaf site whole is on = record {
   between = λ first last. between-pair bytes n.LineEnding p q first last;
   parted = sits-still bytes (pair n.LineEnding p q) (tt, (tt, tt));
   plain = λ first. record {
-        known = (plain-untold bytes (pair n.LineEnding p q) ((refl, refl), ((refl, refl), tt))).known;
-        lines = passes-ending bytes p q site on;
-      };
+    known = (plain-untold bytes (pair n.LineEnding p q) ((refl, refl), ((refl, refl), tt))).known;
+    lines = passes-ending bytes p q site on;
+  };
   reads = ending-reads bytes p q leaf;
 }
   where
@@ -213,9 +213,9 @@ front-inside bytes p q x leaf site front takes on is = record {
   between = λ first last. (fronts-between bytes [] p q front first is).0;
   parted = fronts-sit bytes [] p q front is;
   plain = λ first. record {
-        known = (plain-front bytes [] p q front is).known;
-        lines = passes-prefixes bytes site front on (prefixes-roles QuietOrPrefix front tt tt names);
-      };
+    known = (plain-front bytes [] p q front is).known;
+    lines = passes-prefixes bytes site front on (prefixes-roles QuietOrPrefix front tt tt names);
+  };
   reads =
       λ s text is_open. read-prefixes bytes s front text (prefixes-roles QuietOrPrefix front tt tt names)
       ∙ ap (λ (o : Option OpenLeaf). record s { leaf = o }) is_open;

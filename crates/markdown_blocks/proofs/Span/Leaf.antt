@@ -13,8 +13,8 @@ use Rattle.md_seam.specs.Events.Endings.{spot_behind}
 use Rattle.md_seam.specs.Events.Grammar.{Expression, behind, behind_block, blocks, inside, may_end, plain_text}
 use Rattle.md_seam.specs.Events.Grammar.{unread_text}
 use Rattle.md_seam.specs.Events.Nested.{around, exit}
-use Rattle.md_seam.specs.Events.Spelled.{IsQuiet, LeafKind, OfCode, OfFence, OfMath, OpenLeaf, Opens, Reading, Role, add_block, block_of, fresh}
-use Rattle.md_seam.specs.Events.Spelled.{read, read_enter, read_exit, role}
+use Rattle.md_seam.specs.Events.Spelled.{IsQuiet, LeafKind, OfCode, OfFence, OfMath, OpenLeaf, Opens, Reading, Role}
+use Rattle.md_seam.specs.Events.Spelled.{add_block, block_of, fresh, read, read_enter, read_exit, role}
 use Rattle.md_seam.specs.Events.Tiles.{part_kind}
 use Rattle.md_seam.proofs.EndingsLemmas as ending
 use Rattle.md_seam.proofs.EndingsLemmas.{Stays, in_leaf, others-lead}
@@ -135,7 +135,7 @@ pub inside-leaf : (bytes : List ℕ) (name : Name) (kind : LeafKind) (p a q : Po
     (h : InsideFacts bytes a q named.begin left (fresh kind) to (begun_site kind) end unread done) →
     (h.unread_stays true).0 ≡ filled → (h.stays true).0 ≡ filled → may_end left ≡ true → MayLeave end →
     LeafFacts bytes (Some (block_of to)) filled p q (lead ++ around name a q unread) (lead ++ around name a q done)
-inside-leaf bytes name kind p a q left to end filled lead unread done named front unread_starts starts h unread_is is ends leave = record {
+inside-leaf bytes name kind p a q left to end full lead unread done named front us starts h us_is is ends leave = record {
   unread_nested =
       nested_in-append p a q lead (around name a q unread) front.nested
       (around-nested name a q unread h.unread_nested);
@@ -143,7 +143,7 @@ inside-leaf bytes name kind p a q left to end filled lead unread done named fron
   tiled = tiled-append p a q lead (around name a q unread) front.tiled (tiled-around name a q unread h.tiled);
   unread_stood =
       stood-append bytes lead (around name a q unread) front.stood
-      (stood-around bytes name a q unread unread_starts h.unread_stood);
+      (stood-around bytes name a q unread us h.unread_stood);
   stood =
       stood-append bytes lead (around name a q done) front.stood
       (stood-around bytes name a q done starts h.stood);
@@ -154,11 +154,11 @@ inside-leaf bytes name kind p a q left to end filled lead unread done named fron
       grammar.leads-append plain_text (blocks ∷ []) (blocks ∷ []) (behind_block ∷ []) lead (around name a q done)
       (front.word plain_text) (around-word plain_text left name kind a q done named h.word ends);
   unread_ending =
-      ending.leads-append line_start line_start (leaf.spot_behind filled) lead (around name a q unread) lead_ends
-      (around-leads name a q unread filled named.leaf h.unread_stays unread_is);
+      ending.leads-append line_start line_start (leaf.spot_behind full) lead (around name a q unread) lead_ends
+      (around-leads name a q unread full named.leaf h.unread_stays us_is);
   ending =
-      ending.leads-append line_start line_start (leaf.spot_behind filled) lead (around name a q done) lead_ends
-      (around-leads name a q done filled named.leaf h.stays is);
+      ending.leads-append line_start line_start (leaf.spot_behind full) lead (around name a q done) lead_ends
+      (around-leads name a q done full named.leaf h.stays is);
   unread_unlisted =
       unlisted-both lead (around name a q unread) unlisted
       (around-unlisted name a q unread named.no_list h.unread_roles);
