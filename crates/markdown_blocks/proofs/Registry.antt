@@ -332,6 +332,11 @@ fence-open o lines is = record {
     shallow true more bs h = shallow-then bs (fence_block o lines true) h (fence-shallow o lines true)
     shallow false more bs h = h
 
+-- so its line goes on that one
+pub insider-further : (on : HeldLeaf) (l : LeafName) → insider on ≡ Some l → (leaf l).further on ≡ true
+unfolding insider
+insider-further on l e = cc
+
 -- what may be open of several lines is as the frame asks
 pub open-span : (open_leaf : Leaf) → IsOpenSpan open_leaf → OpenSpan open_leaf
 unfolding IsOpenSpan
