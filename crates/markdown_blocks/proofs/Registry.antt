@@ -285,26 +285,28 @@ pub insider-text : insider held_leaf.Text ≡ None
 unfolding insider
 insider-text = refl
 
--- one that is asked first does not always end on its line
-pub insider-open : (on : HeldLeaf) (l : LeafName) → insider on ≡ Some l → (leaf l).ends ≡ false
+-- Fenced code and math alone are asked first.
+insider-fence : (on : HeldLeaf) (l : LeafName) → insider on ≡ Some l → (is_fence on ≡ true) × (l ≡ FenceFurther)
 unfolding insider
-insider-open on l e = go (is_fence on) l e
-  where
-    go : (x : Bool) (l : LeafName) → cond x (Some FenceFurther) None ≡ Some l → (leaf l).ends ≡ false
-    go true FenceFurther e = refl
-    go true l e = absurd (cc)
-    go false l e = absurd (cc)
-
--- and is asked of that leaf
-pub insider-asked : (on : HeldLeaf) (l : LeafName) → insider on ≡ Some l → (leaf l).asked on ≡ true
-unfolding insider
-insider-asked on l e = go (is_fence on) refl l e
+insider-fence on l e = go (is_fence on) refl l e
   where
     go : (x : Bool) → is_fence on ≡ x → (l : LeafName) → cond x (Some FenceFurther) None ≡ Some l →
-        (leaf l).asked on ≡ true
-    go true f FenceFurther e = f
+        (is_fence on ≡ true) × (l ≡ FenceFurther)
+    go true f FenceFurther e = (f, refl)
     go true f l e = absurd (cc)
     go false f l e = absurd (cc)
+
+-- one that is asked first does not always end on its line
+pub insider-open : (on : HeldLeaf) (l : LeafName) → insider on ≡ Some l → (leaf l).ends ≡ false
+insider-open on l e = let is = insider-fence on l e in ap (λ (k : LeafName). (leaf k).ends) is.1
+
+-- and is asked of that leaf,
+pub insider-asked : (on : HeldLeaf) (l : LeafName) → insider on ≡ Some l → (leaf l).asked on ≡ true
+insider-asked on l e = let is = insider-fence on l e in ap (λ (k : LeafName). (leaf k).asked on) is.1 ∙ is.0
+
+-- so its line goes on that one
+pub insider-further : (on : HeldLeaf) (l : LeafName) → insider on ≡ Some l → (leaf l).further on ≡ true
+insider-further on l e = let is = insider-fence on l e in ap (λ (k : LeafName). (leaf k).further on) is.1 ∙ is.0
 
 -- fenced code and math that is open
 fence-open : (o : Opening) (lines : List Line) → is_fence (kind_of_leaf (OpenFence o lines)) ≡ true →
@@ -333,17 +335,6 @@ fence-open o lines is = record {
     shallow : (x : Bool) (more : List Line) → ComesShallow (comes x more)
     shallow true more bs h = shallow-then bs (fence_block o lines true) h (fence-shallow o lines true)
     shallow false more bs h = h
-
--- a line of the one that is asked first goes on the leaf that it meets
-pub insider-further : (on : HeldLeaf) (l : LeafName) → insider on ≡ Some l → (leaf l).further on ≡ true
-unfolding insider
-insider-further on l e = go (is_fence on) refl l e
-  where
-    go : (x : Bool) → is_fence on ≡ x → (l : LeafName) → cond x (Some FenceFurther) None ≡ Some l →
-        (leaf l).further on ≡ true
-    go true f FenceFurther e = f
-    go true f l e = absurd (cc)
-    go false f l e = absurd (cc)
 
 -- what may be open of several lines is as the frame asks
 pub open-span : (open_leaf : Leaf) → IsOpenSpan open_leaf → OpenSpan open_leaf
