@@ -25,6 +25,7 @@ use md_engine::tokenizer::Tokenizer;
 use md_seam::names::is_block;
 
 /// Whether these events are of a leaf block of several lines.
+#[inline(always)]
 fn has_lines(name: Name) -> bool
     ensures { result ≡ has_lines (role name) }
 {
@@ -32,6 +33,7 @@ fn has_lines(name: Name) -> bool
 }
 
 /// Whether these events are of a line of code.
+#[inline(always)]
 fn is_code_line(name: Name) -> bool
     ensures { result ≡ is_code_line name }
 {
@@ -39,6 +41,7 @@ fn is_code_line(name: Name) -> bool
 }
 
 /// Whether these events are of the ending of a blank line.
+#[inline(always)]
 fn is_blank_ending(name: Name) -> bool
     ensures { result ≡ is_blank_ending name }
 {
@@ -89,6 +92,7 @@ pub enum Place {
 }
 
 /// Whether a part that stands at a place gets another name.
+#[inline(always)]
 fn is_renamed(place: Place, name: Name) -> bool
     ensures { result ≡ is_renamed place name }
 {
