@@ -1,0 +1,124 @@
+-- Indented code with all its lines, joined: a first line, and rows behind it that stand in the code.
+--
+-- What is still asked is that an outline knows the names of code and of its lines (`ShowsCode`).
+use Rattle.std.proofs.Common.{◌≡◌, ℕ, Bool, true, false, cond, List, [], ◌∷◌, ◌++◌, refl, ◌∙◌, ap}
+use Rattle.std.specs.Prelude.{Some}
+use Rattle.md_engine.specs.declared.configuration.ParseOptions.{ParseOptions}
+use Rattle.md_engine.specs.declared.event.Event.{Event}
+use Rattle.md_engine.specs.declared.event.Name.TheVariants as n
+use Rattle.md_definition.specs.Leaves.{code_line}
+use Rattle.md_definition.specs.Rest.{Rest}
+use Rattle.md_definition.specs.Tree.{Code, Line}
+use Rattle.md_seam.specs.Events.Nested.{around, enter, exit, pair}
+use Rattle.md_seam.specs.Events.Spelled.{CodeLeaf, OfCode, OpenLeaf, fresh}
+use Rattle.md_seam.proofs.EndingsLemmas.{AreOthers, Stays, in_leaf, leads-append, others-lead}
+use Rattle.markdown_blocks.specs.Leaf.CodeIndented.{code_leaf, code_parts, is_code}
+use Rattle.markdown_blocks.specs.LineColumns.{past_columns}
+use Rattle.markdown_blocks.specs.Rows.{Row, but_end, last_row, span_by, span_rest}
+use Rattle.markdown_blocks.proofs.CodeIndented.Cells.{IsCodeRest, code-parts, code-rest}
+use Rattle.markdown_blocks.proofs.CodeIndented.Facts.{ShowsCode, first-facts, first_parts}
+use Rattle.markdown_blocks.proofs.CodeIndented.Grammar.{behind_line, code_begun}
+use Rattle.markdown_blocks.proofs.CodeIndented.Parts.{begin-first, code-at, code-is}
+use Rattle.markdown_blocks.proofs.CodeIndented.Rows.{AreInCode, as_line, begins_line, framed, lines_behind}
+use Rattle.markdown_blocks.proofs.CodeIndented.Walk.{lines-fill, lines-further}
+use Rattle.markdown_blocks.proofs.FenceSpan.Laws.{stays-same}
+use Rattle.markdown_blocks.proofs.LeafFacts.{LeafFacts}
+use Rattle.markdown_blocks.proofs.LostLine.Places.{FurtherAt}
+use Rattle.markdown_blocks.proofs.Span.Cuts.{but_end-is}
+use Rattle.markdown_blocks.proofs.Span.Inside.{InsideFacts}
+use Rattle.markdown_blocks.proofs.Span.Lead.{lead-none}
+use Rattle.markdown_blocks.proofs.Span.Leaf.{IsLeafName}
+use Rattle.markdown_blocks.proofs.Span.Lines.{AreFurther, SpanFirst, ends-by, span-facts, span-inside}
+use Rattle.markdown_blocks.proofs.SpanLaws.{IsLineOf}
+
+-- The name of code.
+abbrev pub code_name : ShowsCode → IsLeafName n.CodeIndented OfCode
+code_name shows = record {
+  is = refl;
+  leaf = refl;
+  no_part = refl;
+  no_list = refl;
+  block = refl;
+  begin = code_begun;
+  begins = λ text. refl;
+  plain = shows.code;
+}
+
+-- its first line
+first-is : (options : ParseOptions) (bytes : List ℕ) (row : Row) → (is : IsLineOf options bytes code_leaf row) →
+    is_code row.on ≡ false →
+    as_line row ≡ around n.CodeIndented row.first row.end (first_parts is.rest row.first row.end)
+first-is options bytes row is first =
+    let r = is.rest in
+    let p = row.first in
+    let q = row.end in
+    let of = code-rest options row.on r is.starts in
+    let same : row.inside ≡ around n.CodeIndented p q (first_parts r p q) = is.inside
+    ∙ code-is bytes row.on r p q (code-at options bytes row is)
+    ∙ ap (λ (e : Event). e ∷ code_parts r p q ++ exit n.CodeIndented q ∷ []) (begin-first row.on p first)
+    ∙ ap (λ (es : List Event). around n.CodeIndented p q es) (code-parts r p q of.indented of.dark) in
+    ap (λ (es : List Event). cond (begins_line es) es (framed p q es)) same
+
+-- All that the frame asks of it: it shows the block of all its lines, and on the last of them something stands.
+pub code-span : ShowsCode → (options : ParseOptions) (bytes : List ℕ) (row : Row) (rows : List Row) →
+    (is : IsLineOf options bytes code_leaf row) → is_code row.on ≡ false → (are : AreInCode bytes is.rest row rows) →
+    LeafFacts bytes (Some (Code (code_line is.rest ∷ lines_behind bytes is.rest row rows are))) true row.first
+    (last_row row rows).end (span_by as_line row rows) (span_by as_line row rows)
+code-span shows options bytes row rows is first are =
+    span-facts bytes as_line as_line n.CodeIndented OfCode to row rows true (code_name shows) line further
+    (ends es
+    (span-inside bytes as_line as_line n.CodeIndented OfCode to row rows (code_name shows) line further).unread_stays refl)
+    (ends es
+    (span-inside bytes as_line as_line n.CodeIndented OfCode to row rows (code_name shows) line further).stays refl)
+  where
+    r : Rest
+    r = is.rest
+
+    at : FurtherAt bytes is.rest row.first row.end
+    at = code-at options bytes row is
+
+    of : IsCodeRest options row.on is.rest
+    of = code-rest options row.on is.rest is.starts
+
+    es : List Event
+    es = first_parts is.rest row.first row.end
+
+    to : OpenLeaf
+    to = CodeLeaf (code_line is.rest ∷ lines_behind bytes is.rest row rows are)
+
+    same : as_line row ≡ ((enter n.CodeIndented row.first ∷ es) ++ exit n.CodeIndented row.end ∷ [])
+    same = first-is options bytes row is first
+
+    begins : but_end (as_line row) ≡ enter n.CodeIndented row.first ∷ es
+    begins = ap but_end same ∙ but_end-is (enter n.CodeIndented row.first ∷ es) (exit n.CodeIndented row.end)
+
+    line : SpanFirst bytes as_line as_line n.CodeIndented code_begun (fresh OfCode) row
+    line = record {
+      ends =
+          ends-by as_line as_line n.CodeIndented row (enter n.CodeIndented row.first ∷ es)
+          (enter n.CodeIndented row.first ∷ es) at.at.end_whole same same;
+      lead = [];
+      at = row.first;
+      lead_is = lead-none bytes row.first;
+      unread_inside = es;
+      inside = es;
+      unread_is = begins;
+      is = begins;
+      unread_starts = refl;
+      starts = refl;
+      left = behind_line;
+      leaf = CodeLeaf (code_line is.rest ∷ []);
+      facts = first-facts shows bytes r row.first row.end at of.indented of.dark;
+    }
+
+    further :
+        AreFurther bytes as_line as_line n.CodeIndented behind_line (CodeLeaf (code_line is.rest ∷ [])) to row rows
+    further = lines-further shows bytes r row rows are (code_line r ∷ []) behind_line refl refl
+
+    -- something stands on the last line, also in what is read of it
+    ends : (es : List Event) (stays : Stays (es ++ span_rest as_line row rows)) → AreOthers es →
+        (stays true).0 ≡ true
+    ends es stays others =
+        stays-same (es ++ span_rest as_line row rows) stays true
+        (leads-append (in_leaf true) (in_leaf true) (in_leaf true) es (span_rest as_line row rows)
+        (others-lead (in_leaf true) es refl others) (lines-fill bytes is.rest row rows are true (λ dark. refl)))
