@@ -111,7 +111,7 @@ lines_behind bytes r row (next ∷ rows) are =
     code_line are.4.rest ∷ lines_behind bytes are.4.rest next rows are.5
 
 -- The text goes on with them: behind a line with text stands no end of it, nor in front of one.
-some-text : (r : Rest) → is_blank r.bytes ≡ false → 0 < length (rest_line r)
+pub some-text : (r : Rest) → is_blank r.bytes ≡ false → 0 < length (rest_line r)
 some-text r dark = go r.spaces r.bytes dark
   where
     go : (spaces : ℕ) (bytes : List ℕ) → is_blank bytes ≡ false → 0 < length (cut_tab spaces ++ bytes)

@@ -1,9 +1,10 @@
 -- Indented code with all its lines, joined: a first line, and rows behind it that stand in the code.
 --
 -- What is still asked is that an outline knows the names of code and of its lines (`ShowsCode`).
-use Rattle.std.proofs.Common.{◌≡◌, ℕ, Bool, true, false, cond, List, [], ◌∷◌, ◌++◌, refl, ◌∙◌, ap}
+use Rattle.std.proofs.Common.{◌≡◌, ℕ, Bool, true, false, cond, List, [], ◌∷◌, ◌++◌, not, refl, sym, ◌∙◌, ap, subst}
 use Rattle.std.specs.Prelude.{Some}
 use Rattle.md_engine.specs.declared.configuration.ParseOptions.{ParseOptions}
+use Rattle.md_engine.specs.declared.event.Content.{Content}
 use Rattle.md_engine.specs.declared.event.Event.{Event}
 use Rattle.md_engine.specs.declared.event.Name.TheVariants as n
 use Rattle.md_definition.specs.Leaves.{code_line}
@@ -11,25 +12,31 @@ use Rattle.md_definition.specs.Rest.{Rest}
 use Rattle.md_definition.specs.Tree.{Code, Line}
 use Rattle.md_seam.specs.Events.Nested.{around, enter, exit, pair}
 use Rattle.md_seam.specs.Events.Spelled.{CodeLeaf, OfCode, OpenLeaf, fresh}
+use Rattle.md_seam.specs.Events.Tiles.{plain_read}
+use Rattle.md_seam.specs.Substituted.{Readings}
 use Rattle.md_seam.proofs.EndingsLemmas.{AreOthers, Stays, in_leaf, leads-append, others-lead}
 use Rattle.markdown_blocks.specs.Leaf.CodeIndented.{code_leaf, code_parts, is_code}
 use Rattle.markdown_blocks.specs.LineColumns.{past_columns}
-use Rattle.markdown_blocks.specs.Rows.{Row, but_end, last_row, span_by, span_rest}
+use Rattle.markdown_blocks.specs.Rows.{Row, but_end, end_of, last_row, span_by, span_rest}
 use Rattle.markdown_blocks.proofs.CodeIndented.Cells.{IsCodeRest, code-parts, code-rest}
 use Rattle.markdown_blocks.proofs.CodeIndented.Facts.{ShowsCode, first-facts, first_parts}
 use Rattle.markdown_blocks.proofs.CodeIndented.Grammar.{behind_line, code_begun}
 use Rattle.markdown_blocks.proofs.CodeIndented.Parts.{begin-first, code-at, code-is}
 use Rattle.markdown_blocks.proofs.CodeIndented.Rows.{AreInCode, as_line, begins_line, framed, lines_behind}
-use Rattle.markdown_blocks.proofs.CodeIndented.Walk.{lines-fill, lines-further}
+use Rattle.markdown_blocks.proofs.CodeIndented.Walk.{last-end, last-full, lines-fill, lines-further, rest-unlinked}
+use Rattle.markdown_blocks.proofs.EachEvent.{each-append}
 use Rattle.markdown_blocks.proofs.FenceSpan.Laws.{stays-same}
+use Rattle.markdown_blocks.proofs.FillFacts.{filled-read}
 use Rattle.markdown_blocks.proofs.LeafFacts.{LeafFacts}
 use Rattle.markdown_blocks.proofs.LostLine.Places.{FurtherAt}
-use Rattle.markdown_blocks.proofs.Span.Cuts.{but_end-is}
+use Rattle.markdown_blocks.proofs.PartFacts.{IsUnlinked, NoLinks}
+use Rattle.markdown_blocks.proofs.Span.Cuts.{but_end-is, end-is}
 use Rattle.markdown_blocks.proofs.Span.Inside.{InsideFacts}
 use Rattle.markdown_blocks.proofs.Span.Lead.{lead-none}
 use Rattle.markdown_blocks.proofs.Span.Leaf.{IsLeafName}
 use Rattle.markdown_blocks.proofs.Span.Lines.{AreFurther, SpanFirst, ends-by, span-facts, span-inside}
-use Rattle.markdown_blocks.proofs.SpanLaws.{IsLineOf}
+use Rattle.markdown_blocks.proofs.SpanLaws.{IsLineOf, is_bare_row}
+use Rattle.markdown_blocks.proofs.SubstitutedLemmas.{Becomes, becomes-same, no_links-unwanted}
 
 -- The name of code.
 abbrev pub code_name : ShowsCode → IsLeafName n.CodeIndented OfCode
@@ -58,6 +65,14 @@ first-is options bytes row is first =
     ∙ ap (λ (e : Event). e ∷ code_parts r p q ++ exit n.CodeIndented q ∷ []) (begin-first row.on p first)
     ∙ ap (λ (es : List Event). around n.CodeIndented p q es) (code-parts r p q of.indented of.dark) in
     ap (λ (es : List Event). cond (begins_line es) es (framed p q es)) same
+
+first-begins : (options : ParseOptions) (bytes : List ℕ) (row : Row) → (is : IsLineOf options bytes code_leaf row) →
+    is_code row.on ≡ false →
+    but_end (as_line row) ≡ enter n.CodeIndented row.first ∷ first_parts is.rest row.first row.end
+first-begins options bytes row is first =
+    ap but_end (first-is options bytes row is first)
+    ∙ but_end-is (enter n.CodeIndented row.first ∷ first_parts is.rest row.first row.end)
+    (exit n.CodeIndented row.end)
 
 -- All that the frame asks of it: it shows the block of all its lines, and on the last of them something stands.
 pub code-span : ShowsCode → (options : ParseOptions) (bytes : List ℕ) (row : Row) (rows : List Row) →
@@ -89,9 +104,6 @@ code-span shows options bytes row rows is first are =
     same : as_line row ≡ ((enter n.CodeIndented row.first ∷ es) ++ exit n.CodeIndented row.end ∷ [])
     same = first-is options bytes row is first
 
-    begins : but_end (as_line row) ≡ enter n.CodeIndented row.first ∷ es
-    begins = ap but_end same ∙ but_end-is (enter n.CodeIndented row.first ∷ es) (exit n.CodeIndented row.end)
-
     line : SpanFirst bytes as_line as_line n.CodeIndented code_begun (fresh OfCode) row
     line = record {
       ends =
@@ -102,8 +114,8 @@ code-span shows options bytes row rows is first are =
       lead_is = lead-none bytes row.first;
       unread_inside = es;
       inside = es;
-      unread_is = begins;
-      is = begins;
+      unread_is = first-begins options bytes row is first;
+      is = first-begins options bytes row is first;
       unread_starts = refl;
       starts = refl;
       left = behind_line;
@@ -122,3 +134,35 @@ code-span shows options bytes row rows is first are =
         stays-same (es ++ span_rest as_line row rows) stays true
         (leads-append (in_leaf true) (in_leaf true) (in_leaf true) es (span_rest as_line row rows)
         (others-lead (in_leaf true) es refl others) (lines-fill bytes is.rest row rows are true (λ dark. refl)))
+
+-- Something stands on its last line,
+pub code-full : (options : ParseOptions) (bytes : List ℕ) (row : Row) (rows : List Row) →
+    (is : IsLineOf options bytes code_leaf row) → AreInCode bytes is.rest row rows →
+    not (is_bare_row (last_row row rows)) ≡ true
+code-full options bytes row rows is are = last-full bytes is.rest row rows (code-at options bytes row is) are
+
+-- and nothing is read of it later: it has no text parts.
+pub code-becomes : (options : ParseOptions) (bytes : List ℕ) (row : Row) (rows : List Row) →
+    (is : IsLineOf options bytes code_leaf row) → is_code row.on ≡ false → AreInCode bytes is.rest row rows →
+    (wants : Content → Bool) (reads : Readings) →
+    Becomes wants reads (span_by as_line row rows) (span_by as_line row rows)
+code-becomes options bytes row rows is first are wants reads =
+    becomes-same wants reads (span_by as_line row rows)
+    (no_links-unwanted wants (span_by as_line row rows)
+    (each-append IsUnlinked (but_end (as_line row) ++ span_rest as_line row rows) (end_of (as_line (last_row row rows)))
+    (each-append IsUnlinked (but_end (as_line row)) (span_rest as_line row rows)
+    (subst NoLinks (sym (first-begins options bytes row is first)) (refl, (refl, (refl, (refl, (refl, tt))))))
+    (rest-unlinked bytes is.rest row rows are))
+    (subst NoLinks
+    (sym
+    (last-end bytes is.rest row rows are
+    (ap end_of (first-is options bytes row is first)
+    ∙ end-is (enter n.CodeIndented row.first ∷ first_parts is.rest row.first row.end)
+    (exit n.CodeIndented row.end)))) (refl, tt))))
+
+pub code-read : ShowsCode → (options : ParseOptions) (bytes : List ℕ) (row : Row) (rows : List Row) →
+    (is : IsLineOf options bytes code_leaf row) → is_code row.on ≡ false → AreInCode bytes is.rest row rows →
+    plain_read bytes (span_by as_line row rows) ≡ span_by as_line row rows
+code-read shows options bytes row rows is first are =
+    filled-read bytes (span_by as_line row rows) (span_by as_line row rows)
+    (code-span shows options bytes row rows is first are).filled

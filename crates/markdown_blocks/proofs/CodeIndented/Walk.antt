@@ -1,7 +1,7 @@
 -- All lines of indented code behind its first one: each, also a blank one, is one more line of it.
 use Rattle.std.proofs.Common.{◌≡◌, ℕ, ◌<◌, ◌≤◌, Bool, true, false, cond, ◌||◌, not, List, [], ◌∷◌, ◌++◌, length, drop, refl}
 use Rattle.std.proofs.Common.{sym, ◌∙◌, ap, subst, arith, append_assoc, append-nil}
-use Rattle.std.specs.Prelude.{nat_lt, Some}
+use Rattle.std.specs.Prelude.{◌&&◌, ◌==◌, nat_lt, Some}
 use Rattle.std.proofs.lemmas.Bool.Decides.{nat_tests}
 use Rattle.md_engine.specs.declared.event.Event.{Event}
 use Rattle.md_engine.specs.declared.event.Name.TheVariants as n
@@ -18,25 +18,28 @@ use Rattle.md_seam.proofs.EndingsLemmas.{Leads, in_leaf, leads-append}
 use Rattle.markdown_blocks.specs.Fronted.{rest_line}
 use Rattle.markdown_blocks.specs.Leaf.CodeIndented.{code_parts}
 use Rattle.markdown_blocks.specs.LineColumns.{past_columns}
-use Rattle.markdown_blocks.specs.Rows.{Row, but_ends, ending_events, span_rest}
+use Rattle.markdown_blocks.specs.Rows.{Row, but_ends, end_of, ending_events, last_row, span_rest}
 use Rattle.markdown_blocks.proofs.CodeIndented.Cells.{over-some}
 use Rattle.markdown_blocks.proofs.CodeIndented.Facts.{ShowsCode, line-facts, parts-placed}
 use Rattle.markdown_blocks.proofs.CodeIndented.Grammar.{in_line, line-ending, line-ends, line-takes, line_left}
 use Rattle.markdown_blocks.proofs.CodeIndented.Parts.{code-inside}
-use Rattle.markdown_blocks.proofs.CodeIndented.Rows.{AreInCode, InCode, as_line, framed, goes-on, lines_behind}
+use Rattle.markdown_blocks.proofs.CodeIndented.Rows.{AreInCode, InCode, as_line, goes-on, lines_behind, some-text}
 use Rattle.markdown_blocks.proofs.ContainerNames.{TakesPrefixes}
+use Rattle.markdown_blocks.proofs.EachEvent.{each-append}
 use Rattle.markdown_blocks.proofs.FenceSpan.Rest.{others-fill}
 use Rattle.markdown_blocks.proofs.FrontFacts.{LinePrefix}
 use Rattle.markdown_blocks.proofs.FrontLemmas.{fronts-balanced}
+use Rattle.markdown_blocks.proofs.FrontNames.{fronts-unlinked}
 use Rattle.markdown_blocks.proofs.FrontPlaces.{fronts-grow}
 use Rattle.markdown_blocks.proofs.FrontStands.{fronts-others}
-use Rattle.markdown_blocks.proofs.LostLine.Parts.{inside-others}
+use Rattle.markdown_blocks.proofs.LostLine.Parts.{inside-others, inside-unlinked}
 use Rattle.markdown_blocks.proofs.LostLine.Places.{FurtherAt, further-rest}
 use Rattle.markdown_blocks.proofs.LostLine.Shown.{left-clear}
-use Rattle.markdown_blocks.proofs.Span.Cuts.{but_ends-is, ending-is}
+use Rattle.markdown_blocks.proofs.PartFacts.{IsUnlinked, NoLinks}
+use Rattle.markdown_blocks.proofs.Span.Cuts.{but_ends-is, end-is, ending-is}
 use Rattle.markdown_blocks.proofs.Span.Inside.{InsideFacts, behind_ending}
 use Rattle.markdown_blocks.proofs.Span.Lines.{AreFurther, SpanLine, ends-by}
-use Rattle.markdown_blocks.proofs.SpanLaws.{is_bare}
+use Rattle.markdown_blocks.proofs.SpanLaws.{is_bare, is_bare_row}
 
 -- what stands inside of a row of the code
 in-parts : (bytes : List ℕ) (row : Row) → (is : InCode bytes row) →
@@ -183,3 +186,46 @@ lines-fill bytes r row (next ∷ rows) are full is =
     any : (x : Bool) → (x || true) ≡ true
     any true = refl
     any false = refl
+
+-- Nothing is read of them later.
+
+pub rest-unlinked : (bytes : List ℕ) (r : Rest) (row : Row) (rows : List Row) → AreInCode bytes r row rows →
+    NoLinks (span_rest as_line row rows)
+rest-unlinked bytes r row [] are = tt
+rest-unlinked bytes r row (next ∷ rows) are =
+    let s = are.4.rest in
+    let ended = ending_events n.LineEnding row in
+    let parts = code_parts s next.first next.end in
+    each-append IsUnlinked (ended ++ next.front ++ but_ends (as_line next)) (span_rest as_line next rows)
+    (each-append IsUnlinked (ended ++ next.front) (but_ends (as_line next))
+    (each-append IsUnlinked ended next.front
+    (subst NoLinks (sym (ending-is n.LineEnding row are.0 are.1)) (refl, (refl, tt)))
+    (fronts-unlinked bytes [] are.0 next.first next.front are.3))
+    (subst NoLinks (sym (in-parts bytes next are.4))
+    (inside-unlinked parts (code-inside s next.first next.end)))) (rest-unlinked bytes s next rows are.5)
+
+-- The last of them.
+
+pub last-end : (bytes : List ℕ) (r : Rest) (row : Row) (rows : List Row) → AreInCode bytes r row rows →
+    end_of (as_line row) ≡ exit n.CodeIndented row.end ∷ [] →
+    end_of (as_line (last_row row rows)) ≡ exit n.CodeIndented (last_row row rows).end ∷ []
+last-end bytes r row [] are e = e
+last-end bytes r row (next ∷ rows) are e =
+    let s = are.4.rest in
+    last-end bytes s next rows are.5
+    (ap end_of are.4.is
+    ∙ end-is (enter_link n.CodeIndented next.first further_link ∷ code_parts s next.first next.end)
+    (exit n.CodeIndented next.end))
+
+pub last-full : (bytes : List ℕ) (r : Rest) (row : Row) (rows : List Row) → FurtherAt bytes r row.first row.end →
+    AreInCode bytes r row rows → not (is_bare_row (last_row row rows)) ≡ true
+last-full bytes r row [] is are =
+    let some = some-text r are in
+    let size = is.at.size in
+    let full : (row.first.index == row.end.index) ≡ false = grind (arith, nat_tests) in
+    ap (λ (x : Bool). not (is_bare row.front && x)) full ∙ any (is_bare row.front)
+  where
+    any : (x : Bool) → not (x && false) ≡ true
+    any true = refl
+    any false = refl
+last-full bytes r row (next ∷ rows) is are = last-full bytes are.4.rest next rows are.4.at are.5
