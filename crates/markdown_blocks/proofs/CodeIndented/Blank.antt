@@ -25,7 +25,8 @@ use Rattle.markdown_blocks.proofs.CodeIndented.Parts.{code-inside}
 use Rattle.markdown_blocks.proofs.LeafFacts.{LeafFacts}
 use Rattle.markdown_blocks.proofs.LeafStands.{between-stand}
 use Rattle.markdown_blocks.proofs.LostLine.Names.{AreInside, lost-inside}
-use Rattle.markdown_blocks.proofs.LostLine.Parts.{inside-blocks, inside-filled, inside-others, inside-stands, inside-unlisted}
+use Rattle.markdown_blocks.proofs.LostLine.Parts.{inside-blocks, inside-filled, inside-others, inside-stands}
+use Rattle.markdown_blocks.proofs.LostLine.Parts.{inside-unlisted}
 use Rattle.markdown_blocks.proofs.LostLine.Placed.{Placed, lost-placed}
 use Rattle.markdown_blocks.proofs.LostLine.Places.{FurtherAt}
 use Rattle.markdown_blocks.proofs.LostLine.Shown.{lost-between, lost-sits, white-sits}

@@ -1,6 +1,6 @@
 -- Indented code by the cells of its line: it takes the lines that the line definition says, and adds what it says of
 -- their bytes; so does a blank line where code is open.
-use Rattle.std.proofs.Common.{◌≡◌, ℕ, zero, suc, ◌+◌, ◌^◌, ◌<◌, ◌≤◌, Bool, true, false, cond, ◌&&◌, ◌||◌, List, []}
+use Rattle.std.proofs.Common.{◌≡◌, ℕ, zero, suc, ◌^◌, ◌<◌, Bool, true, false, cond, ◌&&◌, List, []}
 use Rattle.std.proofs.Common.{◌∷◌, ◌++◌, length, refl, sym, ◌∙◌, ap, ap₂, arith}
 use Rattle.std.specs.Prelude.{◌==◌, nat_le, nat_lt, not}
 use Rattle.std.proofs.lemmas.Bool.{and_parts}
@@ -19,7 +19,7 @@ use Rattle.md_definition.proofs.TextsLemmas.{NoEnding}
 use Rattle.md_lines.specs.Code.{begin_of, may_open}
 use Rattle.md_lines.specs.CodeRule.{blank_adds}
 use Rattle.md_lines.proofs.CodeLines.{blank-line, indented-same}
-use Rattle.md_seam.specs.Ahead.{line_bytes, line_end, white_end, white_rest}
+use Rattle.md_seam.specs.Ahead.{line_bytes, line_end, white_end}
 use Rattle.md_seam.specs.Events.Nested.{exit, pair}
 use Rattle.md_seam.specs.Events.Places.{past_byte, past_text}
 use Rattle.md_seam.proofs.FeedLines.{Stops, bytes_of, cell, columns_more, spread, tab_cells}
@@ -28,7 +28,7 @@ use Rattle.md_seam.proofs.RestCells.{RestAt, cells_by, lose-no_ending, rest_cell
 use Rattle.md_seam.proofs.RestLines.{blank-cells, rest-line, rest-past}
 use Rattle.markdown_blocks.specs.Fronted.{rest_line}
 use Rattle.markdown_blocks.specs.Leaf.CodeIndented.{blank_in_code, code_leaf, code_parts, starts_code}
-use Rattle.markdown_blocks.specs.LineColumns.{part_over, past_columns, rest_of}
+use Rattle.markdown_blocks.specs.LineColumns.{part_over, past_columns}
 use Rattle.markdown_blocks.proofs.CodeIndented.Trial.{is_code_line, kept-some}
 use Rattle.markdown_blocks.proofs.LostLine.Columns.{columns-end, first-white, past-line, rest-again}
 

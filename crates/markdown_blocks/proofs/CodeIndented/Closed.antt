@@ -1,6 +1,6 @@
 -- What the line definition has of the lines of indented code, once it is closed: all of them, since the last is not
 -- blank.
-use Rattle.std.proofs.Common.{◌≡◌, ℕ, ◌+◌, ◌-◌, Bool, false, cond, List, [], ◌∷◌, ◌++◌, length, take, reverse, refl, sym}
+use Rattle.std.proofs.Common.{◌≡◌, ℕ, ◌+◌, ◌-◌, Bool, false, cond, List, [], ◌∷◌, ◌++◌, length, take, reverse, sym}
 use Rattle.std.proofs.Common.{◌∙◌, ap, arith, subst, append_assoc, append-nil}
 use Rattle.std.specs.List.{prefix_len, suffix_len}
 use Rattle.std.proofs.lemmas.List.{reverse-append, take_all}
@@ -17,7 +17,8 @@ use Rattle.markdown_blocks.specs.Rows.{Row}
 use Rattle.markdown_blocks.proofs.CodeIndented.Rows.{AreInCode, lines_behind}
 
 -- What it comes to with the lines behind one, behind what it came to before.
-abbrev pub come_in : (bytes : List ℕ) (r : Rest) (row : Row) (rows : List Row) → AreInCode bytes r row rows → Came → Came
+abbrev pub come_in : (bytes : List ℕ) (r : Rest) (row : Row) (rows : List Row) → AreInCode bytes r row rows → Came →
+    Came
 come_in bytes r row [] are c = c
 come_in bytes r row (next ∷ rows) are c =
     come_in bytes are.4.rest next rows are.5 (code_comes (left_by c) are.4.rest)

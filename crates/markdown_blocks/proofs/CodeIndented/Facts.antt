@@ -1,5 +1,5 @@
 -- What is known of what stands on a line of code, and on a blank line where code is open, inside of the code.
-use Rattle.std.proofs.Common.{◌≡◌, ℕ, Bool, true, false, ◌||◌, not, List, [], ◌∷◌, ◌++◌, drop, refl, sym, subst}
+use Rattle.std.proofs.Common.{◌≡◌, ℕ, true, false, ◌||◌, not, List, [], ◌∷◌, ◌++◌, drop, refl, sym, subst}
 use Rattle.std.specs.Prelude.{nat_le}
 use Rattle.std.proofs.lemmas.Bool.{or_right}
 use Rattle.md_engine.specs.declared.event.Event.{Event}
@@ -17,7 +17,8 @@ use Rattle.markdown_blocks.specs.Fronted.{rest_line}
 use Rattle.markdown_blocks.specs.Leaf.CodeIndented.{code_parts}
 use Rattle.markdown_blocks.specs.LineColumns.{columns_part, part_over, past_columns}
 use Rattle.markdown_blocks.proofs.CodeIndented.Cells.{code-parts}
-use Rattle.markdown_blocks.proofs.CodeIndented.Grammar.{behind_line, code_begun, first-leads, in_line, line-leads, line_left}
+use Rattle.markdown_blocks.proofs.CodeIndented.Grammar.{behind_line, code_begun, first-leads, in_line, line-leads}
+use Rattle.markdown_blocks.proofs.CodeIndented.Grammar.{line_left}
 use Rattle.markdown_blocks.proofs.CodeIndented.Grammar.{parts-stay}
 use Rattle.markdown_blocks.proofs.CodeIndented.Parts.{code-inside}
 use Rattle.markdown_blocks.proofs.CodeIndented.Reads.{parts-read}

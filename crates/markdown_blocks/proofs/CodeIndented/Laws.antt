@@ -1,10 +1,7 @@
 -- The laws of indented code, as the frame asks for them.
-use Rattle.std.proofs.Common.{◌≡◌, ℕ, true, false, List, refl}
-use Rattle.std.specs.Prelude.{Some}
-use Rattle.md_engine.specs.declared.configuration.ParseOptions.{ParseOptions}
+use Rattle.std.proofs.Common.{◌≡◌, true, refl}
 use Rattle.md_engine.specs.declared.tokenizer.held_leaf.HeldLeaf.{HeldLeaf}
 use Rattle.md_engine.specs.declared.tokenizer.held_leaf.HeldLeaf.TheVariants as held_leaf
-use Rattle.md_definition.specs.Rest.{Rest}
 use Rattle.markdown_blocks.specs.HeldLeaf.{has_lines}
 use Rattle.markdown_blocks.specs.Fronted.{rest_line}
 use Rattle.markdown_blocks.specs.Leaf.CodeIndented.{code_leaf, is_code}

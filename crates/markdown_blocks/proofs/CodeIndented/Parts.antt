@@ -1,5 +1,5 @@
 -- What stands on a line of code, and on a blank line where code is open, as the lines of a leaf are joined.
-use Rattle.std.proofs.Common.{◌≡◌, ℕ, Bool, true, false, cond, List, [], ◌∷◌, ◌++◌, drop, refl, sym, ◌∙◌, ap, ap₂}
+use Rattle.std.proofs.Common.{◌≡◌, ℕ, true, false, List, [], ◌∷◌, ◌++◌, drop, refl, sym, ◌∙◌, ap, ap₂}
 use Rattle.md_engine.specs.declared.configuration.ParseOptions.{ParseOptions}
 use Rattle.md_engine.specs.declared.event.Event.{Event}
 use Rattle.md_engine.specs.declared.event.Name.TheVariants as n
@@ -7,7 +7,7 @@ use Rattle.md_engine.specs.declared.event.Point.{Point}
 use Rattle.md_engine.specs.declared.tokenizer.held_leaf.HeldLeaf.{HeldLeaf}
 use Rattle.md_engine.specs.declared.tokenizer.held_leaf.HeldLeaf.TheVariants as held_leaf
 use Rattle.md_definition.specs.Rest.{Rest}
-use Rattle.md_leaves.proofs.SpannedLines.{IsBegin, IsEnd, IsFurther}
+use Rattle.md_leaves.proofs.SpannedLines.{IsBegin, IsFurther}
 use Rattle.md_lines.specs.Code.{begin_of}
 use Rattle.md_lines.specs.Further.{further_link}
 use Rattle.md_seam.specs.Events.Nested.{enter, enter_link, exit}

@@ -1,5 +1,5 @@
 -- The states of indented code register nothing.
-use Rattle.std.proofs.Common.{◌≡◌, Bool, true, false, ◌&&◌, List, [], ◌∷◌, ◌++◌, refl}
+use Rattle.std.proofs.Common.{◌≡◌, Bool, true, false, ◌&&◌, refl}
 use Rattle.md_engine.specs.declared.event.Name.TheVariants as n
 use Rattle.md_engine.specs.declared.state.code_indented.State.{State as CodeState}
 use Rattle.md_engine.specs.declared.state.code_indented.State.TheVariants as its
@@ -8,7 +8,7 @@ use Rattle.md_engine.specs.declared.tokenizer.held_leaf.HeldLeaf.TheVariants as 
 use Rattle.md_engine.specs.World.{World}
 use Rattle.md_lines.specs.Code.{code_transition, further_after_code, further_begin_code, further_inside_code}
 use Rattle.md_lines.specs.Code.{inside_blank_code, inside_code, may_open, opened, start_code}
-use Rattle.md_seam.specs.Events.Nested.{enter, enter_link, exit}
+use Rattle.md_seam.specs.Events.Nested.{enter, exit}
 use Rattle.md_seam.specs.Spaces.{ends_line, sees_white}
 use Rattle.markdown_blocks.proofs.Registers.{Registers, adds}
 

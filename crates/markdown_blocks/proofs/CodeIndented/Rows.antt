@@ -1,8 +1,9 @@
--- The rows of indented code: a line of code, further ones and blank ones behind it, and the last of them a line of code.
+-- The rows of indented code: a line of code, and further ones and blank ones behind it, of which the last is no blank
+-- one.
 --
 -- A blank line stands bare, as it may stand behind the code. Between two lines of code it is one of them, so it is
 -- taken for a further line: with a begin and an end, which go when the lines are joined.
-use Rattle.std.proofs.Common.{◌≡◌, ℕ, zero, suc, ◌+◌, ◌<◌, ◌≤◌, Bool, true, false, cond, List, [], ◌∷◌, ◌++◌, length}
+use Rattle.std.proofs.Common.{◌≡◌, ℕ, zero, suc, ◌<◌, ◌≤◌, Bool, true, false, cond, List, [], ◌∷◌, ◌++◌, length}
 use Rattle.std.proofs.Common.{drop, refl, sym, ◌∙◌, ap, arith}
 use Rattle.std.specs.Prelude.{if◌then◌else◌, nat_lt, Some}
 use Rattle.std.proofs.lemmas.Bool.Decides.{nat_tests}

@@ -9,14 +9,13 @@ use Rattle.md_engine.specs.declared.event.Event.{Event}
 use Rattle.md_engine.specs.declared.event.Name.TheVariants as n
 use Rattle.md_definition.specs.Leaves.{code_line}
 use Rattle.md_definition.specs.Rest.{Rest}
-use Rattle.md_definition.specs.Tree.{Code, Line}
-use Rattle.md_seam.specs.Events.Nested.{around, enter, exit, pair}
+use Rattle.md_definition.specs.Tree.{Code}
+use Rattle.md_seam.specs.Events.Nested.{around, enter, exit}
 use Rattle.md_seam.specs.Events.Spelled.{CodeLeaf, OfCode, OpenLeaf, fresh}
 use Rattle.md_seam.specs.Events.Tiles.{plain_read}
 use Rattle.md_seam.specs.Substituted.{Readings}
 use Rattle.md_seam.proofs.EndingsLemmas.{AreOthers, Stays, in_leaf, leads-append, others-lead}
 use Rattle.markdown_blocks.specs.Leaf.CodeIndented.{code_leaf, code_parts, is_code}
-use Rattle.markdown_blocks.specs.LineColumns.{past_columns}
 use Rattle.markdown_blocks.specs.Rows.{Row, but_end, end_of, last_row, span_by, span_rest}
 use Rattle.markdown_blocks.proofs.CodeIndented.Cells.{IsCodeRest, code-parts, code-rest}
 use Rattle.markdown_blocks.proofs.CodeIndented.Facts.{ShowsCode, first-facts, first_parts}
@@ -31,7 +30,6 @@ use Rattle.markdown_blocks.proofs.LeafFacts.{LeafFacts}
 use Rattle.markdown_blocks.proofs.LostLine.Places.{FurtherAt}
 use Rattle.markdown_blocks.proofs.PartFacts.{IsUnlinked, NoLinks}
 use Rattle.markdown_blocks.proofs.Span.Cuts.{but_end-is, end-is}
-use Rattle.markdown_blocks.proofs.Span.Inside.{InsideFacts}
 use Rattle.markdown_blocks.proofs.Span.Lead.{lead-none}
 use Rattle.markdown_blocks.proofs.Span.Leaf.{IsLeafName}
 use Rattle.markdown_blocks.proofs.Span.Lines.{AreFurther, SpanFirst, ends-by, span-facts, span-inside}
@@ -80,11 +78,10 @@ pub code-span : ShowsCode → (options : ParseOptions) (bytes : List ℕ) (row :
     LeafFacts bytes (Some (Code (code_line is.rest ∷ lines_behind bytes is.rest row rows are))) true row.first
     (last_row row rows).end (span_by as_line row rows) (span_by as_line row rows)
 code-span shows options bytes row rows is first are =
-    span-facts bytes as_line as_line n.CodeIndented OfCode to row rows true (code_name shows) line further
-    (ends es
-    (span-inside bytes as_line as_line n.CodeIndented OfCode to row rows (code_name shows) line further).unread_stays refl)
-    (ends es
-    (span-inside bytes as_line as_line n.CodeIndented OfCode to row rows (code_name shows) line further).stays refl)
+    let named = code_name shows in
+    let stays = span-inside bytes as_line as_line n.CodeIndented OfCode to row rows named line further in
+    span-facts bytes as_line as_line n.CodeIndented OfCode to row rows true named line further
+    (ends es stays.unread_stays refl) (ends es stays.stays refl)
   where
     r : Rest
     r = is.rest

@@ -1,6 +1,6 @@
 -- The trial of indented code takes a line to its end, or refuses it.
-use Rattle.std.proofs.Common.{◌≡◌, ◌≤◌, ◌+◌, ℕ, Bool, true, false, cond, ◌&&◌, List, length, refl, sym, ◌∙◌, ap, arith}
-use Rattle.std.specs.Prelude.{not, nat_le, Option, Some, None}
+use Rattle.std.proofs.Common.{◌≡◌, ◌≤◌, ℕ, Bool, true, false, cond, ◌&&◌, List, length, refl, sym, ◌∙◌, ap, arith}
+use Rattle.std.specs.Prelude.{not, Option, Some, None}
 use Rattle.std.specs.Option.{is_some}
 use Rattle.md_engine.specs.declared.configuration.ParseOptions.{ParseOptions}
 use Rattle.md_engine.specs.declared.tokenizer.Scratch.{Scratch}

@@ -1,9 +1,9 @@
 -- A further line of fenced code or math by its cells: it adds what its bytes say, and holds what the line definition
 -- does.
-use Rattle.std.proofs.Common.{◌≡◌, ℕ, zero, suc, ◌+◌, ◌-◌, ◌^◌, ◌<◌, ◌≤◌, Bool, true, false, cond, ◌&&◌, List, [], ◌∷◌}
-use Rattle.std.proofs.Common.{◌++◌, length, drop, take, refl, sym, ◌∙◌, ap, ap₂, arith, subst}
+use Rattle.std.proofs.Common.{◌≡◌, ℕ, zero, suc, ◌^◌, ◌<◌, ◌≤◌, Bool, true, false, cond, ◌&&◌, List, [], ◌∷◌}
+use Rattle.std.proofs.Common.{◌++◌, length, drop, take, refl, sym, ◌∙◌, ap, ap₂, arith}
 use Rattle.std.specs.Prelude.{◌==◌, nat_le, nat_lt, Option, Some, None}
-use Rattle.std.proofs.lemmas.Bool.{and_parts, eqb-true}
+use Rattle.std.proofs.lemmas.Bool.{and_parts}
 use Rattle.std.proofs.lemmas.Bool.Decides.{nat_tests}
 use Rattle.std.proofs.lemmas.List.{length-append}
 use Rattle.md_engine.specs.declared.configuration.ParseOptions.{ParseOptions}
@@ -16,7 +16,7 @@ use Rattle.md_engine.specs.declared.tokenizer.held_leaf.HeldLeaf.TheVariants as 
 use Rattle.md_engine.specs.Meaning.{Cell}
 use Rattle.md_definition.specs.Leaves.{closes}
 use Rattle.md_definition.specs.Rest.{Rest, cut_tab, has_small_indent, indent, is_blank, is_white, lose, run_len}
-use Rattle.md_definition.specs.Rest.{tab_columns, trim_start}
+use Rattle.md_definition.specs.Rest.{trim_start}
 use Rattle.md_definition.proofs.TextsLemmas.{NoEnding}
 use Rattle.md_lines.specs.Fence.{block_name, chunk_name, fence_name, held_indent, held_marker, held_size, may_begin}
 use Rattle.md_lines.specs.Fence.{sequence_name}
@@ -32,19 +32,16 @@ use Rattle.md_seam.proofs.RestLines.{small-room}
 use Rattle.md_lines.proofs.FenceFurther.{small-behind}
 use Rattle.md_seam.specs.Ahead.{begins_white, white_end, white_rest}
 use Rattle.md_seam.specs.Events.Nested.{enter, enter_link, exit, pair}
-use Rattle.md_seam.specs.Events.Places.{past_byte, past_text}
+use Rattle.md_seam.specs.Events.Places.{past_text}
 use Rattle.md_seam.specs.Look.{first_seen}
 use Rattle.md_seam.specs.Spaces.{any_size, small_indent}
-use Rattle.md_seam.proofs.AheadLemmas.{none-end}
-use Rattle.md_seam.proofs.FeedLines.{Stops, columns_more, spread, stops-white, tab_cells}
-use Rattle.md_seam.proofs.FeedLines.{tab_end, tab_end-stop}
-use Rattle.md_seam.proofs.RestCells.{Cut, HasColumn, RestAt, bare-cells, column-first, indent-length, lose-no_ending}
-use Rattle.md_seam.proofs.RestCells.{past_cut}
+use Rattle.md_seam.proofs.FeedLines.{Stops, spread, stops-white}
+use Rattle.md_seam.proofs.RestCells.{RestAt, column-first, indent-length, lose-no_ending}
 use Rattle.md_seam.proofs.RestCells.{past_rest, rest_cells, without_first}
 use Rattle.markdown_blocks.specs.Fronted.{rest_line}
 use Rattle.markdown_blocks.specs.Leaf.FenceFurther.{chunk_line, closing_line, closing_part, columns_part, fence_further}
 use Rattle.markdown_blocks.specs.Leaf.FenceFurther.{further_parts, is_fence}
-use Rattle.markdown_blocks.specs.Leaf.FenceFurther.{next_point, opening_of, part_over, past_columns, rest_of}
+use Rattle.markdown_blocks.specs.Leaf.FenceFurther.{next_point, opening_of, part_over, past_columns}
 pub use Rattle.markdown_blocks.proofs.LostLine.Columns.{columns-end, columns-part, first-white, past-line, rest-again}
 use Rattle.markdown_blocks.proofs.LostLine.Columns.{first-next, rest}
 use Rattle.markdown_blocks.proofs.FenceFurther.Trial.{fence-marker, fence-size}

@@ -1,6 +1,6 @@
 -- A further line of fenced code or math in the grammar of its block, and among the endings of lines.
-use Rattle.std.proofs.Common.{◌≡◌, ℕ, Bool, true, false, cond, ◌&&◌, List, [], ◌∷◌, ◌++◌, drop, take, refl, subst}
-use Rattle.std.specs.Prelude.{◌==◌, nat_lt}
+use Rattle.std.proofs.Common.{◌≡◌, ℕ, Bool, true, false, cond, List, [], ◌∷◌, ◌++◌, drop, take, refl, subst}
+use Rattle.std.specs.Prelude.{◌==◌}
 use Rattle.md_engine.specs.declared.configuration.ParseOptions.{ParseOptions}
 use Rattle.md_engine.specs.declared.event.Name.TheVariants as n
 use Rattle.md_engine.specs.declared.event.Point.{Point}
@@ -12,7 +12,7 @@ use Rattle.md_seam.specs.Events.Grammar.{Expression, Nothing, behind, inside, ma
 use Rattle.md_seam.specs.Events.Nested.{pair}
 use Rattle.md_seam.specs.Events.Places.{past_text}
 use Rattle.md_seam.proofs.EndingsLemmas.{Stays, stays-others}
-use Rattle.md_seam.proofs.GrammarLemmas.{IsWord, Leads, leads-append, leads-around, leads-pair}
+use Rattle.md_seam.proofs.GrammarLemmas.{IsWord, Leads, leads-append, leads-around}
 use Rattle.markdown_blocks.specs.Fronted.{rest_line}
 use Rattle.markdown_blocks.specs.Leaf.FenceFurther.{chunk_line, closing_line, closing_part, columns_part, further_parts}
 use Rattle.markdown_blocks.specs.Leaf.FenceFurther.{opening_of, part_over, past_columns}
@@ -152,7 +152,8 @@ further-leads text options on r p q = go (closes options (opening_of on) r)
         let m = held_marker on in
         let all = indent r in
         leads-append text (in_line text m ∷ []) (in_line text m ∷ []) (Nothing ∷ []) (columns_part all r p)
-        (closing_part m (trim_start r.bytes) (past_columns all r p) q) (columns-lead text (in_line text m) all r p (white-line text m))
+        (closing_part m (trim_start r.bytes) (past_columns all r p) q)
+        (columns-lead text (in_line text m) all r p (white-line text m))
         (closing-leads text m (trim_start r.bytes) (past_columns all r p) q)
     go false =
         let m = held_marker on in

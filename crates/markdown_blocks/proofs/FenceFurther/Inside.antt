@@ -1,28 +1,23 @@
 -- What is known of what stands in a further line of fenced code or math, from the point where it begins to its end.
-use Rattle.std.proofs.Common.{◌≡◌, ℕ, ◌+◌, ◌<◌, Bool, true, false, cond, ◌&&◌, ◌||◌, List, [], ◌∷◌}
-use Rattle.std.proofs.Common.{◌++◌, length, drop, take, refl, sym, ◌∙◌, ap, arith, subst, append_assoc}
-use Rattle.std.specs.Prelude.{◌==◌, nat_le, nat_lt, not, IsTrue}
+use Rattle.std.proofs.Common.{◌≡◌, ℕ, ◌<◌, Bool, true, false, cond, ◌&&◌, ◌||◌, List}
+use Rattle.std.proofs.Common.{◌++◌, length, drop, take, refl, ◌∙◌, ap, arith, subst, append_assoc}
+use Rattle.std.specs.Prelude.{◌==◌, nat_le, IsTrue}
 use Rattle.std.specs.List.{list_all}
 use Rattle.std.proofs.lemmas.Bool.{and_from, eqb-true, or_left, or_right}
 use Rattle.std.proofs.lemmas.Bool.Decides.{nat_tests}
 use Rattle.md_engine.specs.declared.configuration.ParseOptions.{ParseOptions}
-use Rattle.md_engine.specs.declared.event.Event.{Event}
-use Rattle.md_engine.specs.declared.event.Name.{Name}
 use Rattle.md_engine.specs.declared.event.Name.TheVariants as n
 use Rattle.md_engine.specs.declared.event.Point.{Point}
 use Rattle.md_engine.specs.declared.tokenizer.held_leaf.HeldLeaf.{HeldLeaf}
 use Rattle.md_definition.specs.Leaves.{closes, least_size}
-use Rattle.md_definition.specs.Lines.{is_ending}
 use Rattle.md_definition.specs.Rest.{Rest, indent, lose, run_len, trim_start}
 use Rattle.md_definition.proofs.TextsLemmas.{NoEnding}
 use Rattle.md_lines.specs.Fence.{chunk_name, fence_name, held_indent, held_marker, may_begin, sequence_name}
-use Rattle.md_seam.specs.Events.Nested.{around, pair}
-use Rattle.md_seam.specs.Events.Pieces.{begins_in_tab, is_in_line, piece_stands, stands_over}
+use Rattle.md_seam.specs.Events.Nested.{pair}
+use Rattle.md_seam.specs.Events.Pieces.{begins_in_tab, stands_over}
 use Rattle.md_seam.specs.Events.Places.{at_or_before, past_text}
-use Rattle.md_seam.proofs.FeedLines.{before-byte, drop-past}
+use Rattle.md_seam.proofs.FeedLines.{drop-past}
 use Rattle.md_seam.proofs.InlineLemmas.{past-index, past_text-append}
-use Rattle.md_seam.proofs.NestedLemmas.{at_or_before-refl}
-use Rattle.md_seam.proofs.RestCells.{lose-no_ending}
 use Rattle.markdown_blocks.specs.Fronted.{rest_line}
 use Rattle.markdown_blocks.specs.Leaf.FenceFurther.{chunk_line, closing_line, closing_part, columns_part, further_parts}
 use Rattle.markdown_blocks.specs.Leaf.FenceFurther.{is_fence, opening_of, part_over, past_columns}
@@ -30,15 +25,10 @@ pub use Rattle.markdown_blocks.proofs.LostLine.Placed.{Placed}
 use Rattle.markdown_blocks.proofs.LostLine.Placed.{columns-placed, in-line, lost-placed, over-onward, over-placed}
 use Rattle.markdown_blocks.proofs.LostLine.Placed.{placed-append, placed-around, placed-pair}
 use Rattle.markdown_blocks.proofs.FenceFurther.Names.{either-name}
-use Rattle.markdown_blocks.proofs.FenceFurther.Places.{FurtherAt, HasClosing, HasLeft, further-no_ending, has-closing}
+use Rattle.markdown_blocks.proofs.FenceFurther.Places.{FurtherAt, HasClosing, has-closing}
 use Rattle.markdown_blocks.proofs.FenceFurther.Places.{has-left}
 use Rattle.markdown_blocks.proofs.FenceFurther.Trial.{fence-marker, fence-size}
-use Rattle.markdown_blocks.proofs.PieceFacts.{Over, Starts, Stood, begins-cut, begins-whole, over-front, over-stands}
-use Rattle.markdown_blocks.proofs.PieceFacts.{piece-stands, span, stood-append, stood-around, stood-none, stood-pair}
-use Rattle.markdown_blocks.proofs.PiecesLemmas.{Tiled, tiled-append, tiled-around, tiled-none, tiled-pair}
-use Rattle.markdown_blocks.proofs.RestFacts.{rest-no_ending}
-use Rattle.markdown_blocks.proofs.SpanLemmas.{Nested_in, around-nested, nested_in-append}
-use Rattle.md_seam.proofs.InlineLemmas.{same-refl}
+use Rattle.markdown_blocks.proofs.PieceFacts.{Over, begins-cut, begins-whole, over-front, over-stands}
 
 -- What is left of a line.
 

@@ -15,7 +15,7 @@ use Rattle.md_engine.specs.declared.tokenizer.held_leaf.HeldLeaf.{HeldLeaf}
 use Rattle.md_engine.specs.Meaning.{Cell}
 use Rattle.md_content.specs.Joined.{is_content}
 use Rattle.md_definition.specs.Leaves.{closes}
-use Rattle.md_definition.specs.Rest.{Rest, indent, lose, run_len, trim_start}
+use Rattle.md_definition.specs.Rest.{Rest, indent, run_len, trim_start}
 use Rattle.md_lines.specs.Fence.{block_name, chunk_name, fence_name, held_indent, held_marker, sequence_name}
 use Rattle.md_lines.specs.FenceLine.{chunk_events, closes_here, closing_end, closing_events, further_inside, spaces}
 use Rattle.md_lines.specs.FenceRule.{is_end, is_line, run_end, run_rest}
@@ -25,9 +25,8 @@ use Rattle.md_seam.specs.Events.Nested.{enter_link, exit, is_enter, pair}
 use Rattle.md_seam.specs.Events.Places.{past_text}
 use Rattle.md_seam.specs.Spaces.{any_size, small_indent}
 use Rattle.md_seam.specs.Substituted.{wanted}
-use Rattle.markdown_blocks.specs.Fronted.{rest_line}
 use Rattle.markdown_blocks.specs.Leaf.FenceFurther.{closing_line, closing_part, fence_further}
-use Rattle.markdown_blocks.specs.Leaf.FenceFurther.{chunk_line, further_parts, opening_of, part_over, past_columns}
+use Rattle.markdown_blocks.specs.Leaf.FenceFurther.{chunk_line, further_parts, opening_of, past_columns}
 use Rattle.markdown_blocks.specs.Leaf.FenceFurther.{rest_of}
 use Rattle.markdown_blocks.specs.Registry.{is_own, resolved}
 use Rattle.markdown_blocks.proofs.ContentFacts.{NoContent}

@@ -1,32 +1,24 @@
 -- Where the parts of a further line of fenced code or math stand: from the point where it begins to its end.
-use Rattle.std.proofs.Common.{◌≡◌, ℕ, zero, suc, ◌+◌, ◌≤◌, Bool, true, false, cond, ◌&&◌, List, [], ◌∷◌}
+use Rattle.std.proofs.Common.{◌≡◌, ℕ, zero, suc, ◌≤◌, Bool, true, false, ◌&&◌, List, [], ◌∷◌}
 use Rattle.std.proofs.Common.{◌++◌, length, drop, take, refl, sym, ◌∙◌, ap, arith, subst}
-use Rattle.std.specs.Prelude.{◌==◌, nat_le, nat_lt}
+use Rattle.std.specs.Prelude.{◌==◌, nat_le}
 use Rattle.std.specs.List.{list_all, prefix_len}
 use Rattle.std.proofs.lemmas.Bool.{and_from, and_parts}
 use Rattle.std.proofs.lemmas.Bool.Decides.{nat_tests}
 use Rattle.std.proofs.lemmas.List.{take-append-drop}
 use Rattle.md_engine.specs.declared.configuration.ParseOptions.{ParseOptions}
 use Rattle.md_engine.specs.declared.event.Point.{Point}
-use Rattle.md_engine.specs.declared.tokenizer.Line.{Line}
 use Rattle.md_engine.specs.declared.tokenizer.held_leaf.HeldLeaf.{HeldLeaf}
-use Rattle.md_engine.specs.Meaning.{Cell}
 use Rattle.md_definition.specs.Leaves.{closes}
-use Rattle.md_definition.specs.Rest.{Rest, behind_indent, cut_tab, has_small_indent, indent, is_blank, lose}
+use Rattle.md_definition.specs.Rest.{Rest, behind_indent, cut_tab, has_small_indent, indent, is_blank}
 use Rattle.md_definition.specs.Rest.{run_len, trim_start}
-use Rattle.md_definition.proofs.TextsLemmas.{NoEnding}
 use Rattle.md_lines.specs.Fence.{held_marker, held_size}
 use Rattle.md_seam.proofs.RestLines.{count-none, count-one, indent-trims}
-use Rattle.md_seam.proofs.LostColumns.{HasLost, White, lose-walk}
-use Rattle.md_seam.specs.Ahead.{white_end}
-use Rattle.md_seam.specs.Events.Places.{past_text, same_place}
-use Rattle.md_seam.proofs.RestCells.{Bare, Cut, HasIndent, RestAt, bare, indent-taken, rest_cells, without_first}
-use Rattle.markdown_blocks.specs.Fronted.{rest_line}
-use Rattle.markdown_blocks.specs.Leaf.FenceFurther.{next_point, opening_of, past_columns}
+use Rattle.md_seam.specs.Events.Places.{past_text}
+use Rattle.md_seam.proofs.RestCells.{Bare, Cut, HasIndent, bare, indent-taken}
+use Rattle.markdown_blocks.specs.Leaf.FenceFurther.{opening_of, past_columns}
 pub use Rattle.markdown_blocks.proofs.LostLine.Places.{FurtherAt, HasLeft, further-no_ending, further-rest, has-left}
 use Rattle.markdown_blocks.proofs.LostLine.Places.{unsaid}
-use Rattle.markdown_blocks.proofs.LeafFacts.{LineAt}
-use Rattle.markdown_blocks.proofs.LineTexts.{line-stands}
 
 -- A closing fence.
 

@@ -1,33 +1,30 @@
 -- How a further line of fenced code or math is read, where the block is open: any line makes the last one what the line
 -- definition has of it, and a closing fence takes that away and closes the block.
-use Rattle.std.proofs.Common.{◌≡◌, ℕ, zero, suc, Bool, true, false, cond, ◌&&◌, ◌||◌, List, [], ◌∷◌, ◌++◌, length}
-use Rattle.std.proofs.Common.{drop, take, refl, sym, ◌∙◌, ap, ap₂, arith}
-use Rattle.std.specs.Prelude.{◌==◌, nat_lt, Option, Some, None, option_map}
+use Rattle.std.proofs.Common.{◌≡◌, ℕ, Bool, true, false, cond, ◌||◌, List, [], ◌∷◌, ◌++◌, length}
+use Rattle.std.proofs.Common.{drop, take, refl, sym, ◌∙◌, ap, ap₂}
+use Rattle.std.specs.Prelude.{◌==◌, Option, Some, None, option_map}
 use Rattle.md_engine.specs.declared.configuration.ParseOptions.{ParseOptions}
 use Rattle.md_engine.specs.declared.event.Event.{Event}
 use Rattle.md_engine.specs.declared.event.Name.TheVariants as n
 use Rattle.md_engine.specs.declared.event.Point.{Point}
 use Rattle.md_engine.specs.declared.tokenizer.held_leaf.HeldLeaf.{HeldLeaf}
 use Rattle.md_definition.specs.Leaves.{closes}
-use Rattle.md_definition.specs.Rest.{Rest, cut_tab, indent, line_of, lose, run_len, trim_start}
+use Rattle.md_definition.specs.Rest.{Rest, indent, line_of, lose, run_len, trim_start}
 use Rattle.md_definition.specs.Tree.{Line}
 use Rattle.md_lines.specs.CodeLine as code
 use Rattle.md_lines.specs.Fence.{chunk_name, fence_name, held_indent, held_marker, sequence_name}
-use Rattle.md_lines.proofs.CodeLines.{chunk-reads}
-use Rattle.md_seam.specs.Events.Nested.{enter, exit, pair}
+use Rattle.md_seam.specs.Events.Nested.{enter, exit}
 use Rattle.md_seam.specs.Events.Places.{past_text}
-use Rattle.md_seam.specs.Events.Spelled.{AsLine, AsMarkers, FenceLeaf, Fenced, MathLeaf, OpenLeaf, Reading, Tells, Text}
+use Rattle.md_seam.specs.Events.Spelled.{AsLine, AsMarkers, FenceLeaf, Fenced, MathLeaf, OpenLeaf, Reading, Tells}
 use Rattle.md_seam.specs.Events.Spelled.{at_fence}
 use Rattle.md_seam.specs.Events.Spelled.{empty_line, first_told, joined, next_line, noted, on_fences, on_last, on_leaf}
 use Rattle.md_seam.specs.Events.Spelled.{read, role, with_fence, without_last}
-use Rattle.md_seam.proofs.RestCells.{RestAt}
 use Rattle.md_seam.proofs.SpelledLemmas.{Quiet, Roles, read-from, read-quiet}
-use Rattle.markdown_blocks.specs.Fronted.{rest_line}
 use Rattle.markdown_blocks.specs.Leaf.FenceFurther.{chunk_line, closing_line, closing_part, columns_part, further_parts}
 use Rattle.markdown_blocks.specs.Leaf.FenceFurther.{opening_of, part_over, past_columns}
 use Rattle.markdown_blocks.proofs.LostLine.Reads.{columns-quiet, empty-joined, leaf-told, lost-read, on-last}
 use Rattle.markdown_blocks.proofs.FenceFurther.Names.{either-name}
-use Rattle.markdown_blocks.proofs.FenceFurther.Places.{FurtherAt, has-left}
+use Rattle.markdown_blocks.proofs.FenceFurther.Places.{FurtherAt}
 
 -- The block.
 

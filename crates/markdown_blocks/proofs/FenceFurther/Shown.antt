@@ -1,9 +1,9 @@
 -- What stands in a further line of fenced code or math stands between characters, and parts no text.
-use Rattle.std.proofs.Common.{◌≡◌, ℕ, zero, suc, ◌-◌, Bool, true, false, cond, ◌&&◌, List, [], ◌∷◌}
-use Rattle.std.proofs.Common.{◌++◌, drop, take, refl, sym, arith, subst}
-use Rattle.std.specs.Prelude.{◌==◌, nat_lt, not}
+use Rattle.std.proofs.Common.{◌≡◌, ℕ, ◌-◌, Bool, true, false, cond, List, [], ◌∷◌}
+use Rattle.std.proofs.Common.{◌++◌, drop, take, refl, arith}
+use Rattle.std.specs.Prelude.{◌==◌}
 use Rattle.std.specs.List.{list_all}
-use Rattle.std.proofs.lemmas.Bool.{and_from, or_right}
+use Rattle.std.proofs.lemmas.Bool.{and_from}
 use Rattle.std.proofs.lemmas.Bool.Decides.{nat_tests}
 use Rattle.md_engine.specs.declared.configuration.ParseOptions.{ParseOptions}
 use Rattle.md_engine.specs.declared.event.Event.{Event}
@@ -12,22 +12,19 @@ use Rattle.md_engine.specs.declared.event.Name.TheVariants as n
 use Rattle.md_engine.specs.declared.event.Point.{Point}
 use Rattle.md_engine.specs.declared.tokenizer.held_leaf.HeldLeaf.{HeldLeaf}
 use Rattle.md_definition.specs.Leaves.{closes}
-use Rattle.md_definition.specs.Rest.{Rest, cut_tab, indent, lose, run_len, trim_start}
+use Rattle.md_definition.specs.Rest.{Rest, indent, lose, run_len, trim_start}
 use Rattle.md_lines.specs.Fence.{chunk_name, fence_name, held_indent, held_marker, may_begin, sequence_name}
 use Rattle.md_outline.specs.Between.{is_between}
 use Rattle.md_outline.specs.Outlined.{has_plain_name}
-use Rattle.md_outline.specs.Roles.{is_plain, is_told}
+use Rattle.md_outline.specs.Roles.{is_plain}
 use Rattle.md_seam.specs.Events.Nested.{around, exit, pair}
 use Rattle.md_seam.specs.Events.Places.{past_text}
 use Rattle.md_seam.specs.Events.Spelled.{AsLine, IsFence, Tells, role}
 use Rattle.md_seam.proofs.InlineLemmas.{past-index}
-use Rattle.md_seam.proofs.PlacesLemmas.{at-next}
-use Rattle.md_seam.proofs.RestCells.{Cut, RestAt}
-use Rattle.markdown_blocks.specs.Fronted.{rest_line}
 use Rattle.markdown_blocks.specs.Leaf.FenceFurther.{chunk_line, closing_line, closing_part, columns_part, further_parts}
 use Rattle.markdown_blocks.specs.Leaf.FenceFurther.{is_fence, opening_of, part_over, past_columns}
 use Rattle.markdown_blocks.proofs.BetweenFacts.{AreBetween, all-more, between-behind, is_low, low-at, white-between}
-use Rattle.markdown_blocks.proofs.EachEvent.{Each, each-append}
+use Rattle.markdown_blocks.proofs.EachEvent.{each-append}
 pub use Rattle.markdown_blocks.proofs.LostLine.Shown.{left-clear, whole-clear}
 use Rattle.markdown_blocks.proofs.LostLine.Shown.{OfPoints, SitsPair, columns-points, columns-sits, each-all}
 use Rattle.markdown_blocks.proofs.LostLine.Shown.{lost-points, lost-sits, over-points, over-sits, points-clear}
@@ -36,7 +33,7 @@ use Rattle.markdown_blocks.proofs.FenceFurther.Inside.{has-sequence}
 use Rattle.markdown_blocks.proofs.FenceFurther.Names.{either-name, inside-name, is_inside, parts-each}
 use Rattle.markdown_blocks.proofs.FenceFurther.Places.{FurtherAt, HasClosing, has-closing, has-left}
 use Rattle.markdown_blocks.proofs.FenceFurther.Trial.{fence-marker}
-use Rattle.markdown_blocks.proofs.PartedFacts.{Sits, around-sits, clear, low-clear, sits-append}
+use Rattle.markdown_blocks.proofs.PartedFacts.{Sits, around-sits, clear, sits-append}
 use Rattle.markdown_blocks.proofs.PlainFacts.{ArePlain, is_clear}
 
 -- Points.

@@ -11,8 +11,8 @@ use Rattle.md_lines.specs.CodeLine as code
 use Rattle.md_lines.proofs.CodeLines.{chunk-reads}
 use Rattle.md_seam.specs.Events.Nested.{pair}
 use Rattle.md_seam.specs.Events.Places.{past_text}
-use Rattle.md_seam.specs.Events.Spelled.{AsLine, OpenLeaf, Reading, Role, Tells, Text, empty_line, joined, noted, on_last}
-use Rattle.md_seam.specs.Events.Spelled.{on_leaf, read, read_enter, read_exit, role}
+use Rattle.md_seam.specs.Events.Spelled.{AsLine, OpenLeaf, Reading, Role, Tells, Text, empty_line, joined, noted}
+use Rattle.md_seam.specs.Events.Spelled.{on_last, on_leaf, read, read_enter, read_exit, role}
 use Rattle.md_seam.proofs.RestCells.{RestAt}
 use Rattle.md_seam.proofs.SpelledLemmas.{Quiet, Roles, read-from, read-quiet}
 use Rattle.markdown_blocks.specs.Fronted.{rest_line}

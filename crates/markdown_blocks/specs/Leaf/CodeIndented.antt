@@ -1,7 +1,7 @@
--- Indented code (CommonMark 4.4), as a leaf on one line: the line that begins it, or one more line of code that is open.
+-- Indented code (CommonMark 4.4), as a leaf on one line: the line that begins it, or one more line of open code.
 --
--- It is tried on each line that is not blank, in front of all other leaves. A blank line where code is open is a line of
--- the frame; what stands on it is said here too.
+-- It is tried on each line that is not blank, in front of all other leaves. A blank line where code is open is a line
+-- of the frame; what stands on it is said here too.
 use Rattle.std.specs.Prelude.{ℕ, Bool, true, false, ◌&&◌, nat_le, not, List, [], ◌∷◌, ◌++◌}
 use Rattle.std.specs.Option.{is_some}
 use Rattle.md_engine.specs.declared.configuration.ParseOptions.{ParseOptions}
@@ -13,7 +13,6 @@ use Rattle.md_engine.specs.declared.state.code_indented.State.TheVariants as its
 use Rattle.md_engine.specs.declared.state.flow.State.TheVariants as flow
 use Rattle.md_engine.specs.declared.tokenizer.held_leaf.HeldLeaf.{HeldLeaf}
 use Rattle.md_engine.specs.declared.tokenizer.held_leaf.HeldLeaf.TheVariants as held_leaf
-use Rattle.md_engine.specs.Meaning.{Cell}
 use Rattle.md_lines.specs.Code.{begin_of, may_begin, may_open}
 use Rattle.md_lines.specs.CodeRule.{code_adds, code_at, code_begins}
 use Rattle.md_seam.specs.Events.Nested.{exit}

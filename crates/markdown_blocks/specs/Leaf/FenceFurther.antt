@@ -4,7 +4,6 @@ use Rattle.std.specs.Prelude.{ℕ, Bool, true, false, ◌&&◌, nat_le, if◌the
 use Rattle.std.specs.Prelude.{List, [], ◌∷◌, ◌++◌, take, drop, None}
 use Rattle.md_engine.specs.declared.configuration.ParseOptions.{ParseOptions}
 use Rattle.md_engine.specs.declared.event.Event.{Event}
-use Rattle.md_engine.specs.declared.event.Name.{Name}
 use Rattle.md_engine.specs.declared.event.Name.TheVariants as n
 use Rattle.md_engine.specs.declared.event.Point.{Point}
 use Rattle.md_engine.specs.declared.state.Name.TheVariants as s
@@ -21,9 +20,8 @@ use Rattle.md_lines.specs.Further.{further_link}
 use Rattle.md_seam.specs.Events.Nested.{around, enter_link, exit, pair}
 use Rattle.md_seam.specs.Events.Places.{past_text}
 use Rattle.md_definition.specs.Leaves.{Came, Opened, closes, fence_goes_on, least_size}
-use Rattle.md_definition.specs.Rest.{Rest, indent, lose, run_len, trim_start}
+use Rattle.md_definition.specs.Rest.{Rest, indent, run_len, trim_start}
 use Rattle.md_definition.specs.State.{Leaf, OpenFence, Opening, fence_block}
-use Rattle.markdown_blocks.specs.RestLine.{rest_line}
 pub use Rattle.markdown_blocks.specs.LineColumns.{columns_part, lost_line, next_point, part_over, past_columns, rest_of}
 use Rattle.markdown_blocks.specs.LineLeaf.{LineLeaf}
 
