@@ -1,6 +1,6 @@
 #!/usr/bin/env bash
 # Refuses requests for memory of the programs `blocks` and `events`, as `rt ci` or `rt run` has built them (`out`): on the texts of
-# their stored runs, and on each begin of a text with a byte order mark, headings, quotes, a break and nested lists.
+# their stored runs, and on each begin of a text with a byte order mark, headings, quotes, a break, nested lists and a fence.
 #
 # Each text has a run in which nothing is refused, which must end with status 0 and print what is given, or anything where nothing is;
 # and for each request of that run one in which this request is refused (`scripts/refuse.c`). Such a run must end with status 3, say so
@@ -13,11 +13,11 @@ trap 'rm -rf "$work"' EXIT
 kit=$(dirname "$(rt doc)")
 "$kit/toolchain/bin/clang" --target=x86_64-unknown-linux-gnu --sysroot="$kit/toolchain" -O2 -shared -fPIC -nostdlib -fuse-ld=lld \
     -o "$work/refuse.so" scripts/refuse.c
-python3 - "$work/refuse.so" blocks 1000 events 1000 <<'PYTHON'
+python3 - "$work/refuse.so" blocks 2000 events 2000 <<'PYTHON'
 import os, subprocess, sys
 
 library, *programs = sys.argv[1:]
-WHOLE = b"\xef\xbb\xbf# # a #\nb\n> > c\n> d\ne\n### ##\n***\n- f\n\n  1. g\n     > h\n- i\n"
+WHOLE = b"\xef\xbb\xbf# # a #\nb\n> > c\n> d\ne\n### ##\n***\n- f\n\n  1. g\n     > h\n- i\n> ~~~ j k\n>  l\n>\nm\n"
 OUTLINE = b"""heading 1
   | # a
 paragraph
@@ -44,6 +44,14 @@ list -
   item
     paragraph
       | i
+quote
+  fence ~ open
+    info | j
+    meta | k
+    |  l
+    |\x20
+paragraph
+  | m
 
 definitions 0
 footnotes 0

@@ -111,6 +111,8 @@ PARTS = {
     "quotes of long lines": f"> {LINE}\n",
     "quotes in quotes in quotes": "> > > a few words\n",
     "lists": "- one\n- two of them\n  and more\n\n  - within\n\n1. three\n2. four\n\n",
+    "fences of some words": "```\nsome words\n```\n",
+    "lines of an open fence": "~~~ a line of words\n",
     "code": "```rust\nlet a = 1;\n    b(a);\n```\n\n    indented\n\n",
     "HTML": '<div class="a">\n<p>some text</p>\n</div>\n\n<!-- c -->\n\n',
     "definitions": '[a label]: /destination "title"\n[b]: <c>\n\n',
@@ -135,6 +137,16 @@ def steps(items: int) -> str:
     return "".join("  " * depth + "- a\n" for depth in range(items))
 
 
+def in_fence(line: str, lines: int, first: str = "", further: str = "") -> str:
+    """A fence that no line closes, with so many lines, in containers with these prefixes."""
+    return f"{first}````\n" + f"{further}{line}\n" * lines
+
+
+def fences(count: int, first: str = "", further: str = "") -> str:
+    """So many fences of one line, in containers with these prefixes."""
+    return f"{first}```\n{further}a\n{further}```\n" * count
+
+
 # Texts that grow in another way, where they are once or twice as large.
 GROWING: dict[str, Callable[[int], str]] = {
     "4,000 quotes on one line": lambda n: deep(4_000 * n, "", 0),
@@ -151,6 +163,15 @@ GROWING: dict[str, Callable[[int], str]] = {
     "1,000 items with 1,000 blank lines, twice both": lambda n: "- " * 1_000 * n + "a\n" + "\n" * 1_000 * n,
     "10,000 items": lambda n: "- a\n" * 10_000 * n,
     "10,000 items with markers in turn": lambda n: "- a\n* b\n" * 5_000 * n,
+    "an open fence of 8 MB": lambda n: in_fence(LINE, 101_000 * n),
+    "an open fence of 8 MB in a quote": lambda n: in_fence(LINE, 101_000 * n, "> ", "> "),
+    "an open fence of 8 MB in an item": lambda n: in_fence(LINE, 101_000 * n, "- ", "  "),
+    "100,000 lines in a fence, too short to close it": lambda n: in_fence("```", 100_000 * n),
+    "such lines in a quote": lambda n: in_fence("```", 100_000 * n, "> ", "> "),
+    "such lines in an item": lambda n: in_fence("```", 100_000 * n, "- ", "  "),
+    "100,000 fences": lambda n: fences(100_000 * n),
+    "100,000 fences in a quote": lambda n: fences(100_000 * n, "> ", "> "),
+    "100,000 fences in items": lambda n: fences(100_000 * n, "- ", "  "),
 }
 
 # What is timed: a part, and how many times it stands.

@@ -26,6 +26,8 @@ MOST: dict[str, tuple[int, int]] = {
     "headings of some words": (37, 42),
     "quotes of long lines": (35, 512),
     "quotes in quotes in quotes": (35, 512),
+    "fences of some words": (39, 5_492),
+    "lines of an open fence": (74, 5_492),
     "blank lines": (682, 5_492),
     "one line of tabs": (500, 5_492),
     "one line of spaces": (2_500, 5_492),

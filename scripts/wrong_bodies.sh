@@ -71,8 +71,9 @@ use plain_body::Plain;
 use std::alloc::Global;
 use std::{env, io};
 
-// each kind of block, prefixes of one and of two columns, a cut tab, and an item that started blank
-const TEXT: &str = "\\u{feff}> a\\n\\tb\\n>\\n# c #\\n\\t\\n***\\n\\n1. d\\n\\n   >  > e\\n2. f\\n\\n-\\n\\tg\\n\\n\\th";
+// each kind of block, prefixes of one and of two columns, a cut tab, an item that started blank, and the endings behind open fences
+const TEXT: &str = "\\u{feff}> a\\n\\tb\\n>\\n# c #\\n\\t\\n***\\n\\n1. d\\n\\n   >  > e\\n2. f\\n\\n-\\n\\tg\\n\\n\\th\\n\\n\
+  ~~~ i m\\n   j\\n  ~~~\\n> ```\\n>\\nk\\n- ```\\n\\nl";
 
 /// A sum of what is printed of the events of a text.
 fn events<B: Body>(alloc: Global) -> Result<u64, Message> {

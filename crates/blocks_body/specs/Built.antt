@@ -5,12 +5,12 @@ use Rattle.md_program.specs.Listing.{Listing}
 use Rattle.md_definition.specs.Meaning.{tree}
 use Rattle.md_definition.specs.Outline.{outline}
 
--- what is asked for, as far as it is there: block quotes, list items, ATX headings and breaks alone
+-- what is asked for, as far as it is there: block quotes, list items, fenced code and math, ATX headings and breaks alone
 abbrev pub built_from : ParseOptions → ParseOptions
 built_from options = record {
   constructs = record {
     block_quote = options.constructs.block_quote;
-    code_fenced = false;
+    code_fenced = options.constructs.code_fenced;
     code_indented = false;
     definition = false;
     frontmatter = false;
@@ -20,7 +20,7 @@ built_from options = record {
     heading_setext = false;
     html_flow = false;
     list_item = options.constructs.list_item;
-    math_flow = false;
+    math_flow = options.constructs.math_flow;
     thematic_break = options.constructs.thematic_break;
     mdx_esm = false;
     mdx_expression_flow = false;

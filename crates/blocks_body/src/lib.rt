@@ -12,8 +12,8 @@ use md_engine::message::Message;
 use md_program::body::{Body, Outlined};
 use std::alloc::Global;
 
-/// The parser of blocks. Of the constructs it has block quotes, list items, ATX headings and thematic breaks, and turns
-/// the others off.
+/// The parser of blocks. Of the constructs it has block quotes, list items, fenced code and math, ATX headings and
+/// thematic breaks, and turns the others off.
 pub struct Blocks;
 
 impl Body for Blocks {
@@ -29,8 +29,10 @@ impl Body for Blocks {
         ParseOptions {
             constructs: Constructs {
                 block_quote: options.constructs.block_quote,
+                code_fenced: options.constructs.code_fenced,
                 heading_atx: options.constructs.heading_atx,
                 list_item: options.constructs.list_item,
+                math_flow: options.constructs.math_flow,
                 thematic_break: options.constructs.thematic_break,
                 ..Constructs::NONE
             },

@@ -179,6 +179,11 @@ fence ~
   | <
   |  >
 
+CommonMark 4.5, own choice: without indented code any indent is small | exactly code_fenced
+"```\na\n     ```"
+fence `
+  | a
+
 CommonMark 4.5 | commonmark | nothing
 "``\na\n``"
 paragraph
@@ -478,6 +483,43 @@ quote
     item
       fence ` open
 
+CommonMark 2.2 and 4.5 | commonmark | code_fenced
+" ```\n\ta"
+fence ` open
+  |    a
+
+CommonMark 2.2 and 4.5 | commonmark | block_quote code_fenced
+"> ```\n>\ta"
+quote
+  fence ` open
+    |   a
+
+CommonMark 2.1 and 4.5 | commonmark | code_fenced
+"~~~\ra\r~~~\rb"
+fence ~
+  | a
+paragraph
+  | b
+
+CommonMark 4.5 | commonmark | code_fenced list_item
+"-\n  ```\n  a"
+list -
+  item
+    fence ` open
+      | a
+
+CommonMark 4.5 | commonmark | block_quote code_fenced list_item
+"> - ~~~\n>   a\n>\n>   b\n> c"
+quote
+  list -
+    item
+      fence ~ open
+        | a
+        |\u{20}
+        | b
+  paragraph
+    | c
+
 own choice: math between dollars | all | math_flow
 "$$"
 math open
@@ -492,6 +534,12 @@ own choice: math between dollars | all | math_flow
 math
   | a
   | $$
+
+own choice: math between dollars | all | math_flow
+"$$\n$$ a\n```\n$$"
+math
+  | $$ a
+  | ```
 
 own choice: math between dollars | all | math_flow
 "$$a b\n$\n$$$"

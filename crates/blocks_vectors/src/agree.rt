@@ -14,6 +14,15 @@ const LEAVES: [&str; 6] = ["a", ">", "#", "*", " ", "\n"];
 /// Letters that begin items, quotes and breaks, or lines.
 const ITEMS: [&str; 7] = ["a", "-", "1", ".", ">", " ", "\n"];
 
+/// Letters that begin and end fences, those that begin what they stand in, and lines.
+const FENCES: [&str; 7] = ["a", "```", "~~~", ">", "-", " ", "\n"];
+
+/// Letters of which fences of several sizes are made, in quotes too, with whitespace that a fence may cut.
+const SIZES: [&str; 6] = ["```", "`", "a", ">", "\t", "\n"];
+
+/// Letters that begin and end math, alone and in quotes.
+const MATH: [&str; 6] = ["a", "$$", "$", ">", " ", "\n"];
+
 /// Tries two bodies on all texts of at most so many letters of each alphabet, with all constructs of the first.
 pub fn try_agree<A: Body, B: Body>(
     alloc: Global,
@@ -21,7 +30,10 @@ pub fn try_agree<A: Body, B: Body>(
     report: &mut Report,
 ) -> Result<(), CaseError> {
     try_letters::<A, B>(alloc, &LEAVES, most, report)?;
-    try_letters::<A, B>(alloc, &ITEMS, most, report)
+    try_letters::<A, B>(alloc, &ITEMS, most, report)?;
+    try_letters::<A, B>(alloc, &FENCES, most, report)?;
+    try_letters::<A, B>(alloc, &SIZES, most, report)?;
+    try_letters::<A, B>(alloc, &MATH, most, report)
 }
 
 /// Tries them on all texts of at most so many of these letters.

@@ -1,11 +1,13 @@
 -- The endings of blank lines are told from others, before the text of a document is read and once it is.
 use Rattle.md_engine.specs.declared.tokenizer.held_leaf.HeldLeaf.TheVariants as held_leaf
-use Rattle.std.proofs.Common.{◌≡◌, ℕ, Bool, true, false, cond, List, [], ◌∷◌, ◌++◌, refl, ap, sym, ◌∙◌, append_assoc}
-use Rattle.markdown_blocks.proofs.GroupsAre.{span-begins}
-use Rattle.markdown_blocks.proofs.Registry.{leaf-ends}
+use Rattle.std.proofs.Common.{◌≡◌, ℕ, Bool, true, false, cond, List, [], ◌∷◌, ◌++◌, refl, ap, sym, ◌∙◌, subst}
+use Rattle.std.proofs.Common.{append_assoc}
+use Rattle.std.proofs.lemmas.Bool.{and_right}
+use Rattle.markdown_blocks.proofs.GroupsAre.{AreSpan, Begins, IsSpanLine, line-further, span-begins}
+use Rattle.markdown_blocks.proofs.Registry.{insider-further}
 use Rattle.markdown_blocks.specs.Registry.{leaf}
-use Rattle.markdown_blocks.specs.Rows.{Span, is_further, onto_leaf}
-use Rattle.std.specs.Prelude.{Option, Some, None, not}
+use Rattle.markdown_blocks.specs.Rows.{Span, is_blank_by, is_blank_row, is_empty_row, is_further, last_row, onto_leaf}
+use Rattle.std.specs.Prelude.{◌&&◌, ◌==◌, Option, Some, None, not}
 use Rattle.md_engine.specs.declared.configuration.ParseOptions.{ParseOptions}
 use Rattle.md_engine.specs.declared.event.Event.{Event}
 use Rattle.md_engine.specs.declared.event.Name.{Name}
@@ -30,9 +32,12 @@ use Rattle.markdown_blocks.specs.Unread.{group_unread, listed_group, listed_grou
 use Rattle.markdown_blocks.proofs.GroupLemmas.{AreGroups, EndsBeforeGroups, HasFront, IsSingle, groups-are, rows-end}
 use Rattle.markdown_blocks.proofs.JoinedLemmas.{EachEnds, EachNoContent, ending-is}
 use Rattle.markdown_blocks.proofs.RowFacts.{AreRows}
-use Rattle.markdown_blocks.proofs.RowLeaf.{block_of, row-facts}
+use Rattle.markdown_blocks.proofs.RowLeaf.{block_of, leaf-some, row-facts}
+use Rattle.markdown_blocks.proofs.FrontFacts.{LinePrefix}
+use Rattle.markdown_blocks.proofs.FrontPlaces.{fronts-columns}
+use Rattle.markdown_blocks.proofs.SpanLaws.{is_bare, is_bare_row}
 use Rattle.markdown_blocks.proofs.FrontStands.{container-others, fronts-others}
-use Rattle.markdown_blocks.proofs.GroupFacts.{group-front, more-groups}
+use Rattle.markdown_blocks.proofs.GroupFacts.{group-front, more-groups, span-block, span-leaf}
 use Rattle.markdown_blocks.proofs.Text.Facts.{kept-of, text-facts}
 use Rattle.md_definition.specs.State.{texts}
 use Rattle.markdown_blocks.proofs.LeafFacts.{LeafFacts, spot_behind}
@@ -173,6 +178,44 @@ ending-leads : (blank : Bool) (p q : Point) → Leads (spot_behind (not blank)) 
 ending-leads true p q ys = refl
 ending-leads false p q ys = refl
 
+-- A line of a leaf of several is blank to its ending if it is bare: nothing stands on it, and no prefix in front. One
+-- that goes on no leaf never is,
+begun-bare : (options : ParseOptions) (bytes : List ℕ) (row : Row) → IsSpanLine options bytes row → Begins row →
+    is_blank_row row ≡ is_bare_row row
+begun-bare options bytes row is begins =
+    let some : is_empty_row row ≡ false =
+    leaf-some options bytes is.line row is.name is.is is.kind
+    (λ i. let bad : true ≡ false = sym (insider-further row.on is.name i)
+    ∙ line-further options bytes row is false begins in cc) in
+    ap (λ (kind : RowKind). is_blank_by kind row) is.kind
+    ∙ is.is.empty
+    ∙ ap (λ (x : Bool). x && (row.first.column == 1)) some
+    ∙ sym (and_right (is_bare row.front) (is_empty_row row) some)
+
+-- and a further one stands behind an ending, so that prefixes alone take columns.
+further-bare : (options : ParseOptions) (bytes : List ℕ) (row : Row) (q : Point) → IsSpanLine options bytes row →
+    LinePrefix bytes [] q row.first row.front → q.column ≡ 1 → is_blank_row row ≡ is_bare_row row
+further-bare options bytes row q is front one =
+    ap (λ (kind : RowKind). is_blank_by kind row) is.kind
+    ∙ is.is.empty
+    ∙ turned (is_empty_row row) (row.first.column == 1)
+    ∙ ap (λ (n : ℕ). (row.first.column == n) && is_empty_row row) (sym one)
+    ∙ ap (λ (x : Bool). x && is_empty_row row) (sym (fronts-columns bytes [] q row.first row.front front refl).1)
+  where
+    turned : (x y : Bool) → (x && y) ≡ (y && x)
+    turned true true = refl
+    turned true false = refl
+    turned false true = refl
+    turned false false = refl
+
+-- So is the last of them.
+span-bare : (options : ParseOptions) (bytes : List ℕ) (row : Row) (rows : List Row) → AreSpan options bytes row rows →
+    is_blank_row row ≡ is_bare_row row → is_blank_group (Span row rows) ≡ is_bare_row (last_row row rows)
+span-bare options bytes row [] are bare = bare
+span-bare options bytes row (next ∷ rows) are bare =
+    span-bare options bytes next rows are.8
+    (further-bare options bytes next are.1 (span-begins options bytes next rows are.8) are.4 are.3.column)
+
 -- the leaf of each group is such
 group-ends : (options : ParseOptions) (bytes : List ℕ) (group : Group) (gs : List Group) →
     AreGroups options bytes (group ∷ gs) → LeafEnds bytes group
@@ -182,12 +225,18 @@ group-ends options bytes (Single row) gs are =
       block = block_of row.kind is.is.rest;
       facts = row-facts options bytes is.line row is.is is.other is.ends;
     }
--- none is built of several lines, whose last may have nothing on it but prefixes
 group-ends options bytes (Span row rows) gs are =
-    let is = span-begins options bytes row rows are.0 in
-    let ends = leaf-ends is.name in
-    let open_leaf = is.open_leaf in
-    cc
+    let block : Block = span-block options bytes row rows are.0 in
+    record {
+      block = Some block;
+      facts =
+          subst
+          (λ (bare : Bool).
+          LeafFacts bytes (Some block) (not bare) row.first (last_row row rows).end
+          (group_unread bytes (Span row rows)) (group_done bytes (Span row rows)))
+          (sym (span-bare options bytes row rows are.0 (begun-bare options bytes row
+          (span-begins options bytes row rows are.0) are.4))) (span-leaf options bytes row rows are.0 are.4);
+    }
 group-ends options bytes (Lines row rows) gs are =
     record {
       block = Some (text_leaf.block (texts (kept-of options bytes row rows are.0)));

@@ -10,3 +10,4 @@ pub mod Reads
 pub mod Grammar
 pub mod Joined
 pub mod Definition
+pub mod Laws

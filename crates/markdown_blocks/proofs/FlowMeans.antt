@@ -59,7 +59,8 @@ use Rattle.markdown_blocks.specs.FlowRule.{flow_at, leaves_of, line_ended, line_
 use Rattle.markdown_blocks.specs.FlowRule.{opened, openers_of}
 use Rattle.markdown_blocks.specs.FlowRule.{tried}
 use Rattle.markdown_blocks.specs.LineFlags as flags
-use Rattle.markdown_blocks.specs.LineFlags.{asking, blank_here, ending_name, next_container, next_line, went_on}
+use Rattle.markdown_blocks.specs.LineFlags.{asking, blank_here, ending_name, next_container, next_line, nothing_stands}
+use Rattle.markdown_blocks.specs.LineFlags.{went_on}
 use Rattle.markdown_blocks.specs.States.{FlowStep, flow_behaves, flow_behaves_by, flow_table_scheme, flow_transition}
 use Rattle.markdown_blocks.specs.States.{leaf_owner, opener_owner}
 use Rattle.markdown_blocks.specs.Registry.{behind, container_rules, front_of, leaf, LeafName, may_go_on, may_open, next_of}
@@ -249,17 +250,18 @@ inside_steps B feed w options next None has s e =
 inside_steps B feed w options next (Some l) has s e =
     let otherwise : Scratch → Flags → Outcome =
     λ s g. leaf_of options next (feed w.point) (record (here w) { scratch = s; flags = g }) in
-    trial_steps B feed w (blank_here (ends_line w.current) w.flags) _ _ _ _ true (record {
+    trial_steps B feed w (blank_here (nothing_stands w.current w.point) w.flags) _ _ _ _ true (record {
       onward = line_ended next;
       otherwise = otherwise;
       from_is =
           has.containers document.FlowInside _ _
           ∙ ap (λ (o : Option LeafName). inside_by options next o (feed w.point) (here w)) e
           ∙ ap
-          (λ (ends : Bool).
+          (λ (first : Option ℕ).
           tried
-          ((leaf l).trial options (feed w.point) (record (here w) { flags = blank_here ends w.flags }))
-          (line_ended next) otherwise) (ap ends_line (first-seen feed w s))
+          ((leaf l).trial options (feed w.point)
+          (record (here w) { flags = blank_here (nothing_stands first w.point) w.flags })) (line_ended next) otherwise)
+          (first-seen feed w s)
           ∙ ap (λ (o : Outcome). tried o (line_ended next) otherwise) (sym (has.starts l _ _));
       ok_is = has.leaves flow.After;
       nok_is = λ s g. has.leaves flow.Start _ _;

@@ -49,7 +49,7 @@ use Rattle.markdown_blocks.specs.FlowRule.{existing_at, existing_from, flow_at, 
 use Rattle.markdown_blocks.specs.FlowRule.{leaves_of, line_ended}
 use Rattle.markdown_blocks.specs.FlowRule.{line_then, new_from, new_of, nonblank_of, opened, opens_of, tried}
 use Rattle.markdown_blocks.specs.LineFlags.{asks, begun_line, ended_on, ending_name, next_container, next_line, over_end, stays}
-use Rattle.markdown_blocks.specs.LineFlags.{went_on}
+use Rattle.markdown_blocks.specs.LineFlags.{nothing_stands, went_on}
 use Rattle.markdown_blocks.specs.Passed.{Passed, passed_by, passed_here, passed_over}
 use Rattle.markdown_blocks.specs.Registry.{container_rules, first_of, goes_at, leaf, LeafName, MatchesContainer, openers}
 use Rattle.markdown_blocks.specs.Registry.{goes_over, opens_at, opens_by, trials}
@@ -73,10 +73,10 @@ added_by options on cells p TextRow = enter_link n.Content p content_link ∷ ex
 added_by options on cells p kind = inside_of options on cells p kind
 
 -- whether the line is blank to its ending
-abbrev pub blank_by : RowKind → List Cell → Bool
-blank_by BlankRow cells = true
-blank_by (LeafRow l) cells = ends_line (first_seen cells)
-blank_by TextRow cells = false
+abbrev pub blank_by : RowKind → List Cell → Point → Bool
+blank_by BlankRow cells p = true
+blank_by (LeafRow l) cells p = nothing_stands (first_seen cells) p
+blank_by TextRow cells p = false
 
 -- behind it, where the flags say which leaf it meets
 abbrev leaf_here : ParseOptions → List Cell → Here → RowKind → Here
@@ -86,7 +86,7 @@ leaf_here options cells h k = record h {
   flags =
       record h.flags {
         leaf = leaf_behind options h.flags.leaf cells h.point k;
-        blank = blank_by k cells;
+        blank = blank_by k cells h.point;
       };
 }
 
@@ -104,7 +104,7 @@ kind-by options on cells x e = ap (λ (y : Bool). cond y BlankRow (kind_of (take
 
 -- behind a leaf that took a line, what is held is what it keeps: flow shuts one that always ends there
 leaf-left : (options : ParseOptions) (next : Rule) (l : LeafName) (cells : List Cell) (h : Here) (ends : Bool) →
-    h.flags.blank ≡ ends_line (first_seen cells) → (leaf l).ends ≡ ends →
+    h.flags.blank ≡ nothing_stands (first_seen cells) h.point → (leaf l).ends ≡ ends →
     behind_leaf ends next (from_ending cells)
     (record h {
       events = h.events ++ (leaf l).adds options h.flags.leaf cells h.point;
@@ -132,6 +132,11 @@ leaf-left options next l cells h false flag e =
       point = line_end cells h.point;
       flags = record h.flags { leaf = (leaf l).keeps options h.flags.leaf cells h.point; blank = blank };
     })) flag
+
+-- where the line goes on here something stands on it
+filled-here : (cells : List Cell) (p : Point) → ends_line (first_seen cells) ≡ false →
+    nothing_stands (first_seen cells) p ≡ false
+filled-here cells p going = ap (λ (x : Bool). x && (p.column == 1)) going
 
 -- of leaves that are tried one after another, the first that takes the line has it; if none does, it is text
 leaves-are : (options : ParseOptions) (next : Rule) (ls : List LeafName) (cells : List Cell) (h : Here) →
@@ -170,7 +175,7 @@ leaves-are options next (l ∷ ls) cells h asked few is flag going =
         Done (cond x (Some l) (taker options h.flags.leaf cells ls))
     go true takes more =
         ap onward ((laws l).took options cells h is few takes)
-        ∙ leaf-left options next l cells h (leaf l).ends (flag ∙ sym going) refl
+        ∙ leaf-left options next l cells h (leaf l).ends (flag ∙ sym (filled-here cells h.point going)) refl
     go false takes more =
         ap onward ((laws l).refused options cells h (asked.0 h.flags.leaf) is takes) ∙ more
 
@@ -243,11 +248,11 @@ inside-is options next cells h few is flag = by (insider h.flags.leaf) refl
             (record h {
               events = h.events ++ (leaf l).adds options h.flags.leaf cells h.point;
               point = line_end cells h.point;
-              flags = record h.flags { leaf = held ends; blank = ends_line (first_seen cells) };
+              flags = record h.flags { leaf = held ends; blank = nothing_stands (first_seen cells) h.point };
             })) (insider-open h.flags.leaf l e)
         go false e' =
             ap onward ((laws l).refused options cells here (insider-asked h.flags.leaf l e) is e')
-            ∙ leaf-is options next cells here few is (going-on cells)
+            ∙ leaf-is options next cells here few is (λ some. filled-here cells h.point (going-on cells some))
 
 -- The containers that the tokenizer holds.
 
@@ -877,7 +882,7 @@ pub record Done (next : Rule) (options : ParseOptions) (front tail : List Event)
   pub point : new.point ≡ line_end x.cells x.point
   pub containers : AreOpen new.flags.containers (open_behind x.change)
   pub leaf : new.flags.leaf ≡ behind_held options x
-  pub blank : new.flags.blank ≡ blank_by (row_kind options x.on x.cells) x.cells
+  pub blank : new.flags.blank ≡ blank_by (row_kind options x.on x.cells) x.cells x.point
 
 -- behind the containers that went on
 record Between (front tail : List Event) (p : Point) (cs : List Container) (still : HeldLeaf) (w : Front)
@@ -1061,7 +1066,7 @@ done-some options next front tail p cs still w f t h out few b o =
           open-all keep o.new.flags.containers (w.containers ++ t.container ∷ f.containers) kept
           (subst Q (append_assoc w.containers (t.container ∷ []) f.containers) o.containers);
       leaf = ap (λ (q : Point). leaf_behind options held_leaf.None f.cells q k) o.point;
-      blank = refl;
+      blank = ap (λ (q : Point). blank_by k f.cells q) o.point;
     })
   where
     k : RowKind
@@ -1268,7 +1273,7 @@ leaf-added options x ls below (LeafRow l) = refl
 leaf-added options x ls below TextRow = refl
 
 ending-named : (options : ParseOptions) (x : Held) (ls : List Container) (below : List Row) (k : RowKind) →
-    blank_by k x.cells ≡ is_blank_by k (leaving ls (row_of options x below))
+    blank_by k x.cells x.point ≡ is_blank_by k (leaving ls (row_of options x below))
 ending-named options x ls below BlankRow = refl
 ending-named options x ls below (LeafRow l) = refl
 ending-named options x ls below TextRow = refl

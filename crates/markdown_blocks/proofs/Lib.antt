@@ -104,6 +104,7 @@ pub mod EndingRows
 pub mod Parses
 pub mod PartedRows
 pub mod PlainEvents
+pub mod GroupedBlocks
 pub mod GroupedDepths
 pub mod ListedOutlined
 pub mod ParagraphReads

@@ -40,7 +40,8 @@ use Rattle.markdown_blocks.specs.Flow.{before_transition, blank_line_before_tran
 use Rattle.markdown_blocks.specs.Flow.{flow_end_code, flow_end_transition}
 use Rattle.markdown_blocks.specs.Flow.{flow_own_transition, leaf_transition, new_before_transition, opener_transition}
 use Rattle.markdown_blocks.specs.Flow.{trial_code}
-use Rattle.markdown_blocks.specs.LineFlags.{asking, begun_line, blank_here, blanked, ending_name, next_line, stays}
+use Rattle.markdown_blocks.specs.LineFlags.{asking, begun_line, blank_here, blanked, ending_name, next_line}
+use Rattle.markdown_blocks.specs.LineFlags.{nothing_stands, stays}
 use Rattle.markdown_blocks.specs.Registry.{LeafName, container_rules, front_of, leaf, may_open, next_of}
 use Rattle.markdown_blocks.specs.Registry.{next_opener, opener_at, opener_front, openers, opens_with}
 use Rattle.markdown_blocks.specs.Registry.{trials, tried_at}
@@ -291,7 +292,7 @@ inside-leaves w = go (insider w.flags.leaf)
     go None = ((refl, refl), refl)
     go (Some l) =
         trial-leaves (leaf l).start (n.Flow flow.After) (n.Flow flow.Start)
-        (record w { flags = blank_here (ends_line w.current) w.flags }) w true refl refl refl
+        (record w { flags = blank_here (nothing_stands w.current w.point) w.flags }) w true refl refl refl
 
 leaf-leaves : (l : LeafName) (w : World) → Leaves (before_transition l w) w
 leaf-leaves l w =

@@ -32,12 +32,14 @@ use Rattle.md_containers.proofs.ListedPartSteps.{marker-text}
 use Rattle.md_containers.proofs.ListedReads.{listed-spelled}
 use Rattle.md_outline.specs.Between.{is_between}
 use Rattle.md_outline.specs.HeadingDepths.{are_shallow}
+use Rattle.md_outline.specs.LinesStand as lined
+use Rattle.md_outline.specs.LinesStand.{LinesStand, site_by}
 use Rattle.md_outline.specs.ListsBegin.{AllTold, AtItem, AtMarker, InMarker, ListsBegin, MayFollow, Stage, marks}
 use Rattle.md_outline.specs.ListsBegin.{stage_by}
-use Rattle.md_outline.specs.Outlined.{IsOutlined, IsUnlisted, TextSpan as Span, are_parted, has_listed_name, is_unparted}
+use Rattle.md_outline.specs.Outlined.{IsOutlined, IsUnlisted, TextSpan as Span, are_parted, has_shown_name, is_unparted}
 use Rattle.md_outline.specs.Outlined.{parts_by, span_by, tells_between}
-use Rattle.md_outline.specs.Roles.{is_listed, is_told}
-use Rattle.md_outline.proofs.OutlineLemmas.{lines-none, names-listed, names-plain}
+use Rattle.md_outline.specs.Roles.{is_shown, is_told}
+use Rattle.md_outline.proofs.OutlineLemmas.{names-shown}
 use Rattle.markdown_blocks.proofs.GroupedDepths.{grouped-shallow}
 
 -- What holds of all events.
@@ -82,10 +84,10 @@ listed-holds P bytes place (e ∷ es) of h =
     (listed-holds P bytes (place_after bytes place e es) es of parts.1)
 
 -- a list is shown, and no text
-list-shown : (m : ℕ) → is_listed (role (list_name m)) ≡ true
+list-shown : (m : ℕ) → is_shown (role (list_name m)) ≡ true
 list-shown m = go (is_ordered m)
   where
-    go : (x : Bool) → is_listed (role (if x then n.ListOrdered else n.ListUnordered)) ≡ true
+    go : (x : Bool) → is_shown (role (if x then n.ListOrdered else n.ListUnordered)) ≡ true
     go true = refl
     go false = refl
 
@@ -189,6 +191,90 @@ parted-kept bytes span place (e ∷ es) h =
         ap (are_parted bytes span) (passes-given bytes place (record e { kind = kind; name = name }) es i)
         ∙ and_from (parts_by bytes kind (role name) e.point span) (are_parted bytes next (listed_from bytes place es))
         parts.0 (go next parts.1)
+
+-- Leaf blocks of several lines.
+
+-- an item begins and ends outside of them
+item-outside : (bytes : List ℕ) (site : lined.Site) (kind : Kind) (p : Point) →
+    lined.MayStand bytes site kind (Holds (ItemShape 0 [])) p → site ≡ lined.Outside
+item-outside bytes lined.Outside kind p may = refl
+item-outside bytes _ Enter p may = absurd may
+item-outside bytes _ Exit p may = absurd may
+
+-- and so may a list
+list-outside : (bytes : List ℕ) (kind : Kind) (m : ℕ) (p : Point) (es : List Event) →
+    LinesStand bytes lined.Outside es →
+    lined.MayStand bytes lined.Outside kind (role (list_name m)) p
+    × LinesStand bytes (site_by bytes lined.Outside kind (role (list_name m)) p) es
+list-outside bytes kind m p es h = go kind (is_ordered m)
+  where
+    go : (kind : Kind) (x : Bool) →
+        lined.MayStand bytes lined.Outside kind (role (if x then n.ListOrdered else n.ListUnordered)) p
+        × LinesStand bytes
+        (site_by bytes lined.Outside kind (role (if x then n.ListOrdered else n.ListUnordered)) p) es
+    go Enter true = (tt, h)
+    go Enter false = (tt, h)
+    go Exit true = (tt, h)
+    go Exit false = (tt, h)
+
+lines-kept : (bytes : List ℕ) (site : lined.Site) (place : Place) (es : List Event) → LinesStand bytes site es →
+    LinesStand bytes site (listed_from bytes place es)
+lines-kept bytes site place [] h = h
+lines-kept bytes site place (e ∷ es) h =
+    by-turn
+    (λ (kind : Kind) (name : Name).
+    LinesStand bytes site (record e { kind = kind; name = name } ∷ es) →
+    LinesStand bytes site (listed_from bytes place (record e { kind = kind; name = name } ∷ es)))
+    (λ k.
+    let out : site ≡ lined.Outside = item-outside bytes site Enter e.point k.0 in
+    subst
+    (λ (s : lined.Site).
+    LinesStand bytes s (listed_from bytes place (record e { kind = Enter; name = n.ListItem } ∷ es)))
+    (sym out)
+    (begins place.within
+    (lines-kept bytes lined.Outside inside es
+    (subst (λ (s : lined.Site). LinesStand bytes (site_by bytes s Enter item e.point) es) out k.1))))
+    (λ k.
+    let out : site ≡ lined.Outside = item-outside bytes site Exit e.point k.0 in
+    let behind : Place = place_behind place (next_item bytes es) in
+    subst
+    (λ (s : lined.Site).
+    LinesStand bytes s (listed_from bytes place (record e { kind = Exit; name = n.ListItem } ∷ es)))
+    (sym out) (
+      tt,
+      ends place.markers (listed_from bytes behind es)
+          (lines-kept bytes lined.Outside behind es
+          (subst (λ (s : lined.Site). LinesStand bytes (site_by bytes s Exit item e.point) es) out k.1)),
+    ))
+    (λ kind name i k.
+    subst (LinesStand bytes site) (sym (passes-given bytes place (record e { kind = kind; name = name }) es i))
+    (k.0, lines-kept bytes (site_by bytes site kind (role name) e.point) place es k.1))
+    e.kind e.name h
+  where
+    item : Role
+    item = Holds (ItemShape 0 [])
+
+    inside : Place
+    inside = record { within = false; markers = marker_ahead bytes es ∷ place.markers }
+
+    begins : (within : Bool) → LinesStand bytes lined.Outside (listed_from bytes inside es) →
+        LinesStand bytes lined.Outside
+        ((list_begin within (marker_ahead bytes es) e.point ++ record e { kind = Enter; name = n.ListItem } ∷ [])
+        ++ listed_from bytes inside es)
+    begins true k = (tt, k)
+    begins false k =
+        list-outside bytes Enter (marker_ahead bytes es) e.point
+        (record e { kind = Enter; name = n.ListItem } ∷ listed_from bytes inside es) (tt, k)
+
+    ends : (markers : List ℕ) (rest : List Event) → LinesStand bytes lined.Outside rest →
+        LinesStand bytes lined.Outside (list_end markers (next_item bytes es) e.point ++ rest)
+    ends [] rest k = k
+    ends (m ∷ markers) rest k = by (goes_on m (next_item bytes es))
+      where
+        by : (x : Bool) →
+            LinesStand bytes lined.Outside ((if x then [] else exit (list_name m) e.point ∷ []) ++ rest)
+        by true = k
+        by false = list-outside bytes Exit m e.point rest k
 
 -- Lists begin with an item that begins with its marker.
 
@@ -355,7 +441,9 @@ pub listed-outlined : (bytes : List ℕ) (events : List Event) → IsUnlisted ev
     IsOutlined (listed bytes events) bytes
 listed-outlined bytes events is stands nested held depths = record {
   balanced = (listed-nested bytes events nested held).balanced;
-  names = names-listed (listed bytes events) listed_names;
+  names =
+      listed-holds has_shown_name bytes outside events (λ m e h. (list-shown m, list-shown m))
+      (names-shown events is.names);
   text = is.text;
   between =
       listed-holds (λ (e : Event). is_between bytes e.point.index) bytes outside events (λ m e h. (h, h)) is.between;
@@ -364,12 +452,7 @@ listed-outlined bytes events is stands nested held depths = record {
       (λ m e h. (list-untold bytes m e.point, list-untold bytes m e.point)) is.texts;
   parted = parted-kept bytes None outside events is.parted;
   lists = lists-begun bytes AllTold root outside events stands tt;
-  lines = lines-none bytes (listed bytes events) listed_names;
+  lines = lines-kept bytes lined.Outside outside events is.lines;
   depths =
       ap are_shallow (listed-spelled bytes events stands) ∙ grouped-shallow (spelled events bytes) depths;
 }
-  where
-    listed_names : list_all has_listed_name (listed bytes events) ≡ true
-    listed_names =
-        listed-holds has_listed_name bytes outside events (λ m e h. (list-shown m, list-shown m))
-        (names-plain events is.names)

@@ -15,7 +15,8 @@ use Rattle.md_seam.proofs.PlacesLemmas.{all-append}
 use Rattle.md_definition.proofs.PreambleLemmas.{mark-bytes, mark-length}
 use Rattle.md_seam.proofs.SpelledLemmas.{read-from, read-quiet}
 use Rattle.md_outline.specs.Between.{is_between}
-use Rattle.md_outline.specs.Outlined.{IsUnlisted, are_parted, has_plain_name, tells_between}
+use Rattle.md_outline.specs.LinesStand.{LinesStand, Outside}
+use Rattle.md_outline.specs.Outlined.{IsUnlisted, are_parted, has_unlisted_name, tells_between}
 use Rattle.markdown_blocks.specs.Document.{body_point, mark_end, mark_events}
 
 -- The text.
@@ -159,10 +160,10 @@ mark-between bytes = go (has_mark bytes) refl
     go false e = refl
 
 -- an outline does not show them
-pub mark-names : (bytes : List ℕ) → list_all has_plain_name (mark_events bytes) ≡ true
+pub mark-names : (bytes : List ℕ) → list_all has_unlisted_name (mark_events bytes) ≡ true
 mark-names bytes = go (has_mark bytes)
   where
-    go : (x : Bool) → list_all has_plain_name (cond x (pair ByteOrderMark first_point mark_end) []) ≡ true
+    go : (x : Bool) → list_all has_unlisted_name (cond x (pair ByteOrderMark first_point mark_end) []) ≡ true
     go true = refl
     go false = refl
 
@@ -182,14 +183,24 @@ mark-parted bytes events h = go (has_mark bytes)
     go true = h
     go false = h
 
+-- and stand in no leaf block of several lines
+mark-lines : (bytes : List ℕ) (events : List Event) → LinesStand bytes Outside events →
+    LinesStand bytes Outside (mark_events bytes ++ events)
+mark-lines bytes events h = go (has_mark bytes)
+  where
+    go : (x : Bool) → LinesStand bytes Outside (cond x (pair ByteOrderMark first_point mark_end) [] ++ events)
+    go true = (tt, (tt, h))
+    go false = h
+
 pub mark-unlisted : (bytes : List ℕ) (events : List Event) → IsUnlisted events bytes →
     IsUnlisted (mark_events bytes ++ events) bytes
 mark-unlisted bytes events is = record {
-  names = all-append has_plain_name (mark_events bytes) events (mark-names bytes) is.names;
+  names = all-append has_unlisted_name (mark_events bytes) events (mark-names bytes) is.names;
   text = is.text;
   between =
       all-append (λ (e : Event). is_between bytes e.point.index) (mark_events bytes) events
       (mark-between bytes) is.between;
   texts = all-append (tells_between bytes) (mark_events bytes) events (mark-texts bytes) is.texts;
   parted = mark-parted bytes events is.parted;
+  lines = mark-lines bytes events is.lines;
 }

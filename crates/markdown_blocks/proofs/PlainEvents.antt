@@ -19,6 +19,7 @@ use Rattle.md_definition.specs.State.{Container}
 use Rattle.md_seam.proofs.SpelledLemmas.{Roles, roles-append}
 use Rattle.md_outline.specs.Between.{is_between}
 use Rattle.md_outline.specs.Outlined.{IsUnlisted, tells_between}
+use Rattle.md_outline.proofs.LinesPass.{passes-all}
 use Rattle.markdown_blocks.specs.Change.{Change, ends_of}
 use Rattle.markdown_blocks.specs.Fronted.{contained, rest_from, rest_line}
 use Rattle.markdown_blocks.specs.Rows.{final_row, first_row, group_done, Group}
@@ -206,9 +207,10 @@ groups-unlisted options bytes p lines rows are utf8 between =
     (plain-by_groups bytes) options p lines rows are
     (groups-each (IsPlainRow bytes) rows (plain-rows options bytes [] held_leaf.None p lines rows are tt)) in
     record {
-      names = plain.names;
+      names = plain.known.names;
       text = utf8;
       between = between;
-      texts = all-tell bytes (groups_events bytes (groups rows)) plain.texts between;
+      texts = all-tell bytes (groups_events bytes (groups rows)) plain.known.texts between;
       parted = rows-parted options bytes p lines rows are;
+      lines = passes-all bytes (groups_events bytes (groups rows)) plain.lines;
     }

@@ -11,40 +11,98 @@ use Rattle.md_seam.specs.declared.inline.Chunk.{Chunk}
 use Rattle.md_seam.specs.Events.Inline.{line_end, plain_chunk}
 use Rattle.md_seam.specs.Events.Nested.{around, enter, exit, pair}
 use Rattle.md_seam.specs.Events.Places.{past_byte, past_text, same_place}
-use Rattle.md_seam.specs.Events.Spelled.{IsQuiet, Role, role}
+use Rattle.md_seam.specs.Events.Spelled.{AsInfo, AsLine, AsMeta, IsFence, IsQuiet, OfCode, OfFence, OfMath, Opens, Role}
+use Rattle.md_seam.specs.Events.Spelled.{Tells, role}
 use Rattle.md_seam.proofs.SpelledLemmas.{Quiet, Roles}
-use Rattle.md_outline.specs.Outlined.{has_plain_name}
-use Rattle.md_outline.specs.Roles.{is_plain, is_told}
+use Rattle.md_outline.specs.LinesStand.{Outside, Site}
+use Rattle.md_outline.specs.Outlined.{has_unlisted_name}
+use Rattle.md_outline.specs.Roles.{is_plain, is_told, is_unlisted}
+use Rattle.md_outline.proofs.LinesPass.{Passes, keeps-plain, passes-append, passes-kept, passes-none}
 use Rattle.markdown_blocks.proofs.PartedFacts.{clear}
 
 -- whether a text begins or ends at such a point
 abbrev pub is_clear : List ℕ → Event → Bool
 is_clear bytes e = not (is_told (role e.name)) || clear bytes e.point
 
--- what is known of the names and the points of events
-pub record ArePlain (bytes : List ℕ) (events : List Event) : Type 0 where
-  pub names : list_all has_plain_name events ≡ true
+-- What is known of the names and the points of events.
+pub record AreKnown (bytes : List ℕ) (events : List Event) : Type 0 where
+  pub names : list_all has_unlisted_name events ≡ true
   pub texts : list_all (is_clear bytes) events ≡ true
 
-pub plain-nil : (bytes : List ℕ) → ArePlain bytes []
-plain-nil bytes = record { names = refl; texts = refl }
+pub known-none : (bytes : List ℕ) → AreKnown bytes []
+known-none bytes = record { names = refl; texts = refl }
 
-pub plain-append : (bytes : List ℕ) (xs ys : List Event) → ArePlain bytes xs → ArePlain bytes ys →
-    ArePlain bytes (xs ++ ys)
-plain-append bytes xs ys h k = record {
+pub known-append : (bytes : List ℕ) (xs ys : List Event) → AreKnown bytes xs → AreKnown bytes ys →
+    AreKnown bytes (xs ++ ys)
+known-append bytes xs ys h k = record {
   names =
-      list_all-append has_plain_name xs ys
-      ∙ and_from (list_all has_plain_name xs) (list_all has_plain_name ys) h.names k.names;
+      list_all-append has_unlisted_name xs ys
+      ∙ and_from (list_all has_unlisted_name xs) (list_all has_unlisted_name ys) h.names k.names;
   texts =
       list_all-append (is_clear bytes) xs ys
       ∙ and_from (list_all (is_clear bytes) xs) (list_all (is_clear bytes) ys) h.texts k.texts;
 }
 
-pub plain-cons : (bytes : List ℕ) (e : Event) (es : List Event) → has_plain_name e ≡ true → is_clear bytes e ≡ true →
-    ArePlain bytes es → ArePlain bytes (e ∷ es)
-plain-cons bytes e es h w k = record {
-  names = and_from (has_plain_name e) (list_all has_plain_name es) h k.names;
+known-cons : (bytes : List ℕ) (e : Event) (es : List Event) → has_unlisted_name e ≡ true → is_clear bytes e ≡ true →
+    AreKnown bytes es → AreKnown bytes (e ∷ es)
+known-cons bytes e es h w k = record {
+  names = and_from (has_unlisted_name e) (list_all has_unlisted_name es) h k.names;
   texts = and_from (is_clear bytes e) (list_all (is_clear bytes) es) w k.texts;
+}
+
+-- a part around them, which begins and ends clear if the tree shows its text
+pub known-around : (bytes : List ℕ) (name : Name) (p q : Point) (inside : List Event) →
+    is_unlisted (role name) ≡ true → (not (is_told (role name)) || clear bytes p) ≡ true →
+    (not (is_told (role name)) || clear bytes q) ≡ true → AreKnown bytes inside →
+    AreKnown bytes (around name p q inside)
+known-around bytes name p q inside known begin end h =
+    known-cons bytes (enter name p) (inside ++ exit name q ∷ []) known begin
+    (known-append bytes inside (exit name q ∷ []) h (known-cons bytes (exit name q) [] known end (known-none bytes)))
+
+-- The same of events that go from a site in a leaf block of several lines to a site.
+pub record ArePlainFrom (bytes : List ℕ) (from to : Site) (events : List Event) : Type 0 where
+  pub known : AreKnown bytes events
+  pub lines : Passes bytes from to events
+
+pub plain-none : (bytes : List ℕ) (site : Site) → ArePlainFrom bytes site site []
+plain-none bytes site = record { known = known-none bytes; lines = passes-none bytes site }
+
+pub plain-through : (bytes : List ℕ) (from mid to : Site) (xs ys : List Event) → ArePlainFrom bytes from mid xs →
+    ArePlainFrom bytes mid to ys → ArePlainFrom bytes from to (xs ++ ys)
+plain-through bytes from mid to xs ys h k = record {
+  known = known-append bytes xs ys h.known k.known;
+  lines = passes-append bytes from mid to xs ys h.lines k.lines;
+}
+
+-- Outside of such leaf blocks, or all of some.
+abbrev pub ArePlain : List ℕ → List Event → Type 0
+ArePlain bytes events = ArePlainFrom bytes Outside Outside events
+
+pub plain-nil : (bytes : List ℕ) → ArePlain bytes []
+plain-nil bytes = plain-none bytes Outside
+
+pub plain-append : (bytes : List ℕ) (xs ys : List Event) → ArePlain bytes xs → ArePlain bytes ys →
+    ArePlain bytes (xs ++ ys)
+plain-append bytes xs ys h k = plain-through bytes Outside Outside Outside xs ys h k
+
+-- a role that is plain is shown, and of no list
+unlisted-plain : (x : Role) → is_plain x ≡ true → is_unlisted x ≡ true
+unlisted-plain (Opens OfCode) h = refl
+unlisted-plain (Opens OfFence) h = refl
+unlisted-plain (Opens OfMath) h = refl
+unlisted-plain IsFence h = refl
+unlisted-plain (Tells AsLine) h = refl
+unlisted-plain (Tells AsInfo) h = refl
+unlisted-plain (Tells AsMeta) h = refl
+unlisted-plain x h = h
+
+pub plain-cons : (bytes : List ℕ) (e : Event) (es : List Event) → is_plain (role e.name) ≡ true →
+    is_clear bytes e ≡ true → ArePlain bytes es → ArePlain bytes (e ∷ es)
+plain-cons bytes e es h w k = record {
+  known = known-cons bytes e es (unlisted-plain (role e.name) h) w k.known;
+  lines =
+      passes-append bytes Outside Outside Outside (e ∷ []) es
+      (passes-kept bytes Outside (e ∷ []) (keeps-plain bytes (role e.name) h, tt)) k.lines;
 }
 
 -- a role that is plain, and no text
@@ -84,12 +142,14 @@ chunk-plain bytes chunk =
     (ending (same_place (line_end bytes chunk) chunk.after))
   where
     line : (b : Bool) → ArePlain bytes (cond b [] (pair n.Data chunk.first (line_end bytes chunk)))
-    line true = record { names = refl; texts = refl }
-    line false = record { names = refl; texts = refl }
+    line true = plain-nil bytes
+    line false = plain-quiet bytes (pair n.Data chunk.first (line_end bytes chunk)) (tt, (tt, tt))
 
     ending : (b : Bool) → ArePlain bytes (cond b [] (pair n.LineEnding (line_end bytes chunk) chunk.after))
-    ending true = record { names = refl; texts = refl }
-    ending false = record { names = refl; texts = refl }
+    ending true = plain-nil bytes
+    ending false =
+        plain-untold bytes (pair n.LineEnding (line_end bytes chunk) chunk.after)
+        ((refl, refl), ((refl, refl), tt))
 
 -- behind a piece of a line
 pub past-clear : (bytes xs : List ℕ) (p : Point) → clear bytes p ≡ true → clear bytes (past_text xs p) ≡ true

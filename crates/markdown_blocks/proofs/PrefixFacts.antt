@@ -1,6 +1,7 @@
 -- What is known of the events that stand in front of the content of a container on a line, from the point where they
 -- begin to the one where its content does: the frame needs no more of a container.
-use Rattle.std.proofs.Common.{◌≡◌, ◌≢◌, ℕ, Bool, true, List, [], ◌∷◌, ◌++◌}
+use Rattle.std.proofs.Common.{◌≡◌, ◌≢◌, ℕ, ◌≤◌, Bool, true, false, List, [], ◌∷◌, ◌++◌}
+use Rattle.std.specs.Prelude.{◌==◌}
 use Rattle.md_engine.specs.declared.event.Event.{Event}
 use Rattle.md_engine.specs.declared.event.Point.{Point}
 use Rattle.md_containers.specs.ItemsStand.{is_item_shape}
@@ -50,9 +51,17 @@ pub record PrefixFacts (bytes : List ℕ) (p q : Point) (es : List Event) : Type
   -- they stand between characters, if they begin so
   pub between : is_between bytes p.index ≡ true → AreBetween bytes es × (is_between bytes q.index ≡ true)
 
+-- whether there are none
+abbrev pub is_bare : List Event → Bool
+is_bare [] = true
+is_bare (e ∷ es) = false
+
 -- where it goes on
 pub record Continues (bytes : List ℕ) (p q : Point) (es : List Event) : Type 0 where
   pub common : PrefixFacts bytes p q es
+  -- they take columns, if there are any
+  pub onward : p.column ≤ q.column
+  pub bare : is_bare es ≡ (q.column == p.column)
   -- they have names of prefixes
   pub names : ArePrefixes es
   -- they keep the grammar, in front of blocks and of a further line of a leaf

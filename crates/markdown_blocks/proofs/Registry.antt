@@ -1,6 +1,8 @@
 -- The laws of the constructs that are built, and what the table has of them: the one place of the frame's proofs that
 -- names them.
-use Rattle.std.proofs.Common.{◌≡◌, ◌<◌, Bool, true, false, cond, List, [], ◌∷◌, ◌++◌, refl, ◌∙◌, ap, ap₂, arith}
+use Rattle.std.proofs.Common.{◌≡◌, ◌<◌, ℕ, Bool, true, false, cond, ◌||◌, List, [], ◌∷◌, ◌++◌, refl, sym, ◌∙◌, ap, ap₂}
+use Rattle.std.proofs.Common.{arith}
+use Rattle.std.specs.Option.{is_some}
 use Rattle.md_engine.specs.declared.tokenizer.held_leaf.HeldLeaf.TheVariants as held_leaf
 use Rattle.markdown_blocks.specs.Registry.{IsOpenSpan, insider}
 use Rattle.md_engine.specs.declared.tokenizer.held_leaf.HeldLeaf.{HeldLeaf}
@@ -42,26 +44,41 @@ use Rattle.md_leaves.proofs.HeadingSteps.{heading_steps}
 use Rattle.md_seam.specs.Ahead.{HasWhite}
 use Rattle.md_seam.specs.Spaces.{rest_ready}
 use Rattle.md_definition.specs.Containers.{Taken, opens, opens_footnote, opens_item, opens_quote}
-use Rattle.md_definition.specs.Leaves.{Came, break_at, heading_at}
-use Rattle.md_definition.specs.Rest.{Rest}
-use Rattle.md_definition.specs.State.{Leaf, NoLeaf}
-use Rattle.md_definition.specs.Tree.{Break}
+use Rattle.md_definition.specs.Leaves.{Came, Finished, Opened, break_at, closes, fence_at, fence_goes_on, heading_at}
+use Rattle.md_definition.specs.Rest.{Rest, line_of, lose}
+use Rattle.md_definition.specs.State.{Leaf, NoLeaf, OpenCode, OpenFence, OpenHtml, OpenParagraph, OpenTable, Opening}
+use Rattle.md_definition.specs.State.{fence_block}
+use Rattle.md_definition.specs.Tree.{Break, Line}
+use Rattle.md_lines.proofs.FenceGoods.{FenceFits, fence_does}
+use Rattle.md_lines.proofs.FenceSteps.{fence_steps}
 use Rattle.md_seam.proofs.SpacesGoods.{Does, WhiteFits}
 use Rattle.markdown_blocks.specs.FlowRule.{Rule}
+use Rattle.markdown_blocks.specs.HeldLeaf.{IsBuiltLeaf, kind_of_leaf, left_by}
+use Rattle.markdown_blocks.specs.Leaf.Fence.{fence_leaf, opening_at}
+use Rattle.markdown_blocks.specs.Leaf.FenceFurther.{fence_further, is_fence}
 use Rattle.markdown_blocks.specs.Leaf.HeadingAtx.{heading_leaf}
 use Rattle.markdown_blocks.specs.Leaf.ThematicBreak.{break_leaf}
 use Rattle.markdown_blocks.specs.Parsed.{IsBuilt}
-use Rattle.markdown_blocks.specs.Registry.{HeadingAtx, LeafName, ThematicBreak, behind, construct_owner}
+use Rattle.markdown_blocks.specs.Registry.{Fence, FenceFurther, HeadingAtx, LeafName, ThematicBreak, behind}
+use Rattle.markdown_blocks.specs.Registry.{construct_owner}
 use Rattle.markdown_blocks.specs.Registry.{construct_transition, container_rules, first_of, further_of, is_own, leaf}
 use Rattle.markdown_blocks.specs.Registry.{opener_at}
 use Rattle.markdown_blocks.specs.Registry.{openers, openers_behind, resolved, text_leaf, trials, tried_at}
 use Rattle.markdown_blocks.specs.Registry.{joins_lines}
+use Rattle.markdown_blocks.specs.Rows.{Row}
 use Rattle.markdown_blocks.specs.States.{flow_behaves_by, flow_owner, flow_table_scheme}
 use Rattle.markdown_blocks.proofs.BlockQuote.Laws.{quote-laws}
 use Rattle.markdown_blocks.proofs.BlockQuote.Plain.{quote-plain}
 use Rattle.markdown_blocks.proofs.BlockQuote.Registers.{quote-registers}
 use Rattle.markdown_blocks.proofs.ContainerLaws.{ContainerLaws}
 use Rattle.markdown_blocks.proofs.ContainerNames.{is_front}
+use Rattle.markdown_blocks.proofs.Fence.Found.{fence-found, fence-off, fence-shallow}
+use Rattle.markdown_blocks.proofs.Fence.Laws.{fence-laws}
+use Rattle.markdown_blocks.proofs.Fence.Opened.{fence-starts}
+use Rattle.markdown_blocks.proofs.Fence.Registers.{fence-registers}
+use Rattle.markdown_blocks.proofs.FenceFurther.Definition.{opening-fence}
+use Rattle.markdown_blocks.proofs.FenceFurther.Laws.{fence_further-laws}
+use Rattle.markdown_blocks.proofs.FenceSpan.Laws.{fence-span}
 use Rattle.markdown_blocks.proofs.Goods.{Anywhere, ContainerFits, IsWithin}
 use Rattle.markdown_blocks.proofs.HeadingAtx.Found.{heading-found, heading-shallow}
 use Rattle.markdown_blocks.proofs.HeadingAtx.Laws.{heading-laws}
@@ -72,20 +89,22 @@ use Rattle.markdown_blocks.proofs.ListItem.Laws.{item-laws}
 use Rattle.markdown_blocks.proofs.ListItem.Plain.{item-plain}
 use Rattle.markdown_blocks.proofs.ListItem.Registers.{item-registers}
 use Rattle.markdown_blocks.proofs.OutsideFacts.{AreOutside, resolved-outside}
-use Rattle.markdown_blocks.proofs.OpenSpan.{AllBegin, Begun, OpenSpan}
+use Rattle.markdown_blocks.proofs.OpenSpan.{AllBegin, Begun, ComesShallow, OpenSpan}
 use Rattle.markdown_blocks.proofs.Paragraph.Laws.{paragraph-laws}
 use Rattle.markdown_blocks.proofs.PlainLaws.{PlainLaws}
 use Rattle.markdown_blocks.proofs.Registers.{Registers}
 use Rattle.markdown_blocks.proofs.ShallowBlocks.{shallow-then}
-use Rattle.markdown_blocks.proofs.SpanLaws.{SpanLaws}
+use Rattle.markdown_blocks.proofs.SpanLaws.{IsLineOf, SpanLaws}
 use Rattle.markdown_blocks.proofs.TextLaws.{TextLaws}
 use Rattle.markdown_blocks.proofs.ThematicBreak.Found.{break-found}
 use Rattle.markdown_blocks.proofs.ThematicBreak.Laws.{break-laws}
 use Rattle.markdown_blocks.proofs.ThematicBreak.Registers.{break-registers}
 
--- Leaves on one line.
+-- Leaves that take a line.
 
 pub laws : (l : LeafName) → LeafLaws (leaf l)
+laws Fence = fence-laws
+laws FenceFurther = fence_further-laws
 laws HeadingAtx = heading-laws
 laws ThematicBreak = break-laws
 
@@ -100,25 +119,35 @@ came_of options r (Some l) = Some ((leaf l).comes options NoLeaf r)
 
 -- of the leaves of the line definition these alone are built, in this order
 pub leaves-found : (options : ParseOptions) (on : HeldLeaf) (r : Rest) →
-    option_or (heading_at options r) (break_at options r) ≡ came_of options r (leaf_at options on r)
+    option_or (fence_at options r) (option_or (heading_at options r) (break_at options r)) ≡
+    came_of options r (leaf_at options on r)
 leaves-found options on r =
-    ap₂ (λ (x y : Option Came). option_or x y) (heading-found options r) (break-found options r)
-    ∙ go (heading_leaf.starts options on r) (break_leaf.starts options on r)
+    ap₂ (λ (x y : Option Came). option_or x y) (fence-found options r)
+    (ap₂ (λ (x y : Option Came). option_or x y) (heading-found options r) (break-found options r))
+    ∙ go (fence_leaf.starts options on r) (heading_leaf.starts options on r) (break_leaf.starts options on r)
   where
     -- a leaf, if it starts
     one : Bool → LeafName → Option Came
     one x l = cond x (Some ((leaf l).comes options NoLeaf r)) None
 
-    go : (x y : Bool) →
-        option_or (one x HeadingAtx) (one y ThematicBreak) ≡
-        came_of options r (cond x (Some HeadingAtx) (cond y (Some ThematicBreak) None))
-    go true y = refl
-    go false true = refl
-    go false false = refl
+    go : (x y z : Bool) →
+        option_or (one x Fence) (option_or (one y HeadingAtx) (one z ThematicBreak)) ≡
+        came_of options r (cond x (Some Fence) (cond y (Some HeadingAtx) (cond z (Some ThematicBreak) None)))
+    go true y z = refl
+    go false true z = refl
+    go false false true = refl
+    go false false false = refl
 
 -- what a line comes to that begins one of them
 pub leaf-begun : (l : LeafName) (options : ParseOptions) (on : HeldLeaf) (r : Rest) →
     (leaf l).starts options on r ≡ true → (leaf l).further on ≡ false → Begun l options on r
+unfolding IsOpenSpan
+leaf-begun Fence options on r h begins = record {
+  holds = refl;
+  built = opening-fence options r (opening_at r) [] (fence-starts options r h).opens;
+  shallow = λ bs shallow. shallow;
+}
+leaf-begun FenceFurther options on r h begins = let bad : true ≡ false = sym h ∙ begins in absurd (cc)
 leaf-begun HeadingAtx options on r h begins = record {
   holds = refl;
   built = tt;
@@ -129,26 +158,48 @@ leaf-begun ThematicBreak options on r h begins =
 
 -- those that are tried go on none
 pub trials-begin : AllBegin trials
-trials-begin = (λ on. refl, (λ on. refl, tt))
-
--- each that is built always ends on its line
-pub leaf-ends : (l : LeafName) → (leaf l).ends ≡ true
-leaf-ends HeadingAtx = refl
-leaf-ends ThematicBreak = refl
+trials-begin = (λ on. refl, (λ on. refl, (λ on. refl, tt)))
 
 -- a line that goes on what a line of one has left is one of the leaf that takes its further lines
 pub further-is : (l m : LeafName) (options : ParseOptions) (on : HeldLeaf) (r : Rest) →
     (leaf m).further ((leaf l).holds options on r) ≡ true → m ≡ further_of l
+further-is Fence FenceFurther options on r e = refl
+further-is FenceFurther FenceFurther options on r e = refl
+further-is HeadingAtx FenceFurther options on r e = cc
+further-is ThematicBreak FenceFurther options on r e = cc
+further-is l Fence options on r e = cc
 further-is l HeadingAtx options on r e = cc
 further-is l ThematicBreak options on r e = cc
 
 -- which takes those behind its own lines too
 pub further-further : (l : LeafName) → further_of (further_of l) ≡ further_of l
-further-further l = refl
+further-further Fence = refl
+further-further FenceFurther = refl
+further-further HeadingAtx = refl
+further-further ThematicBreak = refl
 
--- the lines of one that does not, with those that go on it
+-- no further line begins a block, so of the lines of one that does there is nothing to say
+begins-none : (options : ParseOptions) (bytes : List ℕ) (row : Row) → IsLineOf options bytes fence_further row →
+    fence_further.further row.on ≡ false → ⊥
+begins-none options bytes row is begins = let bad : true ≡ false = sym is.starts ∙ begins in cc
+
+further-span : SpanLaws fence_further fence_further
+further-span = record {
+  first_spanned = λ options bytes row is begins. absurd (begins-none options bytes row is begins);
+  further_spanned = fence-span.further_spanned;
+  block = λ options bytes row rows is are. Break;
+  facts = λ options bytes row rows is begins are. absurd (begins-none options bytes row is begins);
+  shuts = λ options bytes row rows is begins are bs. absurd (begins-none options bytes row is begins);
+  becomes = λ options bytes row rows is begins are wants reads text string texts strings.
+      absurd (begins-none options bytes row is begins);
+}
+
+-- the lines of one that does not end on its line, with those that go on it
 pub span-laws : (l : LeafName) → (leaf l).ends ≡ false → SpanLaws (leaf l) (leaf (further_of l))
-span-laws l e = let ends = leaf-ends l in cc
+span-laws Fence e = fence-span
+span-laws FenceFurther e = further-span
+span-laws HeadingAtx e = absurd (cc)
+span-laws ThematicBreak e = absurd (cc)
 
 -- Where a leaf is tried behind others, it is asked whichever leaf the line meets.
 
@@ -157,23 +208,35 @@ AreAsked [] = Unit {0}
 AreAsked (l ∷ ls) = ((on : HeldLeaf) → (leaf l).asked on ≡ true) × AreAsked ls
 
 pub trials-asked : AreAsked trials
-trials-asked = (λ on. refl, (λ on. refl, tt))
+trials-asked = (λ on. refl, (λ on. refl, (λ on. refl, tt)))
 
 pub trial-asked : (state : FlowState) (l : LeafName) → tried_at state ≡ Some l → (on : HeldLeaf) →
     (leaf l).asked on ≡ true
+trial-asked flow.BeforeRaw Fence e on = refl
 trial-asked flow.BeforeHeadingAtx HeadingAtx e on = refl
 trial-asked flow.BeforeThematicBreak ThematicBreak e on = refl
 trial-asked _ _ e on = cc
 
--- where the lines of one are read, they are joined
+-- where the lines of one are read, from the one that begins it, they are joined
 pub lines-join : (l : LeafName) → (leaf l).ends ≡ false → (options : ParseOptions) (on : HeldLeaf) (r : Rest) →
-    (leaf l).starts options on r ≡ true → joins_lines options ≡ true
-lines-join l e options on r starts = let ends = leaf-ends l in cc
+    (leaf l).starts options on r ≡ true → (leaf l).further on ≡ false → joins_lines options ≡ true
+unfolding joins_lines
+lines-join Fence e options on r starts begins = go options.constructs.code_fenced refl options.constructs.math_flow refl
+  where
+    go : (x : Bool) → options.constructs.code_fenced ≡ x → (y : Bool) → options.constructs.math_flow ≡ y →
+        (x || y) ≡ true
+    go true f y g = refl
+    go false f true g = refl
+    go false f false g = let none = ap is_some (fence-off options r f g) in absurd (cc)
+lines-join FenceFurther e options on r starts begins = let bad : true ≡ false = sym starts ∙ begins in absurd (cc)
+lines-join HeadingAtx e options on r starts begins = absurd (cc)
+lines-join ThematicBreak e options on r starts begins = absurd (cc)
 
 -- In the table of flow.
 
 -- each is tried at the state in front of it alone
 pub tried-before : (state : FlowState) (l : LeafName) → tried_at state ≡ Some l → (leaf l).before ≡ state
+tried-before flow.BeforeRaw Fence e = refl
 tried-before flow.BeforeHeadingAtx HeadingAtx e = refl
 tried-before flow.BeforeThematicBreak ThematicBreak e = refl
 tried-before _ _ e = cc
@@ -191,6 +254,8 @@ NextIs [] = Unit {0}
 NextIs (m ∷ ms) = HasTrial m × (behind m ≡ ms)
 
 pub leaf-next : (l : LeafName) → HasTrial l → NextIs (behind l)
+leaf-next Fence is = (refl, refl)
+leaf-next FenceFurther is = absurd (cc)
 leaf-next HeadingAtx is = (refl, refl)
 leaf-next ThematicBreak is = tt
 
@@ -203,6 +268,9 @@ pub record LeafStates (l : LeafName) : Type 1 where
       flow_behaves_by options next (leaf l).start cells h ≡ (leaf l).trial options cells h
 
 pub leaf-states : (l : LeafName) → LeafStates l
+leaf-states Fence = record { level = omega arith; ready = λ x K is. is; starts = λ options next cells h. refl }
+leaf-states FenceFurther =
+    record { level = omega arith; ready = λ x K is. is; starts = λ options next cells h. refl }
 leaf-states HeadingAtx =
     record { level = omega arith; ready = λ x K is. is; starts = λ options next cells h. refl }
 leaf-states ThematicBreak =
@@ -217,20 +285,66 @@ pub insider-text : insider held_leaf.Text ≡ None
 unfolding insider
 insider-text = refl
 
+-- Fenced code and math alone are asked first.
+insider-fence : (on : HeldLeaf) (l : LeafName) → insider on ≡ Some l → (is_fence on ≡ true) × (l ≡ FenceFurther)
+unfolding insider
+insider-fence on l e = go (is_fence on) refl l e
+  where
+    go : (x : Bool) → is_fence on ≡ x → (l : LeafName) → cond x (Some FenceFurther) None ≡ Some l →
+        (is_fence on ≡ true) × (l ≡ FenceFurther)
+    go true f FenceFurther e = (f, refl)
+    go true f l e = absurd (cc)
+    go false f l e = absurd (cc)
+
 -- one that is asked first does not always end on its line
 pub insider-open : (on : HeldLeaf) (l : LeafName) → insider on ≡ Some l → (leaf l).ends ≡ false
-unfolding insider
-insider-open on l e = cc
+insider-open on l e = let is = insider-fence on l e in ap (λ (k : LeafName). (leaf k).ends) is.1
 
--- and is asked of that leaf
+-- and is asked of that leaf,
 pub insider-asked : (on : HeldLeaf) (l : LeafName) → insider on ≡ Some l → (leaf l).asked on ≡ true
-unfolding insider
-insider-asked on l e = cc
+insider-asked on l e = let is = insider-fence on l e in ap (λ (k : LeafName). (leaf k).asked on) is.1 ∙ is.0
+
+-- so its line goes on that one
+pub insider-further : (on : HeldLeaf) (l : LeafName) → insider on ≡ Some l → (leaf l).further on ≡ true
+insider-further on l e = let is = insider-fence on l e in ap (λ (k : LeafName). (leaf k).further on) is.1 ∙ is.0
+
+-- fenced code and math that is open
+fence-open : (o : Opening) (lines : List Line) → is_fence (kind_of_leaf (OpenFence o lines)) ≡ true →
+    OpenSpan (OpenFence o lines)
+unfolding insider IsOpenSpan fence_goes_on
+fence-open o lines is = record {
+  name = FenceFurther;
+  asked = rw is refl;
+  same = refl;
+  further = is;
+  lines = refl;
+  concrete = refl;
+  goes = λ options r. rw is refl;
+  built = λ options r starts. built (closes options o r) (lines ++ line_of (lose o.indent r) ∷ []);
+  shallow = λ options r. shallow (closes options o r) (lines ++ line_of (lose o.indent r) ∷ []);
+  closed = λ options bs h. shallow-then bs (fence_block o lines false) h (fence-shallow o lines false);
+}
+  where
+    comes : Bool → List Line → Came
+    comes x more = cond x (Finished (fence_block o lines true)) (Opened (OpenFence o more))
+
+    built : (x : Bool) (more : List Line) → IsBuiltLeaf (left_by (comes x more))
+    built true more = tt
+    built false more = is
+
+    shallow : (x : Bool) (more : List Line) → ComesShallow (comes x more)
+    shallow true more bs h = shallow-then bs (fence_block o lines true) h (fence-shallow o lines true)
+    shallow false more bs h = h
 
 -- what may be open of several lines is as the frame asks
 pub open-span : (open_leaf : Leaf) → IsOpenSpan open_leaf → OpenSpan open_leaf
 unfolding IsOpenSpan
-open-span open_leaf is = absurd is
+open-span (OpenFence o lines) is = fence-open o lines is
+open-span NoLeaf is = absurd is
+open-span (OpenParagraph lines) is = absurd is
+open-span (OpenCode lines) is = absurd is
+open-span (OpenHtml kind lines) is = absurd is
+open-span (OpenTable delimiter rows) is = absurd is
 
 -- Lines of text.
 
@@ -351,6 +465,9 @@ break_fits = record { white = white_fits; each = λ state. fits flow_owner (n.Th
 heading_fits : HeadingFits flow_table_scheme
 heading_fits = record { white = white_fits; each = λ state. fits flow_owner (n.HeadingAtx state) }
 
+fence_fits : FenceFits flow_table_scheme
+fence_fits = record { white = white_fits; each = λ state. fits flow_owner (n.RawFlow state) }
+
 quote_fits : QuoteFits flow_table_scheme
 quote_fits = record { white = white_fits; each = λ state. fits flow_owner (n.BlockQuote state) }
 
@@ -373,6 +490,7 @@ construct-does is_name (n.BlockQuote state) w c at = quote_does flow_table_schem
 construct-does is_name (n.HeadingAtx state) w c at =
     heading_does flow_table_scheme (is_name r.HeadingAtx) state w heading_fits c at
 construct-does is_name (n.ListItem state) w c at = item_does flow_table_scheme state w item_fits c at
+construct-does is_name (n.RawFlow state) w c at = fence_does flow_table_scheme state w fence_fits c at
 construct-does is_name (n.ThematicBreak state) w c at = break_does flow_table_scheme state w break_fits c at
 construct-does is_name name w c at = absurd at
 
@@ -395,6 +513,8 @@ construct-steps is_name feed next (n.ListItem state) w s at =
       breaks = record { white = white_has w.setting.options next; each = λ _ _ _. refl };
       each = λ _ _ _. refl;
     }) s at
+construct-steps is_name feed next (n.RawFlow state) w s at =
+    fence_steps _ feed state w _ (record { white = white_has w.setting.options next; each = λ _ _ _. refl }) s at
 construct-steps is_name feed next (n.ThematicBreak state) w s at =
     break_steps _ feed state w _ (record { white = white_has w.setting.options next; each = λ _ _ _. refl }) s at
 construct-steps is_name feed next name w s at = absurd at
@@ -405,5 +525,6 @@ pub construct-registers : (name : StateName) (w : World) → Registers w →
 construct-registers (n.BlockQuote state) w h = quote-registers state w h
 construct-registers (n.HeadingAtx state) w h = heading-registers state w h
 construct-registers (n.ListItem state) w h = item-registers state w h
+construct-registers (n.RawFlow state) w h = fence-registers state w h
 construct-registers (n.ThematicBreak state) w h = break-registers state w h
 construct-registers _ w h = h

@@ -1,7 +1,7 @@
 -- What the lines of a text are, as flow reads them: facts that the lemmas on the tree rest on.
 use Rattle.md_engine.specs.declared.tokenizer.held_leaf.HeldLeaf.{HeldLeaf}
 use Rattle.std.proofs.Common.{◌≡◌, ℕ, ◌+◌, ◌≤◌, List, [], ◌∷◌, ◌++◌, length, slice_range, ap, ◌∙◌, arith}
-use Rattle.std.specs.Prelude.{Some, None}
+use Rattle.std.specs.Prelude.{◌&&◌, ◌==◌, Some, None}
 use Rattle.md_engine.specs.declared.configuration.ParseOptions.{ParseOptions}
 use Rattle.md_engine.specs.declared.event.Point.{Point}
 use Rattle.md_seam.specs.Events.Places.{past_text}
@@ -35,8 +35,8 @@ pub record IsRow (options : ParseOptions) (bytes line : List ℕ) (row : Row) : 
   pub end_whole : row.end.vs ≡ 0
   pub cut_first : CutsFirst row.first line
   pub cut : Cut rest.spaces row.first
-  -- nothing stands there if it ends where it begins
-  pub empty : row.empty ≡ is_empty_row row
+  -- nothing at all stands on the line if it ends where it begins, in the column where lines begin
+  pub empty : row.empty ≡ (is_empty_row row && (row.first.column == 1))
   -- what flow adds for it
   pub blank : row.kind ≡ BlankRow → row.inside ≡ blank_line line row.first
   pub leaf_is : (l : LeafName) → row.kind ≡ LeafRow l → row.inside ≡ (leaf l).added options row.on line row.first

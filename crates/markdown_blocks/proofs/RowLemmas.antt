@@ -3,7 +3,7 @@ use Rattle.md_engine.specs.declared.tokenizer.held_leaf.HeldLeaf.TheVariants as 
 use Rattle.md_engine.specs.declared.tokenizer.held_leaf.HeldLeaf.{HeldLeaf}
 use Rattle.std.proofs.Common.{◌≡◌, ℕ, zero, suc, ◌+◌, ◌^◌, ◌<◌, ◌≤◌, Bool, true, false, List, [], ◌∷◌, ◌++◌, length}
 use Rattle.std.proofs.Common.{drop, refl, sym, ap, ◌∙◌, subst, arith, append-nil, append_assoc, inl, inr, ◌⊎◌}
-use Rattle.std.specs.Prelude.{◌==◌, Some}
+use Rattle.std.specs.Prelude.{◌&&◌, ◌==◌, Some}
 use Rattle.std.proofs.lemmas.Bool.{eqb-true, or_from}
 use Rattle.std.proofs.lemmas.List.{length-append}
 use Rattle.md_engine.specs.declared.configuration.ParseOptions.{ParseOptions}
@@ -34,7 +34,7 @@ use Rattle.markdown_blocks.specs.Rows.{line_kind, onto_rows, row_kind, row_of, r
 use Rattle.markdown_blocks.proofs.FrontRows.{HasHeld, held-is}
 use Rattle.markdown_blocks.proofs.RestFacts.{rest-line_end, rest-no_ending}
 use Rattle.md_seam.specs.Look.{first_seen}
-use Rattle.md_seam.specs.Spaces.{ends_line}
+use Rattle.markdown_blocks.specs.LineFlags.{nothing_stands}
 use Rattle.markdown_blocks.proofs.RestRows.{rest-cut, rest-empty, rest-ending, rest-past, rest-whole}
 use Rattle.markdown_blocks.proofs.RowFacts.{AreRows, IsEnding, IsLine, IsRow, behind_line}
 use Rattle.markdown_blocks.proofs.RowKinds.{behind-rest, blank-inside, kind-rest, leaf-inside}
@@ -83,8 +83,9 @@ held-row options bytes behind said r stop h below fed short is none k =
       cut_first = rest-cut r p is.cut;
       cut = is.cut;
       empty =
-          ap (λ (l : List Cell). ends_line (first_seen l)) fed
-          ∙ rest-empty said r p stop (line_end h.cells p).index none k index;
+          ap (λ (l : List Cell). nothing_stands (first_seen l) p) fed
+          ∙ ap (λ (x : Bool). x && (p.column == 1))
+          (rest-empty said r p stop (line_end h.cells p).index none k index);
       blank =
           λ e. inside (row_kind options h.on h.cells)
           ∙ blank-inside options h.on said bytes behind r p stop (row_kind options h.on h.cells) is none k kind e;

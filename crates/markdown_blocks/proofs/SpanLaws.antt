@@ -21,6 +21,7 @@ use Rattle.markdown_blocks.specs.LineLeaf.{LineLeaf}
 use Rattle.markdown_blocks.specs.Rows.{Row, is_empty_row, last_row, span_by, span_done}
 use Rattle.markdown_blocks.proofs.FrontFacts.{LinePrefix}
 use Rattle.markdown_blocks.proofs.LeafFacts.{LeafFacts, LineAt, ReadsText, ReadsString}
+pub use Rattle.markdown_blocks.proofs.PrefixFacts.{is_bare}
 use Rattle.markdown_blocks.proofs.RowFacts.{IsEnding}
 use Rattle.markdown_blocks.proofs.SpannedFacts.{AreUnspanned}
 use Rattle.markdown_blocks.proofs.SubstitutedLemmas.{Becomes}
@@ -46,10 +47,6 @@ AreBehind options bytes l row (next ∷ rows) =
     × (is : IsLineOf options bytes l next) × AreBehind options bytes l next rows
 
 -- whether nothing at all stands on a line, and no prefix in front of it
-abbrev pub is_bare : List Event → Bool
-is_bare [] = true
-is_bare (e ∷ es) = false
-
 abbrev pub is_bare_row : Row → Bool
 is_bare_row row = is_bare row.front && is_empty_row row
 

@@ -420,9 +420,9 @@ groups-apart options bytes (Single row ∷ gs) none are =
 groups-apart options bytes (Lines row rows ∷ gs) none are =
     ap (λ (l : List Event). listed_group bytes (Lines row rows) ++ l) (groups-apart options bytes gs none are.3)
 groups-apart options bytes (Span row rows ∷ gs) none are =
-    let is = span-begins options bytes row rows are.0 in
-    let line = line-of options bytes row is in
-    let joins = lines-join is.name is.open_leaf options row.on line.rest line.starts in
+    let of_leaf : AreOfLeaf options bytes row rows = span-leaf options bytes row rows are.0 are.4 in
+    let joins =
+    lines-join of_leaf.name of_leaf.open_leaf options row.on of_leaf.is.rest of_leaf.is.starts of_leaf.first in
     let bad : true ≡ false = sym joins ∙ none in
     cc
 

@@ -19,7 +19,7 @@ use Rattle.md_seam.specs.Look.{looks_behind, may_with}
 use Rattle.md_seam.specs.Spaces.{ends_line, rest_ready}
 use Rattle.md_seam.specs.Transition.{Transition, entered, exited, taken, tried}
 use Rattle.markdown_blocks.specs.LineFlags.{asking, begun_line, blanked, ending_name, next_container, next_line, stays}
-use Rattle.markdown_blocks.specs.LineFlags.{blank_here, ended_on, shut_leaf, went_on, with_container}
+use Rattle.markdown_blocks.specs.LineFlags.{blank_here, ended_on, nothing_stands, shut_leaf, went_on, with_container}
 use Rattle.markdown_blocks.specs.Registry.{LeafName, front_of, goes_on_with, insider, leaf, may_go_on, may_open, next_of}
 use Rattle.markdown_blocks.specs.Registry.{next_opener, opener_at, opener_front, opener_rank, opener_tries, openers}
 use Rattle.markdown_blocks.specs.Registry.{opens_with, rank_of, trials, tried_at, tries_of}
@@ -129,12 +129,12 @@ containers_after_transition w =
     let g = begun_line w.flags in
     record { to = Retry (leaf_front (is_some (insider g.leaf))); world = record w { flags = g } }
 
--- by that leaf, which is told in the flags whether the line ends here
+-- by that leaf; the flags have whether nothing stands on the line
 abbrev pub inside_code : World → Option LeafName → Transition
 inside_code w None = record { to = Retry (s.Flow flow.Start); world = w }
 inside_code w (Some l) =
     trial_code (leaf l).start (s.Flow flow.After) (s.Flow flow.Start)
-    (record w { flags = blank_here (ends_line w.current) w.flags }) true
+    (record w { flags = blank_here (nothing_stands w.current w.point) w.flags }) true
 
 abbrev pub inside_transition : World → Transition
 inside_transition w = inside_code w (insider w.flags.leaf)

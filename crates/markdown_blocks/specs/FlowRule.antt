@@ -21,7 +21,7 @@ use Rattle.md_seam.specs.Spaces.{ends_line}
 use Rattle.markdown_blocks.specs.Registry.{LeafName, begins_at, behind, continues_at, goes_on_with, insider, leaf, opener_at}
 use Rattle.markdown_blocks.specs.Registry.{openers, openers_behind, opens_with, trials, tried_at}
 use Rattle.markdown_blocks.specs.LineFlags.{asks, begun_line, blanked, ending_name, next_container, next_line, stays}
-use Rattle.markdown_blocks.specs.LineFlags.{blank_here, ended_on, shut_leaf, went_on, with_container}
+use Rattle.markdown_blocks.specs.LineFlags.{blank_here, ended_on, nothing_stands, shut_leaf, went_on, with_container}
 
 -- how the rest of a text ends from a place
 abbrev pub Rule : Type 0
@@ -90,9 +90,9 @@ leaf_of options next cells h =
     tried (blank_at cells h) (blank_ended next)
     (λ s g. nonblank_of options next cells (record h { scratch = s; flags = g }))
 
--- where the line ends here, its ending is that of a blank line, also where a leaf goes on over it
+-- where nothing stands on the line, its ending is that of a blank line, also where a leaf goes on over it
 abbrev pub blank_at_end : List Cell → Here → Here
-blank_at_end cells h = record h { flags = blank_here (ends_line (first_seen cells)) h.flags }
+blank_at_end cells h = record h { flags = blank_here (nothing_stands (first_seen cells) h.point) h.flags }
 
 -- by the leaf that is asked first whether the line goes on it
 abbrev pub inside_by : ParseOptions → Rule → Option LeafName → Rule

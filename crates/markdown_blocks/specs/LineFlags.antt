@@ -1,12 +1,14 @@
 -- What the document knows of its containers, and how each step of a line changes it.
 use Rattle.markdown_blocks.specs.HeldLeaf.{met_by, takes_lazy}
-use Rattle.std.specs.Prelude.{ℕ, suc, ◌+◌, Bool, true, false, ◌&&◌, not, nat_lt, if◌then◌else◌, List, [], ◌∷◌, ◌++◌}
-use Rattle.std.specs.Prelude.{drop, length, slice_get, slice_set, Option}
+use Rattle.std.specs.Prelude.{ℕ, suc, ◌+◌, Bool, true, false, ◌&&◌, ◌==◌, not, nat_lt, if◌then◌else◌, List, []}
+use Rattle.std.specs.Prelude.{◌∷◌, ◌++◌, drop, length, slice_get, slice_set, Option}
 use Rattle.md_engine.specs.declared.event.Name.{Name}
 use Rattle.md_engine.specs.declared.event.Name.TheVariants.{BlankLineEnding, LineEnding}
+use Rattle.md_engine.specs.declared.event.Point.{Point}
 use Rattle.md_engine.specs.declared.tokenizer.container.Container.{Container}
 use Rattle.md_engine.specs.declared.tokenizer.held_leaf.HeldLeaf.TheVariants as held_leaf
 use Rattle.md_engine.specs.World.{Flags, World}
+use Rattle.md_seam.specs.Spaces.{ends_line}
 use Rattle.markdown_blocks.specs.Registry.{goes_over}
 
 -- the outermost container that was not asked yet whether it goes on
@@ -49,9 +51,15 @@ abbrev pub begun_line : Flags → Flags
 begun_line g =
     record g { leaf_before = g.leaf; leaf = met_by (not (nat_lt g.continued (length g.containers))) g.leaf }
 
--- in front of the leaf that is asked first, by whether the line ends here: its ending is that of a blank line then
+-- whether nothing at all stands on a line, by what stands behind its containers and where: it ends there, in the column
+-- where lines begin, so that no prefix stands in front
+abbrev pub nothing_stands : Option ℕ → Point → Bool
+nothing_stands o p = ends_line o && (p.column == 1)
+
+-- in front of the leaf that is asked first, by whether nothing stands on the line: its ending is then that of a blank
+-- line
 abbrev pub blank_here : Bool → Flags → Flags
-blank_here ends g = record g { blank = ends }
+blank_here nothing g = record g { blank = nothing }
 
 -- behind a leaf on one line none is open
 abbrev pub shut_leaf : Flags → Flags

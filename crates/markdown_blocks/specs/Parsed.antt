@@ -29,9 +29,9 @@ use Rattle.markdown_blocks.specs.BlockList.{block_list}
 abbrev pub IsSmall : List ℕ → Type 0
 IsSmall text = length text ≤ (2 ^ 64 - 1) / 8
 
--- the constructs that are asked for are there: block quotes, list items, ATX headings and breaks alone
+-- the constructs that are asked for are there: block quotes, list items, fenced code and math, ATX headings and breaks
+-- alone
 pub record IsBuilt (options : ParseOptions) : Type 0 where
-  pub code_fenced : options.constructs.code_fenced ≡ false
   pub code_indented : options.constructs.code_indented ≡ false
   pub definition : options.constructs.definition ≡ false
   pub frontmatter : options.constructs.frontmatter ≡ false
@@ -39,7 +39,6 @@ pub record IsBuilt (options : ParseOptions) : Type 0 where
   pub gfm_table : options.constructs.gfm_table ≡ false
   pub heading_setext : options.constructs.heading_setext ≡ false
   pub html_flow : options.constructs.html_flow ≡ false
-  pub math_flow : options.constructs.math_flow ≡ false
   pub mdx_esm : options.constructs.mdx_esm ≡ false
   pub mdx_expression_flow : options.constructs.mdx_expression_flow ≡ false
   pub mdx_expression_text : options.constructs.mdx_expression_text ≡ false

@@ -1,6 +1,8 @@
 -- The constructs that are built, and their order: the one place of the frame's definitions that names them.
-use Rattle.std.specs.Prelude.{◌≡◌, refl, Bool, ℕ, zero, suc, ◌+◌, ◌*◌, nat_lt, true, ◌==◌, if◌then◌else◌, false}
+use Rattle.std.specs.Prelude.{◌≡◌, ◌&&◌, refl, Bool, ℕ, zero, suc, ◌+◌, ◌*◌, nat_lt, true, ◌==◌, if◌then◌else◌}
+use Rattle.std.specs.Prelude.{◌||◌}
 use Rattle.md_engine.specs.declared.tokenizer.held_leaf.HeldLeaf.{HeldLeaf}
+use Rattle.md_engine.specs.declared.tokenizer.held_leaf.HeldLeaf.TheVariants as held_leaf
 use Rattle.std.specs.Option.{option_or}
 use Rattle.std.specs.Prelude.{List, [], ◌∷◌, length, Option, Some, None}
 use Rattle.md_engine.specs.declared.configuration.ParseOptions.{ParseOptions}
@@ -25,7 +27,7 @@ use Rattle.md_engine.specs.Scheme.{Rank, Scheme, nowhere, ranked}
 use Rattle.md_engine.specs.World.{World}
 use Rattle.md_containers.specs.Item.{item_scheme, item_transition}
 use Rattle.md_containers.specs.ItemRule.{item_behaves}
-use Rattle.md_containers.specs.Listed.{listed}
+use Rattle.md_containers.specs.Listed.{listed, passes as passes_lists}
 use Rattle.md_containers.specs.Quote.{quote_scheme, quote_transition}
 use Rattle.md_containers.specs.QuoteRule.{quote_behaves}
 use Rattle.md_leaves.specs.Break.{break_scheme, break_transition}
@@ -33,12 +35,18 @@ use Rattle.md_leaves.specs.BreakRule.{break_behaves}
 use Rattle.md_leaves.specs.Heading.{heading_scheme, heading_transition}
 use Rattle.md_leaves.specs.HeadingRule.{heading_behaves}
 use Rattle.md_leaves.specs.HeadingText.{headings_resolved, is_heading}
+use Rattle.md_leaves.specs.Spanned.{passes}
+use Rattle.md_leaves.specs.declared.spans.Place.TheVariants.{Outside}
 use Rattle.md_seam.specs.Events.Spelled.{FootnoteShape, ItemShape, OrderedShape, QuoteShape, Shape, UnorderedShape}
-use Rattle.md_definition.specs.State.{Container, InFootnote, InItem, InQuote, Leaf}
+use Rattle.md_definition.specs.State.{Container, InFootnote, InItem, InQuote, Leaf, OpenFence}
+use Rattle.md_lines.specs.Fence.{fence_scheme, fence_transition}
+use Rattle.md_lines.specs.FenceRule.{fence_behaves}
 use Rattle.md_seam.specs.Transition.{Transition}
 use Rattle.markdown_blocks.specs.ContainerRules.{ContainerRules}
 use Rattle.markdown_blocks.specs.Containers.BlockQuote.{quote_rules}
 use Rattle.markdown_blocks.specs.Containers.ListItem.{item_rules}
+use Rattle.markdown_blocks.specs.Leaf.Fence.{fence_leaf}
+use Rattle.markdown_blocks.specs.Leaf.FenceFurther.{fence_further, is_fence}
 use Rattle.markdown_blocks.specs.Leaf.HeadingAtx.{heading_leaf}
 use Rattle.markdown_blocks.specs.Leaf.Paragraph.{paragraph_leaf}
 use Rattle.markdown_blocks.specs.Leaf.ThematicBreak.{break_leaf}
@@ -46,35 +54,46 @@ use Rattle.markdown_blocks.specs.LineLeaf.{LineLeaf}
 use Rattle.markdown_blocks.specs.Passed.{Passed}
 use Rattle.markdown_blocks.specs.TextLeaf.{TextLeaf}
 
--- Leaves on one line.
+-- Leaves that take a line: of fenced code and math one takes the opening line, and one each further line.
 
 pub data LeafName : Type 0 where
+  Fence : LeafName
+  FenceFurther : LeafName
   HeadingAtx : LeafName
   ThematicBreak : LeafName
 
 abbrev pub leaf : LeafName → LineLeaf
+leaf Fence = fence_leaf
+leaf FenceFurther = fence_further
 leaf HeadingAtx = heading_leaf
 leaf ThematicBreak = break_leaf
 
 -- the order in which they are tried, behind blank lines and in front of content
 abbrev pub trials : List LeafName
-trials = HeadingAtx ∷ ThematicBreak ∷ []
+trials = Fence ∷ HeadingAtx ∷ ThematicBreak ∷ []
 
 -- The leaf that is asked, in front of blank lines and all others, whether a line goes on the one that it meets: that of
--- a leaf in which no container opens (fences, math, HTML).
+-- a leaf in which no container opens (fences and math; HTML is not built).
 unfoldable pub insider : HeldLeaf → Option LeafName
-insider on = None
+insider on = if is_fence on then Some FenceFurther else None
 
--- Whether a leaf of several lines may be on, so that a resolver joins its lines: none is built.
+-- Whether a leaf of several lines may be on, so that a resolver joins its lines.
 unfoldable pub joins_lines : ParseOptions → Bool
-joins_lines options = false
+joins_lines options = options.constructs.code_fenced || options.constructs.math_flow
+
+-- whether an event stays as it is where lines are joined and lists are put around items
+abbrev pub stays_alone : Event → Bool
+stays_alone e = passes Outside e && passes_lists e
 
 -- the one that takes the further lines of a leaf whose first line this takes
 abbrev pub further_of : LeafName → LeafName
+further_of Fence = FenceFurther
 further_of l = l
 
--- The leaves of several lines that may be open between two lines, but for text: none is built.
+-- The leaves of several lines that may be open between two lines, but for text: fenced code and math that a fence of
+-- enough markers has opened.
 unfoldable pub IsOpenSpan : Leaf → Type 0
+IsOpenSpan (OpenFence o lines) = is_fence (held_leaf.Fence o.marker o.size o.indent) ≡ true
 IsOpenSpan open_leaf = ⊥
 
 -- the first of them that passes a test
@@ -84,14 +103,17 @@ first_of test (l ∷ ls) = if test l then Some l else first_of test ls
 
 -- the leaf that is tried at a state of flow; at no other is one
 abbrev pub tried_at : FlowState → Option LeafName
+tried_at flow.BeforeRaw = Some Fence
 tried_at flow.BeforeHeadingAtx = Some HeadingAtx
 tried_at flow.BeforeThematicBreak = Some ThematicBreak
 tried_at _ = None
 
 -- a number by which each is known
 abbrev pub number : LeafName → ℕ
-number HeadingAtx = 0
-number ThematicBreak = 1
+number Fence = 0
+number FenceFurther = 1
+number HeadingAtx = 2
+number ThematicBreak = 3
 
 -- the leaves that are tried behind one, where it has not taken the line
 abbrev pub behind_in : ℕ → List LeafName → List LeafName
@@ -114,6 +136,8 @@ abbrev pub weight : LeafName → ℕ
 weight l = 6 + 2 * length (behind l)
 
 abbrev pub low_weight : (l : LeafName) → (nat_lt (weight l) 64 ≡ true) × (nat_lt (suc (weight l)) 64 ≡ true)
+low_weight Fence = (refl, refl)
+low_weight FenceFurther = (refl, refl)
 low_weight HeadingAtx = (refl, refl)
 low_weight ThematicBreak = (refl, refl)
 
@@ -287,6 +311,7 @@ abbrev pub construct_owner : StateName → Scheme
 construct_owner (s.BlockQuote state) = quote_scheme
 construct_owner (s.HeadingAtx state) = heading_scheme
 construct_owner (s.ListItem state) = item_scheme
+construct_owner (s.RawFlow state) = fence_scheme
 construct_owner (s.ThematicBreak state) = break_scheme
 construct_owner _ = nowhere
 
@@ -294,6 +319,7 @@ abbrev pub construct_transition : (ResolveName → ResolveName → Bool) → Sta
 construct_transition is_name (s.BlockQuote state) w = quote_transition state w
 construct_transition is_name (s.HeadingAtx state) w = heading_transition (is_name r.HeadingAtx) state w
 construct_transition is_name (s.ListItem state) w = item_transition state w
+construct_transition is_name (s.RawFlow state) w = fence_transition state w
 construct_transition is_name (s.ThematicBreak state) w = break_transition state w
 construct_transition is_name _ w = record { to = Nok; world = w }
 
@@ -301,5 +327,6 @@ abbrev pub construct_behaves : ParseOptions → Behaviour
 construct_behaves options (s.BlockQuote state) cells h = quote_behaves options state cells h
 construct_behaves options (s.HeadingAtx state) cells h = heading_behaves options state cells h
 construct_behaves options (s.ListItem state) cells h = item_behaves options state cells h
+construct_behaves options (s.RawFlow state) cells h = fence_behaves options state cells h
 construct_behaves options (s.ThematicBreak state) cells h = break_behaves options state cells h
 construct_behaves options _ cells h = Refuses h.scratch h.flags

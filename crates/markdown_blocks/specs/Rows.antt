@@ -18,13 +18,12 @@ use Rattle.md_leaves.specs.BlankRule.{blank_events}
 use Rattle.md_seam.specs.declared.inline.Chunk.{Chunk}
 use Rattle.md_seam.specs.Ahead.{from_ending, line_bytes, line_end}
 use Rattle.md_seam.specs.Look.{first_seen}
-use Rattle.md_seam.specs.Spaces.{ends_line}
 use Rattle.md_seam.specs.Events.Inline.{plain_chunk}
 use Rattle.md_seam.specs.Events.Places.{past_text}
 use Rattle.md_seam.specs.Events.Nested.{around, enter_link, exit, pair}
 use Rattle.md_definition.specs.Rest.{Rest, is_blank}
 use Rattle.md_definition.specs.State.{Container}
-use Rattle.markdown_blocks.specs.LineFlags.{ending_name}
+use Rattle.markdown_blocks.specs.LineFlags.{ending_name, nothing_stands}
 use Rattle.markdown_blocks.specs.Passed.{Passed}
 use Rattle.markdown_blocks.specs.Registry.{LeafName, first_of, goes_at, insider, leaf, opens_at, text_leaf, trials}
 use Rattle.markdown_blocks.specs.Change.{Change, change_by, ends_of, interrupts, is_none, met, open_behind, others_of}
@@ -47,9 +46,9 @@ pub record Row : Type 0 where
   pub change : Change
   -- those that end behind it, the outermost first
   pub leaves : List Container
-  -- behind its containers: where it begins, whether it ends there too, what flow adds for it unless it is text (the
-  -- whitespace of a blank line, or a leaf from its begin to its end), where its ending begins, and where it has ended,
-  -- if it has an ending
+  -- behind its containers: where it begins, whether it ends there too and no prefix stands in front, what flow adds for
+  -- it unless it is text (the whitespace of a blank line, or a leaf from its begin to its end), where its ending
+  -- begins, and where it has ended, if it has an ending
   pub first : Point
   pub empty : Bool
   pub inside : List Event
@@ -205,7 +204,7 @@ row_of options h below = record {
   change = h.change;
   leaves = closes_before (open_behind h.change) below;
   first = h.point;
-  empty = ends_line (first_seen h.cells);
+  empty = nothing_stands (first_seen h.cells) h.point;
   inside = inside_of options h.on h.cells h.point (row_kind options h.on h.cells);
   end = line_end h.cells h.point;
   after = after_ending (from_ending h.cells);
@@ -239,12 +238,12 @@ ending_events name row = elim row.after [ None ↦ [] | Some q ↦ pair name row
 abbrev pub tail_events : Name → Row → List Event
 tail_events name row = ends_of row.leaves row.end ++ ending_events name row
 
--- whether nothing at all stands on the rest of a line
+-- whether nothing stands on the rest of a line
 abbrev pub is_empty_row : Row → Bool
 is_empty_row row = row.first.index == row.end.index
 
--- whether a line is blank to its ending: so is a line of a leaf on which nothing stands, as an empty one of fenced
--- code; a line of text never is
+-- whether a line is blank to its ending: so is a line of a leaf on which nothing at all stands, no prefix either, as an
+-- empty one of fenced code; a line of text never is
 abbrev pub is_blank_by : RowKind → Row → Bool
 is_blank_by BlankRow row = true
 is_blank_by (LeafRow l) row = row.empty

@@ -9,3 +9,4 @@ pub use md_content::{content, paragraph};
 pub use md_leaves::{
     blank_line, heading_atx, partial_bom, partial_non_lazy_continuation, thematic_break,
 };
+pub use md_lines::raw_flow;

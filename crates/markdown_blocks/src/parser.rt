@@ -1,12 +1,15 @@
 // From a text to events.
 
-ghost use Rattle.std.specs.Prelude.{◌≡◌, ◌++◌, IfOk, OnOk, []};
+ghost use Rattle.std.specs.Prelude.{◌≡◌, ◌≤◌, ◌++◌, IfOk, OnOk, [], length};
+ghost use Rattle.std.specs.List.{prefix_len};
+ghost use Rattle.md_containers.specs.Listed.{listed};
 ghost use Rattle.md_engine.specs.Found.{found_in};
 ghost use Rattle.md_engine.specs.Place.{IsPlaced};
 ghost use Rattle.md_engine.specs.World.{fresh, world};
 ghost use Rattle.markdown_blocks.specs.Document.{ReadsMark};
 ghost use Rattle.markdown_blocks.specs.FlowReads.{FlowReads, lines_joined};
 ghost use Rattle.markdown_blocks.specs.Parsed.{IsBuilt, IsParsed, IsSmall};
+ghost use Rattle.markdown_blocks.specs.Registry.{stays_alone};
 ghost use Rattle.markdown_blocks.specs.TextReads.{text_kind, wants_text};
 
 use crate::construct::document::DocumentTable;
@@ -150,6 +153,40 @@ fn join_lines(tokenizer: &mut Tokenizer, options: &ParseOptions) -> Result<(), M
     Ok(())
 }
 
+/// How many events stand in front of the first that may not stay as it is where lines are joined and lists are put
+/// around items.
+fn until_grouped(events: &[Event]) -> usize
+    ensures value { result ≡ prefix_len stays_alone events.now }
+    ensures within { result ≤ length events.now }
+{
+    for (at, event) in events.iter().enumerate() {
+        if !registry::stays_alone(event) {
+            return at;
+        }
+    }
+    events.len()
+}
+
+/// Joins the lines of each leaf of several, and puts lists around items. Where neither stands, one look at each event
+/// tells so.
+///
+/// An `Err` says that memory ran out.
+fn group_blocks(tokenizer: &mut Tokenizer, options: &ParseOptions) -> Result<(), Message>
+    requires { (world tokenizer.old).frames ≡ [] }
+    ensures { OnOk result
+        (world tokenizer.new ≡
+        record (world tokenizer.old) {
+          events = listed (world tokenizer.old).setting.bytes (lines_joined options.now (world tokenizer.old).events);
+        }) }
+{
+    if until_grouped(&tokenizer.events) == tokenizer.events.len() {
+        return Ok(());
+    }
+    join_lines(tokenizer, options)?;
+    resolve::call(tokenizer, ResolveName::ListItem)?;
+    Ok(())
+}
+
 /// Reads the lines of a text from a point on by flow, and then its content; joins the lines of each leaf of several, and
 /// puts lists around items.
 ///
@@ -171,8 +208,7 @@ fn read_flow<'a>(
         end => end,
     };
     let found = flush::<FlowTable>(&mut tokenizer, end, true)?;
-    join_lines(&mut tokenizer, options)?;
-    resolve::call(&mut tokenizer, ResolveName::ListItem)?;
+    group_blocks(&mut tokenizer, options)?;
     Ok((tokenizer, found))
 }
 
@@ -191,9 +227,9 @@ fn behind_mark(mut mark: Vec<Event>, mut body: Vec<Event>) -> Result<Vec<Event>,
 
 /// Reads a text: its events, and what else is known of it.
 ///
-/// The text has at most `usize::MAX / 8` bytes, and of the constructs block quotes, list items, ATX headings and breaks
-/// alone may be on. A byte order mark in front of the text is taken as such. An `Err` says that memory ran out; then
-/// nothing is handed out.
+/// The text has at most `usize::MAX / 8` bytes, and of the constructs block quotes, list items, fenced code and math, ATX
+/// headings and breaks alone may be on. A byte order mark in front of the text is taken as such. An `Err` says that
+/// memory ran out; then nothing is handed out.
 pub fn parse<'a>(
     alloc: Global,
     value: &'a str,

@@ -24,7 +24,8 @@ use md_seam::names::is_block;
 use std::alloc::Global;
 
 /// Whether these events are of an item.
-fn is_item(name: Name) -> bool
+#[inline(always)]
+pub fn is_item(name: Name) -> bool
     ensures { result ≡ is_item (role name) }
 {
     matches!(name, Name::ListItem)

@@ -100,7 +100,8 @@ fn is_renamed(place: Place, name: Name) -> bool
 }
 
 /// Whether an event passes a place as it is.
-fn passes(place: Place, event: &Event) -> bool
+#[inline(always)]
+pub fn passes(place: Place, event: &Event) -> bool
     ensures { result ≡ passes place event.now }
 {
     !has_lines(event.name) && !is_renamed(place, event.name)

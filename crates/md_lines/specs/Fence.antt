@@ -1,6 +1,6 @@
 -- Fenced code and math.
 use Rattle.std.specs.Prelude.{refl, ℕ, ◌+◌, ◌-◌, ◌≤◌, Bool, true, false, ◌&&◌, ◌||◌, ◌==◌, not, if◌then◌else◌}
-use Rattle.std.specs.Prelude.{nat_lt, Option, Some, None}
+use Rattle.std.specs.Prelude.{nat_le, nat_lt, Option, Some, None}
 use Rattle.md_engine.specs.declared.configuration.ParseOptions.{ParseOptions}
 use Rattle.md_engine.specs.declared.event.Content.TheVariants as content
 use Rattle.md_engine.specs.declared.event.Link.{Link}
@@ -57,6 +57,10 @@ held_size _ = 0
 abbrev pub held_indent : HeldLeaf → ℕ
 held_indent (held_leaf.Fence m size indent) = indent
 held_indent _ = 0
+
+-- whether this is fenced code or math: its fence has a marker of such a block, and enough of it
+abbrev pub is_open : HeldLeaf → Bool
+is_open on = may_begin (held_marker on) && nat_le (least_size (held_marker on)) (held_size on)
 
 abbrev pub string_link : Link
 string_link = record { previous = false; next = false; content = content.String }

@@ -29,7 +29,7 @@ ghost use Rattle.md_lines.specs.Fence.{before_content_chunk_transition, before_s
 ghost use Rattle.md_lines.specs.Fence.{before_sequence_open_transition, block_name, chunk_name, cleared};
 ghost use Rattle.md_lines.specs.Fence.{close_start_transition, content_chunk_transition, content_start_transition};
 ghost use Rattle.md_lines.specs.Fence.{fence_name, fence_transition, held_indent, held_marker, held_size};
-ghost use Rattle.md_lines.specs.Fence.{info_before_transition, info_transition, is_refused, may_begin};
+ghost use Rattle.md_lines.specs.Fence.{info_before_transition, info_transition, is_open, is_refused, may_begin};
 ghost use Rattle.md_lines.specs.Fence.{meta_before_transition, meta_name, meta_transition};
 ghost use Rattle.md_lines.specs.Fence.{sequence_close_after_transition, sequence_close_transition, sequence_name};
 ghost use Rattle.md_lines.specs.Fence.{sequence_open_transition, start_transition};
@@ -182,6 +182,14 @@ pub fn may_begin(first: Option<u8>) -> bool
     ensures { result ≡ may_with may_begin first }
 {
     matches!(first, None | Some(b'`' | b'~' | b'$'))
+}
+
+/// Whether this is a block that is open: its fence has a marker of such a block, and enough of it.
+pub fn is_open(leaf: HeldLeaf) -> bool
+    ensures { result ≡ is_open leaf }
+{
+    let marker = held_marker(leaf);
+    may_begin(Some(marker)) && held_size(leaf) >= least_size(marker)
 }
 
 /// Before an opening sequence and its indent.

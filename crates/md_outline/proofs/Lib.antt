@@ -4,6 +4,7 @@ pub mod FirstLine
 pub mod HeadingLemmas
 pub mod LinedLemmas
 pub mod LinedLines
+pub mod LinesPass
 pub mod ListLemmas
 pub mod OutlineAgrees
 pub mod OutlineDepths

@@ -30,7 +30,7 @@ use Rattle.md_outline.specs.ListsBegin.{AllTold, MayFollow, Stage, stage_by}
 use Rattle.md_outline.specs.Outlined.{is_unparted, parts_by}
 use Rattle.md_outline.specs.OutlineSteps.{OutlineState, fence_begun, head_marked, line_ended, parted_at, state_by}
 use Rattle.md_outline.specs.OutlineSteps.{state_enter, state_exit, told, told_at, told_leaf}
-use Rattle.md_outline.specs.Roles.{has_lines, is_listed, is_shown, shown_as}
+use Rattle.md_outline.specs.Roles.{has_lines, is_shown, shown_as}
 use Rattle.md_outline.specs.declared.outline.Span.{Span}
 use Rattle.md_outline.specs.declared.outline.lined.Lined.{Lined}
 use Rattle.md_outline.specs.declared.outline.role.Note.TheVariants as note
@@ -934,24 +934,3 @@ pub sites-closed : (bytes : List ℕ) (site : Site) (stage : Stage) (s : Outline
     is_unparted s.text ≡ true → LinesStand bytes site [] → AgreesWithin site stage s r → s.lines ≡ outline 0 r.here
 sites-closed bytes Outside stage s r e k lines is = lines-closed stage s r e k is
 sites-closed bytes _ stage s r e k lines is = absurd lines
-
--- no such leaf block begins
-pub stands-listed : (bytes : List ℕ) (kind : Kind) (x : spelled.Role) (p : Point) → is_listed x ≡ true →
-    MayStand bytes Outside kind x p
-stands-listed bytes Enter (Opens leaf) p h = tt
-stands-listed bytes Exit (Opens OfCode) p h = absurd (true≢false (sym h))
-stands-listed bytes Exit (Opens OfFence) p h = absurd (true≢false (sym h))
-stands-listed bytes Exit (Opens OfMath) p h = absurd (true≢false (sym h))
-stands-listed bytes kind IsFence p h = absurd (true≢false (sym h))
-stands-listed bytes kind (Tells AsLine) p h = absurd (true≢false (sym h))
-stands-listed bytes kind (Tells AsInfo) p h = absurd (true≢false (sym h))
-stands-listed bytes kind (Tells AsMeta) p h = absurd (true≢false (sym h))
-stands-listed bytes kind x p h = tt
-
-pub site-listed : (bytes : List ℕ) (kind : Kind) (x : spelled.Role) (p : Point) → is_listed x ≡ true →
-    site_by bytes Outside kind x p ≡ Outside
-site-listed bytes Enter (Opens OfCode) p h = absurd (true≢false (sym h))
-site-listed bytes Enter (Opens OfFence) p h = absurd (true≢false (sym h))
-site-listed bytes Enter (Opens OfMath) p h = absurd (true≢false (sym h))
-site-listed bytes Enter _ p h = refl
-site-listed bytes Exit _ p h = refl

@@ -25,14 +25,14 @@ use Rattle.md_seam.specs.Events.Spelled as spelled
 use Rattle.md_outline.specs.Between.{is_between}
 use Rattle.md_outline.specs.HeadingDepths.{are_shallow, fits}
 use Rattle.md_outline.specs.ListsBegin.{AllTold, ListsBegin, Stage, stage_by}
-use Rattle.md_outline.specs.Outlined.{IsOutlined, IsUnlisted, are_parted, has_listed_name, has_plain_name}
-use Rattle.md_outline.specs.Outlined.{has_shown_name, parts_by, span_by, tells_between}
+use Rattle.md_outline.specs.Outlined.{IsOutlined, IsUnlisted, are_parted, has_shown_name}
+use Rattle.md_outline.specs.Outlined.{has_unlisted_name, parts_by, span_by, tells_between}
 use Rattle.md_outline.specs.OutlineSteps.{BeginsBetween, IsCutAt, OutlineState, before_all, leaf_ended, parted_at}
 use Rattle.md_outline.specs.OutlineSteps.{state_after, state_by, told_at, told_leaf}
 use Rattle.md_outline.specs.LinesStand.{LinesStand, Outside, Site, site_by}
 use Rattle.md_outline.specs.OutlineSteps.{head_marked, marked_at, told}
 use Rattle.md_outline.specs.ParagraphState.{begin_entries}
-use Rattle.md_outline.specs.Roles.{is_listed, is_plain, is_shown, is_told, shown_as}
+use Rattle.md_outline.specs.Roles.{is_shown, is_told, is_unlisted, shown_as}
 use Rattle.md_outline.specs.TextLines.{full_entries, text_entries}
 use Rattle.md_outline.specs.declared.outline.role.Note.{Note}
 use Rattle.md_outline.specs.declared.outline.role.Note.TheVariants as note
@@ -41,8 +41,8 @@ use Rattle.md_outline.specs.declared.outline.role.Purpose.TheVariants as purpose
 use Rattle.md_outline.specs.declared.outline.role.Role.{Role}
 use Rattle.md_outline.specs.declared.outline.Span.{Span}
 use Rattle.md_outline.proofs.BlocksStay.{AllHold, blocks-stay, outer_hold}
-use Rattle.md_outline.proofs.LinedLemmas.{AgreesWithin, agrees-site, site-listed, sites-closed, span-fenced}
-use Rattle.md_outline.proofs.LinedLemmas.{span-headed, span-line, stands-listed}
+use Rattle.md_outline.proofs.LinedLemmas.{AgreesWithin, agrees-site, sites-closed, span-fenced}
+use Rattle.md_outline.proofs.LinedLemmas.{span-headed, span-line}
 use Rattle.md_outline.proofs.OutlineDepths.{all-closed}
 use Rattle.md_outline.proofs.RoleLemmas.{ByRole, by-role}
 use Rattle.md_outline.proofs.TextCuts.{utf8-part}
@@ -170,63 +170,33 @@ outline-spelled bytes events out =
 
 -- Events without lists.
 
-stays-told : (kind : Kind) (x : spelled.Role) (p : Point) → is_plain x ≡ true → stage_by AllTold kind x p ≡ AllTold
+stays-told : (kind : Kind) (x : spelled.Role) (p : Point) → is_unlisted x ≡ true → stage_by AllTold kind x p ≡ AllTold
 stays-told Enter (Holds OrderedShape) p h = absurd (true≢false (sym h))
 stays-told Enter (Holds UnorderedShape) p h = absurd (true≢false (sym h))
 stays-told Enter _ p h = refl
 stays-told Exit _ p h = refl
 
-listed-plain : (x : spelled.Role) → is_plain x ≡ true → is_listed x ≡ true
-listed-plain (Holds OrderedShape) h = refl
-listed-plain (Holds UnorderedShape) h = refl
-listed-plain x h = h
+shown-unlisted : (x : spelled.Role) → is_unlisted x ≡ true → is_shown x ≡ true
+shown-unlisted (Holds OrderedShape) h = refl
+shown-unlisted (Holds UnorderedShape) h = refl
+shown-unlisted x h = h
 
-shown-listed : (x : spelled.Role) → is_listed x ≡ true → is_shown x ≡ true
-shown-listed (Opens OfCode) h = refl
-shown-listed (Opens OfFence) h = refl
-shown-listed (Opens OfMath) h = refl
-shown-listed IsFence h = refl
-shown-listed (Tells AsLine) h = refl
-shown-listed (Tells AsInfo) h = refl
-shown-listed (Tells AsMeta) h = refl
-shown-listed x h = h
-
-names-stay : (p q : spelled.Role → Bool) (events : List Event) → ((x : spelled.Role) → p x ≡ true → q x ≡ true) →
-    list_all (λ (e : Event). p (spelled.role e.name)) events ≡ true →
-    list_all (λ (e : Event). q (spelled.role e.name)) events ≡ true
-names-stay p q [] f h = refl
-names-stay p q (e ∷ events) f h =
-    let names = and_parts (p (spelled.role e.name)) (list_all (λ (e : Event). p (spelled.role e.name)) events) h in
-    and_from (q (spelled.role e.name)) (list_all (λ (e : Event). q (spelled.role e.name)) events)
-    (f (spelled.role e.name) names.0) (names-stay p q events f names.1)
-
-pub names-plain : (events : List Event) → list_all has_plain_name events ≡ true →
-    list_all has_listed_name events ≡ true
-names-plain events h = names-stay is_plain is_listed events listed-plain h
-
-pub names-listed : (events : List Event) → list_all has_listed_name events ≡ true →
+pub names-shown : (events : List Event) → list_all has_unlisted_name events ≡ true →
     list_all has_shown_name events ≡ true
-names-listed events h = names-stay is_listed is_shown events shown-listed h
+names-shown [] h = refl
+names-shown (e ∷ events) h =
+    let names = and_parts (has_unlisted_name e) (list_all has_unlisted_name events) h in
+    and_from (has_shown_name e) (list_all has_shown_name events) (shown-unlisted (spelled.role e.name) names.0)
+    (names-shown events names.1)
 
--- no leaf block of several lines stands among such events
-pub lines-none : (bytes : List ℕ) (events : List Event) → list_all has_listed_name events ≡ true →
-    LinesStand bytes Outside events
-lines-none bytes [] h = tt
-lines-none bytes (e ∷ events) h =
-    let names = and_parts (has_listed_name e) (list_all has_listed_name events) h in (
-      stands-listed bytes e.kind (spelled.role e.name) e.point names.0,
-      subst (λ site. LinesStand bytes site events)
-          (sym (site-listed bytes e.kind (spelled.role e.name) e.point names.0)) (lines-none bytes events names.1),
-    )
-
-lists-plain : (bytes : List ℕ) (events : List Event) → list_all has_plain_name events ≡ true →
+lists-none : (bytes : List ℕ) (events : List Event) → list_all has_unlisted_name events ≡ true →
     ListsBegin bytes AllTold events
-lists-plain bytes [] h = tt
-lists-plain bytes (e ∷ events) h =
-    let names = and_parts (has_plain_name e) (list_all has_plain_name events) h in (
+lists-none bytes [] h = tt
+lists-none bytes (e ∷ events) h =
+    let names = and_parts (has_unlisted_name e) (list_all has_unlisted_name events) h in (
       tt,
       subst (λ stage. ListsBegin bytes stage events) (sym (stays-told e.kind (spelled.role e.name) e.point names.0))
-          (lists-plain bytes events names.1),
+          (lists-none bytes events names.1),
     )
 
 -- they are shown as they are
@@ -234,13 +204,13 @@ pub unlisted-outlined : (bytes : List ℕ) (events : List Event) → IsUnlisted 
     are_shallow (spelled events bytes) ≡ true → IsOutlined events bytes
 unlisted-outlined bytes events is balanced depths = record {
   balanced = balanced;
-  names = names-listed events (names-plain events is.names);
+  names = names-shown events is.names;
   text = is.text;
   between = is.between;
   texts = is.texts;
   parted = is.parted;
-  lists = lists-plain bytes events is.names;
-  lines = lines-none bytes events (names-plain events is.names);
+  lists = lists-none bytes events is.names;
+  lines = is.lines;
   depths = depths;
 }
 

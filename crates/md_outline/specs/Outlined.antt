@@ -19,24 +19,20 @@ use Rattle.md_outline.specs.Between.{is_between}
 use Rattle.md_outline.specs.HeadingDepths.{are_shallow}
 use Rattle.md_outline.specs.ListsBegin.{AllTold, ListsBegin}
 use Rattle.md_outline.specs.LinesStand.{LinesStand, Outside}
-use Rattle.md_outline.specs.Roles.{has_lines, is_block, is_listed, is_plain, is_shown, is_told}
+use Rattle.md_outline.specs.Roles.{has_lines, is_block, is_shown, is_told, is_unlisted}
 use Rattle.md_outline.specs.declared.outline.Span.{Span}
 
 -- whether an event is of such a block, or of what the tree does not show
 abbrev pub has_shown_name : Event → Bool
 has_shown_name e = is_shown (role e.name)
 
--- and of no list (`is_plain`)
-abbrev pub has_plain_name : Event → Bool
-has_plain_name e = is_plain (role e.name)
+-- and of no list (`is_unlisted`)
+abbrev pub has_unlisted_name : Event → Bool
+has_unlisted_name e = is_unlisted (role e.name)
 
 -- whether a text begins between characters here, behind a tab that is cut
 abbrev pub tells_between : List ℕ → Event → Bool
 tells_between bytes e = not (is_told (role e.name)) || is_between bytes (byte_at e.point)
-
--- and of no leaf block of several lines (`is_listed`)
-abbrev pub has_listed_name : Event → Bool
-has_listed_name e = is_listed (role e.name)
 
 -- Container prefixes in a text: they part it into pieces, which an outline shows one by one. So each line of the text
 -- has to lie in one piece.
@@ -105,12 +101,14 @@ are_parted bytes text (e ∷ es) =
 
 -- events of such roles but lists, between characters of a text
 pub record IsUnlisted (events : List Event) (bytes : List ℕ) : Type 0 where
-  pub names : list_all has_plain_name events ≡ true
+  pub names : list_all has_unlisted_name events ≡ true
   pub text : IsUtf8 bytes
   pub between : list_all (λ (e : Event). is_between bytes e.point.index) events ≡ true
   pub texts : list_all (tells_between bytes) events ≡ true
   -- each container prefix in a text stands where a line begins
   pub parted : are_parted bytes None events ≡ true
+  -- each leaf block of several lines has its parts in the order of the grammar
+  pub lines : LinesStand bytes Outside events
 
 -- events of all such roles
 pub record IsOutlined (events : List Event) (bytes : List ℕ) : Type 0 where

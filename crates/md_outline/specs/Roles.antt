@@ -8,8 +8,8 @@
 --   `mark` in code, and `ListsBegin` and `ListLemmas`.
 -- - A leaf block: the same, and what is known of it: `leaf_of` and `is_known` here, `Leaf` with `noted` and `push_leaf`
 --   in code.
--- - A leaf block of several lines (`has_lines`): `is_shown` and `shown_as` here, `role_of` in code; its lines are shown
---   as they come (`LinedState`), where they may (`LinesStand`), and `LinedLemmas` has what is proved of it.
+-- - A leaf block of several lines (`has_lines`): `is_unlisted` and `shown_as` here, `role_of` in code; its lines are
+--   shown as they come (`LinedState`), where they may (`LinesStand`), and `LinedLemmas` has what is proved of it.
 -- - A text that tells a leaf block something: the same, and `told_as` here, `Note` in code.
 use Rattle.std.specs.Prelude.{ℕ, Bool, true, false, List, None}
 use Rattle.md_definition.specs.declared.outline.Word.TheVariants as word
@@ -48,7 +48,7 @@ is_plain IsEnding = true
 is_plain IsQuiet = true
 is_plain _ = false
 
--- these, and those of lists
+-- the plain ones, and those of lists
 abbrev pub is_listed : spelled.Role → Bool
 is_listed (Holds OrderedShape) = true
 is_listed (Holds UnorderedShape) = true
@@ -61,16 +61,22 @@ has_lines OfFence = true
 has_lines OfMath = true
 has_lines _ = false
 
--- those above, and those of such leaf blocks and their parts
+-- the plain ones, and those of such leaf blocks and their parts: all that are shown, but those of lists
+abbrev pub is_unlisted : spelled.Role → Bool
+is_unlisted (Opens OfCode) = true
+is_unlisted (Opens OfFence) = true
+is_unlisted (Opens OfMath) = true
+is_unlisted IsFence = true
+is_unlisted (Tells AsLine) = true
+is_unlisted (Tells AsInfo) = true
+is_unlisted (Tells AsMeta) = true
+is_unlisted x = is_plain x
+
+-- all that an outline shows
 abbrev pub is_shown : spelled.Role → Bool
-is_shown (Opens OfCode) = true
-is_shown (Opens OfFence) = true
-is_shown (Opens OfMath) = true
-is_shown IsFence = true
-is_shown (Tells AsLine) = true
-is_shown (Tells AsInfo) = true
-is_shown (Tells AsMeta) = true
-is_shown x = is_listed x
+is_shown (Holds OrderedShape) = true
+is_shown (Holds UnorderedShape) = true
+is_shown x = is_unlisted x
 
 -- the texts that are blocks of their own
 abbrev pub is_block : spelled.Purpose → Bool

@@ -1,14 +1,15 @@
 -- What is known of the prefix of a block quote.
 use Rattle.std.proofs.Common.{◌-◌, ℕ, ◌≡◌, true, refl, sym, subst, arith, suc, Bool, false, cond, List, [], ◌∷◌, ◌++◌}
-use Rattle.std.proofs.Common.{◌∙◌, append_assoc, ◌≤◌, ◌≢◌}
-use Rattle.std.specs.Prelude.{slice_index, IsTrue}
+use Rattle.std.proofs.Common.{◌∙◌, append_assoc, ◌<◌, ◌≤◌, ◌≢◌}
+use Rattle.std.specs.Prelude.{◌==◌, slice_index, IsTrue}
 use Rattle.md_seam.specs.Events.Prefix.{is_prefix}
 use Rattle.markdown_blocks.proofs.EachEvent.{each-append}
 use Rattle.markdown_blocks.proofs.BetweenFacts.{AreBetween, between-append, between-before, between-behind}
 use Rattle.markdown_blocks.proofs.BetweenFacts.{between-more, between-unless, is_low, white-between}
 use Rattle.std.proofs.lemmas.Option.{get_or_from_slice_get}
-use Rattle.markdown_blocks.proofs.PrefixFacts.{Continues, Opens, PrefixFacts, begins}
+use Rattle.markdown_blocks.proofs.PrefixFacts.{Continues, Opens, PrefixFacts, begins, is_bare}
 use Rattle.markdown_blocks.proofs.PrefixNames.{ArePrefixes, prefixes-front, prefixes-roles, IsNamed}
+use Rattle.std.proofs.lemmas.Bool.{ne_eqb}
 use Rattle.std.proofs.lemmas.Bool.Decides.{nat_tests}
 use Rattle.md_engine.specs.declared.event.Event.{Event}
 use Rattle.md_engine.specs.declared.event.Name.TheVariants as n
@@ -209,10 +210,18 @@ prefix-facts bytes p q es is = record {
   between = λ from. prefix-between bytes p q es from is;
 }
 
+-- there are some, and they take columns
+some-bare : (es : List Event) (a b : ℕ) → es ≢ [] → a < b → is_bare es ≡ (b == a)
+some-bare [] a b some less = absurd (some refl)
+some-bare (e ∷ es) a b some less = sym (ne_eqb b a (λ same. omega (arith, same)))
+
 -- where a quote goes on, and where it opens
-pub quote-continues : (bytes : List ℕ) (p q : Point) (es : List Event) → IsPrefix bytes p q es → Continues bytes p q es
-quote-continues bytes p q es is = record {
+pub quote-continues : (bytes : List ℕ) (p q : Point) (es : List Event) → IsPrefix bytes p q es → p.column < q.column →
+    Continues bytes p q es
+quote-continues bytes p q es is less = record {
   common = prefix-facts bytes p q es is;
+  onward = omega (arith, less);
+  bare = some-bare es p.column q.column (prefix-some bytes p q es is) less;
   names = prefix-are bytes p q es is;
   stays = prefix-stays bytes p q es is;
   parted = prefix-parted bytes p q es is;

@@ -1,6 +1,7 @@
 -- A block quote goes on and opens by the cells of a line where it does by its bytes.
-use Rattle.std.proofs.Common.{◌≡◌, ℕ, Bool, true, false, cond, ◌&&◌, List, ◌∷◌, ◌++◌, Option, Some, None, refl, sym}
-use Rattle.std.proofs.Common.{subst, arith}
+use Rattle.std.proofs.Common.{◌≡◌, ℕ, zero, suc, ◌+◌, ◌-◌, ◌%◌, ◌<◌, ◌≤◌, Bool, true, false, cond, ◌&&◌, List, [], ◌∷◌}
+use Rattle.std.proofs.Common.{◌++◌, Option, Some, None, refl, sym, subst, arith}
+use Rattle.std.specs.Prelude.{◌==◌}
 use Rattle.md_engine.specs.declared.configuration.ParseOptions.{ParseOptions}
 use Rattle.md_engine.specs.declared.event.Event.{Event}
 use Rattle.md_engine.specs.declared.event.Point.{Point}
@@ -10,7 +11,8 @@ use Rattle.md_containers.specs.QuoteRule.{prefix_end, prefix_events, prefix_rest
 use Rattle.md_containers.proofs.QuoteLines.{HasPrefix, PrefixIs, prefix-agrees, quote-container, quote-no_ending}
 use Rattle.md_definition.specs.Containers.{Taken, opens_quote, quote_taken}
 use Rattle.md_seam.specs.Events.Nested.{enter}
-use Rattle.md_definition.specs.Rest.{Rest}
+use Rattle.md_definition.specs.Lines.{begins_with}
+use Rattle.md_definition.specs.Rest.{Rest, behind, behind_indent, has_small_indent, indent, lose, without_column}
 use Rattle.md_definition.specs.State.{InQuote}
 use Rattle.md_seam.proofs.RestCells.{past_rest, rest_cells}
 use Rattle.md_engine.specs.declared.tokenizer.container.name.ContainerKind.TheVariants as kind
@@ -22,6 +24,9 @@ use Rattle.markdown_blocks.proofs.ContainerLaws.{ByRest}
 use Rattle.markdown_blocks.proofs.PassedFacts.{Agree, HasFurther, HasOpening, HasPassed}
 use Rattle.markdown_blocks.proofs.BlockQuote.Facts.{quote-continues, quote-opens}
 use Rattle.md_engine.specs.declared.event.Name.TheVariants as n
+
+abbrev rest : ℕ → ℕ → List ℕ → Rest
+rest column spaces bytes = record { column = column; spaces = spaces; bytes = bytes }
 
 -- what a quote leaves, whether its begin stands in front of its prefix or not
 quote-passes : (options : ParseOptions) (line : Line) (text past : List ℕ) (r : Rest) (end : Point)
@@ -66,6 +71,46 @@ by-prefix Has passed options line text past r stop p is h k short found =
     go None e none = subst (λ (x : Bool). By x None) (sym none) tt
     go (Some t) e has = subst (λ (x : Bool). By x (Some t)) (sym has.takes) (found t e has)
 
+-- it takes a column at least
+without-onward : (column spaces : ℕ) (bytes : List ℕ) → column ≤ (without_column column spaces bytes).column
+without-onward column (suc spaces) bytes = omega arith
+without-onward column zero [] = omega arith
+without-onward column zero (b ∷ bs) = go (b == 9) (b == 32)
+  where
+    go : (x y : Bool) →
+        column ≤
+        (cond x (rest (column + 1) (4 - column % 4 - 1) bs)
+        (cond y (rest (column + 1) 0 bs) (rest column 0 (b ∷ bs)))).column
+    go true y = omega arith
+    go false true = omega arith
+    go false false = omega arith
+
+lose-onward : (n : ℕ) (r : Rest) → r.column ≤ (lose n r).column
+lose-onward zero r = omega arith
+lose-onward (suc n) r =
+    omega (
+      arith,
+      without-onward r.column r.spaces r.bytes,
+      lose-onward n (without_column r.column r.spaces r.bytes),
+    )
+
+quote-onward : (options : ParseOptions) (r : Rest) (t : Taken) → quote_taken options r ≡ Some t →
+    r.column < t.rest.column
+unfolding quote_taken
+quote-onward options r t e =
+    subst Onward e (marked (has_small_indent options r && begins_with 62 (behind_indent r).bytes))
+  where
+    Onward : Option Taken → Type 0
+    Onward None = Unit {0}
+    Onward (Some s) = r.column < s.rest.column
+
+    left : Rest
+    left = lose 1 (behind 1 (behind_indent r))
+
+    marked : (x : Bool) → Onward (cond x (Some (record { container = InQuote; rest = left })) None)
+    marked true = omega (arith, lose-onward (indent r) r, lose-onward 1 (behind 1 (behind_indent r)))
+    marked false = tt
+
 -- a quote goes on
 pub quote-goes : (options : ParseOptions) → ByRest (λ line text past r stop p.
     let cells = rest_cells line r p ++ stop in
@@ -86,7 +131,9 @@ quote-goes options line text past r stop p is h k short =
         let es = prefix_events options cells p in
         record {
           passes = quote-passes options line text past r (past_rest r p) stop cells p es t h e has;
-          further = quote-continues text p (prefix_end options cells p) es has.prefix;
+          further =
+              quote-continues text p (prefix_end options cells p) es has.prefix
+              (omega (arith, is.column, has.stands.column, quote-onward options r t e));
         }
 
 -- a quote opens, if quotes are on

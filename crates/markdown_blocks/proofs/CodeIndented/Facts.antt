@@ -8,10 +8,11 @@ use Rattle.md_engine.specs.declared.event.Point.{Point}
 use Rattle.md_definition.specs.Leaves.{code_line}
 use Rattle.md_definition.specs.Rest.{Rest, indent, is_blank, lose}
 use Rattle.md_definition.specs.Tree.{Line}
-use Rattle.md_outline.specs.Roles.{is_plain, is_told}
+use Rattle.md_outline.specs.LinesStand.{AtLine, Site}
+use Rattle.md_outline.specs.Roles.{is_told}
 use Rattle.md_seam.specs.Events.Grammar.{Expression, plain_text, unread_text}
-use Rattle.md_seam.specs.Events.Nested.{enter, exit, pair}
-use Rattle.md_seam.specs.Events.Spelled.{AsLine, CodeLeaf, OfCode, OpenLeaf, Opens, Tells, empty_line, fresh, role}
+use Rattle.md_seam.specs.Events.Nested.{pair}
+use Rattle.md_seam.specs.Events.Spelled.{CodeLeaf, OfCode, OpenLeaf, empty_line, fresh, role}
 use Rattle.md_seam.proofs.GrammarLemmas.{Leads}
 use Rattle.markdown_blocks.specs.Fronted.{rest_line}
 use Rattle.markdown_blocks.specs.Leaf.CodeIndented.{code_parts}
@@ -22,13 +23,14 @@ use Rattle.markdown_blocks.proofs.CodeIndented.Grammar.{line_left}
 use Rattle.markdown_blocks.proofs.CodeIndented.Grammar.{parts-stay}
 use Rattle.markdown_blocks.proofs.CodeIndented.Parts.{code-inside}
 use Rattle.markdown_blocks.proofs.CodeIndented.Reads.{parts-read}
+use Rattle.markdown_blocks.proofs.FenceSpan.Sites.{is_told_of, line_site, lost-passes}
 use Rattle.markdown_blocks.proofs.LostLine.Parts.{inside-filled, inside-parts, inside-stands}
 use Rattle.markdown_blocks.proofs.LostLine.Placed.{Placed, in-line, lost-placed}
 use Rattle.markdown_blocks.proofs.LostLine.Places.{FurtherAt, has-left}
 use Rattle.markdown_blocks.proofs.LostLine.Reads.{columns-quiet}
 use Rattle.markdown_blocks.proofs.LostLine.Shown.{left-clear, lost-between, lost-sits, whole-clear}
 use Rattle.markdown_blocks.proofs.PartedFacts.{clear}
-use Rattle.markdown_blocks.proofs.PlainFacts.{ArePlain, plain-append, plain-cons, plain-nil, plain-quiet}
+use Rattle.markdown_blocks.proofs.PlainFacts.{AreKnown, known-append, known-around, known-none, plain-quiet}
 use Rattle.markdown_blocks.proofs.Span.Inside.{InsideFacts, ReadsLeaf}
 
 -- It nests, and its pieces are over what their names say.
@@ -36,16 +38,11 @@ pub parts-placed : (bytes : List ℕ) (r : Rest) (p q : Point) → FurtherAt byt
     Placed bytes p q (code_parts r p q)
 parts-placed bytes r p q is = lost-placed bytes n.CodeFlowChunk 4 r p q refl (in-line (rest_line (lose 4 r))) is
 
--- What is still asked of an outline: that it knows the names of code and of its lines.
-pub record ShowsCode : Type 0 where
-  pub code : is_plain (Opens OfCode) ≡ true
-  pub lines : is_plain (Tells AsLine) ≡ true
-
-pub parts-plain : ShowsCode → (bytes : List ℕ) (r : Rest) (p q : Point) → FurtherAt bytes r p q →
-    ArePlain bytes (code_parts r p q)
-parts-plain shows bytes r p q is =
-    plain-append bytes (columns_part 4 r p) (part_over n.CodeFlowChunk (rest_line (lose 4 r)) at q)
-    (plain-quiet bytes (columns_part 4 r p) (columns-quiet 4 r p)) (over (rest_line (lose 4 r)))
+-- An outline knows its names,
+parts-known : (bytes : List ℕ) (r : Rest) (p q : Point) → FurtherAt bytes r p q → AreKnown bytes (code_parts r p q)
+parts-known bytes r p q is =
+    known-append bytes (columns_part 4 r p) (part_over n.CodeFlowChunk (rest_line (lose 4 r)) at q)
+    (plain-quiet bytes (columns_part 4 r p) (columns-quiet 4 r p)).known (over (rest_line (lose 4 r)))
   where
     at : Point
     at = past_columns 4 r p
@@ -56,19 +53,22 @@ parts-plain shows bytes r p q is =
     begin : clear bytes (past_columns 4 r p) ≡ true
     begin = left-clear bytes (drop q.index bytes) (lose 4 r) (past_columns 4 r p) (has-left bytes 4 r p q is).stands
 
-    over : (line : List ℕ) → ArePlain bytes (part_over n.CodeFlowChunk line (past_columns 4 r p) q)
-    over [] = plain-nil bytes
+    over : (line : List ℕ) → AreKnown bytes (part_over n.CodeFlowChunk line (past_columns 4 r p) q)
+    over [] = known-none bytes
     over (b ∷ bs) =
-        plain-cons bytes (enter n.CodeFlowChunk at) (exit n.CodeFlowChunk q ∷ []) shows.lines (told at begin)
-        (plain-cons bytes (exit n.CodeFlowChunk q) [] shows.lines (told q (whole-clear bytes q is.at.end_whole))
-        (plain-nil bytes))
+        known-around bytes n.CodeFlowChunk at q [] refl (told at begin) (told q (whole-clear bytes q is.at.end_whole))
+        (known-none bytes)
+
+-- and is here in the code behind it.
+abbrev pub code_site : Rest → Site
+code_site r = line_site OfCode (is_told_of (rest_line (lose 4 r)))
 
 -- All of it, in front of which this is left of the grammar, and that behind it; it is read from this leaf to that.
-parts-facts : ShowsCode → (bytes : List ℕ) (r : Rest) (p q : Point) (x left : Expression) (from to : OpenLeaf) →
+parts-facts : (bytes : List ℕ) (r : Rest) (p q : Point) (x left : Expression) (from to : OpenLeaf) →
     FurtherAt bytes r p q → ((text : Expression) → Leads text (x ∷ []) (left ∷ []) (code_parts r p q)) →
     ReadsLeaf bytes from to (code_parts r p q) →
-    InsideFacts bytes p q x left from to (code_parts r p q) (code_parts r p q)
-parts-facts shows bytes r p q x left from to is leads reads =
+    InsideFacts bytes p q x left from to (AtLine OfCode) (code_site r) (code_parts r p q) (code_parts r p q)
+parts-facts bytes r p q x left from to is leads reads =
     let placed = parts-placed bytes r p q is in
     let all = code-inside r p q in
     record {
@@ -87,33 +87,37 @@ parts-facts shows bytes r p q x left from to is leads reads =
       filled = inside-filled bytes (code_parts r p q) all;
       between = λ first last. lost-between bytes n.CodeFlowChunk 4 r p q is first last;
       parted = lost-sits bytes n.CodeFlowChunk 4 r p q (λ a b ys h. h);
-      plain = λ first. parts-plain shows bytes r p q is;
+      plain = λ first. record {
+        known = parts-known bytes r p q is;
+        lines = lost-passes bytes OfCode n.CodeFlowChunk 4 r p q refl;
+      };
       reads = reads;
     }
 
 -- A further line, or a blank one: it is one line more.
-pub line-facts : ShowsCode → (bytes : List ℕ) (r : Rest) (p q : Point) (before : List Line) → FurtherAt bytes r p q →
+pub line-facts : (bytes : List ℕ) (r : Rest) (p q : Point) (before : List Line) → FurtherAt bytes r p q →
     InsideFacts bytes p q in_line (line_left r) (CodeLeaf (before ++ empty_line ∷ []))
-    (CodeLeaf (before ++ code_line r ∷ [])) (code_parts r p q) (code_parts r p q)
-line-facts shows bytes r p q before is =
-    parts-facts shows bytes r p q in_line (line_left r) (CodeLeaf (before ++ empty_line ∷ []))
+    (CodeLeaf (before ++ code_line r ∷ [])) (AtLine OfCode) (code_site r) (code_parts r p q) (code_parts r p q)
+line-facts bytes r p q before is =
+    parts-facts bytes r p q in_line (line_left r) (CodeLeaf (before ++ empty_line ∷ []))
     (CodeLeaf (before ++ code_line r ∷ [])) is (λ text. line-leads text r p q) (parts-read bytes r p q before is)
 
 -- The first line has its four columns, and a chunk behind them.
 abbrev pub first_parts : Rest → Point → Point → List Event
 first_parts r p q = pair n.SpaceOrTab p (past_columns 4 r p) ++ pair n.CodeFlowChunk (past_columns 4 r p) q
 
-pub first-facts : ShowsCode → (bytes : List ℕ) (r : Rest) (p q : Point) → FurtherAt bytes r p q →
+pub first-facts : (bytes : List ℕ) (r : Rest) (p q : Point) → FurtherAt bytes r p q →
     nat_le 4 (indent r) ≡ true → is_blank r.bytes ≡ false →
-    InsideFacts bytes p q code_begun behind_line (fresh OfCode) (CodeLeaf (code_line r ∷ [])) (first_parts r p q)
-    (first_parts r p q)
-first-facts shows bytes r p q is indented dark =
+    InsideFacts bytes p q code_begun behind_line (fresh OfCode) (CodeLeaf (code_line r ∷ [])) (AtLine OfCode)
+    (code_site r) (first_parts r p q) (first_parts r p q)
+first-facts bytes r p q is indented dark =
     let same = code-parts r p q indented dark in
     subst
     (λ (es : List Event).
-    InsideFacts bytes p q code_begun behind_line (fresh OfCode) (CodeLeaf (code_line r ∷ [])) es es)
+    InsideFacts bytes p q code_begun behind_line (fresh OfCode) (CodeLeaf (code_line r ∷ [])) (AtLine OfCode)
+    (code_site r) es es)
     same
-    (parts-facts shows bytes r p q code_begun behind_line (fresh OfCode) (CodeLeaf (code_line r ∷ [])) is
+    (parts-facts bytes r p q code_begun behind_line (fresh OfCode) (CodeLeaf (code_line r ∷ [])) is
     (λ text.
     subst (λ (es : List Event). Leads text (code_begun ∷ []) (behind_line ∷ []) es) (sym same)
     (first-leads text p (past_columns 4 r p) q))

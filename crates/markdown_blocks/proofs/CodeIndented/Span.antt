@@ -1,6 +1,4 @@
 -- Indented code with all its lines, joined: a first line, and rows behind it that stand in the code.
---
--- What is still asked is that an outline knows the names of code and of its lines (`ShowsCode`).
 use Rattle.std.proofs.Common.{◌≡◌, ℕ, Bool, true, false, cond, List, [], ◌∷◌, ◌++◌, not, refl, sym, ◌∙◌, ap, subst}
 use Rattle.std.specs.Prelude.{Some}
 use Rattle.md_engine.specs.declared.configuration.ParseOptions.{ParseOptions}
@@ -8,23 +6,26 @@ use Rattle.md_engine.specs.declared.event.Content.{Content}
 use Rattle.md_engine.specs.declared.event.Event.{Event}
 use Rattle.md_engine.specs.declared.event.Name.TheVariants as n
 use Rattle.md_definition.specs.Leaves.{code_line}
-use Rattle.md_definition.specs.Rest.{Rest}
+use Rattle.md_definition.specs.Rest.{Rest, lose}
 use Rattle.md_definition.specs.Tree.{Code}
+use Rattle.md_outline.specs.LinesStand.{begun_site}
 use Rattle.md_seam.specs.Events.Nested.{around, enter, exit}
 use Rattle.md_seam.specs.Events.Spelled.{CodeLeaf, OfCode, OpenLeaf, fresh}
 use Rattle.md_seam.specs.Events.Tiles.{plain_read}
 use Rattle.md_seam.specs.Substituted.{Readings}
 use Rattle.md_seam.proofs.EndingsLemmas.{AreOthers, Stays, in_leaf, leads-append, others-lead}
+use Rattle.markdown_blocks.specs.Fronted.{rest_line}
 use Rattle.markdown_blocks.specs.Leaf.CodeIndented.{code_leaf, code_parts, is_code}
 use Rattle.markdown_blocks.specs.Rows.{Row, but_end, end_of, last_row, span_by, span_rest}
 use Rattle.markdown_blocks.proofs.CodeIndented.Cells.{IsCodeRest, code-parts, code-rest}
-use Rattle.markdown_blocks.proofs.CodeIndented.Facts.{ShowsCode, first-facts, first_parts}
+use Rattle.markdown_blocks.proofs.CodeIndented.Facts.{code_site, first-facts, first_parts}
 use Rattle.markdown_blocks.proofs.CodeIndented.Grammar.{behind_line, code_begun}
 use Rattle.markdown_blocks.proofs.CodeIndented.Parts.{begin-first, code-at, code-is}
 use Rattle.markdown_blocks.proofs.CodeIndented.Rows.{AreInCode, as_line, begins_line, framed, lines_behind}
 use Rattle.markdown_blocks.proofs.CodeIndented.Walk.{last-end, last-full, lines-fill, lines-further, rest-unlinked}
 use Rattle.markdown_blocks.proofs.EachEvent.{each-append}
 use Rattle.markdown_blocks.proofs.FenceSpan.Laws.{stays-same}
+use Rattle.markdown_blocks.proofs.FenceSpan.Sites.{is_told_of}
 use Rattle.markdown_blocks.proofs.FillFacts.{filled-read}
 use Rattle.markdown_blocks.proofs.LeafFacts.{LeafFacts}
 use Rattle.markdown_blocks.proofs.LostLine.Places.{FurtherAt}
@@ -37,8 +38,8 @@ use Rattle.markdown_blocks.proofs.SpanLaws.{IsLineOf, is_bare_row}
 use Rattle.markdown_blocks.proofs.SubstitutedLemmas.{Becomes, becomes-same, no_links-unwanted}
 
 -- The name of code.
-abbrev pub code_name : ShowsCode → IsLeafName n.CodeIndented OfCode
-code_name shows = record {
+abbrev pub code_name : IsLeafName n.CodeIndented OfCode
+code_name = record {
   is = refl;
   leaf = refl;
   no_part = refl;
@@ -46,7 +47,7 @@ code_name shows = record {
   block = refl;
   begin = code_begun;
   begins = λ text. refl;
-  plain = shows.code;
+  lined = tt;
 }
 
 -- its first line
@@ -73,14 +74,13 @@ first-begins options bytes row is first =
     (exit n.CodeIndented row.end)
 
 -- All that the frame asks of it: it shows the block of all its lines, and on the last of them something stands.
-pub code-span : ShowsCode → (options : ParseOptions) (bytes : List ℕ) (row : Row) (rows : List Row) →
+pub code-span : (options : ParseOptions) (bytes : List ℕ) (row : Row) (rows : List Row) →
     (is : IsLineOf options bytes code_leaf row) → is_code row.on ≡ false → (are : AreInCode bytes is.rest row rows) →
     LeafFacts bytes (Some (Code (code_line is.rest ∷ lines_behind bytes is.rest row rows are))) true row.first
     (last_row row rows).end (span_by as_line row rows) (span_by as_line row rows)
-code-span shows options bytes row rows is first are =
-    let named = code_name shows in
-    let stays = span-inside bytes as_line as_line n.CodeIndented OfCode to row rows named line further in
-    span-facts bytes as_line as_line n.CodeIndented OfCode to row rows true named line further
+code-span options bytes row rows is first are =
+    let stays = span-inside bytes as_line as_line n.CodeIndented OfCode to row rows code_name line further in
+    span-facts bytes as_line as_line n.CodeIndented OfCode to row rows true code_name line further
     (ends es stays.unread_stays refl) (ends es stays.stays refl)
   where
     r : Rest
@@ -101,7 +101,7 @@ code-span shows options bytes row rows is first are =
     same : as_line row ≡ ((enter n.CodeIndented row.first ∷ es) ++ exit n.CodeIndented row.end ∷ [])
     same = first-is options bytes row is first
 
-    line : SpanFirst bytes as_line as_line n.CodeIndented code_begun (fresh OfCode) row
+    line : SpanFirst bytes as_line as_line n.CodeIndented code_begun (fresh OfCode) (begun_site OfCode) row
     line = record {
       ends =
           ends-by as_line as_line n.CodeIndented row (enter n.CodeIndented row.first ∷ es)
@@ -117,12 +117,15 @@ code-span shows options bytes row rows is first are =
       starts = refl;
       left = behind_line;
       leaf = CodeLeaf (code_line is.rest ∷ []);
-      facts = first-facts shows bytes r row.first row.end at of.indented of.dark;
+      site = code_site is.rest;
+      facts = first-facts bytes r row.first row.end at of.indented of.dark;
     }
 
     further :
-        AreFurther bytes as_line as_line n.CodeIndented behind_line (CodeLeaf (code_line is.rest ∷ [])) to row rows
-    further = lines-further shows bytes r row rows are (code_line r ∷ []) behind_line refl refl
+        AreFurther bytes as_line as_line n.CodeIndented behind_line (CodeLeaf (code_line is.rest ∷ [])) to
+        (code_site is.rest) row rows
+    further =
+        lines-further bytes r row rows are (code_line r ∷ []) behind_line (is_told_of (rest_line (lose 4 r))) refl refl
 
     -- something stands on the last line, also in what is read of it
     ends : (es : List Event) (stays : Stays (es ++ span_rest as_line row rows)) → AreOthers es →
@@ -157,9 +160,9 @@ code-becomes options bytes row rows is first are wants reads =
     ∙ end-is (enter n.CodeIndented row.first ∷ first_parts is.rest row.first row.end)
     (exit n.CodeIndented row.end)))) (refl, tt))))
 
-pub code-read : ShowsCode → (options : ParseOptions) (bytes : List ℕ) (row : Row) (rows : List Row) →
+pub code-read : (options : ParseOptions) (bytes : List ℕ) (row : Row) (rows : List Row) →
     (is : IsLineOf options bytes code_leaf row) → is_code row.on ≡ false → AreInCode bytes is.rest row rows →
     plain_read bytes (span_by as_line row rows) ≡ span_by as_line row rows
-code-read shows options bytes row rows is first are =
+code-read options bytes row rows is first are =
     filled-read bytes (span_by as_line row rows) (span_by as_line row rows)
-    (code-span shows options bytes row rows is first are).filled
+    (code-span options bytes row rows is first are).filled

@@ -11,22 +11,25 @@ use Rattle.md_definition.specs.Rest.{Rest, indent, is_blank, lose}
 use Rattle.md_definition.specs.Tree.{Line}
 use Rattle.md_lines.specs.Further.{further_link}
 use Rattle.md_lines.proofs.CodeLines.{blank-line}
+use Rattle.md_outline.specs.LinesStand.{Site}
+use Rattle.md_outline.proofs.LinesPass.{ended_site}
 use Rattle.md_seam.specs.Events.Grammar.{Expression, behind, may_end}
 use Rattle.md_seam.specs.Events.Nested.{enter_link, exit, pair}
-use Rattle.md_seam.specs.Events.Spelled.{CodeLeaf, OpenLeaf, empty_line, next_line}
+use Rattle.md_seam.specs.Events.Spelled.{CodeLeaf, OfCode, OpenLeaf, empty_line, next_line}
 use Rattle.md_seam.proofs.EndingsLemmas.{Leads, in_leaf, leads-append}
 use Rattle.markdown_blocks.specs.Fronted.{rest_line}
 use Rattle.markdown_blocks.specs.Leaf.CodeIndented.{code_parts}
 use Rattle.markdown_blocks.specs.LineColumns.{past_columns}
 use Rattle.markdown_blocks.specs.Rows.{Row, but_ends, end_of, ending_events, last_row, span_rest}
 use Rattle.markdown_blocks.proofs.CodeIndented.Cells.{over-some}
-use Rattle.markdown_blocks.proofs.CodeIndented.Facts.{ShowsCode, line-facts, parts-placed}
+use Rattle.markdown_blocks.proofs.CodeIndented.Facts.{code_site, line-facts, parts-placed}
 use Rattle.markdown_blocks.proofs.CodeIndented.Grammar.{in_line, line-ending, line-ends, line-takes, line_left}
 use Rattle.markdown_blocks.proofs.CodeIndented.Parts.{code-inside}
 use Rattle.markdown_blocks.proofs.CodeIndented.Rows.{AreInCode, InCode, as_line, goes-on, lines_behind, some-text}
 use Rattle.markdown_blocks.proofs.ContainerNames.{TakesPrefixes}
 use Rattle.markdown_blocks.proofs.EachEvent.{each-append}
 use Rattle.markdown_blocks.proofs.FenceSpan.Rest.{others-fill}
+use Rattle.markdown_blocks.proofs.FenceSpan.Sites.{ended-goes, is_told_of, line-leaves, line-on, line_site}
 use Rattle.markdown_blocks.proofs.FrontLemmas.{fronts-balanced}
 use Rattle.markdown_blocks.proofs.FrontNames.{fronts-unlinked}
 use Rattle.markdown_blocks.proofs.FrontPlaces.{fronts-grow}
@@ -49,14 +52,15 @@ in-parts bytes row is =
     (exit n.CodeIndented row.end)
 
 -- one more line
-line-next : ShowsCode → (bytes : List ℕ) (r : Rest) (row next : Row) (rows : List Row) →
-    (are : AreInCode bytes r row (next ∷ rows)) → (lines : List Line) (left : Expression) (to : OpenLeaf) →
+line-next : (bytes : List ℕ) (r : Rest) (row next : Row) (rows : List Row) →
+    (are : AreInCode bytes r row (next ∷ rows)) → (lines : List Line) (left : Expression) (told : Bool)
+    (to : OpenLeaf) →
     behind n.LineEnding left ≡ in_line →
     AreFurther bytes as_line as_line n.CodeIndented (line_left are.4.rest)
-    (CodeLeaf (lines ++ code_line are.4.rest ∷ [])) to next rows →
-    AreFurther bytes as_line as_line n.CodeIndented left (CodeLeaf lines) to row (next ∷ rows)
-line-next shows bytes r row next rows are lines left to line rest =
-    (q, are.1, are.2, are.3, subst TakesPrefixes (sym line) line-takes, one, rest)
+    (CodeLeaf (lines ++ code_line are.4.rest ∷ [])) to (code_site are.4.rest) next rows →
+    AreFurther bytes as_line as_line n.CodeIndented left (CodeLeaf lines) to (line_site OfCode told) row (next ∷ rows)
+line-next bytes r row next rows are lines left told to line rest =
+    (q, are.1, are.2, are.3, subst TakesPrefixes (sym line) line-takes, line-on OfCode told, one, rest)
   where
     q : Point
     q = are.0
@@ -70,29 +74,39 @@ line-next shows bytes r row next rows are lines left to line rest =
     at : FurtherAt bytes are.4.rest next.first next.end
     at = are.4.at
 
-    more : CodeLeaf (lines ++ empty_line ∷ []) ≡ behind_ending bytes q (CodeLeaf lines)
-    more =
+    -- the text goes on behind the ending
+    some : nat_lt q.index (length bytes) ≡ true
+    some =
         let further = goes-on bytes s next rows at are.5 in
         let grow = fronts-grow bytes [] q next.first next.front are.3 in
-        let some : nat_lt q.index (length bytes) ≡ true = grind (arith, nat_tests) in
-        sym (ap (λ (x : Bool). cond x (next_line (CodeLeaf lines)) (CodeLeaf lines)) some)
+        grind (arith, nat_tests)
+
+    more : CodeLeaf (lines ++ empty_line ∷ []) ≡ behind_ending bytes q (CodeLeaf lines)
+    more = sym (ap (λ (x : Bool). cond x (next_line (CodeLeaf lines)) (CodeLeaf lines)) some)
 
     facts :
         InsideFacts bytes next.first next.end (behind n.LineEnding left) (line_left are.4.rest)
-        (behind_ending bytes are.0 (CodeLeaf lines)) (CodeLeaf (lines ++ code_line are.4.rest ∷ [])) parts parts
+        (behind_ending bytes are.0 (CodeLeaf lines)) (CodeLeaf (lines ++ code_line are.4.rest ∷ []))
+        (ended_site bytes are.0 (line_site OfCode told)) (code_site are.4.rest) parts parts
     facts =
         subst
         (λ (x : Expression).
         InsideFacts bytes next.first next.end x (line_left s) (behind_ending bytes q (CodeLeaf lines))
-        (CodeLeaf (lines ++ code_line s ∷ [])) parts parts) (sym line)
+        (CodeLeaf (lines ++ code_line s ∷ [])) (ended_site bytes q (line_site OfCode told)) (code_site s) parts parts)
+        (sym line)
         (subst
         (λ (from : OpenLeaf).
-        InsideFacts bytes next.first next.end in_line (line_left s) from (CodeLeaf (lines ++ code_line s ∷ [])) parts
-        parts) more (line-facts shows bytes s next.first next.end lines at))
+        InsideFacts bytes next.first next.end in_line (line_left s) from (CodeLeaf (lines ++ code_line s ∷ []))
+        (ended_site bytes q (line_site OfCode told)) (code_site s) parts parts) more
+        (subst
+        (λ (start : Site).
+        InsideFacts bytes next.first next.end in_line (line_left s) (CodeLeaf (lines ++ empty_line ∷ []))
+        (CodeLeaf (lines ++ code_line s ∷ [])) start (code_site s) parts parts)
+        (sym (ended-goes bytes q OfCode told some)) (line-facts bytes s next.first next.end lines at)))
 
     one :
         SpanLine bytes as_line as_line n.CodeIndented (behind n.LineEnding left)
-        (behind_ending bytes are.0 (CodeLeaf lines)) next
+        (behind_ending bytes are.0 (CodeLeaf lines)) (ended_site bytes are.0 (line_site OfCode told)) next
     one = record {
       ends =
           ends-by as_line as_line n.CodeIndented next (enter_link n.CodeIndented next.first further_link ∷ parts)
@@ -101,33 +115,36 @@ line-next shows bytes r row next rows are lines left to line rest =
           left-clear bytes (drop next.end.index bytes) s next.first (further-rest bytes s next.first next.end at);
       left = line_left s;
       leaf = CodeLeaf (lines ++ code_line s ∷ []);
+      site = code_site s;
       facts =
           subst
           (λ (es : List Event).
           InsideFacts bytes next.first next.end (behind n.LineEnding left) (line_left s)
-          (behind_ending bytes q (CodeLeaf lines)) (CodeLeaf (lines ++ code_line s ∷ [])) es es)
+          (behind_ending bytes q (CodeLeaf lines)) (CodeLeaf (lines ++ code_line s ∷ []))
+          (ended_site bytes q (line_site OfCode told)) (code_site s) es es)
           (sym (in-parts bytes next are.4)) facts;
     }
 
--- all of them, behind these lines
-pub lines-further : ShowsCode → (bytes : List ℕ) (r : Rest) (row : Row) (rows : List Row) →
-    (are : AreInCode bytes r row rows) → (lines : List Line) (left : Expression) → may_end left ≡ true →
+-- all of them, behind these lines, whether the last of those told anything or not
+pub lines-further : (bytes : List ℕ) (r : Rest) (row : Row) (rows : List Row) →
+    (are : AreInCode bytes r row rows) → (lines : List Line) (left : Expression) (told : Bool) → may_end left ≡ true →
     behind n.LineEnding left ≡ in_line →
     AreFurther bytes as_line as_line n.CodeIndented left (CodeLeaf lines)
-    (CodeLeaf (lines ++ lines_behind bytes r row rows are)) row rows
-lines-further shows bytes r row [] are lines left ends line = (ends, ap CodeLeaf (sym (append-nil lines)))
-lines-further shows bytes r row (next ∷ rows) are lines left ends line =
+    (CodeLeaf (lines ++ lines_behind bytes r row rows are)) (line_site OfCode told) row rows
+lines-further bytes r row [] are lines left told ends line =
+    (ends, ap CodeLeaf (sym (append-nil lines)), line-leaves OfCode told)
+lines-further bytes r row (next ∷ rows) are lines left told ends line =
     let s = are.4.rest in
     let more = lines ++ code_line s ∷ [] in
     let behind_it = lines_behind bytes s next rows are.5 in
-    line-next shows bytes r row next rows are lines left
+    line-next bytes r row next rows are lines left told
     (CodeLeaf (lines ++ lines_behind bytes r row (next ∷ rows) are)) line
     (subst
     (λ (l : List Line).
-    AreFurther bytes as_line as_line n.CodeIndented (line_left s) (CodeLeaf more) (CodeLeaf l) next rows)
+    AreFurther bytes as_line as_line n.CodeIndented (line_left s) (CodeLeaf more) (CodeLeaf l) (code_site s) next rows)
     (append_assoc lines (code_line s ∷ []) behind_it)
-    (lines-further shows bytes s next rows are.5 more (line_left s) (line-ends (rest_line (lose 4 s)))
-    (line-ending (rest_line (lose 4 s)))))
+    (lines-further bytes s next rows are.5 more (line_left s) (is_told_of (rest_line (lose 4 s)))
+    (line-ends (rest_line (lose 4 s))) (line-ending (rest_line (lose 4 s)))))
 
 -- Something stands on the last line.
 

@@ -1,4 +1,4 @@
--- What is known of the events of a fence. Whether an outline knows their names is asked for: it shows no fence yet.
+-- What is known of the events of a fence. That an outline can show them is asked for: it is known of all its lines.
 use Rattle.std.proofs.Common.{◌≡◌, ℕ, true, List, sym, subst, drop}
 use Rattle.std.specs.Prelude.{Some}
 use Rattle.std.specs.Option.{is_some}

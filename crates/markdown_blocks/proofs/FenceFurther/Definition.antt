@@ -10,11 +10,12 @@ use Rattle.md_engine.specs.declared.tokenizer.held_leaf.HeldLeaf.TheVariants as 
 use Rattle.md_definition.specs.Leaves.{Came, Finished, Opened, allows, closes, fence_at, fence_from, fence_goes_on}
 use Rattle.md_definition.specs.Leaves.{is_fence_marker, least_size, opening}
 use Rattle.md_definition.specs.Rest.{Rest, has_small_indent, indent, line_of, lose, run_len, trim_start}
-use Rattle.md_definition.specs.State.{OpenFence, Opening, fence_block}
+use Rattle.md_definition.specs.State.{Leaf, OpenFence, Opening, fence_block}
 use Rattle.md_definition.specs.Tree.{Line}
 use Rattle.md_lines.specs.Fence.{held_indent, may_begin}
 use Rattle.md_lines.proofs.FenceOpened.{marker-may}
-use Rattle.markdown_blocks.specs.Leaf.FenceFurther.{further_holds, is_fence, opening_of}
+use Rattle.markdown_blocks.specs.HeldLeaf.{kind_of_leaf, left_by}
+use Rattle.markdown_blocks.specs.Leaf.FenceFurther.{fence_comes, further_holds, is_fence, opening_of}
 
 -- what is held of a block behind its opening
 abbrev pub held_of : Opening → HeldLeaf
@@ -69,20 +70,18 @@ pub further-goes : (options : ParseOptions) (o : Opening) (lines : List Line) (r
 unfolding fence_goes_on
 further-goes options o lines r = refl
 
--- So what is held behind the line is what the line definition has there.
-abbrev pub came_held : Came → HeldLeaf
-came_held (Opened (OpenFence o lines)) = held_of o
-came_held _ = held_leaf.None
-
-pub further-held : (options : ParseOptions) (o : Opening) (lines : List Line) (r : Rest) →
-    is_fence (held_of o) ≡ true →
-    further_holds options (held_of o) r ≡ came_held (fence_goes_on options o lines r)
+-- So what is held behind the line is the leaf that the open one comes to with it.
+pub further-held : (options : ParseOptions) (leaf : Leaf) (r : Rest) → is_fence (kind_of_leaf leaf) ≡ true →
+    kind_of_leaf (left_by (fence_comes options leaf r)) ≡ further_holds options (kind_of_leaf leaf) r
 unfolding fence_goes_on
-further-held options o lines r e = rw e (go (closes options (opening_of (held_of o)) r))
+further-held options (OpenFence o lines) r e = rw e (go (closes options (opening_of (held_of o)) r))
   where
+    more : List Line
+    more = lines ++ line_of (lose o.indent r) ∷ []
+
     go : (x : Bool) →
-        cond x held_leaf.None (held_of o) ≡
-        came_held
-        (cond x (Finished (fence_block o lines true)) (Opened (OpenFence o (lines ++ line_of (lose o.indent r) ∷ []))))
+        kind_of_leaf (left_by (cond x (Finished (fence_block o lines true)) (Opened (OpenFence o more)))) ≡
+        cond x held_leaf.None (held_of o)
     go true = refl
     go false = refl
+further-held options leaf r e = absurd (cc)

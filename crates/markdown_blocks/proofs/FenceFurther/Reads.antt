@@ -118,7 +118,7 @@ white-quiet [] p q = tt
 white-quiet (b ∷ bs) p q = (tt, (tt, tt))
 
 -- a part over a line is read as one
-chunk-role : (m : ℕ) → role (chunk_name m) ≡ Tells AsLine
+pub chunk-role : (m : ℕ) → role (chunk_name m) ≡ Tells AsLine
 chunk-role m = either-name (λ name. role name ≡ Tells AsLine) (m == 36) _ _ refl refl
 
 -- a closing fence

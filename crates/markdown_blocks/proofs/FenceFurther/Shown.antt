@@ -15,11 +15,11 @@ use Rattle.md_definition.specs.Leaves.{closes}
 use Rattle.md_definition.specs.Rest.{Rest, indent, lose, run_len, trim_start}
 use Rattle.md_lines.specs.Fence.{chunk_name, fence_name, held_indent, held_marker, may_begin, sequence_name}
 use Rattle.md_outline.specs.Between.{is_between}
-use Rattle.md_outline.specs.Outlined.{has_plain_name}
-use Rattle.md_outline.specs.Roles.{is_plain}
+use Rattle.md_outline.specs.Outlined.{has_unlisted_name}
+use Rattle.md_outline.specs.Roles.{is_unlisted}
 use Rattle.md_seam.specs.Events.Nested.{around, exit, pair}
 use Rattle.md_seam.specs.Events.Places.{past_text}
-use Rattle.md_seam.specs.Events.Spelled.{AsLine, IsFence, Tells, role}
+use Rattle.md_seam.specs.Events.Spelled.{role}
 use Rattle.md_seam.proofs.InlineLemmas.{past-index}
 use Rattle.markdown_blocks.specs.Leaf.FenceFurther.{chunk_line, closing_line, closing_part, columns_part, further_parts}
 use Rattle.markdown_blocks.specs.Leaf.FenceFurther.{is_fence, opening_of, part_over, past_columns}
@@ -34,7 +34,7 @@ use Rattle.markdown_blocks.proofs.FenceFurther.Names.{either-name, inside-name, 
 use Rattle.markdown_blocks.proofs.FenceFurther.Places.{FurtherAt, HasClosing, has-closing, has-left}
 use Rattle.markdown_blocks.proofs.FenceFurther.Trial.{fence-marker}
 use Rattle.markdown_blocks.proofs.PartedFacts.{Sits, around-sits, clear, sits-append}
-use Rattle.markdown_blocks.proofs.PlainFacts.{ArePlain, is_clear}
+use Rattle.markdown_blocks.proofs.PlainFacts.{AreKnown, is_clear}
 
 -- Points.
 
@@ -121,21 +121,20 @@ further-clear options bytes on r p q e is begin =
     whole-clear bytes (sequence_end on r p)
     (has-sequence bytes on r p q e (has-closing options bytes on r p q is f)).over.whole))
 
--- An outline knows their names, once it knows those of fences and lines.
-pub further-plain : (options : ParseOptions) (bytes : List ℕ) (on : HeldLeaf) (r : Rest) (p q : Point) →
-    is_fence on ≡ true → FurtherAt bytes r p q → is_plain IsFence ≡ true → is_plain (Tells AsLine) ≡ true →
-    clear bytes p ≡ true → ArePlain bytes (further_parts options on r p q)
-further-plain options bytes on r p q e is fences lines begin = record {
+-- An outline knows their names.
+pub further-known : (options : ParseOptions) (bytes : List ℕ) (on : HeldLeaf) (r : Rest) (p q : Point) →
+    is_fence on ≡ true → FurtherAt bytes r p q → clear bytes p ≡ true →
+    AreKnown bytes (further_parts options on r p q)
+further-known options bytes on r p q e is begin = record {
   names =
-      parts-each (λ es. list_all has_plain_name es ≡ true) refl
-      (λ kind name x es e h. and_from (is_plain (role name)) (list_all has_plain_name es) (plain name e) h)
+      parts-each (λ es. list_all has_unlisted_name es ≡ true) refl
+      (λ kind name x es e h. and_from (is_unlisted (role name)) (list_all has_unlisted_name es) (known name e) h)
       options on r p q;
   texts = further-clear options bytes on r p q e is begin;
 }
   where
-    plain : (name : Name) → is_inside name ≡ true → is_plain (role name) ≡ true
-    plain =
-        inside-name (λ name. is_plain (role name) ≡ true) refl fences refl lines fences refl lines
+    known : (name : Name) → is_inside name ≡ true → is_unlisted (role name) ≡ true
+    known = inside-name (λ name. is_unlisted (role name) ≡ true) refl refl refl refl refl refl refl
 
 -- No text is parted.
 

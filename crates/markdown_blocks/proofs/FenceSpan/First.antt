@@ -24,7 +24,8 @@ use Rattle.md_seam.specs.Events.Spelled.{OpenLeaf, Reading, fresh, read, role}
 use Rattle.md_seam.proofs.FeedLines.{past_text-whole}
 use Rattle.md_seam.proofs.EndingsLemmas.{AreOthers, stays-others}
 use Rattle.md_seam.proofs.GrammarLemmas.{Leads, leads-around}
-use Rattle.md_outline.specs.Roles.{is_plain, is_told}
+use Rattle.md_outline.specs.LinesStand.{AtEnding, begun_site}
+use Rattle.md_outline.specs.Roles.{is_told, is_unlisted}
 use Rattle.md_seam.specs.Substituted.{Readings}
 use Rattle.markdown_blocks.specs.Leaf.Fence.{Inner, fence_parts, linked, past_white, read_inner}
 use Rattle.markdown_blocks.proofs.BetweenFacts.{AreBetween, around-between}
@@ -40,8 +41,9 @@ use Rattle.markdown_blocks.proofs.Fence.Walk.{Anywhere, parts-walk, sequence-ove
 use Rattle.markdown_blocks.proofs.Fence.Words.{Word, fence-word, linked-word, read-word}
 use Rattle.markdown_blocks.proofs.FenceFurther.Grammar.{behind_line}
 use Rattle.markdown_blocks.proofs.FenceFurther.Shown.{whole-clear}
-use Rattle.markdown_blocks.proofs.FenceSpan.Open.{AreMarks, ShowsFences, begin_of, kind_of, leaf_by, leaf_of}
-use Rattle.markdown_blocks.proofs.FenceSpan.Plain.{walks-plain}
+use Rattle.markdown_blocks.proofs.FenceSpan.Open.{AreMarks, begin_of, kind_of, leaf_by, leaf_of}
+use Rattle.markdown_blocks.proofs.FenceSpan.Plain.{walks-known}
+use Rattle.markdown_blocks.proofs.FenceSpan.Sites.{first-passes}
 use Rattle.markdown_blocks.proofs.FillFacts.{Fill, fill-around}
 use Rattle.markdown_blocks.proofs.LeafFacts.{ReadsString}
 use Rattle.markdown_blocks.proofs.SubstitutedLemmas.{Becomes, becomes-around}
@@ -49,7 +51,7 @@ use Rattle.markdown_blocks.proofs.PartedFacts.{Sits, Still, around-sits, clear}
 use Rattle.markdown_blocks.proofs.PartsStand.{Stands, stands-around}
 use Rattle.markdown_blocks.proofs.PieceFacts.{stood-around}
 use Rattle.markdown_blocks.proofs.PiecesLemmas.{Tiled, tiled-around}
-use Rattle.markdown_blocks.proofs.PlainFacts.{ArePlain, plain-around}
+use Rattle.markdown_blocks.proofs.PlainFacts.{AreKnown, known-around}
 use Rattle.markdown_blocks.proofs.Span.Inside.{InsideFacts}
 use Rattle.markdown_blocks.proofs.SpanLemmas.{around-nested}
 
@@ -115,22 +117,22 @@ first-leads text inner word line p e =
     leads-around text (begin_of m) (fence_name m) q e (fence_parts inner m xs q)
     (fence-word text inner word (m == 36) (drop size xs) q (past_text (take size xs) q))
 
-fence-plain : ShowsFences → (m : ℕ) → is_plain (role (fence_name m)) ≡ true
-fence-plain shows m =
-    by-math (λ x. is_plain (role x) ≡ true) (m == 36) n.MathFlowFence n.CodeFencedFence shows.fences shows.fences
+fence-known : (m : ℕ) → is_unlisted (role (fence_name m)) ≡ true
+fence-known m =
+    by-math (λ x. is_unlisted (role x) ≡ true) (m == 36) n.MathFlowFence n.CodeFencedFence refl refl
 
 fence-untold : (m : ℕ) → is_told (role (fence_name m)) ≡ false
 fence-untold m = by-math (λ x. is_told (role x) ≡ false) (m == 36) n.MathFlowFence n.CodeFencedFence refl refl
 
-pub first-facts : ShowsFences → (options : ParseOptions) (bytes line rest : List ℕ) (p : Point) (columns : ℕ) →
+pub first-facts : (options : ParseOptions) (bytes line rest : List ℕ) (p : Point) (columns : ℕ) →
     Laid options bytes line p rest →
     let text = trim_start line in
     let m = first_byte text in
     let e = past_text line p in
     InsideFacts bytes (past_white line p) e (begin_of m) (behind_line plain_text m) (fresh (kind_of m))
-    (leaf_of (opened_by columns text) (marks_of text) [] false) (first_inside linked line p e)
-    (first_inside (read_inner bytes) line p e)
-first-facts shows options bytes line rest p columns is = record {
+    (leaf_of (opened_by columns text) (marks_of text) [] false) (begun_site (kind_of m)) (AtEnding (kind_of m))
+    (first_inside linked line p e) (first_inside (read_inner bytes) line p e)
+first-facts options bytes line rest p columns is = record {
   unread_nested = around-nested name q e unread nested.parts.0;
   nested = around-nested name q e done nested.parts.1;
   tiled = tiled-around name q e unread tiled.parts;
@@ -148,7 +150,10 @@ first-facts shows options bytes line rest p columns is = record {
   parted =
       around-sits bytes name q e done
       (by-math (λ x. Still (role x)) (m == 36) n.MathFlowFence n.CodeFencedFence tt tt) sits.parts;
-  plain = λ first. plain-around bytes name q e done (fence-plain shows m) (untold q) (untold e) (plain first);
+  plain = λ first. record {
+    known = known-around bytes name q e done (fence-known m) (untold q) (untold e) (known first);
+    lines = first-passes options bytes line rest p e is;
+  };
   reads = λ s none at.
       ap (λ (o : Option OpenLeaf). read bytes (record s { leaf = o }) (around name q e done)) at
       ∙ reading.fence-opened options bytes line rest p e s is none
@@ -219,10 +224,10 @@ first-facts shows options bytes line rest p columns is = record {
         (λ p q es ds. AreBetween bytes es) (place.walks-between bytes) text rest q is.fence first
         (subst (place.IsPlace bytes) (sym is.ends) last) is.at
 
-    plain : clear bytes q ≡ true → ArePlain bytes done
-    plain first =
+    known : clear bytes q ≡ true → AreKnown bytes done
+    known first =
         parts-walk options bytes (read_inner bytes) (read_inner bytes) (λ p. clear bytes p ≡ true)
-        (λ p q es ds. ArePlain bytes es) (walks-plain shows bytes) text rest q is.fence first
+        (λ p q es ds. AreKnown bytes es) (walks-known bytes) text rest q is.fence first
         (whole-clear bytes (past_text text q) (past_text-whole text q is.at.whole)) is.at
 
     untold : (x : Point) → (not (is_told (role (fence_name (first_byte (trim_start line))))) || clear bytes x) ≡ true

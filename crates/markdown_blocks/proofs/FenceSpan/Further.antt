@@ -13,6 +13,7 @@ use Rattle.md_definition.specs.Rest.{Rest, cut_tab, line_of, lose}
 use Rattle.md_definition.specs.State.{Opening}
 use Rattle.md_definition.specs.Tree.{Line}
 use Rattle.md_lines.specs.Fence.{held_indent, held_marker}
+use Rattle.md_outline.specs.LinesStand.{AtLine, Site}
 use Rattle.md_seam.specs.Events.Grammar.{Expression, Nothing, plain_text, unread_text}
 use Rattle.md_seam.specs.Events.Places.{past_text}
 use Rattle.md_seam.specs.Events.Spelled.{OpenLeaf, Reading, next_line}
@@ -26,9 +27,10 @@ use Rattle.markdown_blocks.proofs.FenceFurther.Joined.{further-empty, nothing-op
 use Rattle.markdown_blocks.proofs.FenceFurther.Parts.{further-filled, further-parts, further-stands}
 use Rattle.markdown_blocks.proofs.FenceFurther.Places.{FurtherAt}
 use Rattle.markdown_blocks.proofs.FenceFurther.Reads.{further-closing-read, further-line-read}
-use Rattle.markdown_blocks.proofs.FenceFurther.Shown.{further-between, further-plain, further-sits}
-use Rattle.markdown_blocks.proofs.FenceSpan.Open.{AreMarks, ShowsFences, behind-same, closing-told, leaf_of, line-same}
+use Rattle.markdown_blocks.proofs.FenceFurther.Shown.{further-between, further-known, further-sits}
+use Rattle.markdown_blocks.proofs.FenceSpan.Open.{AreMarks, behind-same, closing-told, kind_of, leaf_of, line-same}
 use Rattle.markdown_blocks.proofs.FenceSpan.Open.{lines-told, opened-line}
+use Rattle.markdown_blocks.proofs.FenceSpan.Sites.{further-passes, further_site}
 use Rattle.markdown_blocks.proofs.LineTexts.{line-stands}
 use Rattle.markdown_blocks.proofs.PiecesLemmas.{Tiled}
 use Rattle.markdown_blocks.proofs.Span.Inside.{InsideFacts, ReadsLeaf, inside-none}
@@ -63,12 +65,13 @@ unread-leads options on r p q =
     (further-leads unread_text options on r p q))
 
 -- All that is asked of it, where it is read so.
-pub further-facts : ShowsFences → (options : ParseOptions) (bytes : List ℕ) (on : HeldLeaf) (r : Rest) (p q : Point)
+pub further-facts : (options : ParseOptions) (bytes : List ℕ) (on : HeldLeaf) (r : Rest) (p q : Point)
     (from to : OpenLeaf) →
     is_fence on ≡ true → FurtherAt bytes r p q → ReadsLeaf bytes from to (further_parts options on r p q) →
     InsideFacts bytes p q (in_line plain_text (held_marker on)) (further_left plain_text options on r) from to
-    (further_parts options on r p q) (further_parts options on r p q)
-further-facts shows options bytes on r p q from to e is reads = record {
+    (AtLine (kind_of (held_marker on))) (further_site options on r) (further_parts options on r p q)
+    (further_parts options on r p q)
+further-facts options bytes on r p q from to e is reads = record {
   unread_nested = placed.nested;
   nested = placed.nested;
   tiled = placed.tiled;
@@ -84,7 +87,10 @@ further-facts shows options bytes on r p q from to e is reads = record {
   filled = further-filled bytes options on r p q;
   between = λ first last. further-between options bytes on r p q e is first last;
   parted = further-sits options bytes on r p q;
-  plain = λ first. further-plain options bytes on r p q e is shows.fences shows.lines first;
+  plain = λ first. record {
+    known = further-known options bytes on r p q e is first;
+    lines = further-passes options bytes on r p q;
+  };
   reads = reads;
 }
   where
@@ -168,9 +174,10 @@ bare-same options bytes on r p q e is none =
 
 -- it adds nothing to the block
 pub bare-facts : (bytes : List ℕ) (options : ParseOptions) (on : HeldLeaf) (r : Rest) (p q : Point) (x : Expression)
-    (leaf : OpenLeaf) →
+    (leaf : OpenLeaf) (site : Site) →
     IsBare options on r p q →
-    InsideFacts bytes p q x x leaf leaf (further_parts options on r p q) (further_parts options on r p q)
-bare-facts bytes options on r p q x leaf is =
-    subst (λ (es : List Event). InsideFacts bytes p q x x leaf leaf es es) (sym is.none)
-    (subst (λ (z : Point). InsideFacts bytes p z x x leaf leaf [] []) (sym is.stays) (inside-none bytes p x leaf))
+    InsideFacts bytes p q x x leaf leaf site site (further_parts options on r p q) (further_parts options on r p q)
+bare-facts bytes options on r p q x leaf site is =
+    subst (λ (es : List Event). InsideFacts bytes p q x x leaf leaf site site es es) (sym is.none)
+    (subst (λ (z : Point). InsideFacts bytes p z x x leaf leaf site site [] []) (sym is.stays)
+    (inside-none bytes p x leaf site))

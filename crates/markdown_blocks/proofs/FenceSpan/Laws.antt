@@ -1,6 +1,4 @@
 -- The laws of fenced code and math with all their lines, joined.
---
--- What is still asked is that an outline knows the names of such blocks and of what stands in them (`ShowsFences`).
 use Rattle.std.proofs.Common.{◌≡◌, ℕ, Bool, true, false, cond, not, List, [], ◌∷◌, ◌++◌, drop, refl, sym, ◌∙◌}
 use Rattle.std.proofs.Common.{subst}
 use Rattle.std.proofs.Common.{append_assoc}
@@ -22,6 +20,7 @@ use Rattle.md_leaves.specs.Spanned.{has_lines}
 use Rattle.md_leaves.proofs.SpannedLines.{IsBegin, IsFurther, NoLines}
 use Rattle.md_lines.specs.Fence.{block_name, held_marker}
 use Rattle.md_lines.specs.Further.{further_link}
+use Rattle.md_outline.specs.LinesStand.{AtEnding, begun_site}
 use Rattle.md_seam.specs.Events.Grammar.{Expression, plain_text}
 use Rattle.md_seam.specs.Events.Nested.{enter, enter_link, exit, pair}
 use Rattle.md_seam.specs.Events.Places.{first_point}
@@ -39,7 +38,7 @@ use Rattle.markdown_blocks.proofs.FenceFurther.Grammar.{behind-line-ends, behind
 use Rattle.markdown_blocks.proofs.FenceFurther.Joined.{block-lines, further-begins, further-ends, further-is}
 use Rattle.markdown_blocks.proofs.FenceFurther.Parts.{further-lines}
 use Rattle.markdown_blocks.proofs.FenceSpan.First.{first-becomes, first-others, first_inside, marks_of}
-use Rattle.markdown_blocks.proofs.FenceSpan.Open.{ShowsFences, fence-begin, fence-name, kind_of, leaf_of}
+use Rattle.markdown_blocks.proofs.FenceSpan.Open.{fence-begin, fence-name, kind_of, leaf_of}
 use Rattle.markdown_blocks.proofs.FenceSpan.Opening.{begin-is, done-is, line-ends, line-fence, line-full, line-held}
 use Rattle.markdown_blocks.proofs.FenceSpan.Opening.{line-inside, line-laid, line-lead, line-marks, name_of, opening-same}
 use Rattle.markdown_blocks.proofs.FenceSpan.Opening.{opening_of, text_of, unread-is}
@@ -120,18 +119,19 @@ further-spanned options bytes row is =
 -- All lines.
 
 -- what stands behind the first
-rest-of : ShowsFences → (options : ParseOptions) (bytes : List ℕ) (row : Row) (rows : List Row) →
+rest-of : (options : ParseOptions) (bytes : List ℕ) (row : Row) (rows : List Row) →
     (is : IsLineOf options bytes fence_leaf row) → (are : AreBehind options bytes fence_further row rows) →
     HasRest bytes (opening_of is.rest) (behind_line plain_text (first_byte (text_of is.rest)))
-    (leaf_of (opening_of is.rest) (marks_of (text_of is.rest)) [] false) row rows
+    (leaf_of (opening_of is.rest) (marks_of (text_of is.rest)) [] false)
+    (AtEnding (kind_of (first_byte (text_of is.rest)))) row rows
     (come_behind options bytes fence_further row rows are (Opened (OpenFence (opening_at is.rest) [])))
-rest-of shows options bytes row rows is are =
+rest-of options bytes row rows is are =
     subst
     (λ (o : Opening).
-    HasRest bytes (opening_of is.rest) (behind_line plain_text m) leaf row rows
+    HasRest bytes (opening_of is.rest) (behind_line plain_text m) leaf (AtEnding (kind_of m)) row rows
     (come_behind options bytes fence_further row rows are (Opened (OpenFence o [])))) (sym (opening-same is.rest))
-    (rest-open shows options bytes (opening_of is.rest) (marks_of (text_of is.rest)) row rows
-    (line-marks options bytes row is) (line-fence options bytes row is) [] (behind_line plain_text m)
+    (rest-open options bytes (opening_of is.rest) (marks_of (text_of is.rest)) row rows
+    (line-marks options bytes row is) (line-fence options bytes row is) [] (behind_line plain_text m) true
     (behind-line-ends plain_text m) refl (line-held options bytes row is) are)
   where
     m : ℕ
@@ -157,13 +157,13 @@ stays-same es h full leads = told (h true).0 full (sym ((h true).1 ending) ∙ l
 
 -- The facts.
 
-span-of : ShowsFences → (options : ParseOptions) (bytes : List ℕ) (row : Row) (rows : List Row) →
+span-of : (options : ParseOptions) (bytes : List ℕ) (row : Row) (rows : List Row) →
     (is : IsLineOf options bytes fence_leaf row) → (are : AreBehind options bytes fence_further row rows) →
     LeafFacts bytes
     (Some (block_by (come_behind options bytes fence_further row rows are (Opened (OpenFence (opening_at is.rest) [])))))
     (not (is_bare_row (last_row row rows))) row.first (last_row row rows).end (span_by row_unread row rows)
     (span_by (row_done bytes) row rows)
-span-of shows options bytes row rows is are =
+span-of options bytes row rows is are =
     subst
     (λ (b : Block).
     LeafFacts bytes (Some b) full row.first (last_row row rows).end (span_by row_unread row rows)
@@ -204,9 +204,10 @@ span-of shows options bytes row rows is are =
     leaf = leaf_of (opening_of is.rest) (marks_of (text_of is.rest)) [] false
 
     named : IsLeafName name (kind_of m)
-    named = fence-name shows m
+    named = fence-name m
 
-    first : SpanFirst bytes row_unread (row_done bytes) name named.begin (fresh (kind_of m)) row
+    first :
+        SpanFirst bytes row_unread (row_done bytes) name named.begin (fresh (kind_of m)) (begun_site (kind_of m)) row
     first = record {
       ends = line-ends options bytes row is;
       lead = white_part (rest_line is.rest) row.first;
@@ -224,17 +225,20 @@ span-of shows options bytes row rows is are =
       starts = refl;
       left = behind_line plain_text m;
       leaf = leaf;
+      site = AtEnding (kind_of m);
       facts =
           subst
-          (λ (x : Expression). InsideFacts bytes at row.end x (behind_line plain_text m) (fresh (kind_of m)) leaf us es)
-          (sym (fence-begin shows m)) (line-inside shows options bytes row is);
+          (λ (x : Expression).
+          InsideFacts bytes at row.end x (behind_line plain_text m) (fresh (kind_of m)) leaf (begun_site (kind_of m))
+          (AtEnding (kind_of m)) us es) (sym (fence-begin m)) (line-inside options bytes row is);
     }
 
     rest :
         HasRest bytes (opening_of is.rest) (behind_line plain_text (first_byte (text_of is.rest)))
-        (leaf_of (opening_of is.rest) (marks_of (text_of is.rest)) [] false) row rows
+        (leaf_of (opening_of is.rest) (marks_of (text_of is.rest)) [] false)
+        (AtEnding (kind_of (first_byte (text_of is.rest)))) row rows
         (come_behind options bytes fence_further row rows are (Opened (OpenFence (opening_at is.rest) [])))
-    rest = rest-of shows options bytes row rows is are
+    rest = rest-of options bytes row rows is are
 
     others : AreOthers us × AreOthers es
     others =
@@ -252,20 +256,20 @@ span-of shows options bytes row rows is are =
         (others-lead (in_leaf true) xs refl h) (k true))
 
 -- what is read of them all is read of each
-done-read : ShowsFences → (options : ParseOptions) (bytes : List ℕ) (row : Row) (rows : List Row) →
+done-read : (options : ParseOptions) (bytes : List ℕ) (row : Row) (rows : List Row) →
     IsLineOf options bytes fence_leaf row → AreBehind options bytes fence_further row rows →
     span_by (row_done bytes) row rows ≡ span_done bytes row rows
-done-read shows options bytes row rows is are =
+done-read options bytes row rows is are =
     sym
     (filled-read bytes (span_by row_unread row rows) (span_by (row_done bytes) row rows)
-    (span-of shows options bytes row rows is are).filled)
+    (span-of options bytes row rows is are).filled)
 
 -- Whoever reads strings as the plain layer does gives that.
-span-becomes : ShowsFences → (options : ParseOptions) (bytes : List ℕ) (row : Row) (rows : List Row) →
+span-becomes : (options : ParseOptions) (bytes : List ℕ) (row : Row) (rows : List Row) →
     IsLineOf options bytes fence_leaf row → AreBehind options bytes fence_further row rows →
     (wants : Content → Bool) (reads : Readings) → wants content.String ≡ true → ReadsString bytes reads →
     Becomes wants reads (span_by row_unread row rows) (span_by (row_done bytes) row rows)
-span-becomes shows options bytes row rows is are wants reads w rs =
+span-becomes options bytes row rows is are wants reads w rs =
     becomes-append wants reads (but_end row.inside ++ span_rest row_unread row rows)
     (but_end (row_done bytes row) ++ span_rest (row_done bytes) row rows) (end_of (last_row row rows).inside)
     (end_of (row_done bytes (last_row row rows)))
@@ -298,14 +302,16 @@ span-becomes shows options bytes row rows is are wants reads w rs =
 
     rest :
         HasRest bytes (opening_of is.rest) (behind_line plain_text (first_byte (text_of is.rest)))
-        (leaf_of (opening_of is.rest) (marks_of (text_of is.rest)) [] false) row rows
+        (leaf_of (opening_of is.rest) (marks_of (text_of is.rest)) [] false)
+        (AtEnding (kind_of (first_byte (text_of is.rest)))) row rows
         (come_behind options bytes fence_further row rows are (Opened (OpenFence (opening_at is.rest) [])))
-    rest = rest-of shows options bytes row rows is are
+    rest = rest-of options bytes row rows is are
 
     ends : EndsLeaf row_unread (row_done bytes) name (last_row row rows)
     ends =
         last-ends bytes row_unread (row_done bytes) name (behind_line plain_text (first_byte (text_of is.rest)))
-        (leaf_of (opening_of is.rest) (marks_of (text_of is.rest)) [] false) rest.to row rows
+        (leaf_of (opening_of is.rest) (marks_of (text_of is.rest)) [] false) rest.to
+        (AtEnding (kind_of (first_byte (text_of is.rest)))) row rows
         (line-ends options bytes row is) rest.further
 
     begins : Becomes wants reads (but_end row.inside) (but_end (row_done bytes row))
@@ -322,8 +328,8 @@ span-becomes shows options bytes row rows is are wants reads w rs =
         (line-laid options bytes row is) wants reads w rs))))
 
 -- The laws.
-pub fence-span : ShowsFences → SpanLaws fence_leaf fence_further
-fence-span shows = record {
+pub fence-span : SpanLaws fence_leaf fence_further
+fence-span = record {
   first_spanned = λ options bytes row is first. first-spanned options bytes row is;
   further_spanned = λ options bytes row is further. further-spanned options bytes row is;
   block = λ options bytes row rows is are.
@@ -334,13 +340,13 @@ fence-span shows = record {
       LeafFacts bytes
       (Some (block_by (come_behind options bytes fence_further row rows are (Opened (OpenFence (opening_at is.rest) [])))))
       (not (is_bare_row (last_row row rows))) row.first (last_row row rows).end (span_by row_unread row rows) es)
-      (done-read shows options bytes row rows is are) (span-of shows options bytes row rows is are);
+      (done-read options bytes row rows is are) (span-of options bytes row rows is are);
   shuts = λ options bytes row rows is first are bs.
       came-shut options bs
       (come_behind options bytes fence_further row rows are (Opened (OpenFence (opening_at is.rest) [])))
-      (rest-of shows options bytes row rows is are).came;
+      (rest-of options bytes row rows is are).came;
   becomes = λ options bytes row rows is first are wants reads text string texts strings.
       subst (λ (es : List Event). Becomes wants reads (span_by row_unread row rows) es)
-      (done-read shows options bytes row rows is are)
-      (span-becomes shows options bytes row rows is are wants reads string strings);
+      (done-read options bytes row rows is are)
+      (span-becomes options bytes row rows is are wants reads string strings);
 }

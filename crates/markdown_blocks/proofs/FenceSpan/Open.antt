@@ -8,24 +8,15 @@ use Rattle.md_definition.specs.Texts.{first_byte}
 use Rattle.md_definition.specs.Tree as t
 use Rattle.md_definition.specs.Tree.{Line}
 use Rattle.md_lines.specs.Fence.{block_name}
-use Rattle.md_outline.specs.Roles.{is_plain}
+use Rattle.md_outline.specs.LinesStand.{HasLines}
 use Rattle.md_seam.specs.Events.Endings.{IsLeaf, on_line}
 use Rattle.md_seam.specs.Events.Grammar.{Expression, behind, behind_block, blocks, inside, plain_text}
-use Rattle.md_seam.specs.Events.Spelled.{AsInfo, AsLine, AsMeta, FenceLeaf, Fenced, IsFence, LeafKind, MathLeaf, OfFence}
-use Rattle.md_seam.specs.Events.Spelled.{OfMath, OpenLeaf, Opens, Tells, block_of, next_line, role}
+use Rattle.md_seam.specs.Events.Spelled.{FenceLeaf, Fenced, LeafKind, MathLeaf, OfFence}
+use Rattle.md_seam.specs.Events.Spelled.{OfMath, OpenLeaf, Opens, block_of, next_line, role}
 use Rattle.md_seam.specs.Events.Tiles.{part_kind}
 use Rattle.markdown_blocks.proofs.FenceFurther.Grammar.{behind_line, in_line}
 use Rattle.markdown_blocks.proofs.FenceFurther.Reads.{IsOpen, with_closing, with_lines}
 use Rattle.markdown_blocks.proofs.Span.Leaf.{IsLeafName}
-
--- What is still asked of an outline: that it knows the names of such blocks, and of what stands in them.
-pub record ShowsFences : Type 0 where
-  pub code : is_plain (Opens OfFence) ≡ true
-  pub math : is_plain (Opens OfMath) ≡ true
-  pub fences : is_plain IsFence ≡ true
-  pub lines : is_plain (Tells AsLine) ≡ true
-  pub info : is_plain (Tells AsInfo) ≡ true
-  pub meta : is_plain (Tells AsMeta) ≡ true
 
 -- what holds of math and of code holds of each marker
 pub by-marker : (P : Bool → Type 0) (m : ℕ) → P true → P false → P (m == 36)
@@ -44,8 +35,8 @@ kind_of m = cond (m == 36) OfMath OfFence
 abbrev pub begin_of : ℕ → Expression
 begin_of m = inside plain_text (block_name m)
 
-pub fence-name : ShowsFences → (m : ℕ) → IsLeafName (block_name m) (kind_of m)
-fence-name shows m = record {
+pub fence-name : (m : ℕ) → IsLeafName (block_name m) (kind_of m)
+fence-name m = record {
   is =
       by-marker (λ x. role (cond x n.MathFlow n.CodeFenced) ≡ Opens (cond x OfMath OfFence)) m refl refl;
   leaf = by-marker (λ x. on_line (cond x n.MathFlow n.CodeFenced) ≡ IsLeaf) m refl refl;
@@ -55,7 +46,7 @@ fence-name shows m = record {
   block = by-marker (λ x. behind (cond x n.MathFlow n.CodeFenced) blocks ≡ behind_block) m refl refl;
   begin = begin_of m;
   begins = λ text. begin-same text m;
-  plain = by-marker (λ x. is_plain (Opens (cond x OfMath OfFence)) ≡ true) m shows.math shows.code;
+  lined = by-marker (λ x. HasLines (cond x OfMath OfFence)) m tt tt;
 }
   where
     begin-same : (text : Expression) (m : ℕ) → inside text (block_name m) ≡ begin_of m
@@ -64,9 +55,9 @@ fence-name shows m = record {
         (λ x. inside text (cond x n.MathFlow n.CodeFenced) ≡ inside plain_text (cond x n.MathFlow n.CodeFenced)) m refl
         refl
 
-pub fence-begin : (shows : ShowsFences) (m : ℕ) → (fence-name shows m).begin ≡ begin_of m
+pub fence-begin : (m : ℕ) → (fence-name m).begin ≡ begin_of m
 unfolding fence-name
-fence-begin shows m = refl
+fence-begin m = refl
 
 -- The same behind its opening fence, and in a further line.
 pub behind-same : (text : Expression) (m : ℕ) → behind_line text m ≡ behind_line plain_text m

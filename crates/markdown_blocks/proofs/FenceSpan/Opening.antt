@@ -13,6 +13,7 @@ use Rattle.md_definition.specs.Rest.{Rest, indent, is_white, trim_start}
 use Rattle.md_definition.specs.State.{Opening}
 use Rattle.md_definition.specs.Texts.{first_byte}
 use Rattle.md_lines.specs.Fence.{block_name}
+use Rattle.md_outline.specs.LinesStand.{AtEnding, begun_site}
 use Rattle.md_seam.specs.Events.Grammar.{plain_text}
 use Rattle.md_seam.specs.Events.Nested.{around, enter, exit, pair}
 use Rattle.md_seam.specs.Events.Places.{past_text}
@@ -29,7 +30,7 @@ use Rattle.markdown_blocks.proofs.Fence.Texts.{fence-filled}
 use Rattle.markdown_blocks.proofs.FenceFurther.Definition.{held_of, opening-fence}
 use Rattle.markdown_blocks.proofs.FenceFurther.Grammar.{behind_line}
 use Rattle.markdown_blocks.proofs.FenceSpan.First.{first-facts, first_inside, marks-are, marks_of, opened_by}
-use Rattle.markdown_blocks.proofs.FenceSpan.Open.{AreMarks, ShowsFences, begin_of, kind_of, leaf_of}
+use Rattle.markdown_blocks.proofs.FenceSpan.Open.{AreMarks, begin_of, kind_of, leaf_of}
 use Rattle.markdown_blocks.proofs.FenceSpan.Rest.{goes_back, row_done, row_unread}
 use Rattle.markdown_blocks.proofs.FenceSpan.White.{white-lead}
 use Rattle.markdown_blocks.proofs.FillFacts.{filled-read}
@@ -189,20 +190,20 @@ line-lead options bytes row is =
     let lies = line-laid options bytes row is in
     white-lead bytes (rest_line is.rest) (drop row.end.index bytes) row.first lies.stands lies.cut
 
-pub line-inside : ShowsFences → (options : ParseOptions) (bytes : List ℕ) (row : Row) →
+pub line-inside : (options : ParseOptions) (bytes : List ℕ) (row : Row) →
     (is : IsLineOf options bytes fence_leaf row) →
     let m = first_byte (text_of is.rest) in
     InsideFacts bytes (past_white (rest_line is.rest) row.first) row.end (begin_of m) (behind_line plain_text m)
-    (fresh (kind_of m)) (leaf_of (opening_of is.rest) (marks_of (text_of is.rest)) [] false)
-    (first_inside linked (rest_line is.rest) row.first row.end)
+    (fresh (kind_of m)) (leaf_of (opening_of is.rest) (marks_of (text_of is.rest)) [] false) (begun_site (kind_of m))
+    (AtEnding (kind_of m)) (first_inside linked (rest_line is.rest) row.first row.end)
     (first_inside (read_inner bytes) (rest_line is.rest) row.first row.end)
-line-inside shows options bytes row is =
+line-inside options bytes row is =
     subst
     (λ (e : Point).
     let m = first_byte (text_of is.rest) in
     InsideFacts bytes (past_white (rest_line is.rest) row.first) e (begin_of m) (behind_line plain_text m)
-    (fresh (kind_of m)) (leaf_of (opening_of is.rest) (marks_of (text_of is.rest)) [] false)
-    (first_inside linked (rest_line is.rest) row.first e)
+    (fresh (kind_of m)) (leaf_of (opening_of is.rest) (marks_of (text_of is.rest)) [] false) (begun_site (kind_of m))
+    (AtEnding (kind_of m)) (first_inside linked (rest_line is.rest) row.first e)
     (first_inside (read_inner bytes) (rest_line is.rest) row.first e)) (sym is.at.end)
-    (first-facts shows options bytes (rest_line is.rest) (drop row.end.index bytes) row.first (indent is.rest)
+    (first-facts options bytes (rest_line is.rest) (drop row.end.index bytes) row.first (indent is.rest)
     (line-laid options bytes row is))

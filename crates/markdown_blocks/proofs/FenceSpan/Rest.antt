@@ -20,6 +20,8 @@ use Rattle.md_definition.specs.Tree as t
 use Rattle.md_definition.specs.Tree.{Block, Blocks, Line}
 use Rattle.md_lines.specs.Fence.{block_name}
 use Rattle.md_lines.specs.Further.{further_link}
+use Rattle.md_outline.specs.LinesStand.{Site}
+use Rattle.md_outline.proofs.LinesPass.{IsOnLine, MayLeave, ended_site}
 use Rattle.md_seam.specs.Events.Endings.{Ends, IsLeaf, IsOther, OnLine, endings_stand_from, ends_rightly, on_line, spot_behind}
 use Rattle.md_seam.specs.Events.Grammar.{Expression, behind, may_end}
 use Rattle.md_seam.specs.Events.Inline.{is_linked}
@@ -111,8 +113,10 @@ others-fill false (e ∷ es) others balanced = λ ys.
     one Enter name (Ends blank) zs fits h = cc
     one Exit name x zs fits h = absurd fits
 
--- A further line, in front of which this is left of the grammar, and that behind it; it is read from this leaf to that.
-pub record FurtherLine (bytes : List ℕ) (o : Opening) (x left : Expression) (from leaf : OpenLeaf) (row : Row) : Type 0
+-- A further line, in front of which this is left of the grammar, and that behind it; it is read from this leaf to that,
+-- and an outline goes from here in it to there.
+pub record FurtherLine (bytes : List ℕ) (o : Opening) (x left : Expression) (from leaf : OpenLeaf) (start site : Site)
+    (row : Row) : Type 0
   where
     pub parts : List Event
     pub is : row.inside ≡
@@ -124,13 +128,13 @@ pub record FurtherLine (bytes : List ℕ) (o : Opening) (x left : Expression) (f
     pub unlinked : NoLinks parts
     -- nothing stands in it just where it ends where it began
     pub bare : is_bare parts ≡ (row.first.index == row.end.index)
-    pub facts : InsideFacts bytes row.first row.end x left from leaf parts parts
+    pub facts : InsideFacts bytes row.first row.end x left from leaf start site parts parts
 
 -- Further lines behind one: what they come to.
-pub record HasRest (bytes : List ℕ) (o : Opening) (left : Expression) (leaf : OpenLeaf) (row : Row) (rows : List Row)
-    (c : Came) : Type 0 where
+pub record HasRest (bytes : List ℕ) (o : Opening) (left : Expression) (leaf : OpenLeaf) (site : Site) (row : Row)
+    (rows : List Row) (c : Came) : Type 0 where
   pub to : OpenLeaf
-  pub further : AreFurther bytes row_unread (row_done bytes) (block_name o.marker) left leaf to row rows
+  pub further : AreFurther bytes row_unread (row_done bytes) (block_name o.marker) left leaf to site row rows
   -- the block is that of the line definition
   pub came : IsCame c
   pub block : block_of to ≡ block_by c
@@ -141,11 +145,13 @@ pub record HasRest (bytes : List ℕ) (o : Opening) (left : Expression) (leaf : 
   pub same : span_rest (row_done bytes) row rows ≡ span_rest row_unread row rows
 
 -- none
-pub rest-none : (bytes : List ℕ) (o : Opening) (left : Expression) (leaf : OpenLeaf) (row : Row) (c : Came) →
-    may_end left ≡ true → IsCame c → block_of leaf ≡ block_by c → HasRest bytes o left leaf row [] c
-rest-none bytes o left leaf row c ends is block = record {
+pub rest-none : (bytes : List ℕ) (o : Opening) (left : Expression) (leaf : OpenLeaf) (site : Site) (row : Row)
+    (c : Came) →
+    may_end left ≡ true → MayLeave site → IsCame c → block_of leaf ≡ block_by c →
+    HasRest bytes o left leaf site row [] c
+rest-none bytes o left leaf site row c ends leave is block = record {
   to = leaf;
-  further = (ends, refl);
+  further = (ends, refl, leave);
   came = is;
   block = block;
   fills = λ full ys. refl;
@@ -154,15 +160,15 @@ rest-none bytes o left leaf row c ends is block = record {
 }
 
 -- one more in front
-pub rest-more : (bytes : List ℕ) (o : Opening) (left x after : Expression) (leaf to : OpenLeaf) (row next : Row)
-    (rows : List Row) (c : Came) (q : Point) →
+pub rest-more : (bytes : List ℕ) (o : Opening) (left x after : Expression) (leaf to : OpenLeaf) (site end : Site)
+    (row next : Row) (rows : List Row) (c : Came) (q : Point) →
     row.after ≡ Some q → IsEnding bytes row.end q → LinePrefix bytes [] q next.first next.front →
-    behind n.LineEnding left ≡ x → TakesPrefixes x →
-    FurtherLine bytes o x after (behind_ending bytes q leaf) to next → HasRest bytes o after to next rows c →
-    HasRest bytes o left leaf row (next ∷ rows) c
-rest-more bytes o left x after leaf to row next rows c q ended_at ending front e takes line rest = record {
+    behind n.LineEnding left ≡ x → TakesPrefixes x → IsOnLine site →
+    FurtherLine bytes o x after (behind_ending bytes q leaf) to (ended_site bytes q site) end next →
+    HasRest bytes o after to end next rows c → HasRest bytes o left leaf site row (next ∷ rows) c
+rest-more bytes o left x after leaf to site end row next rows c q ended_at ending front e takes on line rest = record {
   to = rest.to;
-  further = (q, ended_at, ending, front, subst TakesPrefixes (sym e) takes, one, rest.further);
+  further = (q, ended_at, ending, front, subst TakesPrefixes (sym e) takes, on, one, rest.further);
   came = rest.came;
   block = rest.block;
   fills = λ full.
@@ -215,7 +221,9 @@ rest-more bytes o left x after leaf to row next rows c q ended_at ending front e
         both true b = refl
         both false b = refl
 
-    one : SpanLine bytes row_unread (row_done bytes) name (behind n.LineEnding left) (behind_ending bytes q leaf) next
+    one :
+        SpanLine bytes row_unread (row_done bytes) name (behind n.LineEnding left) (behind_ending bytes q leaf)
+        (ended_site bytes q site) next
     one = record {
       ends =
           ends-by row_unread (row_done bytes) name next (enter_link name next.first further_link ∷ line.parts)
@@ -223,18 +231,20 @@ rest-more bytes o left x after leaf to row next rows c q ended_at ending front e
       clear = line.clear;
       left = after;
       leaf = to;
+      site = end;
       facts =
           subst
           (λ (y : Expression).
-          InsideFacts bytes next.first next.end y after (behind_ending bytes q leaf) to
+          InsideFacts bytes next.first next.end y after (behind_ending bytes q leaf) to (ended_site bytes q site) end
           (but_ends next.inside) (but_ends (row_done bytes next))) (sym e)
           (subst
           (λ (es : List Event).
-          InsideFacts bytes next.first next.end x after (behind_ending bytes q leaf) to
+          InsideFacts bytes next.first next.end x after (behind_ending bytes q leaf) to (ended_site bytes q site) end
           (but_ends next.inside) (but_ends es)) (sym done)
           (subst
           (λ (es : List Event).
-          InsideFacts bytes next.first next.end x after (behind_ending bytes q leaf) to es es) (sym parts)
+          InsideFacts bytes next.first next.end x after (behind_ending bytes q leaf) to (ended_site bytes q site) end es
+          es) (sym parts)
           line.facts));
     }
 
@@ -246,12 +256,13 @@ further-at options bytes row is = record { at = is.at; column = is.column }
 
 -- with what is known of what stands in it
 pub further-line : (options : ParseOptions) (bytes : List ℕ) (o : Opening) (x left : Expression) (from leaf : OpenLeaf)
-    (row : Row) → (is : IsLineOf options bytes fence_further row) → row.on ≡ held_of o → is_fence (held_of o) ≡ true →
-    InsideFacts bytes row.first row.end x left from leaf
+    (start site : Site) (row : Row) → (is : IsLineOf options bytes fence_further row) → row.on ≡ held_of o →
+    is_fence (held_of o) ≡ true →
+    InsideFacts bytes row.first row.end x left from leaf start site
     (further_parts options (held_of o) is.rest row.first row.end)
     (further_parts options (held_of o) is.rest row.first row.end) →
-    FurtherLine bytes o x left from leaf row
-further-line options bytes o x left from leaf row is on e facts = record {
+    FurtherLine bytes o x left from leaf start site row
+further-line options bytes o x left from leaf start site row is on e facts = record {
   parts = parts;
   is =
       is.inside ∙ ap (λ (h : HeldLeaf). fence_further.added options h (rest_line is.rest) row.first) on

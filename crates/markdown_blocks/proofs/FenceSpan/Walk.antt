@@ -13,8 +13,10 @@ use Rattle.md_definition.specs.Leaves.{Came, Finished, Opened, closes}
 use Rattle.md_definition.specs.Rest.{Rest, line_of, lose}
 use Rattle.md_definition.specs.State.{OpenFence, Opening, fence_block}
 use Rattle.md_definition.specs.Tree.{Line}
+use Rattle.md_outline.specs.LinesStand.{AtEnd, AtLine, Site}
+use Rattle.md_outline.proofs.LinesPass.{ended_site}
 use Rattle.md_seam.specs.Events.Grammar.{Expression, Nothing, behind, may_end, plain_text}
-use Rattle.md_seam.specs.Events.Spelled.{OpenLeaf, next_line}
+use Rattle.md_seam.specs.Events.Spelled.{LeafKind, OpenLeaf, next_line}
 use Rattle.markdown_blocks.specs.Fronted.{rest_line}
 use Rattle.markdown_blocks.specs.Leaf.FenceFurther.{fence_comes, fence_further, further_holds, further_parts, is_fence}
 use Rattle.markdown_blocks.specs.Leaf.FenceFurther.{opening_of}
@@ -25,8 +27,9 @@ use Rattle.markdown_blocks.proofs.FenceFurther.Grammar.{behind-line-ends, ending
 use Rattle.markdown_blocks.proofs.FenceFurther.Grammar.{takes-line}
 use Rattle.markdown_blocks.proofs.FenceFurther.Places.{FurtherAt}
 use Rattle.markdown_blocks.proofs.FenceSpan.Further.{IsBare, bare-facts, closing-reads, end-bare, further-facts, line-reads}
-use Rattle.markdown_blocks.proofs.FenceSpan.Open.{AreMarks, ShowsFences, block-is, leaf_of}
+use Rattle.markdown_blocks.proofs.FenceSpan.Open.{AreMarks, block-is, kind_of, leaf_of}
 use Rattle.markdown_blocks.proofs.FenceSpan.Rest.{HasRest, further-at, further-line, rest-more, rest-none}
+use Rattle.markdown_blocks.proofs.FenceSpan.Sites.{ended-goes, ended-over, is_told_of, line-leaves, line-on, line_site}
 use Rattle.markdown_blocks.proofs.FrontPlaces.{fronts-grow}
 use Rattle.markdown_blocks.proofs.Span.Inside.{InsideFacts, ReadsLeaf, behind_ending}
 use Rattle.markdown_blocks.proofs.SpanLaws.{AreBehind, IsLineOf, come_behind}
@@ -59,10 +62,11 @@ line-held options bytes o row closed is on e f =
 rest-closed : (options : ParseOptions) (bytes : List ℕ) (o : Opening) (marks : List ℕ) (lines : List Line) (row : Row)
     (rows : List Row) →
     AreMarks o marks → row.behind ≡ held_leaf.None → (are : AreBehind options bytes fence_further row rows) →
-    HasRest bytes o Nothing (leaf_of o marks lines true) row rows
+    HasRest bytes o Nothing (leaf_of o marks lines true) (AtEnd (kind_of o.marker)) row rows
     (come_behind options bytes fence_further row rows are (Finished (fence_block o lines true)))
 rest-closed options bytes o marks lines row [] marked none are =
-    rest-none bytes o Nothing (leaf_of o marks lines true) row (Finished (fence_block o lines true)) refl tt
+    rest-none bytes o Nothing (leaf_of o marks lines true) (AtEnd (kind_of o.marker)) row
+    (Finished (fence_block o lines true)) refl tt tt
     (block-is o marks lines true marked)
 rest-closed options bytes o marks lines row (next ∷ rows) marked none are =
     absurd (closed (sym (ap is_fence (are.4 ∙ none)) ∙ are.5))
@@ -70,23 +74,23 @@ rest-closed options bytes o marks lines row (next ∷ rows) marked none are =
     closed : is_fence held_leaf.None ≡ true → ⊥
     closed e = cc
 
--- What further lines come to behind a line, whatever lines the block has there.
+-- What further lines come to behind a line, whatever lines the block has there, and whether the line told one or none.
 abbrev Rests : (options : ParseOptions) (bytes : List ℕ) → Opening → List ℕ → Row → List Row → Type 0
 Rests options bytes o marks row rows =
-    (lines : List Line) (left : Expression) → may_end left ≡ true →
+    (lines : List Line) (left : Expression) (told : Bool) → may_end left ≡ true →
     behind n.LineEnding left ≡ in_line plain_text o.marker → row.behind ≡ held_of o →
     (are : AreBehind options bytes fence_further row rows) →
-    HasRest bytes o left (leaf_of o marks lines false) row rows
+    HasRest bytes o left (leaf_of o marks lines false) (line_site (kind_of o.marker) told) row rows
     (come_behind options bytes fence_further row rows are (Opened (OpenFence o lines)))
 
-rest-next : ShowsFences → (options : ParseOptions) (bytes : List ℕ) (o : Opening) (marks : List ℕ) (lines : List Line)
-    (left : Expression) (row next : Row) (rows : List Row) →
+rest-next : (options : ParseOptions) (bytes : List ℕ) (o : Opening) (marks : List ℕ) (lines : List Line)
+    (left : Expression) (told : Bool) (row next : Row) (rows : List Row) →
     AreMarks o marks → is_fence (held_of o) ≡ true → behind n.LineEnding left ≡ in_line plain_text o.marker →
     row.behind ≡ held_of o → (are : AreBehind options bytes fence_further row (next ∷ rows)) →
     Rests options bytes o marks next rows →
-    HasRest bytes o left (leaf_of o marks lines false) row (next ∷ rows)
+    HasRest bytes o left (leaf_of o marks lines false) (line_site (kind_of o.marker) told) row (next ∷ rows)
     (come_behind options bytes fence_further row (next ∷ rows) are (Opened (OpenFence o lines)))
-rest-next shows options bytes o marks lines left row next rows marked fence line held are rests =
+rest-next options bytes o marks lines left told row next rows marked fence line held are rests =
     go (nat_lt q.index (length bytes)) refl
   where
     q : Point
@@ -122,45 +126,66 @@ rest-next shows options bytes o marks lines left row next rows marked fence line
     parts : List Event
     parts = further_parts options (held_of o) r next.first next.end
 
+    kind : LeafKind
+    kind = kind_of o.marker
+
+    site : Site
+    site = line_site (kind_of o.marker) told
+
+    some : Bool
+    some = is_told_of (rest_line (lose o.indent r))
+
     After : Came → Type 0
     After c =
-        HasRest bytes o left leaf row (next ∷ rows) (come_behind options bytes fence_further next rows are.7 c)
+        HasRest bytes o left leaf site row (next ∷ rows) (come_behind options bytes fence_further next rows are.7 c)
 
     -- the line in front of those behind it
-    joined : (after : Expression) (to : OpenLeaf) (c : Came) →
-        InsideFacts bytes next.first next.end x after (behind_ending bytes q leaf) to parts parts →
-        HasRest bytes o after to next rows (come_behind options bytes fence_further next rows are.7 c) → After c
-    joined after to c facts rest =
-        rest-more bytes o left x after leaf to row next rows
+    joined : (after : Expression) (to : OpenLeaf) (end : Site) (c : Came) →
+        InsideFacts bytes next.first next.end x after (behind_ending bytes q leaf) to (ended_site bytes q site) end
+        parts parts →
+        HasRest bytes o after to end next rows (come_behind options bytes fence_further next rows are.7 c) → After c
+    joined after to end c facts rest =
+        rest-more bytes o left x after leaf to site end row next rows
         (come_behind options bytes fence_further next rows are.7 c) q are.1
-        are.2 are.3 line (line-takes o.marker)
-        (further-line options bytes o x after (behind_ending bytes q leaf) to next is on fence facts) rest
+        are.2 are.3 line (line-takes o.marker) (line-on kind told)
+        (further-line options bytes o x after (behind_ending bytes q leaf) to (ended_site bytes q site) end next is on
+        fence facts) rest
 
     -- a line that the text goes on with
-    told : (closed : Bool) (to : OpenLeaf) → nat_lt q.index (length bytes) ≡ true → closing ≡ closed →
+    one : (closed : Bool) (to : OpenLeaf) → nat_lt q.index (length bytes) ≡ true → closing ≡ closed →
         ReadsLeaf bytes (next_line leaf) to parts →
-        InsideFacts bytes next.first next.end x (cond closed Nothing chunk) (behind_ending bytes q leaf) to parts parts
-    told closed to goes k reads =
+        InsideFacts bytes next.first next.end x (cond closed Nothing chunk) (behind_ending bytes q leaf) to
+        (ended_site bytes q site) (cond closed (AtEnd kind) (line_site kind some)) parts parts
+    one closed to goes k reads =
         subst
-        (λ (from : OpenLeaf). InsideFacts bytes next.first next.end x (cond closed Nothing chunk) from to parts parts)
+        (λ (from : OpenLeaf).
+        InsideFacts bytes next.first next.end x (cond closed Nothing chunk) from to (ended_site bytes q site)
+        (cond closed (AtEnd kind) (line_site kind some)) parts parts)
         (sym (ap (λ (b : Bool). cond b (next_line leaf) leaf) goes))
-        (subst (λ (y : Expression). InsideFacts bytes next.first next.end x y (next_line leaf) to parts parts)
-        (ap (λ (b : Bool). cond b Nothing chunk) k)
-        (further-facts shows options bytes (held_of o) r next.first next.end (next_line leaf) to fence at reads))
+        (subst
+        (λ (start : Site).
+        InsideFacts bytes next.first next.end x (cond closed Nothing chunk) (next_line leaf) to start
+        (cond closed (AtEnd kind) (line_site kind some)) parts parts)
+        (sym (ended-goes bytes q kind told goes))
+        (subst
+        (λ (b : Bool).
+        InsideFacts bytes next.first next.end x (cond b Nothing chunk) (next_line leaf) to (AtLine kind)
+        (cond b (AtEnd kind) (line_site kind some)) parts parts) k
+        (further-facts options bytes (held_of o) r next.first next.end (next_line leaf) to fence at reads)))
 
     by : nat_lt q.index (length bytes) ≡ true → (closed : Bool) → closing ≡ closed →
         After (cond closed (Finished (fence_block o lines true)) (Opened (OpenFence o more)))
     by goes true k =
-        joined Nothing (leaf_of o marks lines true) (Finished (fence_block o lines true))
-        (told true (leaf_of o marks lines true) goes k
+        joined Nothing (leaf_of o marks lines true) (AtEnd kind) (Finished (fence_block o lines true))
+        (one true (leaf_of o marks lines true) goes k
         (closing-reads options bytes o marks lines r next.first next.end marked k))
         (rest-closed options bytes o marks lines next rows marked (line-held options bytes o next true is on fence k)
         are.7)
     by goes false k =
-        joined chunk (leaf_of o marks more false) (Opened (OpenFence o more))
-        (told false (leaf_of o marks more false) goes k
+        joined chunk (leaf_of o marks more false) (line_site kind some) (Opened (OpenFence o more))
+        (one false (leaf_of o marks more false) goes k
         (line-reads options bytes o marks lines r next.first next.end marked at k))
-        (rests more chunk (left-ends o.marker (rest_line (lose o.indent r)))
+        (rests more chunk some (left-ends o.marker (rest_line (lose o.indent r)))
         (left-line o.marker (rest_line (lose o.indent r))) (line-held options bytes o next false is on fence k) are.7)
 
     -- where the text ends no line is told
@@ -174,19 +199,23 @@ rest-next shows options bytes o marks lines left row next rows marked fence line
         After (cond goes (fence_comes options (OpenFence o lines) r) (Opened (OpenFence o lines)))
     go true goes = subst After (sym (further-goes options o lines r)) (by goes closing refl)
     go false goes =
-        joined x leaf (Opened (OpenFence o lines))
-        (subst (λ (from : OpenLeaf). InsideFacts bytes next.first next.end x x from leaf parts parts)
+        joined x leaf site (Opened (OpenFence o lines))
+        (subst
+        (λ (from : OpenLeaf).
+        InsideFacts bytes next.first next.end x x from leaf (ended_site bytes q site) site parts parts)
         (sym (ap (λ (b : Bool). cond b (next_line leaf) leaf) goes))
-        (bare-facts bytes options (held_of o) r next.first next.end x leaf (ended goes)))
-        (rests lines x (in-line-ends plain_text o.marker) (ending-line plain_text o.marker)
+        (subst (λ (start : Site). InsideFacts bytes next.first next.end x x leaf leaf start site parts parts)
+        (sym (ended-over bytes q kind told goes))
+        (bare-facts bytes options (held_of o) r next.first next.end x leaf site (ended goes))))
+        (rests lines x told (in-line-ends plain_text o.marker) (ending-line plain_text o.marker)
         (line-held options bytes o next false is on fence (ended goes).other) are.7)
 
-pub rest-open : ShowsFences → (options : ParseOptions) (bytes : List ℕ) (o : Opening) (marks : List ℕ) (row : Row)
+pub rest-open : (options : ParseOptions) (bytes : List ℕ) (o : Opening) (marks : List ℕ) (row : Row)
     (rows : List Row) →
     AreMarks o marks → is_fence (held_of o) ≡ true → Rests options bytes o marks row rows
-rest-open shows options bytes o marks row [] marked fence lines left ends line held are =
-    rest-none bytes o left (leaf_of o marks lines false) row (Opened (OpenFence o lines)) ends tt
-    (block-is o marks lines false marked)
-rest-open shows options bytes o marks row (next ∷ rows) marked fence lines left ends line held are =
-    rest-next shows options bytes o marks lines left row next rows marked fence line held are
-    (rest-open shows options bytes o marks next rows marked fence)
+rest-open options bytes o marks row [] marked fence lines left told ends line held are =
+    rest-none bytes o left (leaf_of o marks lines false) (line_site (kind_of o.marker) told) row
+    (Opened (OpenFence o lines)) ends (line-leaves (kind_of o.marker) told) tt (block-is o marks lines false marked)
+rest-open options bytes o marks row (next ∷ rows) marked fence lines left told ends line held are =
+    rest-next options bytes o marks lines left told row next rows marked fence line held are
+    (rest-open options bytes o marks next rows marked fence)

@@ -14,20 +14,20 @@ use Rattle.markdown_blocks.proofs.HeadingAtx.Places.{text_begin, text_end}
 use Rattle.markdown_blocks.proofs.HeadingAtx.Runs.{runs-each}
 use Rattle.markdown_blocks.proofs.PartedFacts.{clear}
 use Rattle.markdown_blocks.proofs.PlainFacts.{ArePlain, chunk-plain, past-clear, plain-append, plain-around, plain-cons}
-use Rattle.markdown_blocks.proofs.PlainFacts.{plain-nil}
+use Rattle.markdown_blocks.proofs.PlainFacts.{plain-nil, plain-quiet}
 
 -- the begin and the end of a run
 plain-closes : (bytes : List ℕ) (run : Run) (p : Point) → clear bytes p ≡ true → ArePlain bytes (closes run p)
 plain-closes bytes Apart p h = plain-nil bytes
-plain-closes bytes White p h = record { names = refl; texts = refl }
+plain-closes bytes White p h = plain-quiet bytes (closes White p) (tt, tt)
 plain-closes bytes Hashes p h = plain-cons bytes (exit n.HeadingAtxSequence p) [] refl h (plain-nil bytes)
-plain-closes bytes TextRun p h = record { names = refl; texts = refl }
+plain-closes bytes TextRun p h = plain-quiet bytes (closes TextRun p) (tt, tt)
 
 plain-opens : (bytes : List ℕ) (run : Run) (p : Point) → clear bytes p ≡ true → ArePlain bytes (opens run p)
 plain-opens bytes Apart p h = plain-nil bytes
-plain-opens bytes White p h = record { names = refl; texts = refl }
+plain-opens bytes White p h = plain-quiet bytes (opens White p) (tt, tt)
 plain-opens bytes Hashes p h = plain-cons bytes (enter n.HeadingAtxSequence p) [] refl h (plain-nil bytes)
-plain-opens bytes TextRun p h = record { names = refl; texts = refl }
+plain-opens bytes TextRun p h = plain-quiet bytes (opens TextRun p) (tt, tt)
 
 -- what is left of runs
 plain-runs : (bytes : List ℕ) (run : Run) (xs : List ℕ) (p : Point) → clear bytes p ≡ true →

@@ -1,9 +1,12 @@
 -- What is known of what stands in front of the content of a list item, where it goes on and where it opens.
-use Rattle.std.proofs.Common.{ℕ, Bool, List, refl, sym, subst, [], ◌∷◌}
+use Rattle.std.proofs.Common.{◌≡◌, ℕ, Bool, true, false, cond, List, refl, ap, sym, ◌∙◌, subst, [], ◌∷◌}
 use Rattle.md_engine.specs.declared.event.Event.{Event}
 use Rattle.md_engine.specs.declared.event.Name.TheVariants as n
 use Rattle.md_engine.specs.declared.event.Point.{Point}
 use Rattle.md_definition.specs.State.{InItem}
+use Rattle.md_seam.specs.Events.Inline.{pair_unless_empty}
+use Rattle.md_seam.specs.Events.Nested.{pair}
+use Rattle.md_seam.specs.Events.Places.{same_place}
 use Rattle.md_seam.proofs.GrammarLemmas.{Leads}
 use Rattle.markdown_blocks.proofs.BlockQuote.Facts.{pair-prefixes}
 use Rattle.markdown_blocks.proofs.ListItem.Collected.{indent-collects, white-inside}
@@ -16,7 +19,7 @@ use Rattle.markdown_blocks.proofs.ListItem.Prefix.{IsFront, IsIndent, front-line
 use Rattle.markdown_blocks.proofs.ListItem.Read.{front-read}
 use Rattle.markdown_blocks.proofs.PartsStand.{Inside}
 use Rattle.markdown_blocks.proofs.PiecesLemmas.{tiled-unless_empty}
-use Rattle.markdown_blocks.proofs.PrefixFacts.{Continues, Opens, PrefixFacts}
+use Rattle.markdown_blocks.proofs.PrefixFacts.{Continues, Opens, PrefixFacts, is_bare}
 use Rattle.markdown_blocks.proofs.PrefixNames.{ArePrefixes}
 
 indent-facts : (bytes : List ℕ) (p q : Point) (es : List Event) → IsIndent bytes p q es → PrefixFacts bytes p q es
@@ -32,10 +35,20 @@ indent-facts bytes p q es is =
       between = space-between bytes p q is.white;
     })
 
+-- there are some if it is another place
+indent-bare : (p q : Point) → is_bare (pair_unless_empty n.SpaceOrTab p q) ≡ same_place p q
+indent-bare p q = go (same_place p q)
+  where
+    go : (x : Bool) → is_bare (cond x [] (pair n.SpaceOrTab p q)) ≡ x
+    go true = refl
+    go false = refl
+
 -- where an item goes on
 pub item-continues : (bytes : List ℕ) (p q : Point) (es : List Event) → IsIndent bytes p q es → Continues bytes p q es
 item-continues bytes p q es is = record {
   common = indent-facts bytes p q es is;
+  onward = is.columns.onward;
+  bare = ap is_bare is.events ∙ indent-bare p q ∙ is.columns.same;
   names = subst ArePrefixes (sym is.events) (pair-prefixes p q);
   stays = λ text x takes. subst (Leads text (x ∷ []) (x ∷ [])) (sym is.events) (white-stays p q text x takes);
   parted = white-parted bytes p q es is.events is.white;

@@ -1,7 +1,8 @@
 -- A list item goes on and opens by the cells of a line where it does by its bytes.
-use Rattle.std.proofs.Common.{◌≡◌, ℕ, zero, suc, ◌+◌, ◌≤◌, Bool, true, false, List, [], ◌∷◌, ◌++◌, Option, Some, None, drop}
-use Rattle.std.proofs.Common.{slice_range, refl, ap, sym, ◌∙◌, subst, arith}
-use Rattle.std.specs.Prelude.{◌==◌}
+use Rattle.std.proofs.Common.{◌≡◌, ℕ, zero, suc, ◌+◌, ◌<◌, ◌≤◌, Bool, true, false, cond, List, [], ◌∷◌, ◌++◌}
+use Rattle.std.proofs.Common.{Option, Some, None, drop, slice_range, refl, ap, sym, ◌∙◌, subst, arith}
+use Rattle.std.specs.Prelude.{◌==◌, nat_le, not}
+use Rattle.std.proofs.lemmas.Bool.{eq-eqb, ne_eqb}
 use Rattle.md_engine.specs.declared.configuration.ParseOptions.{ParseOptions}
 use Rattle.md_engine.specs.declared.event.Event.{Event}
 use Rattle.md_engine.specs.declared.event.Name.TheVariants as n
@@ -18,16 +19,22 @@ use Rattle.md_containers.proofs.ItemOpens.{OpensItem, opens-agrees, prefix_of}
 use Rattle.md_definition.specs.Containers.{Taken, continues, item_continues, opens_item}
 use Rattle.md_definition.specs.Rest.{Rest, cut_tab, is_blank}
 use Rattle.md_definition.specs.State.{Container, InItem}
+use Rattle.md_seam.specs.Ahead.{begins_white, line_bytes, white_end, white_size}
 use Rattle.md_seam.specs.Events.Inline.{pair_unless_empty}
 use Rattle.md_seam.specs.Events.Nested.{around, enter}
 use Rattle.md_seam.specs.Events.Places.{past_byte, past_text, same_place}
-use Rattle.md_seam.proofs.FeedLines.{slice-front}
+use Rattle.md_seam.specs.Look.{first_seen}
+use Rattle.md_seam.specs.Spaces.{ends_line}
+use Rattle.md_seam.proofs.AheadLemmas.{none-end}
+use Rattle.md_seam.proofs.FeedLines.{Stops, slice-front}
+use Rattle.md_seam.proofs.InlineLemmas.{same-refl}
+use Rattle.md_seam.proofs.LostColumns.{HasLost, lose-walk}
 use Rattle.md_seam.proofs.RestCells.{Cut, RestAt, past_rest, rest_cells}
 use Rattle.markdown_blocks.specs.Containers.ListItem.{item_passed, item_passes, item_rules}
 use Rattle.markdown_blocks.specs.Registry.{IsOf, container_name}
 use Rattle.markdown_blocks.proofs.ContainerLaws.{ByRest}
 use Rattle.markdown_blocks.proofs.ListItem.Facts.{item-continues, item-opens}
-use Rattle.markdown_blocks.proofs.ListItem.Prefix.{IsFront, inside_by, no_digits}
+use Rattle.markdown_blocks.proofs.ListItem.Prefix.{IsFront, TakesColumns, inside_by, no_digits}
 use Rattle.markdown_blocks.proofs.ListItem.Trial.{each-held, each-item, wide-one}
 use Rattle.markdown_blocks.proofs.PassedFacts.{Agree, HasFurther, HasOpening, HasPassed}
 use Rattle.markdown_blocks.proofs.PrefixFacts.{Opens}
@@ -67,6 +74,49 @@ rest-cut text past r q is = go r.spaces is.cut is.text_is
     go (suc m) within e cut =
         ap is_blank (slice-front text q.index (q.index + 1) (9 ∷ []) (r.bytes ++ past) e (omega arith))
 
+-- what it takes is whitespace, a column at least if there is any
+abbrev HasColumns : Point → Option ItemPassed → Type 0
+HasColumns p None = Unit {0}
+HasColumns p (Some o) = TakesColumns p o.point
+
+columns-if : (p : Point) (x : Bool) (a b : Option ItemPassed) → HasColumns p a → HasColumns p b →
+    HasColumns p (cond x a b)
+columns-if p true a b h k = h
+columns-if p false a b h k = k
+
+no-columns : (p : Point) → TakesColumns p p
+no-columns p = record { onward = omega arith; same = same-refl p ∙ sym (eq-eqb p.column p.column refl) }
+
+-- whitespace that comes first is a cell of it at least
+white-some : (m : ℕ) (cells : List Cell) → 1 ≤ m → begins_white cells ≡ true → 1 ≤ white_size m cells
+white-some zero cells some e = absurd (omega arith)
+white-some (suc m) [] some e = cc
+white-some (suc m) (c ∷ cs) some e = rw e (omega arith)
+
+apart-columns : (p q : Point) → same_place p q ≡ false → p.column < q.column → TakesColumns p q
+apart-columns p q e less =
+    record { onward = omega arith; same = e ∙ sym (ne_eqb q.column p.column (λ same. omega (arith, same))) }
+
+white-columns : (line : Line) (text past : List ℕ) (width : ℕ) (r : Rest) (p : Point) (stop : List Cell) →
+    RestAt text past r p → Stops stop → 1 ≤ width →
+    TakesColumns p (white_end width (rest_cells line r p ++ stop) p)
+white-columns line text past width r p stop is k some = go (begins_white cells) refl
+  where
+    cells : List Cell
+    cells = rest_cells line r p ++ stop
+
+    q : Point
+    q = white_end width cells p
+
+    lost : HasLost line text past width r p stop cells q
+    lost = lose-walk line text past width r p stop is k
+
+    go : (x : Bool) → begins_white cells ≡ x → TakesColumns p q
+    go true white =
+        apart-columns p q (lost.apart some white)
+        (omega (arith, is.column, lost.stands.column, lost.column, white-some width cells some white))
+    go false dark = subst (TakesColumns p) (sym (none-end width cells p dark)) (no-columns p)
+
 -- an item goes on
 pub item-goes : (options : ParseOptions) (c : Container) → IsOf kind.ListItem c → ByRest (λ line text past r stop p.
     let cells = rest_cells line r p ++ stop in
@@ -85,6 +135,9 @@ item-goes options c is = each-item (λ d. ByRest (λ line text past r stop p.
         go (item_further digits marker width blank cells p) (item_continues digits marker width blank r)
         (further-agrees digits marker width blank some line text past r stop p is h k)
         (further-held held digits marker width blank cells p some)
+        (columns-if p (ends_line (first_seen cells)) _ _ (columns-if p blank _ _ tt (no-columns p))
+        (columns-if p (cond (is_blank (line_bytes cells)) (not blank) (nat_le width (white_size width cells))) _ _
+        (white-columns line text past width r p stop is k some) tt))
       where
         cells : List Cell
         cells = rest_cells line r p ++ stop
@@ -93,18 +146,19 @@ item-goes options c is = each-item (λ d. ByRest (λ line text past r stop p.
         held = container_of kind.ListItem
 
         go : (o : Option ItemPassed) (t : Option Taken) →
-            ItemAgrees (GoesFurther line text past p (past_rest r p) stop cells) o t → IsHeld held o →
+            ItemAgrees (GoesFurther line text past p (past_rest r p) stop cells) o t → IsHeld held o → HasColumns p o →
             Agree (HasFurther line text past p (past_rest r p) stop cells) (item_passes o) t
-        go None None has holds = tt
-        go None (Some t) has holds = absurd has
-        go (Some o) None has holds = absurd has
-        go (Some o) (Some t) has holds = record {
+        go None None has holds columns = tt
+        go None (Some t) has holds columns = absurd has
+        go (Some o) None has holds columns = absurd has
+        go (Some o) (Some t) has holds columns = record {
           passes = item-leaves line text past (past_rest r p) stop cells held o t has.leaves holds;
           further =
               item-continues text p o.point o.events
               (record {
                 events = has.events;
                 white = has.white;
+                columns = columns;
                 cut = rest-cut text past t.rest o.point has.leaves.stands;
               });
         }

@@ -1,6 +1,6 @@
 -- What stands in front of the content of a list item: whitespace on a further line, and behind its begin a prefix with
 -- its marker.
-use Rattle.std.proofs.Common.{◌≡◌, ℕ, ◌+◌, Bool, true, false, cond, List, [], ◌∷◌, ◌++◌, drop, slice_range, length}
+use Rattle.std.proofs.Common.{◌≡◌, ℕ, ◌+◌, ◌≤◌, Bool, true, false, cond, List, [], ◌∷◌, ◌++◌, drop, slice_range, length}
 use Rattle.std.proofs.Common.{ap, sym, subst, ◌∙◌, arith, get_or}
 use Rattle.std.specs.Prelude.{◌==◌, slice_index}
 use Rattle.std.proofs.lemmas.List.{get_or-drop}
@@ -17,10 +17,16 @@ use Rattle.md_seam.proofs.FeedLines.{drop-past, past_text-whole}
 use Rattle.md_seam.proofs.InlineLemmas.{past-index}
 use Rattle.markdown_blocks.proofs.LineTexts.{past_text-line}
 
+-- a point that is not behind another one of its line in columns, and is another place only if it is a further column
+pub record TakesColumns (p q : Point) : Type 0 where
+  pub onward : p.column ≤ q.column
+  pub same : same_place p q ≡ (q.column == p.column)
+
 -- on a further line: from a point to a point, which cuts no byte but a tab
 pub record IsIndent (bytes : List ℕ) (p q : Point) (es : List Event) : Type 0 where
   pub events : es ≡ pair_unless_empty n.SpaceOrTab p q
   pub white : White bytes p q
+  pub columns : TakesColumns p q
   pub cut : (q.vs == 0) ≡ false → is_blank (slice_range bytes q.index (q.index + 1)) ≡ true
 
 -- where an item has no digits

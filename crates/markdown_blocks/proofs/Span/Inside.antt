@@ -17,6 +17,8 @@ use Rattle.md_seam.proofs.InlineLemmas.{same-refl}
 use Rattle.md_seam.proofs.NestedLemmas.{at_or_before-refl, balanced-none}
 use Rattle.md_seam.proofs.SpelledLemmas.{QuietOrPrefix, Roles, read-from, read-prefixes, roles-append}
 use Rattle.md_outline.specs.Between.{is_between}
+use Rattle.md_outline.specs.LinesStand.{Site}
+use Rattle.md_outline.proofs.LinesPass.{IsOnLine, ended_site, passes-ending, passes-prefixes}
 use Rattle.markdown_blocks.proofs.BetweenFacts.{AreBetween, between-append, between-pair}
 use Rattle.markdown_blocks.proofs.ChunkFacts.{ending-order, ending-stands, line-ending}
 use Rattle.markdown_blocks.proofs.ContainerNames.{TakesPrefixes}
@@ -32,7 +34,7 @@ use Rattle.markdown_blocks.proofs.PartedFacts.{Sits, clear, sits-append, sits-st
 use Rattle.markdown_blocks.proofs.PartsStand.{Stands, stands-append, stands-outside}
 use Rattle.markdown_blocks.proofs.PieceFacts.{Stood, stood-append, stood-none, stood-pair}
 use Rattle.markdown_blocks.proofs.PiecesLemmas.{Tiled, tiled-append, tiled-none, tiled-pair}
-use Rattle.markdown_blocks.proofs.PlainFacts.{ArePlain, plain-append, plain-nil, plain-untold}
+use Rattle.markdown_blocks.proofs.PlainFacts.{ArePlainFrom, plain-none, plain-through, plain-untold}
 use Rattle.markdown_blocks.proofs.PrefixNames.{ArePrefixes, prefixes-roles}
 use Rattle.markdown_blocks.proofs.RowFacts.{IsEnding}
 use Rattle.markdown_blocks.proofs.SpanLemmas.{Nested_in, nested_in-append}
@@ -43,8 +45,9 @@ ReadsLeaf bytes from to es =
     (r : Reading) → r.text ≡ None → r.leaf ≡ Some from → read bytes r es ≡ record r { leaf = Some to }
 
 -- These events stand inside of a leaf from a point to a point, before text parts are read, and those once they are. Of
--- the grammar of the leaf this is left in front of them, and that behind them; they are read from this to that.
-pub record InsideFacts (bytes : List ℕ) (p q : Point) (x y : Expression) (from to : OpenLeaf)
+-- the grammar of the leaf this is left in front of them, and that behind them; they are read from this to that, and an
+-- outline goes from this place in the leaf to that.
+pub record InsideFacts (bytes : List ℕ) (p q : Point) (x y : Expression) (from to : OpenLeaf) (start end : Site)
     (unread done : List Event) : Type 0 where
   -- they nest, and go forward
   pub unread_nested : Nested_in p q unread
@@ -69,7 +72,7 @@ pub record InsideFacts (bytes : List ℕ) (p q : Point) (x y : Expression) (from
   -- they stand between characters, and may be outlined
   pub between : is_between bytes p.index ≡ true → is_between bytes q.index ≡ true → AreBetween bytes done
   pub parted : Sits bytes done
-  pub plain : clear bytes p ≡ true → ArePlain bytes done
+  pub plain : clear bytes p ≡ true → ArePlainFrom bytes start end done
   -- and they are read
   pub reads : ReadsLeaf bytes from to done
 
@@ -81,11 +84,11 @@ pub record Meets (bytes : List ℕ) (q r : Point) : Type 0 where
   pub clear : clear bytes q ≡ true
 
 pub inside-append : (bytes : List ℕ) (p q r : Point) (x y z : Expression) (from mid to : OpenLeaf)
-    (unread done unread_more done_more : List Event) →
-    Meets bytes q r → InsideFacts bytes p q x y from mid unread done →
-    InsideFacts bytes q r y z mid to unread_more done_more →
-    InsideFacts bytes p r x z from to (unread ++ unread_more) (done ++ done_more)
-inside-append bytes p q r x y z from mid to unread done unread_more done_more meets h k = record {
+    (start middle end : Site) (unread done unread_more done_more : List Event) →
+    Meets bytes q r → InsideFacts bytes p q x y from mid start middle unread done →
+    InsideFacts bytes q r y z mid to middle end unread_more done_more →
+    InsideFacts bytes p r x z from to start end (unread ++ unread_more) (done ++ done_more)
+inside-append bytes p q r x y z from mid to start middle end unread done unread_more done_more meets h k = record {
   unread_nested = nested_in-append p q r unread unread_more h.unread_nested k.unread_nested;
   nested = nested_in-append p q r done done_more h.nested k.nested;
   tiled = tiled-append p q r unread unread_more h.tiled k.tiled;
@@ -104,16 +107,17 @@ inside-append bytes p q r x y z from mid to unread done unread_more done_more me
       λ first last. between-append bytes done done_more (h.between first (meets.between last))
       (k.between (meets.between last) last);
   parted = sits-append bytes done done_more h.parted k.parted;
-  plain = λ first. plain-append bytes done done_more (h.plain first) (k.plain meets.clear);
+  plain =
+      λ first. plain-through bytes start middle end done done_more (h.plain first) (k.plain meets.clear);
   reads =
       λ s text leaf. read-from bytes s (record s { leaf = Some mid }) done done_more (h.reads s text leaf)
       ∙ k.reads (record s { leaf = Some mid }) text refl;
 }
 
 -- none
-pub inside-none : (bytes : List ℕ) (p : Point) (x : Expression) (leaf : OpenLeaf) →
-    InsideFacts bytes p p x x leaf leaf [] []
-inside-none bytes p x leaf = record {
+pub inside-none : (bytes : List ℕ) (p : Point) (x : Expression) (leaf : OpenLeaf) (site : Site) →
+    InsideFacts bytes p p x x leaf leaf site site [] []
+inside-none bytes p x leaf site = record {
   unread_nested = (balanced-none, (tt, at_or_before-refl p));
   nested = (balanced-none, (tt, at_or_before-refl p));
   tiled = tiled-none p p (same-refl p);
@@ -129,7 +133,7 @@ inside-none bytes p x leaf = record {
   filled = fill-same bytes [] tt tt;
   between = λ first last. refl;
   parted = sits-still bytes [] tt;
-  plain = λ first. plain-nil bytes;
+  plain = λ first. plain-none bytes site;
   reads = λ s text is_open. ap (λ (o : Option OpenLeaf). record s { leaf = o }) is_open;
 }
 
@@ -150,11 +154,11 @@ ending-reads bytes p q leaf s text is_open =
     go true = ap (λ (o : Option OpenLeaf). record s { leaf = option_map next_line o }) is_open
     go false = ap (λ (o : Option OpenLeaf). record s { leaf = o }) is_open
 
-pub ending-inside : (bytes : List ℕ) (p q : Point) (x : Expression) (leaf : OpenLeaf) → p.vs ≡ 0 →
-    IsEnding bytes p q →
-    InsideFacts bytes p q x (behind n.LineEnding x) leaf (behind_ending bytes q leaf) (pair n.LineEnding p q)
-    (pair n.LineEnding p q)
-ending-inside bytes p q x leaf whole is = record {
+pub ending-inside : (bytes : List ℕ) (p q : Point) (x : Expression) (leaf : OpenLeaf) (site : Site) → p.vs ≡ 0 →
+    IsEnding bytes p q → IsOnLine site →
+    InsideFacts bytes p q x (behind n.LineEnding x) leaf (behind_ending bytes q leaf) site (ended_site bytes q site)
+    (pair n.LineEnding p q) (pair n.LineEnding p q)
+ending-inside bytes p q x leaf site whole is on = record {
   unread_nested = nested;
   nested = nested;
   tiled = tiled-pair n.LineEnding p q;
@@ -170,7 +174,10 @@ ending-inside bytes p q x leaf whole is = record {
   filled = fill-same bytes (pair n.LineEnding p q) (refl, (refl, tt)) (refl, (refl, tt));
   between = λ first last. between-pair bytes n.LineEnding p q first last;
   parted = sits-still bytes (pair n.LineEnding p q) (tt, (tt, tt));
-  plain = λ first. plain-untold bytes (pair n.LineEnding p q) ((refl, refl), ((refl, refl), tt));
+  plain = λ first. record {
+    known = (plain-untold bytes (pair n.LineEnding p q) ((refl, refl), ((refl, refl), tt))).known;
+    lines = passes-ending bytes p q site on;
+  };
   reads = ending-reads bytes p q leaf;
 }
   where
@@ -185,10 +192,11 @@ ending-inside bytes p q x leaf whole is = record {
 
 -- Prefixes of containers that go on, in front of a further line.
 
-pub front-inside : (bytes : List ℕ) (p q : Point) (x : Expression) (leaf : OpenLeaf) (front : List Event) →
-    TakesPrefixes x → LinePrefix bytes [] p q front →
-    InsideFacts bytes p q x x leaf leaf front front
-front-inside bytes p q x leaf front takes is = record {
+pub front-inside : (bytes : List ℕ) (p q : Point) (x : Expression) (leaf : OpenLeaf) (site : Site)
+    (front : List Event) →
+    TakesPrefixes x → IsOnLine site → LinePrefix bytes [] p q front →
+    InsideFacts bytes p q x x leaf leaf site site front front
+front-inside bytes p q x leaf site front takes on is = record {
   unread_nested = nested;
   nested = nested;
   tiled = fronts-tiled bytes [] p q front is;
@@ -204,7 +212,10 @@ front-inside bytes p q x leaf front takes is = record {
   filled = fill-same bytes front unlinked outside;
   between = λ first last. (fronts-between bytes [] p q front first is).0;
   parted = fronts-sit bytes [] p q front is;
-  plain = λ first. plain-front bytes [] p q front is;
+  plain = λ first. record {
+    known = (plain-front bytes [] p q front is).known;
+    lines = passes-prefixes bytes site front on (prefixes-roles QuietOrPrefix front tt tt names);
+  };
   reads =
       λ s text is_open. read-prefixes bytes s front text (prefixes-roles QuietOrPrefix front tt tt names)
       ∙ ap (λ (o : Option OpenLeaf). record s { leaf = o }) is_open;

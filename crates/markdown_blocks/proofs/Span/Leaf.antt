@@ -13,15 +13,17 @@ use Rattle.md_seam.specs.Events.Endings.{spot_behind}
 use Rattle.md_seam.specs.Events.Grammar.{Expression, behind, behind_block, blocks, inside, may_end, plain_text}
 use Rattle.md_seam.specs.Events.Grammar.{unread_text}
 use Rattle.md_seam.specs.Events.Nested.{around, exit}
-use Rattle.md_seam.specs.Events.Spelled.{IsQuiet, LeafKind, OpenLeaf, Opens, Reading, Role, add_block, block_of, fresh}
-use Rattle.md_seam.specs.Events.Spelled.{read, read_enter, read_exit, role}
+use Rattle.md_seam.specs.Events.Spelled.{IsQuiet, LeafKind, OfCode, OfFence, OfMath, OpenLeaf, Opens, Reading, Role}
+use Rattle.md_seam.specs.Events.Spelled.{add_block, block_of, fresh, read, read_enter, read_exit, role}
 use Rattle.md_seam.specs.Events.Tiles.{part_kind}
 use Rattle.md_seam.proofs.EndingsLemmas as ending
 use Rattle.md_seam.proofs.EndingsLemmas.{Stays, in_leaf, others-lead}
 use Rattle.md_seam.proofs.GrammarLemmas as grammar
 use Rattle.md_seam.proofs.GrammarLemmas.{IsWord, leads-around}
 use Rattle.md_seam.proofs.SpelledLemmas.{Between, Quiet, Roles, read-from, read-quiet}
-use Rattle.md_outline.specs.Roles.{is_plain, is_told}
+use Rattle.md_outline.specs.LinesStand.{HasLines, Site, begun_site}
+use Rattle.md_outline.specs.Roles.{is_told, is_unlisted}
+use Rattle.md_outline.proofs.LinesPass.{MayLeave, passes-leaf}
 use Rattle.markdown_blocks.proofs.BetweenFacts.{around-between, between-append}
 use Rattle.markdown_blocks.proofs.FillFacts.{fill-append, fill-around, fill-same}
 use Rattle.markdown_blocks.proofs.LeafFacts as leaf
@@ -33,7 +35,7 @@ use Rattle.markdown_blocks.proofs.PartedFacts.{Still, around-sits, clear, quiets
 use Rattle.markdown_blocks.proofs.PartsStand.{stands-append, stands-around, stands-outside}
 use Rattle.markdown_blocks.proofs.PieceFacts.{Starts, stood-around, stood-append}
 use Rattle.markdown_blocks.proofs.PiecesLemmas.{tiled-append, tiled-around}
-use Rattle.markdown_blocks.proofs.PlainFacts.{plain-append, plain-around, plain-quiet}
+use Rattle.markdown_blocks.proofs.PlainFacts.{ArePlain, ArePlainFrom, known-around, plain-append, plain-quiet}
 use Rattle.markdown_blocks.proofs.SpanLemmas.{around-nested, nested_in-append}
 use Rattle.markdown_blocks.proofs.Span.Inside.{InsideFacts}
 use Rattle.markdown_blocks.proofs.Span.Lead.{LeadFacts}
@@ -48,8 +50,8 @@ pub record IsLeafName (name : Name) (kind : LeafKind) : Type 0 where
   pub block : behind name blocks ≡ behind_block
   pub begin : Expression
   pub begins : (text : Expression) → inside text name ≡ begin
-  -- an outline shows it
-  pub plain : is_plain (Opens kind) ≡ true
+  -- an outline shows it by its lines
+  pub lined : HasLines kind
 
 -- where its line ends, by whether anything stands on the last line of the leaf
 around-leads : (name : Name) (p q : Point) (es : List Event) (filled : Bool) → on_line name ≡ IsLeaf →
@@ -107,14 +109,33 @@ quiets-between (e ∷ es) h = (one (role e.name) h.0, quiets-between es h.1)
     one IsQuiet h = tt
     one _ h = absurd h
 
+-- an outline shows it
+lined-known : (kind : LeafKind) → HasLines kind → is_unlisted (Opens kind) ≡ true
+lined-known OfCode lined = refl
+lined-known OfFence lined = refl
+lined-known OfMath lined = refl
+lined-known _ lined = absurd lined
+
+around-plain : (bytes : List ℕ) (name : Name) (kind : LeafKind) (p q : Point) (end : Site) (es : List Event) →
+    role name ≡ Opens kind → HasLines kind → MayLeave end → ArePlainFrom bytes (begun_site kind) end es →
+    ArePlain bytes (around name p q es)
+around-plain bytes name kind p q end es is lined leave h = record {
+  known =
+      known-around bytes name p q es (ap is_unlisted is ∙ lined-known kind lined) (untold p) (untold q) h.known;
+  lines = passes-leaf bytes name kind p q end es is lined leave h.lines;
+}
+  where
+    untold : (x : Point) → (not (is_told (role name)) || clear bytes x) ≡ true
+    untold x = ap (λ (y : Role). not (is_told y) || clear bytes x) is
+
 -- The leaf, by whether anything stands on its last line. Behind an empty one its ending is that of a blank line.
 pub inside-leaf : (bytes : List ℕ) (name : Name) (kind : LeafKind) (p a q : Point) (left : Expression) (to : OpenLeaf)
-    (filled : Bool) (lead unread done : List Event) →
+    (end : Site) (filled : Bool) (lead unread done : List Event) →
     (named : IsLeafName name kind) → LeadFacts bytes p a lead → Starts unread → Starts done →
-    (h : InsideFacts bytes a q named.begin left (fresh kind) to unread done) → (h.unread_stays true).0 ≡ filled →
-    (h.stays true).0 ≡ filled → may_end left ≡ true →
+    (h : InsideFacts bytes a q named.begin left (fresh kind) to (begun_site kind) end unread done) →
+    (h.unread_stays true).0 ≡ filled → (h.stays true).0 ≡ filled → may_end left ≡ true → MayLeave end →
     LeafFacts bytes (Some (block_of to)) filled p q (lead ++ around name a q unread) (lead ++ around name a q done)
-inside-leaf bytes name kind p a q left to filled lead unread done named front unread_starts starts h unread_is is ends = record {
+inside-leaf bytes name kind p a q left to end full lead unread done named front us starts h us_is is ends leave = record {
   unread_nested =
       nested_in-append p a q lead (around name a q unread) front.nested
       (around-nested name a q unread h.unread_nested);
@@ -122,7 +143,7 @@ inside-leaf bytes name kind p a q left to filled lead unread done named front un
   tiled = tiled-append p a q lead (around name a q unread) front.tiled (tiled-around name a q unread h.tiled);
   unread_stood =
       stood-append bytes lead (around name a q unread) front.stood
-      (stood-around bytes name a q unread unread_starts h.unread_stood);
+      (stood-around bytes name a q unread us h.unread_stood);
   stood =
       stood-append bytes lead (around name a q done) front.stood
       (stood-around bytes name a q done starts h.stood);
@@ -133,11 +154,11 @@ inside-leaf bytes name kind p a q left to filled lead unread done named front un
       grammar.leads-append plain_text (blocks ∷ []) (blocks ∷ []) (behind_block ∷ []) lead (around name a q done)
       (front.word plain_text) (around-word plain_text left name kind a q done named h.word ends);
   unread_ending =
-      ending.leads-append line_start line_start (leaf.spot_behind filled) lead (around name a q unread) lead_ends
-      (around-leads name a q unread filled named.leaf h.unread_stays unread_is);
+      ending.leads-append line_start line_start (leaf.spot_behind full) lead (around name a q unread) lead_ends
+      (around-leads name a q unread full named.leaf h.unread_stays us_is);
   ending =
-      ending.leads-append line_start line_start (leaf.spot_behind filled) lead (around name a q done) lead_ends
-      (around-leads name a q done filled named.leaf h.stays is);
+      ending.leads-append line_start line_start (leaf.spot_behind full) lead (around name a q done) lead_ends
+      (around-leads name a q done full named.leaf h.stays is);
   unread_unlisted =
       unlisted-both lead (around name a q unread) unlisted
       (around-unlisted name a q unread named.no_list h.unread_roles);
@@ -162,8 +183,7 @@ inside-leaf bytes name kind p a q left to filled lead unread done named front un
       (around-sits bytes name a q done (subst (λ (x : Role). Still x) (sym named.is) tt) h.parted);
   plain =
       λ first. plain-append bytes lead (around name a q done) (plain-quiet bytes lead front.quiet)
-      (plain-around bytes name a q done (ap is_plain named.is ∙ named.plain) (untold a) (untold q)
-      (h.plain (front.clear first)));
+      (around-plain bytes name kind a q end done named.is named.lined leave (h.plain (front.clear first)));
   reads =
       λ r text shut. read-from bytes r r lead (around name a q done) (read-quiet bytes r lead front.quiet)
       ∙ around-reads bytes name kind a q to done r named.is shut
@@ -178,6 +198,3 @@ inside-leaf bytes name kind p a q left to filled lead unread done named front un
 
     outside : NoParts lead
     outside = quiet-no_parts lead front.quiet
-
-    untold : (x : Point) → (not (is_told (role name)) || clear bytes x) ≡ true
-    untold x = ap (λ (y : Role). not (is_told y) || clear bytes x) named.is

@@ -9,6 +9,8 @@ use Rattle.md_seam.specs.Events.Grammar.{Expression, behind, may_end}
 use Rattle.md_seam.specs.Events.Nested.{around, enter, exit, pair}
 use Rattle.md_seam.specs.Events.Spelled.{LeafKind, OpenLeaf, block_of, byte_at, fresh}
 use Rattle.md_outline.specs.Between.{is_between}
+use Rattle.md_outline.specs.LinesStand.{Site, begun_site}
+use Rattle.md_outline.proofs.LinesPass.{IsOnLine, MayLeave, ended_site, on-ended}
 use Rattle.markdown_blocks.specs.Rows.{Row, last_row}
 use Rattle.markdown_blocks.specs.Rows.{but_end, but_ends, end_of, span_by, span_rest}
 use Rattle.markdown_blocks.proofs.BetweenFacts.{ending-before, ending-behind}
@@ -36,7 +38,7 @@ pub record EndsLeaf (unread done : Row → List Event) (name : Name) (row : Row)
 
 -- The first line of a leaf: what stands in it behind its begin, from a leaf that has just begun.
 pub record SpanFirst (bytes : List ℕ) (unread done : Row → List Event) (name : Name) (begin : Expression)
-    (from : OpenLeaf) (row : Row) : Type 0 where
+    (from : OpenLeaf) (start : Site) (row : Row) : Type 0 where
   pub ends : EndsLeaf unread done name row
   -- the whitespace in front of it, and where it begins
   pub lead : List Event
@@ -49,32 +51,38 @@ pub record SpanFirst (bytes : List ℕ) (unread done : Row → List Event) (name
   pub is : but_end (done row) ≡ lead ++ enter name at ∷ inside
   pub unread_starts : Starts unread_inside
   pub starts : Starts inside
-  -- what is left of the grammar behind it, and what the leaf is then
+  -- what is left of the grammar behind it, what the leaf is then, and where in it an outline is
   pub left : Expression
   pub leaf : OpenLeaf
-  pub facts : InsideFacts bytes at row.end begin left from leaf unread_inside inside
+  pub site : Site
+  pub facts : InsideFacts bytes at row.end begin left from leaf start site unread_inside inside
 
--- A further line, in front of which this is left of the grammar, and the leaf is this.
+-- A further line, in front of which this is left of the grammar, the leaf is this, and an outline is here in it.
 pub record SpanLine (bytes : List ℕ) (unread done : Row → List Event) (name : Name) (x : Expression)
-    (from : OpenLeaf) (row : Row) : Type 0 where
+    (from : OpenLeaf) (start : Site) (row : Row) : Type 0 where
   pub ends : EndsLeaf unread done name row
   -- it cuts no tab of a character
   pub clear : clear bytes row.first ≡ true
   -- the same behind it
   pub left : Expression
   pub leaf : OpenLeaf
-  pub facts : InsideFacts bytes row.first row.end x left from leaf (but_ends (unread row)) (but_ends (done row))
+  pub site : Site
+  pub facts :
+      InsideFacts bytes row.first row.end x left from leaf start site (but_ends (unread row)) (but_ends (done row))
 
--- Further lines behind one, in front of whose ending this is left of the grammar and the leaf is this, with the leaf
--- that they come to. No container opens in front of them.
+-- Further lines behind one, in front of whose ending this is left of the grammar, the leaf is this and an outline is
+-- here in it, with the leaf that they come to. No container opens in front of them.
 abbrev pub AreFurther : List ℕ → (Row → List Event) → (Row → List Event) → Name → Expression → OpenLeaf → OpenLeaf →
-    Row → List Row → Type 0
-AreFurther bytes unread done name left leaf to row [] = (end : may_end left ≡ true) × (leaf ≡ to)
-AreFurther bytes unread done name left leaf to row (next ∷ rows) =
+    Site → Row → List Row → Type 0
+AreFurther bytes unread done name left leaf to site row [] =
+    (end : may_end left ≡ true) × (leaf ≡ to) × MayLeave site
+AreFurther bytes unread done name left leaf to site row (next ∷ rows) =
     (q : Point) × (after : row.after ≡ Some q) × (ending : IsEnding bytes row.end q) ×
     (front : LinePrefix bytes [] q next.first next.front) × (takes : TakesPrefixes (behind n.LineEnding left)) ×
-    (line : SpanLine bytes unread done name (behind n.LineEnding left) (behind_ending bytes q leaf) next) ×
-    AreFurther bytes unread done name line.left line.leaf to next rows
+    (on : IsOnLine site) ×
+    (line : SpanLine bytes unread done name (behind n.LineEnding left) (behind_ending bytes q leaf)
+    (ended_site bytes q site) next) ×
+    AreFurther bytes unread done name line.left line.leaf to line.site next rows
 
 -- Such lines by their events: a begin, what stands inside, and the end.
 
@@ -89,12 +97,13 @@ ends-by unread done name row us es whole unread_is is = record {
 
 -- a first one, behind whitespace
 pub span-first : (bytes : List ℕ) (unread done : Row → List Event) (name : Name)
-    (begin left : Expression) (from to : OpenLeaf) (row : Row) (at : Point) (lead us es : List Event) →
+    (begin left : Expression) (from to : OpenLeaf) (start site : Site) (row : Row) (at : Point)
+    (lead us es : List Event) →
     row.end.vs ≡ 0 → LeadFacts bytes row.first at lead → Starts us → Starts es →
     unread row ≡ lead ++ around name at row.end us → done row ≡ lead ++ around name at row.end es →
-    InsideFacts bytes at row.end begin left from to us es →
-    SpanFirst bytes unread done name begin from row
-span-first bytes unread done name x left from to row at lead us es whole white starts more first last facts =
+    InsideFacts bytes at row.end begin left from to start site us es →
+    SpanFirst bytes unread done name begin from start row
+span-first bytes unread done name x left from to start site row at lead us es whole white starts more first last facts =
     record {
       ends =
           ends-by unread done name row (lead ++ enter name at ∷ us) (lead ++ enter name at ∷ es) whole
@@ -110,6 +119,7 @@ span-first bytes unread done name x left from to row at lead us es whole white s
       starts = more;
       left = left;
       leaf = to;
+      site = site;
       facts = facts;
     }
   where
@@ -118,20 +128,22 @@ span-first bytes unread done name x left from to row at lead us es whole white s
 
 -- a further one
 pub span-line : (bytes : List ℕ) (unread done : Row → List Event) (name : Name)
-    (x left : Expression) (from to : OpenLeaf) (row : Row) (e f : Event) (us es : List Event) →
+    (x left : Expression) (from to : OpenLeaf) (start site : Site) (row : Row) (e f : Event) (us es : List Event) →
     row.end.vs ≡ 0 → clear bytes row.first ≡ true →
     unread row ≡ e ∷ us ++ exit name row.end ∷ [] → done row ≡ f ∷ es ++ exit name row.end ∷ [] →
-    InsideFacts bytes row.first row.end x left from to us es → SpanLine bytes unread done name x from row
-span-line bytes unread done name x left from to row e f us es whole begin unread_is done_is facts = record {
+    InsideFacts bytes row.first row.end x left from to start site us es →
+    SpanLine bytes unread done name x from start row
+span-line bytes unread done name x left from to start site row e f us es whole begin unread_is done_is facts = record {
   ends = ends-by unread done name row (e ∷ us) (f ∷ es) whole unread_is done_is;
   clear = begin;
   left = left;
   leaf = to;
+  site = site;
   facts =
       subst
-      (λ (l : List Event). InsideFacts bytes row.first row.end x left from to l (but_ends (done row)))
+      (λ (l : List Event). InsideFacts bytes row.first row.end x left from to start site l (but_ends (done row)))
       (sym (ap but_ends unread_is ∙ but_ends-is e us (exit name row.end)))
-      (subst (λ (l : List Event). InsideFacts bytes row.first row.end x left from to us l)
+      (subst (λ (l : List Event). InsideFacts bytes row.first row.end x left from to start site us l)
       (sym (ap but_ends done_is ∙ but_ends-is f es (exit name row.end))) facts);
 }
 
@@ -139,58 +151,62 @@ span-line bytes unread done name x left from to row e f us es whole begin unread
 
 -- the last line ends the leaf
 pub last-ends : (bytes : List ℕ) (unread done : Row → List Event) (name : Name) (left : Expression) (leaf to : OpenLeaf)
-    (row : Row) (rows : List Row) →
-    EndsLeaf unread done name row → AreFurther bytes unread done name left leaf to row rows →
+    (site : Site) (row : Row) (rows : List Row) →
+    EndsLeaf unread done name row → AreFurther bytes unread done name left leaf to site row rows →
     EndsLeaf unread done name (last_row row rows)
-last-ends bytes unread done name left leaf to row [] ends are = ends
-last-ends bytes unread done name left leaf to row (next ∷ rows) ends are =
-    last-ends bytes unread done name are.5.left are.5.leaf to next rows are.5.ends are.6
+last-ends bytes unread done name left leaf to site row [] ends are = ends
+last-ends bytes unread done name left leaf to site row (next ∷ rows) ends are =
+    last-ends bytes unread done name are.6.left are.6.leaf to are.6.site next rows are.6.ends are.7
 
 -- the end of a line, and what goes on behind it
 meets-end : (bytes : List ℕ) (unread done : Row → List Event) (name : Name) (left : Expression) (leaf to : OpenLeaf)
-    (row : Row) (rows : List Row) →
-    row.end.vs ≡ 0 → AreFurther bytes unread done name left leaf to row rows →
+    (site : Site) (row : Row) (rows : List Row) →
+    row.end.vs ≡ 0 → AreFurther bytes unread done name left leaf to site row rows →
     Meets bytes row.end (last_row row rows).end
-meets-end bytes unread done name left leaf to row rows whole are = record {
+meets-end bytes unread done name left leaf to site row rows whole are = record {
   between = go rows are;
   clear = ap (λ (v : ℕ). (v == 0) || is_between bytes (byte_at row.end)) whole;
 }
   where
-    go : (rows : List Row) → AreFurther bytes unread done name left leaf to row rows →
+    go : (rows : List Row) → AreFurther bytes unread done name left leaf to site row rows →
         is_between bytes (last_row row rows).end.index ≡ true → is_between bytes row.end.index ≡ true
     go [] are last = last
     go (next ∷ rows) are last = ending-before bytes row.end are.0 are.2
 
 -- what stands behind a line
-pub record RestInside (bytes : List ℕ) (p q : Point) (x : Expression) (from to : OpenLeaf)
+pub record RestInside (bytes : List ℕ) (p q : Point) (x : Expression) (from to : OpenLeaf) (start : Site)
     (unread done : List Event) : Type 0 where
   pub left : Expression
   pub end : may_end left ≡ true
-  pub facts : InsideFacts bytes p q x left from to unread done
+  pub site : Site
+  pub leave : MayLeave site
+  pub facts : InsideFacts bytes p q x left from to start site unread done
 
 -- one more in front: the ending of the line before, the prefixes in front of it, and what stands inside of it
 next-inside : (bytes : List ℕ) (unread done : Row → List Event) (name : Name) (left : Expression) (leaf to : OpenLeaf)
-    (row next : Row) (rows : List Row) →
-    row.end.vs ≡ 0 → (are : AreFurther bytes unread done name left leaf to row (next ∷ rows)) →
-    RestInside bytes next.end (last_row next rows).end are.5.left are.5.leaf to (span_rest unread next rows)
-    (span_rest done next rows) →
-    RestInside bytes row.end (last_row next rows).end left leaf to (span_rest unread row (next ∷ rows))
+    (site : Site) (row next : Row) (rows : List Row) →
+    row.end.vs ≡ 0 → (are : AreFurther bytes unread done name left leaf to site row (next ∷ rows)) →
+    RestInside bytes next.end (last_row next rows).end are.6.left are.6.leaf to are.6.site
+    (span_rest unread next rows) (span_rest done next rows) →
+    RestInside bytes row.end (last_row next rows).end left leaf to site (span_rest unread row (next ∷ rows))
     (span_rest done row (next ∷ rows))
-next-inside bytes unread done name left leaf to row next rows whole are rest = record {
+next-inside bytes unread done name left leaf to site row next rows whole are rest = record {
   left = rest.left;
   end = rest.end;
+  site = rest.site;
+  leave = rest.leave;
   facts =
       subst
       (λ (es : List Event).
-      InsideFacts bytes row.end last left rest.left leaf to
+      InsideFacts bytes row.end last left rest.left leaf to site rest.site
       (es ++ next.front ++ but_ends (unread next) ++ span_rest unread next rows)
       (es ++ next.front ++ but_ends (done next) ++ span_rest done next rows))
       (sym (ending-is n.LineEnding row q are.1))
-      (inside-append bytes row.end next.end last left line.left rest.left leaf line.leaf to
+      (inside-append bytes row.end next.end last left line.left rest.left leaf line.leaf to site line.site rest.site
       (ended ++ next.front ++ but_ends (unread next)) (ended ++ next.front ++ but_ends (done next))
       (span_rest unread next rows) (span_rest done next rows)
-      (meets-end bytes unread done name line.left line.leaf to next rows line.ends.whole are.6)
-      (inside-append bytes row.end next.first next.end left again line.left leaf opened line.leaf
+      (meets-end bytes unread done name line.left line.leaf to line.site next rows line.ends.whole are.7)
+      (inside-append bytes row.end next.first next.end left again line.left leaf opened line.leaf site start line.site
       (ended ++ next.front) (ended ++ next.front) (but_ends (unread next)) (but_ends (done next))
       (record { between = λ end. begin; clear = line.clear }) front line.facts)
       rest.facts);
@@ -211,61 +227,73 @@ next-inside bytes unread done name left leaf to row next rows whole are rest = r
     opened : OpenLeaf
     opened = behind_ending bytes q leaf
 
-    line : SpanLine bytes unread done name again opened next
-    line = are.5
+    start : Site
+    start = ended_site bytes q site
+
+    line : SpanLine bytes unread done name again opened start next
+    line = are.6
 
     begin : is_between bytes next.first.index ≡ true
     begin = (fronts-between bytes [] q next.first next.front (ending-behind bytes row.end q are.2) are.3).1
 
-    front : InsideFacts bytes row.end next.first left again leaf opened (ended ++ next.front) (ended ++ next.front)
+    front :
+        InsideFacts bytes row.end next.first left again leaf opened site start (ended ++ next.front)
+        (ended ++ next.front)
     front =
-        inside-append bytes row.end q next.first left again again leaf opened opened ended ended next.front next.front
+        inside-append bytes row.end q next.first left again again leaf opened opened site start start ended ended
+        next.front next.front
         (record {
           between = λ end. ending-behind bytes row.end q are.2;
           clear = fronts-clear bytes [] q next.first next.front are.3 line.clear;
         })
-        (ending-inside bytes row.end q left leaf whole are.2)
-        (front-inside bytes q next.first again opened next.front are.4 are.3)
+        (ending-inside bytes row.end q left leaf site whole are.2 are.5)
+        (front-inside bytes q next.first again opened start next.front are.4 (on-ended bytes q site are.5) are.3)
 
 pub rest-inside : (bytes : List ℕ) (unread done : Row → List Event) (name : Name) (left : Expression)
-    (leaf to : OpenLeaf) (row : Row) (rows : List Row) →
-    row.end.vs ≡ 0 → AreFurther bytes unread done name left leaf to row rows →
-    RestInside bytes row.end (last_row row rows).end left leaf to (span_rest unread row rows)
+    (leaf to : OpenLeaf) (site : Site) (row : Row) (rows : List Row) →
+    row.end.vs ≡ 0 → AreFurther bytes unread done name left leaf to site row rows →
+    RestInside bytes row.end (last_row row rows).end left leaf to site (span_rest unread row rows)
     (span_rest done row rows)
-rest-inside bytes unread done name left leaf to row [] whole are = record {
+rest-inside bytes unread done name left leaf to site row [] whole are = record {
   left = left;
   end = are.0;
+  site = site;
+  leave = are.2;
   facts =
-      subst (λ (l : OpenLeaf). InsideFacts bytes row.end row.end left left leaf l [] []) are.1
-      (inside-none bytes row.end left leaf);
+      subst (λ (l : OpenLeaf). InsideFacts bytes row.end row.end left left leaf l site site [] []) are.1
+      (inside-none bytes row.end left leaf site);
 }
-rest-inside bytes unread done name left leaf to row (next ∷ rows) whole are =
-    next-inside bytes unread done name left leaf to row next rows whole are
-    (rest-inside bytes unread done name are.5.left are.5.leaf to next rows are.5.ends.whole are.6)
+rest-inside bytes unread done name left leaf to site row (next ∷ rows) whole are =
+    next-inside bytes unread done name left leaf to site row next rows whole are
+    (rest-inside bytes unread done name are.6.left are.6.leaf to are.6.site next rows are.6.ends.whole are.7)
 
 -- what stands in the leaf behind its begin
 pub span-inside : (bytes : List ℕ) (unread done : Row → List Event) (name : Name) (kind : LeafKind) (to : OpenLeaf)
     (row : Row) (rows : List Row) →
-    (named : IsLeafName name kind) (first : SpanFirst bytes unread done name named.begin (fresh kind) row) →
-    (are : AreFurther bytes unread done name first.left first.leaf to row rows) →
-    InsideFacts bytes first.at (last_row row rows).end named.begin
-    (rest-inside bytes unread done name first.left first.leaf to row rows first.ends.whole are).left (fresh kind) to
+    (named : IsLeafName name kind) →
+    (first : SpanFirst bytes unread done name named.begin (fresh kind) (begun_site kind) row) →
+    (are : AreFurther bytes unread done name first.left first.leaf to first.site row rows) →
+    let rest = rest-inside bytes unread done name first.left first.leaf to first.site row rows first.ends.whole are in
+    InsideFacts bytes first.at (last_row row rows).end named.begin rest.left (fresh kind) to (begun_site kind) rest.site
     (first.unread_inside ++ span_rest unread row rows) (first.inside ++ span_rest done row rows)
 span-inside bytes unread done name kind to row rows named first are =
     inside-append bytes first.at row.end (last_row row rows).end named.begin first.left rest.left (fresh kind)
-    first.leaf to first.unread_inside first.inside (span_rest unread row rows) (span_rest done row rows)
-    (meets-end bytes unread done name first.left first.leaf to row rows first.ends.whole are) first.facts rest.facts
+    first.leaf to (begun_site kind) first.site rest.site first.unread_inside first.inside (span_rest unread row rows)
+    (span_rest done row rows)
+    (meets-end bytes unread done name first.left first.leaf to first.site row rows first.ends.whole are) first.facts
+    rest.facts
   where
     rest :
-        RestInside bytes row.end (last_row row rows).end first.left first.leaf to (span_rest unread row rows)
-        (span_rest done row rows)
-    rest = rest-inside bytes unread done name first.left first.leaf to row rows first.ends.whole are
+        RestInside bytes row.end (last_row row rows).end first.left first.leaf to first.site
+        (span_rest unread row rows) (span_rest done row rows)
+    rest = rest-inside bytes unread done name first.left first.leaf to first.site row rows first.ends.whole are
 
 -- All that the frame asks of the lines of a leaf, joined, by whether anything stands on the last of them.
 pub span-facts : (bytes : List ℕ) (unread done : Row → List Event) (name : Name) (kind : LeafKind) (to : OpenLeaf)
     (row : Row) (rows : List Row) (filled : Bool) →
-    (named : IsLeafName name kind) (first : SpanFirst bytes unread done name named.begin (fresh kind) row) →
-    (are : AreFurther bytes unread done name first.left first.leaf to row rows) →
+    (named : IsLeafName name kind) →
+    (first : SpanFirst bytes unread done name named.begin (fresh kind) (begun_site kind) row) →
+    (are : AreFurther bytes unread done name first.left first.leaf to first.site row rows) →
     ((span-inside bytes unread done name kind to row rows named first are).unread_stays true).0 ≡ filled →
     ((span-inside bytes unread done name kind to row rows named first are).stays true).0 ≡ filled →
     LeafFacts bytes (Some (block_of to)) filled row.first (last_row row rows).end (span_by unread row rows)
@@ -280,19 +308,19 @@ span-facts bytes unread done name kind to row rows filled named first are unread
     LeafFacts bytes (Some (block_of to)) filled row.first last
     (first.lead ++ around name first.at last (first.unread_inside ++ span_rest unread row rows)) es)
     (sym (span-is done name first.at first.lead first.inside row rows first.is ends.end))
-    (inside-leaf bytes name kind row.first first.at last rest.left to filled first.lead
+    (inside-leaf bytes name kind row.first first.at last rest.left to rest.site filled first.lead
     (first.unread_inside ++ span_rest unread row rows) (first.inside ++ span_rest done row rows) named first.lead_is
     (starts-append first.unread_inside (span_rest unread row rows) first.unread_starts)
     (starts-append first.inside (span_rest done row rows) first.starts)
-    (span-inside bytes unread done name kind to row rows named first are) unread_is is rest.end))
+    (span-inside bytes unread done name kind to row rows named first are) unread_is is rest.end rest.leave))
   where
     last : Point
     last = (last_row row rows).end
 
     ends : EndsLeaf unread done name (last_row row rows)
-    ends = last-ends bytes unread done name first.left first.leaf to row rows first.ends are
+    ends = last-ends bytes unread done name first.left first.leaf to first.site row rows first.ends are
 
     rest :
-        RestInside bytes row.end (last_row row rows).end first.left first.leaf to (span_rest unread row rows)
-        (span_rest done row rows)
-    rest = rest-inside bytes unread done name first.left first.leaf to row rows first.ends.whole are
+        RestInside bytes row.end (last_row row rows).end first.left first.leaf to first.site
+        (span_rest unread row rows) (span_rest done row rows)
+    rest = rest-inside bytes unread done name first.left first.leaf to first.site row rows first.ends.whole are

@@ -1,6 +1,6 @@
 -- A further line of fenced code and of math (CommonMark 4.5, own choice), as a leaf on one line: a closing fence, or
 -- one more line of the block that is open.
-use Rattle.std.specs.Prelude.{ℕ, Bool, true, false, ◌&&◌, nat_le, if◌then◌else◌}
+use Rattle.std.specs.Prelude.{ℕ, Bool, true, false, if◌then◌else◌}
 use Rattle.std.specs.Prelude.{List, [], ◌∷◌, ◌++◌, take, drop, None}
 use Rattle.md_engine.specs.declared.configuration.ParseOptions.{ParseOptions}
 use Rattle.md_engine.specs.declared.event.Event.{Event}
@@ -12,14 +12,14 @@ use Rattle.md_engine.specs.declared.state.raw_flow.State.TheVariants as its
 use Rattle.md_engine.specs.declared.tokenizer.held_leaf.HeldLeaf.{HeldLeaf}
 use Rattle.md_engine.specs.declared.tokenizer.held_leaf.HeldLeaf.TheVariants as held_leaf
 use Rattle.md_engine.specs.Meaning.{Cell}
-use Rattle.md_lines.specs.Fence.{block_name, chunk_name, fence_name, held_indent, held_marker, held_size, may_begin}
+use Rattle.md_lines.specs.Fence.{block_name, chunk_name, fence_name, held_indent, held_marker, held_size, is_open}
 use Rattle.md_lines.specs.Fence.{sequence_name}
 use Rattle.md_lines.specs.FenceLine.{fence_goes, further_events}
 use Rattle.md_lines.specs.FenceRule.{further_at}
 use Rattle.md_lines.specs.Further.{further_link}
 use Rattle.md_seam.specs.Events.Nested.{around, enter_link, exit, pair}
 use Rattle.md_seam.specs.Events.Places.{past_text}
-use Rattle.md_definition.specs.Leaves.{Came, Opened, closes, fence_goes_on, least_size}
+use Rattle.md_definition.specs.Leaves.{Came, Opened, closes, fence_goes_on}
 use Rattle.md_definition.specs.Rest.{Rest, indent, run_len, trim_start}
 use Rattle.md_definition.specs.State.{Leaf, OpenFence, Opening, fence_block}
 pub use Rattle.markdown_blocks.specs.LineColumns.{columns_part, lost_line, next_point, part_over, past_columns, rest_of}
@@ -27,9 +27,9 @@ use Rattle.markdown_blocks.specs.LineLeaf.{LineLeaf}
 
 -- What is held of the block.
 
--- whether this is fenced code or math: its fence has a marker of such a block, and enough of it
+-- whether this is fenced code or math
 abbrev pub is_fence : HeldLeaf → Bool
-is_fence on = may_begin (held_marker on) && nat_le (least_size (held_marker on)) (held_size on)
+is_fence on = is_open on
 
 -- its opening fence, as far as it is held
 abbrev pub opening_of : HeldLeaf → Opening

@@ -307,7 +307,7 @@ pub fn containers_after(tokenizer: &mut Tokenizer) -> State
 }
 
 /// Behind all containers of a line, where a leaf is open in which none opens: it is asked first whether the line goes on
-/// it. It may do so over an empty line, whose ending is that of a blank line.
+/// it. It may do so over a line on which nothing stands, no prefix either, whose ending is that of a blank line.
 ///
 /// ```markdown
 ///   | ~~~
@@ -322,7 +322,7 @@ pub fn flow_inside(tokenizer: &mut Tokenizer) -> State
     match registry::inside_start(tokenizer.flags.leaf) {
         None => State::Retry(StateName::Flow(FlowState::Start)),
         Some(start) => {
-            tokenizer.flags.blank = ends_line(tokenizer.current);
+            tokenizer.flags.blank = ends_line(tokenizer.current) && tokenizer.point.column == 1;
             or_error!(tokenizer.attempt(
                 State::Next(StateName::Flow(FlowState::After)),
                 State::Next(StateName::Flow(FlowState::Start))

@@ -1,6 +1,6 @@
 // Flow: the leaf blocks of a document or a container (CommonMark 4).
 //
-//     flow ::= blank_line | heading_atx | thematic_break | content
+//     flow ::= blank_line | raw_flow | heading_atx | thematic_break | content
 //
 // The rest of a line, behind the prefixes of its containers, is tried in this order. What may not begin with the byte
 // that stands first behind whitespace is refused at once; else an attempt tells. The line then ends in the document.
@@ -21,7 +21,7 @@ ghost use Rattle.markdown_blocks.specs.Flow.{flow_own_transition, leaf_after_tra
 ghost use Rattle.markdown_blocks.specs.Registry.{front_of, opener_front, openers, trials};
 ghost use Rattle.md_seam.specs.Transition.{IsAt, NeedsNothing};
 
-pub use crate::construct::registry::{before_heading_atx, before_thematic_break};
+pub use crate::construct::registry::{before_heading_atx, before_raw, before_thematic_break};
 use crate::construct::{document, registry};
 use crate::resolve;
 use md_content::content;

@@ -1,7 +1,7 @@
 // The constructs that are built: the one place of the frame's code that names them.
 //
 //     container ::= block_quote | list_item
-//     leaf      ::= heading_atx | thematic_break
+//     leaf      ::= raw_flow | heading_atx | thematic_break
 //
 // What flow itself is made of (blank lines, content, whitespace) stands in its own table.
 
@@ -21,7 +21,7 @@ ghost use Rattle.md_engine.specs.declared.state.flow.State.{State as FlowState};
 ghost use Rattle.markdown_blocks.specs.Flow.{before_transition, leaf_transition, new_before_transition};
 ghost use Rattle.markdown_blocks.specs.Flow.{opener_transition};
 ghost use Rattle.markdown_blocks.specs.LineFlags.{asking};
-ghost use Rattle.markdown_blocks.specs.Registry.{joins_lines};
+ghost use Rattle.markdown_blocks.specs.Registry.{joins_lines, stays_alone};
 ghost use Rattle.markdown_blocks.specs.Registry.{construct_transition, goes_on_with, insider, leaf};
 ghost use Rattle.markdown_blocks.specs.AtOnce.{HasPrefix, all_asked, begins_none, opens_none, prefix_taken};
 ghost use Rattle.markdown_blocks.specs.Registry.{may_go_on, may_open, next_opener, opener_front, openers};
@@ -35,6 +35,7 @@ use crate::construct::document;
 use md_containers::{block_quote, list_item, lists, plain_item};
 use md_engine::class::is_white;
 use md_engine::configuration::ParseOptions;
+use md_engine::event::Event;
 use md_engine::message::Message;
 use md_engine::or_error;
 use md_engine::resolve::Name as ResolveName;
@@ -43,12 +44,15 @@ use md_engine::state::document::State as DocumentState;
 use md_engine::state::flow::State as FlowState;
 use md_engine::state::heading_atx::State as HeadingState;
 use md_engine::state::list_item::State as ItemState;
+use md_engine::state::raw_flow::State as RawState;
 use md_engine::state::thematic_break::State as BreakState;
 use md_engine::state::{Name as StateName, State};
 use md_engine::stay::Stay;
 use md_engine::subtokenize::Subresult;
 use md_engine::tokenizer::{Container, ContainerKind, HeldLeaf, Tokenizer};
+use md_leaves::spans::{self, Place};
 use md_leaves::{heading_atx, thematic_break};
+use md_lines::raw_flow;
 use md_seam::space_or_tab::look_behind;
 
 /// The state of the document in front of the first container that may open.
@@ -155,6 +159,7 @@ pub fn begins_none(current: Option<u8>) -> bool
         None => false,
         Some(byte) => {
             !(is_white(byte)
+                || raw_flow::may_begin(current)
                 || heading_atx::may_begin(current)
                 || thematic_break::may_begin(current))
         }
@@ -166,7 +171,7 @@ pub fn begins_none(current: Option<u8>) -> bool
 pub fn first_trial() -> FlowState
     ensures { result ≡ front_of trials }
 {
-    FlowState::BeforeHeadingAtx
+    FlowState::BeforeRaw
 }
 
 /// Whether this is that state.
@@ -175,9 +180,33 @@ pub fn is_first_trial(state: FlowState) -> bool
     ensures { result ≡ true → state ≡ front_of trials }
 {
     match state {
-        FlowState::BeforeHeadingAtx => true,
+        FlowState::BeforeRaw => true,
         _ => false,
     }
+}
+
+/// Before fenced code or math.
+///
+/// ```markdown
+/// > | ~~~js
+///     ^
+///   | a
+///   | ~~~
+/// ```
+pub fn before_raw(tokenizer: &mut Tokenizer) -> State
+    requires { IsAt NeedsNothing (StateName.Flow FlowState.BeforeRaw) (world tokenizer.old) }
+    ensures to { result ≢ State.Error → result ≡ (before_transition LeafName.Fence (world tokenizer.old)).to }
+    ensures world { result ≢ State.Error →
+        world tokenizer.new ≡ (before_transition LeafName.Fence (world tokenizer.old)).world }
+{
+    if !raw_flow::may_begin(look_behind(tokenizer)) {
+        return State::Retry(StateName::Flow(FlowState::BeforeHeadingAtx));
+    }
+    or_error!(tokenizer.attempt(
+        State::Next(StateName::Flow(FlowState::After)),
+        State::Next(StateName::Flow(FlowState::BeforeHeadingAtx))
+    ));
+    State::Retry(StateName::RawFlow(RawState::Start))
 }
 
 /// Before an ATX heading.
@@ -233,6 +262,7 @@ pub fn before_leaf(tokenizer: &mut Tokenizer, state: FlowState) -> State
         world tokenizer.new ≡ (leaf_transition (tried_at state) (world tokenizer.old)).world }
 {
     match state {
+        FlowState::BeforeRaw => before_raw(tokenizer),
         FlowState::BeforeHeadingAtx => before_heading_atx(tokenizer),
         FlowState::BeforeThematicBreak => before_thematic_break(tokenizer),
         _ => State::Nok,
@@ -241,10 +271,14 @@ pub fn before_leaf(tokenizer: &mut Tokenizer, state: FlowState) -> State
 
 /// The first state of a further line of the leaf that is asked first whether a line goes on it.
 #[inline(always)]
-pub fn inside_start(_leaf: HeldLeaf) -> Option<StateName>
-    ensures { result ≡ option_map (λ l. (leaf l).start) (insider _leaf) }
+pub fn inside_start(held: HeldLeaf) -> Option<StateName>
+    ensures { result ≡ option_map (λ l. (leaf l).start) (insider held) }
 {
-    None
+    if raw_flow::is_open(held) {
+        Some(StateName::RawFlow(RawState::AtNonLazyBreak))
+    } else {
+        None
+    }
 }
 
 /// Whether there is such a leaf: then no container opens in it.
@@ -370,6 +404,7 @@ pub fn call(tokenizer: &mut Tokenizer, name: StateName) -> State
         StateName::BlockQuote(state) => block_quote::call(tokenizer, state),
         StateName::HeadingAtx(state) => heading_atx::call(tokenizer, state),
         StateName::ListItem(state) => list_item::call(tokenizer, state),
+        StateName::RawFlow(state) => raw_flow::call(tokenizer, state),
         StateName::ThematicBreak(state) => thematic_break::call(tokenizer, state),
         _ => State::Nok,
     }
@@ -417,17 +452,27 @@ pub fn stays(name: StateName) -> Option<Stay>
     match name {
         StateName::HeadingAtx(state) => heading_atx::stays(state),
         StateName::ListItem(state) => list_item::stays(state),
+        StateName::RawFlow(state) => raw_flow::stays(state),
         StateName::ThematicBreak(state) => thematic_break::stays(state),
         _ => None,
     }
 }
 
-/// Whether a leaf of several lines may be on, so that its lines are joined: none is built.
+/// Whether a leaf of several lines may be on, so that its lines are joined.
 #[inline(always)]
-pub fn joins_lines(_options: &ParseOptions) -> bool
-    ensures { result ≡ joins_lines _options.now }
+pub fn joins_lines(options: &ParseOptions) -> bool
+    ensures { result ≡ joins_lines options.now }
 {
-    false
+    options.constructs.code_fenced || options.constructs.math_flow
+}
+
+/// Whether an event stays as it is where lines are joined and lists are put around items: it is of no leaf of several
+/// lines, and of no item.
+#[inline(always)]
+pub fn stays_alone(event: &Event) -> bool
+    ensures { result ≡ stays_alone event.now }
+{
+    spans::passes(Place::Outside, event) && !lists::is_item(event.name)
 }
 
 /// Runs the resolver of a construct; one that has none changes nothing.

@@ -1,19 +1,14 @@
-use Rattle.std.proofs.Common.{ap, ◌∙◌, arith, refl}
-use Rattle.md_engine.specs.World.{World}
+use Rattle.std.proofs.Common.{arith, refl}
 use Rattle.md_engine.proofs.ResolverNames.{eq-turned}
 use Rattle.markdown_blocks.proofs.FlowReads.{flow-reads-from, flushed-frames}
 use Rattle.markdown_blocks.proofs.parser.read_flow.Goals as goal
 
-pub join_lines-requires : goal.join_lines-requires
-join_lines-requires c = flushed-frames _ _ _ _ _ c.in_ok-found.ensures
-
-pub call-requires : goal.call-requires
-call-requires c =
-    ap (λ (w : World). w.frames) c.in_ok-join_lines.ensures ∙ flushed-frames _ _ _ _ _ c.in_ok-found.ensures
+pub group_blocks-requires : goal.group_blocks-requires
+group_blocks-requires c = flushed-frames _ _ _ _ _ c.in_ok-found.ensures
 
 pub returns : goal.returns
 returns c =
     flow-reads-from _ c.args.bytes.now c.args.options.now c.args.start _ _ _ _ _ _ _ _ _ eq-turned
     c.in_ok-tokenizer.ensures refl
-    (omega (arith, c.requires.small)) (c.push.ensures.runs c.in_default.not-Error) c.in_ok-found.ensures
-    c.in_ok-join_lines.ensures c.in_ok-call.ensures.resolves
+    (omega (arith, c.requires.small)) (c.push.ensures.runs c.in_default.not-Error) c.in_ok-found.ensures refl
+    (refl, c.in_ok-group_blocks.ensures)

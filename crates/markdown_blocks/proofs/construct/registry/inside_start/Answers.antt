@@ -1,7 +1,11 @@
-use Rattle.std.proofs.Common.{refl}
+use Rattle.std.proofs.Common.{◌∙◌, refl, sym}
 use Rattle.markdown_blocks.specs.Registry.{insider}
 use Rattle.markdown_blocks.proofs.construct.registry.inside_start.Goals as goal
 
-pub returns : goal.returns
+pub returns-then-is_open : goal.returns-then-is_open
 unfolding insider
-returns c = refl
+returns-then-is_open c = rw (sym c.is_open.ensures ∙ c.if-is_open.true) refl
+
+pub returns-else-is_open : goal.returns-else-is_open
+unfolding insider
+returns-else-is_open c = rw (sym c.is_open.ensures ∙ c.if-is_open.false) refl

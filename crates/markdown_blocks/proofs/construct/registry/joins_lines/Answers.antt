@@ -2,6 +2,10 @@ use Rattle.std.proofs.Common.{refl}
 use Rattle.markdown_blocks.specs.Registry.{joins_lines}
 use Rattle.markdown_blocks.proofs.construct.registry.joins_lines.Goals as goal
 
-pub returns : goal.returns
+pub returns-then-options : goal.returns-then-options
 unfolding joins_lines
-returns c = refl
+returns-then-options c = rw c.if-options.true refl
+
+pub returns-else-options : goal.returns-else-options
+unfolding joins_lines
+returns-else-options c = rw c.if-options.false refl
