@@ -119,9 +119,11 @@ pub mod TileReads
 pub mod RowLeaf
 pub mod GroupFacts
 pub mod BlankLine
+pub mod LostLine
 pub mod Fence
 pub mod FenceFurther
 pub mod FenceSpan
+pub mod CodeIndented
 pub mod HeadingAtx
 pub mod ThematicBreak
 pub mod Registry

@@ -4,6 +4,7 @@ pub mod States
 pub mod Parsed
 pub mod Resolved
 pub mod RestLine
+pub mod LineColumns
 pub mod FlowRule
 pub mod Change
 pub mod HeldLeaf

@@ -1,6 +1,6 @@
 -- A further line of fenced code or math in the grammar of its block, and among the endings of lines.
-use Rattle.std.proofs.Common.{◌≡◌, ℕ, Bool, true, false, cond, ◌&&◌, List, [], ◌∷◌, ◌++◌, drop, take, refl, subst}
-use Rattle.std.specs.Prelude.{◌==◌, nat_lt}
+use Rattle.std.proofs.Common.{◌≡◌, ℕ, Bool, true, false, cond, List, [], ◌∷◌, ◌++◌, drop, take, refl, subst}
+use Rattle.std.specs.Prelude.{◌==◌}
 use Rattle.md_engine.specs.declared.configuration.ParseOptions.{ParseOptions}
 use Rattle.md_engine.specs.declared.event.Name.TheVariants as n
 use Rattle.md_engine.specs.declared.event.Point.{Point}
@@ -12,12 +12,13 @@ use Rattle.md_seam.specs.Events.Grammar.{Expression, Nothing, behind, inside, ma
 use Rattle.md_seam.specs.Events.Nested.{pair}
 use Rattle.md_seam.specs.Events.Places.{past_text}
 use Rattle.md_seam.proofs.EndingsLemmas.{Stays, stays-others}
-use Rattle.md_seam.proofs.GrammarLemmas.{IsWord, Leads, leads-append, leads-around, leads-pair}
+use Rattle.md_seam.proofs.GrammarLemmas.{IsWord, Leads, leads-append, leads-around}
 use Rattle.markdown_blocks.specs.Fronted.{rest_line}
 use Rattle.markdown_blocks.specs.Leaf.FenceFurther.{chunk_line, closing_line, closing_part, columns_part, further_parts}
 use Rattle.markdown_blocks.specs.Leaf.FenceFurther.{opening_of, part_over, past_columns}
 use Rattle.markdown_blocks.proofs.ContainerNames.{TakesPrefixes}
 use Rattle.markdown_blocks.proofs.FenceFurther.Parts.{further-others}
+use Rattle.markdown_blocks.proofs.LostLine.Grammar.{columns-lead, left_over, lost-leads}
 
 -- What is left of a block.
 
@@ -84,34 +85,12 @@ chunk-empty text m = by-marker (λ x. may_end (inside text (cond x n.MathFlowChu
 
 -- behind what it has: a line with something in it, or an empty one; nothing behind a closing fence
 abbrev pub left_by : Expression → ℕ → List ℕ → Expression
-left_by text m [] = in_line text m
-left_by text m (b ∷ bs) = behind_line text m
+left_by text m line = left_over (in_line text m) (behind_line text m) line
 
 abbrev pub further_left : Expression → ParseOptions → HeldLeaf → Rest → Expression
 further_left text options on r =
     cond (closes options (opening_of on) r) Nothing
     (left_by text (held_marker on) (rest_line (lose (held_indent on) r)))
-
-columns-lead : (text : Expression) (m room : ℕ) (r : Rest) (p : Point) →
-    Leads text (in_line text m ∷ []) (in_line text m ∷ []) (columns_part room r p)
-columns-lead text m room r p = go (nat_lt 0 room && nat_lt 0 (indent r))
-  where
-    go : (x : Bool) →
-        Leads text (in_line text m ∷ []) (in_line text m ∷ []) (cond x (pair n.SpaceOrTab p (past_columns room r p)) [])
-    go true =
-        subst
-        (λ (e : Expression).
-        Leads text (in_line text m ∷ []) (e ∷ []) (pair n.SpaceOrTab p (past_columns room r p)))
-        (white-line text m) (leads-pair text (in_line text m) n.SpaceOrTab p (past_columns room r p) refl)
-    go false = λ outer. refl
-
-chunk-leads : (text : Expression) (m : ℕ) (line : List ℕ) (p q : Point) →
-    Leads text (in_line text m ∷ []) (left_by text m line ∷ []) (part_over (chunk_name m) line p q)
-chunk-leads text m [] p q = λ outer. refl
-chunk-leads text m (b ∷ bs) p q =
-    subst (λ (e : Expression). Leads text (in_line text m ∷ []) (e ∷ []) (pair (chunk_name m) p q))
-    (chunk-behind text m)
-    (leads-pair text (in_line text m) (chunk_name m) p q (chunk-empty text m))
 
 sequence-word : (text : Expression) (m : ℕ) (left : List ℕ) (p end q : Point) →
     IsWord text (inside text (fence_name m) ∷ []) (pair (sequence_name m) p end ++ part_over n.SpaceOrTab left end q)
@@ -173,15 +152,13 @@ further-leads text options on r p q = go (closes options (opening_of on) r)
         let m = held_marker on in
         let all = indent r in
         leads-append text (in_line text m ∷ []) (in_line text m ∷ []) (Nothing ∷ []) (columns_part all r p)
-        (closing_part m (trim_start r.bytes) (past_columns all r p) q) (columns-lead text m all r p)
+        (closing_part m (trim_start r.bytes) (past_columns all r p) q)
+        (columns-lead text (in_line text m) all r p (white-line text m))
         (closing-leads text m (trim_start r.bytes) (past_columns all r p) q)
     go false =
         let m = held_marker on in
-        let lost = held_indent on in
-        let line = rest_line (lose lost r) in
-        leads-append text (in_line text m ∷ []) (in_line text m ∷ []) (left_by text m line ∷ []) (columns_part lost r p)
-        (part_over (chunk_name m) line (past_columns lost r p) q) (columns-lead text m lost r p)
-        (chunk-leads text m line (past_columns lost r p) q)
+        lost-leads text (in_line text m) (behind_line text m) (chunk_name m) (held_indent on) r p q (white-line text m)
+        (chunk-behind text m) (chunk-empty text m)
 
 -- It leads out of no leaf.
 pub further-stays : (options : ParseOptions) (on : HeldLeaf) (r : Rest) (p q : Point) →

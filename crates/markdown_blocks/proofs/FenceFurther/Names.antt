@@ -15,7 +15,7 @@ use Rattle.md_engine.specs.declared.tokenizer.held_leaf.HeldLeaf.{HeldLeaf}
 use Rattle.md_engine.specs.Meaning.{Cell}
 use Rattle.md_content.specs.Joined.{is_content}
 use Rattle.md_definition.specs.Leaves.{closes}
-use Rattle.md_definition.specs.Rest.{Rest, indent, lose, run_len, trim_start}
+use Rattle.md_definition.specs.Rest.{Rest, indent, run_len, trim_start}
 use Rattle.md_lines.specs.Fence.{block_name, chunk_name, fence_name, held_indent, held_marker, sequence_name}
 use Rattle.md_lines.specs.FenceLine.{chunk_events, closes_here, closing_end, closing_events, further_inside, spaces}
 use Rattle.md_lines.specs.FenceRule.{is_end, is_line, run_end, run_rest}
@@ -25,42 +25,15 @@ use Rattle.md_seam.specs.Events.Nested.{enter_link, exit, is_enter, pair}
 use Rattle.md_seam.specs.Events.Places.{past_text}
 use Rattle.md_seam.specs.Spaces.{any_size, small_indent}
 use Rattle.md_seam.specs.Substituted.{wanted}
-use Rattle.markdown_blocks.specs.Fronted.{rest_line}
 use Rattle.markdown_blocks.specs.Leaf.FenceFurther.{closing_line, closing_part, fence_further}
-use Rattle.markdown_blocks.specs.Leaf.FenceFurther.{chunk_line, further_parts, opening_of, part_over, past_columns}
+use Rattle.markdown_blocks.specs.Leaf.FenceFurther.{chunk_line, further_parts, opening_of, past_columns}
 use Rattle.markdown_blocks.specs.Leaf.FenceFurther.{rest_of}
 use Rattle.markdown_blocks.specs.Registry.{is_own, resolved}
 use Rattle.markdown_blocks.proofs.ContentFacts.{NoContent}
+pub use Rattle.markdown_blocks.proofs.LostLine.Names.{inside-name, is_inside}
+use Rattle.markdown_blocks.proofs.LostLine.Names.{AreInside, More, either-part, inside-outside, inside-own, over-each}
+use Rattle.markdown_blocks.proofs.LostLine.Names.{lost-each, part_event}
 use Rattle.markdown_blocks.proofs.OutsideFacts.{AreOutside, NoEnds, outside-append}
-
--- An event of a part.
-
-abbrev pub part_event : Kind → Name → Point → Event
-part_event kind name p = record { kind = kind; name = name; point = p; link = None }
-
--- what may stand in the line
-abbrev pub is_inside : Name → Bool
-is_inside n.SpaceOrTab = true
-is_inside n.CodeFencedFence = true
-is_inside n.CodeFencedFenceSequence = true
-is_inside n.CodeFlowChunk = true
-is_inside n.MathFlowFence = true
-is_inside n.MathFlowFenceSequence = true
-is_inside n.MathFlowChunk = true
-is_inside _ = false
-
--- what holds of each of them
-pub inside-name : (P : Name → Type 0) → P n.SpaceOrTab → P n.CodeFencedFence → P n.CodeFencedFenceSequence →
-    P n.CodeFlowChunk → P n.MathFlowFence → P n.MathFlowFenceSequence → P n.MathFlowChunk → (name : Name) →
-    is_inside name ≡ true → P name
-inside-name P white fence sequence chunk math math_sequence math_chunk n.SpaceOrTab e = white
-inside-name P white fence sequence chunk math math_sequence math_chunk n.CodeFencedFence e = fence
-inside-name P white fence sequence chunk math math_sequence math_chunk n.CodeFencedFenceSequence e = sequence
-inside-name P white fence sequence chunk math math_sequence math_chunk n.CodeFlowChunk e = chunk
-inside-name P white fence sequence chunk math math_sequence math_chunk n.MathFlowFence e = math
-inside-name P white fence sequence chunk math math_sequence math_chunk n.MathFlowFenceSequence e = math_sequence
-inside-name P white fence sequence chunk math math_sequence math_chunk n.MathFlowChunk e = math_chunk
-inside-name P white fence sequence chunk math math_sequence math_chunk _ e = absurd (cc)
 
 pub either-name : (P : Name → Type 0) (x : Bool) (a b : Name) → P a → P b → P (cond x a b)
 either-name P true a b h k = h
@@ -74,23 +47,6 @@ sequence-inside m = either-name (λ a. is_inside a ≡ true) (m == 36) _ _ refl 
 
 chunk-inside : (m : ℕ) → is_inside (chunk_name m) ≡ true
 chunk-inside m = either-name (λ a. is_inside a ≡ true) (m == 36) _ _ refl refl
-
--- Each event.
-
--- one more of them
-abbrev pub More : (List Event → Type 0) → Type 0
-More P = (kind : Kind) (name : Name) (p : Point) (es : List Event) → is_inside name ≡ true → P es →
-    P (part_event kind name p ∷ es)
-
-either-part : (P : List Event → Type 0) → More P → (x : Bool) (name : Name) (p q : Point) (es : List Event) →
-    is_inside name ≡ true → P es → P (cond x (pair name p q) [] ++ es)
-either-part P more true name p q es e h = more Enter name p _ e (more Exit name q es e h)
-either-part P more false name p q es e h = h
-
-over-each : (P : List Event → Type 0) → More P → (name : Name) (bytes : List ℕ) (p q : Point) (es : List Event) →
-    is_inside name ≡ true → P es → P (part_over name bytes p q ++ es)
-over-each P more name [] p q es e h = h
-over-each P more name (b ∷ bs) p q es e h = more Enter name p _ e (more Exit name q es e h)
 
 -- By its rest: what holds of no events, and of one more such, holds of what stands in the line.
 pub parts-each : (P : List Event → Type 0) → P [] → More P → (options : ParseOptions) (on : HeldLeaf) (r : Rest)
@@ -111,20 +67,17 @@ parts-each P none more options on r p q = go (closes options (opening_of on) r)
         (over-each P more n.SpaceOrTab (drop size text) end q _ refl
         (more Exit (fence_name m) q [] (fence-inside m) none))))
 
-    chunk : (name : Name) (bytes : List ℕ) (at : Point) → is_inside name ≡ true → P (part_over name bytes at q)
-    chunk name [] at e = none
-    chunk name (b ∷ bs) at e = more Enter name at _ e (more Exit name q [] e none)
-
     go : (x : Bool) →
         P (cond x (closing_line (held_marker on) r p q) (chunk_line (held_marker on) (held_indent on) r p q))
     go true =
         let all = indent r in
         either-part P more (nat_lt 0 all && nat_lt 0 all) n.SpaceOrTab p (past_columns all r p) _ refl
         (closing (past_columns all r p))
-    go false =
-        let lost = held_indent on in
-        either-part P more (nat_lt 0 lost && nat_lt 0 (indent r)) n.SpaceOrTab p (past_columns lost r p) _ refl
-        (chunk (chunk_name m) (rest_line (lose lost r)) (past_columns lost r p) (chunk-inside m))
+    go false = lost-each P none more (chunk_name m) (held_indent on) r p q (chunk-inside m)
+
+pub parts-inside : (options : ParseOptions) (on : HeldLeaf) (r : Rest) (p q : Point) →
+    AreInside (further_parts options on r p q)
+parts-inside options on r p q = λ P none more. parts-each P none more options on r p q
 
 -- By its cells: the same, in front of others of which it holds.
 pub inside-each : (P : List Event → Type 0) → More P → (options : ParseOptions) (on : HeldLeaf) (cells : List Cell)
@@ -184,10 +137,6 @@ inside-each P more options on cells p es h = go (closes_here options on cells)
 
 -- What stands in the line has no name of a resolver's, and no content.
 
-inside-own : (name : Name) → is_inside name ≡ true → is_own name ≡ false
-inside-own n.SpaceOrTab e = refl
-inside-own _ e = cc
-
 inside-content : (name : Name) → is_inside name ≡ true → is_content name ≡ false
 inside-content n.Content e = absurd (cc)
 inside-content _ e = refl
@@ -218,10 +167,7 @@ further-outside options on line p =
     let parts : List Event = further_parts options on (rest_of p line) p q in (
       block-own (held_marker on),
       outside-append parts (exit (block_name (held_marker on)) q ∷ [])
-          (parts-each AreOutside tt
-          (λ kind name x es e k. (rw (inside-own name e) (and-false (is_enter kind)), k)) options on
-          (rest_of p line) p q)
-          (refl, tt),
+          (inside-outside parts (parts-inside options on (rest_of p line) p q)) (refl, tt),
     )
 
 -- It holds no content, and its link is to none that is read later.

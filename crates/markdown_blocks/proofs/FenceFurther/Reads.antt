@@ -1,33 +1,30 @@
 -- How a further line of fenced code or math is read, where the block is open: any line makes the last one what the line
 -- definition has of it, and a closing fence takes that away and closes the block.
-use Rattle.std.proofs.Common.{◌≡◌, ℕ, zero, suc, Bool, true, false, cond, ◌&&◌, ◌||◌, List, [], ◌∷◌, ◌++◌, length}
-use Rattle.std.proofs.Common.{drop, take, refl, sym, ◌∙◌, ap, ap₂, arith}
-use Rattle.std.specs.Prelude.{◌==◌, nat_lt, Option, Some, None, option_map}
+use Rattle.std.proofs.Common.{◌≡◌, ℕ, Bool, true, false, cond, ◌||◌, List, [], ◌∷◌, ◌++◌, length}
+use Rattle.std.proofs.Common.{drop, take, refl, sym, ◌∙◌, ap, ap₂}
+use Rattle.std.specs.Prelude.{◌==◌, Option, Some, None, option_map}
 use Rattle.md_engine.specs.declared.configuration.ParseOptions.{ParseOptions}
 use Rattle.md_engine.specs.declared.event.Event.{Event}
 use Rattle.md_engine.specs.declared.event.Name.TheVariants as n
 use Rattle.md_engine.specs.declared.event.Point.{Point}
 use Rattle.md_engine.specs.declared.tokenizer.held_leaf.HeldLeaf.{HeldLeaf}
 use Rattle.md_definition.specs.Leaves.{closes}
-use Rattle.md_definition.specs.Rest.{Rest, cut_tab, indent, line_of, lose, run_len, trim_start}
+use Rattle.md_definition.specs.Rest.{Rest, indent, line_of, lose, run_len, trim_start}
 use Rattle.md_definition.specs.Tree.{Line}
 use Rattle.md_lines.specs.CodeLine as code
 use Rattle.md_lines.specs.Fence.{chunk_name, fence_name, held_indent, held_marker, sequence_name}
-use Rattle.md_lines.proofs.CodeLines.{chunk-reads}
-use Rattle.md_seam.specs.Events.Nested.{enter, exit, pair}
+use Rattle.md_seam.specs.Events.Nested.{enter, exit}
 use Rattle.md_seam.specs.Events.Places.{past_text}
-use Rattle.md_seam.specs.Events.Spelled.{AsLine, AsMarkers, FenceLeaf, Fenced, MathLeaf, OpenLeaf, Reading, Text}
+use Rattle.md_seam.specs.Events.Spelled.{AsLine, AsMarkers, FenceLeaf, Fenced, MathLeaf, OpenLeaf, Reading, Tells}
 use Rattle.md_seam.specs.Events.Spelled.{at_fence}
 use Rattle.md_seam.specs.Events.Spelled.{empty_line, first_told, joined, next_line, noted, on_fences, on_last, on_leaf}
-use Rattle.md_seam.specs.Events.Spelled.{read, with_fence, without_last}
-use Rattle.md_seam.proofs.RestCells.{RestAt}
+use Rattle.md_seam.specs.Events.Spelled.{read, role, with_fence, without_last}
 use Rattle.md_seam.proofs.SpelledLemmas.{Quiet, Roles, read-from, read-quiet}
-use Rattle.markdown_blocks.specs.Fronted.{rest_line}
 use Rattle.markdown_blocks.specs.Leaf.FenceFurther.{chunk_line, closing_line, closing_part, columns_part, further_parts}
 use Rattle.markdown_blocks.specs.Leaf.FenceFurther.{opening_of, part_over, past_columns}
-use Rattle.markdown_blocks.proofs.FenceFurther.Cells.{past-line}
+use Rattle.markdown_blocks.proofs.LostLine.Reads.{columns-quiet, empty-joined, leaf-told, lost-read, on-last}
 use Rattle.markdown_blocks.proofs.FenceFurther.Names.{either-name}
-use Rattle.markdown_blocks.proofs.FenceFurther.Places.{FurtherAt, has-left}
+use Rattle.markdown_blocks.proofs.FenceFurther.Places.{FurtherAt}
 
 -- The block.
 
@@ -59,21 +56,12 @@ next-open before lines _ h = absurd h
 
 -- Its last line.
 
-on-last : (f : Line → Line) (before : List Line) (x : Line) → on_last f (before ++ x ∷ []) ≡ before ++ f x ∷ []
-on-last f [] x = refl
-on-last f (y ∷ []) x = refl
-on-last f (y ∷ z ∷ ys) x = ap (λ (l : List Line). y ∷ l) (on-last f (z ∷ ys) x)
-
 without-last : (before : List Line) (x : Line) → without_last (before ++ x ∷ []) ≡ before
 without-last [] x = refl
 without-last (y ∷ []) x = refl
 without-last (y ∷ z ∷ ys) x = ap (λ (l : List Line). y ∷ l) (without-last (z ∷ ys) x)
 
 -- it becomes what is told of it
-empty-joined : (line : Line) → joined empty_line line ≡ line
-empty-joined line =
-    ap (λ (s : ℕ). let l : Line = record { spaces = s; text = line.text } in l) (omega arith)
-
 line-told : (before : List Line) (line : Line) (fences : Fenced) → IsFenced before fences →
     on_last (λ l. joined l line) fences.lines ≡ before ++ line ∷ []
 line-told before line fences h =
@@ -125,69 +113,13 @@ closing-noted before line _ h = absurd h
 
 -- Events.
 
-columns-quiet : (room : ℕ) (r : Rest) (p : Point) → Roles Quiet (columns_part room r p)
-columns-quiet room r p = go (nat_lt 0 room && nat_lt 0 (indent r))
-  where
-    go : (x : Bool) → Roles Quiet (cond x (pair n.SpaceOrTab p (past_columns room r p)) [])
-    go true = (tt, (tt, tt))
-    go false = tt
-
 white-quiet : (text : List ℕ) (p q : Point) → Roles Quiet (part_over n.SpaceOrTab text p q)
 white-quiet [] p q = tt
 white-quiet (b ∷ bs) p q = (tt, (tt, tt))
 
--- a text of an open leaf
-leaf-told : (rd : Reading) (f : OpenLeaf → OpenLeaf) (leaf : OpenLeaf) → rd.text ≡ None → rd.leaf ≡ Some leaf →
-    on_leaf f (record rd { text = None }) ≡ record rd { leaf = Some (f leaf) }
-leaf-told rd f leaf none is =
-    ap₂
-    (λ (t : Option Text) (l : Option OpenLeaf).
-    let x : Reading = record rd { text = t; leaf = option_map f l } in x)
-    (sym none) is
-
--- a part over a line
-chunk-told : (bytes : List ℕ) (m : ℕ) (p q : Point) (rd : Reading) →
-    read bytes rd (pair (chunk_name m) p q) ≡
-    on_leaf (noted AsLine (code.chunk_line bytes p q)) (record rd { text = None })
-chunk-told bytes m p q rd =
-    either-name
-    (λ name.
-    read bytes rd (pair name p q) ≡ on_leaf (noted AsLine (code.chunk_line bytes p q)) (record rd { text = None }))
-    (m == 36) _ _ refl refl
-
-chunk-read : (bytes behind : List ℕ) (m : ℕ) (left : Rest) (at q : Point) (rd : Reading) (leaf : OpenLeaf)
-    (before : List Line) →
-    RestAt bytes behind left at → q ≡ past_text (rest_line left) at → rd.text ≡ None → rd.leaf ≡ Some leaf →
-    IsOpen before leaf →
-    read bytes rd (part_over (chunk_name m) (rest_line left) at q) ≡
-    record rd { leaf = Some (with_lines (before ++ line_of left ∷ []) leaf) }
-chunk-read bytes behind m left at q rd leaf before stands ends none is shape = go left.spaces left.bytes told
-  where
-    with_last : Line → Reading
-    with_last line = record rd { leaf = Some (with_lines (before ++ line ∷ []) leaf) }
-
-    told : read bytes rd (pair (chunk_name m) at q) ≡ with_last (line_of left)
-    told =
-        chunk-told bytes m at q rd
-        ∙ leaf-told rd (noted AsLine (code.chunk_line bytes at q)) leaf none is
-        ∙ ap (λ (l : OpenLeaf). let x : Reading = record rd { leaf = Some l } in x)
-        (line-noted before (code.chunk_line bytes at q) leaf shape)
-        ∙ ap with_last
-        (ap (code.chunk_line bytes at) (ends ∙ sym (past-line bytes behind left at stands))
-        ∙ chunk-reads bytes behind left at stands)
-
-    empty : rd ≡ with_last empty_line
-    empty =
-        ap (λ (l : Option OpenLeaf). let x : Reading = record rd { leaf = l } in x)
-        (is ∙ ap (λ (l : OpenLeaf). Some l) (line-empty before leaf shape))
-
-    go : (spaces : ℕ) (text : List ℕ) →
-        read bytes rd (pair (chunk_name m) at q) ≡ with_last (record { spaces = spaces; text = text }) →
-        read bytes rd (part_over (chunk_name m) (cut_tab spaces ++ text) at q) ≡
-        with_last (record { spaces = spaces; text = text })
-    go zero [] h = empty
-    go zero (b ∷ bs) h = h
-    go (suc k) text h = h
+-- a part over a line is read as one
+pub chunk-role : (m : ℕ) → role (chunk_name m) ≡ Tells AsLine
+chunk-role m = either-name (λ name. role name ≡ Tells AsLine) (m == 36) _ _ refl refl
 
 -- a closing fence
 closing-told : (bytes : List ℕ) (m : ℕ) (p q end : Point) (rd : Reading) (more : List Event) →
@@ -249,13 +181,11 @@ pub further-line-read : (options : ParseOptions) (bytes : List ℕ) (on : HeldLe
 further-line-read options bytes on r p q is other rd leaf before none at shape =
     let m = held_marker on in
     let lost = held_indent on in
-    let left = has-left bytes lost r p q is in
-    let part = part_over (chunk_name m) (rest_line (lose lost r)) (past_columns lost r p) q in
     ap (λ (x : Bool). read bytes rd (cond x (closing_line m r p q) (chunk_line m lost r p q))) other
-    ∙ read-from bytes rd rd (columns_part lost r p) part
-    (read-quiet bytes rd (columns_part lost r p) (columns-quiet lost r p))
-    ∙ chunk-read bytes (drop q.index bytes) m (lose lost r) (past_columns lost r p) q rd leaf before left.stands
-    left.ends none at shape
+    ∙ lost-read bytes (chunk_name m) lost r p q (chunk-role m) is rd leaf none at
+    (line-noted before empty_line leaf shape ∙ sym (line-empty before leaf shape))
+    ∙ ap (λ (l : OpenLeaf). let x : Reading = record rd { leaf = Some l } in x)
+    (line-noted before (line_of (lose lost r)) leaf shape)
 
 -- A closing fence takes the last line away, and closes the block.
 pub further-closing-read : (options : ParseOptions) (bytes : List ℕ) (on : HeldLeaf) (r : Rest) (p q : Point) →

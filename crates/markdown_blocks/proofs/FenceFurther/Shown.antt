@@ -1,9 +1,9 @@
 -- What stands in a further line of fenced code or math stands between characters, and parts no text.
-use Rattle.std.proofs.Common.{◌≡◌, ℕ, zero, suc, ◌-◌, Bool, true, false, cond, ◌&&◌, List, [], ◌∷◌}
-use Rattle.std.proofs.Common.{◌++◌, drop, take, refl, sym, arith, subst}
-use Rattle.std.specs.Prelude.{◌==◌, nat_lt, not}
+use Rattle.std.proofs.Common.{◌≡◌, ℕ, ◌-◌, Bool, true, false, cond, List, [], ◌∷◌}
+use Rattle.std.proofs.Common.{◌++◌, drop, take, refl, arith}
+use Rattle.std.specs.Prelude.{◌==◌}
 use Rattle.std.specs.List.{list_all}
-use Rattle.std.proofs.lemmas.Bool.{and_from, or_right}
+use Rattle.std.proofs.lemmas.Bool.{and_from}
 use Rattle.std.proofs.lemmas.Bool.Decides.{nat_tests}
 use Rattle.md_engine.specs.declared.configuration.ParseOptions.{ParseOptions}
 use Rattle.md_engine.specs.declared.event.Event.{Event}
@@ -12,47 +12,31 @@ use Rattle.md_engine.specs.declared.event.Name.TheVariants as n
 use Rattle.md_engine.specs.declared.event.Point.{Point}
 use Rattle.md_engine.specs.declared.tokenizer.held_leaf.HeldLeaf.{HeldLeaf}
 use Rattle.md_definition.specs.Leaves.{closes}
-use Rattle.md_definition.specs.Rest.{Rest, cut_tab, indent, lose, run_len, trim_start}
+use Rattle.md_definition.specs.Rest.{Rest, indent, lose, run_len, trim_start}
 use Rattle.md_lines.specs.Fence.{chunk_name, fence_name, held_indent, held_marker, may_begin, sequence_name}
 use Rattle.md_outline.specs.Between.{is_between}
 use Rattle.md_outline.specs.Outlined.{has_unlisted_name}
-use Rattle.md_outline.specs.Roles.{is_told, is_unlisted}
+use Rattle.md_outline.specs.Roles.{is_unlisted}
 use Rattle.md_seam.specs.Events.Nested.{around, exit, pair}
 use Rattle.md_seam.specs.Events.Places.{past_text}
 use Rattle.md_seam.specs.Events.Spelled.{role}
 use Rattle.md_seam.proofs.InlineLemmas.{past-index}
-use Rattle.md_seam.proofs.PlacesLemmas.{at-next}
-use Rattle.md_seam.proofs.RestCells.{Cut, RestAt}
-use Rattle.markdown_blocks.specs.Fronted.{rest_line}
 use Rattle.markdown_blocks.specs.Leaf.FenceFurther.{chunk_line, closing_line, closing_part, columns_part, further_parts}
 use Rattle.markdown_blocks.specs.Leaf.FenceFurther.{is_fence, opening_of, part_over, past_columns}
 use Rattle.markdown_blocks.proofs.BetweenFacts.{AreBetween, all-more, between-behind, is_low, low-at, white-between}
-use Rattle.markdown_blocks.proofs.EachEvent.{Each, each-append}
+use Rattle.markdown_blocks.proofs.EachEvent.{each-append}
+pub use Rattle.markdown_blocks.proofs.LostLine.Shown.{left-clear, whole-clear}
+use Rattle.markdown_blocks.proofs.LostLine.Shown.{OfPoints, SitsPair, columns-points, columns-sits, each-all}
+use Rattle.markdown_blocks.proofs.LostLine.Shown.{lost-points, lost-sits, over-points, over-sits, points-clear}
+use Rattle.markdown_blocks.proofs.LostLine.Shown.{white-sits}
 use Rattle.markdown_blocks.proofs.FenceFurther.Inside.{has-sequence}
 use Rattle.markdown_blocks.proofs.FenceFurther.Names.{either-name, inside-name, is_inside, parts-each}
 use Rattle.markdown_blocks.proofs.FenceFurther.Places.{FurtherAt, HasClosing, has-closing, has-left}
 use Rattle.markdown_blocks.proofs.FenceFurther.Trial.{fence-marker}
-use Rattle.markdown_blocks.proofs.PartedFacts.{Sits, around-sits, clear, low-clear, sits-append}
+use Rattle.markdown_blocks.proofs.PartedFacts.{Sits, around-sits, clear, sits-append}
 use Rattle.markdown_blocks.proofs.PlainFacts.{AreKnown, is_clear}
 
 -- Points.
-
--- what holds of each of its points holds of the point of each of its events
-abbrev OfPoints : (Point → Type 0) → List Event → Type 0
-OfPoints P es = Each (λ e. P e.point) es
-
-columns-points : (P : Point → Type 0) (room : ℕ) (r : Rest) (p : Point) → P p → P (past_columns room r p) →
-    OfPoints P (columns_part room r p)
-columns-points P room r p first last = go (nat_lt 0 room && nat_lt 0 (indent r))
-  where
-    go : (x : Bool) → OfPoints P (cond x (pair n.SpaceOrTab p (past_columns room r p)) [])
-    go true = (first, (last, tt))
-    go false = tt
-
-over-points : (P : Point → Type 0) (name : Name) (text : List ℕ) (p q : Point) → P p → P q →
-    OfPoints P (part_over name text p q)
-over-points P name [] p q first last = tt
-over-points P name (b ∷ bs) p q first last = (first, (last, tt))
 
 -- where the sequence of a closing fence ends
 abbrev sequence_end : HeldLeaf → Rest → Point → Point
@@ -87,17 +71,7 @@ points-each P options on r p q first last inner closing = go (closes options (op
           ),
         )
     go false f =
-        let lost = held_indent on in
-        let line = rest_line (lose lost r) in
-        let at = past_columns lost r p in
-        let Of : Event → Type 0 = λ e. P e.point in
-        each-append Of (columns_part lost r p) (part_over (chunk_name (held_marker on)) line at q)
-        (columns-points P lost r p first (inner lost))
-        (over-points P (chunk_name (held_marker on)) line at q (inner lost) last)
-
-each-all : (f : Event → Bool) (es : List Event) → Each (λ e. f e ≡ true) es → list_all f es ≡ true
-each-all f [] h = refl
-each-all f (e ∷ es) h = and_from (f e) (list_all f es) h.0 (each-all f es h.1)
+        lost-points P (chunk_name (held_marker on)) (held_indent on) r p q first last (inner (held_indent on))
 
 -- They stand between characters.
 
@@ -134,40 +108,18 @@ further-between options bytes on r p q e is begin end =
 
 -- Each begins and ends clear.
 
-pub whole-clear : (bytes : List ℕ) (p : Point) → p.vs ≡ 0 → clear bytes p ≡ true
-whole-clear bytes p e = low-clear bytes p (λ some. absurd (none some))
-  where
-    none : (p.vs == 0) ≡ false → ⊥
-    none some = grind (arith, nat_tests, e)
-
--- behind whitespace: a tab is cut, if any byte is
-pub left-clear : (bytes behind : List ℕ) (r : Rest) (p : Point) → RestAt bytes behind r p → clear bytes p ≡ true
-left-clear bytes behind r p is = go r.spaces is.cut is.text_is
-  where
-    go : (spaces : ℕ) → Cut spaces p → drop p.index bytes ≡ (cut_tab spaces ++ r.bytes ++ behind) →
-        clear bytes p ≡ true
-    go zero cut text = whole-clear bytes p cut
-    go (suc k) cut text =
-        low-clear bytes p
-        (λ some. subst (λ (b : ℕ). is_low b ≡ true) (sym (at-next p.index bytes 9 (r.bytes ++ behind) text)) refl)
-
 further-clear : (options : ParseOptions) (bytes : List ℕ) (on : HeldLeaf) (r : Rest) (p q : Point) →
     is_fence on ≡ true → FurtherAt bytes r p q → clear bytes p ≡ true →
     list_all (is_clear bytes) (further_parts options on r p q) ≡ true
 further-clear options bytes on r p q e is begin =
-    each-all (is_clear bytes) (further_parts options on r p q)
-    (points (further_parts options on r p q)
+    points-clear bytes (further_parts options on r p q)
     (points-each (λ x. clear bytes x ≡ true) options on r p q begin (whole-clear bytes q is.at.end_whole)
     (λ room.
     left-clear bytes (drop q.index bytes) (lose room r) (past_columns room r p)
     (has-left bytes room r p q is).stands)
     (λ f.
     whole-clear bytes (sequence_end on r p)
-    (has-sequence bytes on r p q e (has-closing options bytes on r p q is f)).over.whole)))
-  where
-    points : (es : List Event) → OfPoints (λ x. clear bytes x ≡ true) es → Each (λ e. is_clear bytes e ≡ true) es
-    points [] h = tt
-    points (e ∷ es) h = (or_right (not (is_told (role e.name))) (clear bytes e.point) h.0, points es h.1)
+    (has-sequence bytes on r p q e (has-closing options bytes on r p q is f)).over.whole))
 
 -- An outline knows their names.
 pub further-known : (options : ParseOptions) (bytes : List ℕ) (on : HeldLeaf) (r : Rest) (p q : Point) →
@@ -186,29 +138,11 @@ further-known options bytes on r p q e is begin = record {
 
 -- No text is parted.
 
-abbrev SitsPair : List ℕ → Name → Type 0
-SitsPair bytes name = (p q : Point) → Sits bytes (pair name p q)
-
-white-sits : (bytes : List ℕ) → SitsPair bytes n.SpaceOrTab
-white-sits bytes p q ys h = h
-
 sequence-sits : (bytes : List ℕ) (m : ℕ) → SitsPair bytes (sequence_name m)
 sequence-sits bytes m = either-name (SitsPair bytes) (m == 36) _ _ (λ p q ys h. h) (λ p q ys h. h)
 
 chunk-sits : (bytes : List ℕ) (m : ℕ) → SitsPair bytes (chunk_name m)
 chunk-sits bytes m = either-name (SitsPair bytes) (m == 36) _ _ (λ p q ys h. h) (λ p q ys h. h)
-
-over-sits : (bytes : List ℕ) (name : Name) (text : List ℕ) (p q : Point) → SitsPair bytes name →
-    Sits bytes (part_over name text p q)
-over-sits bytes name [] p q sits = λ ys h. h
-over-sits bytes name (b ∷ bs) p q sits = sits p q
-
-columns-sits : (bytes : List ℕ) (room : ℕ) (r : Rest) (p : Point) → Sits bytes (columns_part room r p)
-columns-sits bytes room r p = go (nat_lt 0 room && nat_lt 0 (indent r))
-  where
-    go : (x : Bool) → Sits bytes (cond x (pair n.SpaceOrTab p (past_columns room r p)) [])
-    go true ys h = h
-    go false ys h = h
 
 fence-sits : (bytes : List ℕ) (m : ℕ) (p q : Point) (inside : List Event) → Sits bytes inside →
     Sits bytes (around (fence_name m) p q inside)
@@ -234,9 +168,4 @@ further-sits options bytes on r p q = go (closes options (opening_of on) r)
         (sits-append bytes (pair (sequence_name m) at end) white (sequence-sits bytes m at end)
         (over-sits bytes n.SpaceOrTab (drop (run_len m text) text) end q (white-sits bytes))))
     go false =
-        let m = held_marker on in
-        let lost = held_indent on in
-        let line = rest_line (lose lost r) in
-        let at = past_columns lost r p in
-        sits-append bytes (columns_part lost r p) (part_over (chunk_name m) line at q) (columns-sits bytes lost r p)
-        (over-sits bytes (chunk_name m) line at q (chunk-sits bytes m))
+        lost-sits bytes (chunk_name (held_marker on)) (held_indent on) r p q (chunk-sits bytes (held_marker on))

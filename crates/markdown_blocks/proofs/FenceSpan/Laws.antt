@@ -141,7 +141,7 @@ rest-of options bytes row rows is are =
     leaf = leaf_of (opening_of is.rest) (marks_of (text_of is.rest)) [] false
 
 -- Where events lead that stay in a leaf is told by them alone.
-stays-same : (es : List Event) (h : Stays es) (full : Bool) → Leads (in_leaf true) (in_leaf full) es →
+pub stays-same : (es : List Event) (h : Stays es) (full : Bool) → Leads (in_leaf true) (in_leaf full) es →
     (h true).0 ≡ full
 stays-same es h full leads = told (h true).0 full (sym ((h true).1 ending) ∙ leads ending)
   where

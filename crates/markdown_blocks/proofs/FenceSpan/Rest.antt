@@ -94,7 +94,7 @@ full-last full row [] e = e
 full-last full row (next ∷ rows) e = full-last (not (is_bare_row next)) next rows refl
 
 -- events that are parts of a leaf fill a line, if there are any
-others-fill : (full : Bool) (es : List Event) → AreOthers es → Balanced es →
+pub others-fill : (full : Bool) (es : List Event) → AreOthers es → Balanced es →
     Leads (in_leaf full) (in_leaf (full || not (is_bare es))) es
 others-fill true es others balanced = others-lead (in_leaf true) es refl others
 others-fill false [] others balanced = λ ys. refl

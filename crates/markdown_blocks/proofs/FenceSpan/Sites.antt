@@ -1,11 +1,12 @@
 -- Where an outline is in fenced code and math, line by line: all that stands in such a block may stand there.
-use Rattle.std.proofs.Common.{◌≡◌, ℕ, ◌+◌, Bool, true, false, cond, ◌&&◌, not, List, [], ◌∷◌, ◌++◌, length, take}
+use Rattle.std.proofs.Common.{◌≡◌, ℕ, ◌+◌, Bool, true, false, cond, not, List, [], ◌∷◌, ◌++◌, length, take}
 use Rattle.std.proofs.Common.{drop, refl, sym, ap, ◌∙◌, subst, slice_range, arith}
 use Rattle.std.specs.Prelude.{◌==◌, nat_lt}
 use Rattle.std.specs.List.{prefix_len}
 use Rattle.std.proofs.lemmas.Bool.Decides.{nat_tests}
 use Rattle.md_engine.specs.declared.configuration.ParseOptions.{ParseOptions}
 use Rattle.md_engine.specs.declared.event.Event.{Event}
+use Rattle.md_engine.specs.declared.event.Kind.TheVariants.{Enter, Exit}
 use Rattle.md_engine.specs.declared.event.Name.{Name}
 use Rattle.md_engine.specs.declared.event.Name.TheVariants as n
 use Rattle.md_engine.specs.declared.event.Point.{Point}
@@ -16,28 +17,31 @@ use Rattle.md_definition.specs.Texts.{first_byte}
 use Rattle.md_lines.specs.Fence.{chunk_name, fence_name, held_indent, held_marker, may_begin, sequence_name}
 use Rattle.md_lines.proofs.FenceOpened.{marker-may}
 use Rattle.md_lines.proofs.FenceParts.{prefix-take}
-use Rattle.md_outline.specs.LinesStand.{AtEnd, AtEnding, AtInfo, AtLine, AtMeta, InText, LinesStand, Site}
-use Rattle.md_outline.specs.LinesStand.{begun_site}
+use Rattle.md_outline.specs.LinesStand.{AtEnd, AtEnding, AtInfo, AtLine, AtMeta, InText, LinesStand, MayStand}
+use Rattle.md_outline.specs.LinesStand.{Site, begun_site, site_by}
 use Rattle.md_outline.proofs.LinesPass.{IsOnLine, MayLeave, Passes, ended_site, passes-append, passes-none}
 use Rattle.md_outline.proofs.LinesPass.{passes-quiet, stand-both}
 use Rattle.md_seam.specs.Events.Inline.{pair_unless_empty}
 use Rattle.md_seam.specs.Events.Nested.{around, exit, pair}
 use Rattle.md_seam.specs.Events.Pieces.{stands_over}
 use Rattle.md_seam.specs.Events.Places.{past_text, same_place}
-use Rattle.md_seam.specs.Events.Spelled.{AsInfo, AsMeta, LeafKind, OfFence, OfMath, Purpose, byte_at}
+use Rattle.md_seam.specs.Events.Spelled.{AsInfo, AsLine, AsMeta, LeafKind, OfFence, OfMath, Purpose, Role, Tells}
+use Rattle.md_seam.specs.Events.Spelled.{byte_at, role}
 use Rattle.md_seam.proofs.InlineLemmas.{same-refl}
 use Rattle.md_seam.proofs.SpelledLemmas.{Quiet, Roles}
 use Rattle.markdown_blocks.specs.Fronted.{rest_line}
 use Rattle.markdown_blocks.specs.Leaf.Fence.{behind_parts, fence_parts, past_white, read_inner, text_part, white_part}
 use Rattle.markdown_blocks.specs.Leaf.FenceFurther.{chunk_line, closing_line, closing_part, columns_part, further_parts}
 use Rattle.markdown_blocks.specs.Leaf.FenceFurther.{opening_of, part_over, past_columns}
+use Rattle.markdown_blocks.specs.LineColumns.{lost_line}
 use Rattle.markdown_blocks.proofs.Fence.Kept.{text-end, white-roles}
 use Rattle.markdown_blocks.proofs.Fence.Laid.{Laid}
 use Rattle.markdown_blocks.proofs.Fence.Reads.{FirstIs, sequence-some, take-first}
 use Rattle.markdown_blocks.proofs.Fence.Walk.{At, at-drop, at-take, sequence-over}
 use Rattle.markdown_blocks.proofs.Fence.Words.{code_parts, parts_by}
-use Rattle.markdown_blocks.proofs.FenceFurther.Names.{either-name}
+use Rattle.markdown_blocks.proofs.FenceFurther.Reads.{chunk-role}
 use Rattle.markdown_blocks.proofs.FenceSpan.Open.{kind_of}
+use Rattle.markdown_blocks.proofs.LostLine.Reads.{columns-quiet}
 use Rattle.markdown_blocks.proofs.PieceFacts.{over-front}
 
 -- The opening fence: its markers, and what stands behind them.
@@ -256,23 +260,39 @@ further_site options on r =
     cond (closes options (opening_of on) r) (AtEnd kind)
     (line_site kind (is_told_of (rest_line (lose (held_indent on) r))))
 
-columns-quiet : (room : ℕ) (r : Rest) (p : Point) → Roles Quiet (columns_part room r p)
-columns-quiet room r p = go (nat_lt 0 room && nat_lt 0 (indent r))
-  where
-    go : (x : Bool) → Roles Quiet (cond x (pair n.SpaceOrTab p (past_columns room r p)) [])
-    go true = (tt, (tt, tt))
-    go false = tt
-
 over-quiet : (text : List ℕ) (p q : Point) → Roles Quiet (part_over n.SpaceOrTab text p q)
 over-quiet [] p q = tt
 over-quiet (b ∷ bs) p q = (tt, (tt, tt))
 
-chunk-passes : (bytes : List ℕ) (kind : LeafKind) (m : ℕ) (line : List ℕ) (p q : Point) →
-    Passes bytes (AtLine kind) (line_site kind (is_told_of line)) (part_over (chunk_name m) line p q)
-chunk-passes bytes kind m [] p q = passes-none bytes (AtLine kind)
-chunk-passes bytes kind m (b ∷ bs) p q =
-    either-name (λ name. Passes bytes (AtLine kind) (AtEnding kind) (pair name p q)) (m == 36) _ _
-    (λ ys h. (tt, (tt, h))) (λ ys h. (tt, (tt, h)))
+-- what is left of a line, under such a name
+over-passes : (bytes : List ℕ) (kind : LeafKind) (name : Name) (line : List ℕ) (p q : Point) →
+    role name ≡ Tells AsLine →
+    Passes bytes (AtLine kind) (line_site kind (is_told_of line)) (part_over name line p q)
+over-passes bytes kind name [] p q is = passes-none bytes (AtLine kind)
+over-passes bytes kind name (b ∷ bs) p q is = λ ys h.
+    subst
+    (λ (x : Role).
+    MayStand bytes (AtLine kind) Enter x p
+    × LinesStand bytes (site_by bytes (AtLine kind) Enter x p) (exit name q ∷ ys))
+    (sym is) (
+      tt,
+      subst
+          (λ (x : Role).
+          MayStand bytes (InText kind AsLine) Exit x q
+          × LinesStand bytes (site_by bytes (InText kind AsLine) Exit x q) ys)
+          (sym is) (tt, h),
+    )
+
+-- a line that loses columns of whitespace
+pub lost-passes : (bytes : List ℕ) (kind : LeafKind) (name : Name) (lost : ℕ) (r : Rest) (p q : Point) →
+    role name ≡ Tells AsLine →
+    Passes bytes (AtLine kind) (line_site kind (is_told_of (rest_line (lose lost r)))) (lost_line name lost r p q)
+lost-passes bytes kind name lost r p q is =
+    let line = rest_line (lose lost r) in
+    passes-append bytes (AtLine kind) (AtLine kind) (line_site kind (is_told_of line)) (columns_part lost r p)
+    (part_over name line (past_columns lost r p) q)
+    (passes-quiet bytes (AtLine kind) (columns_part lost r p) (columns-quiet lost r p))
+    (over-passes bytes kind name line (past_columns lost r p) q is)
 
 -- by whether it is math
 closing-passes : (bytes : List ℕ) (math : Bool) (p end q : Point) (white : List Event) → Roles Quiet white →
@@ -300,9 +320,6 @@ further-passes options bytes on r p q = go (closes options (opening_of on) r)
     kind : LeafKind
     kind = kind_of (held_marker on)
 
-    columns : (room : ℕ) → Passes bytes (AtLine kind) (AtLine kind) (columns_part room r p)
-    columns room = passes-quiet bytes (AtLine kind) (columns_part room r p) (columns-quiet room r p)
-
     go : (x : Bool) →
         Passes bytes (AtLine kind)
         (cond x (AtEnd kind) (line_site kind (is_told_of (rest_line (lose (held_indent on) r)))))
@@ -312,12 +329,10 @@ further-passes options bytes on r p q = go (closes options (opening_of on) r)
         let at = past_columns (indent r) r p in
         let end = past_text (take (run_len m text) text) at in
         passes-append bytes (AtLine kind) (AtLine kind) (AtEnd kind) (columns_part (indent r) r p)
-        (closing_part m text at q) (columns (indent r))
+        (closing_part m text at q)
+        (passes-quiet bytes (AtLine kind) (columns_part (indent r) r p) (columns-quiet (indent r) r p))
         (closing-passes bytes (m == 36) at end q (part_over n.SpaceOrTab (drop (run_len m text) text) end q)
         (over-quiet (drop (run_len m text) text) end q))
     go false =
-        let lost = held_indent on in
-        let line = rest_line (lose lost r) in
-        let at = past_columns lost r p in
-        passes-append bytes (AtLine kind) (AtLine kind) (line_site kind (is_told_of line)) (columns_part lost r p)
-        (part_over (chunk_name m) line at q) (columns lost) (chunk-passes bytes kind m line at q)
+        lost-passes bytes kind (chunk_name m) (held_indent on) r p q
+        (chunk-role m)

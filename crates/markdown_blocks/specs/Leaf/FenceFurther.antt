@@ -1,10 +1,9 @@
 -- A further line of fenced code and of math (CommonMark 4.5, own choice), as a leaf on one line: a closing fence, or
 -- one more line of the block that is open.
-use Rattle.std.specs.Prelude.{ℕ, zero, suc, ◌+◌, ◌-◌, Bool, true, false, ◌&&◌, ◌==◌, nat_lt, if◌then◌else◌}
+use Rattle.std.specs.Prelude.{ℕ, Bool, true, false, if◌then◌else◌}
 use Rattle.std.specs.Prelude.{List, [], ◌∷◌, ◌++◌, take, drop, None}
 use Rattle.md_engine.specs.declared.configuration.ParseOptions.{ParseOptions}
 use Rattle.md_engine.specs.declared.event.Event.{Event}
-use Rattle.md_engine.specs.declared.event.Name.{Name}
 use Rattle.md_engine.specs.declared.event.Name.TheVariants as n
 use Rattle.md_engine.specs.declared.event.Point.{Point}
 use Rattle.md_engine.specs.declared.state.Name.TheVariants as s
@@ -20,11 +19,10 @@ use Rattle.md_lines.specs.FenceRule.{further_at}
 use Rattle.md_lines.specs.Further.{further_link}
 use Rattle.md_seam.specs.Events.Nested.{around, enter_link, exit, pair}
 use Rattle.md_seam.specs.Events.Places.{past_text}
-use Rattle.md_seam.specs.Events.Spelled.{columns_left}
 use Rattle.md_definition.specs.Leaves.{Came, Opened, closes, fence_goes_on}
-use Rattle.md_definition.specs.Rest.{Rest, indent, lose, run_len, trim_start, without_column}
+use Rattle.md_definition.specs.Rest.{Rest, indent, run_len, trim_start}
 use Rattle.md_definition.specs.State.{Leaf, OpenFence, Opening, fence_block}
-use Rattle.markdown_blocks.specs.RestLine.{rest_line}
+pub use Rattle.markdown_blocks.specs.LineColumns.{columns_part, lost_line, next_point, part_over, past_columns, rest_of}
 use Rattle.markdown_blocks.specs.LineLeaf.{LineLeaf}
 
 -- What is held of the block.
@@ -51,40 +49,7 @@ abbrev pub further_holds : ParseOptions → HeldLeaf → Rest → HeldLeaf
 further_holds options on r =
     if is_fence on then (if closes options (opening_of on) r then held_leaf.None else on) else held_leaf.None
 
--- Points of a line.
-
--- the rest of a line that begins at a point: a tab that the point cuts is its first byte
-abbrev pub rest_of : Point → List ℕ → Rest
-rest_of p line = record {
-  column = p.column - 1;
-  spaces = columns_left p;
-  bytes = if p.vs == 0 then line else drop 1 line;
-}
-
--- a column further, with this left behind it: within a tab while more of it is left, and else behind its byte
-abbrev pub next_point : Rest → Point → Point
-next_point left p =
-    if left.spaces == 0 then record p { column = p.column + 1; index = p.index + 1; vs = 0 }
-    else record p { column = p.column + 1; vs = p.vs + 1 }
-
--- behind so many columns of whitespace, or as many as there are
-abbrev pub past_columns : ℕ → Rest → Point → Point
-past_columns zero r p = p
-past_columns (suc n) r p =
-    let left = without_column r.column r.spaces r.bytes in
-    if indent r == 0 then p else past_columns n left (next_point left p)
-
 -- What stands in the line, from the point where it begins to its end.
-
--- so many columns of whitespace, or as many as there are
-abbrev pub columns_part : ℕ → Rest → Point → List Event
-columns_part room r p =
-    if nat_lt 0 room && nat_lt 0 (indent r) then pair n.SpaceOrTab p (past_columns room r p) else []
-
--- a part over these bytes, if there are any
-abbrev pub part_over : Name → List ℕ → Point → Point → List Event
-part_over name [] p q = []
-part_over name (b ∷ bs) p q = pair name p q
 
 -- a closing fence: its sequence, and the whitespace behind it
 abbrev pub closing_part : ℕ → List ℕ → Point → Point → List Event
@@ -99,8 +64,7 @@ closing_line m r p q =
     columns_part (indent r) r p ++ closing_part m (trim_start r.bytes) (past_columns (indent r) r p) q
 
 abbrev pub chunk_line : ℕ → ℕ → Rest → Point → Point → List Event
-chunk_line m lost r p q =
-    columns_part lost r p ++ part_over (chunk_name m) (rest_line (lose lost r)) (past_columns lost r p) q
+chunk_line m lost r p q = lost_line (chunk_name m) lost r p q
 
 abbrev pub further_parts : ParseOptions → HeldLeaf → Rest → Point → Point → List Event
 further_parts options on r p q =

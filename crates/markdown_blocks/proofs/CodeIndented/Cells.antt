@@ -1,0 +1,185 @@
+-- Indented code by the cells of its line: it takes the lines that the line definition says, and adds what it says of
+-- their bytes; so does a blank line where code is open.
+use Rattle.std.proofs.Common.{◌≡◌, ℕ, zero, suc, ◌^◌, ◌<◌, Bool, true, false, cond, ◌&&◌, List, []}
+use Rattle.std.proofs.Common.{◌∷◌, ◌++◌, length, refl, sym, ◌∙◌, ap, ap₂, arith}
+use Rattle.std.specs.Prelude.{◌==◌, nat_le, nat_lt, not}
+use Rattle.std.proofs.lemmas.Bool.{and_parts}
+use Rattle.std.proofs.lemmas.Bool.Decides.{nat_tests}
+use Rattle.md_engine.specs.declared.configuration.ParseOptions.{ParseOptions}
+use Rattle.md_engine.specs.declared.event.Event.{Event}
+use Rattle.md_engine.specs.declared.event.Name.{Name}
+use Rattle.md_engine.specs.declared.event.Name.TheVariants as n
+use Rattle.md_engine.specs.declared.event.Point.{Point}
+use Rattle.md_engine.specs.declared.tokenizer.Line.{Line}
+use Rattle.md_engine.specs.declared.tokenizer.held_leaf.HeldLeaf.{HeldLeaf}
+use Rattle.md_engine.specs.Meaning.{Cell}
+use Rattle.md_definition.specs.Bytes.{is_end}
+use Rattle.md_definition.specs.Rest.{Rest, cut_tab, indent, is_blank, lose}
+use Rattle.md_definition.proofs.TextsLemmas.{NoEnding}
+use Rattle.md_lines.specs.Code.{begin_of, may_open}
+use Rattle.md_lines.specs.CodeRule.{blank_adds}
+use Rattle.md_lines.proofs.CodeLines.{blank-line, indented-same}
+use Rattle.md_seam.specs.Ahead.{line_bytes, line_end, white_end}
+use Rattle.md_seam.specs.Events.Nested.{exit, pair}
+use Rattle.md_seam.specs.Events.Places.{past_byte, past_text}
+use Rattle.md_seam.proofs.FeedLines.{Stops, bytes_of, cell, columns_more, spread, tab_cells}
+use Rattle.md_seam.proofs.LostColumns.{HasLost, lose-walk}
+use Rattle.md_seam.proofs.RestCells.{RestAt, cells_by, lose-no_ending, rest_cells}
+use Rattle.md_seam.proofs.RestLines.{blank-cells, rest-line, rest-past}
+use Rattle.markdown_blocks.specs.Fronted.{rest_line}
+use Rattle.markdown_blocks.specs.Leaf.CodeIndented.{blank_in_code, code_leaf, code_parts, starts_code}
+use Rattle.markdown_blocks.specs.LineColumns.{part_over, past_columns}
+use Rattle.markdown_blocks.proofs.CodeIndented.Trial.{is_code_line, kept-some}
+use Rattle.markdown_blocks.proofs.LostLine.Columns.{columns-end, first-white, past-line, rest-again}
+
+-- It takes the lines that the line definition says.
+pub code-fits : (options : ParseOptions) (on : HeldLeaf) (said : Line) (text behind : List ℕ) (r : Rest) (p : Point)
+    (stop : List Cell) →
+    RestAt text behind r p → NoEnding r.bytes → Stops stop → length (rest_cells said r p ++ stop) < 2 ^ 63 →
+    code_leaf.takes options on (rest_cells said r p ++ stop) ≡ code_leaf.starts options on r
+code-fits options on said text behind r p stop is h k short =
+    kept-some (is_code_line options on (rest_cells said r p ++ stop))
+    ∙ ap₂ (λ (some blank : Bool). options.constructs.code_indented && may_open on && some && not blank)
+    (indented-same said text behind r p stop is k) (blank-cells said r p stop h k)
+
+-- What is known of the rest of such a line: an indent, and text behind it.
+pub record IsCodeRest (options : ParseOptions) (on : HeldLeaf) (r : Rest) : Type 0 where
+  pub enabled : options.constructs.code_indented ≡ true
+  pub free : may_open on ≡ true
+  pub indented : nat_le 4 (indent r) ≡ true
+  pub dark : is_blank r.bytes ≡ false
+
+pub code-rest : (options : ParseOptions) (on : HeldLeaf) (r : Rest) → starts_code options on r ≡ true →
+    IsCodeRest options on r
+code-rest options on r e =
+    let both = and_parts (options.constructs.code_indented && may_open on && nat_le 4 (indent r))
+    (not (is_blank r.bytes)) e in
+    let more = and_parts (options.constructs.code_indented && may_open on) (nat_le 4 (indent r)) both.0 in
+    let first = and_parts options.constructs.code_indented (may_open on) more.0 in
+    record {
+      enabled = first.0;
+      free = first.1;
+      indented = more.1;
+      dark = no (is_blank r.bytes) both.1;
+    }
+  where
+    no : (x : Bool) → not x ≡ true → x ≡ false
+    no false h = refl
+    no true h = cc
+
+-- By the bytes of the line.
+
+-- the line ends where its bytes do
+line-ends : (said : Line) (text behind : List ℕ) (r : Rest) (p : Point) (stop : List Cell) → RestAt text behind r p →
+    NoEnding r.bytes → Stops stop → line_end (rest_cells said r p ++ stop) p ≡ past_text (rest_line r) p
+line-ends said text behind r p stop is h k =
+    rest-past said r p stop h k (let at = is.column in omega arith) ∙ past-line text behind r p is
+
+-- a part over what is left of a line with text
+pub over-some : (name : Name) (left : Rest) (p q : Point) → is_blank left.bytes ≡ false →
+    part_over name (rest_line left) p q ≡ pair name p q
+over-some name left p q e = go left.spaces left.bytes e
+  where
+    go : (spaces : ℕ) (bytes : List ℕ) → is_blank bytes ≡ false →
+        part_over name (cut_tab spaces ++ bytes) p q ≡ pair name p q
+    go zero [] h = cc
+    go zero (b ∷ bs) h = refl
+    go (suc k) bytes h = refl
+
+-- a line of code has its four columns, and a chunk behind them
+pub code-parts : (r : Rest) (p q : Point) → nat_le 4 (indent r) ≡ true → is_blank r.bytes ≡ false →
+    code_parts r p q ≡
+    (pair n.SpaceOrTab p (past_columns 4 r p) ++ pair n.CodeFlowChunk (past_columns 4 r p) q)
+code-parts r p q indented dark =
+    let at = past_columns 4 r p in
+    let some : nat_lt 0 (indent r) ≡ true = grind (arith, nat_tests) in
+    ap (λ (x : Bool). cond x (pair n.SpaceOrTab p at) [] ++ part_over n.CodeFlowChunk (rest_line (lose 4 r)) at q) some
+    ∙ ap (λ (es : List Event). pair n.SpaceOrTab p at ++ es)
+    (over-some n.CodeFlowChunk (lose 4 r) at q (blank-line r ∙ dark))
+
+-- It adds what the line definition says of its bytes.
+pub code-adds : (options : ParseOptions) (on : HeldLeaf) (said : Line) (text behind : List ℕ) (r : Rest) (p : Point)
+    (stop : List Cell) →
+    RestAt text behind r p → NoEnding r.bytes → Stops stop → length (rest_cells said r p ++ stop) < 2 ^ 63 →
+    code_leaf.starts options on r ≡ true →
+    code_leaf.adds options on (rest_cells said r p ++ stop) p ≡ code_leaf.added options on (rest_line r) p
+code-adds options on said text behind r p stop is h k short e =
+    ap₂
+    (λ (x y : Point).
+    begin_of on p ∷ pair n.SpaceOrTab p x ++ pair n.CodeFlowChunk x y ++ exit n.CodeIndented y ∷ [])
+    (columns-end said text behind 4 r p stop is k) (line-ends said text behind r p stop is h k)
+    ∙ ap around (sym (code-parts r p q rest.indented rest.dark))
+    ∙ sym (ap (λ (s : Rest). around (code_parts s p q)) (rest-again text behind r p is))
+  where
+    q : Point
+    q = past_text (rest_line r) p
+
+    rest : IsCodeRest options on r
+    rest = code-rest options on r e
+
+    around : List Event → List Event
+    around es = begin_of on p ∷ es ++ exit n.CodeIndented (past_text (rest_line r) p) ∷ []
+
+-- A blank line.
+
+-- it ends before any cell where no byte is left
+end-rest : (said : Line) (r : Rest) (p : Point) (stop : List Cell) → NoEnding r.bytes → Stops stop →
+    is_end (line_bytes (rest_cells said r p ++ stop)) ≡ is_end (rest_line r)
+end-rest said r p stop h k =
+    ap (λ (l : List Cell). is_end (bytes_of l)) (rest-line said r p stop h k) ∙ go r.spaces r.bytes
+  where
+    go : (spaces : ℕ) (bytes : List ℕ) →
+        is_end (bytes_of (cells_by said spaces bytes p)) ≡ is_end (cut_tab spaces ++ bytes)
+    go (suc zero) bytes = refl
+    go (suc (suc m)) bytes = refl
+    go zero [] = refl
+    go zero (b ∷ bs) = by (b == 9)
+      where
+        more : List Cell
+        more = spread said bs (past_byte b p)
+
+        tab : (m : ℕ) → is_end (bytes_of (tab_cells said m 9 p ++ more)) ≡ false
+        tab zero = refl
+        tab (suc m) = refl
+
+        by : (t : Bool) →
+            is_end
+            (bytes_of (cond t (tab_cells said (columns_more p) 9 p) (cell b (past_byte b p) said ∷ []) ++ more)) ≡
+            false
+        by true = tab (columns_more p)
+        by false = refl
+
+over-by : (name : Name) (line : List ℕ) (p q : Point) →
+    cond (is_end line) [] (pair name p q) ≡ part_over name line p q
+over-by name [] p q = refl
+over-by name (b ∷ bs) p q = refl
+
+-- It adds what is said of its bytes; so would any other line.
+pub blank-adds : (said : Line) (text behind : List ℕ) (r : Rest) (p : Point) (stop : List Cell) →
+    RestAt text behind r p → NoEnding r.bytes → Stops stop →
+    blank_adds (rest_cells said r p ++ stop) p ≡ blank_in_code (rest_line r) p
+blank-adds said text behind r p stop is h k =
+    ap₂
+    (λ (white empty : Bool).
+    cond white (pair n.SpaceOrTab p (white_end 4 cells p)) []
+    ++ cond empty [] (pair n.CodeFlowChunk (white_end 4 cells p) (line_end cells p)))
+    (first-white said text behind r p stop is k)
+    (ap (λ (l : List Cell). is_end (line_bytes l)) lost.left
+    ∙ end-rest said (lose 4 r) (white_end 4 cells p) stop (lose-no_ending 4 r h) k)
+    ∙ ap₂
+    (λ (x y : Point).
+    cond (nat_lt 0 (indent r)) (pair n.SpaceOrTab p x) []
+    ++ cond (is_end (rest_line (lose 4 r))) [] (pair n.CodeFlowChunk x y))
+    (columns-end said text behind 4 r p stop is k) (line-ends said text behind r p stop is h k)
+    ∙ ap (λ (es : List Event). cond (nat_lt 0 (indent r)) (pair n.SpaceOrTab p (past_columns 4 r p)) [] ++ es)
+    (over-by n.CodeFlowChunk (rest_line (lose 4 r)) (past_columns 4 r p) q)
+    ∙ sym (ap (λ (s : Rest). code_parts s p q) (rest-again text behind r p is))
+  where
+    cells : List Cell
+    cells = rest_cells said r p ++ stop
+
+    q : Point
+    q = past_text (rest_line r) p
+
+    lost : HasLost said text behind 4 r p stop cells (white_end 4 cells p)
+    lost = lose-walk said text behind 4 r p stop is k

@@ -1,0 +1,42 @@
+-- Where the line definition has indented code, and how it goes on.
+use Rattle.std.proofs.Common.{◌≡◌, Bool, true, false, cond, ◌&&◌, List, Some, None, refl}
+use Rattle.std.specs.Prelude.{nat_le}
+use Rattle.md_engine.specs.declared.configuration.ParseOptions.{ParseOptions}
+use Rattle.md_engine.specs.declared.tokenizer.held_leaf.HeldLeaf.{HeldLeaf}
+use Rattle.md_engine.specs.declared.tokenizer.held_leaf.HeldLeaf.TheVariants as held_leaf
+use Rattle.md_definition.specs.Leaves.{Came, ParagraphContext, code_at, code_goes_on, is_free}
+use Rattle.md_definition.specs.Rest.{Rest, indent, is_blank}
+use Rattle.md_definition.specs.State.{NoLeaf, OpenCode}
+use Rattle.md_definition.specs.Tree.{Line}
+use Rattle.md_lines.specs.Code.{may_open}
+use Rattle.markdown_blocks.specs.Leaf.CodeIndented.{code_comes, starts_code}
+
+-- a test that no blank line passes
+with-text : (x : Bool) (c : Came) → cond x (Some c) None ≡ cond (x && true) (Some c) None
+with-text true c = refl
+with-text false c = refl
+
+-- On a line that is not blank code begins where its leaf says: where this leaf is open, which lets it begin just if the
+-- text of the line definition does.
+pub code-found : (options : ParseOptions) (on : HeldLeaf) (against : ParagraphContext) (r : Rest) →
+    may_open on ≡ is_free against → is_blank r.bytes ≡ false →
+    code_at options against r ≡ cond (starts_code options on r) (Some (code_comes NoLeaf r)) None
+unfolding code_at
+code-found options on against r free dark =
+    rw (free, dark)
+    (with-text (options.constructs.code_indented && is_free against && nat_le 4 (indent r)) (code_comes NoLeaf r))
+
+-- So does code that is open go on,
+pub code-goes : (options : ParseOptions) (lines : List Line) (r : Rest) → options.constructs.code_indented ≡ true →
+    is_blank r.bytes ≡ false →
+    code_goes_on lines r ≡
+    cond (starts_code options held_leaf.Code r) (Some (code_comes (OpenCode lines) r)) None
+unfolding code_goes_on
+code-goes options lines r enabled dark =
+    rw (enabled, dark) (with-text (nat_le 4 (indent r)) (code_comes (OpenCode lines) r))
+
+-- and over any blank line.
+pub code-goes-blank : (lines : List Line) (r : Rest) → is_blank r.bytes ≡ true →
+    code_goes_on lines r ≡ Some (code_comes (OpenCode lines) r)
+unfolding code_goes_on
+code-goes-blank lines r blank = rw blank refl

@@ -1,0 +1,9 @@
+-- Lines that lose columns of whitespace in front of a part that reaches to their end: of fenced code, math and code.
+pub mod Columns
+pub mod Places
+pub mod Placed
+pub mod Names
+pub mod Parts
+pub mod Shown
+pub mod Reads
+pub mod Grammar
