@@ -34,7 +34,7 @@ use Rattle.md_leaves.proofs.HeadingWords.{remains-of, sees-from}
 use Rattle.md_seam.specs.Look.{behind_code, first_behind, looks_behind, may_with}
 use Rattle.md_seam.specs.Spaces.{ends_line}
 use Rattle.md_seam.specs.Transition.{Transition, entered, exited, taken}
-use Rattle.markdown_blocks.specs.AtOnce.{all_asked, begins_none, opens_none, openers_passed}
+use Rattle.markdown_blocks.specs.AtOnce.{all_asked, begins_at, left_to_try, opens_none, openers_passed}
 use Rattle.markdown_blocks.specs.Document.{document_own_transition}
 use Rattle.markdown_blocks.specs.Flow.{before_transition, blank_line_before_transition, blank_line_code}
 use Rattle.markdown_blocks.specs.Flow.{flow_end_code, flow_end_transition}
@@ -126,25 +126,50 @@ at-leaf flow.LeafAfter l w e = cc
 at-leaf flow.After l w e = cc
 at-leaf _ l w e = ap (λ (o : Option LeafName). leaf_transition o w) e
 
--- none of these begins
-leaves-refuse : (is_name : ResolveName → ResolveName → Bool) (is_end : Bool) (s : State) (v : World)
+-- what is called in front of one of these, or of content
+front-calls : (ls : List LeafName) (w : World) → NextIs ls → front_of ls ≢ flow.BeforeContent →
+    flow_own_transition (front_of ls) w ≡ leaf_transition (tried_at (front_of ls)) w
+front-calls [] w next one = absurd (one refl)
+front-calls (l ∷ ls) w next one =
+    at-leaf (leaf l).before l w next.0 ∙ sym (ap (λ (o : Option LeafName). leaf_transition o w) next.0)
+
+-- those that are left to try are tried one after another
+left-next : (b : ℕ) (ls : List LeafName) → NextIs ls → NextIs (left_to_try b ls)
+left-next b [] next = next
+left-next b (l ∷ ls) next = go ((leaf l).may_begin b) (left-next b ls (subst NextIs next.1 (leaf-next l next.0)))
+  where
+    go : (x : Bool) → NextIs (left_to_try b ls) → NextIs (cond x (l ∷ ls) (left_to_try b ls))
+    go true others = next
+    go false others = others
+
+-- those in front of the first that may begin with what stands here refuse
+leaves-refuse : (is_name : ResolveName → ResolveName → Bool) (is_end : Bool) (s : State) (v : World) (b : ℕ)
     (ls : List LeafName) (w : World) →
-    NextIs ls → Refused (λ l. (leaf l).may_begin) ls w → w.current ≡ looks w → Within w →
+    NextIs ls → looks_behind w ≡ Some b → w.current ≡ looks w → Within w →
     CameTo (FlowStep is_name) is_end s v (n.Flow (front_of ls)) w →
-    CameTo (FlowStep is_name) is_end s v (n.Flow flow.BeforeContent) w
-leaves-refuse is_name is_end s v [] w next none seen within came = came
-leaves-refuse is_name is_end s v (l ∷ ls) w next none seen within came =
-    let x : FlowState = (leaf l).before in
-    let is : flow_own_transition x w ≡ record { to = Retry (n.Flow (front_of ls)); world = w } =
-    at-leaf x l w next.0
-    ∙ ap (trial_code (leaf l).start (n.Flow (leaf_end (leaf l).ends)) (n.Flow (next_of l)) w)
-    (refused-first (λ (m : LeafName). (leaf m).may_begin) l ls w none)
-    ∙ ap (λ (ms : List LeafName). record { to = Retry (n.Flow (front_of ms)); world = w }) next.1 in
-    leaves-refuse is_name is_end s v ls w (subst NextIs next.1 (leaf-next l next.0))
-    (refused-rest (λ (m : LeafName). (leaf m).may_begin) l ls w w refl none) seen within
-    (then-stays (FlowStep is_name) is_end s v (n.Flow x) (n.Flow (front_of ls)) w w came
-    (record { to_is = sym (ap (λ (y : Transition). y.to) is); new_is = sym (ap (λ (y : Transition). y.world) is) }) refl
-    within refl seen)
+    CameTo (FlowStep is_name) is_end s v (n.Flow (front_of (left_to_try b ls))) w
+leaves-refuse is_name is_end s v b [] w next here seen within came = came
+leaves-refuse is_name is_end s v b (l ∷ ls) w next here seen within came =
+    go ((leaf l).may_begin b) refl
+    (leaves-refuse is_name is_end s v b ls w (subst NextIs next.1 (leaf-next l next.0)) here seen within)
+  where
+    At : FlowState → Type 0
+    At x = CameTo (FlowStep is_name) is_end s v (n.Flow x) w
+
+    go : (x : Bool) → (leaf l).may_begin b ≡ x → (At (front_of ls) → At (front_of (left_to_try b ls))) →
+        At (front_of (cond x (l ∷ ls) (left_to_try b ls)))
+    go true may others = came
+    go false may others =
+        let x : FlowState = (leaf l).before in
+        let is : flow_own_transition x w ≡ record { to = Retry (n.Flow (front_of ls)); world = w } =
+        at-leaf x l w next.0
+        ∙ ap (trial_code (leaf l).start (n.Flow (leaf_end (leaf l).ends)) (n.Flow (next_of l)) w)
+        (ap (may_with (leaf l).may_begin) here ∙ may)
+        ∙ ap (λ (ms : List LeafName). record { to = Retry (n.Flow (front_of ms)); world = w }) next.1 in
+        others
+        (then-stays (FlowStep is_name) is_end s v (n.Flow x) (n.Flow (front_of ls)) w w came
+        (record { to_is = sym (ap (λ (y : Transition). y.to) is); new_is = sym (ap (λ (y : Transition). y.world) is) })
+        refl within refl seen)
 
 -- What one look tells.
 
@@ -169,17 +194,6 @@ opens-none w e = go w.current refl e
           not_end = ap ends_line here ∙ dark.1;
           not_blank = ap (may_with (λ (x : ℕ). nat_eq x 10)) first ∙ dark.1;
         }
-
--- it begins no leaf
-begins-none : (w : World) → begins_none w.current ≡ true → Refused (λ l. (leaf l).may_begin) trials w
-begins-none w e = go w.current refl e
-  where
-    go : (o : Option ℕ) → w.current ≡ o → begins_none o ≡ true → Refused (λ l. (leaf l).may_begin) trials w
-    go None here is = cc
-    go (Some b) here is =
-        let any : Bool = list_any (λ (l : LeafName). (leaf l).may_begin b) trials in
-        let dark = or_parts (is_white b) any (not-true (is_white b || any) is) in
-        record { byte = b; here = looks-dark w b here dark.0; none = dark.1 }
 
 -- Behind all containers the leaf that is open is asked first, if no container opens in it,
 pub line-front : (is_name : ResolveName → ResolveName → Bool) (is_end : Bool) (s : State) (v w : World) →
@@ -249,13 +263,38 @@ passes-openers is_name is_end s v w none e seen within came =
     (record { to_is = sym (ap (λ (y : Transition). y.to) no); new_is = sym (ap (λ (y : Transition). y.world) no) }) refl
     within refl seen
 
--- and to content
+-- and to the first leaf that may begin, or to content
 pub passes-leaves : (is_name : ResolveName → ResolveName → Bool) (is_end : Bool) (s : State) (v w : World) →
-    begins_none w.current ≡ true → w.current ≡ looks w → Within w →
-    CameTo (FlowStep is_name) is_end s v (n.Flow (front_of trials)) w →
-    CameTo (FlowStep is_name) is_end s v (n.Flow flow.BeforeContent) w
-passes-leaves is_name is_end s v w e seen within came =
-    leaves-refuse is_name is_end s v trials w (refl, refl) (begins-none w e) seen within came
+    w.current ≡ looks w → Within w → CameTo (FlowStep is_name) is_end s v (n.Flow (front_of trials)) w →
+    CameTo (FlowStep is_name) is_end s v (n.Flow (begins_at w.current)) w
+passes-leaves is_name is_end s v w seen within came = go w.current refl
+  where
+    At : FlowState → Type 0
+    At x = CameTo (FlowStep is_name) is_end s v (n.Flow x) w
+
+    white : (b : ℕ) → w.current ≡ Some b → (x : Bool) → is_white b ≡ x →
+        At (front_of (cond x trials (left_to_try b trials)))
+    white b here true is = came
+    white b here false is =
+        leaves-refuse is_name is_end s v b trials w (refl, refl) (looks-dark w b here is) seen within came
+
+    go : (o : Option ℕ) → w.current ≡ o → At (begins_at o)
+    go None here = came
+    go (Some b) here = white b here (is_white b) refl
+
+-- which is called there
+pub begins-calls : (o : Option ℕ) (w : World) → begins_at o ≢ flow.BeforeContent →
+    flow_own_transition (begins_at o) w ≡ leaf_transition (tried_at (begins_at o)) w
+begins-calls None w one = front-calls trials w (refl, refl) one
+begins-calls (Some b) w one = go (is_white b) one
+  where
+    of : Bool → List LeafName
+    of x = cond x trials (left_to_try b trials)
+
+    go : (x : Bool) → front_of (of x) ≢ flow.BeforeContent →
+        flow_own_transition (front_of (of x)) w ≡ leaf_transition (tried_at (front_of (of x))) w
+    go true not_last = front-calls trials w (refl, refl) not_last
+    go false not_last = front-calls (left_to_try b trials) w (left-next b trials (refl, refl)) not_last
 
 -- What a call leaves: where it stays, it has gone nowhere, and the text is the same.
 abbrev pub Leaves : Transition → World → Type 0

@@ -1,12 +1,13 @@
 -- Containers whose prefixes are taken at once, and lines where one look tells that none opens, or that no leaf begins.
-use Rattle.std.specs.Prelude.{◌≡◌, ℕ, Bool, false, not, ◌||◌, ◌==◌, List, [], ◌∷◌, Option, None, Some}
+use Rattle.std.specs.Prelude.{◌≡◌, ℕ, Bool, false, if◌then◌else◌, not, ◌||◌, ◌==◌, List, [], ◌∷◌, Option, None, Some}
 use Rattle.std.specs.List.{list_any}
 use Rattle.md_definition.specs.Rest.{is_white}
 use Rattle.md_engine.specs.declared.tokenizer.container.name.ContainerKind.{ContainerKind}
 use Rattle.md_engine.specs.declared.tokenizer.container.Container.{Container}
 use Rattle.md_engine.specs.World.{World, container_of}
 use Rattle.markdown_blocks.specs.LineFlags.{asking, begun_line, next_container}
-use Rattle.markdown_blocks.specs.Registry.{container_rules, leaf, may_open, openers, trials}
+use Rattle.markdown_blocks.specs.Registry.{LeafName, container_rules, front_of, leaf, may_open, openers, trials}
+use Rattle.md_engine.specs.declared.state.flow.State.{State as FlowState}
 
 -- the prefix of a container on a further line stands here, by its kind, and can be taken at once
 abbrev pub HasPrefix : Container → ContainerKind → World → Type 0
@@ -37,10 +38,15 @@ abbrev pub opens_none : Option ℕ → Bool
 opens_none None = false
 opens_none (Some b) = not (is_white b || b == 10 || list_any (λ k. may_open k b) openers)
 
--- it is no whitespace, and none of the leaves that are tried may begin with it
-abbrev pub begins_none : Option ℕ → Bool
-begins_none None = false
-begins_none (Some b) = not (is_white b || list_any (λ l. (leaf l).may_begin b) trials)
+-- of leaves that are tried one after another, those from the first on that may begin with a byte
+abbrev pub left_to_try : ℕ → List LeafName → List LeafName
+left_to_try b [] = []
+left_to_try b (l ∷ ls) = if (leaf l).may_begin b then l ∷ ls else left_to_try b ls
+
+-- the state in front of these, where what stands here is no whitespace, and else of all
+abbrev pub begins_at : Option ℕ → FlowState
+begins_at None = front_of trials
+begins_at (Some b) = front_of (if is_white b then trials else left_to_try b trials)
 
 -- containers of these kinds were asked one after another whether they open
 abbrev pub all_asked : List ContainerKind → World → World

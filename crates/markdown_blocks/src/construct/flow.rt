@@ -175,7 +175,8 @@ fn content_begins(tokenizer: &mut Tokenizer) -> State
     }
 }
 
-/// Before the first leaf that is tried: where none may begin by what stands here, content begins at once.
+/// Before the first leaf that is tried: those that may not begin by what stands here are passed at once, and where none
+/// may, content begins.
 fn leaves(tokenizer: &mut Tokenizer) -> State
     requires { IsAt NeedsNothing (StateName.Flow (front_of trials)) (world tokenizer.old) }
     ensures runs { result ≢ State.Error →
@@ -183,10 +184,9 @@ fn leaves(tokenizer: &mut Tokenizer) -> State
         (StateName.Flow (front_of trials)) (world tokenizer.old) result (world tokenizer.new) }
     ensures sees { result ≢ State.Error → SeesOn result (world tokenizer.old) (world tokenizer.new) }
 {
-    if registry::begins_none(tokenizer.current) {
-        content_begins(tokenizer)
-    } else {
-        registry::before_leaf(tokenizer, registry::first_trial())
+    match registry::begins_at(tokenizer.current) {
+        FlowState::BeforeContent => content_begins(tokenizer),
+        state => registry::before_leaf(tokenizer, state),
     }
 }
 

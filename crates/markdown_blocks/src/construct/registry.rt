@@ -23,7 +23,7 @@ ghost use Rattle.markdown_blocks.specs.Flow.{opener_transition};
 ghost use Rattle.markdown_blocks.specs.LineFlags.{asking};
 ghost use Rattle.markdown_blocks.specs.Registry.{joins_lines, stays_alone};
 ghost use Rattle.markdown_blocks.specs.Registry.{construct_transition, goes_on_with, insider, leaf};
-ghost use Rattle.markdown_blocks.specs.AtOnce.{HasPrefix, all_asked, begins_none, opens_none, prefix_taken};
+ghost use Rattle.markdown_blocks.specs.AtOnce.{HasPrefix, all_asked, begins_at, opens_none, prefix_taken};
 ghost use Rattle.markdown_blocks.specs.Registry.{may_go_on, may_open, next_opener, opener_front, openers};
 ghost use Rattle.markdown_blocks.specs.Registry.{LeafName, front_of, opener_at, opens_with, resolved_by, trials, tried_at};
 ghost use Rattle.markdown_blocks.specs.States.{FlowStep, flow_table_scheme, flow_transition, is_flow_own};
@@ -150,18 +150,24 @@ pub fn opens_none(current: Option<u8>) -> bool
     }
 }
 
-/// Whether no leaf may begin where this stands, which is no whitespace.
+/// The state in front of the first leaf that may begin where this stands, which is no whitespace, and in front of content
+/// where none may; where whitespace stands, or nothing, all are tried.
 #[inline(always)]
-pub fn begins_none(current: Option<u8>) -> bool
-    ensures { result ≡ begins_none current }
+pub fn begins_at(current: Option<u8>) -> FlowState
+    ensures { result ≡ begins_at current }
 {
     match current {
-        None => false,
+        None => first_trial(),
         Some(byte) => {
-            !(is_white(byte)
-                || raw_flow::may_begin(current)
-                || heading_atx::may_begin(current)
-                || thematic_break::may_begin(current))
+            if is_white(byte) || raw_flow::may_begin(current) {
+                FlowState::BeforeRaw
+            } else if heading_atx::may_begin(current) {
+                FlowState::BeforeHeadingAtx
+            } else if thematic_break::may_begin(current) {
+                FlowState::BeforeThematicBreak
+            } else {
+                FlowState::BeforeContent
+            }
         }
     }
 }
