@@ -3,7 +3,6 @@ pub mod Adds
 pub mod Between
 pub mod Cells
 pub mod Each
-pub mod Facts
 pub mod Found
 pub mod Kept
 pub mod Laid

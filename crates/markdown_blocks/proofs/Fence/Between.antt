@@ -5,14 +5,11 @@ use Rattle.std.specs.Prelude.{◌==◌, nat_le, Option, Some}
 use Rattle.std.specs.List.{list_all}
 use Rattle.std.proofs.lemmas.Bool.{and_parts}
 use Rattle.std.proofs.lemmas.Bool.Decides.{nat_tests}
-use Rattle.md_engine.specs.declared.configuration.ParseOptions.{ParseOptions}
 use Rattle.md_engine.specs.declared.event.Event.{Event}
 use Rattle.md_engine.specs.declared.event.Name.{Name}
 use Rattle.md_engine.specs.declared.event.Name.TheVariants as n
 use Rattle.md_engine.specs.declared.event.Point.{Point}
-use Rattle.md_definition.specs.Rest.{trim_start}
-use Rattle.md_definition.specs.Texts.{first_byte}
-use Rattle.md_lines.specs.Fence.{block_name, fence_name, sequence_name}
+use Rattle.md_lines.specs.Fence.{sequence_name}
 use Rattle.md_outline.specs.Between.{is_between}
 use Rattle.md_outline.specs.Outlined.{TextSpan as Span, are_parted}
 use Rattle.md_seam.specs.declared.inline.Chunk.{Chunk}
@@ -20,18 +17,17 @@ use Rattle.md_seam.specs.Events.Inline.{plain_chunk}
 use Rattle.md_seam.specs.Events.Nested.{around, exit, pair}
 use Rattle.md_seam.specs.Events.Pieces.{is_run, stands_over}
 use Rattle.md_seam.specs.Events.Places.{past_text}
-use Rattle.md_seam.specs.Events.Spelled.{byte_at, role}
+use Rattle.md_seam.specs.Events.Spelled.{byte_at}
 use Rattle.md_seam.proofs.InlineLemmas.{past-index}
 use Rattle.md_seam.proofs.PlacesLemmas.{at-next}
-use Rattle.markdown_blocks.specs.Leaf.Fence.{fence_around, fence_line, fence_parts, past_white, read_inner, white_part}
+use Rattle.markdown_blocks.specs.Leaf.Fence.{read_inner}
 use Rattle.markdown_blocks.proofs.BetweenFacts.{AreBetween, all-more, around-between, between-append, between-before}
 use Rattle.markdown_blocks.proofs.BetweenFacts.{between-behind, between-pair, blank-low, chunk-between, is_low, low-at}
 use Rattle.markdown_blocks.proofs.BetweenFacts.{white-low}
 use Rattle.markdown_blocks.proofs.Fence.Each.{by-math}
 use Rattle.markdown_blocks.proofs.Fence.Kept.{text-end}
-use Rattle.markdown_blocks.proofs.Fence.Laid.{Laid, line-walk}
 use Rattle.markdown_blocks.proofs.Fence.Walk.{Anywhere, Walks, is_text_name}
-use Rattle.markdown_blocks.proofs.PartedFacts.{Sits, Still, around-sits, passes-chunk, sits-append, sits-still}
+use Rattle.markdown_blocks.proofs.PartedFacts.{Sits, passes-chunk, sits-append, sits-still}
 use Rattle.markdown_blocks.proofs.PieceFacts.{over-front}
 
 -- Places.
@@ -91,22 +87,6 @@ walks-between bytes = record {
       (chunk-between bytes p q q (text-end bytes b bs rest p at) mid end end) refl);
 }
 
-pub fence-between : (options : ParseOptions) (bytes line rest : List ℕ) (p : Point) → Laid options bytes line p rest →
-    is_between bytes p.index ≡ true → is_between bytes (past_text line p).index ≡ true →
-    AreBetween bytes (fence_line (read_inner bytes) line p)
-fence-between options bytes line rest p is first last =
-    let read = read_inner bytes in
-    let walked = line-walk options bytes read read (IsPlace bytes) (λ p q es ds. AreBetween bytes es)
-    (walks-between bytes) line
-    rest p is first last in
-    let text = trim_start line in
-    let m = first_byte text in
-    let q = past_white line p in
-    let e = past_text line p in
-    between-append bytes (white_part line p) (fence_around read m text q e) walked.white
-    (around-between bytes (block_name m) q e (around (fence_name m) q e (fence_parts read m text q)) walked.mid last
-    (around-between bytes (fence_name m) q e (fence_parts read m text q) walked.mid last walked.parts))
-
 -- No text is parted.
 
 -- a part of text
@@ -146,20 +126,3 @@ walks-sit bytes = record {
       n.CodeFencedFenceSequence (λ ys h. h) (λ ys h. h);
   text = λ name b bs rest p is mid end at. part-sits bytes name p (past_text (b ∷ bs) p) is;
 }
-
-pub fence-sits : (options : ParseOptions) (bytes line rest : List ℕ) (p : Point) → Laid options bytes line p rest →
-    Sits bytes (fence_line (read_inner bytes) line p)
-fence-sits options bytes line rest p is =
-    let read = read_inner bytes in
-    let walked = line-walk options bytes read read Anywhere (λ p q es ds. Sits bytes es)
-    (walks-sit bytes) line rest p is
-    tt tt in
-    let text = trim_start line in
-    let m = first_byte text in
-    let q = past_white line p in
-    let e = past_text line p in
-    sits-append bytes (white_part line p) (fence_around read m text q e) walked.white
-    (around-sits bytes (block_name m) q e (around (fence_name m) q e (fence_parts read m text q))
-    (by-math (λ x. Still (role x)) (m == 36) n.MathFlow n.CodeFenced tt tt)
-    (around-sits bytes (fence_name m) q e (fence_parts read m text q)
-    (by-math (λ x. Still (role x)) (m == 36) n.MathFlowFence n.CodeFencedFence tt tt) walked.parts))

@@ -1,41 +1,33 @@
--- A fence keeps what the frame asks of a leaf: no list stands in it, it stands where blocks may, it ends no line, and
--- it stands between characters and parts no text.
+-- What stands in a fence is a part of its block, and ends no line.
 use Rattle.std.proofs.Common.{◌≡◌, ℕ, Bool, true, false, cond, List, [], ◌∷◌, ◌++◌}
 use Rattle.std.proofs.Common.{refl, sym, ap, ◌∙◌, subst, arith}
 use Rattle.std.specs.Prelude.{◌==◌}
 use Rattle.std.specs.List.{list_all}
 use Rattle.std.proofs.lemmas.Bool.{and_from}
-use Rattle.md_engine.specs.declared.configuration.ParseOptions.{ParseOptions}
 use Rattle.md_engine.specs.declared.event.Event.{Event}
 use Rattle.md_engine.specs.declared.event.Name.{Name}
 use Rattle.md_engine.specs.declared.event.Name.TheVariants as n
 use Rattle.md_engine.specs.declared.event.Point.{Point}
 use Rattle.md_containers.specs.ItemsStand.{IsPart}
-use Rattle.md_containers.specs.Unlisted.{in_place}
-use Rattle.md_containers.proofs.UnlistedLemmas.{NoListing, StandsTo, among, stands-append}
 use Rattle.md_definition.specs.Lines.{without_ending}
-use Rattle.md_definition.specs.Rest.{is_white, trim_start}
-use Rattle.md_definition.specs.Texts.{first_byte}
-use Rattle.md_lines.specs.Fence.{block_name, fence_name, sequence_name}
+use Rattle.md_definition.specs.Rest.{is_white}
+use Rattle.md_lines.specs.Fence.{fence_name, sequence_name}
 use Rattle.md_seam.specs.declared.inline.Chunk.{Chunk}
-use Rattle.md_seam.specs.Events.Endings.{IsLeaf, line_start, on_line}
+use Rattle.md_seam.specs.Events.Endings.{on_line}
 use Rattle.md_seam.specs.Events.Inline.{line_end, pair_unless_empty, plain_chunk}
 use Rattle.md_seam.specs.Events.Nested.{around, enter, exit, pair}
 use Rattle.md_seam.specs.Events.Places.{past_text, same_place}
-use Rattle.md_seam.specs.Events.Spelled.{IsQuiet, LeafKind, OfFence, OfMath, Opens, Role, role}
-use Rattle.md_seam.proofs.EndingsLemmas.{AreOthers, Leads, behind_leaf, in_leaf, is_other, leads-append, leaf-leads}
-use Rattle.md_seam.proofs.EndingsLemmas.{others-append, others-lead}
+use Rattle.md_seam.specs.Events.Spelled.{IsQuiet, Role, role}
+use Rattle.md_seam.proofs.EndingsLemmas.{AreOthers, is_other}
+use Rattle.md_seam.proofs.EndingsLemmas.{others-append}
 use Rattle.md_seam.proofs.InlineLemmas.{same-refl}
-use Rattle.md_seam.proofs.SpelledLemmas.{Between, Roles}
-use Rattle.markdown_blocks.specs.Leaf.Fence.{Inner, fence_around, fence_line, fence_parts, linked, past_white}
+use Rattle.md_seam.proofs.SpelledLemmas.{Roles}
+use Rattle.markdown_blocks.specs.Leaf.Fence.{Inner, fence_parts, linked, past_white}
 use Rattle.markdown_blocks.specs.Leaf.Fence.{read_inner}
 use Rattle.markdown_blocks.specs.Leaf.Fence.{white_part}
 use Rattle.markdown_blocks.proofs.EachEvent.{Each}
 use Rattle.markdown_blocks.proofs.Fence.Each.{by-math, inside-each, is_fence_name}
-use Rattle.markdown_blocks.proofs.Fence.Laid.{Laid, line-walk}
 use Rattle.markdown_blocks.proofs.Fence.Walk.{Anywhere, At, Walks, is_text_name}
-use Rattle.markdown_blocks.proofs.LeafStands.{around-unlisted, between-stand, leaf-stands, parts-unlisted}
-use Rattle.markdown_blocks.proofs.LeafStands.{unlisted-both}
 use Rattle.markdown_blocks.proofs.LineTexts.{without-none}
 use Rattle.markdown_blocks.proofs.PieceFacts.{over-front}
 use Rattle.markdown_blocks.proofs.PlainRoles.{plain-roles}
@@ -84,52 +76,7 @@ white-roles P quiet (b ∷ bs) p = go (is_white b)
     go true = (quiet, (quiet, tt))
     go false = tt
 
--- No list stands in it.
-
-line-unlisted : (inner : Inner) → ((p q : Point) → Roles IsPart (inner p q)) → (line : List ℕ) (p : Point) →
-    NoListing (fence_line inner line p)
-line-unlisted inner h line p =
-    let text = trim_start line in
-    let m = first_byte text in
-    let q = past_white line p in
-    let e = past_text line p in
-    unlisted-both (white_part line p) (fence_around inner m text q e)
-    (parts-unlisted (white_part line p) (white-roles IsPart tt line p))
-    (around-unlisted (block_name m) q e (around (fence_name m) q e (fence_parts inner m text q))
-    (by-math (λ x. in_place x ≡ x) (m == 36) n.MathFlow n.CodeFenced refl refl) (inside-parts inner h m text q e))
-
-pub unread-unlisted : (line : List ℕ) (p : Point) → NoListing (fence_line linked line p)
-unread-unlisted line p = line-unlisted linked linked-parts line p
-
-pub read-unlisted : (bytes line : List ℕ) (p : Point) → NoListing (fence_line (read_inner bytes) line p)
-read-unlisted bytes line p = line-unlisted (read_inner bytes) (read-parts bytes) line p
-
--- It stands where blocks may.
-
-abbrev kind_of : ℕ → LeafKind
-kind_of m = cond (m == 36) OfMath OfFence
-
-pub block-opens : (m : ℕ) → role (block_name m) ≡ Opens (kind_of m)
-block-opens m = go (m == 36)
-  where
-    go : (x : Bool) → role (cond x n.MathFlow n.CodeFenced) ≡ Opens (cond x OfMath OfFence)
-    go true = refl
-    go false = refl
-
-pub fence-stands : (bytes line : List ℕ) (p : Point) (held : List Bool) →
-    StandsTo bytes (among held) (among held) (fence_line (read_inner bytes) line p)
-fence-stands bytes line p held =
-    let text = trim_start line in
-    let m = first_byte text in
-    let q = past_white line p in
-    let e = past_text line p in
-    let inside = around (fence_name m) q e (fence_parts (read_inner bytes) m text q) in
-    stands-append bytes (among held) (among held) (among held) (white_part line p) (around (block_name m) q e inside)
-    (between-stand bytes held (white_part line p) (white-roles Between tt line p))
-    (leaf-stands bytes held (block_name m) (kind_of m) q e inside (block-opens m)
-    (inside-parts (read_inner bytes) (read-parts bytes) m text q e))
-
--- It ends no line.
+-- Nothing in it ends a line.
 
 abbrev pub Other : Name → Type 0
 Other name = is_other (on_line name) ≡ true
@@ -200,30 +147,3 @@ walks-others bytes = record {
             (others-append (plain_chunk bytes chunk) [] (read-others bytes b bs rest p at) refl),
       );
 }
-
-line-ending : (line : List ℕ) (p : Point) (inner : Inner) → AreOthers (white_part line p) →
-    AreOthers (fence_parts inner (first_byte (trim_start line)) (trim_start line) (past_white line p)) →
-    Leads line_start behind_leaf (fence_line inner line p)
-line-ending line p inner white parts =
-    let text = trim_start line in
-    let m = first_byte text in
-    let q = past_white line p in
-    let e = past_text line p in
-    let inside = around (fence_name m) q e (fence_parts inner m text q) in
-    leads-append line_start line_start behind_leaf (white_part line p) (around (block_name m) q e inside)
-    (others-lead line_start (white_part line p) refl white)
-    (leaf-leads (block_name m) q e inside
-    (by-math (λ x. on_line x ≡ IsLeaf) (m == 36) n.MathFlow n.CodeFenced refl refl)
-    (others-lead (in_leaf true) inside refl
-    (others-around (fence_name m) q e (fence_parts inner m text q)
-    (by-math Other (m == 36) n.MathFlowFence n.CodeFencedFence refl refl) parts)))
-
-pub fence-ending : (options : ParseOptions) (bytes line rest : List ℕ) (p : Point) → Laid options bytes line p rest →
-    Leads line_start behind_leaf (fence_line linked line p) ×
-    Leads line_start behind_leaf (fence_line (read_inner bytes) line p)
-fence-ending options bytes line rest p is =
-    let walked = line-walk options bytes linked (read_inner bytes) Anywhere Both (walks-others bytes) line rest p is tt tt
-    in (
-      line-ending line p linked walked.white.0 walked.parts.0,
-      line-ending line p (read_inner bytes) walked.white.1 walked.parts.1,
-    )

@@ -1,5 +1,5 @@
 -- Nothing stands in a fence that a resolver rewrites, and no content; its links are to strings.
-use Rattle.std.proofs.Common.{◌≡◌, ℕ, Bool, true, false, cond, List, [], ◌∷◌, ◌++◌, refl, ap}
+use Rattle.std.proofs.Common.{◌≡◌, ℕ, Bool, true, false, cond, List, [], ◌∷◌, refl, ap}
 use Rattle.std.specs.Prelude.{◌-◌, ◌==◌, Option, Some, None}
 use Rattle.md_engine.specs.declared.configuration.ParseOptions.{ParseOptions}
 use Rattle.md_engine.specs.declared.event.Content.{Content}
@@ -20,11 +20,11 @@ use Rattle.md_seam.specs.Spaces.{small_indent}
 use Rattle.md_seam.specs.Substituted.{wanted}
 use Rattle.markdown_blocks.specs.HeldLeaf.{takes_lazy}
 use Rattle.markdown_blocks.specs.Leaf.Fence.{fence_keeps, fence_line, linked, or_none}
-use Rattle.markdown_blocks.specs.Registry.{is_own, resolved}
+use Rattle.markdown_blocks.specs.Registry.{is_own}
 use Rattle.markdown_blocks.proofs.ContentFacts.{NoContent}
 use Rattle.markdown_blocks.proofs.EachEvent.{Each}
 use Rattle.markdown_blocks.proofs.Fence.Each.{adds-each, is_block_name, is_fence_name, line-each}
-use Rattle.markdown_blocks.proofs.OutsideFacts.{AreOutside, IsOutside, resolved-outside}
+use Rattle.markdown_blocks.proofs.OutsideFacts.{AreOutside, IsOutside}
 
 -- Its names.
 
@@ -56,11 +56,6 @@ pub fence-outside : (line : List ℕ) (p : Point) → AreOutside (fence_line lin
 fence-outside line p =
     line-each IsOutside (λ name is q. (name-own name is, refl)) (λ name is q. (block-own name is, refl)) linked
     (λ p q. (refl, (refl, tt))) line p
-
--- so resolvers pass it
-pub fence-set : (line : List ℕ) (p : Point) (es : List Event) →
-    resolved (fence_line linked line p ++ es) ≡ fence_line linked line p ++ resolved es
-fence-set line p es = resolved-outside (fence_line linked line p) es (fence-outside line p)
 
 -- No content stands in it.
 

@@ -1,24 +1,19 @@
 -- The pieces of a fence stand, before its texts are read and once they are.
 use Rattle.std.proofs.Common.{ℕ, true, List, [], ◌∷◌, ◌++◌, refl, sym, subst, append-nil, arith}
 use Rattle.std.proofs.lemmas.Bool.{and_from}
-use Rattle.md_engine.specs.declared.configuration.ParseOptions.{ParseOptions}
 use Rattle.md_engine.specs.declared.event.Event.{Event}
 use Rattle.md_engine.specs.declared.event.Name.TheVariants as n
 use Rattle.md_engine.specs.declared.event.Point.{Point}
-use Rattle.md_definition.specs.Rest.{trim_start}
-use Rattle.md_definition.specs.Texts.{first_byte}
-use Rattle.md_lines.specs.Fence.{block_name, fence_name, sequence_name, string_link}
+use Rattle.md_lines.specs.Fence.{sequence_name, string_link}
 use Rattle.md_seam.specs.declared.inline.Chunk.{Chunk}
 use Rattle.md_seam.specs.Events.Inline.{plain_chunk}
-use Rattle.md_seam.specs.Events.Nested.{around, enter_link, exit}
+use Rattle.md_seam.specs.Events.Nested.{enter_link, exit}
 use Rattle.md_seam.specs.Events.Pieces.{piece_stands}
 use Rattle.md_seam.specs.Events.Places.{past_text}
 use Rattle.md_seam.proofs.InlineLemmas.{past-index}
-use Rattle.markdown_blocks.specs.Leaf.Fence.{Inner, fence_around, fence_line, fence_parts, linked, past_white}
+use Rattle.markdown_blocks.specs.Leaf.Fence.{linked}
 use Rattle.markdown_blocks.specs.Leaf.Fence.{read_inner}
-use Rattle.markdown_blocks.specs.Leaf.Fence.{white_part}
 use Rattle.markdown_blocks.proofs.ChunkFacts.{Chunked, chunked-alone}
-use Rattle.markdown_blocks.proofs.Fence.Laid.{Laid, line-walk}
 use Rattle.markdown_blocks.proofs.Fence.Walk.{Anywhere, At, Walks}
 use Rattle.markdown_blocks.proofs.PieceFacts.{Stood, begins-cut, begins-whole, chunk_span, over-front, over-stands}
 use Rattle.markdown_blocks.proofs.PieceFacts.{starts-append, stood-append, stood-around, stood-none, stood-pair}
@@ -68,25 +63,3 @@ walks-stood bytes = record {
             (subst (Stood bytes) (sym (append-nil (plain_chunk bytes chunk))) one.read),
       );
 }
-
-line-stood : (bytes line : List ℕ) (p : Point) (inner : Inner) → Stood bytes (white_part line p) →
-    Stood bytes (fence_parts inner (first_byte (trim_start line)) (trim_start line) (past_white line p)) →
-    Stood bytes (fence_line inner line p)
-line-stood bytes line p inner white parts =
-    let text = trim_start line in
-    let m = first_byte text in
-    let q = past_white line p in
-    let e = past_text line p in
-    stood-append bytes (white_part line p) (fence_around inner m text q e) white
-    (stood-around bytes (block_name m) q e (around (fence_name m) q e (fence_parts inner m text q)) refl
-    (stood-around bytes (fence_name m) q e (fence_parts inner m text q) refl parts))
-
-pub fence-stood : (options : ParseOptions) (bytes line rest : List ℕ) (p : Point) → Laid options bytes line p rest →
-    Stood bytes (fence_line linked line p) × Stood bytes (fence_line (read_inner bytes) line p)
-fence-stood options bytes line rest p is =
-    let walked = line-walk options bytes linked (read_inner bytes) Anywhere (Both bytes)
-    (walks-stood bytes) line rest p is
-    tt tt in (
-      line-stood bytes line p linked walked.white.0 walked.parts.0,
-      line-stood bytes line p (read_inner bytes) walked.white.1 walked.parts.1,
-    )

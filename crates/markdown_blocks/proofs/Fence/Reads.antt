@@ -10,24 +10,21 @@ use Rattle.md_engine.specs.declared.event.Name.{Name}
 use Rattle.md_engine.specs.declared.event.Name.TheVariants as n
 use Rattle.md_engine.specs.declared.event.Point.{Point}
 use Rattle.md_definition.specs.Leaves.{behind_word, first_word, nonempty}
-use Rattle.md_definition.specs.Rest.{Rest, is_white, run_len, trim_start}
-use Rattle.md_definition.specs.State.{fence_block}
+use Rattle.md_definition.specs.Rest.{is_white, run_len, trim_start}
 use Rattle.md_definition.specs.Texts.{first_byte}
-use Rattle.md_definition.specs.Tree as t
-use Rattle.md_lines.specs.Fence.{block_name, fence_name, sequence_name}
+use Rattle.md_lines.specs.Fence.{fence_name, sequence_name}
 use Rattle.md_lines.proofs.FenceParts.{prefix-take}
 use Rattle.md_seam.specs.Events.Nested.{around, pair}
 use Rattle.md_seam.specs.Events.Places.{past_text}
 use Rattle.md_seam.specs.Events.Pieces.{stands_over}
 use Rattle.md_seam.specs.Events.Spelled.{AsInfo, AsMarkers, AsMeta, FenceLeaf, Fenced, MathLeaf, OfFence, OfMath}
 use Rattle.md_seam.specs.Events.Spelled.{OpenLeaf}
-use Rattle.md_seam.specs.Events.Spelled.{Purpose, Reading, Tells, Text, add_block, begun, columns_left, fresh, read}
+use Rattle.md_seam.specs.Events.Spelled.{Purpose, Reading, Tells, Text, begun, columns_left, fresh, read}
 use Rattle.md_seam.specs.Events.Spelled.{role}
 use Rattle.md_seam.specs.Events.Spelled.{text_to, told}
-use Rattle.md_seam.proofs.BlocksLemmas.{read-around, read-leaf, read-told}
+use Rattle.md_seam.proofs.BlocksLemmas.{read-around, read-told}
 use Rattle.md_seam.proofs.SpelledLemmas.{Between, Quiet, QuietOrEnding, Roles, read-from, read-quiet, text-inline}
-use Rattle.markdown_blocks.specs.Fronted.{rest_line}
-use Rattle.markdown_blocks.specs.Leaf.Fence.{behind_parts, fence_around, fence_line, fence_parts, opening_at, past_white}
+use Rattle.markdown_blocks.specs.Leaf.Fence.{behind_parts, fence_parts, past_white}
 use Rattle.markdown_blocks.specs.Leaf.Fence.{read_inner, text_part, white_part}
 use Rattle.markdown_blocks.proofs.Fence.Kept.{white-roles}
 use Rattle.markdown_blocks.proofs.Fence.Laid.{Laid}
@@ -35,7 +32,6 @@ use Rattle.markdown_blocks.proofs.Fence.Walk.{At, at-drop, at-take, sequence-ove
 use Rattle.markdown_blocks.proofs.Fence.Words.{code_parts, parts_by}
 use Rattle.markdown_blocks.proofs.PieceFacts.{over-front}
 use Rattle.markdown_blocks.proofs.PlainRoles.{plain-roles}
-use Rattle.markdown_blocks.proofs.RestFacts.{rest-trim}
 
 -- a text of the block is read as its bytes
 text-told : (bytes : List ℕ) (b : ℕ) (bs rest : List ℕ) (p : Point) → At bytes (b ∷ bs) p rest → (r : Reading)
@@ -161,51 +157,7 @@ fence-read bytes r false c cs zs rest more p e here behind none =
 
 -- The block.
 
--- what stands in it
-abbrev inside_by : List ℕ → Bool → List ℕ → List ℕ → Point → Point → List Event
-inside_by bytes math ys zs p e =
-    let q = past_text ys p in
-    around (cond math n.MathFlowFence n.CodeFencedFence) p e
-    (pair (cond math n.MathFlowFenceSequence n.CodeFencedFenceSequence) p q
-    ++ (white_part zs q ++ parts_by math (read_inner bytes) (trim_start zs) (past_white zs q)))
-
-abbrev block_by : Bool → ℕ → List ℕ → t.Block
-block_by true m xs = t.Math (nonempty xs) [] false
-block_by false m xs = t.Fence m (nonempty (first_word xs)) (nonempty (behind_word xs)) [] false
-
-block-read : (bytes : List ℕ) (r : Reading) (math : Bool) (c : ℕ) (cs zs rest more : List ℕ) (p e : Point) →
-    At bytes (c ∷ cs) p more → At bytes zs (past_text (c ∷ cs) p) rest → r.text ≡ None → r.leaf ≡ None →
-    read bytes r (around (cond math n.MathFlow n.CodeFenced) p e (inside_by bytes math (c ∷ cs) zs p e)) ≡
-    add_block (block_by math c (trim_start zs)) r
-block-read bytes r true c cs zs rest more p e here behind none shut =
-    read-leaf bytes r n.MathFlow OfMath p e (inside_by bytes true (c ∷ cs) zs p e) (leaf_by true (c ∷ cs)
-    (trim_start zs)) refl shut
-    (fence-read bytes r true c cs zs rest more p e here behind none)
-block-read bytes r false c cs zs rest more p e here behind none shut =
-    read-leaf bytes r n.CodeFenced OfFence p e (inside_by bytes false (c ∷ cs) zs p e)
-    (leaf_by false (c ∷ cs) (trim_start zs)) refl shut
-    (fence-read bytes r false c cs zs rest more p e here behind none)
-
--- it is that of the opening
-block-is : (r : Rest) →
-    let text = trim_start r.bytes in
-    let m = first_byte text in
-    block_by (m == 36) m (trim_start (drop (run_len m text) text)) ≡ fence_block (opening_at r) [] false
-block-is r = go (m == 36)
-  where
-    m : ℕ
-    m = first_byte (trim_start r.bytes)
-
-    xs : List ℕ
-    xs = trim_start (drop (run_len m (trim_start r.bytes)) (trim_start r.bytes))
-
-    go : (x : Bool) →
-        block_by x m xs ≡
-        cond x (t.Math (nonempty (cond x xs (behind_word xs))) [] false)
-        (t.Fence m (cond x None (nonempty (first_word xs))) (nonempty (cond x xs (behind_word xs))) [] false)
-    go true = refl
-    go false = refl
-
+-- whether this is the first byte, if there is any
 abbrev pub FirstIs : List ℕ → ℕ → Type 0
 FirstIs [] m = Unit {0}
 FirstIs (c ∷ cs) m = c ≡ m
@@ -259,48 +211,3 @@ fence-opened options bytes line rest p e o is none =
     by [] here over behind = absurd (sequence-some m over)
     by (c ∷ cs) here over behind =
         fence-read bytes o (m == 36) c cs (drop size text) rest (drop size text ++ rest) q e here behind none
-
-pub fence-reads : (options : ParseOptions) (bytes : List ℕ) (r : Rest) (rest : List ℕ) (p : Point) (o : Reading) →
-    Laid options bytes (rest_line r) p rest → o.text ≡ None → o.leaf ≡ None →
-    read bytes o (fence_line (read_inner bytes) (rest_line r) p) ≡ add_block (fence_block (opening_at r) [] false) o
-fence-reads options bytes r rest p o is none shut =
-    read-from bytes o o (white_part line p) (fence_around (read_inner bytes) m text q e)
-    (read-quiet bytes o (white_part line p) (white-roles Quiet tt line p))
-    ∙ by (take size text) (at-take bytes text rest q size is.at) (sequence-over options text is.fence)
-    (at-drop bytes text rest q size is.at) (take-first size text)
-    ∙ ap (λ (l : List ℕ). add_block (of_text l) o) (rest-trim r)
-    ∙ ap (λ (b : t.Block). add_block b o) (block-is r)
-  where
-    line : List ℕ
-    line = rest_line r
-
-    text : List ℕ
-    text = trim_start (rest_line r)
-
-    m : ℕ
-    m = first_byte (trim_start (rest_line r))
-
-    size : ℕ
-    size = run_len m text
-
-    q : Point
-    q = past_white (rest_line r) p
-
-    e : Point
-    e = past_text (rest_line r) p
-
-    of_text : List ℕ → t.Block
-    of_text l = block_by (first_byte l == 36) (first_byte l) (trim_start (drop (run_len (first_byte l) l) l))
-
-    by : (ys : List ℕ) → At bytes ys q (drop size text ++ rest) → stands_over (sequence_name m) ys ≡ true →
-        At bytes (drop size text) (past_text ys q) rest → FirstIs ys m →
-        read bytes o
-        (around (block_name m) q e
-        (around (fence_name m) q e
-        (pair (sequence_name m) q (past_text ys q)
-        ++ behind_parts (read_inner bytes) m (drop size text) (past_text ys q)))) ≡
-        add_block (of_text text) o
-    by [] here over behind is = absurd (sequence-some m over)
-    by (c ∷ cs) here over behind is =
-        block-read bytes o (m == 36) c cs (drop size text) rest (drop size text ++ rest) q e here behind none shut
-        ∙ ap (λ (x : ℕ). add_block (block_by (m == 36) x (trim_start (drop size text))) o) is

@@ -31,10 +31,10 @@ use Rattle.markdown_blocks.proofs.Fence.Walk.{Anywhere, At, Walks, is_text_name}
 use Rattle.markdown_blocks.proofs.FillFacts.{Fill, fill-append, fill-around, fill-part, fill-same, linked-filled}
 use Rattle.markdown_blocks.proofs.LineTexts.{one-last}
 use Rattle.markdown_blocks.proofs.LeafFacts.{ReadsString}
-use Rattle.markdown_blocks.proofs.PartsStand.{Stands, inside-linked, stands-append, stands-around, stands-outside}
+use Rattle.markdown_blocks.proofs.PartsStand.{Stands, inside-linked, stands-append, stands-outside}
 use Rattle.markdown_blocks.proofs.PartsStand.{stands-part}
 use Rattle.markdown_blocks.proofs.PieceFacts.{over-front}
-use Rattle.markdown_blocks.proofs.SubstitutedLemmas.{Becomes, becomes-append, becomes-around, becomes-same}
+use Rattle.markdown_blocks.proofs.SubstitutedLemmas.{Becomes, becomes-append, becomes-same}
 use Rattle.markdown_blocks.proofs.SubstitutedLemmas.{part-becomes}
 
 -- Names.
@@ -102,19 +102,6 @@ walks-stand bytes = record {
       (inside-linked bytes string_link (chunk ∷ [])) (same-refl p) (one-line bytes b bs rest p at);
 }
 
-pub fence-parts : (options : ParseOptions) (bytes line rest : List ℕ) (p : Point) → Laid options bytes line p rest →
-    Stands bytes (fence_line linked line p)
-fence-parts options bytes line rest p is =
-    let walked = line-walk options bytes linked linked Anywhere (λ p q es ds. Stands bytes es) (walks-stand bytes) line
-    rest p is tt tt in
-    let text = trim_start line in
-    let m = first_byte text in
-    let q = past_white line p in
-    let e = past_text line p in
-    stands-append bytes (white_part line p) (fence_around linked m text q e) walked.white
-    (stands-around bytes (block_name m) q e (around (fence_name m) q e (fence_parts linked m text q)) (block-kind m)
-    (stands-around bytes (fence_name m) q e (fence_parts linked m text q) (fence-kind m) walked.parts))
-
 -- What is read fills them.
 
 pub walks-filled : (bytes : List ℕ) → Walks bytes linked (read_inner bytes) Anywhere (λ p q es ds. Fill bytes es ds)
@@ -178,21 +165,3 @@ walks-become bytes wants reads w rs = record {
       (plain_events bytes (record { kind = String; chunks = chunk ∷ [] })) w (text-apart name is)
       (λ answer h. rs (chunk ∷ []) answer h q (one-line bytes b bs rest p at) (one-whole bytes b bs rest p at));
 }
-
-pub fence-becomes : (options : ParseOptions) (bytes line rest : List ℕ) (p : Point) → Laid options bytes line p rest →
-    (wants : Content → Bool) (reads : Readings) → wants content.String ≡ true → ReadsString bytes reads →
-    Becomes wants reads (fence_line linked line p) (fence_line (read_inner bytes) line p)
-fence-becomes options bytes line rest p is wants reads w rs =
-    let read = read_inner bytes in
-    let walked = line-walk options bytes linked read Anywhere (λ p q es ds. Becomes wants reads es ds)
-    (walks-become bytes wants reads w rs) line rest p is tt tt in
-    let text = trim_start line in
-    let m = first_byte text in
-    let q = past_white line p in
-    let e = past_text line p in
-    becomes-append wants reads (white_part line p) (white_part line p) (fence_around linked m text q e)
-    (fence_around read m text q e) walked.white
-    (becomes-around wants reads (block_name m) q e (around (fence_name m) q e (fence_parts linked m text q))
-    (around (fence_name m) q e (fence_parts read m text q))
-    (becomes-around wants reads (fence_name m) q e (fence_parts linked m text q) (fence_parts read m text q)
-    walked.parts))

@@ -12,7 +12,7 @@ use Rattle.md_definition.specs.Rest.{Rest, is_white}
 use Rattle.md_lines.specs.FenceLine.{spaces}
 use Rattle.md_lines.specs.FenceRule.{run_end}
 use Rattle.md_lines.proofs.FenceCells.{first-spread, stop-first}
-use Rattle.md_seam.proofs.RestLines.{count-none, count-one}
+use Rattle.md_seam.proofs.RestLines.{count-one}
 use Rattle.md_lines.proofs.FenceSteps.{run-none}
 use Rattle.md_seam.specs.Ahead.{begins_white, white_end, white_rest}
 use Rattle.md_seam.specs.Events.Nested.{pair}
@@ -48,9 +48,6 @@ tab-run line (suc m) byte p q ys e =
 
 past-one : (b : ℕ) (bs : List ℕ) (p : Point) → is_white b ≡ true → past_white (b ∷ bs) p ≡ past_white bs (past_byte b p)
 past-one b bs p e = ap (λ (k : ℕ). past_text (take k (b ∷ bs)) p) (count-one is_white b bs e)
-
-past-none : (b : ℕ) (bs : List ℕ) (p : Point) → is_white b ≡ false → past_white (b ∷ bs) p ≡ p
-past-none b bs p e = ap (λ (k : ℕ). past_text (take k (b ∷ bs)) p) (count-none is_white b bs e)
 
 -- the whitespace of bytes
 spread-run : (line : Line) (bytes : List ℕ) (p : Point) (stop : List Cell) → 1 ≤ p.column → Stops stop →

@@ -1,26 +1,25 @@
 -- A fence keeps the grammar of events.
-use Rattle.std.proofs.Common.{◌≡◌, ℕ, Bool, true, false, cond, List, [], ◌∷◌, ◌++◌, length, take, drop, refl, sym, ap}
+use Rattle.std.proofs.Common.{◌≡◌, ℕ, Bool, true, false, cond, List, [], ◌∷◌, ◌++◌, length, drop, refl, sym, ap}
 use Rattle.std.proofs.Common.{◌∙◌}
 use Rattle.std.proofs.Common.{subst, append_assoc, append-nil}
-use Rattle.std.specs.Prelude.{◌==◌, not}
+use Rattle.std.specs.Prelude.{not}
 use Rattle.std.proofs.lemmas.List.Sums.{take_while-cons}
 use Rattle.md_engine.specs.declared.event.Event.{Event}
 use Rattle.md_engine.specs.declared.event.Name.{Name}
 use Rattle.md_engine.specs.declared.event.Name.TheVariants as n
 use Rattle.md_engine.specs.declared.event.Point.{Point}
 use Rattle.md_definition.specs.Leaves.{first_word}
-use Rattle.md_definition.specs.Rest.{is_white, run_len, trim_start}
-use Rattle.md_definition.specs.Texts.{first_byte}
+use Rattle.md_definition.specs.Rest.{is_white, trim_start}
 use Rattle.md_seam.proofs.RestLines.{count-none, count-one}
 use Rattle.md_lines.proofs.FenceParts.{prefix-take}
 use Rattle.md_seam.specs.declared.inline.Chunk.{Chunk}
-use Rattle.md_seam.specs.Events.Grammar.{Expression, behind, behind_block, blocks, inside, may_end, plain_text}
+use Rattle.md_seam.specs.Events.Grammar.{Expression, behind, inside, may_end, plain_text}
 use Rattle.md_seam.specs.Events.Grammar.{unread_text}
 use Rattle.md_seam.specs.Events.Inline.{plain_chunk}
 use Rattle.md_seam.specs.Events.Nested.{around, pair}
 use Rattle.md_seam.specs.Events.Places.{past_text}
-use Rattle.md_seam.proofs.GrammarLemmas.{IsWord, Leads, leads-append, leads-around, leads-pair, maybe, word-behind}
-use Rattle.markdown_blocks.specs.Leaf.Fence.{Inner, fence_around, fence_line, fence_parts, linked}
+use Rattle.md_seam.proofs.GrammarLemmas.{IsWord, Leads, leads-around, leads-pair, maybe, word-behind}
+use Rattle.markdown_blocks.specs.Leaf.Fence.{Inner, linked}
 use Rattle.markdown_blocks.specs.Leaf.Fence.{past_white, read_inner, text_part, white_part}
 use Rattle.markdown_blocks.proofs.ChunkFacts.{chunk-word}
 use Rattle.markdown_blocks.proofs.Fence.Walk.{CutsWord, behind-first}
@@ -191,57 +190,3 @@ fence-word text inner word false xs p q =
     (leads-pair text (inside text n.CodeFencedFence) n.CodeFencedFenceSequence p q refl)
     (word-behind text (x ∷ []) (maybe white.0 n.SpaceOrTab x ∷ []) (white_part xs q) parts white.1
     (code-word text inner word (trim_start xs) (past_white xs q) white.0 (trim-dark xs)))
-
--- The block.
-
-block-leads : (text : Expression) (math : Bool) (p q : Point) (es : List Event) →
-    IsWord text (inside text (cond math n.MathFlowFence n.CodeFencedFence) ∷ []) es →
-    Leads text (blocks ∷ []) (behind_block ∷ [])
-    (around (cond math n.MathFlow n.CodeFenced) p q
-    (around (cond math n.MathFlowFence n.CodeFencedFence) p q es))
-block-leads text true p q es word =
-    leads-around text blocks n.MathFlow p q (around n.MathFlowFence p q es)
-    (record {
-      left = behind n.MathFlowFence (inside text n.MathFlow);
-      leads = leads-around text (inside text n.MathFlow) n.MathFlowFence p q es word;
-      ends = refl;
-    })
-block-leads text false p q es word =
-    leads-around text blocks n.CodeFenced p q (around n.CodeFencedFence p q es)
-    (record {
-      left = behind n.CodeFencedFence (inside text n.CodeFenced);
-      leads = leads-around text (inside text n.CodeFenced) n.CodeFencedFence p q es word;
-      ends = refl;
-    })
-
--- whitespace in front of blocks
-front-leads : (text : Expression) (bytes : List ℕ) (p : Point) →
-    Leads text (blocks ∷ []) (blocks ∷ []) (white_part bytes p)
-front-leads text [] p = λ outer. refl
-front-leads text (b ∷ bs) p = go (is_white b)
-  where
-    go : (white : Bool) →
-        Leads text (blocks ∷ []) (blocks ∷ []) (cond white (pair n.SpaceOrTab p (past_white (b ∷ bs) p)) [])
-    go true = leads-pair text blocks n.SpaceOrTab p (past_white (b ∷ bs) p) refl
-    go false = λ outer. refl
-
-line-word : (text : Expression) (inner : Inner) → Word text inner → (line : List ℕ) (p : Point) →
-    Leads text (blocks ∷ []) (behind_block ∷ []) (fence_line inner line p)
-line-word text inner word line p =
-    let xs = trim_start line in
-    let m = first_byte xs in
-    let q = past_white line p in
-    let e = past_text line p in
-    let size = run_len m xs in
-    leads-append text (blocks ∷ []) (blocks ∷ []) (behind_block ∷ []) (white_part line p) (fence_around inner m xs q e)
-    (front-leads text line p)
-    (block-leads text (m == 36) q e (fence_parts inner m xs q)
-    (fence-word text inner word (m == 36) (drop size xs) q (past_text (take size xs) q)))
-
-pub unread-leads : (line : List ℕ) (p : Point) →
-    Leads unread_text (blocks ∷ []) (behind_block ∷ []) (fence_line linked line p)
-unread-leads line p = line-word unread_text linked linked-word line p
-
-pub read-leads : (bytes line : List ℕ) (p : Point) →
-    Leads plain_text (blocks ∷ []) (behind_block ∷ []) (fence_line (read_inner bytes) line p)
-read-leads bytes line p = line-word plain_text (read_inner bytes) (read-word bytes) line p

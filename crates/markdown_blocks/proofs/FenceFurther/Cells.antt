@@ -55,14 +55,6 @@ fence-some on e = by (held_marker on == 36) (fence-size on e)
     by true f = grind (arith, nat_tests)
     by false f = grind (arith, nat_tests)
 
--- all of it is its opening
-pub fence-held : (on : HeldLeaf) → is_fence on ≡ true →
-    held_leaf.Fence (held_marker on) (held_size on) (held_indent on) ≡ on
-fence-held held_leaf.None e = absurd (cc)
-fence-held held_leaf.Text e = absurd (cc)
-fence-held held_leaf.Code e = absurd (cc)
-fence-held (held_leaf.Fence m size indent) e = refl
-
 -- Columns.
 
 -- more of them than there are

@@ -5,7 +5,6 @@ use Rattle.std.proofs.Common.{◌∙◌, ap, ap₂, arith}
 use Rattle.std.specs.Prelude.{◌==◌, nat_le, nat_lt}
 use Rattle.std.proofs.lemmas.Bool.Decides.{nat_tests}
 use Rattle.md_engine.specs.declared.configuration.ParseOptions.{ParseOptions}
-use Rattle.md_engine.specs.declared.event.Event.{Event}
 use Rattle.md_engine.specs.declared.event.Name.TheVariants as n
 use Rattle.md_engine.specs.declared.event.Point.{Point}
 use Rattle.md_engine.specs.declared.tokenizer.held_leaf.HeldLeaf.{HeldLeaf}
@@ -16,7 +15,7 @@ use Rattle.md_leaves.proofs.SpannedLines.{IsEnd, IsFurther}
 use Rattle.md_lines.specs.Fence.{block_name, chunk_name, held_indent, held_marker, held_size}
 use Rattle.md_lines.specs.Further.{further_link}
 use Rattle.md_seam.specs.Events.Nested.{enter_link, exit, pair}
-use Rattle.md_seam.specs.Events.Spelled.{role, without_last}
+use Rattle.md_seam.specs.Events.Spelled.{role}
 use Rattle.markdown_blocks.specs.Fronted.{rest_line}
 use Rattle.markdown_blocks.specs.Leaf.FenceFurther.{chunk_line, closing_line, fence_further, further_parts, is_fence}
 use Rattle.markdown_blocks.specs.Leaf.FenceFurther.{opening_of, part_over, past_columns}
@@ -36,21 +35,6 @@ further-is options bytes on r p q is =
     (λ (s : Rest) (x : Point).
     enter_link name p further_link ∷ further_parts options on s p x ++ exit name x ∷ [])
     (rest-again bytes (drop q.index bytes) r p (further-rest bytes r p q is)) (sym is.at.end)
-
--- without its begin and its end
-without-end : (es : List Event) (e : Event) → without_last (es ++ e ∷ []) ≡ es
-without-end [] e = refl
-without-end (x ∷ []) e = refl
-without-end (x ∷ y ∷ es) e = ap (λ (l : List Event). x ∷ l) (without-end (y ∷ es) e)
-
-pub further-inside : (options : ParseOptions) (bytes : List ℕ) (on : HeldLeaf) (r : Rest) (p q : Point) →
-    FurtherAt bytes r p q →
-    drop 1 (without_last (fence_further.added options on (rest_line r) p)) ≡ further_parts options on r p q
-further-inside options bytes on r p q is =
-    let name = block_name (held_marker on) in
-    ap (λ (es : List Event). drop 1 (without_last es)) (further-is options bytes on r p q is)
-    ∙ ap (drop 1)
-    (without-end (enter_link name p further_link ∷ further_parts options on r p q) (exit name q))
 
 -- its begin is that of a further line, and its end the end of one
 pub block-lines : (m : ℕ) → has_lines (role (block_name m)) ≡ true

@@ -1,6 +1,5 @@
 -- The names of the events of a further line of fenced code or math.
-use Rattle.std.proofs.Common.{◌≡◌, ℕ, Bool, true, false, cond, ◌&&◌, List, [], ◌∷◌, ◌++◌, refl, ap, sym, ◌∙◌}
-use Rattle.std.proofs.Common.{append_assoc}
+use Rattle.std.proofs.Common.{◌≡◌, ℕ, Bool, true, false, cond, ◌&&◌, List, [], ◌∷◌, ◌++◌, refl}
 use Rattle.std.specs.Prelude.{◌==◌, nat_lt, None, take, drop}
 use Rattle.md_engine.specs.declared.configuration.ParseOptions.{ParseOptions}
 use Rattle.md_engine.specs.declared.event.Content.{Content}
@@ -19,16 +18,15 @@ use Rattle.md_definition.specs.Rest.{Rest, indent, run_len, trim_start}
 use Rattle.md_lines.specs.Fence.{block_name, chunk_name, fence_name, held_indent, held_marker, sequence_name}
 use Rattle.md_lines.specs.FenceLine.{chunk_events, closes_here, closing_end, closing_events, further_inside, spaces}
 use Rattle.md_lines.specs.FenceRule.{is_end, is_line, run_end, run_rest}
-use Rattle.md_lines.specs.Further.{further_link}
 use Rattle.md_seam.specs.Ahead.{begins_white, white_end, white_rest}
-use Rattle.md_seam.specs.Events.Nested.{enter_link, exit, is_enter, pair}
+use Rattle.md_seam.specs.Events.Nested.{exit, is_enter, pair}
 use Rattle.md_seam.specs.Events.Places.{past_text}
 use Rattle.md_seam.specs.Spaces.{any_size, small_indent}
 use Rattle.md_seam.specs.Substituted.{wanted}
 use Rattle.markdown_blocks.specs.Leaf.FenceFurther.{closing_line, closing_part, fence_further}
 use Rattle.markdown_blocks.specs.Leaf.FenceFurther.{chunk_line, further_parts, opening_of, past_columns}
 use Rattle.markdown_blocks.specs.Leaf.FenceFurther.{rest_of}
-use Rattle.markdown_blocks.specs.Registry.{is_own, resolved}
+use Rattle.markdown_blocks.specs.Registry.{is_own}
 use Rattle.markdown_blocks.proofs.ContentFacts.{NoContent}
 pub use Rattle.markdown_blocks.proofs.LostLine.Names.{inside-name, is_inside}
 use Rattle.markdown_blocks.proofs.LostLine.Names.{AreInside, More, either-part, inside-outside, inside-own, over-each}
@@ -183,33 +181,3 @@ further-no_content wants flow options on cells p = (
     unlinked : (kind : Kind) (name : Name) (x : Point) → wanted wants (part_event kind name x) ≡ None
     unlinked Enter name x = refl
     unlinked Exit name x = refl
-
--- Resolvers leave it.
-
-abbrev Set : List Event → Type 0
-Set es = (ys : List Event) → resolved (es ++ ys) ≡ es ++ resolved ys
-
-set-more : (e : Event) (es : List Event) → is_own e.name ≡ false → Set es → Set (e ∷ es)
-set-more e es other h ys = rw (other, and-false (is_enter e.kind)) (ap (λ (l : List Event). e ∷ l) (h ys))
-
--- what stands in the line
-pub parts-set : (options : ParseOptions) (on : HeldLeaf) (r : Rest) (p q : Point) (es : List Event) →
-    resolved (further_parts options on r p q ++ es) ≡ further_parts options on r p q ++ resolved es
-parts-set options on r p q =
-    parts-each Set (λ ys. refl) (λ kind name x es e k. set-more (part_event kind name x) es (inside-own name e) k)
-    options on r p q
-
--- and the whole line
-pub further-set : (options : ParseOptions) (on : HeldLeaf) (line : List ℕ) (p : Point) (es : List Event) →
-    resolved (fence_further.added options on line p ++ es) ≡ fence_further.added options on line p ++ resolved es
-further-set options on line p es =
-    let m = held_marker on in
-    let q = past_text line p in
-    let r = rest_of p line in
-    let inside = further_parts options on r p q in
-    let last = exit (block_name m) q in
-    set-more (enter_link (block_name m) p further_link) (inside ++ last ∷ []) (block-own m)
-    (λ ys. ap resolved (append_assoc inside (last ∷ []) ys)
-    ∙ parts-set options on r p q (last ∷ ys)
-    ∙ ap (λ (l : List Event). inside ++ l) (set-more last [] (block-own m) (λ ys. refl) ys)
-    ∙ sym (append_assoc inside (last ∷ []) (resolved ys))) es

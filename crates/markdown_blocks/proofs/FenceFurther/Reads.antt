@@ -17,7 +17,7 @@ use Rattle.md_seam.specs.Events.Nested.{enter, exit}
 use Rattle.md_seam.specs.Events.Places.{past_text}
 use Rattle.md_seam.specs.Events.Spelled.{AsLine, AsMarkers, FenceLeaf, Fenced, MathLeaf, OpenLeaf, Reading, Tells}
 use Rattle.md_seam.specs.Events.Spelled.{at_fence}
-use Rattle.md_seam.specs.Events.Spelled.{empty_line, first_told, joined, next_line, noted, on_fences, on_last, on_leaf}
+use Rattle.md_seam.specs.Events.Spelled.{empty_line, first_told, joined, noted, on_fences, on_last, on_leaf}
 use Rattle.md_seam.specs.Events.Spelled.{read, role, with_fence, without_last}
 use Rattle.md_seam.proofs.SpelledLemmas.{Quiet, Roles, read-from, read-quiet}
 use Rattle.markdown_blocks.specs.Leaf.FenceFurther.{chunk_line, closing_line, closing_part, columns_part, further_parts}
@@ -46,13 +46,6 @@ with_lines lines leaf = on_fences (λ fences. record fences { lines = lines }) l
 -- and with a closing fence behind them
 abbrev pub with_closing : List Line → OpenLeaf → OpenLeaf
 with_closing lines leaf = on_fences (λ fences. record fences { lines = lines; closed = true }) leaf
-
--- behind an ending it has an empty line again
-pub next-open : (before lines : List Line) (leaf : OpenLeaf) → IsOpen before leaf →
-    IsOpen lines (next_line (with_lines lines leaf))
-next-open before lines (FenceLeaf fences info meta) h = record { lines = refl; some = h.some; unclosed = h.unclosed }
-next-open before lines (MathLeaf fences meta) h = record { lines = refl; some = h.some; unclosed = h.unclosed }
-next-open before lines _ h = absurd h
 
 -- Its last line.
 
@@ -113,7 +106,7 @@ closing-noted before line _ h = absurd h
 
 -- Events.
 
-white-quiet : (text : List ℕ) (p q : Point) → Roles Quiet (part_over n.SpaceOrTab text p q)
+pub white-quiet : (text : List ℕ) (p q : Point) → Roles Quiet (part_over n.SpaceOrTab text p q)
 white-quiet [] p q = tt
 white-quiet (b ∷ bs) p q = (tt, (tt, tt))
 

@@ -39,7 +39,7 @@ use Rattle.markdown_blocks.proofs.Fence.Laid.{Laid}
 use Rattle.markdown_blocks.proofs.Fence.Reads.{FirstIs, sequence-some, take-first}
 use Rattle.markdown_blocks.proofs.Fence.Walk.{At, at-drop, at-take, sequence-over}
 use Rattle.markdown_blocks.proofs.Fence.Words.{code_parts, parts_by}
-use Rattle.markdown_blocks.proofs.FenceFurther.Reads.{chunk-role}
+use Rattle.markdown_blocks.proofs.FenceFurther.Reads.{chunk-role, white-quiet}
 use Rattle.markdown_blocks.proofs.FenceSpan.Open.{kind_of}
 use Rattle.markdown_blocks.proofs.LostLine.Reads.{columns-quiet}
 use Rattle.markdown_blocks.proofs.PieceFacts.{over-front}
@@ -260,10 +260,6 @@ further_site options on r =
     cond (closes options (opening_of on) r) (AtEnd kind)
     (line_site kind (is_told_of (rest_line (lose (held_indent on) r))))
 
-over-quiet : (text : List ℕ) (p q : Point) → Roles Quiet (part_over n.SpaceOrTab text p q)
-over-quiet [] p q = tt
-over-quiet (b ∷ bs) p q = (tt, (tt, tt))
-
 -- what is left of a line, under such a name
 over-passes : (bytes : List ℕ) (kind : LeafKind) (name : Name) (line : List ℕ) (p q : Point) →
     role name ≡ Tells AsLine →
@@ -332,7 +328,7 @@ further-passes options bytes on r p q = go (closes options (opening_of on) r)
         (closing_part m text at q)
         (passes-quiet bytes (AtLine kind) (columns_part (indent r) r p) (columns-quiet (indent r) r p))
         (closing-passes bytes (m == 36) at end q (part_over n.SpaceOrTab (drop (run_len m text) text) end q)
-        (over-quiet (drop (run_len m text) text) end q))
+        (white-quiet (drop (run_len m text) text) end q))
     go false =
         lost-passes bytes kind (chunk_name m) (held_indent on) r p q
         (chunk-role m)

@@ -1,9 +1,8 @@
 -- What stands on a line that loses columns of whitespace, and in a fence, by its names: parts of a leaf, no block, no
 -- text part, and none that ends a line.
-use Rattle.std.proofs.Common.{◌≡◌, ℕ, Bool, true, false, List, refl}
+use Rattle.std.proofs.Common.{◌≡◌, ℕ, true, false, List, refl}
 use Rattle.std.specs.Prelude.{None}
 use Rattle.std.proofs.lemmas.Bool.{and_from}
-use Rattle.md_engine.specs.declared.event.Content.{Content}
 use Rattle.md_engine.specs.declared.event.Event.{Event}
 use Rattle.md_engine.specs.declared.event.Name.{Name}
 use Rattle.md_containers.specs.ItemsStand.{IsPart}
@@ -12,7 +11,6 @@ use Rattle.md_seam.specs.Events.Blocks.{is_block}
 use Rattle.md_seam.specs.Events.Endings.{on_line}
 use Rattle.md_seam.specs.Events.Spelled.{role}
 use Rattle.md_seam.specs.Events.Tiles.{part_kind}
-use Rattle.md_seam.specs.Substituted.{Readings}
 use Rattle.md_seam.proofs.EndingsLemmas.{AreOthers, is_other}
 use Rattle.md_seam.proofs.SpelledLemmas.{Roles}
 use Rattle.md_containers.proofs.UnlistedLemmas.{NoListing}
@@ -21,7 +19,6 @@ use Rattle.markdown_blocks.proofs.LeafStands.{parts-unlisted}
 use Rattle.markdown_blocks.proofs.LostLine.Names.{AreInside, inside-name, is_inside}
 use Rattle.markdown_blocks.proofs.PartFacts.{NoLinks, NoParts}
 use Rattle.markdown_blocks.proofs.PartsStand.{Stands, stands-outside}
-use Rattle.markdown_blocks.proofs.SubstitutedLemmas.{Becomes, becomes-same, no_links-unwanted}
 
 -- Names.
 
@@ -72,8 +69,3 @@ inside-stands bytes es all = stands-outside bytes es (inside-no_parts es all) (i
 
 pub inside-filled : (bytes : List ℕ) (es : List Event) → AreInside es → Fill bytes es es
 inside-filled bytes es all = fill-same bytes es (inside-unlinked es all) (inside-no_parts es all)
-
-pub inside-becomes : (wants : Content → Bool) (reads : Readings) (es : List Event) → AreInside es →
-    Becomes wants reads es es
-inside-becomes wants reads es all =
-    becomes-same wants reads es (no_links-unwanted wants es (inside-unlinked es all))

@@ -92,14 +92,6 @@ points-clear bytes es h = each-all (is_clear bytes) es (points es h)
     points [] h = tt
     points (e ∷ es) h = (or_right (not (is_told (role e.name))) (clear bytes e.point) h.0, points es h.1)
 
-pub lost-clear : (bytes : List ℕ) (name : Name) (lost : ℕ) (r : Rest) (p q : Point) → FurtherAt bytes r p q →
-    clear bytes p ≡ true → list_all (is_clear bytes) (lost_line name lost r p q) ≡ true
-lost-clear bytes name lost r p q is begin =
-    points-clear bytes (lost_line name lost r p q)
-    (lost-points (λ x. clear bytes x ≡ true) name lost r p q begin (whole-clear bytes q is.at.end_whole)
-    (left-clear bytes (drop q.index bytes) (lose lost r) (past_columns lost r p)
-    (has-left bytes lost r p q is).stands))
-
 -- No text is parted.
 
 abbrev pub SitsPair : List ℕ → Name → Type 0

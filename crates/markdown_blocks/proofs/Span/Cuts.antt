@@ -1,6 +1,6 @@
 -- The begin and the end of the events of a line.
 use Rattle.std.specs.Prelude.{Option, Some, None}
-use Rattle.std.proofs.Common.{◌≡◌, List, [], ◌∷◌, ◌++◌, drop, refl, ap, sym, ◌∙◌, append_assoc, append-nil}
+use Rattle.std.proofs.Common.{◌≡◌, List, [], ◌∷◌, ◌++◌, drop, refl, ap, ◌∙◌, append_assoc}
 use Rattle.md_engine.specs.declared.event.Event.{Event}
 use Rattle.md_engine.specs.declared.event.Name.{Name}
 use Rattle.md_engine.specs.declared.event.Point.{Point}
@@ -41,15 +41,6 @@ span-is f name at lead inside row rows first last =
 
     end : List Event
     end = exit name (last_row row rows).end ∷ []
-
--- one line alone is as it was
-pub span-alone : (f : Row → List Event) (row : Row) (es : List Event) (e : Event) → f row ≡ es ++ e ∷ [] →
-    span_by f row [] ≡ f row
-span-alone f row es e is =
-    ap (λ (l : List Event). but_end l ++ [] ++ end_of l) is
-    ∙ ap (λ (l : List Event). l ++ end_of (es ++ e ∷ [])) (append-nil (but_end (es ++ e ∷ [])) ∙ but_end-is es e)
-    ∙ ap (λ (l : List Event). es ++ l) (end-is es e)
-    ∙ sym is
 
 -- the ending of a line
 pub ending-is : (name : Name) (row : Row) (q : Point) → row.after ≡ Some q →

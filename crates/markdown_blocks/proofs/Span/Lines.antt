@@ -1,5 +1,5 @@
 -- The lines of one leaf that are joined: from what is known of each, all that the frame asks of the leaf.
-use Rattle.std.proofs.Common.{◌≡◌, ℕ, Bool, true, List, [], ◌∷◌, ◌++◌, ap, sym, ◌∙◌, subst, append_assoc}
+use Rattle.std.proofs.Common.{◌≡◌, ℕ, Bool, true, List, [], ◌∷◌, ◌++◌, ap, sym, ◌∙◌, subst}
 use Rattle.std.specs.Prelude.{◌==◌, ◌||◌, Some}
 use Rattle.md_engine.specs.declared.event.Event.{Event}
 use Rattle.md_engine.specs.declared.event.Name.{Name}
@@ -21,7 +21,7 @@ use Rattle.markdown_blocks.proofs.LeafFacts.{LeafFacts}
 use Rattle.markdown_blocks.proofs.PartedFacts.{clear}
 use Rattle.markdown_blocks.proofs.PieceFacts.{Starts, starts-append}
 use Rattle.markdown_blocks.proofs.RowFacts.{IsEnding}
-use Rattle.markdown_blocks.proofs.Span.Cuts.{but_end-is, but_ends-is, end-is, ending-is, span-is}
+use Rattle.markdown_blocks.proofs.Span.Cuts.{end-is, ending-is, span-is}
 use Rattle.markdown_blocks.proofs.Span.Inside.{InsideFacts, Meets, behind_ending, ending-inside, front-inside}
 use Rattle.markdown_blocks.proofs.Span.Inside.{inside-append, inside-none}
 use Rattle.markdown_blocks.proofs.Span.Lead.{LeadFacts}
@@ -93,58 +93,6 @@ ends-by unread done name row us es whole unread_is is = record {
   unread_end = ap end_of unread_is ∙ end-is us (exit name row.end);
   end = ap end_of is ∙ end-is es (exit name row.end);
   whole = whole;
-}
-
--- a first one, behind whitespace
-pub span-first : (bytes : List ℕ) (unread done : Row → List Event) (name : Name)
-    (begin left : Expression) (from to : OpenLeaf) (start site : Site) (row : Row) (at : Point)
-    (lead us es : List Event) →
-    row.end.vs ≡ 0 → LeadFacts bytes row.first at lead → Starts us → Starts es →
-    unread row ≡ lead ++ around name at row.end us → done row ≡ lead ++ around name at row.end es →
-    InsideFacts bytes at row.end begin left from to start site us es →
-    SpanFirst bytes unread done name begin from start row
-span-first bytes unread done name x left from to start site row at lead us es whole white starts more first last facts =
-    record {
-      ends =
-          ends-by unread done name row (lead ++ enter name at ∷ us) (lead ++ enter name at ∷ es) whole
-          (first ∙ by us) (last ∙ by es);
-      lead = lead;
-      at = at;
-      lead_is = white;
-      unread_inside = us;
-      inside = es;
-      unread_is = ap but_end (first ∙ by us) ∙ but_end-is (lead ++ enter name at ∷ us) (exit name row.end);
-      is = ap but_end (last ∙ by es) ∙ but_end-is (lead ++ enter name at ∷ es) (exit name row.end);
-      unread_starts = starts;
-      starts = more;
-      left = left;
-      leaf = to;
-      site = site;
-      facts = facts;
-    }
-  where
-    by : (xs : List Event) → lead ++ around name at row.end xs ≡ (lead ++ enter name at ∷ xs) ++ exit name row.end ∷ []
-    by xs = sym (append_assoc lead (enter name at ∷ xs) (exit name row.end ∷ []))
-
--- a further one
-pub span-line : (bytes : List ℕ) (unread done : Row → List Event) (name : Name)
-    (x left : Expression) (from to : OpenLeaf) (start site : Site) (row : Row) (e f : Event) (us es : List Event) →
-    row.end.vs ≡ 0 → clear bytes row.first ≡ true →
-    unread row ≡ e ∷ us ++ exit name row.end ∷ [] → done row ≡ f ∷ es ++ exit name row.end ∷ [] →
-    InsideFacts bytes row.first row.end x left from to start site us es →
-    SpanLine bytes unread done name x from start row
-span-line bytes unread done name x left from to start site row e f us es whole begin unread_is done_is facts = record {
-  ends = ends-by unread done name row (e ∷ us) (f ∷ es) whole unread_is done_is;
-  clear = begin;
-  left = left;
-  leaf = to;
-  site = site;
-  facts =
-      subst
-      (λ (l : List Event). InsideFacts bytes row.first row.end x left from to start site l (but_ends (done row)))
-      (sym (ap but_ends unread_is ∙ but_ends-is e us (exit name row.end)))
-      (subst (λ (l : List Event). InsideFacts bytes row.first row.end x left from to start site us l)
-      (sym (ap but_ends done_is ∙ but_ends-is f es (exit name row.end))) facts);
 }
 
 -- The last of them, and what stands behind one.
