@@ -1,6 +1,7 @@
 -- Indented code stands and ends in any table that has it.
-use Rattle.std.proofs.Common.{◌≡◌, Bool, true, false, length, refl, arith, ap, sym}
-use Rattle.md_engine.specs.declared.event.Name.TheVariants as parts
+use Rattle.std.proofs.Common.{◌≡◌, Bool, true, false, [], ◌∷◌, ◌++◌, length, refl, arith, ap, sym}
+use Rattle.md_engine.specs.declared.event.Event.{Event}
+use Rattle.md_engine.specs.declared.event.Name.TheVariants.{CodeFlowChunk, CodeIndented}
 use Rattle.md_engine.specs.declared.state.Name.TheVariants as n
 use Rattle.md_engine.specs.declared.state.State.TheVariants.{Ok, Next}
 use Rattle.md_engine.specs.declared.state.code_indented.State.{State as CodeState}
@@ -10,8 +11,11 @@ use Rattle.md_engine.specs.World.{World, looks}
 use Rattle.md_engine.proofs.Falls.{later, later_at}
 use Rattle.md_engine.proofs.Local.{accepts, begins_try, consumes, refuses, turns}
 use Rattle.md_engine.proofs.Points.{stays, takes}
-use Rattle.md_lines.specs.Code.{code_scheme, code_transition, further_after_code, further_begin_code}
-use Rattle.md_lines.specs.Code.{further_inside_code, inside_blank_code, inside_code, opened, start_code}
+use Rattle.md_lines.specs.Code.{begun_code, code_level, code_rank, code_scheme, code_transition}
+use Rattle.md_lines.specs.Code.{further_after_code, further_begin_code, further_inside_code, inside_blank_code}
+use Rattle.md_lines.specs.Code.{inside_code}
+use Rattle.md_lines.specs.Further.{further_link}
+use Rattle.md_seam.specs.Events.Nested.{enter, enter_link}
 use Rattle.md_seam.specs.Spaces.{IsRest, ends_line, rest_ready, sees_white}
 use Rattle.md_seam.specs.Transition.{entered, exited, taken}
 use Rattle.md_seam.proofs.SpacesGoods.{Does, WhiteFits, goes-on, rest-calm, rest-none, seen-in, white_try}
@@ -20,19 +24,21 @@ pub record CodeFits (T : Scheme) : Type 1 where
   pub white : WhiteFits T
   pub each : (state : CodeState) → Fits T code_scheme (n.CodeIndented state)
 
-good_code_start : (T : Scheme) (w : World) (x : Bool) → CodeFits T → rest_ready (spot w) (after_all T w.frames) →
-    Does T (n.CodeIndented its.Start) w (start_code w x)
-good_code_start T w true has r =
-    white_try T code_scheme _ (n.CodeIndented its.AtBreak) w (opened w).events w.scratch 4 4 IsRest IsRest has.white
-    (has.each its.Start) (has.each its.AtBreak) (rest-none w.scratch r.0) (λ some. rest-calm w.scratch r.0) r.1
+-- at a state in front of a line of code, which begins with this event
+good_code_begun : (T : Scheme) (state : CodeState) (begin : Event) (w : World) (x : Bool) →
+    code_level (n.CodeIndented state) ≡ 1 → (code_rank (n.CodeIndented state) (spot w)).number ≡ 6 → CodeFits T →
+    rest_ready (spot w) (after_all T w.frames) → Does T (n.CodeIndented state) w (begun_code w begin x)
+good_code_begun T state begin w true level rank has r =
+    white_try T code_scheme _ (n.CodeIndented its.AtBreak) w (w.events ++ begin ∷ []) w.scratch 4 4 IsRest IsRest
+    has.white (has.each state) (has.each its.AtBreak) (rest-none w.scratch r.0) (λ some. rest-calm w.scratch r.0) r.1
     (λ q t up way. (rest-calm w.scratch r.0, later_at _ _ (spot w) _ q t _ up way r.1)) (omega arith) (omega arith)
     (λ t up. omega arith) (omega arith)
-good_code_start T w false has r = (refuses T _ w _ _ w.events w.scratch r.1 r.0, refl)
+good_code_begun T state begin w false level rank has r = (refuses T _ w _ _ w.events w.scratch r.1 r.0, refl)
 
 good_code_at_break : (T : Scheme) (w : World) → CodeFits T → rest_ready (spot w) (after_all T w.frames) →
     Does T (n.CodeIndented its.AtBreak) w (code_transition its.AtBreak w)
 good_code_at_break T w has r = (
-  turns T code_scheme _ (n.CodeIndented its.InsideBlank) w (entered w parts.CodeFlowChunk).events w.scratch
+  turns T code_scheme _ (n.CodeIndented its.InsideBlank) w (entered w CodeFlowChunk).events w.scratch
       (has.each its.AtBreak) (has.each its.InsideBlank) r (omega arith) (omega arith),
   refl,
 )
@@ -62,7 +68,7 @@ good_inside : (T : Scheme) (w : World) (x : Bool) → CodeFits T → w.current �
     rest_ready (spot w) (after_all T w.frames) →
     ends_line w.current ≡ x → Does T (n.CodeIndented its.Inside) w (inside_code w x)
 good_inside T w true has c r e = (
-  turns T code_scheme _ (n.CodeIndented its.After) w (exited w parts.CodeFlowChunk).events w.scratch
+  turns T code_scheme _ (n.CodeIndented its.After) w (exited w CodeFlowChunk).events w.scratch
       (has.each its.Inside) (has.each its.After) r (omega arith) (omega arith),
   refl,
 )
@@ -75,12 +81,12 @@ good_inside T w false has c r e =
 
 good_after : (T : Scheme) (w : World) → rest_ready (spot w) (after_all T w.frames) →
     Does T (n.CodeIndented its.After) w (code_transition its.After w)
-good_after T w r = (accepts T _ w _ _ (exited w parts.CodeIndented).events w.scratch r.1 r.0, refl)
+good_after T w r = (accepts T _ w _ _ (exited w CodeIndented).events w.scratch r.1 r.0, refl)
 
 good_further_start : (T : Scheme) (w : World) → CodeFits T → rest_ready (spot w) (after_all T w.frames) →
     Does T (n.CodeIndented its.FurtherStart) w (code_transition its.FurtherStart w)
 good_further_start T w has r = (
-  begins_try T code_scheme code_scheme (n.CodeIndented its.FurtherStart) (n.CodeIndented its.Start) w IsRest IsRest
+  begins_try T code_scheme code_scheme (n.CodeIndented its.FurtherStart) (n.CodeIndented its.FurtherLine) w IsRest IsRest
       w.events w.scratch
       (record {
         ok = Ok;
@@ -89,7 +95,7 @@ good_further_start T w has r = (
         events_len = length w.events;
         point = w.point;
       })
-      (has.each its.FurtherStart) (has.each its.Start) tt (has.each its.FurtherBegin) refl
+      (has.each its.FurtherStart) (has.each its.FurtherLine) tt (has.each its.FurtherBegin) refl
       (record {
         ok = λ s q t is up way. r.1.ok s q t is up way;
         ok_level = omega arith;
@@ -122,7 +128,7 @@ good_further_after : (T : Scheme) (w : World) (x : Bool) → CodeFits T → rest
     Does T (n.CodeIndented its.FurtherAfter) w (further_after_code w x)
 good_further_after T w true has r = (accepts T _ w _ _ w.events w.scratch r.1 r.0, refl)
 good_further_after T w false has r = (
-  turns T code_scheme _ (n.CodeIndented its.FurtherInside) w (entered w parts.CodeFlowChunk).events w.scratch
+  turns T code_scheme _ (n.CodeIndented its.FurtherInside) w (entered w CodeFlowChunk).events w.scratch
       (has.each its.FurtherAfter) (has.each its.FurtherInside) r (omega arith) (omega arith),
   refl,
 )
@@ -130,7 +136,7 @@ good_further_after T w false has r = (
 good_further_inside : (T : Scheme) (w : World) (x y : Bool) → CodeFits T → rest_ready (spot w) (after_all T w.frames) →
     sees_white (seen (spot w)) ≡ y → Does T (n.CodeIndented its.FurtherInside) w (further_inside_code w x y)
 good_further_inside T w true y has r e =
-    (accepts T _ w _ _ (exited w parts.CodeFlowChunk).events w.scratch r.1 r.0, refl)
+    (accepts T _ w _ _ (exited w CodeFlowChunk).events w.scratch r.1 r.0, refl)
 good_further_inside T w false true has r e = good-white T its.FurtherInside w has r e
 good_further_inside T w false false has r e = (refuses T _ w _ _ w.events w.scratch r.1 r.0, refl)
 
@@ -138,12 +144,14 @@ good_further_inside T w false false has r e = (refuses T _ w _ _ w.events w.scra
 pub code_does : (T : Scheme) (state : CodeState) (w : World) → CodeFits T → w.current ≡ looks w →
     rest_ready (spot w) (after_all T w.frames) →
     Does T (n.CodeIndented state) w (code_transition state w)
-code_does T its.Start w has c r = good_code_start T w _ has r
+code_does T its.Start w has c r = good_code_begun T its.Start (enter CodeIndented w.point) w _ refl refl has r
 code_does T its.AtBreak w has c r = good_code_at_break T w has r
 code_does T its.InsideBlank w has c r = good_inside_blank T w _ _ has r (ap sees_white (sym c))
 code_does T its.Inside w has c r = good_inside T w _ has c r refl
 code_does T its.After w has c r = good_after T w r
 code_does T its.FurtherStart w has c r = good_further_start T w has r
+code_does T its.FurtherLine w has c r =
+    good_code_begun T its.FurtherLine (enter_link CodeIndented w.point further_link) w _ refl refl has r
 code_does T its.FurtherBegin w has c r = good_further_begin T w _ has r
 code_does T its.FurtherAfter w has c r = good_further_after T w _ has r
 code_does T its.FurtherInside w has c r = good_further_inside T w _ _ has r (ap sees_white (sym c))

@@ -153,7 +153,7 @@ begins-by true false l m e = ap (λ (x : Line). x ∷ []) (sym e)
 begins-by false true l m e = tt
 begins-by false false l m e = tt
 
--- A line of code begins by the cells of a line where the line definition begins code, if the line is not blank.
+-- Code begins by the cells of a line where the line definition begins it, if the line is not blank.
 pub begins-agrees : (options : ParseOptions) (leaf : HeldLeaf) (against : ParagraphContext) (line : Fed)
     (text past : List ℕ) (r : Rest) (p : Point) (stop : List Cell) →
     may_open leaf ≡ is_free against → RestAt text past r p → NoEnding r.bytes → Stops stop →
@@ -167,23 +167,21 @@ begins-agrees options leaf against line text past r p stop free is h k =
     (begins-by (options.constructs.code_indented && is_free against && nat_le 4 (indent r)) (is_blank r.bytes) _ _ told)
 
 goes-by : (lines : List Line) (some blank : Bool) (l m : Line) → l ≡ m →
-    KeepsCode (lines ++ l ∷ [])
-    (cond blank (Some held_leaf.Code) (cond (some && not blank) (Some held_leaf.Code) None))
+    KeepsCode (lines ++ l ∷ []) (cond blank (Some held_leaf.Code) (cond some (Some held_leaf.Code) None))
     (cond (blank || some) (Some (Opened (OpenCode (lines ++ m ∷ [])))) None)
 goes-by lines some true l m e = ap (λ (x : Line). lines ++ x ∷ []) (sym e)
 goes-by lines true false l m e = ap (λ (x : Line). lines ++ x ∷ []) (sym e)
 goes-by lines false false l m e = tt
 
--- A line goes on open code by its cells where it does by its bytes, where code is on.
-pub goes-agrees : (options : ParseOptions) (lines : List Line) (line : Fed) (text past : List ℕ) (r : Rest) (p : Point)
-    (stop : List Cell) →
-    options.constructs.code_indented ≡ true → RestAt text past r p → NoEnding r.bytes → Stops stop →
+-- A line goes on open code by its cells where it does by its bytes.
+pub goes-agrees : (lines : List Line) (line : Fed) (text past : List ℕ) (r : Rest) (p : Point) (stop : List Cell) →
+    RestAt text past r p → NoEnding r.bytes → Stops stop →
     let cells = rest_cells line r p ++ stop in
-    KeepsCode (lines ++ told_line text cells p ∷ []) (code_goes options held_leaf.Code cells) (code_goes_on lines r)
+    KeepsCode (lines ++ told_line text cells p ∷ []) (code_goes held_leaf.Code cells) (code_goes_on lines r)
 unfolding code_goes_on
-goes-agrees options lines line text past r p stop on is h k =
+goes-agrees lines line text past r p stop is h k =
     let told = told-line line text past r p stop is h k in
-    rw (on, indented-same line text past r p stop is k, blank-cells line r p stop h k)
+    rw (indented-same line text past r p stop is k, blank-cells line r p stop h k)
     (goes-by lines (nat_le 4 (indent r)) (is_blank r.bytes) _ _ told)
 
 -- a line is blank where what is kept of it is

@@ -20,14 +20,17 @@ use Rattle.md_engine.specs.Meaning.{restored}
 use Rattle.md_engine.specs.Meaning.{resume}
 use Rattle.md_engine.specs.World.{World, after}
 use Rattle.md_engine.proofs.StepOf.{Sees, ahead, begins, begins_only, cell_here, moves, passes}
-use Rattle.md_lines.specs.Code.{begin_of, code_transition, further_after_code, further_begin_code}
-use Rattle.md_lines.specs.Code.{further_inside_code, inside_blank_code, inside_code, may_open, start_code}
-use Rattle.md_lines.specs.CodeRule.{HasCode, at_break, behind_columns, code_at, code_ends, further_after}
-use Rattle.md_lines.specs.CodeRule.{further_begin, further_inside, in_blank, in_text, is_indented, or_blank, then_here}
+use Rattle.md_lines.specs.Code.{begun_code, blank_noted, code_transition, further_after_code, further_begin_code}
+use Rattle.md_lines.specs.Code.{further_inside_code, inside_blank_code, inside_code}
+use Rattle.md_lines.specs.CodeRule.{HasCode, at_break, behind_columns, blank_ends, code_ends, further_after}
+use Rattle.md_lines.specs.CodeRule.{further_begin, further_inside, further_line, in_blank, in_text, is_indented}
+use Rattle.md_lines.specs.CodeRule.{line_at, or_blank, then_here}
+use Rattle.md_lines.specs.Further.{further_link}
+use Rattle.md_lines.proofs.CodeWhole.{Ended, ended}
 use Rattle.md_leaves.proofs.LeafSteps.{sees-one, white_frame}
-use Rattle.md_seam.specs.Ahead.{HasWhite, after_white, begins_white, from_ending, inside_white, line_bytes, white_at}
-use Rattle.md_seam.specs.Ahead.{line_cells, white_end, white_rest, white_size}
-use Rattle.md_seam.specs.Events.Nested.{enter, exit}
+use Rattle.md_seam.specs.Ahead.{HasWhite, after_white, begins_white, inside_white, line_bytes, white_at}
+use Rattle.md_seam.specs.Ahead.{white_end, white_rest, white_size}
+use Rattle.md_seam.specs.Events.Nested.{enter, enter_link, exit}
 use Rattle.md_definition.specs.Bytes.{is_end}
 use Rattle.md_definition.specs.Rest.{is_white}
 use Rattle.md_seam.specs.Spaces.{IsRest, asking, calmed, ends_line, sees_white}
@@ -47,17 +50,8 @@ end-ahead feed w (Some b) = go (nat_eq b 10) refl
 end-seen : (feed : Feed) (w : World) → Sees feed w → is_end (line_bytes (feed w.point)) ≡ ends_line w.current
 end-seen feed w s = rw s.next (end-ahead feed w w.current)
 
--- there nothing of it is left
-record Ends (cells : List Cell) : Type 0 where
-  pub line : line_cells cells ≡ []
-  pub ending : from_ending cells ≡ cells
-
-ends-here : (feed : Feed) (w : World) (o : Option ℕ) → ends_line o ≡ true → Ends (ahead feed w o)
-ends-here feed w None e = record { line = refl; ending = refl }
-ends-here feed w (Some b) e = record { line = rw e refl; ending = rw e refl }
-
-ends-seen : (feed : Feed) (w : World) → Sees feed w → ends_line w.current ≡ true → Ends (feed w.point)
-ends-seen feed w s e = rw s.next (ends-here feed w w.current e)
+ends-seen : (feed : Feed) (w : World) → Sees feed w → ends_line w.current ≡ true → Ended (feed w.point)
+ends-seen feed w s e = ended (feed w.point) (end-seen feed w s ∙ e)
 
 -- So many columns of whitespace.
 
@@ -121,54 +115,48 @@ white-asked B feed f events cells h size has some k =
 calm : (s : Scratch) → IsRest s → calmed s ≡ s
 calm s r = ap calmed r ∙ sym r
 
--- Before code.
+-- Before a line of code.
 
-and-third : (a b c d : Bool) → (c ≡ false → d ≡ false) → (a && b && c) ≡ false → (a && b && d) ≡ false
-and-third false b c d f e = refl
-and-third true false c d f e = refl
-and-third true true c d f e = f e
+and-second : (a b c : Bool) → (b ≡ false → c ≡ false) → (a && b) ≡ false → (a && c) ≡ false
+and-second false b c f e = refl
+and-second true b c f e = f e
 
--- where no whitespace stands, it is refused
-pub code-none : (options : ParseOptions) (cells : List Cell) (h : Here) →
-    options.constructs.code_indented && may_open h.flags.leaf && begins_white cells ≡ false →
-    code_at options cells h ≡ Refuses h.scratch h.flags
-unfolding code_at
-code-none options cells h e =
-    let none : options.constructs.code_indented && may_open h.flags.leaf && is_indented cells ≡
-    false = and-third options.constructs.code_indented (may_open h.flags.leaf) (begins_white cells)
-    (is_indented cells) (λ s. ap (nat_le 4) (none-size 4 cells s)) e in
+-- where no whitespace stands, or none may, a line of code is refused
+line-none : (may : Bool) (begin : Event) (cells : List Cell) (h : Here) → may && begins_white cells ≡ false →
+    line_at may begin cells h ≡ Refuses h.scratch h.flags
+unfolding line_at
+line-none may begin cells h e =
+    let none : may && is_indented cells ≡ false = and-second may (begins_white cells) (is_indented cells)
+    (λ s. ap (nat_le 4) (none-size 4 cells s)) e in
     rw none refl
 
-code-some : (options : ParseOptions) (cells : List Cell) (h : Here) → options.constructs.code_indented ≡ true →
-    may_open h.flags.leaf ≡ true →
-    code_at options cells h ≡
-    cond (is_indented cells)
-    (at_break (white_rest 4 cells) (behind_columns 4 cells (then_here (begin_of h.flags.leaf h.point) h)))
+line-some : (may : Bool) (begin : Event) (cells : List Cell) (h : Here) → may ≡ true →
+    line_at may begin cells h ≡
+    cond (is_indented cells) (at_break (white_rest 4 cells) (behind_columns 4 cells (then_here begin h)))
     (Refuses h.scratch h.flags)
-unfolding code_at
-code-some options cells h on may = rw (on, may) refl
+unfolding line_at
+line-some may begin cells h e = rw e refl
 
-code_start_steps : (B : Behaviour) (feed : Feed) (w : World) (x : Bool) → HasCode B w.setting.options → Sees feed w →
-    IsRest w.scratch →
-    w.setting.options.constructs.code_indented && may_open w.flags.leaf && sees_white w.current ≡ x →
-    Steps B feed (Next (n.CodeIndented its.Start)) w (start_code w x).to (start_code w x).world
-code_start_steps B feed w true has s r e =
-    let on = and_parts w.setting.options.constructs.code_indented (may_open w.flags.leaf)
-    (and_parts (w.setting.options.constructs.code_indented && may_open w.flags.leaf) (sees_white w.current) e).0 in
-    let begin : Event = begin_of w.flags.leaf w.point in
+-- at a state in front of a line of code, which begins with this event
+begun_steps : (B : Behaviour) (options : ParseOptions) (feed : Feed) (state : CodeState) (begin : Event) (w : World)
+    (may x : Bool) →
+    HasCode B options → Sees feed w → IsRest w.scratch →
+    B (n.CodeIndented state) (feed w.point) (here w) ≡ line_at may begin (feed w.point) (here w) →
+    may && sees_white w.current ≡ x →
+    Steps B feed (Next (n.CodeIndented state)) w (begun_code w begin x).to (begun_code w begin x).world
+begun_steps B options feed state begin w may true has s r own e =
     let h : Here = then_here begin (here w) in
     let frame : Frame = white_frame (Next (n.CodeIndented its.AtBreak)) w h.events in
-    begins B feed _ _ w (start_code w true).world (begin ∷ []) frame refl refl
-    (has.each its.Start _ _ ∙ code-some w.setting.options (feed w.point) (here w) on.0 on.1
+    begins B feed _ _ w (begun_code w begin true).world (begin ∷ []) frame refl refl
+    (own ∙ line-some may begin (feed w.point) (here w) (and_parts may (sees_white w.current) e).0
     ∙ ap₂ (λ (a b : Outcome). cond (is_indented (feed w.point)) a b) (sym (has.each its.AtBreak _ _))
     (ap (λ (t : Scratch). Refuses t w.flags) (sym (calm w.scratch r)))
     ∙ white-asked B feed frame h.events (feed w.point) h 4 has.white (omega arith) refl)
-code_start_steps B feed w false has s r e =
+begun_steps B options feed state begin w may false has s r own e =
     passes B feed _ _ w w refl refl
-    (has.each its.Start _ _
-    ∙ code-none w.setting.options (feed w.point) (here w)
-    (ap (λ (x : Bool). w.setting.options.constructs.code_indented && may_open w.flags.leaf && x) (begins-seen feed w s)
-    ∙ e))
+    (own
+    ∙ line-none may begin (feed w.point) (here w)
+    (ap (λ (x : Bool). may && x) (begins-seen feed w s) ∙ e))
 
 -- In a chunk.
 
@@ -176,7 +164,7 @@ code_start_steps B feed w false has s r e =
 abbrev chunk_ends : Here → Here
 chunk_ends h = then_here (exit CodeFlowChunk h.point) h
 
-blank-ends : (cells : List Cell) (h : Here) → Ends cells → in_blank cells h ≡ Refuses h.scratch h.flags
+blank-ends : (cells : List Cell) (h : Here) → Ended cells → in_blank cells h ≡ Refuses h.scratch h.flags
 unfolding in_blank
 blank-ends cells h e = rw e.line refl
 
@@ -208,7 +196,7 @@ inside_blank_steps B options feed w false false has s e f =
     (has.each its.InsideBlank _ _ ∙ rw s.next (blank-text feed w (here w) w.current e f)
     ∙ sym (has.each its.Inside _ _))
 
-text-ends : (cells : List Cell) (h : Here) → Ends cells → in_text cells h ≡ code_ends cells (chunk_ends h)
+text-ends : (cells : List Cell) (h : Here) → Ended cells → in_text cells h ≡ code_ends cells (chunk_ends h)
 unfolding in_text
 text-ends cells h e = rw (e.line, e.ending) refl
 
@@ -238,8 +226,8 @@ further_start_steps : (B : Behaviour) (feed : Feed) (w : World) → HasCode B w.
 further_start_steps B feed w has s =
     begins_only B feed _ _ w (code_transition its.FurtherStart w).world frame refl refl
     (has.each its.FurtherStart _ _
-    ∙ by (code_at w.setting.options (feed w.point) (here w))
-    ∙ ap (resume B feed w.events frame) (sym (has.each its.Start _ _)))
+    ∙ by (further_line (feed w.point) (here w))
+    ∙ ap (resume B feed w.events frame) (sym (has.each its.FurtherLine _ _)))
   where
     frame : Frame
     frame = record {
@@ -285,7 +273,8 @@ further_begin_steps B options feed w false has s e =
     ∙ sym (has.each its.FurtherAfter _ _))
 
 after-is : (cells : List Cell) (h : Here) (x : Bool) → is_end (line_bytes cells) ≡ x →
-    further_after cells h ≡ cond x (Accepts h cells) (further_inside cells (then_here (enter CodeFlowChunk h.point) h))
+    further_after cells h ≡
+    cond x (blank_ends cells h) (further_inside cells (then_here (enter CodeFlowChunk h.point) h))
 unfolding further_after
 after-is cells h x e = rw e refl
 
@@ -293,14 +282,14 @@ further_after_steps : (B : Behaviour) (options : ParseOptions) (feed : Feed) (w 
     HasCode B options → Sees feed w → ends_line w.current ≡ x →
     Steps B feed (Next (n.CodeIndented its.FurtherAfter)) w (further_after_code w x).to (further_after_code w x).world
 further_after_steps B options feed w true has s e =
-    passes B feed _ _ w w refl refl
+    passes B feed _ _ w (blank_noted w) refl refl
     (has.each its.FurtherAfter _ _ ∙ after-is (feed w.point) (here w) true (end-seen feed w s ∙ e))
 further_after_steps B options feed w false has s e =
     moves B feed _ _ w (further_after_code w false).world (enter CodeFlowChunk w.point ∷ []) refl refl
     (has.each its.FurtherAfter _ _ ∙ after-is (feed w.point) (here w) false (end-seen feed w s ∙ e)
     ∙ sym (has.each its.FurtherInside _ _))
 
-further-ends : (cells : List Cell) (h : Here) → Ends cells → further_inside cells h ≡ Accepts (chunk_ends h) cells
+further-ends : (cells : List Cell) (h : Here) → Ended cells → further_inside cells h ≡ blank_ends cells (chunk_ends h)
 unfolding further_inside
 further-ends cells h e = rw (e.line, e.ending) refl
 
@@ -336,7 +325,8 @@ further_inside_steps B options feed w false false has s e f =
 pub code_steps : (B : Behaviour) (feed : Feed) (state : CodeState) (w : World) → HasCode B w.setting.options →
     Sees feed w → IsRest w.scratch →
     Steps B feed (Next (n.CodeIndented state)) w (code_transition state w).to (code_transition state w).world
-code_steps B feed its.Start w has s r = code_start_steps B feed w _ has s r refl
+code_steps B feed its.Start w has s r =
+    begun_steps B _ feed its.Start (enter CodeIndented w.point) w _ _ has s r (has.each its.Start _ _) refl
 code_steps B feed its.AtBreak w has s r =
     moves B feed _ _ w (code_transition its.AtBreak w).world (enter CodeFlowChunk w.point ∷ []) refl refl
     (has.each its.AtBreak _ _ ∙ sym (has.each its.InsideBlank _ _))
@@ -346,6 +336,9 @@ code_steps B feed its.After w has s r =
     moves B feed _ _ w (code_transition its.After w).world (exit CodeIndented w.point ∷ []) refl refl
     (has.each its.After _ _)
 code_steps B feed its.FurtherStart w has s r = further_start_steps B feed w has s
+code_steps B feed its.FurtherLine w has s r =
+    begun_steps B _ feed its.FurtherLine (enter_link CodeIndented w.point further_link) w true _ has s r
+    (has.each its.FurtherLine _ _) refl
 code_steps B feed its.FurtherBegin w has s r = further_begin_steps B _ feed w _ has s refl
 code_steps B feed its.FurtherAfter w has s r = further_after_steps B _ feed w _ has s refl
 code_steps B feed its.FurtherInside w has s r = further_inside_steps B _ feed w _ _ has s refl refl

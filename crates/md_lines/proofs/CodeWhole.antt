@@ -1,6 +1,6 @@
 -- Indented code takes a whole line, or refuses it.
-use Rattle.std.proofs.Common.{◌≡◌, ℕ, zero, suc, Bool, true, false, cond, ◌&&◌, nat_eq, List, [], ◌∷◌, ◌++◌, Some}
-use Rattle.std.proofs.Common.{None, refl, sym, ◌∙◌, ap, append_assoc, append-nil}
+use Rattle.std.proofs.Common.{◌≡◌, ℕ, zero, suc, Bool, true, false, cond, ◌&&◌, nat_eq, List, [], ◌∷◌, ◌++◌}
+use Rattle.std.proofs.Common.{Option, Some, None, refl, sym, ◌∙◌, ap, append_assoc, append-nil}
 use Rattle.std.specs.Prelude.{not}
 use Rattle.md_engine.specs.declared.configuration.ParseOptions.{ParseOptions}
 use Rattle.md_engine.specs.declared.event.Event.{Event}
@@ -9,14 +9,15 @@ use Rattle.md_engine.specs.declared.event.Point.{Point}
 use Rattle.md_engine.specs.declared.tokenizer.Scratch.{Scratch}
 use Rattle.md_engine.specs.declared.tokenizer.held_leaf.HeldLeaf.{HeldLeaf}
 use Rattle.md_engine.specs.declared.tokenizer.held_leaf.HeldLeaf.TheVariants as held_leaf
-use Rattle.md_engine.specs.Meaning.{Accepts, Cell, Here, Refuses}
-use Rattle.md_lines.specs.Code.{begin_of, may_open}
-use Rattle.md_lines.specs.CodeRule.{at_break, behind_columns, blank_adds, code_adds, code_adds_on, code_at}
-use Rattle.md_lines.specs.CodeRule.{code_begins, code_further, code_goes, further_after, further_begin, further_inside, in_blank}
-use Rattle.md_lines.specs.CodeRule.{in_text, is_indented, line_by, or_blank, then_here}
+use Rattle.md_engine.specs.Meaning.{Cell, Here, Refuses}
+use Rattle.md_lines.specs.Code.{may_open}
+use Rattle.md_lines.specs.CodeRule.{at_break, behind_columns, blank_adds, blank_ends, code_adds, code_adds_on, code_at}
+use Rattle.md_lines.specs.CodeRule.{code_begins, code_further, code_goes, further_after, further_begin, further_inside}
+use Rattle.md_lines.specs.CodeRule.{in_blank, in_text, is_indented, line_adds, line_at, line_by, or_blank, then_here}
+use Rattle.md_lines.specs.Further.{further_link}
 use Rattle.md_seam.specs.Ahead.{begins_white, from_ending, line_bytes, line_cells, line_end, white_end}
 use Rattle.md_seam.specs.Ahead.{white_rest}
-use Rattle.md_seam.specs.Events.Nested.{enter, exit, pair}
+use Rattle.md_seam.specs.Events.Nested.{enter, enter_link, exit, pair}
 use Rattle.md_definition.specs.Bytes.{is_end}
 use Rattle.md_definition.specs.Rest.{is_blank, is_white}
 use Rattle.md_seam.specs.Spaces.{calmed}
@@ -25,11 +26,11 @@ use Rattle.md_seam.proofs.AheadLemmas.{none-rest, white-ending, white-line_end, 
 -- Whitespace, and the end of a line.
 
 -- where the line ends here, nothing of it is left
-record Ended (cells : List Cell) : Type 0 where
+pub record Ended (cells : List Cell) : Type 0 where
   pub line : line_cells cells ≡ []
   pub ending : from_ending cells ≡ cells
 
-ended : (cells : List Cell) → is_end (line_bytes cells) ≡ true → Ended cells
+pub ended : (cells : List Cell) → is_end (line_bytes cells) ≡ true → Ended cells
 ended [] e = record { line = refl; ending = refl }
 ended (c ∷ cs) e = go (nat_eq c.byte 10) refl
   where
@@ -73,15 +74,16 @@ text-goes cells e = go (is_end (line_bytes cells)) refl
     go true k = let bad : true ≡ false = sym (end-blank cells k) ∙ e in cc
 
 -- a line that is taken behind its columns is taken with them,
-columns-taken : (added : List Event) (cells : List Cell) (h : Here) (leaf : HeldLeaf) → calmed h.scratch ≡ h.scratch →
-    line_by added (white_rest 4 cells) (behind_columns 4 cells h) (Some leaf) ≡
-    line_by (pair SpaceOrTab h.point (white_end 4 cells h.point) ++ added) cells h (Some leaf)
-columns-taken added cells h leaf calm =
+columns-taken : (blank : Bool) (added : List Event) (cells : List Cell) (h : Here) (leaf : HeldLeaf) →
+    calmed h.scratch ≡ h.scratch →
+    line_by blank added (white_rest 4 cells) (behind_columns 4 cells h) (Some leaf) ≡
+    line_by blank (pair SpaceOrTab h.point (white_end 4 cells h.point) ++ added) cells h (Some leaf)
+columns-taken blank added cells h leaf calm =
     rw (white-ending 4 cells, white-line_end 4 cells h.point, calm) (simp append_assoc)
 
 -- and one that is taken behind its begin with that
 begin-taken : (e : Event) (added : List Event) (cells : List Cell) (h : Here) (leaf : HeldLeaf) →
-    line_by added cells (then_here e h) (Some leaf) ≡ line_by (e ∷ added) cells h (Some leaf)
+    line_by false added cells (then_here e h) (Some leaf) ≡ line_by false (e ∷ added) cells h (Some leaf)
 begin-taken e added cells h leaf = simp append_assoc
 
 -- A line of code.
@@ -91,7 +93,7 @@ abbrev rest_events : Point → Point → List Event
 rest_events q r = pair CodeFlowChunk q r ++ exit CodeIndented r ∷ []
 
 text-break : (cells : List Cell) (h : Here) → is_blank (line_bytes cells) ≡ false →
-    at_break cells h ≡ line_by (rest_events h.point (line_end cells h.point)) cells h (Some held_leaf.Code)
+    at_break cells h ≡ line_by false (rest_events h.point (line_end cells h.point)) cells h (Some held_leaf.Code)
 unfolding in_blank in_text
 text-break cells h e = rw e (simp append_assoc)
 
@@ -100,46 +102,51 @@ blank-break : (cells : List Cell) (h : Here) → is_blank (line_bytes cells) ≡
 unfolding in_blank
 blank-break cells h e = rw e refl
 
--- a line of code is taken, and any other refused
-pub code-line : (options : ParseOptions) (cells : List Cell) (h : Here) → calmed h.scratch ≡ h.scratch →
-    code_at options cells h ≡
-    line_by (code_adds h.flags.leaf cells h.point) cells h (code_begins options h.flags.leaf cells)
-unfolding code_at
-code-line options cells h calm =
-    go options.constructs.code_indented (may_open h.flags.leaf) (is_indented cells) (is_blank (line_bytes cells)) refl
-    refl refl refl
-  where
-    begin : Event
-    begin = begin_of h.flags.leaf h.point
+-- what is kept of a line of code, where one may stand: an indent, and text behind it
+abbrev line_keeps : Bool → List Cell → Option HeldLeaf
+line_keeps may cells = cond (may && is_indented cells && not (is_blank (line_bytes cells))) (Some held_leaf.Code) None
 
+-- with either begin it is taken, and any other line refused
+line-taken : (may : Bool) (begin : Event) (cells : List Cell) (h : Here) → calmed h.scratch ≡ h.scratch →
+    line_at may begin cells h ≡ line_by false (line_adds begin cells h.point) cells h (line_keeps may cells)
+unfolding line_at
+line-taken may begin cells h calm = go may (is_indented cells) (is_blank (line_bytes cells)) refl refl refl
+  where
     q : Point
     q = white_end 4 cells h.point
 
     taken : is_blank (line_bytes cells) ≡ false →
         at_break (white_rest 4 cells) (behind_columns 4 cells (then_here begin h)) ≡
-        line_by (code_adds h.flags.leaf cells h.point) cells h (Some held_leaf.Code)
+        line_by false (line_adds begin cells h.point) cells h (Some held_leaf.Code)
     taken b =
         text-break (white_rest 4 cells) (behind_columns 4 cells (then_here begin h)) (white-blank 4 cells ∙ b)
-        ∙ columns-taken (rest_events q (line_end (white_rest 4 cells) q)) cells (then_here begin h) held_leaf.Code calm
+        ∙ columns-taken false (rest_events q (line_end (white_rest 4 cells) q)) cells (then_here begin h)
+        held_leaf.Code calm
         ∙ begin-taken begin (pair SpaceOrTab h.point q ++ rest_events q (line_end (white_rest 4 cells) q)) cells h
         held_leaf.Code
         ∙ ap
         (λ (r : Point).
-        line_by (begin ∷ pair SpaceOrTab h.point q ++ rest_events q r) cells h (Some held_leaf.Code))
+        line_by false (begin ∷ pair SpaceOrTab h.point q ++ rest_events q r) cells h (Some held_leaf.Code))
         (white-line_end 4 cells h.point)
 
-    go : (on may some blank : Bool) → options.constructs.code_indented ≡ on → may_open h.flags.leaf ≡ may →
-        is_indented cells ≡ some → is_blank (line_bytes cells) ≡ blank →
-        code_at options cells h ≡
-        line_by (code_adds h.flags.leaf cells h.point) cells h (code_begins options h.flags.leaf cells)
-    go false may some blank e f k b = rw e refl
-    go true false some blank e f k b = rw (e, f) refl
-    go true true false blank e f k b = rw (e, f, k) refl
-    go true true true true e f k b =
-        rw (e, f, k, b)
+    go : (some indented blank : Bool) → may ≡ some → is_indented cells ≡ indented →
+        is_blank (line_bytes cells) ≡ blank →
+        line_at may begin cells h ≡
+        line_by false (line_adds begin cells h.point) cells h (line_keeps may cells)
+    go false indented blank f k b = rw f refl
+    go true false blank f k b = rw (f, k) refl
+    go true true true f k b =
+        rw (f, k, b)
         (blank-break (white_rest 4 cells) (behind_columns 4 cells (then_here begin h)) (white-blank 4 cells ∙ b)
         ∙ ap (λ (t : Scratch). Refuses t h.flags) calm)
-    go true true true false e f k b = rw (e, f, k, b) (taken b)
+    go true true false f k b = rw (f, k, b) (taken b)
+
+-- the first line of code is taken, and any other refused
+pub code-line : (options : ParseOptions) (cells : List Cell) (h : Here) → calmed h.scratch ≡ h.scratch →
+    code_at options cells h ≡
+    line_by false (code_adds cells h.point) cells h (code_begins options h.flags.leaf cells)
+code-line options cells h calm =
+    line-taken (options.constructs.code_indented && may_open h.flags.leaf) (enter CodeIndented h.point) cells h calm
 
 -- A line that may go on open code.
 
@@ -157,20 +164,20 @@ blank-dark cells p w e = rw (w, none-rest 4 cells w, e) refl
 
 -- where the line ends here, it is taken as it is
 end-taken : (cells : List Cell) (h : Here) → is_end (line_bytes cells) ≡ true →
-    Accepts h cells ≡ line_by [] cells h (Some h.flags.leaf)
+    blank_ends cells h ≡ line_by true [] cells h (Some h.flags.leaf)
 end-taken cells h e = let end = ended cells e in rw (end.line, end.ending, append-nil) refl
 
 -- whitespace to the end of the line is a chunk
 chunk-taken : (cells : List Cell) (h : Here) → is_blank (line_bytes cells) ≡ true →
     further_inside cells (then_here (enter CodeFlowChunk h.point) h) ≡
-    line_by (pair CodeFlowChunk h.point (line_end cells h.point)) cells h (Some h.flags.leaf)
+    line_by true (pair CodeFlowChunk h.point (line_end cells h.point)) cells h (Some h.flags.leaf)
 unfolding further_inside
 chunk-taken cells h b = rw b (simp append_assoc)
 
 after-blank : (cells : List Cell) (h : Here) (x : Bool) → is_blank (line_bytes cells) ≡ true →
     is_end (line_bytes cells) ≡ x →
     further_after cells h ≡
-    line_by (cond x [] (pair CodeFlowChunk h.point (line_end cells h.point))) cells h (Some h.flags.leaf)
+    line_by true (cond x [] (pair CodeFlowChunk h.point (line_end cells h.point))) cells h (Some h.flags.leaf)
 unfolding further_after
 after-blank cells h true b e = rw e (end-taken cells h e)
 after-blank cells h false b e = rw e (chunk-taken cells h b)
@@ -178,7 +185,7 @@ after-blank cells h false b e = rw e (chunk-taken cells h b)
 -- a blank line is taken
 further-blank : (cells : List Cell) (h : Here) (w : Bool) → calmed h.scratch ≡ h.scratch → begins_white cells ≡ w →
     is_blank (line_bytes cells) ≡ true →
-    further_begin cells h ≡ line_by (blank_adds cells h.point) cells h (Some h.flags.leaf)
+    further_begin cells h ≡ line_by true (blank_adds cells h.point) cells h (Some h.flags.leaf)
 unfolding further_begin
 further-blank cells h true calm w b =
     let q = white_end 4 cells h.point in
@@ -187,19 +194,21 @@ further-blank cells h true calm w b =
     (λ (x : Bool).
     cond x (further_after (white_rest 4 cells) (behind_columns 4 cells h)) (further_after cells h)) w
     ∙ after-blank (white_rest 4 cells) (behind_columns 4 cells h) ends (white-blank 4 cells ∙ b) refl
-    ∙ columns-taken (cond ends [] (pair CodeFlowChunk q (line_end (white_rest 4 cells) q))) cells h h.flags.leaf calm
+    ∙ columns-taken true (cond ends [] (pair CodeFlowChunk q (line_end (white_rest 4 cells) q))) cells h h.flags.leaf
+    calm
     ∙ ap
     (λ (r : Point).
-    line_by (pair SpaceOrTab h.point q ++ cond ends [] (pair CodeFlowChunk q r)) cells h (Some h.flags.leaf))
+    line_by true (pair SpaceOrTab h.point q ++ cond ends [] (pair CodeFlowChunk q r)) cells h (Some h.flags.leaf))
     (white-line_end 4 cells h.point)
-    ∙ ap (λ (es : List Event). line_by es cells h (Some h.flags.leaf)) (sym (blank-white cells h.point ends w refl))
+    ∙ ap (λ (es : List Event). line_by true es cells h (Some h.flags.leaf))
+    (sym (blank-white cells h.point ends w refl))
 further-blank cells h false calm w b =
     let end = dark-blank cells w ∙ b in
     ap
     (λ (x : Bool).
     cond x (further_after (white_rest 4 cells) (behind_columns 4 cells h)) (further_after cells h)) w
     ∙ after-blank cells h true b end
-    ∙ ap (λ (es : List Event). line_by es cells h (Some h.flags.leaf)) (sym (blank-dark cells h.point w end))
+    ∙ ap (λ (es : List Event). line_by true es cells h (Some h.flags.leaf)) (sym (blank-dark cells h.point w end))
 
 -- one with text is refused
 after-text : (cells : List Cell) (h : Here) → is_blank (line_bytes cells) ≡ false →
@@ -217,35 +226,21 @@ further-text cells h true calm w b =
     ∙ ap (λ (t : Scratch). Refuses t h.flags) calm)
 further-text cells h false calm w b = rw w (after-text cells h b)
 
-and-false : (a : Bool) → (a && false) ≡ false
-and-false true = refl
-and-false false = refl
-
 -- it is taken if it is a line of code or blank, and refused elsewhere
-pub code-on : (options : ParseOptions) (cells : List Cell) (h : Here) → calmed h.scratch ≡ h.scratch →
-    code_further options cells h ≡
-    line_by (code_adds_on h.flags.leaf cells h.point) cells h (code_goes options h.flags.leaf cells)
-code-on options cells h calm =
-    ap (or_blank cells h) (code-line options cells h calm) ∙ go (is_blank (line_bytes cells)) refl
+pub code-on : (cells : List Cell) (h : Here) → calmed h.scratch ≡ h.scratch →
+    code_further cells h ≡
+    line_by (is_blank (line_bytes cells)) (code_adds_on cells h.point) cells h (code_goes h.flags.leaf cells)
+code-on cells h calm =
+    ap (or_blank cells h) (line-taken true begin cells h calm)
+    ∙ go (is_indented cells) (is_blank (line_bytes cells)) refl refl
   where
-    leaf : HeldLeaf
-    leaf = h.flags.leaf
+    begin : Event
+    begin = enter_link CodeIndented h.point further_link
 
-    some : Bool
-    some = options.constructs.code_indented && may_open leaf && is_indented cells
-
-    text : (x : Bool) → is_blank (line_bytes cells) ≡ false →
-        or_blank cells h (line_by (code_adds leaf cells h.point) cells h (cond x (Some held_leaf.Code) None)) ≡
-        line_by (code_adds leaf cells h.point) cells h (cond x (Some held_leaf.Code) None)
-    text true b = refl
-    text false b = further-text cells h (begins_white cells) calm refl b
-
-    go : (x : Bool) → is_blank (line_bytes cells) ≡ x →
-        or_blank cells h
-        (line_by (code_adds leaf cells h.point) cells h
-        (cond (some && not (is_blank (line_bytes cells))) (Some held_leaf.Code) None)) ≡
-        line_by (cond (is_blank (line_bytes cells)) (blank_adds cells h.point) (code_adds leaf cells h.point)) cells h
-        (cond (is_blank (line_bytes cells)) (Some leaf)
-        (cond (some && not (is_blank (line_bytes cells))) (Some held_leaf.Code) None))
-    go true b = rw (b, and-false some) (further-blank cells h (begins_white cells) calm refl b)
-    go false b = rw b (text (some && true) b)
+    go : (indented blank : Bool) → is_indented cells ≡ indented → is_blank (line_bytes cells) ≡ blank →
+        or_blank cells h (line_by false (line_adds begin cells h.point) cells h (line_keeps true cells)) ≡
+        line_by (is_blank (line_bytes cells)) (code_adds_on cells h.point) cells h (code_goes h.flags.leaf cells)
+    go true true k b = rw (k, b) (further-blank cells h (begins_white cells) calm refl b)
+    go false true k b = rw (k, b) (further-blank cells h (begins_white cells) calm refl b)
+    go true false k b = rw (k, b) refl
+    go false false k b = rw (k, b) (further-text cells h (begins_white cells) calm refl b)

@@ -2,7 +2,6 @@
 use Rattle.std.specs.Prelude.{refl, ℕ, Bool, true, false, ◌&&◌, ◌∷◌, ◌++◌, []}
 use Rattle.md_engine.specs.declared.event.Event.{Event}
 use Rattle.md_engine.specs.declared.event.Name.TheVariants.{CodeFlowChunk, CodeIndented}
-use Rattle.md_engine.specs.declared.event.Point.{Point}
 use Rattle.md_engine.specs.declared.state.Name.{Name as StateName}
 use Rattle.md_engine.specs.declared.state.Name.TheVariants as n
 use Rattle.md_engine.specs.declared.state.code_indented.State.{State as CodeState}
@@ -17,29 +16,16 @@ use Rattle.md_seam.specs.Events.Nested.{enter, enter_link}
 use Rattle.md_seam.specs.Spaces.{ends_line, rest_ready, sees_white, white_then}
 use Rattle.md_seam.specs.Transition.{Transition, entered, exited, taken, tried}
 
--- what may stand first behind the indent of code: any byte
-abbrev pub may_begin : ℕ → Bool
-may_begin b = true
-
--- whether a line of code may begin where this leaf is open: the first one, or one that goes on; text is not
--- interrupted, and any other leaf has ended before
+-- whether code may begin where this leaf is open: text is not interrupted, and any other leaf has ended before
 abbrev pub may_open : HeldLeaf → Bool
-may_open held_leaf.None = true
-may_open held_leaf.Code = true
-may_open _ = false
+may_open held_leaf.Text = false
+may_open _ = true
 
--- how it begins: a further line is linked
-abbrev pub begin_of : HeldLeaf → Point → Event
-begin_of held_leaf.Code p = enter_link CodeIndented p further_link
-begin_of _ p = enter CodeIndented p
-
-abbrev pub opened : World → World
-opened w = record w { events = w.events ++ begin_of w.flags.leaf w.point ∷ [] }
-
--- by whether it may begin, and whitespace stands here
-abbrev pub start_code : World → Bool → Transition
-start_code w true = white_then (opened w) 4 4 (Next (n.CodeIndented its.AtBreak)) Nok
-start_code w false = record { to = Nok; world = w }
+-- a line of code with this begin, by whether it may begin, and whitespace stands here
+abbrev pub begun_code : World → Event → Bool → Transition
+begun_code w begin true =
+    white_then (record w { events = w.events ++ begin ∷ [] }) 4 4 (Next (n.CodeIndented its.AtBreak)) Nok
+begun_code w begin false = record { to = Nok; world = w }
 
 -- by whether the line ends here, or whitespace stands
 abbrev pub inside_blank_code : World → Bool → Bool → Transition
@@ -57,21 +43,26 @@ abbrev pub further_begin_code : World → Bool → Transition
 further_begin_code w true = white_then w 0 4 (Next (n.CodeIndented its.FurtherAfter)) Nok
 further_begin_code w false = record { to = Retry (n.CodeIndented its.FurtherAfter); world = w }
 
+-- a blank line goes on the code, and is one for the endings still
+abbrev pub blank_noted : World → World
+blank_noted w = record w { flags = record w.flags { blank = true } }
+
 -- by whether the line ends here
 abbrev pub further_after_code : World → Bool → Transition
-further_after_code w true = record { to = Ok; world = w }
+further_after_code w true = record { to = Ok; world = blank_noted w }
 further_after_code w false = record { to = Retry (n.CodeIndented its.FurtherInside); world = entered w CodeFlowChunk }
 
 -- by whether the line ends here, or whitespace stands
 abbrev pub further_inside_code : World → Bool → Bool → Transition
-further_inside_code w true white = record { to = Ok; world = exited w CodeFlowChunk }
+further_inside_code w true white = record { to = Ok; world = blank_noted (exited w CodeFlowChunk) }
 further_inside_code w false true = record { to = Next (n.CodeIndented its.FurtherInside); world = taken w }
 further_inside_code w false false = record { to = Nok; world = w }
 
 -- each state with what it does, where there is memory
 abbrev pub start_transition : World → Transition
 start_transition w =
-    start_code w (w.setting.options.constructs.code_indented && may_open w.flags.leaf && sees_white w.current)
+    begun_code w (enter CodeIndented w.point)
+    (w.setting.options.constructs.code_indented && may_open w.flags.leaf && sees_white w.current)
 
 abbrev pub at_break_transition : World → Transition
 at_break_transition w = record { to = Retry (n.CodeIndented its.InsideBlank); world = entered w CodeFlowChunk }
@@ -90,9 +81,12 @@ after_transition w = record {
 
 abbrev pub further_start_transition : World → Transition
 further_start_transition w = record {
-  to = Retry (n.CodeIndented its.Start);
+  to = Retry (n.CodeIndented its.FurtherLine);
   world = tried w Ok (Next (n.CodeIndented its.FurtherBegin));
 }
+
+abbrev pub further_line_transition : World → Transition
+further_line_transition w = begun_code w (enter_link CodeIndented w.point further_link) (sees_white w.current)
 
 abbrev pub further_begin_transition : World → Transition
 further_begin_transition w = further_begin_code w (sees_white w.current)
@@ -111,6 +105,7 @@ code_transition its.InsideBlank w = inside_blank_transition w
 code_transition its.Inside w = inside_transition w
 code_transition its.After w = after_transition w
 code_transition its.FurtherStart w = further_start_transition w
+code_transition its.FurtherLine w = further_line_transition w
 code_transition its.FurtherBegin w = further_begin_transition w
 code_transition its.FurtherAfter w = further_after_transition w
 code_transition its.FurtherInside w = further_inside_transition w
@@ -127,6 +122,7 @@ code_rank (n.CodeIndented its.InsideBlank) x = ranked 3 refl
 code_rank (n.CodeIndented its.Inside) x = ranked 2 refl
 code_rank (n.CodeIndented its.After) x = ranked 1 refl
 code_rank (n.CodeIndented its.FurtherStart) x = ranked 6 refl
+code_rank (n.CodeIndented its.FurtherLine) x = ranked 6 refl
 code_rank (n.CodeIndented its.FurtherBegin) x = ranked 3 refl
 code_rank (n.CodeIndented its.FurtherAfter) x = ranked 1 refl
 code_rank _ x = ranked 0 refl

@@ -1,5 +1,6 @@
 -- The rule of indented code, a line at a time, as what is left of it at each state (CommonMark 4.4).
-use Rattle.std.specs.Prelude.{◌≡◌, ℕ, Bool, ◌&&◌, not, nat_le, if◌then◌else◌, List, [], ◌∷◌, ◌++◌, Option, Some, None}
+use Rattle.std.specs.Prelude.{◌≡◌, ℕ, Bool, true, ◌&&◌, ◌||◌, not, nat_le, if◌then◌else◌, List, [], ◌∷◌, ◌++◌}
+use Rattle.std.specs.Prelude.{Option, Some, None}
 use Rattle.md_engine.specs.declared.configuration.ParseOptions.{ParseOptions}
 use Rattle.md_engine.specs.declared.event.Event.{Event}
 use Rattle.md_engine.specs.declared.event.Name.TheVariants.{CodeFlowChunk, CodeIndented, SpaceOrTab}
@@ -10,10 +11,11 @@ use Rattle.md_engine.specs.declared.state.code_indented.State.TheVariants as its
 use Rattle.md_engine.specs.declared.tokenizer.held_leaf.HeldLeaf.{HeldLeaf}
 use Rattle.md_engine.specs.declared.tokenizer.held_leaf.HeldLeaf.TheVariants as held_leaf
 use Rattle.md_engine.specs.Meaning.{Accepts, Behaviour, Cell, Here, Outcome, Refuses}
-use Rattle.md_lines.specs.Code.{begin_of, may_open}
+use Rattle.md_lines.specs.Code.{may_open}
+use Rattle.md_lines.specs.Further.{further_link}
 use Rattle.md_seam.specs.Ahead.{HasWhite, begins_white, from_ending, line_bytes, line_end, white_end, white_rest}
 use Rattle.md_seam.specs.Ahead.{white_size}
-use Rattle.md_seam.specs.Events.Nested.{enter, exit, pair}
+use Rattle.md_seam.specs.Events.Nested.{enter, enter_link, exit, pair}
 use Rattle.md_seam.specs.Spaces.{calmed}
 use Rattle.md_definition.specs.Bytes.{is_end}
 use Rattle.md_definition.specs.Rest.{is_blank}
@@ -57,23 +59,35 @@ at_break cells h = in_blank cells (then_here (enter CodeFlowChunk h.point) h)
 abbrev pub is_indented : List Cell → Bool
 is_indented cells = nat_le 4 (white_size 4 cells)
 
--- the whole rule of a line of code, if code is on and this leaf lets it begin
-unfoldable pub code_at : ParseOptions → List Cell → Here → Outcome
-code_at options cells h =
-    if options.constructs.code_indented && may_open h.flags.leaf && is_indented cells
-    then at_break (white_rest 4 cells) (behind_columns 4 cells (then_here (begin_of h.flags.leaf h.point) h))
+-- the rule of a line of code with this begin, where it may stand here
+unfoldable pub line_at : Bool → Event → List Cell → Here → Outcome
+line_at may begin cells h =
+    if may && is_indented cells then at_break (white_rest 4 cells) (behind_columns 4 cells (then_here begin h))
     else Refuses h.scratch h.flags
+
+-- the whole rule of the first line of code, if code is on and this leaf lets it begin
+abbrev pub code_at : ParseOptions → List Cell → Here → Outcome
+code_at options cells h =
+    line_at (options.constructs.code_indented && may_open h.flags.leaf) (enter CodeIndented h.point) cells h
+
+-- and of a further one, where code is open
+abbrev pub further_line : List Cell → Here → Outcome
+further_line cells h = line_at true (enter_link CodeIndented h.point further_link) cells h
+
+-- a blank line ends here: it goes on the code, and is one for the endings still
+abbrev pub blank_ends : List Cell → Here → Outcome
+blank_ends cells h = Accepts (record h { flags = record h.flags { blank = true } }) cells
 
 -- in what whitespace is left of a blank line
 unfoldable pub further_inside : List Cell → Here → Outcome
 further_inside cells h =
-    if is_blank (line_bytes cells) then Accepts (behind_chunk cells h) (from_ending cells)
+    if is_blank (line_bytes cells) then blank_ends (from_ending cells) (behind_chunk cells h)
     else Refuses h.scratch h.flags
 
 -- behind its first columns
 unfoldable pub further_after : List Cell → Here → Outcome
 further_after cells h =
-    if is_end (line_bytes cells) then Accepts h cells
+    if is_end (line_bytes cells) then blank_ends cells h
     else further_inside cells (then_here (enter CodeFlowChunk h.point) h)
 
 -- a line that is no line of code goes on open code if it is blank
@@ -86,8 +100,8 @@ or_blank cells h (Refuses s g) = further_begin cells (record h { scratch = s; fl
 or_blank cells h o = o
 
 -- the whole rule of a line that may go on open code
-abbrev pub code_further : ParseOptions → List Cell → Here → Outcome
-code_further options cells h = or_blank cells h (code_at options cells h)
+abbrev pub code_further : List Cell → Here → Outcome
+code_further cells h = or_blank cells h (further_line cells h)
 
 -- what is left at each state
 abbrev pub code_behaves : ParseOptions → CodeState → List Cell → Here → Outcome
@@ -96,7 +110,8 @@ code_behaves options its.AtBreak cells h = at_break cells h
 code_behaves options its.InsideBlank cells h = in_blank cells h
 code_behaves options its.Inside cells h = in_text cells h
 code_behaves options its.After cells h = code_ends cells h
-code_behaves options its.FurtherStart cells h = code_further options cells h
+code_behaves options its.FurtherStart cells h = code_further cells h
+code_behaves options its.FurtherLine cells h = further_line cells h
 code_behaves options its.FurtherBegin cells h = further_begin cells h
 code_behaves options its.FurtherAfter cells h = further_after cells h
 code_behaves options its.FurtherInside cells h = further_inside cells h
@@ -106,24 +121,29 @@ pub record HasCode (B : Behaviour) (options : ParseOptions) : Type 0 where
   pub each : (state : CodeState) (cells : List Cell) (h : Here) →
       B (n.CodeIndented state) cells h ≡ code_behaves options state cells h
 
--- A line as a whole, where this leaf is open.
+-- A line as a whole.
 
--- what is kept if it is a line of code: an indent, and text behind it
+-- what is kept if it is the first line of code, where this leaf is open: an indent, and text behind it
 abbrev pub code_begins : ParseOptions → HeldLeaf → List Cell → Option HeldLeaf
 code_begins options leaf cells =
     if options.constructs.code_indented && may_open leaf && is_indented cells && not (is_blank (line_bytes cells))
     then Some held_leaf.Code else None
 
--- what such a line adds: its indent, and a chunk over the rest
-abbrev pub code_adds : HeldLeaf → List Cell → Point → List Event
-code_adds leaf cells p =
+-- what a line of code with this begin adds: its indent, and a chunk over the rest
+abbrev pub line_adds : Event → List Cell → Point → List Event
+line_adds begin cells p =
     let q = white_end 4 cells p in
     let r = line_end cells p in
-    begin_of leaf p ∷ pair SpaceOrTab p q ++ pair CodeFlowChunk q r ++ exit CodeIndented r ∷ []
+    begin ∷ pair SpaceOrTab p q ++ pair CodeFlowChunk q r ++ exit CodeIndented r ∷ []
 
--- what is kept if a line goes on open code: it is one of code, or blank
-abbrev pub code_goes : ParseOptions → HeldLeaf → List Cell → Option HeldLeaf
-code_goes options leaf cells = if is_blank (line_bytes cells) then Some leaf else code_begins options leaf cells
+-- and what the first one adds
+abbrev pub code_adds : List Cell → Point → List Event
+code_adds cells p = line_adds (enter CodeIndented p) cells p
+
+-- what is kept if a line goes on open code: it is blank, or one of code
+abbrev pub code_goes : HeldLeaf → List Cell → Option HeldLeaf
+code_goes leaf cells =
+    if is_blank (line_bytes cells) then Some leaf else if is_indented cells then Some held_leaf.Code else None
 
 -- what a blank line adds: at most four columns of whitespace, and a chunk over the rest, if there are any
 abbrev pub blank_adds : List Cell → Point → List Event
@@ -132,17 +152,20 @@ blank_adds cells p =
     (if begins_white cells then pair SpaceOrTab p q else [])
     ++ (if is_end (line_bytes (white_rest 4 cells)) then [] else pair CodeFlowChunk q (line_end cells p))
 
-abbrev pub code_adds_on : HeldLeaf → List Cell → Point → List Event
-code_adds_on leaf cells p = if is_blank (line_bytes cells) then blank_adds cells p else code_adds leaf cells p
+-- and what any line adds that goes on
+abbrev pub code_adds_on : List Cell → Point → List Event
+code_adds_on cells p =
+    if is_blank (line_bytes cells) then blank_adds cells p
+    else line_adds (enter_link CodeIndented p further_link) cells p
 
--- a line that is taken with these events, if something is kept
-abbrev pub line_by : List Event → List Cell → Here → Option HeldLeaf → Outcome
-line_by added cells h None = Refuses h.scratch h.flags
-line_by added cells h (Some leaf) =
+-- a line that is taken with these events, if something is kept, and noted as blank or not
+abbrev pub line_by : Bool → List Event → List Cell → Here → Option HeldLeaf → Outcome
+line_by blank added cells h None = Refuses h.scratch h.flags
+line_by blank added cells h (Some leaf) =
     Accepts
     (record h {
       events = h.events ++ added;
       point = line_end cells h.point;
-      flags = record h.flags { leaf = leaf };
+      flags = record h.flags { leaf = leaf; blank = blank || h.flags.blank };
     })
     (from_ending cells)

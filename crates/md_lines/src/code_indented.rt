@@ -5,21 +5,20 @@
 //     blank_line    ::= *space_or_tab
 //
 // Each line of code is a `CodeIndented` of its own, around the `SpaceOrTab` of its four columns and a `CodeFlowChunk`
-// over the rest. One that goes on the code of a line before says so in its link: a resolver makes one block of them.
-// A blank line stands bare, as it is not known yet whether code goes on behind it: a `SpaceOrTab` of at most four
+// over the rest. A further one goes on the code of a line before, and says so in its link: a resolver makes one block of
+// them. A blank line stands bare, as it is not known yet whether code goes on behind it: a `SpaceOrTab` of at most four
 // columns, and a chunk over what whitespace is left.
 
-ghost use Rattle.std.specs.Prelude.{◌≡◌, ◌≢◌, IfSome, OnOk};
+ghost use Rattle.std.specs.Prelude.{◌≡◌, ◌≢◌, IfSome};
 ghost use Rattle.md_engine.specs.World.{world};
 ghost use Rattle.md_engine.specs.declared.state.Name.{Name as StateName};
 ghost use Rattle.md_engine.specs.declared.state.State.{State};
 ghost use Rattle.md_engine.specs.declared.state.code_indented.State.{State as CodeState};
 ghost use Rattle.md_lines.specs.Code.{after_transition, at_break_transition, code_transition};
 ghost use Rattle.md_lines.specs.Code.{further_after_transition};
-ghost use Rattle.md_lines.specs.Code.{further_begin_transition, further_inside_transition, further_start_transition};
-ghost use Rattle.md_lines.specs.Code.{inside_blank_transition, inside_transition, may_begin, may_open, opened};
-ghost use Rattle.md_lines.specs.Code.{start_transition};
-ghost use Rattle.md_seam.specs.Look.{may_with};
+ghost use Rattle.md_lines.specs.Code.{further_begin_transition, further_inside_transition, further_line_transition};
+ghost use Rattle.md_lines.specs.Code.{further_start_transition, inside_blank_transition, inside_transition};
+ghost use Rattle.md_lines.specs.Code.{may_open, start_transition};
 ghost use Rattle.md_seam.specs.Stays.{TakesEach};
 ghost use Rattle.md_seam.specs.Transition.{IsAt, NeedsNothing};
 
@@ -36,32 +35,14 @@ use md_seam::space_or_tab::{is_space_or_tab, space_or_tab_min_max};
 /// Code is indented by so many columns.
 const INDENT: usize = 4;
 
-/// Whether code may begin here, by what stands first behind whitespace: any byte may, and only the indent tells.
-pub fn may_begin(first: Option<u8>) -> bool
-    ensures { result ≡ may_with may_begin first }
-{
-    matches!(first, None | Some(_))
-}
-
-/// Whether a line of code may begin where this leaf is open: the first one, or one that goes on. Text is not
-/// interrupted, and any other leaf has ended before.
+/// Whether code may begin where this leaf is open: text is not interrupted, and any other leaf has ended before.
 fn may_open(leaf: HeldLeaf) -> bool
     ensures { result ≡ may_open leaf }
 {
-    matches!(leaf, HeldLeaf::None | HeldLeaf::Code)
+    !matches!(leaf, HeldLeaf::Text)
 }
 
-/// Begins a line of code: a further one, if code is open.
-fn open(tokenizer: &mut Tokenizer) -> Result<(), Message>
-    ensures { OnOk result (world tokenizer.new ≡ opened (world tokenizer.old)) }
-{
-    match tokenizer.flags.leaf {
-        HeldLeaf::Code => tokenizer.enter_link(Name::CodeIndented, FURTHER),
-        _ => tokenizer.enter(Name::CodeIndented),
-    }
-}
-
-/// Before a line of code.
+/// Before the first line of code.
 ///
 /// ```markdown
 /// > |     aaa
@@ -76,7 +57,7 @@ pub fn start(tokenizer: &mut Tokenizer) -> State
         && may_open(tokenizer.flags.leaf)
         && is_space_or_tab(tokenizer.current)
     {
-        or_error!(open(tokenizer));
+        or_error!(tokenizer.enter(Name::CodeIndented));
         space_or_tab_min_max(
             tokenizer,
             INDENT,
@@ -181,7 +162,34 @@ pub fn further_start(tokenizer: &mut Tokenizer) -> State
         State::Ok,
         State::Next(StateName::CodeIndented(CodeState::FurtherBegin))
     ));
-    State::Retry(StateName::CodeIndented(CodeState::Start))
+    State::Retry(StateName::CodeIndented(CodeState::FurtherLine))
+}
+
+/// Before a further line of code.
+///
+/// ```markdown
+///   |     aaa
+/// > |     bbb
+///     ^
+/// ```
+pub fn further_line(tokenizer: &mut Tokenizer) -> State
+    requires { IsAt NeedsNothing (StateName.CodeIndented CodeState.FurtherLine) (world tokenizer.old) }
+    ensures to { result ≢ State.Error → result ≡ (further_line_transition (world tokenizer.old)).to }
+    ensures world { result ≢ State.Error →
+        world tokenizer.new ≡ (further_line_transition (world tokenizer.old)).world }
+{
+    if is_space_or_tab(tokenizer.current) {
+        or_error!(tokenizer.enter_link(Name::CodeIndented, FURTHER));
+        space_or_tab_min_max(
+            tokenizer,
+            INDENT,
+            INDENT,
+            State::Next(StateName::CodeIndented(CodeState::AtBreak)),
+            State::Nok,
+        )
+    } else {
+        State::Nok
+    }
 }
 
 /// Before a line that is no line of code.
@@ -210,7 +218,7 @@ pub fn further_begin(tokenizer: &mut Tokenizer) -> State
     }
 }
 
-/// Behind its first columns: it goes on the code if it is blank.
+/// Behind its first columns: it goes on the code if it is blank, and is a blank line still.
 ///
 /// ```markdown
 ///   |     aaa
@@ -224,7 +232,10 @@ pub fn further_after(tokenizer: &mut Tokenizer) -> State
         world tokenizer.new ≡ (further_after_transition (world tokenizer.old)).world }
 {
     match tokenizer.current {
-        None | Some(b'\n') => State::Ok,
+        None | Some(b'\n') => {
+            tokenizer.flags.blank = true;
+            State::Ok
+        }
         Some(_) => {
             or_error!(tokenizer.enter(Name::CodeFlowChunk));
             State::Retry(StateName::CodeIndented(CodeState::FurtherInside))
@@ -248,6 +259,7 @@ pub fn further_inside(tokenizer: &mut Tokenizer) -> State
     match tokenizer.current {
         None | Some(b'\n') => {
             or_error!(tokenizer.exit(Name::CodeFlowChunk));
+            tokenizer.flags.blank = true;
             State::Ok
         }
         Some(b'\t' | b' ') => {
@@ -283,6 +295,7 @@ pub fn call(tokenizer: &mut Tokenizer, state: CodeState) -> State
         CodeState::Inside => inside(tokenizer),
         CodeState::After => after(tokenizer),
         CodeState::FurtherStart => further_start(tokenizer),
+        CodeState::FurtherLine => further_line(tokenizer),
         CodeState::FurtherBegin => further_begin(tokenizer),
         CodeState::FurtherAfter => further_after(tokenizer),
         CodeState::FurtherInside => further_inside(tokenizer),

@@ -9,6 +9,7 @@ pub enum State {
     Inside,
     After,
     FurtherStart,
+    FurtherLine,
     FurtherBegin,
     FurtherAfter,
     FurtherInside,
