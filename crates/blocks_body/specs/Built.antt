@@ -5,13 +5,14 @@ use Rattle.md_program.specs.Listing.{Listing}
 use Rattle.md_definition.specs.Meaning.{tree}
 use Rattle.md_definition.specs.Outline.{outline}
 
--- what is asked for, as far as it is there: block quotes, list items, fenced code and math, ATX headings and breaks alone
+-- what is asked for, as far as it is there: block quotes, list items, indented and fenced code, math, ATX headings and
+-- breaks alone
 abbrev pub built_from : ParseOptions → ParseOptions
 built_from options = record {
   constructs = record {
     block_quote = options.constructs.block_quote;
     code_fenced = options.constructs.code_fenced;
-    code_indented = false;
+    code_indented = options.constructs.code_indented;
     definition = false;
     frontmatter = false;
     gfm_footnote_definition = false;

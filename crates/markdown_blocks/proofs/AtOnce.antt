@@ -1,7 +1,6 @@
 -- Prefixes that are taken at once are what the states of containers take.
 use Rattle.std.proofs.Common.{◌≡◌, Bool, true, false, Option, Some, None, refl, sym, ◌∙◌, ap}
-use Rattle.markdown_blocks.specs.Registry.{insider}
-use Rattle.std.specs.Option.{is_some}
+use Rattle.markdown_blocks.specs.Registry.{shuts_out}
 use Rattle.markdown_blocks.specs.Flow.{behind_all}
 use Rattle.std.proofs.Common.{subst}
 use Rattle.md_engine.specs.declared.resolve.name.Name.{Name as ResolveName}
@@ -100,7 +99,7 @@ existing-code-remains : (w : World) (ends : Bool) (o : Option Container) →
     Remains (existing_before_code w ends o).to w (existing_before_code w ends o).world ×
     ((existing_before_code w ends o).world.setting ≡ w.setting)
 existing-code-remains w true o = ((refl, refl), refl)
-existing-code-remains w false None = behind (is_some (insider w.flags.leaf))
+existing-code-remains w false None = behind (shuts_out w.flags.leaf)
   where
     behind : (x : Bool) →
         Remains (Retry (n.Document (behind_all x))) w w × (w.setting ≡ w.setting)

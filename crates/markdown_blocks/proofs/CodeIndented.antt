@@ -1,4 +1,5 @@
 -- Indented code: what stands on its lines, and on blank ones where it is open, and their laws.
+pub mod Look
 pub mod Trial
 pub mod Cells
 pub mod Found
@@ -13,4 +14,6 @@ pub mod Blank
 pub mod Rows
 pub mod Walk
 pub mod Closed
+pub mod Split
+pub mod Lines
 pub mod Span

@@ -2,12 +2,10 @@
 use Rattle.md_engine.specs.declared.tokenizer.held_leaf.HeldLeaf.TheVariants as held_leaf
 use Rattle.std.proofs.Common.{◌≡◌, ℕ, Bool, true, false, cond, List, [], ◌∷◌, ◌++◌, refl, ap, sym, ◌∙◌, subst}
 use Rattle.std.proofs.Common.{append_assoc}
-use Rattle.std.proofs.lemmas.Bool.{and_right}
-use Rattle.markdown_blocks.proofs.GroupsAre.{AreSpan, Begins, IsSpanLine, line-further, span-begins}
-use Rattle.markdown_blocks.proofs.Registry.{insider-further}
+use Rattle.markdown_blocks.proofs.GroupsAre.{AreSpan}
 use Rattle.markdown_blocks.specs.Registry.{leaf}
-use Rattle.markdown_blocks.specs.Rows.{Span, is_blank_by, is_blank_row, is_empty_row, is_further, last_row, onto_leaf}
-use Rattle.std.specs.Prelude.{◌&&◌, ◌==◌, Option, Some, None, not}
+use Rattle.markdown_blocks.specs.Rows.{Span, is_blank_by, is_further, last_row, onto_leaf}
+use Rattle.std.specs.Prelude.{Option, Some, None, not}
 use Rattle.md_engine.specs.declared.configuration.ParseOptions.{ParseOptions}
 use Rattle.md_engine.specs.declared.event.Event.{Event}
 use Rattle.md_engine.specs.declared.event.Name.{Name}
@@ -27,15 +25,12 @@ use Rattle.markdown_blocks.specs.Rows.{final_row, first_row, group_done, BlankRo
 use Rattle.markdown_blocks.specs.Rows.{RowKind, Single, TextRow, ending_events, goes_on, group_events, groups}
 use Rattle.markdown_blocks.specs.Rows.{groups_events, onto_groups, tail_events, LeafRow}
 use Rattle.markdown_blocks.specs.Rows.{group_ending, is_blank_group}
-use Rattle.markdown_blocks.specs.LineFlags.{ending_name}
 use Rattle.markdown_blocks.specs.Unread.{group_unread, listed_group, listed_groups}
+use Rattle.markdown_blocks.proofs.EndingFacts.{ending-leads}
 use Rattle.markdown_blocks.proofs.GroupLemmas.{AreGroups, EndsBeforeGroups, HasFront, IsSingle, groups-are, rows-end}
 use Rattle.markdown_blocks.proofs.JoinedLemmas.{EachEnds, EachNoContent, ending-is}
 use Rattle.markdown_blocks.proofs.RowFacts.{AreRows}
-use Rattle.markdown_blocks.proofs.RowLeaf.{block_of, leaf-some, row-facts}
-use Rattle.markdown_blocks.proofs.FrontFacts.{LinePrefix}
-use Rattle.markdown_blocks.proofs.FrontPlaces.{fronts-columns}
-use Rattle.markdown_blocks.proofs.SpanLaws.{is_bare, is_bare_row}
+use Rattle.markdown_blocks.proofs.RowLeaf.{block_of, row-facts}
 use Rattle.markdown_blocks.proofs.FrontStands.{container-others, fronts-others}
 use Rattle.markdown_blocks.proofs.GroupFacts.{group-front, more-groups, span-block, span-leaf}
 use Rattle.markdown_blocks.proofs.Text.Facts.{kept-of, text-facts}
@@ -168,53 +163,16 @@ line-stands bytes leaf s name row last es gs front h same ends before on =
     (fronts-others bytes row.change.opens front.0 row.first row.front front.1)) h behind
     ∙ tail-stands leaf s name last gs same ends before on
 
--- where a line stands behind its leaf, it is filled or not,
+-- where a line stands behind its leaf, it is filled or not
 spot-filled : (filled : Bool) → is_filled (spot_behind filled) ≡ (spot_behind filled).after_leaf
 spot-filled true = refl
 spot-filled false = refl
 
--- and ends with the name of this
-ending-leads : (blank : Bool) (p q : Point) → Leads (spot_behind (not blank)) line_start (pair (ending_name blank) p q)
-ending-leads true p q ys = refl
-ending-leads false p q ys = refl
-
--- A line of a leaf of several is blank to its ending if it is bare: nothing stands on it, and no prefix in front. One
--- that goes on no leaf never is,
-begun-bare : (options : ParseOptions) (bytes : List ℕ) (row : Row) → IsSpanLine options bytes row → Begins row →
-    is_blank_row row ≡ is_bare_row row
-begun-bare options bytes row is begins =
-    let some : is_empty_row row ≡ false =
-    leaf-some options bytes is.line row is.name is.is is.kind
-    (λ i. let bad : true ≡ false = sym (insider-further row.on is.name i)
-    ∙ line-further options bytes row is false begins in cc) in
-    ap (λ (kind : RowKind). is_blank_by kind row) is.kind
-    ∙ is.is.empty
-    ∙ ap (λ (x : Bool). x && (row.first.column == 1)) some
-    ∙ sym (and_right (is_bare row.front) (is_empty_row row) some)
-
--- and a further one stands behind an ending, so that prefixes alone take columns.
-further-bare : (options : ParseOptions) (bytes : List ℕ) (row : Row) (q : Point) → IsSpanLine options bytes row →
-    LinePrefix bytes [] q row.first row.front → q.column ≡ 1 → is_blank_row row ≡ is_bare_row row
-further-bare options bytes row q is front one =
-    ap (λ (kind : RowKind). is_blank_by kind row) is.kind
-    ∙ is.is.empty
-    ∙ turned (is_empty_row row) (row.first.column == 1)
-    ∙ ap (λ (n : ℕ). (row.first.column == n) && is_empty_row row) (sym one)
-    ∙ ap (λ (x : Bool). x && is_empty_row row) (sym (fronts-columns bytes [] q row.first row.front front refl).1)
-  where
-    turned : (x y : Bool) → (x && y) ≡ (y && x)
-    turned true true = refl
-    turned true false = refl
-    turned false true = refl
-    turned false false = refl
-
--- So is the last of them.
-span-bare : (options : ParseOptions) (bytes : List ℕ) (row : Row) (rows : List Row) → AreSpan options bytes row rows →
-    is_blank_row row ≡ is_bare_row row → is_blank_group (Span row rows) ≡ is_bare_row (last_row row rows)
-span-bare options bytes row [] are bare = bare
-span-bare options bytes row (next ∷ rows) are bare =
-    span-bare options bytes next rows are.8
-    (further-bare options bytes next are.1 (span-begins options bytes next rows are.8) are.4 are.3.column)
+-- the lines of a leaf of several end as the last of them does
+span-blank : (options : ParseOptions) (bytes : List ℕ) (row : Row) (rows : List Row) → AreSpan options bytes row rows →
+    is_blank_group (Span row rows) ≡ (last_row row rows).empty
+span-blank options bytes row [] are = ap (λ (kind : RowKind). is_blank_by kind row) are.kind
+span-blank options bytes row (next ∷ rows) are = span-blank options bytes next rows are.8
 
 -- the leaf of each group is such
 group-ends : (options : ParseOptions) (bytes : List ℕ) (group : Group) (gs : List Group) →
@@ -231,11 +189,10 @@ group-ends options bytes (Span row rows) gs are =
       block = Some block;
       facts =
           subst
-          (λ (bare : Bool).
-          LeafFacts bytes (Some block) (not bare) row.first (last_row row rows).end
+          (λ (blank : Bool).
+          LeafFacts bytes (Some block) (not blank) row.first (last_row row rows).end
           (group_unread bytes (Span row rows)) (group_done bytes (Span row rows)))
-          (sym (span-bare options bytes row rows are.0 (begun-bare options bytes row
-          (span-begins options bytes row rows are.0) are.4))) (span-leaf options bytes row rows are.0 are.4);
+          (sym (span-blank options bytes row rows are.0)) (span-leaf options bytes row rows are.0 are.4);
     }
 group-ends options bytes (Lines row rows) gs are =
     record {

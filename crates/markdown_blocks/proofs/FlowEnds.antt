@@ -1,7 +1,6 @@
 -- Flow takes every text to its end.
 use Rattle.std.proofs.Common.{◌≡◌, ℕ, zero, suc, ◌<◌, ◌≤◌, Bool, true, false, List, [], ◌∷◌, length, Option, Some, None, refl, arith}
-use Rattle.std.specs.Option.{is_some}
-use Rattle.markdown_blocks.specs.Registry.{insider}
+use Rattle.markdown_blocks.specs.Registry.{insider, shuts_out}
 use Rattle.markdown_blocks.specs.FlowRule.{all_on, blank_at_end, inside_by, inside_of}
 use Rattle.markdown_blocks.specs.FlowRule.{behind_leaf}
 use Rattle.md_engine.specs.declared.configuration.ParseOptions.{ParseOptions}
@@ -158,7 +157,7 @@ opened-finishes options next cells h ends = new-finishes options next (suc (leng
 asked-finishes : (options : ParseOptions) (next further : Rule) (o : Option Container) (cells : List Cell) (h : Here) →
     ends_line (first_seen cells) ≡ false → Ends (length cells) next → Ends (length cells) further →
     Finishes (existing_by options next further o cells h)
-asked-finishes options next further None cells h e ends more = go (is_some (insider h.flags.leaf))
+asked-finishes options next further None cells h e ends more = go (shuts_out h.flags.leaf)
   where
     go : (x : Bool) → Finishes (all_on options next x cells h)
     go true = behind-finishes options next cells h ends

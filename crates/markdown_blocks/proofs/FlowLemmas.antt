@@ -1,7 +1,6 @@
 -- Flow goes line by line.
 use Rattle.std.proofs.Common.{◌≡◌, ℕ, zero, suc, ◌<◌, ◌≤◌, Bool, true, false, cond, nat_eq, List, [], ◌∷◌, length, Option, Some, None}
-use Rattle.std.specs.Option.{is_some}
-use Rattle.markdown_blocks.specs.Registry.{insider}
+use Rattle.markdown_blocks.specs.Registry.{insider, shuts_out}
 use Rattle.markdown_blocks.specs.FlowRule.{all_on, blank_at_end, inside_by, inside_of}
 use Rattle.markdown_blocks.specs.FlowRule.{behind_leaf}
 use Rattle.std.proofs.Common.{refl, ap, arith}
@@ -177,7 +176,7 @@ existing_by-same : (options : ParseOptions) (f g further other : Rule) (o : Opti
     (h : Here) →
     ends_line (first_seen cells) ≡ false → Agree (length cells) f g → Agree (length cells) further other →
     existing_by options f further o cells h ≡ existing_by options g other o cells h
-existing_by-same options f g further other None cells h ends agree more = go (is_some (insider h.flags.leaf))
+existing_by-same options f g further other None cells h ends agree more = go (shuts_out h.flags.leaf)
   where
     go : (x : Bool) → all_on options f x cells h ≡ all_on options g x cells h
     go true = behind_containers-same options f g cells h agree

@@ -3,7 +3,7 @@ use Rattle.std.proofs.Common.{◌≡◌, ◌⊎◌, inl, inr, ℕ, Bool, true, f
 use Rattle.markdown_blocks.specs.FlowRule.{leaf_of}
 use Rattle.markdown_blocks.specs.FlowRule.{all_on, inside_by, inside_of}
 use Rattle.markdown_blocks.specs.Flow.{behind_all, inside_code, leaf_front}
-use Rattle.markdown_blocks.specs.Registry.{insider}
+use Rattle.markdown_blocks.specs.Registry.{insider, shuts_out}
 use Rattle.std.specs.Option.{is_some}
 use Rattle.markdown_blocks.specs.FlowRule.{behind_leaf}
 use Rattle.markdown_blocks.specs.Flow.{leaf_end}
@@ -39,13 +39,14 @@ use Rattle.md_content.proofs.ContentSteps.{chunk_steps}
 use Rattle.md_leaves.specs.Blank as blank
 use Rattle.md_leaves.proofs.BlankLook.{blank-ended, blank-refused}
 use Rattle.md_leaves.proofs.BlankSteps.{blank_steps}
+use Rattle.md_seam.specs.Ahead.{begins_white}
 use Rattle.md_seam.specs.Events.Nested.{enter, exit, pair}
 use Rattle.md_seam.specs.Look.{looks_behind, may_with}
-use Rattle.md_seam.specs.Spaces.{IsRest, ends_line}
+use Rattle.md_seam.specs.Spaces.{IsRest, ends_line, sees_white}
 use Rattle.md_seam.specs.Transition.{Transition, entered, exited, taken}
 use Rattle.md_seam.proofs.LookLemmas.{first-seen, refused-first}
 use Rattle.md_seam.proofs.SpacesGoods.{does-stands}
-use Rattle.md_seam.proofs.WhiteSteps.{white_steps}
+use Rattle.md_seam.proofs.WhiteSteps.{begins-seen, white_steps}
 use Rattle.markdown_blocks.specs.Document.{document_own_transition}
 use Rattle.markdown_blocks.specs.Fed.{feeds}
 use Rattle.markdown_blocks.specs.Flow.{after_transition, before_content_transition, before_transition}
@@ -160,7 +161,7 @@ existing_before_steps B feed w options next false None has s is e k =
     passes B feed _ _ w w refl refl
     (existing_left B feed w options next false has s e
     ∙ ap (λ (o : Option Container). existing_by options next (line_then options next) o (feed w.point) (here w)) k
-    ∙ sym (all_left B options next has (is_some (insider w.flags.leaf)) (feed w.point) (here w)))
+    ∙ sym (all_left B options next has (shuts_out w.flags.leaf) (feed w.point) (here w)))
 existing_before_steps B feed w options next false (Some c) has s is e k =
     let onward : Rule = λ rest k. line_then options next rest (record k { flags = went_on k.flags }) in
     let otherwise : Scratch → Flags → Outcome =
@@ -318,7 +319,8 @@ before_steps : (l : LeafName) (B : Behaviour) (feed : Feed) (w : World) (options
 before_steps l B feed w options next tried_is has s is asked =
     let otherwise : Scratch → Flags → Outcome =
     λ s g. leaves_of options next (behind l) (feed w.point) (record (here w) { scratch = s; flags = g }) in
-    trial_steps B feed w w.flags _ _ _ _ (may_with (leaf l).may_begin (looks_behind w)) (record {
+    let begins : ℕ → Bool = (leaf l).may_begin (sees_white w.current) in
+    trial_steps B feed w w.flags _ _ _ _ (may_with begins (looks_behind w)) (record {
       onward = behind_leaf (leaf l).ends next;
       otherwise = otherwise;
       from_is =
@@ -327,9 +329,11 @@ before_steps l B feed w options next tried_is has s is asked =
       ok_is = flow-ends B options next has (leaf l).ends;
       nok_is = λ s g. has.leaves (next_of l) _ _ ∙ left-next options next l _ _ tried_is;
       looked = λ no.
-          let first = refused-first (leaf l).may_begin feed w s no in
+          let first = refused-first begins feed w s no in
+          let none : (leaf l).may_begin (begins_white (feed w.point)) first.0 ≡ false =
+          ap (λ (white : Bool). (leaf l).may_begin white first.0) (begins-seen feed w s) ∙ first.2 in
           has.starts l _ _
-          ∙ (laws l).refused options _ (here w) asked is ((laws l).looked options _ _ first.0 first.1 first.2);
+          ∙ (laws l).refused options _ (here w) asked is ((laws l).looked options _ _ first.0 first.1 none);
     })
 
 before_content_steps : (B : Behaviour) (feed : Feed) (w : World) (options : ParseOptions) (next : Rule) →

@@ -2,10 +2,10 @@
 use Rattle.markdown_blocks.specs.HeldLeaf.{takes_lazy}
 use Rattle.md_engine.specs.declared.tokenizer.held_leaf.HeldLeaf.TheVariants as held_leaf
 use Rattle.md_engine.specs.declared.tokenizer.held_leaf.HeldLeaf.{HeldLeaf}
-use Rattle.std.proofs.Common.{◌≡◌, ℕ, zero, suc, ◌+◌, ◌<◌, ◌≤◌, Bool, true, false, cond, ◌&&◌, nat_eq, List, [], ◌∷◌}
-use Rattle.std.specs.Option.{is_some}
+use Rattle.std.proofs.Common.{◌≡◌, ℕ, zero, suc, ◌+◌, ◌<◌, ◌≤◌, Bool, true, false, cond, ◌&&◌, ◌||◌, nat_eq, List, []}
+use Rattle.std.proofs.Common.{◌∷◌}
 use Rattle.markdown_blocks.specs.Rows.{inside_or, is_inside}
-use Rattle.markdown_blocks.specs.Registry.{insider}
+use Rattle.markdown_blocks.specs.Registry.{insider, shuts_out}
 use Rattle.markdown_blocks.specs.FlowRule.{all_on, blank_at_end, inside_by}
 use Rattle.markdown_blocks.specs.FlowRule.{inside_of as asked_inside}
 use Rattle.std.specs.Prelude.{not}
@@ -54,9 +54,9 @@ use Rattle.markdown_blocks.specs.Passed.{Passed, passed_by, passed_here, passed_
 use Rattle.markdown_blocks.specs.Registry.{container_rules, first_of, goes_at, leaf, LeafName, MatchesContainer, openers}
 use Rattle.markdown_blocks.specs.Registry.{goes_over, opens_at, opens_by, trials}
 use Rattle.markdown_blocks.specs.Rows.{leaf_behind, BlankRow, Front, Held, LeafRow, Row, RowKind, TextRow, after_ending}
-use Rattle.markdown_blocks.specs.Rows.{closes_before, ending_of, held_at, held_by, held_of, in_front, inside_of}
+use Rattle.markdown_blocks.specs.Rows.{closes_before, ending_of, ends_blank, held_at, held_by, held_of, in_front}
 use Rattle.markdown_blocks.specs.Rows.{is_lazy, is_text, kind_of, leaf_events, new_front, no_front, row_events}
-use Rattle.markdown_blocks.specs.Rows.{is_blank_by, row_kind, row_of, rows_at, rows_events, went_front}
+use Rattle.markdown_blocks.specs.Rows.{inside_of, is_blank_by, row_kind, row_of, rows_at, rows_events, went_front}
 use Rattle.markdown_blocks.specs.Stands.{AreOpen}
 use Rattle.markdown_blocks.proofs.ContainedLemmas.{lazy-some}
 use Rattle.markdown_blocks.proofs.FromEnding.{from_ending-shrinks}
@@ -75,7 +75,7 @@ added_by options on cells p kind = inside_of options on cells p kind
 -- whether the line is blank to its ending
 abbrev pub blank_by : RowKind → List Cell → Point → Bool
 blank_by BlankRow cells p = true
-blank_by (LeafRow l) cells p = nothing_stands (first_seen cells) p
+blank_by (LeafRow l) cells p = ends_blank (LeafRow l) cells p
 blank_by TextRow cells p = false
 
 -- behind it, where the flags say which leaf it meets
@@ -111,26 +111,32 @@ leaf-left : (options : ParseOptions) (next : Rule) (l : LeafName) (cells : List 
       point = line_end cells h.point;
       flags = record h.flags {
         leaf = left_open ends ((leaf l).keeps options h.flags.leaf cells h.point) h.flags.leaf;
+        blank = ((leaf l).stays_blank && is_blank (line_bytes cells)) || h.flags.blank;
       };
     }) ≡
     line_ended next (from_ending cells) (leaf_here options cells h (LeafRow l))
 leaf-left options next l cells h true flag e =
     ap₂
-    (λ (kept : HeldLeaf) (blank : Bool).
+    (λ (kept : HeldLeaf) (nothing : Bool).
     line_ended next (from_ending cells)
     (record h {
       events = h.events ++ (leaf l).adds options h.flags.leaf cells h.point;
       point = line_end cells h.point;
-      flags = record h.flags { leaf = kept; blank = blank };
+      flags =
+          record h.flags { leaf = kept; blank = ((leaf l).stays_blank && is_blank (line_bytes cells)) || nothing };
     })) (sym (((laws l).shut e options h.flags.leaf).0 cells h.point)) flag
 leaf-left options next l cells h false flag e =
     ap
-    (λ (blank : Bool).
+    (λ (nothing : Bool).
     line_ended next (from_ending cells)
     (record h {
       events = h.events ++ (leaf l).adds options h.flags.leaf cells h.point;
       point = line_end cells h.point;
-      flags = record h.flags { leaf = (leaf l).keeps options h.flags.leaf cells h.point; blank = blank };
+      flags =
+          record h.flags {
+            leaf = (leaf l).keeps options h.flags.leaf cells h.point;
+            blank = ((leaf l).stays_blank && is_blank (line_bytes cells)) || nothing;
+          };
     })) flag
 
 -- where the line goes on here something stands on it
@@ -248,7 +254,7 @@ inside-is options next cells h few is flag = by (insider h.flags.leaf) refl
             (record h {
               events = h.events ++ (leaf l).adds options h.flags.leaf cells h.point;
               point = line_end cells h.point;
-              flags = record h.flags { leaf = held ends; blank = nothing_stands (first_seen cells) h.point };
+              flags = record h.flags { leaf = held ends; blank = ends_blank (LeafRow l) cells h.point };
             })) (insider-open h.flags.leaf l e)
         go false e' =
             ap onward ((laws l).refused options cells here (insider-asked h.flags.leaf l e) is e')
@@ -403,15 +409,15 @@ left_of options next true inside cells h = behind_containers options next cells 
 left_of options next false inside cells h = all_on options next inside cells h
 
 -- whether such a leaf is open
-inside-all : (still : HeldLeaf) → is_inside still [] ≡ is_some (insider still)
-inside-all still = go (is_some (insider still))
+inside-all : (still : HeldLeaf) → is_inside still [] ≡ shuts_out still
+inside-all still = go (shuts_out still)
   where
     go : (x : Bool) → (x && true) ≡ x
     go true = refl
     go false = refl
 
 inside-some : (still : HeldLeaf) (c : Container) (cs : List Container) → is_inside still (c ∷ cs) ≡ false
-inside-some still c cs = go (is_some (insider still))
+inside-some still c cs = go (shuts_out still)
   where
     go : (x : Bool) → (x && false) ≡ false
     go true = refl
@@ -1273,7 +1279,8 @@ leaf-added options x ls below (LeafRow l) = refl
 leaf-added options x ls below TextRow = refl
 
 ending-named : (options : ParseOptions) (x : Held) (ls : List Container) (below : List Row) (k : RowKind) →
-    blank_by k x.cells x.point ≡ is_blank_by k (leaving ls (row_of options x below))
+    blank_by k x.cells x.point ≡
+    is_blank_by k (record (row_of options x below) { leaves = ls; empty = ends_blank k x.cells x.point })
 ending-named options x ls below BlankRow = refl
 ending-named options x ls below (LeafRow l) = refl
 ending-named options x ls below TextRow = refl

@@ -3,7 +3,7 @@ use Rattle.std.proofs.Common.{◌≡◌, ℕ, ◌<◌, Bool, true, false, nat_eq
 use Rattle.md_engine.specs.declared.state.State.TheVariants.{Retry}
 use Rattle.markdown_blocks.specs.LineFlags.{begun_line}
 use Rattle.markdown_blocks.specs.Flow.{behind_all, inside_code, leaf_front}
-use Rattle.markdown_blocks.specs.Registry.{insider}
+use Rattle.markdown_blocks.specs.Registry.{insider, shuts_out}
 use Rattle.std.specs.Option.{is_some}
 use Rattle.markdown_blocks.specs.Flow.{leaf_end}
 use Rattle.md_engine.specs.declared.state.Name.{Name as StateName}
@@ -24,7 +24,7 @@ use Rattle.md_engine.proofs.Points.{passes-reaches, stays, takes}
 use Rattle.md_content.specs.Chunks.{chunk_scheme}
 use Rattle.md_leaves.specs.Blank.{blank_scheme, may_begin}
 use Rattle.md_seam.specs.Look.{looks_behind, may_with}
-use Rattle.md_seam.specs.Spaces.{IsRest, ends_line, rest_ready}
+use Rattle.md_seam.specs.Spaces.{IsRest, ends_line, rest_ready, sees_white}
 use Rattle.md_seam.proofs.SpacesGoods.{Does, seen-some}
 use Rattle.markdown_blocks.specs.Flow.{after_transition, before_content_transition, before_transition}
 use Rattle.markdown_blocks.specs.Flow.{blank_line_after_transition, blank_line_code, containers_after_transition}
@@ -140,7 +140,7 @@ good_existing_before T w true o has inner r is = (
   turns T flow_scheme _ _ w w.events w.scratch has.existing_before has.containers_after r (omega arith) (omega arith),
   refl,
 )
-good_existing_before T w false None has inner r is = behind-all T w has r (is_some (insider w.flags.leaf))
+good_existing_before T w false None has inner r is = behind-all T w has r (shuts_out w.flags.leaf)
 good_existing_before T w false (Some c) has inner r is =
     let i : ContainerFits T IsWithin (goes_on_with c.kind) = inner c.kind in
     looked T _ _ _ _ w (asking c w).flags
@@ -278,7 +278,8 @@ pub good_before : (T : Scheme) (l : LeafName) (w : World) → FlowFits T → Lea
 good_before T l w has inner r =
     let a = inner.falls in
     let b = inner.next_low in
-    looked T _ _ _ _ w w.flags (may_with (leaf l).may_begin (looks_behind w)) inner.front inner.next r (omega (arith, a, b)) (
+    let may : Bool = may_with ((leaf l).may_begin (sees_white w.current)) (looks_behind w) in
+    looked T _ _ _ _ w w.flags may inner.front inner.next r (omega (arith, a, b)) (
       begins_try T flow_scheme inner.own (n.Flow (leaf l).before) (leaf l).start w IsRest IsRest
           w.events w.scratch _ inner.front inner.starts (ends-fit T has (leaf l).ends) inner.next refl
           (flow_tries (n.Flow (leaf_end (leaf l).ends)) (n.Flow (next_of l)) w

@@ -4,13 +4,12 @@ use Rattle.md_engine.specs.declared.event.Event.{Event}
 use Rattle.md_engine.specs.declared.event.Name.{Name}
 use Rattle.md_engine.specs.declared.event.Point.{Point}
 use Rattle.md_seam.specs.Events.Grammar.{Expression, behind_block, blocks, may_end}
-use Rattle.md_seam.specs.Events.Nested.{enter, exit, pair}
+use Rattle.md_seam.specs.Events.Nested.{enter, exit}
 use Rattle.md_definition.specs.State.{Container}
 use Rattle.md_containers.specs.ItemsStand.{IsPart}
 use Rattle.md_containers.specs.Unlisted.{unlisted_left}
 use Rattle.md_containers.proofs.UnlistedLemmas.{Unlists, unlists-append, unlists-rest, unlists-same}
 use Rattle.md_seam.proofs.GrammarLemmas.{Leads, leads-append}
-use Rattle.markdown_blocks.specs.LineFlags.{ending_name}
 use Rattle.markdown_blocks.specs.Registry.{container_name}
 use Rattle.markdown_blocks.specs.Change.{ends_of}
 use Rattle.markdown_blocks.proofs.FrontFacts.{Begins, Behind, LinePrefix, Goes}
@@ -97,11 +96,3 @@ ends-lead text (c ∷ cs) p block =
           (behind_block ∷ outer) (ends_of cs p) (exit name p ∷ []) inner.1
           ∙ ap (λ (b : Bool). cond b (behind_block ∷ outer) []) (behind-ends inner.0),
     )
-
--- and the line does
-pub ending-leads : (text : Expression) (blank : Bool) (p q : Point) (block : Bool) →
-    Unlists text (blocks_behind block ∷ []) (blocks ∷ []) (pair (ending_name blank) p q)
-ending-leads text true p q true outer = refl
-ending-leads text true p q false outer = refl
-ending-leads text false p q true outer = refl
-ending-leads text false p q false outer = refl

@@ -2,10 +2,10 @@
 use Rattle.md_engine.specs.declared.tokenizer.held_leaf.HeldLeaf.TheVariants as held_leaf
 use Rattle.std.proofs.Common.{◌≡◌, ℕ, Bool, true, false, cond, List, [], ◌∷◌, ◌++◌, refl, ap, sym, ◌∙◌, append_assoc}
 use Rattle.markdown_blocks.specs.LineFlags.{ending_name}
+use Rattle.markdown_blocks.proofs.EndingFacts.{ending-unlists}
 use Rattle.markdown_blocks.proofs.EndingRows.{EachEnded, groups-ended}
 use Rattle.std.specs.Prelude.{Option, Some, None}
 use Rattle.std.specs.List.{list_any}
-use Rattle.std.specs.Option.{is_some}
 use Rattle.std.proofs.lemmas.Bool.{or_left, or_right}
 use Rattle.md_engine.specs.declared.configuration.ParseOptions.{ParseOptions}
 use Rattle.md_engine.specs.declared.event.Event.{Event}
@@ -25,7 +25,7 @@ use Rattle.markdown_blocks.specs.Rows.{ending_events, group_events, groups}
 use Rattle.markdown_blocks.specs.Rows.{groups_events, tail_events}
 use Rattle.markdown_blocks.specs.Unread.{group_unread, listed_group, listed_groups}
 use Rattle.markdown_blocks.proofs.ContainerNames.{open_names}
-use Rattle.markdown_blocks.proofs.GrammarFronts.{behind-ends, behinds, behinds-append, blocks_behind, ending-leads}
+use Rattle.markdown_blocks.proofs.GrammarFronts.{behind-ends, behinds, behinds-append, blocks_behind}
 use Rattle.markdown_blocks.proofs.GrammarFronts.{ends-lead, front-leads}
 use Rattle.markdown_blocks.proofs.GroupLemmas.{EndsBeforeGroups, rows-end}
 use Rattle.markdown_blocks.proofs.JoinedLemmas.{EachNoContent, ending-is}
@@ -97,7 +97,7 @@ ending-whole text each block kept row blank gs ends h = go row.after refl gs end
         (ending-is (ending_name blank) row q after)
         ∙ ap is_whole
         (unlists-rest text (blocks_behind block ∷ []) (blocks ∷ []) (behinds kept)
-        (pair (ending_name blank) row.end q) more (ending-leads text blank row.end q block))
+        (pair (ending_name blank) row.end q) more (ending-unlists text blank row.end q block))
         ∙ k
 
     go : (after : Option Point) → row.after ≡ after → (gs : List Group) → EndsBeforeGroups row gs →
@@ -197,11 +197,11 @@ rows-keep options bytes text each lines rows reads are quiet = go (has_mark byte
 unread-reads : (bytes : List ℕ) → Reads bytes unread_text (listed_group bytes)
 unread-reads bytes group is =
     let leaf : List Event = group_unread bytes group in (
-      is_some is.0,
+      is.2.behind,
       record {
         leaf = leaf;
         leads =
-            unlists-same unread_text (blocks ∷ []) (blocks_behind (is_some is.0) ∷ []) leaf is.2.unread_unlisted
+            unlists-same unread_text (blocks ∷ []) (blocks_behind is.2.behind ∷ []) leaf is.2.unread_unlisted
             is.2.unread_word;
         is = refl;
       },
@@ -226,11 +226,10 @@ blocks-grammar options bytes lines rows are quiet =
 group-reads : (bytes : List ℕ) → Reads bytes plain_text (group_events bytes)
 group-reads bytes group is =
     let leaf : List Event = group_done bytes group in (
-      is_some is.0,
+      is.2.behind,
       record {
         leaf = leaf;
-        leads =
-            unlists-same plain_text (blocks ∷ []) (blocks_behind (is_some is.0) ∷ []) leaf is.2.unlisted is.2.word;
+        leads = unlists-same plain_text (blocks ∷ []) (blocks_behind is.2.behind ∷ []) leaf is.2.unlisted is.2.word;
         is = refl;
       },
     )

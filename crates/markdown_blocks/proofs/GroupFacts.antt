@@ -13,7 +13,6 @@ use Rattle.markdown_blocks.specs.Unread.{group_unread}
 use Rattle.markdown_blocks.proofs.GroupLemmas.{AreGroups, AreLines, HasFront}
 use Rattle.markdown_blocks.proofs.LeafFacts.{LeafFacts}
 use Rattle.markdown_blocks.proofs.RowLeaf.{row-leaf}
-use Rattle.markdown_blocks.proofs.SpanLaws.{is_bare_row}
 use Rattle.markdown_blocks.proofs.Text.Facts.{kept-of, text-facts}
 
 -- whichever block it shows
@@ -38,7 +37,7 @@ span-block options bytes row rows are =
 
 pub span-leaf : (options : ParseOptions) (bytes : List ℕ) (row : Row) (rows : List Row) →
     (are : AreSpan options bytes row rows) → Begins row →
-    LeafFacts bytes (Some (span-block options bytes row rows are)) (not (is_bare_row (last_row row rows))) row.first
+    LeafFacts bytes (Some (span-block options bytes row rows are)) (not (last_row row rows).empty) row.first
     (last_row row rows).end (group_unread bytes (Span row rows)) (group_done bytes (Span row rows))
 span-leaf options bytes row rows are begins =
     let is = span-begins options bytes row rows are in
@@ -49,7 +48,7 @@ pub span-group : (options : ParseOptions) (bytes : List ℕ) (row : Row) (rows :
     AreSpan options bytes row rows → Begins row → IsGroupLeaf bytes (Span row rows)
 span-group options bytes row rows are begins = (
   Some (span-block options bytes row rows are),
-  not (is_bare_row (last_row row rows)),
+  not (last_row row rows).empty,
   span-leaf options bytes row rows are begins,
 )
 

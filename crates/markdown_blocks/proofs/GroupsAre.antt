@@ -1,10 +1,11 @@
 -- What the groups of the lines of a text are: lines that are no text, lines of text that belong together, and the lines
 -- of a leaf of several.
 use Rattle.std.proofs.Common.{◌≡◌, ◌≢◌, ℕ, Bool, true, false, cond, ◌&&◌, List, [], ◌∷◌, refl, ap, sym, ◌∙◌, subst}
-use Rattle.std.specs.Prelude.{Some}
+use Rattle.std.specs.Prelude.{◌||◌, ◌==◌, Some}
 use Rattle.md_engine.specs.declared.configuration.ParseOptions.{ParseOptions}
 use Rattle.md_engine.specs.declared.event.Point.{Point}
 use Rattle.md_engine.specs.declared.tokenizer.held_leaf.HeldLeaf.{HeldLeaf}
+use Rattle.md_definition.specs.Rest.{is_blank}
 use Rattle.md_definition.specs.State.{Container}
 use Rattle.markdown_blocks.specs.Change as change
 use Rattle.markdown_blocks.specs.Change.{Change}
@@ -12,7 +13,8 @@ use Rattle.markdown_blocks.specs.Fronted.{contained, rest_from, rest_line}
 use Rattle.markdown_blocks.specs.HeldLeaf.{has_lines}
 use Rattle.markdown_blocks.specs.Registry.{LeafName, further_of, leaf}
 use Rattle.markdown_blocks.specs.Rows.{BlankRow, Group, LeafRow, Lines, Row, RowKind, Single, Span, TextRow, first_row}
-use Rattle.markdown_blocks.specs.Rows.{goes_on, groups, is_further, last_row, line_behind, onto_groups, onto_leaf}
+use Rattle.markdown_blocks.specs.Rows.{goes_on, groups, is_blank_by, is_empty_row, is_further, last_row, line_behind}
+use Rattle.markdown_blocks.specs.Rows.{onto_groups, onto_leaf, stays_blank}
 use Rattle.markdown_blocks.proofs.ContainedLemmas.{contained-met, contained-still}
 use Rattle.markdown_blocks.proofs.FrontFacts.{LinePrefix}
 pub use Rattle.markdown_blocks.proofs.FrontNames.{HasFront}
@@ -128,6 +130,12 @@ line-as options bytes row is l kind = record {
   inside =
       is.is.leaf_is l kind ∙ ap (λ (line : List ℕ). (leaf l).added options row.on line row.first) is.is.line_is;
   behind = is.is.behind ∙ ap (line_behind options row.on is.is.rest) kind;
+  empty =
+      is.is.empty
+      ∙ ap
+      (λ (k : RowKind). (stays_blank k && is_blank is.is.rest.bytes) || (is_empty_row row && (row.first.column == 1)))
+      kind;
+  ending = ap (λ (k : RowKind). is_blank_by k row) kind;
 }
 
 abbrev pub line-of : (options : ParseOptions) (bytes : List ℕ) (row : Row) → (is : IsSpanLine options bytes row) →

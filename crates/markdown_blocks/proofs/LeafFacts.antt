@@ -5,7 +5,6 @@
 use Rattle.std.proofs.Common.{◌≡◌, ℕ, Bool, true, false, List, [], ◌∷◌, ◌+◌, length, ◌≤◌}
 use Rattle.std.specs.Prelude.{◌==◌, IsTrue, Option, Some, None, slice_range}
 use Rattle.std.specs.List.{list_all}
-use Rattle.std.specs.Option.{is_some}
 use Rattle.md_engine.specs.declared.event.Content.TheVariants as content
 use Rattle.md_engine.specs.declared.event.Event.{Event}
 use Rattle.md_engine.specs.declared.event.Point.{Point}
@@ -85,9 +84,11 @@ pub record LeafFacts (bytes : List ℕ) (block : Option Block) (full : Bool) (p 
   -- their pieces are over what their names say
   pub unread_stood : Stood bytes unread
   pub stood : Stood bytes done
+  -- whether the grammar stands behind a block there, or where blocks may begin as at first
+  pub behind : Bool
   -- they keep the grammar
-  pub unread_word : grammar.Leads unread_text (blocks ∷ []) (blocks_behind (is_some block) ∷ []) unread
-  pub word : grammar.Leads plain_text (blocks ∷ []) (blocks_behind (is_some block) ∷ []) done
+  pub unread_word : grammar.Leads unread_text (blocks ∷ []) (blocks_behind behind ∷ []) unread
+  pub word : grammar.Leads plain_text (blocks ∷ []) (blocks_behind behind ∷ []) done
   -- and where their line ends
   pub unread_ending : ending.Leads line_start (spot_behind full) unread
   pub ending : ending.Leads line_start (spot_behind full) done

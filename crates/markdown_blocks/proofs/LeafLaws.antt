@@ -1,7 +1,7 @@
 -- The laws of a leaf on one line: what the frame asks of each (`LineLeaf`), and of the registry.
 use Rattle.std.proofs.Common.{◌≡◌, ℕ, ◌^◌, ◌<◌, ◌≤◌, Bool, true, false, cond, List, ◌++◌, length}
 use Rattle.markdown_blocks.specs.HeldLeaf.{has_lines, kind_of_leaf, left_by, takes_lazy}
-use Rattle.std.specs.Prelude.{Some}
+use Rattle.std.specs.Prelude.{◌&&◌, ◌||◌, Some}
 use Rattle.md_engine.specs.declared.configuration.ParseOptions.{ParseOptions}
 use Rattle.md_engine.specs.declared.event.Content.{Content}
 use Rattle.md_engine.specs.declared.event.Content.TheVariants as content
@@ -11,11 +11,11 @@ use Rattle.md_engine.specs.declared.tokenizer.Line.{Line}
 use Rattle.md_engine.specs.declared.tokenizer.held_leaf.HeldLeaf.{HeldLeaf}
 use Rattle.md_engine.specs.declared.tokenizer.held_leaf.HeldLeaf.TheVariants as held_leaf
 use Rattle.md_engine.specs.Meaning.{Accepts, Cell, Fails, Here, Outcome, Refuses}
-use Rattle.md_seam.specs.Ahead.{from_ending, line_end}
+use Rattle.md_seam.specs.Ahead.{begins_white, from_ending, line_bytes, line_end}
 use Rattle.md_seam.specs.Look.{seen_behind}
 use Rattle.md_seam.specs.Spaces.{IsRest, any_size}
 use Rattle.md_definition.specs.Leaves.{Finished}
-use Rattle.md_definition.specs.Rest.{Rest}
+use Rattle.md_definition.specs.Rest.{Rest, is_blank}
 use Rattle.md_definition.specs.State.{Leaf}
 use Rattle.md_seam.proofs.FeedLines.{Stops}
 use Rattle.md_seam.proofs.RestCells.{RestAt, rest_cells}
@@ -35,14 +35,14 @@ abbrev pub left_open : Bool → HeldLeaf → HeldLeaf → HeldLeaf
 left_open true kept leaf = leaf
 left_open false kept leaf = kept
 
--- a line that ends with what was added
-abbrev pub whole_line : List Event → HeldLeaf → List Cell → Here → Outcome
-whole_line added held cells h =
+-- a line that ends with what was added; its ending is that of a blank line if it stays blank, or was so already
+abbrev pub whole_line : List Event → HeldLeaf → Bool → List Cell → Here → Outcome
+whole_line added held blank cells h =
     Accepts
     (record h {
       events = h.events ++ added;
       point = line_end cells h.point;
-      flags = record h.flags { leaf = held };
+      flags = record h.flags { leaf = held; blank = blank || h.flags.blank };
     })
     (from_ending cells)
 
@@ -59,9 +59,9 @@ cond-shrinks n true a b p q = p
 cond-shrinks n false a b p q = q
 
 pub record LeafLaws (l : LineLeaf) : Type 1 where
-  -- It takes no line where what it may not begin with stands first behind whitespace.
+  -- It takes no line where it may not begin, by what stands first behind whitespace, and whether such stands in front.
   pub looked : (options : ParseOptions) (on : HeldLeaf) (cells : List Cell) (b : ℕ) → seen_behind cells ≡ Some b →
-      l.may_begin b ≡ false → l.takes options on cells ≡ false
+      l.may_begin (begins_white cells) b ≡ false → l.takes options on cells ≡ false
   -- A line of it that goes on a leaf meets one of several lines.
   pub meets : (options : ParseOptions) (on : HeldLeaf) (r : Rest) → l.starts options on r ≡ true →
       l.further on ≡ true → has_lines on ≡ true
@@ -70,7 +70,8 @@ pub record LeafLaws (l : LineLeaf) : Type 1 where
       l.takes options h.flags.leaf cells ≡ true →
       l.trial options cells h ≡
       whole_line (l.adds options h.flags.leaf cells h.point)
-      (left_open l.ends (l.keeps options h.flags.leaf cells h.point) h.flags.leaf) cells h
+      (left_open l.ends (l.keeps options h.flags.leaf cells h.point) h.flags.leaf)
+      (l.stays_blank && is_blank (line_bytes cells)) cells h
   pub refused : (options : ParseOptions) (cells : List Cell) (h : Here) → l.asked h.flags.leaf ≡ true →
       IsRest h.scratch → l.takes options h.flags.leaf cells ≡ false →
       l.trial options cells h ≡ Refuses h.scratch h.flags

@@ -100,6 +100,7 @@ pub mod TreeRows
 pub mod TextItemised
 pub mod TextQuoted
 pub mod PieceRows
+pub mod EndingFacts
 pub mod EndingRows
 pub mod Parses
 pub mod PartedRows

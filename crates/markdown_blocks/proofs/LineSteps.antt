@@ -3,14 +3,14 @@ use Rattle.markdown_blocks.specs.HeldLeaf.{has_lines, takes_lazy}
 use Rattle.md_engine.specs.declared.tokenizer.held_leaf.HeldLeaf.TheVariants as held_leaf
 use Rattle.md_engine.specs.declared.tokenizer.held_leaf.HeldLeaf.{HeldLeaf}
 use Rattle.std.proofs.Common.{◌≡◌, ℕ, zero, suc, ◌≤◌, Bool, true, false, cond, ◌&&◌, ◌||◌, List, [], ◌∷◌, ◌++◌}
-use Rattle.std.proofs.Common.{length, refl, ap, sym, ◌∙◌, arith}
-use Rattle.std.specs.Prelude.{Option, Some, None}
+use Rattle.std.proofs.Common.{length, refl, ap, ap₂, sym, ◌∙◌, arith}
+use Rattle.std.specs.Prelude.{Option, Some, None, not}
 use Rattle.std.specs.Option.{is_some}
 use Rattle.md_engine.specs.declared.configuration.ParseOptions.{ParseOptions}
 use Rattle.md_definition.specs.Containers.{Taken, continues, opens}
-use Rattle.md_definition.specs.Leaves.{Came, LazyText, NoText, Opened, Text, goes_on, with_line}
+use Rattle.md_definition.specs.Leaves.{Came, LazyText, NoText, Opened, Text, goes_on, starts, with_line}
 use Rattle.md_definition.specs.Rest.{Rest, is_blank}
-use Rattle.md_definition.specs.State.{At, Container, Kept, Leaf, NoLeaf, OpenFence, OpenHtml, Path, Spot, Within, at_spot}
+use Rattle.md_definition.specs.State.{At, Container, Kept, Leaf, NoLeaf, OpenParagraph, Path, Spot, Within, at_spot}
 use Rattle.md_definition.specs.State.{closed, container_block, kept, shut, spot, texts, then_block, then_leaf}
 use Rattle.md_definition.specs.Step.{all_continued, all_continued_by, came, entered, fresh_by, fresh_line, is_concrete}
 use Rattle.md_definition.specs.Step.{is_open_text, lazy_by, leaf_line, leaf_line_by, on_or_fresh, opened, spot_of, step}
@@ -24,8 +24,8 @@ use Rattle.markdown_blocks.specs.Change.{Change, change_by, interrupts, is_none,
 use Rattle.markdown_blocks.specs.Fronted.{Contained, Prefixed, contained, no_prefix, one_more, prefixes_new}
 use Rattle.markdown_blocks.specs.Fronted.{prefixes_behind, prefixes_on}
 use Rattle.markdown_blocks.specs.Parsed.{IsBuilt}
-use Rattle.markdown_blocks.specs.Registry.{LeafName, first_of, insider, leaf, text_leaf, trials}
-use Rattle.markdown_blocks.specs.Rows.{BlankRow, LeafRow, RowKind, TextRow, inside_or, is_further, is_lazy}
+use Rattle.markdown_blocks.specs.Registry.{LeafName, first_of, insider, leaf, shuts_out, text_leaf, trials}
+use Rattle.markdown_blocks.specs.Rows.{BlankRow, LeafRow, RowKind, TextRow, inside_or, is_further, is_lazy, is_text}
 use Rattle.markdown_blocks.specs.Rows.{kind_of, line_kind}
 use Rattle.markdown_blocks.specs.HeldLeaf.{IsBuiltLeaf, kind_of_leaf, met_by}
 use Rattle.markdown_blocks.specs.Stands.{IsPlain, containers_of, still_of}
@@ -34,7 +34,7 @@ use Rattle.markdown_blocks.proofs.ContainedLemmas.{change-opens, lazy-some}
 use Rattle.markdown_blocks.proofs.KindLemmas.{kind-plain, kind-starts}
 use Rattle.markdown_blocks.proofs.OpenSpan.{AllBegin, OpenSpan}
 use Rattle.markdown_blocks.proofs.Registry.{came_of, insider-none, insider-text, laws, leaf_at, open-span, text-laws}
-use Rattle.markdown_blocks.proofs.Registry.{trials-begin}
+use Rattle.markdown_blocks.proofs.Registry.{shuts_out-none, shuts_out-text, text-starts, trials-begin}
 use Rattle.markdown_blocks.proofs.RegistryFound.{starts-found, table-off, underline-off}
 
 -- Leaves of several lines.
@@ -53,19 +53,20 @@ none-further options on r none = go (line_kind options on r) refl
     go (LeafRow l) e = not l ((leaf l).further on) refl (kind-starts options on r l e)
     go TextRow e = refl
 
--- no line goes on one lazily, and none is met where its containers did not go on
-lines-unlazy : (still : HeldLeaf) (opens : List Container) (kind : RowKind) → has_lines still ≡ true →
-    is_lazy still opens kind ≡ false
-lines-unlazy held_leaf.None opens kind lines = cc
-lines-unlazy held_leaf.Text opens kind lines = cc
-lines-unlazy held_leaf.Code opens kind lines = refl
-lines-unlazy (held_leaf.Fence marker size indent) opens kind lines = refl
+-- one takes no lazy line,
+lines-unlazy : (still : HeldLeaf) → has_lines still ≡ true → takes_lazy still ≡ false
+lines-unlazy held_leaf.None lines = cc
+lines-unlazy held_leaf.Text lines = cc
+lines-unlazy held_leaf.Code lines = refl
+lines-unlazy (held_leaf.Fence marker size indent) lines = refl
 
-met-none : (still : HeldLeaf) → has_lines still ≡ true → met_by false still ≡ held_leaf.None
-met-none held_leaf.None lines = cc
-met-none held_leaf.Text lines = cc
-met-none held_leaf.Code lines = refl
-met-none (held_leaf.Fence marker size indent) lines = refl
+-- so no line goes on it lazily, and it is not met where its containers did not go on
+lazy-none : (still : HeldLeaf) (opens : List Container) (kind : RowKind) → takes_lazy still ≡ false →
+    is_lazy still opens kind ≡ false
+lazy-none still opens kind unlazy = ap (λ (x : Bool). x && is_none opens && is_text kind) unlazy
+
+met-none : (still : HeldLeaf) → takes_lazy still ≡ false → met_by false still ≡ held_leaf.None
+met-none still unlazy = ap (λ (x : Bool). cond (x || false) still held_leaf.None) unlazy
 
 ended-lines : (still : HeldLeaf) → has_lines (met_by false still) ≡ false
 ended-lines held_leaf.None = refl
@@ -80,18 +81,30 @@ met-all still = go (takes_lazy still)
     go true = refl
     go false = refl
 
--- one in which no container opens goes on or ends, and takes no lazy line
-concrete-line : (options : ParseOptions) (s : Spot) (r : Rest) (open_leaf : Leaf) → is_concrete open_leaf ≡ true →
+-- by the line definition one goes on or ends, and takes no lazy line
+span-line : (options : ParseOptions) (s : Spot) (r : Rest) (open_leaf : Leaf) →
+    has_lines (kind_of_leaf open_leaf) ≡ true →
     leaf_line_by options s r open_leaf ≡ on_or_fresh options s r (goes_on options open_leaf r)
-concrete-line options s r (OpenFence o lines) e = refl
-concrete-line options s r (OpenHtml kind lines) e = refl
-concrete-line options s r _ e = cc
+span-line options s r NoLeaf e = cc
+span-line options s r (OpenParagraph lines) e = cc
+span-line options s r _ e = refl
 
-concrete-lazy : (options : ParseOptions) (r : Rest) (open_leaf : Leaf) → is_concrete open_leaf ≡ true →
+span-lazy : (options : ParseOptions) (r : Rest) (open_leaf : Leaf) → has_lines (kind_of_leaf open_leaf) ≡ true →
     with_lazy options open_leaf r ≡ None
-concrete-lazy options r (OpenFence o lines) e = refl
-concrete-lazy options r (OpenHtml kind lines) e = refl
-concrete-lazy options r _ e = cc
+span-lazy options r (OpenParagraph lines) e = cc
+span-lazy options r _ e = refl
+
+-- and containers open in it, or in what else may be open, where the line definition lets them
+built-concrete : (open_leaf : Leaf) → IsBuiltLeaf open_leaf →
+    is_concrete open_leaf ≡ shuts_out (kind_of_leaf open_leaf)
+built-concrete open_leaf plain =
+    text-laws.cases (λ (l : Leaf). is_concrete l ≡ shuts_out (kind_of_leaf l)) (sym shuts_out-none)
+    (λ k ks. sym shuts_out-text) (λ l is. (open-span l is).concrete) open_leaf plain
+
+-- the first of them interrupts what is open if that is text
+text-interrupted : (open_leaf : Leaf) → is_open_text open_leaf ≡ interrupts (kind_of_leaf open_leaf) []
+text-interrupted (OpenParagraph lines) = refl
+text-interrupted _ = refl
 
 -- Lines, one after another.
 
@@ -130,24 +143,28 @@ plain-begins options on r = go (is_blank r.bytes)
     go true = refl
     go false = found-begins on (λ l. (leaf l).starts options on r) trials trials-begin
 
--- a line where nothing is open, or what was open has ended
-fresh-plain : (options : ParseOptions) (on : HeldLeaf) (bs : Blocks) (r : Rest) → IsBuilt options →
-    fresh_line options bs r ≡ spot_by options bs [] r (plain_kind options on r)
+-- a line where nothing is open, or what was open has ended and is no text
+fresh-plain : (options : ParseOptions) (on : HeldLeaf) (bs : Blocks) (r : Rest) → takes_lazy on ≡ false →
+    IsBuilt options → fresh_line options bs r ≡ spot_by options bs [] r (plain_kind options on r)
 unfolding fresh_line
-fresh-plain options on bs r built =
-    rw (starts-found options on NoText r built) (go (is_blank r.bytes) (leaf_at options on r))
+fresh-plain options on bs r unlazy built =
+    go (is_blank r.bytes) refl
   where
-    go : (x : Bool) (o : Option LeafName) →
-        cond x (spot_of bs) (fresh_by bs r (came_of options r o)) ≡
-        spot_by options bs [] r (cond x BlankRow (kind_of o))
-    go true o = refl
-    go false (Some l) = refl
-    go false None = refl
+    by : (o : Option LeafName) → fresh_by bs r (came_of options r o) ≡ spot_by options bs [] r (kind_of o)
+    by (Some l) = refl
+    by None = refl
+
+    go : (x : Bool) → is_blank r.bytes ≡ x →
+        cond x (spot_of bs) (fresh_by bs r (starts options NoText r)) ≡
+        spot_by options bs [] r (cond x BlankRow (kind_of (leaf_at options on r)))
+    go true e = refl
+    go false e =
+        ap (fresh_by bs r) (starts-found options on NoText r (sym (ap not unlazy)) e built) ∙ by (leaf_at options on r)
 
 pub fresh-found : (options : ParseOptions) (bs : Blocks) (r : Rest) → IsBuilt options →
     fresh_line options bs r ≡ spot_by options bs [] r (line_kind options held_leaf.None r)
 fresh-found options bs r built =
-    fresh-plain options held_leaf.None bs r built
+    fresh-plain options held_leaf.None bs r refl built
     ∙ ap (spot_by options bs [] r) (sym (kind-plain options held_leaf.None r insider-none))
 
 -- a line where text is open
@@ -155,23 +172,25 @@ text-found : (options : ParseOptions) (bs : Blocks) (lines : List Kept) (k : Kep
     text_line options bs (k ∷ lines) r ≡ spot_by options bs (k ∷ lines) r (line_kind options held_leaf.Text r)
 unfolding text_line
 text-found options bs lines k r built =
-    rw (
-      underline-off options r built,
-      starts-found options held_leaf.Text Text r built,
-      text-laws.shut options bs (k ∷ lines) built.definition,
-    )
-    (go (is_blank r.bytes) (leaf_at options held_leaf.Text r)
+    rw (underline-off options r built, text-laws.shut options bs (k ∷ lines) built.definition)
+    (go (is_blank r.bytes) refl
     ∙ ap (spot_by options bs (k ∷ lines) r) (sym (kind-plain options held_leaf.Text r insider-text)))
   where
-    go : (x : Bool) (o : Option LeafName) →
-        cond x (spot_of (text_leaf.behind bs (texts (k ∷ lines))))
-        (text_by options bs (k ∷ lines) r (came_of options r o)) ≡
-        spot_by options bs (k ∷ lines) r (cond x BlankRow (kind_of o))
-    go true o = refl
-    go false (Some l) =
+    by : (o : Option LeafName) →
+        text_by options bs (k ∷ lines) r (came_of options r o) ≡ spot_by options bs (k ∷ lines) r (kind_of o)
+    by (Some l) =
         ap (λ (x : Blocks). came x ((leaf l).comes options NoLeaf r))
         (text-laws.shut options bs (k ∷ lines) built.definition)
-    go false None = rw (table-off options bs (k ∷ lines) r built) refl
+    by None = rw (table-off options bs (k ∷ lines) r built) refl
+
+    go : (x : Bool) → is_blank r.bytes ≡ x →
+        cond x (spot_of (text_leaf.behind bs (texts (k ∷ lines))))
+        (text_by options bs (k ∷ lines) r (starts options Text r)) ≡
+        spot_by options bs (k ∷ lines) r (cond x BlankRow (kind_of (leaf_at options held_leaf.Text r)))
+    go true e = refl
+    go false e =
+        ap (text_by options bs (k ∷ lines) r) (starts-found options held_leaf.Text Text r refl e built)
+        ∙ by (leaf_at options held_leaf.Text r)
 
 -- The containers that open.
 
@@ -374,7 +393,7 @@ text-stepped options bs r built k ks =
 span-stepped : (options : ParseOptions) (bs : Blocks) (r : Rest) → IsBuilt options → (open_leaf : Leaf) →
     OpenSpan open_leaf → IsStepped options bs r open_leaf
 span-stepped options bs r built open_leaf is =
-    ap At (concrete-line options s r open_leaf is.concrete)
+    ap At (span-line options s r open_leaf is.lines)
     ∙ ap (λ (o : Option Came). At (on_or_fresh options s r o)) (is.goes options r)
     ∙ go ((leaf is.name).starts options still r)
     ∙ ap by (sym (asked-kind options still r is.name is.asked))
@@ -411,14 +430,14 @@ span-stepped options bs r built open_leaf is =
         (ap
         (λ (t : Bool).
         cond t (longer (At s) (kept r ∷ [])) (cond (is_further kind still) (further kind) (other kind)))
-        (lines-unlazy still [] kind is.lines))
+        (lazy-none still [] kind (lines-unlazy still is.lines)))
 
     go : (x : Bool) →
         At (on_or_fresh options s r (cond x (Some ((leaf is.name).comes options open_leaf r)) None)) ≡
         by (cond x (LeafRow is.name) (plain_kind options still r))
     go true = unlazy (LeafRow is.name) true is.further
     go false =
-        ap At (fresh-plain options still (shut options s) r built)
+        ap At (fresh-plain options still (shut options s) r (lines-unlazy still is.lines) built)
         ∙ unlazy (plain_kind options still r) false (plain-begins options still r)
 
 leaf-stepped : (options : ParseOptions) (bs : Blocks) (open_leaf : Leaf) (r : Rest) → IsBuilt options →
@@ -437,26 +456,10 @@ leaf-stepped options bs open_leaf r built plain =
         (At (spot_by options bs [] r (line_kind options held_leaf.None r))))
         (none-further options held_leaf.None r refl))
 
--- where no leaf is asked first, containers open as often as they do; else none does where all went on
-new-all : (options : ParseOptions) (still : HeldLeaf) (others : List Container) (went : Prefixed) →
-    insider still ≡ None →
-    prefixes_behind options still others went ≡ all_new options (interrupts still others) went.rest
-new-all options still others went e =
-    ap
-    (λ (o : Option LeafName).
-    cond (is_some o && is_none others) (no_prefix went.rest) (all_new options (interrupts still others) went.rest)) e
-
-new-none : (options : ParseOptions) (still : HeldLeaf) (l : LeafName) (went : Prefixed) → insider still ≡ Some l →
-    prefixes_behind options still [] went ≡ no_prefix went.rest
-new-none options still l went e =
-    ap
-    (λ (o : Option LeafName).
-    cond (is_some o && true) (no_prefix went.rest) (all_new options (interrupts still []) went.rest)) e
-
--- where one did not go on
+-- where one did not go on, none is shut out
 new-others : (options : ParseOptions) (still : HeldLeaf) (c : Container) (cs : List Container) (went : Prefixed) →
     prefixes_behind options still (c ∷ cs) went ≡ all_new options (interrupts still (c ∷ cs)) went.rest
-new-others options still c cs went = go (is_some (insider still))
+new-others options still c cs went = go (shuts_out still)
   where
     go : (x : Bool) →
         cond (x && false) (no_prefix went.rest) (all_new options (interrupts still (c ∷ cs)) went.rest) ≡
@@ -470,47 +473,35 @@ step-at : (options : ParseOptions) (s : Spot) (r : Rest) → IsBuilt options →
     stepped options (At s) [] (prefixes_behind options (kind_of_leaf s.leaf) [] (no_prefix r))
 unfolding all_continued
 step-at options s r built plain =
-    text-laws.cases By (by NoLeaf tt insider-none refl) (λ k ks. by (text_leaf.held (k ∷ ks)) tt insider-text refl)
-    (λ l is. span l (open-span l is)) s.leaf plain
+    ap₂ (λ (x y : Bool). all_continued_by options s r (cond x None (opens options y r))) (built-concrete s.leaf plain)
+    (text-interrupted s.leaf)
+    ∙ go (shuts_out still)
   where
-    at_leaf : Leaf → Spot
-    at_leaf open_leaf = record { here = s.here; leaf = open_leaf }
+    still : HeldLeaf
+    still = kind_of_leaf s.leaf
 
-    By : Leaf → Type 0
-    By open_leaf =
-        all_continued_by options (at_leaf open_leaf) r
-        (cond (is_concrete open_leaf) None (opens options (is_open_text open_leaf) r)) ≡
-        stepped options (At (at_leaf open_leaf)) []
-        (prefixes_behind options (kind_of_leaf open_leaf) [] (no_prefix r))
+    interrupting : Bool
+    interrupting = interrupts still []
 
-    by : (open_leaf : Leaf) → IsBuiltLeaf open_leaf → insider (kind_of_leaf open_leaf) ≡ None →
-        cond (is_concrete open_leaf) None (opens options (is_open_text open_leaf) r) ≡
-        opens options (interrupts (kind_of_leaf open_leaf) []) r →
-        By open_leaf
-    by open_leaf plain none free =
-        let interrupting : Bool = interrupts (kind_of_leaf open_leaf) [] in
-        ap (all_continued_by options (at_leaf open_leaf) r) free ∙ go (opens options interrupting r)
-        ∙ ap (stepped options (At (at_leaf open_leaf)) [])
-        (sym (new-found options interrupting (length r.bytes) r (omega arith))
-        ∙ sym (new-all options (kind_of_leaf open_leaf) [] (no_prefix r) none))
-      where
-        go : (o : Option Taken) →
-            all_continued_by options (at_leaf open_leaf) r o ≡
-            stepped options (At (at_leaf open_leaf)) [] (found_by options r o)
-        go None = leaf-stepped options s.here open_leaf r built plain
-        go (Some t) =
-            entered-new options (shut options (at_leaf open_leaf)) t built
-            ∙ sym (stepped-more options (At (at_leaf open_leaf)) [] t.container (all_new options false t.rest))
+    none : At (leaf_line options s r) ≡ stepped options (At s) [] (no_prefix r)
+    none = leaf-stepped options s.here s.leaf r built plain
 
-    span : (open_leaf : Leaf) → OpenSpan open_leaf → By open_leaf
-    span open_leaf is =
-        ap
-        (λ (x : Bool).
-        all_continued_by options (at_leaf open_leaf) r (cond x None (opens options (is_open_text open_leaf) r)))
-        is.concrete
-        ∙ span-stepped options s.here r built open_leaf is
-        ∙ ap (stepped options (At (at_leaf open_leaf)) [])
-        (sym (new-none options (kind_of_leaf open_leaf) is.name (no_prefix r) is.asked))
+    -- by the one that opens, if one does
+    by : (o : Option Taken) → all_continued_by options s r o ≡ stepped options (At s) [] (found_by options r o)
+    by None = none
+    by (Some t) =
+        entered-new options (shut options s) t built
+        ∙ sym (stepped-more options (At s) [] t.container (all_new options false t.rest))
+
+    -- by whether all are shut out
+    go : (x : Bool) →
+        all_continued_by options s r (cond x None (opens options interrupting r)) ≡
+        stepped options (At s) [] (cond (x && true) (no_prefix r) (all_new options interrupting r))
+    go true = none
+    go false =
+        by (opens options interrupting r)
+        ∙ ap (stepped options (At s) [])
+        (sym (new-found options interrupting (length r.bytes) r (omega arith)))
 
 at_spot-longer : (p : Path) (lines more : List Kept) → (spot p).leaf ≡ text_leaf.held lines →
     at_spot p (record { here = (spot p).here; leaf = text_leaf.held (lines ++ more) }) ≡ longer p more
@@ -549,39 +540,59 @@ lazy-stepped options before c p r built leaf e plain =
         lazy_by options before c p r (with_lazy options leaf r) ≡
         longer_by (kind_of_leaf leaf) (line_kind options (met_by false (kind_of_leaf leaf)) r)
 
-    go : (k : Kept) (ks : List Kept) → (spot p).leaf ≡ text_leaf.held (k ∷ ks) → (x : Bool) (o : Option LeafName) →
-        At (fresh_line options bs r) ≡ other (cond x BlankRow (kind_of o)) →
-        lazy_by options before c p r
-        (cond (x || is_some (came_of options r o)) None (Some (text_leaf.held (k ∷ ks ++ kept r ∷ [])))) ≡
-        longer_by held_leaf.Text (cond x BlankRow (kind_of o))
-    go k ks e true o same = same
-    go k ks e false (Some l) same = same
-    go k ks e false None same =
-        ap (Within before c)
-        (at_spot-longer p (k ∷ ks) (kept r ∷ []) e ∙ ap (λ (q : Path). longer q (kept r ∷ [])) (sym (renewed-same p)))
+    -- a line that is blank, or not, by the leaf that starts on it where this one is open
+    kind_by : HeldLeaf → Bool → RowKind
+    kind_by on x = cond x BlankRow (kind_of (leaf_at options on r))
+
+    plain_line : At (fresh_line options bs r) ≡ other (kind_by held_leaf.None (is_blank r.bytes))
+    plain_line = fresh ∙ ap other (kind-plain options held_leaf.None r insider-none)
 
     text : (k : Kept) (ks : List Kept) → By (text_leaf.held (k ∷ ks))
     text k ks e =
-        ap
-        (λ (o : Option Came).
-        lazy_by options before c p r
-        (cond (is_blank r.bytes || is_some o) None (Some (text_leaf.held (k ∷ ks ++ kept r ∷ [])))))
-        (starts-found options held_leaf.Text LazyText r built)
-        ∙ go k ks e (is_blank r.bytes) (leaf_at options held_leaf.Text r)
-        (fresh ∙ ap other (kind-plain options held_leaf.None r insider-none))
+        go (is_blank r.bytes) refl
         ∙ ap (longer_by held_leaf.Text) (sym (kind-plain options held_leaf.Text r insider-text))
+      where
+        to : Bool → Option Came → Path
+        to x o =
+            lazy_by options before c p r
+            (cond (x || is_some o) None (Some (text_leaf.held (k ∷ ks ++ kept r ∷ []))))
+
+        by : is_blank r.bytes ≡ false → (o : Option LeafName) → leaf_at options held_leaf.Text r ≡ o →
+            to false (came_of options r o) ≡ longer_by held_leaf.Text (kind_of o)
+        by dark (Some l) found =
+            plain_line ∙ ap (λ (x : Bool). other (kind_by held_leaf.None x)) dark
+            ∙ ap (λ (o : Option LeafName). other (kind_of o)) (text-starts options r l found)
+        by dark None found =
+            ap (Within before c)
+            (at_spot-longer p (k ∷ ks) (kept r ∷ []) e
+            ∙ ap (λ (q : Path). longer q (kept r ∷ [])) (sym (renewed-same p)))
+
+        go : (x : Bool) → is_blank r.bytes ≡ x →
+            to (is_blank r.bytes) (starts options LazyText r) ≡
+            longer_by held_leaf.Text (kind_by held_leaf.Text (is_blank r.bytes))
+        go true b =
+            ap (λ (x : Bool). to x (starts options LazyText r)) b
+            ∙ plain_line
+            ∙ ap (λ (x : Bool). other (kind_by held_leaf.None x)) b
+            ∙ sym (ap (λ (x : Bool). longer_by held_leaf.Text (kind_by held_leaf.Text x)) b)
+        go false b =
+            ap (λ (x : Bool). to x (starts options LazyText r)) b
+            ∙ ap (to false) (starts-found options held_leaf.Text LazyText r refl b built)
+            ∙ by b (leaf_at options held_leaf.Text r) refl
+            ∙ sym (ap (λ (x : Bool). longer_by held_leaf.Text (kind_by held_leaf.Text x)) b)
 
     span : (l : Leaf) → OpenSpan l → By l
     span l is e =
         let still : HeldLeaf = kind_of_leaf l in
         let kind : RowKind = line_kind options (met_by false still) r in
-        ap (lazy_by options before c p r) (concrete-lazy options r l is.concrete) ∙ fresh
-        ∙ ap (λ (on : HeldLeaf). other (line_kind options on r)) (sym (met-none still is.lines))
+        let unlazy = lines-unlazy still is.lines in
+        ap (lazy_by options before c p r) (span-lazy options r l is.lines) ∙ fresh
+        ∙ ap (λ (on : HeldLeaf). other (line_kind options on r)) (sym (met-none still unlazy))
         ∙ sym
         (ap
         (λ (x : Bool).
         cond x (Within before c (longer (renewed (containers_of p) p) (kept r ∷ []))) (other kind))
-        (lines-unlazy still [] kind is.lines))
+        (lazy-none still [] kind unlazy))
 
 step-stopped : (options : ParseOptions) (before : Blocks) (c : Container) (p : Path) (r : Rest) → IsBuilt options →
     IsPlain p →

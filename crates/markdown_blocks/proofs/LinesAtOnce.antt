@@ -32,7 +32,7 @@ use Rattle.md_content.specs.Chunks.{chunk_inside_code}
 use Rattle.md_leaves.specs.Blank as blank
 use Rattle.md_leaves.proofs.HeadingWords.{remains-of, sees-from}
 use Rattle.md_seam.specs.Look.{behind_code, first_behind, looks_behind, may_with}
-use Rattle.md_seam.specs.Spaces.{ends_line}
+use Rattle.md_seam.specs.Spaces.{ends_line, sees_white}
 use Rattle.md_seam.specs.Transition.{Transition, entered, exited, taken}
 use Rattle.markdown_blocks.specs.AtOnce.{all_asked, begins_at, left_to_try, opens_none, openers_passed}
 use Rattle.markdown_blocks.specs.Document.{document_own_transition}
@@ -126,17 +126,27 @@ at-leaf flow.LeafAfter l w e = cc
 at-leaf flow.After l w e = cc
 at-leaf _ l w e = ap (λ (o : Option LeafName). leaf_transition o w) e
 
--- what is called in front of one of these, or of content
-front-calls : (ls : List LeafName) (w : World) → NextIs ls → front_of ls ≢ flow.BeforeContent →
-    flow_own_transition (front_of ls) w ≡ leaf_transition (tried_at (front_of ls)) w
-front-calls [] w next one = absurd (one refl)
-front-calls (l ∷ ls) w next one =
-    at-leaf (leaf l).before l w next.0 ∙ sym (ap (λ (o : Option LeafName). leaf_transition o w) next.0)
+-- what is called where one is tried
+pub tried-calls : (x : FlowState) (w : World) → is_some (tried_at x) ≡ true →
+    flow_own_transition x w ≡ leaf_transition (tried_at x) w
+tried-calls x w some = go (tried_at x) refl some
+  where
+    go : (o : Option LeafName) → tried_at x ≡ o → is_some o ≡ true →
+        flow_own_transition x w ≡ leaf_transition (tried_at x) w
+    go None is e = cc
+    go (Some l) is e = at-leaf x l w is ∙ sym (ap (λ (o : Option LeafName). leaf_transition o w) is)
+
+-- in front of one of these, or of content
+front-tried : (ls : List LeafName) → NextIs ls → front_of ls ≢ flow.BeforeContent →
+    is_some (tried_at (front_of ls)) ≡ true
+front-tried [] next one = absurd (one refl)
+front-tried (l ∷ ls) next one = ap is_some next.0
 
 -- those that are left to try are tried one after another
 left-next : (b : ℕ) (ls : List LeafName) → NextIs ls → NextIs (left_to_try b ls)
 left-next b [] next = next
-left-next b (l ∷ ls) next = go ((leaf l).may_begin b) (left-next b ls (subst NextIs next.1 (leaf-next l next.0)))
+left-next b (l ∷ ls) next =
+    go ((leaf l).may_begin false b) (left-next b ls (subst NextIs next.1 (leaf-next l next.0)))
   where
     go : (x : Bool) → NextIs (left_to_try b ls) → NextIs (cond x (l ∷ ls) (left_to_try b ls))
     go true others = next
@@ -145,18 +155,18 @@ left-next b (l ∷ ls) next = go ((leaf l).may_begin b) (left-next b ls (subst N
 -- those in front of the first that may begin with what stands here refuse
 leaves-refuse : (is_name : ResolveName → ResolveName → Bool) (is_end : Bool) (s : State) (v : World) (b : ℕ)
     (ls : List LeafName) (w : World) →
-    NextIs ls → looks_behind w ≡ Some b → w.current ≡ looks w → Within w →
+    NextIs ls → sees_white w.current ≡ false → looks_behind w ≡ Some b → w.current ≡ looks w → Within w →
     CameTo (FlowStep is_name) is_end s v (n.Flow (front_of ls)) w →
     CameTo (FlowStep is_name) is_end s v (n.Flow (front_of (left_to_try b ls))) w
-leaves-refuse is_name is_end s v b [] w next here seen within came = came
-leaves-refuse is_name is_end s v b (l ∷ ls) w next here seen within came =
-    go ((leaf l).may_begin b) refl
-    (leaves-refuse is_name is_end s v b ls w (subst NextIs next.1 (leaf-next l next.0)) here seen within)
+leaves-refuse is_name is_end s v b [] w next dark here seen within came = came
+leaves-refuse is_name is_end s v b (l ∷ ls) w next dark here seen within came =
+    go ((leaf l).may_begin false b) refl
+    (leaves-refuse is_name is_end s v b ls w (subst NextIs next.1 (leaf-next l next.0)) dark here seen within)
   where
     At : FlowState → Type 0
     At x = CameTo (FlowStep is_name) is_end s v (n.Flow x) w
 
-    go : (x : Bool) → (leaf l).may_begin b ≡ x → (At (front_of ls) → At (front_of (left_to_try b ls))) →
+    go : (x : Bool) → (leaf l).may_begin false b ≡ x → (At (front_of ls) → At (front_of (left_to_try b ls))) →
         At (front_of (cond x (l ∷ ls) (left_to_try b ls)))
     go true may others = came
     go false may others =
@@ -164,7 +174,7 @@ leaves-refuse is_name is_end s v b (l ∷ ls) w next here seen within came =
         let is : flow_own_transition x w ≡ record { to = Retry (n.Flow (front_of ls)); world = w } =
         at-leaf x l w next.0
         ∙ ap (trial_code (leaf l).start (n.Flow (leaf_end (leaf l).ends)) (n.Flow (next_of l)) w)
-        (ap (may_with (leaf l).may_begin) here ∙ may)
+        (ap₂ (λ (white : Bool) (o : Option ℕ). may_with ((leaf l).may_begin white) o) dark here ∙ may)
         ∙ ap (λ (ms : List LeafName). record { to = Retry (n.Flow (front_of ms)); world = w }) next.1 in
         others
         (then-stays (FlowStep is_name) is_end s v (n.Flow x) (n.Flow (front_of ls)) w w came
@@ -195,7 +205,7 @@ opens-none w e = go w.current refl e
           not_blank = ap (may_with (λ (x : ℕ). nat_eq x 10)) first ∙ dark.1;
         }
 
--- Behind all containers the leaf that is open is asked first, if no container opens in it,
+-- Behind all containers a leaf that is open may be asked first,
 pub line-front : (is_name : ResolveName → ResolveName → Bool) (is_end : Bool) (s : State) (v w : World) →
     w.current ≡ looks w → Within w → CameTo (FlowStep is_name) is_end s v (n.Document document.ContainersAfter) w →
     CameTo (FlowStep is_name) is_end s v (leaf_front (is_some (insider (begun_line w.flags).leaf)))
@@ -276,25 +286,24 @@ passes-leaves is_name is_end s v w seen within came = go w.current refl
         At (front_of (cond x trials (left_to_try b trials)))
     white b here true is = came
     white b here false is =
-        leaves-refuse is_name is_end s v b trials w (refl, refl) (looks-dark w b here is) seen within came
+        leaves-refuse is_name is_end s v b trials w (refl, refl) (ap sees_white here ∙ is) (looks-dark w b here is) seen
+        within came
 
     go : (o : Option ℕ) → w.current ≡ o → At (begins_at o)
     go None here = came
     go (Some b) here = white b here (is_white b) refl
 
--- which is called there
-pub begins-calls : (o : Option ℕ) (w : World) → begins_at o ≢ flow.BeforeContent →
-    flow_own_transition (begins_at o) w ≡ leaf_transition (tried_at (begins_at o)) w
-begins-calls None w one = front-calls trials w (refl, refl) one
-begins-calls (Some b) w one = go (is_white b) one
+-- which is tried there
+pub begins-tried : (o : Option ℕ) → begins_at o ≢ flow.BeforeContent → is_some (tried_at (begins_at o)) ≡ true
+begins-tried None one = front-tried trials (refl, refl) one
+begins-tried (Some b) one = go (is_white b) one
   where
     of : Bool → List LeafName
     of x = cond x trials (left_to_try b trials)
 
-    go : (x : Bool) → front_of (of x) ≢ flow.BeforeContent →
-        flow_own_transition (front_of (of x)) w ≡ leaf_transition (tried_at (front_of (of x))) w
-    go true not_last = front-calls trials w (refl, refl) not_last
-    go false not_last = front-calls (left_to_try b trials) w (left-next b trials (refl, refl)) not_last
+    go : (x : Bool) → front_of (of x) ≢ flow.BeforeContent → is_some (tried_at (front_of (of x))) ≡ true
+    go true not_last = front-tried trials (refl, refl) not_last
+    go false not_last = front-tried (left_to_try b trials) (left-next b trials (refl, refl)) not_last
 
 -- What a call leaves: where it stays, it has gone nowhere, and the text is the same.
 abbrev pub Leaves : Transition → World → Type 0
@@ -333,10 +342,10 @@ inside-leaves w = go (insider w.flags.leaf)
         trial-leaves (leaf l).start (n.Flow flow.After) (n.Flow flow.Start)
         (record w { flags = blank_here (nothing_stands w.current w.point) w.flags }) w true refl refl refl
 
-leaf-leaves : (l : LeafName) (w : World) → Leaves (before_transition l w) w
+pub leaf-leaves : (l : LeafName) (w : World) → Leaves (before_transition l w) w
 leaf-leaves l w =
     trial-leaves (leaf l).start (n.Flow (leaf_end (leaf l).ends)) (n.Flow (next_of l)) w w
-    (may_with (leaf l).may_begin (looks_behind w)) refl refl refl
+    (may_with ((leaf l).may_begin (sees_white w.current)) (looks_behind w)) refl refl refl
 
 pub tried-leaf-leaves : (o : Option LeafName) (w : World) → Leaves (leaf_transition o w) w
 tried-leaf-leaves None w = (tt, refl)
@@ -393,6 +402,16 @@ pub ends-with : (is_name : ResolveName → ResolveName → Bool) (first name : S
     RunsHere (FlowStep is_name) first old to new × SeesOn to old new
 ends-with is_name first name old w to new came leaves to_is new_is fine seen within there =
     ends-behind is_name first name old w to new came leaves to_is new_is fine seen within (inl there)
+
+-- One call of a state, where one is.
+pub leaves-once : (is_name : ResolveName → ResolveName → Bool) (name : StateName) (w : World) (to : State)
+    (new : World) →
+    Leaves (flow_transition is_name name w) w → to ≡ (flow_transition is_name name w).to →
+    new ≡ (flow_transition is_name name w).world → to ≢ Error → w.current ≡ looks w → Within w →
+    RunsHere (FlowStep is_name) name w to new × SeesOn to w new
+leaves-once is_name name w to new leaves to_is new_is fine seen within =
+    ends-with is_name name name w w to new (came-first (FlowStep is_name) name w) leaves to_is new_is fine seen within
+    refl
 
 -- One has come to a state, where one was, and more runs from there.
 pub runs-on : (is_name : ResolveName → ResolveName → Bool) (first name : StateName) (old w : World) (to : State)

@@ -10,21 +10,22 @@ use Rattle.md_definition.specs.Step.{came, is_concrete}
 use Rattle.md_definition.specs.Tree.{Blocks}
 use Rattle.md_outline.specs.HeadingDepths.{are_shallow}
 use Rattle.markdown_blocks.specs.HeldLeaf.{IsBuiltLeaf, has_lines, kind_of_leaf, left_by}
-use Rattle.markdown_blocks.specs.Registry.{LeafName, further_of, insider, leaf}
+use Rattle.markdown_blocks.specs.Registry.{LeafName, further_of, insider, leaf, shuts_out}
 
 -- an outline can show the block that this has come to, if it has
 abbrev pub ComesShallow : Came → Type 0
 ComesShallow c = (bs : Blocks) → are_shallow bs ≡ true → are_shallow (came bs c).here ≡ true
 
--- A leaf of several lines in which no container opens: one is asked whether a line goes on it, and takes that line as
--- the line definition does.
+-- A leaf of several lines: one is asked first whether a line goes on it, and takes that line as the line definition
+-- does.
 pub record OpenSpan (open_leaf : Leaf) : Type 0 where
   pub name : LeafName
   pub asked : insider (kind_of_leaf open_leaf) ≡ Some name
   pub same : further_of name ≡ name
   pub further : (leaf name).further (kind_of_leaf open_leaf) ≡ true
   pub lines : has_lines (kind_of_leaf open_leaf) ≡ true
-  pub concrete : is_concrete open_leaf ≡ true
+  -- containers open in it where the line definition lets them
+  pub concrete : is_concrete open_leaf ≡ shuts_out (kind_of_leaf open_leaf)
   pub goes : (options : ParseOptions) (r : Rest) →
       goes_on options open_leaf r ≡
       cond ((leaf name).starts options (kind_of_leaf open_leaf) r) (Some ((leaf name).comes options open_leaf r)) None

@@ -2,7 +2,6 @@
 use Rattle.md_engine.specs.declared.tokenizer.held_leaf.HeldLeaf.TheVariants as held_leaf
 use Rattle.md_engine.specs.declared.tokenizer.held_leaf.HeldLeaf.{HeldLeaf}
 use Rattle.std.proofs.Common.{◌≡◌, ℕ, Bool, true, false, cond, List, [], ◌∷◌, ◌++◌, slice_range, refl, ap, sym, subst}
-use Rattle.markdown_blocks.specs.LineFlags.{ending_name}
 use Rattle.markdown_blocks.specs.Rows.{Span}
 use Rattle.std.proofs.Common.{arith}
 use Rattle.std.specs.Prelude.{Option, Some, None}
@@ -17,7 +16,7 @@ use Rattle.md_seam.specs.Events.Pieces.{pieces_stand, stands_over}
 use Rattle.md_seam.specs.Events.Places.{first_point}
 use Rattle.md_definition.specs.Preamble.{has_mark}
 use Rattle.md_definition.specs.State.{Container}
-use Rattle.md_definition.proofs.TextsLemmas.{Both, Ending, LineFeed, Return, ending_bytes}
+use Rattle.md_definition.proofs.TextsLemmas.{Ending, ending_bytes}
 use Rattle.md_definition.proofs.PreambleLemmas.{mark-bytes}
 use Rattle.markdown_blocks.specs.Registry.{container_name}
 use Rattle.markdown_blocks.specs.Change.{ends_of}
@@ -30,7 +29,8 @@ use Rattle.markdown_blocks.specs.Unread.{group_unread, listed_group, listed_grou
 use Rattle.markdown_blocks.proofs.EachRow.{EachGroup, EachRow, OfGroup, groups-each, last-each}
 use Rattle.markdown_blocks.proofs.FrontStands.{fronts-stood}
 use Rattle.markdown_blocks.proofs.PieceFacts.{Stood, over-stands, stood-append, stood-exit, stood-none, stood-pair}
-use Rattle.markdown_blocks.proofs.ChunkFacts.{ending-stands, line-ending}
+use Rattle.markdown_blocks.proofs.ChunkFacts.{ending-stands}
+use Rattle.markdown_blocks.proofs.EndingFacts.{ending-named}
 use Rattle.markdown_blocks.proofs.RowFacts.{AreRows, IsEnding, IsLine, IsRow, behind_line}
 use Rattle.markdown_blocks.proofs.NestedRows.{ByGroups, Ordered, rows-hold}
 use Rattle.markdown_blocks.specs.Rows.{group_ending, is_blank_group}
@@ -45,17 +45,6 @@ ends-stood bytes (c ∷ cs) p =
     (stood-exit bytes (container_name c) p)
 
 -- Lines.
-
--- each ending may end a blank line
-blank-ending : (ending : Ending) → stands_over n.BlankLineEnding (ending_bytes ending) ≡ true
-blank-ending LineFeed = refl
-blank-ending Return = refl
-blank-ending Both = refl
-
--- whatever ends a line is one that its name may stand over
-ending-named : (blank : Bool) (ending : Ending) → stands_over (ending_name blank) (ending_bytes ending) ≡ true
-ending-named true ending = blank-ending ending
-ending-named false ending = line-ending ending
 
 -- What is known of a line: the pieces behind it stand.
 record LineStands (bytes : List ℕ) (row : Row) : Type 0 where

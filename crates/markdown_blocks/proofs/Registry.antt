@@ -1,13 +1,15 @@
 -- The laws of the constructs that are built, and what the table has of them: the one place of the frame's proofs that
 -- names them.
-use Rattle.std.proofs.Common.{◌≡◌, ◌<◌, ℕ, Bool, true, false, cond, ◌||◌, List, [], ◌∷◌, ◌++◌, refl, sym, ◌∙◌, ap, ap₂}
+use Rattle.std.proofs.Common.{◌≡◌, ◌<◌, Bool, true, false, cond, ◌&&◌, ◌||◌, List, [], ◌∷◌, ◌++◌, refl, sym, ◌∙◌, ap, ap₂}
 use Rattle.std.proofs.Common.{arith}
 use Rattle.std.specs.Option.{is_some}
 use Rattle.md_engine.specs.declared.tokenizer.held_leaf.HeldLeaf.TheVariants as held_leaf
-use Rattle.markdown_blocks.specs.Registry.{IsOpenSpan, insider}
+use Rattle.markdown_blocks.specs.Registry.{IsOpenSpan, insider, shuts_out}
 use Rattle.md_engine.specs.declared.tokenizer.held_leaf.HeldLeaf.{HeldLeaf}
 use Rattle.std.specs.Option.{option_or}
-use Rattle.std.specs.Prelude.{Option, Some, None}
+use Rattle.std.specs.Prelude.{Option, Some, None, nat_le, not}
+use Rattle.std.proofs.lemmas.Bool.{and_parts}
+use Rattle.std.proofs.lemmas.Bool.Decides.{nat_tests}
 use Rattle.md_engine.specs.declared.configuration.ParseOptions.{ParseOptions}
 use Rattle.md_engine.specs.declared.event.Event.{Event}
 use Rattle.md_engine.specs.declared.event.Name.{Name}
@@ -44,34 +46,46 @@ use Rattle.md_leaves.proofs.HeadingSteps.{heading_steps}
 use Rattle.md_seam.specs.Ahead.{HasWhite}
 use Rattle.md_seam.specs.Spaces.{rest_ready}
 use Rattle.md_definition.specs.Containers.{Taken, opens, opens_footnote, opens_item, opens_quote}
-use Rattle.md_definition.specs.Leaves.{Came, Finished, Opened, break_at, closes, fence_at, fence_goes_on, heading_at}
-use Rattle.md_definition.specs.Rest.{Rest, line_of, lose}
+use Rattle.md_definition.specs.Leaves.{Came, Finished, Opened, ParagraphContext, break_at, closes, code_at, fence_at}
+use Rattle.md_definition.specs.Leaves.{fence_goes_on, heading_at, is_free, is_rule}
+use Rattle.md_leaves.specs.HeadingRule.{is_heading}
+use Rattle.md_lines.specs.Code.{may_open}
+use Rattle.md_definition.specs.Rest.{Rest, has_small_indent, indent, is_blank, line_of, lose, trim_start}
 use Rattle.md_definition.specs.State.{Leaf, NoLeaf, OpenCode, OpenFence, OpenHtml, OpenParagraph, OpenTable, Opening}
-use Rattle.md_definition.specs.State.{fence_block}
-use Rattle.md_definition.specs.Tree.{Break, Line}
+use Rattle.md_definition.specs.State.{fence_block, without_trailing_blank}
+use Rattle.md_definition.specs.Tree.{Break, Code, Line}
+use Rattle.md_lines.proofs.CodeGoods.{CodeFits, code_does}
+use Rattle.md_lines.proofs.CodeSteps.{code_steps}
 use Rattle.md_lines.proofs.FenceGoods.{FenceFits, fence_does}
 use Rattle.md_lines.proofs.FenceSteps.{fence_steps}
 use Rattle.md_seam.proofs.SpacesGoods.{Does, WhiteFits}
 use Rattle.markdown_blocks.specs.FlowRule.{Rule}
-use Rattle.markdown_blocks.specs.HeldLeaf.{IsBuiltLeaf, kind_of_leaf, left_by}
+use Rattle.markdown_blocks.specs.HeldLeaf.{IsBuiltLeaf, kind_of_leaf, left_by, takes_lazy}
+use Rattle.markdown_blocks.specs.LineLeaf.{LineLeaf}
+use Rattle.markdown_blocks.specs.Leaf.CodeIndented.{code_further, code_leaf, is_code}
 use Rattle.markdown_blocks.specs.Leaf.Fence.{fence_leaf, opening_at}
-use Rattle.markdown_blocks.specs.Leaf.FenceFurther.{fence_further, is_fence}
+use Rattle.markdown_blocks.specs.Leaf.FenceFurther.{fence_further, is_fence, opening_of}
 use Rattle.markdown_blocks.specs.Leaf.HeadingAtx.{heading_leaf}
 use Rattle.markdown_blocks.specs.Leaf.ThematicBreak.{break_leaf}
 use Rattle.markdown_blocks.specs.Parsed.{IsBuilt}
-use Rattle.markdown_blocks.specs.Registry.{Fence, FenceFurther, HeadingAtx, LeafName, ThematicBreak, behind}
+use Rattle.markdown_blocks.specs.Registry.{CodeFurther, CodeIndented, Fence, FenceFurther, HeadingAtx, LeafName}
+use Rattle.markdown_blocks.specs.Registry.{ThematicBreak, behind}
 use Rattle.markdown_blocks.specs.Registry.{construct_owner}
 use Rattle.markdown_blocks.specs.Registry.{construct_transition, container_rules, first_of, further_of, is_own, leaf}
 use Rattle.markdown_blocks.specs.Registry.{opener_at}
 use Rattle.markdown_blocks.specs.Registry.{openers, openers_behind, resolved, text_leaf, trials, tried_at}
 use Rattle.markdown_blocks.specs.Registry.{joins_lines}
-use Rattle.markdown_blocks.specs.Rows.{Row}
 use Rattle.markdown_blocks.specs.States.{flow_behaves_by, flow_owner, flow_table_scheme}
 use Rattle.markdown_blocks.proofs.BlockQuote.Laws.{quote-laws}
 use Rattle.markdown_blocks.proofs.BlockQuote.Plain.{quote-plain}
 use Rattle.markdown_blocks.proofs.BlockQuote.Registers.{quote-registers}
 use Rattle.markdown_blocks.proofs.ContainerLaws.{ContainerLaws}
 use Rattle.markdown_blocks.proofs.ContainerNames.{is_front}
+use Rattle.markdown_blocks.proofs.CodeIndented.Cells.{code-rest}
+use Rattle.markdown_blocks.proofs.CodeIndented.Found.{code-found, code-goes}
+use Rattle.markdown_blocks.proofs.CodeIndented.Laws.{code-laws, code_further-laws}
+use Rattle.markdown_blocks.proofs.CodeIndented.Registers.{code-registers}
+use Rattle.markdown_blocks.proofs.CodeIndented.Span.{code-span}
 use Rattle.markdown_blocks.proofs.Fence.Found.{fence-found, fence-off, fence-shallow}
 use Rattle.markdown_blocks.proofs.Fence.Laws.{fence-laws}
 use Rattle.markdown_blocks.proofs.Fence.Opened.{fence-starts}
@@ -94,7 +108,7 @@ use Rattle.markdown_blocks.proofs.Paragraph.Laws.{paragraph-laws}
 use Rattle.markdown_blocks.proofs.PlainLaws.{PlainLaws}
 use Rattle.markdown_blocks.proofs.Registers.{Registers}
 use Rattle.markdown_blocks.proofs.ShallowBlocks.{shallow-then}
-use Rattle.markdown_blocks.proofs.SpanLaws.{IsLineOf, SpanLaws}
+use Rattle.markdown_blocks.proofs.SpanLaws.{SpanLaws}
 use Rattle.markdown_blocks.proofs.TextLaws.{TextLaws}
 use Rattle.markdown_blocks.proofs.ThematicBreak.Found.{break-found}
 use Rattle.markdown_blocks.proofs.ThematicBreak.Laws.{break-laws}
@@ -103,6 +117,8 @@ use Rattle.markdown_blocks.proofs.ThematicBreak.Registers.{break-registers}
 -- Leaves that take a line.
 
 pub laws : (l : LeafName) → LeafLaws (leaf l)
+laws CodeIndented = code-laws
+laws CodeFurther = code_further-laws
 laws Fence = fence-laws
 laws FenceFurther = fence_further-laws
 laws HeadingAtx = heading-laws
@@ -117,31 +133,104 @@ abbrev pub came_of : ParseOptions → Rest → Option LeafName → Option Came
 came_of options r None = None
 came_of options r (Some l) = Some ((leaf l).comes options NoLeaf r)
 
+-- The leaf that a line meets is what the line stands against: text is open in both, or in neither.
+abbrev pub IsAgainst : ParagraphContext → HeldLeaf → Type 0
+IsAgainst against on = is_free against ≡ not (takes_lazy on)
+
+-- so indented code may begin by both, or by neither
+free-open : (on : HeldLeaf) → may_open on ≡ not (takes_lazy on)
+free-open held_leaf.None = refl
+free-open held_leaf.Text = refl
+free-open held_leaf.Code = refl
+free-open (held_leaf.Fence m size indent) = refl
+
 -- of the leaves of the line definition these alone are built, in this order
-pub leaves-found : (options : ParseOptions) (on : HeldLeaf) (r : Rest) →
-    option_or (fence_at options r) (option_or (heading_at options r) (break_at options r)) ≡
+pub leaves-found : (options : ParseOptions) (on : HeldLeaf) (against : ParagraphContext) (r : Rest) →
+    IsAgainst against on → is_blank r.bytes ≡ false →
+    option_or (code_at options against r)
+    (option_or (fence_at options r) (option_or (heading_at options r) (break_at options r))) ≡
     came_of options r (leaf_at options on r)
-leaves-found options on r =
-    ap₂ (λ (x y : Option Came). option_or x y) (fence-found options r)
-    (ap₂ (λ (x y : Option Came). option_or x y) (heading-found options r) (break-found options r))
-    ∙ go (fence_leaf.starts options on r) (heading_leaf.starts options on r) (break_leaf.starts options on r)
+leaves-found options on against r same dark =
+    ap₂ (λ (x y : Option Came). option_or x y) (code-found options on against r (free-open on ∙ sym same) dark)
+    (ap₂ (λ (x y : Option Came). option_or x y) (fence-found options r)
+    (ap₂ (λ (x y : Option Came). option_or x y) (heading-found options r) (break-found options r)))
+    ∙ go (code_leaf.starts options on r) (fence_leaf.starts options on r) (heading_leaf.starts options on r)
+    (break_leaf.starts options on r)
   where
     -- a leaf, if it starts
     one : Bool → LeafName → Option Came
     one x l = cond x (Some ((leaf l).comes options NoLeaf r)) None
 
-    go : (x y z : Bool) →
-        option_or (one x Fence) (option_or (one y HeadingAtx) (one z ThematicBreak)) ≡
-        came_of options r (cond x (Some Fence) (cond y (Some HeadingAtx) (cond z (Some ThematicBreak) None)))
-    go true y z = refl
-    go false true z = refl
-    go false false true = refl
-    go false false false = refl
+    go : (c x y z : Bool) →
+        option_or (one c CodeIndented) (option_or (one x Fence) (option_or (one y HeadingAtx) (one z ThematicBreak))) ≡
+        came_of options r
+        (cond c (Some CodeIndented)
+        (cond x (Some Fence) (cond y (Some HeadingAtx) (cond z (Some ThematicBreak) None))))
+    go true x y z = refl
+    go false true y z = refl
+    go false false true z = refl
+    go false false false true = refl
+    go false false false false = refl
+
+-- no leaf with a small indent starts where code does
+not-small : (options : ParseOptions) (r : Rest) → options.constructs.code_indented ≡ true → nat_le 4 (indent r) ≡ true →
+    has_small_indent options r ≡ false
+not-small options r on far =
+    ap (λ (x : Bool). not x || nat_le (indent r) 3) on ∙ (let few : nat_le (indent r) 3 ≡ false = grind (arith, nat_tests) in few)
+
+fence-none : (options : ParseOptions) (r : Rest) → has_small_indent options r ≡ false →
+    is_some (fence_at options r) ≡ false
+unfolding fence_at
+fence-none options r far = rw far refl
+
+-- So one that starts where text is open starts where none is.
+pub text-starts : (options : ParseOptions) (r : Rest) (l : LeafName) → leaf_at options held_leaf.Text r ≡ Some l →
+    leaf_at options held_leaf.None r ≡ Some l
+text-starts options r l found = go (code_leaf.starts options held_leaf.None r) refl
+  where
+    others : Option LeafName
+    others = first_of (λ l. (leaf l).starts options held_leaf.None r) (behind CodeIndented)
+
+    Others : Bool → Bool → Bool → Option LeafName
+    Others x y z = cond x (Some Fence) (cond y (Some HeadingAtx) (cond z (Some ThematicBreak) None))
+
+    off : (x y z : Bool) → (x && false && y && z) ≡ false
+    off true y z = refl
+    off false y z = refl
+
+    small : (x y : Bool) → (x && false && y) ≡ false
+    small true y = refl
+    small false y = refl
+
+    text : others ≡ Some l
+    text =
+        ap (λ (c : Bool). cond c (Some CodeIndented) others)
+        (sym (off options.constructs.code_indented (nat_le 4 (indent r)) (not (is_blank r.bytes)))) ∙ found
+
+    none : has_small_indent options r ≡ false → others ≡ None
+    none far =
+        ap (λ (x : Bool). Others x (heading_leaf.starts options held_leaf.None r)
+        (break_leaf.starts options held_leaf.None r)) (fence-none options r far)
+        ∙ ap (λ (x : Bool). Others false x (break_leaf.starts options held_leaf.None r))
+        (ap (λ (s : Bool). options.constructs.heading_atx && s && is_heading (trim_start r.bytes)) far
+        ∙ small options.constructs.heading_atx (is_heading (trim_start r.bytes)))
+        ∙ ap (Others false false)
+        (ap (λ (s : Bool). options.constructs.thematic_break && s && is_rule (trim_start r.bytes)) far
+        ∙ small options.constructs.thematic_break (is_rule (trim_start r.bytes)))
+
+    go : (c : Bool) → code_leaf.starts options held_leaf.None r ≡ c → cond c (Some CodeIndented) others ≡ Some l
+    go false e = text
+    go true e =
+        let of = code-rest options held_leaf.None r e in
+        let bad : None ≡ Some l = sym (none (not-small options r of.enabled of.indented)) ∙ text in cc
 
 -- what a line comes to that begins one of them
 pub leaf-begun : (l : LeafName) (options : ParseOptions) (on : HeldLeaf) (r : Rest) →
     (leaf l).starts options on r ≡ true → (leaf l).further on ≡ false → Begun l options on r
 unfolding IsOpenSpan
+leaf-begun CodeIndented options on r h begins = record { holds = refl; built = tt; shallow = λ bs shallow. shallow }
+leaf-begun CodeFurther options on r h begins =
+    let bad = (and_parts (is_code on) (is_blank r.bytes || nat_le 4 (indent r)) h).0 in absurd (cc)
 leaf-begun Fence options on r h begins = record {
   holds = refl;
   built = opening-fence options r (opening_at r) [] (fence-starts options r h).opens;
@@ -158,46 +247,78 @@ leaf-begun ThematicBreak options on r h begins =
 
 -- those that are tried go on none
 pub trials-begin : AllBegin trials
-trials-begin = (λ on. refl, (λ on. refl, (λ on. refl, tt)))
+trials-begin = (λ on. refl, (λ on. refl, (λ on. refl, (λ on. refl, tt))))
+
+-- behind a line of a fence no code is open
+fence-left : (options : ParseOptions) (on : HeldLeaf) (r : Rest) → is_code (fence_further.holds options on r) ≡ true → ⊥
+fence-left options on r e = go (is_fence on) (closes options (opening_of on) r) on refl e
+  where
+    go : (x y : Bool) (on : HeldLeaf) → is_fence on ≡ x →
+        is_code (cond x (cond y held_leaf.None on) held_leaf.None) ≡ true → ⊥
+    go false y on f e = cc
+    go true true on f e = cc
+    go true false held_leaf.Code f e = cc
+    go true false _ f e = cc
 
 -- a line that goes on what a line of one has left is one of the leaf that takes its further lines
 pub further-is : (l m : LeafName) (options : ParseOptions) (on : HeldLeaf) (r : Rest) →
     (leaf m).further ((leaf l).holds options on r) ≡ true → m ≡ further_of l
+further-is CodeIndented CodeFurther options on r e = refl
+further-is CodeFurther CodeFurther options on r e = refl
 further-is Fence FenceFurther options on r e = refl
 further-is FenceFurther FenceFurther options on r e = refl
 further-is HeadingAtx FenceFurther options on r e = cc
 further-is ThematicBreak FenceFurther options on r e = cc
+further-is CodeIndented FenceFurther options on r e = cc
+further-is CodeFurther FenceFurther options on r e = cc
+further-is Fence CodeFurther options on r e = cc
+further-is FenceFurther CodeFurther options on r e = absurd (fence-left options on r e)
+further-is HeadingAtx CodeFurther options on r e = cc
+further-is ThematicBreak CodeFurther options on r e = cc
+further-is l CodeIndented options on r e = cc
 further-is l Fence options on r e = cc
 further-is l HeadingAtx options on r e = cc
 further-is l ThematicBreak options on r e = cc
 
 -- which takes those behind its own lines too
 pub further-further : (l : LeafName) → further_of (further_of l) ≡ further_of l
+further-further CodeIndented = refl
+further-further CodeFurther = refl
 further-further Fence = refl
 further-further FenceFurther = refl
 further-further HeadingAtx = refl
 further-further ThematicBreak = refl
 
 -- no further line begins a block, so of the lines of one that does there is nothing to say
-begins-none : (options : ParseOptions) (bytes : List ℕ) (row : Row) → IsLineOf options bytes fence_further row →
-    fence_further.further row.on ≡ false → ⊥
-begins-none options bytes row is begins = let bad : true ≡ false = sym is.starts ∙ begins in cc
-
-further-span : SpanLaws fence_further fence_further
-further-span = record {
-  first_spanned = λ options bytes row is begins. absurd (begins-none options bytes row is begins);
-  further_spanned = fence-span.further_spanned;
+further-span : (first l : LineLeaf) → SpanLaws first l →
+    ((options : ParseOptions) (on : HeldLeaf) (r : Rest) → l.starts options on r ≡ true → l.further on ≡ false → ⊥) →
+    SpanLaws l l
+further-span first l laws none = record {
+  first_spanned = λ options bytes row is begins. absurd (none options row.on is.rest is.starts begins);
+  further_spanned = laws.further_spanned;
   block = λ options bytes row rows is are. Break;
-  facts = λ options bytes row rows is begins are. absurd (begins-none options bytes row is begins);
-  shuts = λ options bytes row rows is begins are bs. absurd (begins-none options bytes row is begins);
+  facts = λ options bytes row rows is begins are. absurd (none options row.on is.rest is.starts begins);
+  shuts = λ options bytes row rows is begins are bs. absurd (none options row.on is.rest is.starts begins);
   becomes = λ options bytes row rows is begins are wants reads text string texts strings.
-      absurd (begins-none options bytes row is begins);
+      absurd (none options row.on is.rest is.starts begins);
 }
+
+fence-begins : (options : ParseOptions) (on : HeldLeaf) (r : Rest) → fence_further.starts options on r ≡ true →
+    fence_further.further on ≡ false → ⊥
+fence-begins options on r starts begins = let bad : true ≡ false = sym starts ∙ begins in cc
+
+code-begins : (options : ParseOptions) (on : HeldLeaf) (r : Rest) → code_further.starts options on r ≡ true →
+    code_further.further on ≡ false → ⊥
+code-begins options on r starts begins =
+    let open_code = (and_parts (is_code on) (is_blank r.bytes || nat_le 4 (indent r)) starts).0 in
+    let bad : true ≡ false = sym open_code ∙ begins in cc
 
 -- the lines of one that does not end on its line, with those that go on it
 pub span-laws : (l : LeafName) → (leaf l).ends ≡ false → SpanLaws (leaf l) (leaf (further_of l))
+span-laws CodeIndented e = code-span
+span-laws CodeFurther e = further-span code_leaf code_further code-span code-begins
 span-laws Fence e = fence-span
-span-laws FenceFurther e = further-span
+span-laws FenceFurther e = further-span fence_leaf fence_further fence-span fence-begins
 span-laws HeadingAtx e = absurd (cc)
 span-laws ThematicBreak e = absurd (cc)
 
@@ -208,10 +329,11 @@ AreAsked [] = Unit {0}
 AreAsked (l ∷ ls) = ((on : HeldLeaf) → (leaf l).asked on ≡ true) × AreAsked ls
 
 pub trials-asked : AreAsked trials
-trials-asked = (λ on. refl, (λ on. refl, (λ on. refl, tt)))
+trials-asked = (λ on. refl, (λ on. refl, (λ on. refl, (λ on. refl, tt))))
 
 pub trial-asked : (state : FlowState) (l : LeafName) → tried_at state ≡ Some l → (on : HeldLeaf) →
     (leaf l).asked on ≡ true
+trial-asked flow.BeforeCodeIndented CodeIndented e on = refl
 trial-asked flow.BeforeRaw Fence e on = refl
 trial-asked flow.BeforeHeadingAtx HeadingAtx e on = refl
 trial-asked flow.BeforeThematicBreak ThematicBreak e on = refl
@@ -221,10 +343,18 @@ trial-asked _ _ e on = cc
 pub lines-join : (l : LeafName) → (leaf l).ends ≡ false → (options : ParseOptions) (on : HeldLeaf) (r : Rest) →
     (leaf l).starts options on r ≡ true → (leaf l).further on ≡ false → joins_lines options ≡ true
 unfolding joins_lines
+lines-join CodeIndented e options on r starts begins =
+    rw (code-rest options on r starts).enabled (last options.constructs.code_fenced options.constructs.math_flow)
+  where
+    last : (x y : Bool) → (x || y || true) ≡ true
+    last true y = refl
+    last false true = refl
+    last false false = refl
+lines-join CodeFurther e options on r starts begins = absurd (code-begins options on r starts begins)
 lines-join Fence e options on r starts begins = go options.constructs.code_fenced refl options.constructs.math_flow refl
   where
     go : (x : Bool) → options.constructs.code_fenced ≡ x → (y : Bool) → options.constructs.math_flow ≡ y →
-        (x || y) ≡ true
+        (x || y || options.constructs.code_indented) ≡ true
     go true f y g = refl
     go false f true g = refl
     go false f false g = let none = ap is_some (fence-off options r f g) in absurd (cc)
@@ -236,6 +366,7 @@ lines-join ThematicBreak e options on r starts begins = absurd (cc)
 
 -- each is tried at the state in front of it alone
 pub tried-before : (state : FlowState) (l : LeafName) → tried_at state ≡ Some l → (leaf l).before ≡ state
+tried-before flow.BeforeCodeIndented CodeIndented e = refl
 tried-before flow.BeforeRaw Fence e = refl
 tried-before flow.BeforeHeadingAtx HeadingAtx e = refl
 tried-before flow.BeforeThematicBreak ThematicBreak e = refl
@@ -254,6 +385,8 @@ NextIs [] = Unit {0}
 NextIs (m ∷ ms) = HasTrial m × (behind m ≡ ms)
 
 pub leaf-next : (l : LeafName) → HasTrial l → NextIs (behind l)
+leaf-next CodeIndented is = (refl, refl)
+leaf-next CodeFurther is = absurd (cc)
 leaf-next Fence is = (refl, refl)
 leaf-next FenceFurther is = absurd (cc)
 leaf-next HeadingAtx is = (refl, refl)
@@ -268,6 +401,9 @@ pub record LeafStates (l : LeafName) : Type 1 where
       flow_behaves_by options next (leaf l).start cells h ≡ (leaf l).trial options cells h
 
 pub leaf-states : (l : LeafName) → LeafStates l
+leaf-states CodeIndented = record { level = omega arith; ready = λ x K is. is; starts = λ options next cells h. refl }
+leaf-states CodeFurther =
+    record { level = omega arith; ready = λ x K is. is; starts = λ options next cells h. refl }
 leaf-states Fence = record { level = omega arith; ready = λ x K is. is; starts = λ options next cells h. refl }
 leaf-states FenceFurther =
     record { level = omega arith; ready = λ x K is. is; starts = λ options next cells h. refl }
@@ -285,40 +421,50 @@ pub insider-text : insider held_leaf.Text ≡ None
 unfolding insider
 insider-text = refl
 
--- Fenced code and math alone are asked first.
-insider-fence : (on : HeldLeaf) (l : LeafName) → insider on ≡ Some l → (is_fence on ≡ true) × (l ≡ FenceFurther)
+-- nor is a container shut out there
+pub shuts_out-none : shuts_out held_leaf.None ≡ false
+unfolding shuts_out
+shuts_out-none = refl
+
+pub shuts_out-text : shuts_out held_leaf.Text ≡ false
+unfolding shuts_out
+shuts_out-text = refl
+
+-- One that is asked first does not always end on its line, it is asked of that leaf, and its line goes on that one.
+record IsInsider (on : HeldLeaf) (l : LeafName) : Type 0 where
+  ends : (leaf l).ends ≡ false
+  asked : (leaf l).asked on ≡ true
+  further : (leaf l).further on ≡ true
+
+insider-is : (on : HeldLeaf) (l : LeafName) → insider on ≡ Some l → IsInsider on l
 unfolding insider
-insider-fence on l e = go (is_fence on) refl l e
+insider-is on l e = go (is_fence on) (is_code on) refl refl l e
   where
-    go : (x : Bool) → is_fence on ≡ x → (l : LeafName) → cond x (Some FenceFurther) None ≡ Some l →
-        (is_fence on ≡ true) × (l ≡ FenceFurther)
-    go true f FenceFurther e = (f, refl)
-    go true f l e = absurd (cc)
-    go false f l e = absurd (cc)
+    go : (x y : Bool) → is_fence on ≡ x → is_code on ≡ y → (l : LeafName) →
+        cond x (Some FenceFurther) (cond y (Some CodeFurther) None) ≡ Some l → IsInsider on l
+    go true y f k FenceFurther e = record { ends = refl; asked = f; further = f }
+    go false true f k CodeFurther e = record { ends = refl; asked = k; further = k }
+    go true y f k l e = absurd (cc)
+    go false true f k l e = absurd (cc)
+    go false false f k l e = absurd (cc)
 
--- one that is asked first does not always end on its line
 pub insider-open : (on : HeldLeaf) (l : LeafName) → insider on ≡ Some l → (leaf l).ends ≡ false
-insider-open on l e = let is = insider-fence on l e in ap (λ (k : LeafName). (leaf k).ends) is.1
+insider-open on l e = (insider-is on l e).ends
 
--- and is asked of that leaf,
 pub insider-asked : (on : HeldLeaf) (l : LeafName) → insider on ≡ Some l → (leaf l).asked on ≡ true
-insider-asked on l e = let is = insider-fence on l e in ap (λ (k : LeafName). (leaf k).asked on) is.1 ∙ is.0
-
--- so its line goes on that one
-pub insider-further : (on : HeldLeaf) (l : LeafName) → insider on ≡ Some l → (leaf l).further on ≡ true
-insider-further on l e = let is = insider-fence on l e in ap (λ (k : LeafName). (leaf k).further on) is.1 ∙ is.0
+insider-asked on l e = (insider-is on l e).asked
 
 -- fenced code and math that is open
 fence-open : (o : Opening) (lines : List Line) → is_fence (kind_of_leaf (OpenFence o lines)) ≡ true →
     OpenSpan (OpenFence o lines)
-unfolding insider IsOpenSpan fence_goes_on
+unfolding insider shuts_out IsOpenSpan fence_goes_on
 fence-open o lines is = record {
   name = FenceFurther;
   asked = rw is refl;
   same = refl;
   further = is;
   lines = refl;
-  concrete = refl;
+  concrete = sym is;
   goes = λ options r. rw is refl;
   built = λ options r starts. built (closes options o r) (lines ++ line_of (lose o.indent r) ∷ []);
   shallow = λ options r. shallow (closes options o r) (lines ++ line_of (lose o.indent r) ∷ []);
@@ -336,13 +482,29 @@ fence-open o lines is = record {
     shallow true more bs h = shallow-then bs (fence_block o lines true) h (fence-shallow o lines true)
     shallow false more bs h = h
 
+-- indented code that is open
+code-open : (lines : List Line) → OpenSpan (OpenCode lines)
+unfolding insider shuts_out IsOpenSpan
+code-open lines = record {
+  name = CodeFurther;
+  asked = refl;
+  same = refl;
+  further = refl;
+  lines = refl;
+  concrete = refl;
+  goes = λ options r. code-goes options lines r;
+  built = λ options r starts. tt;
+  shallow = λ options r bs h. h;
+  closed = λ options bs h. shallow-then bs (Code (without_trailing_blank lines)) h refl;
+}
+
 -- what may be open of several lines is as the frame asks
 pub open-span : (open_leaf : Leaf) → IsOpenSpan open_leaf → OpenSpan open_leaf
 unfolding IsOpenSpan
 open-span (OpenFence o lines) is = fence-open o lines is
 open-span NoLeaf is = absurd is
 open-span (OpenParagraph lines) is = absurd is
-open-span (OpenCode lines) is = absurd is
+open-span (OpenCode lines) is = code-open lines
 open-span (OpenHtml kind lines) is = absurd is
 open-span (OpenTable delimiter rows) is = absurd is
 
@@ -465,6 +627,9 @@ break_fits = record { white = white_fits; each = λ state. fits flow_owner (n.Th
 heading_fits : HeadingFits flow_table_scheme
 heading_fits = record { white = white_fits; each = λ state. fits flow_owner (n.HeadingAtx state) }
 
+code_fits : CodeFits flow_table_scheme
+code_fits = record { white = white_fits; each = λ state. fits flow_owner (n.CodeIndented state) }
+
 fence_fits : FenceFits flow_table_scheme
 fence_fits = record { white = white_fits; each = λ state. fits flow_owner (n.RawFlow state) }
 
@@ -487,6 +652,7 @@ pub construct-does : (is_name : ResolveName → ResolveName → Bool) (name : St
     w.current ≡ looks w → (construct_owner name).ready name (spot w) (after_all flow_table_scheme w.frames) →
     Does flow_table_scheme name w (construct_transition is_name name w)
 construct-does is_name (n.BlockQuote state) w c at = quote_does flow_table_scheme state w quote_fits c at
+construct-does is_name (n.CodeIndented state) w c at = code_does flow_table_scheme state w code_fits c at
 construct-does is_name (n.HeadingAtx state) w c at =
     heading_does flow_table_scheme (is_name r.HeadingAtx) state w heading_fits c at
 construct-does is_name (n.ListItem state) w c at = item_does flow_table_scheme state w item_fits c at
@@ -502,6 +668,8 @@ pub construct-steps : (is_name : ResolveName → ResolveName → Bool) (feed : F
     (construct_transition is_name name w).world
 construct-steps is_name feed next (n.BlockQuote state) w s at =
     quote_steps _ feed state w (record { white = white_has w.setting.options next; each = λ _ _ _. refl }) s
+construct-steps is_name feed next (n.CodeIndented state) w s at =
+    code_steps _ feed state w (record { white = white_has w.setting.options next; each = λ _ _ _. refl }) s at.0
 construct-steps is_name feed next (n.HeadingAtx state) w s at =
     heading_steps _ feed (is_name r.HeadingAtx) state w _
     (record { white = white_has w.setting.options next; each = λ _ _ _. refl }) s at
@@ -523,6 +691,7 @@ construct-steps is_name feed next name w s at = absurd at
 pub construct-registers : (name : StateName) (w : World) → Registers w →
     Registers (construct_transition same_name name w).world
 construct-registers (n.BlockQuote state) w h = quote-registers state w h
+construct-registers (n.CodeIndented state) w h = code-registers state w h
 construct-registers (n.HeadingAtx state) w h = heading-registers state w h
 construct-registers (n.ListItem state) w h = item-registers state w h
 construct-registers (n.RawFlow state) w h = fence-registers state w h

@@ -3,20 +3,14 @@ use Rattle.std.proofs.Common.{◌≡◌, false, List, refl}
 use Rattle.md_engine.specs.declared.tokenizer.held_leaf.HeldLeaf.{HeldLeaf}
 use Rattle.std.specs.Prelude.{None}
 use Rattle.md_engine.specs.declared.configuration.ParseOptions.{ParseOptions}
-use Rattle.md_definition.specs.Leaves.{ParagraphContext, code_at, html_at}
-use Rattle.md_definition.specs.Leaves.{starts, table_at, underline_depth}
-use Rattle.md_definition.specs.Rest.{Rest}
+use Rattle.md_definition.specs.Leaves.{ParagraphContext, html_at, starts, table_at, underline_depth}
+use Rattle.md_definition.specs.Rest.{Rest, is_blank}
 use Rattle.md_definition.specs.State.{Kept}
 use Rattle.md_definition.specs.Tree.{Blocks}
 use Rattle.markdown_blocks.specs.Parsed.{IsBuilt}
-use Rattle.markdown_blocks.proofs.Registry.{came_of, leaf_at, leaves-found}
+use Rattle.markdown_blocks.proofs.Registry.{IsAgainst, came_of, leaf_at, leaves-found}
 
 -- What is not built.
-
-code-off : (options : ParseOptions) (against : ParagraphContext) (r : Rest) →
-    options.constructs.code_indented ≡ false → code_at options against r ≡ None
-unfolding code_at
-code-off options against r off = rw off refl
 
 html-off : (options : ParseOptions) (against : ParagraphContext) (r : Rest) → options.constructs.html_flow ≡ false →
     html_at options against r ≡ None
@@ -33,13 +27,10 @@ pub table-off : (options : ParseOptions) (bs : Blocks) (lines : List Kept) (r : 
 unfolding table_at
 table-off options bs lines r built = rw built.gfm_table refl
 
--- The first leaf that starts on a line, other than text, is the first of the registry that does.
-pub starts-found : (options : ParseOptions) (on : HeldLeaf) (against : ParagraphContext) (r : Rest) → IsBuilt options →
+-- The first leaf that starts on a line that is not blank, other than text, is the first of the registry that does.
+pub starts-found : (options : ParseOptions) (on : HeldLeaf) (against : ParagraphContext) (r : Rest) →
+    IsAgainst against on → is_blank r.bytes ≡ false → IsBuilt options →
     starts options against r ≡ came_of options r (leaf_at options on r)
 unfolding starts
-starts-found options on against r built =
-    rw (
-      code-off options against r built.code_indented,
-      html-off options against r built.html_flow,
-    )
-    (leaves-found options on r)
+starts-found options on against r same dark built =
+    rw (html-off options against r built.html_flow) (leaves-found options on against r same dark)

@@ -1,7 +1,7 @@
 -- What the lines of a text are, as flow reads them: facts that the lemmas on the tree rest on.
 use Rattle.md_engine.specs.declared.tokenizer.held_leaf.HeldLeaf.{HeldLeaf}
 use Rattle.std.proofs.Common.{◌≡◌, ℕ, ◌+◌, ◌≤◌, List, [], ◌∷◌, ◌++◌, length, slice_range, ap, ◌∙◌, arith}
-use Rattle.std.specs.Prelude.{◌&&◌, ◌==◌, Some, None}
+use Rattle.std.specs.Prelude.{◌&&◌, ◌||◌, ◌==◌, Some, None}
 use Rattle.md_engine.specs.declared.configuration.ParseOptions.{ParseOptions}
 use Rattle.md_engine.specs.declared.event.Point.{Point}
 use Rattle.md_seam.specs.Events.Places.{past_text}
@@ -12,10 +12,10 @@ use Rattle.md_definition.specs.State.{Container}
 use Rattle.markdown_blocks.specs.Registry.{LeafName, leaf}
 use Rattle.markdown_blocks.specs.Change.{open_behind}
 use Rattle.markdown_blocks.proofs.LeafFacts.{LineAt}
-use Rattle.md_definition.specs.Rest.{Rest}
+use Rattle.md_definition.specs.Rest.{Rest, is_blank}
 use Rattle.markdown_blocks.specs.Fronted.{contained, rest_from, rest_line}
 use Rattle.markdown_blocks.specs.Rows.{BlankRow, LeafRow, Row, TextRow, blank_line, is_empty_row, line_behind}
-use Rattle.markdown_blocks.specs.Rows.{line_kind}
+use Rattle.markdown_blocks.specs.Rows.{line_kind, stays_blank}
 use Rattle.markdown_blocks.proofs.FrontFacts.{LinePrefix}
 use Rattle.markdown_blocks.proofs.PieceFacts.{CutsFirst}
 
@@ -35,8 +35,10 @@ pub record IsRow (options : ParseOptions) (bytes line : List ℕ) (row : Row) : 
   pub end_whole : row.end.vs ≡ 0
   pub cut_first : CutsFirst row.first line
   pub cut : Cut rest.spaces row.first
-  -- nothing at all stands on the line if it ends where it begins, in the column where lines begin
-  pub empty : row.empty ≡ (is_empty_row row && (row.first.column == 1))
+  -- where a leaf takes it, its ending is that of a blank line if it is blank and stays so, or if nothing at all stands
+  -- on it: it ends where it begins, in the column where lines begin
+  pub empty : row.empty ≡
+      ((stays_blank row.kind && is_blank rest.bytes) || (is_empty_row row && (row.first.column == 1)))
   -- what flow adds for it
   pub blank : row.kind ≡ BlankRow → row.inside ≡ blank_line line row.first
   pub leaf_is : (l : LeafName) → row.kind ≡ LeafRow l → row.inside ≡ (leaf l).added options row.on line row.first

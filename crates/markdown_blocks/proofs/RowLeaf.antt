@@ -1,8 +1,8 @@
 -- What is known of the leaf of a line of a text, by the laws of its construct.
 use Rattle.std.proofs.Common.{◌≡◌, ◌≢◌, ℕ, Bool, true, false, List, [], ◌∷◌, ◌+◌, length, arith}
-use Rattle.std.proofs.Common.{refl, sym, ap, ◌∙◌, subst, subst₂}
+use Rattle.std.proofs.Common.{refl, sym, ap, ap₂, ◌∙◌, subst, subst₂}
 use Rattle.std.proofs.lemmas.Bool.Decides.{nat_tests}
-use Rattle.std.specs.Prelude.{◌&&◌, ◌==◌, Option, Some, None, not}
+use Rattle.std.specs.Prelude.{◌&&◌, ◌||◌, ◌==◌, Option, Some, None, not}
 use Rattle.md_engine.specs.declared.configuration.ParseOptions.{ParseOptions}
 use Rattle.md_engine.specs.declared.event.Content.{Content}
 use Rattle.md_engine.specs.declared.event.Content.TheVariants as content
@@ -11,9 +11,9 @@ use Rattle.md_definition.specs.Rest.{Rest, is_blank}
 use Rattle.md_definition.specs.Tree.{Block}
 use Rattle.md_seam.specs.Substituted.{Readings}
 use Rattle.markdown_blocks.specs.Fronted.{rest_line}
-use Rattle.markdown_blocks.specs.Registry.{LeafName, insider, leaf}
+use Rattle.markdown_blocks.specs.Registry.{LeafName, leaf}
 use Rattle.markdown_blocks.specs.Rows.{BlankRow, LeafRow, Row, RowKind, TextRow, blank_line, leaf_done, leaf_unread}
-use Rattle.markdown_blocks.specs.Rows.{is_blank_by, is_blank_row, is_empty_row, row_line}
+use Rattle.markdown_blocks.specs.Rows.{is_blank_by, is_blank_row, is_empty_row, row_line, stays_blank}
 use Rattle.markdown_blocks.proofs.BlankLine.{blank-facts, blank-unlinked}
 use Rattle.markdown_blocks.proofs.KindLemmas.{kind-blank, kind-filled, kind-starts}
 use Rattle.markdown_blocks.proofs.Registry.{insider-open}
@@ -43,27 +43,28 @@ pub leaf-at : (options : ParseOptions) (bytes line : List ℕ) (row : Row) → (
 leaf-at options bytes line row is =
     subst (λ (l : List ℕ). LineAt bytes is.rest l row.first row.end) is.line_is (line-at options bytes line row is)
 
--- something stands on the line of a leaf that is not asked first
-pub leaf-some : (options : ParseOptions) (bytes line : List ℕ) (row : Row) (l : LeafName) →
-    IsRow options bytes line row → row.kind ≡ LeafRow l → (insider row.on ≡ Some l → ⊥) → is_empty_row row ≡ false
-leaf-some options bytes line row l is e other =
-    let some : is_blank (rest_line is.rest) ≡ false =
-    line-blank is.rest ∙ kind-filled options row.on is.rest l (sym is.kind ∙ e) other in
-    go line (ap is_blank is.line_is ∙ some) is.size
-  where
-    go : (line : List ℕ) → is_blank line ≡ false → row.end.index ≡ row.first.index + length line →
-        is_empty_row row ≡ false
-    go [] some size = cc
-    go (b ∷ bs) some size = grind (arith, nat_tests)
-
--- so it does where one always ends
+-- a line on which a leaf always ends is not blank, so its ending is not that of a blank line
 pub leaf-filled : (options : ParseOptions) (bytes line : List ℕ) (row : Row) (l : LeafName) →
     IsRow options bytes line row → row.kind ≡ LeafRow l → (leaf l).ends ≡ true → row.empty ≡ false
 leaf-filled options bytes line row l is e ends =
     is.empty
-    ∙ ap (λ (x : Bool). x && (row.first.column == 1))
-    (leaf-some options bytes line row l is e
-    (λ i. let bad : true ≡ false = sym ends ∙ insider-open row.on l i in cc))
+    ∙ ap₂ (λ (blank ended : Bool). (stays_blank row.kind && blank) || (ended && (row.first.column == 1))) some
+    (stands line (ap is_blank is.line_is ∙ line-blank is.rest ∙ some) is.size)
+    ∙ none (stays_blank row.kind)
+  where
+    some : is_blank is.rest.bytes ≡ false
+    some =
+        kind-filled options row.on is.rest l (sym is.kind ∙ e)
+        (λ i. let bad : true ≡ false = sym ends ∙ insider-open row.on l i in cc)
+
+    stands : (line : List ℕ) → is_blank line ≡ false → row.end.index ≡ row.first.index + length line →
+        is_empty_row row ≡ false
+    stands [] some size = cc
+    stands (b ∷ bs) some size = grind (arith, nat_tests)
+
+    none : (x : Bool) → ((x && false) || false) ≡ false
+    none true = refl
+    none false = refl
 
 -- A line that is no text, and no line of a leaf of several, by its kind.
 

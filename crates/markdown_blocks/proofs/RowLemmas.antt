@@ -2,8 +2,8 @@
 use Rattle.md_engine.specs.declared.tokenizer.held_leaf.HeldLeaf.TheVariants as held_leaf
 use Rattle.md_engine.specs.declared.tokenizer.held_leaf.HeldLeaf.{HeldLeaf}
 use Rattle.std.proofs.Common.{◌≡◌, ℕ, zero, suc, ◌+◌, ◌^◌, ◌<◌, ◌≤◌, Bool, true, false, List, [], ◌∷◌, ◌++◌, length}
-use Rattle.std.proofs.Common.{drop, refl, sym, ap, ◌∙◌, subst, arith, append-nil, append_assoc, inl, inr, ◌⊎◌}
-use Rattle.std.specs.Prelude.{◌&&◌, ◌==◌, Some}
+use Rattle.std.proofs.Common.{drop, refl, sym, ap, ap₂, ◌∙◌, subst, arith, append-nil, append_assoc, inl, inr, ◌⊎◌}
+use Rattle.std.specs.Prelude.{◌&&◌, ◌||◌, ◌==◌, Some}
 use Rattle.std.proofs.lemmas.Bool.{eqb-true, or_from}
 use Rattle.std.proofs.lemmas.List.{length-append}
 use Rattle.md_engine.specs.declared.configuration.ParseOptions.{ParseOptions}
@@ -29,13 +29,11 @@ use Rattle.markdown_blocks.specs.FlowReads.{text_cells, text_rows, text_setting}
 use Rattle.markdown_blocks.specs.Fronted.{Contained, contained, rest_from, rest_line}
 use Rattle.markdown_blocks.specs.Parsed.{IsBuilt}
 use Rattle.markdown_blocks.specs.Rows.{behind_held, leaf_behind, Held, Row, RowKind, after_ending, closes_before}
-use Rattle.markdown_blocks.specs.Rows.{held_at, inside_of}
-use Rattle.markdown_blocks.specs.Rows.{line_kind, onto_rows, row_kind, row_of, rows_at, rows_by}
+use Rattle.markdown_blocks.specs.Rows.{ends_blank, held_at, inside_of}
+use Rattle.markdown_blocks.specs.Rows.{line_kind, onto_rows, row_kind, row_of, rows_at, rows_by, stays_blank}
 use Rattle.markdown_blocks.proofs.FrontRows.{HasHeld, held-is}
 use Rattle.markdown_blocks.proofs.RestFacts.{rest-line_end, rest-no_ending}
-use Rattle.md_seam.specs.Look.{first_seen}
-use Rattle.markdown_blocks.specs.LineFlags.{nothing_stands}
-use Rattle.markdown_blocks.proofs.RestRows.{rest-cut, rest-empty, rest-ending, rest-past, rest-whole}
+use Rattle.markdown_blocks.proofs.RestRows.{rest-blank, rest-cut, rest-empty, rest-ending, rest-past, rest-whole}
 use Rattle.markdown_blocks.proofs.RowFacts.{AreRows, IsEnding, IsLine, IsRow, behind_line}
 use Rattle.markdown_blocks.proofs.RowKinds.{behind-rest, blank-inside, kind-rest, leaf-inside}
 use Rattle.markdown_blocks.proofs.RegistryRead.{AreRead}
@@ -83,8 +81,11 @@ held-row options bytes behind said r stop h below fed short is none k =
       cut_first = rest-cut r p is.cut;
       cut = is.cut;
       empty =
-          ap (λ (l : List Cell). nothing_stands (first_seen l) p) fed
-          ∙ ap (λ (x : Bool). x && (p.column == 1))
+          ap (λ (l : List Cell). ends_blank (row_kind options h.on h.cells) l p) fed
+          ∙ ap₂
+          (λ (blank ended : Bool).
+          (stays_blank (row_kind options h.on h.cells) && blank) || (ended && (p.column == 1)))
+          (rest-blank said r p stop none k one is.cut)
           (rest-empty said r p stop (line_end h.cells p).index none k index);
       blank =
           λ e. inside (row_kind options h.on h.cells)

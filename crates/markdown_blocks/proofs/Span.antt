@@ -1,6 +1,9 @@
 -- The lines of one leaf that are joined: what is known of their events.
 pub mod Cuts
+pub mod Framed
+pub mod Bare
 pub mod Inside
 pub mod Lead
 pub mod Leaf
 pub mod Lines
+pub mod Behind

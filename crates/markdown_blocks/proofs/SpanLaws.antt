@@ -1,27 +1,28 @@
 -- The laws of a leaf of several lines: what the frame asks of its lines, once they are joined.
 --
 -- One value of `LineLeaf` takes its first line, and one its further lines; both may be the same.
-use Rattle.std.proofs.Common.{◌≡◌, ℕ, ◌+◌, Bool, true, false, List, [], ◌∷◌, ◌++◌, length}
-use Rattle.std.specs.Prelude.{◌&&◌, nat_lt, not, if◌then◌else◌, Some}
+use Rattle.std.proofs.Common.{◌≡◌, ◌⊎◌, ℕ, ◌+◌, Bool, true, false, List, [], ◌∷◌, ◌++◌, length, map}
+use Rattle.std.specs.Prelude.{◌&&◌, ◌||◌, ◌==◌, nat_lt, not, if◌then◌else◌, Some}
 use Rattle.md_engine.specs.declared.configuration.ParseOptions.{ParseOptions}
 use Rattle.md_engine.specs.declared.event.Content.{Content}
 use Rattle.md_engine.specs.declared.event.Content.TheVariants as content
 use Rattle.md_engine.specs.declared.event.Event.{Event}
 use Rattle.md_engine.specs.declared.event.Point.{Point}
 use Rattle.md_definition.specs.Leaves.{Came}
-use Rattle.md_definition.specs.Rest.{Rest}
+use Rattle.md_definition.specs.Rest.{Rest, is_blank}
 use Rattle.md_definition.specs.State.{NoLeaf, shut, then_block}
 use Rattle.md_definition.specs.Step.{came}
 use Rattle.md_definition.specs.Tree.{Block, Blocks}
-use Rattle.md_leaves.proofs.SpannedLines.{IsBegin, IsEnd, IsFurther, NoLines}
+use Rattle.md_leaves.specs.Spanned.{renamed}
+use Rattle.md_leaves.specs.declared.spans.Place.TheVariants.{Between}
+use Rattle.md_leaves.proofs.SpannedLines.{IsBegin, IsEnd, IsFurther, NoBlocks, NoLines}
 use Rattle.md_seam.specs.Substituted.{Readings}
 use Rattle.markdown_blocks.specs.Fronted.{rest_line}
 use Rattle.markdown_blocks.specs.HeldLeaf.{left_by}
 use Rattle.markdown_blocks.specs.LineLeaf.{LineLeaf}
-use Rattle.markdown_blocks.specs.Rows.{Row, is_empty_row, last_row, span_by, span_done}
+use Rattle.markdown_blocks.specs.Rows.{Row, is_blank_row, is_empty_row, last_row, span_by, span_done}
 use Rattle.markdown_blocks.proofs.FrontFacts.{LinePrefix}
 use Rattle.markdown_blocks.proofs.LeafFacts.{LeafFacts, LineAt, ReadsText, ReadsString}
-pub use Rattle.markdown_blocks.proofs.PrefixFacts.{is_bare}
 use Rattle.markdown_blocks.proofs.RowFacts.{IsEnding}
 use Rattle.markdown_blocks.proofs.SpannedFacts.{AreUnspanned}
 use Rattle.markdown_blocks.proofs.SubstitutedLemmas.{Becomes}
@@ -36,6 +37,10 @@ pub record IsLineOf (options : ParseOptions) (bytes : List ℕ) (l : LineLeaf) (
   pub starts : l.starts options row.on rest ≡ true
   pub inside : row.inside ≡ l.added options row.on (rest_line rest) row.first
   pub behind : row.behind ≡ l.holds options row.on rest
+  -- whether its ending is that of a blank line
+  pub empty : row.empty ≡
+      ((l.stays_blank && is_blank rest.bytes) || (is_empty_row row && (row.first.column == 1)))
+  pub ending : is_blank_row row ≡ row.empty
 
 -- further lines behind one: each meets the leaf that the one before has left, behind prefixes of the containers alone
 abbrev pub AreBehind : ParseOptions → List ℕ → LineLeaf → Row → List Row → Type 0
@@ -46,10 +51,6 @@ AreBehind options bytes l row (next ∷ rows) =
     × (on : next.on ≡ row.behind) × (further : l.further next.on ≡ true)
     × (is : IsLineOf options bytes l next) × AreBehind options bytes l next rows
 
--- whether nothing at all stands on a line, and no prefix in front of it
-abbrev pub is_bare_row : Row → Bool
-is_bare_row row = is_bare row.front && is_empty_row row
-
 -- What the line definition comes to with them, behind what it came to before. An empty line behind the ending that the
 -- text ends with is none of its lines.
 abbrev pub come_behind : (options : ParseOptions) (bytes : List ℕ) (l : LineLeaf) (row : Row) (rows : List Row) →
@@ -59,7 +60,8 @@ come_behind options bytes l row (next ∷ rows) are c =
     come_behind options bytes l next rows are.7
     (if nat_lt are.0.index (length bytes) then l.comes options (left_by c) are.6.rest else c)
 
--- Events, as the resolver that joins them meets them: a line is a begin, what stands inside, and an end.
+-- Events, as the resolver that joins them meets them: a line is a begin, what stands inside, and an end, or it stands
+-- bare.
 
 -- none stand there
 abbrev pub IsNone : List Event → Type 0
@@ -77,21 +79,27 @@ pub record IsSpanned (Lead : List Event → Type 0) (Begins : Event → Type 0) 
   pub inside_plain : NoLines inside
   pub ends : IsEnd end
 
+-- no block begins or ends on a bare line, and between two others it stays as it is
+pub record IsBare (es : List Event) : Type 0 where
+  pub no_blocks : NoBlocks es
+  pub between : map (renamed Between) es ≡ es
+
 -- The laws.
 
 pub record SpanLaws (first further : LineLeaf) : Type 1 where
-  -- Each line is a block by itself at first; a further one says by the link of its begin that it goes on the one before.
+  -- Each line is a block by itself at first; a further one says by the link of its begin that it goes on the one before,
+  -- or it stands bare.
   pub first_spanned : (options : ParseOptions) (bytes : List ℕ) (row : Row) → IsLineOf options bytes first row →
       first.further row.on ≡ false → IsSpanned AreUnspanned IsBegin row.inside
   pub further_spanned : (options : ParseOptions) (bytes : List ℕ) (row : Row) → IsLineOf options bytes further row →
-      further.further row.on ≡ true → IsSpanned IsNone IsFurther row.inside
+      further.further row.on ≡ true → IsSpanned IsNone IsFurther row.inside ⊎ IsBare row.inside
   -- Joined, the lines are known, and show the block to which the line definition comes with them.
   pub block : (options : ParseOptions) (bytes : List ℕ) (row : Row) (rows : List Row) →
       IsLineOf options bytes first row → AreBehind options bytes further row rows → Block
   pub facts : (options : ParseOptions) (bytes : List ℕ) (row : Row) (rows : List Row) →
       (is : IsLineOf options bytes first row) → first.further row.on ≡ false →
       (are : AreBehind options bytes further row rows) →
-      LeafFacts bytes (Some (block options bytes row rows is are)) (not (is_bare_row (last_row row rows))) row.first
+      LeafFacts bytes (Some (block options bytes row rows is are)) (not (last_row row rows).empty) row.first
       (last_row row rows).end (span_by (λ (r : Row). r.inside) row rows) (span_done bytes row rows)
   pub shuts : (options : ParseOptions) (bytes : List ℕ) (row : Row) (rows : List Row) →
       (is : IsLineOf options bytes first row) → first.further row.on ≡ false →

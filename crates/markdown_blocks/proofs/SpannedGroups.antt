@@ -1,8 +1,9 @@
 -- The lines of each leaf of several are joined, and all else stays.
 use Rattle.std.proofs.Common.{◌≡◌, ℕ, Bool, true, false, cond, ◌&&◌, map, List, [], ◌∷◌, ◌++◌, refl, ap, ap₂, sym, ◌∙◌}
-use Rattle.std.proofs.Common.{append_assoc, subst}
+use Rattle.std.proofs.Common.{◌⊎◌, inl, inr, ◌||◌, append_assoc, subst}
 use Rattle.std.specs.Prelude.{Option, Some, None}
-use Rattle.std.proofs.lemmas.Bool.{and_right}
+use Rattle.std.proofs.lemmas.Bool.{and_right, or_parts, true≢false}
+use Rattle.std.proofs.lemmas.List.{map-append}
 use Rattle.md_engine.specs.declared.configuration.ParseOptions.{ParseOptions}
 use Rattle.md_engine.specs.declared.event.Event.{Event}
 use Rattle.md_engine.specs.declared.event.Link.{Link}
@@ -14,7 +15,7 @@ use Rattle.md_leaves.specs.declared.spans.Place.TheVariants.{Between, Inside, Ou
 use Rattle.md_leaves.specs.Spanned.{begins_further, goes_on, has_lines, links_back, name_at, renamed, spanned}
 use Rattle.md_leaves.specs.Spanned.{spanned_from}
 use Rattle.md_leaves.proofs.SpannedLines.{IsBegin, IsEnd, NoBlocks, NoLines, goes_on-other, line-begins, line-joined}
-use Rattle.md_leaves.proofs.SpannedLines.{IsFurther, line-last, lines-block, spanned-passes}
+use Rattle.md_leaves.proofs.SpannedLines.{IsFurther, blocks-lines, line-last, lines-block, spanned-passes, spanned-stays}
 use Rattle.md_seam.specs.Events.Blocks.{is_block}
 use Rattle.md_seam.specs.Events.Nested.{exit, is_enter, pair}
 use Rattle.md_seam.specs.Events.Prefix.{is_prefix}
@@ -24,7 +25,7 @@ use Rattle.markdown_blocks.specs.Change.{ends_of}
 use Rattle.markdown_blocks.specs.Registry.{LeafName, further_of, leaf, resolved, text_leaf}
 use Rattle.markdown_blocks.specs.Rows.{BlankRow, Group, LeafRow, Lines, Row, RowKind, Single, Span, TextRow, blank_line}
 use Rattle.markdown_blocks.specs.Rows.{but_end, but_ends, end_of, ending_events, ending_of, groups, last_row}
-use Rattle.markdown_blocks.specs.Rows.{leaf_events}
+use Rattle.markdown_blocks.specs.Rows.{any_framed, is_framed, leaf_events, span_behind}
 use Rattle.markdown_blocks.specs.Rows.{leaf_unread, row_events, rows_events, span_by, span_rest, tail_events}
 use Rattle.markdown_blocks.specs.Unread.{linked_lines, listed_group, listed_groups, listed_row_by, set_groups}
 use Rattle.markdown_blocks.specs.Unread.{text_unread, unread_groups, unread_lines}
@@ -46,7 +47,8 @@ use Rattle.markdown_blocks.proofs.PrefixNames.{ArePrefixes, prefixes-front}
 use Rattle.markdown_blocks.proofs.Registry.{laws, span-laws}
 use Rattle.markdown_blocks.proofs.RowFacts.{AreRows}
 use Rattle.markdown_blocks.proofs.Span.Cuts.{but_end-is, but_ends-is, end-is}
-use Rattle.markdown_blocks.proofs.SpanLaws.{AreBehind, IsLineOf, IsNone, IsSpanned}
+use Rattle.markdown_blocks.proofs.Span.Framed.{plain-unframed, rest-bare, rest-behind, rest-framed, spanned-framed}
+use Rattle.markdown_blocks.proofs.SpanLaws.{AreBehind, IsBare, IsLineOf, IsNone, IsSpanned}
 use Rattle.markdown_blocks.proofs.SpannedFacts.{AreUnspanned, IsUnspanned, fronts-unspanned, unspanned-lines}
 use Rattle.markdown_blocks.proofs.SpannedFacts.{unspanned-pass}
 use Rattle.markdown_blocks.proofs.SubstitutedLemmas.{EachPrefixed}
@@ -124,10 +126,9 @@ prefixes-no_blocks : (es : List Event) → ArePrefixes es → NoBlocks es
 prefixes-no_blocks [] h = tt
 prefixes-no_blocks (e ∷ es) h = (prefix-no_block e.name h.0.0, prefixes-no_blocks es h.1)
 
--- what stands in front of a further line: an ending, and prefixes
-gap-no_blocks : (xs es : List Event) → NoBlocks xs → ArePrefixes es → NoBlocks (xs ++ es)
-gap-no_blocks [] es h k = prefixes-no_blocks es k
-gap-no_blocks (x ∷ xs) es h k = (h.0, gap-no_blocks xs es h.1 k)
+no_blocks-append : (xs ys : List Event) → NoBlocks xs → NoBlocks ys → NoBlocks (xs ++ ys)
+no_blocks-append [] ys h k = k
+no_blocks-append (x ∷ xs) ys h k = (h.0, no_blocks-append xs ys h.1 k)
 
 prefixes-between : (es : List Event) → ArePrefixes es → map (renamed Between) es ≡ es
 prefixes-between [] h = refl
@@ -135,13 +136,44 @@ prefixes-between (e ∷ es) h =
     ap₂ (λ (name : Name) (l : List Event). record e { name = name } ∷ l) (prefix-between e.name h.0.0)
     (prefixes-between es h.1)
 
-gap-between : (xs ys es : List Event) → map (renamed Between) xs ≡ ys → ArePrefixes es →
-    map (renamed Between) (xs ++ es) ≡ ys ++ es
-gap-between xs ys es is h = go xs ∙ ap (λ (l : List Event). l ++ es) is
-  where
-    go : (xs : List Event) → map (renamed Between) (xs ++ es) ≡ map (renamed Between) xs ++ es
-    go [] = prefixes-between es h
-    go (x ∷ xs) = ap (λ (l : List Event). renamed Between x ∷ l) (go xs)
+-- What stands between two lines of a leaf, and what is left of it there.
+record IsGap (gap given : List Event) : Type 0 where
+  no_blocks : NoBlocks gap
+  between : map (renamed Between) gap ≡ given
+
+no-gap : IsGap [] []
+no-gap = record { no_blocks = tt; between = refl }
+
+gap-append : (xs given ys more : List Event) → IsGap xs given → IsGap ys more → IsGap (xs ++ ys) (given ++ more)
+gap-append xs given ys more h k = record {
+  no_blocks = no_blocks-append xs ys h.no_blocks k.no_blocks;
+  between = map-append (renamed Between) xs ys ∙ ap₂ (λ (a b : List Event). a ++ b) h.between k.between;
+}
+
+ending-gap : (row : Row) → IsGap (ending_events (ending_at row) row) (ending_events n.LineEnding row)
+ending-gap row = record {
+  no_blocks = ending-no_blocks (ending_at row) row (ending-name row.kind row);
+  between = ending-between (ending_at row) row (ending-name row.kind row);
+}
+
+prefixes-gap : (es : List Event) → ArePrefixes es → IsGap es es
+prefixes-gap es h = record { no_blocks = prefixes-no_blocks es h; between = prefixes-between es h }
+
+bare-unframed : (es : List Event) → IsBare es → is_framed es ≡ false
+bare-unframed es h = plain-unframed es (blocks-lines es h.no_blocks)
+
+bare-gap : (es : List Event) → IsBare es → IsGap es es
+bare-gap es h = record { no_blocks = h.no_blocks; between = h.between }
+
+-- a gap, with the ending of a line behind it and the prefixes of the next
+front-gap : (gap given : List Event) (row next : Row) → IsGap gap given → ArePrefixes next.front →
+    IsGap (gap ++ ending_events (ending_at row) row ++ next.front)
+    (given ++ ending_events n.LineEnding row ++ next.front)
+front-gap gap given row next is prefixes =
+    let ending : List Event = ending_events (ending_at row) row in
+    let as_line : List Event = ending_events n.LineEnding row in
+    gap-append (gap ++ ending) (given ++ as_line) next.front next.front
+    (gap-append gap given ending as_line is (ending-gap row)) (prefixes-gap next.front prefixes)
 
 -- What stands ahead.
 
@@ -208,18 +240,32 @@ span-front : (options : ParseOptions) (bytes : List ℕ) (row : Row) (rows : Lis
 span-front options bytes row [] are = are.front
 span-front options bytes row (next ∷ rows) are = are.0.front
 
--- The events of a line of a leaf, and what stands behind it: in front, its begin, what stands inside, its end, and the
--- rest.
-laid : (front lead : List Event) (b : Event) (inside : List Event) (e : Event) (tail more rest : List Event) →
-    ((front ++ (lead ++ b ∷ inside ++ e ∷ []) ++ tail) ++ more) ++ rest
-    ≡ front ++ (lead ++ b ∷ (inside ++ e ∷ (tail ++ (more ++ rest))))
-laid front lead b inside e tail more rest =
-    let line : List Event = lead ++ b ∷ inside ++ e ∷ [] in
-    let behind : List Event = tail ++ (more ++ rest) in
-    append_assoc (front ++ line ++ tail) more rest ∙ append_assoc (front ++ line) tail (more ++ rest)
-    ∙ append_assoc front line behind
-    ∙ ap (λ (l : List Event). front ++ l)
-    (append_assoc (lead ++ b ∷ inside) (e ∷ []) behind ∙ append_assoc lead (b ∷ inside) (e ∷ behind))
+-- events one behind the other
+apart : (a b c d e : List Event) → (a ++ b ++ c ++ d) ++ e ≡ a ++ (b ++ (c ++ (d ++ e)))
+apart a b c d e =
+    append_assoc (a ++ b ++ c) d e ∙ append_assoc (a ++ b) c (d ++ e) ∙ append_assoc a b (c ++ (d ++ e))
+
+gathered : (a b c d e f : List Event) → (a ++ b ++ c) ++ (d ++ (e ++ f)) ≡ a ++ ((b ++ c ++ d ++ e) ++ f)
+gathered a b c d e f =
+    append_assoc (a ++ b) c (d ++ (e ++ f)) ∙ append_assoc a b (c ++ (d ++ (e ++ f)))
+    ∙ ap (λ (l : List Event). a ++ l) (sym (apart b c d e f))
+
+-- The events of a line of a leaf, and what stands behind it.
+row-apart : (row : Row) (l : LeafName) (more rest : List Event) → row.kind ≡ LeafRow l →
+    (row_events row ++ more) ++ rest
+    ≡ row.front ++ (row.inside ++ (tail_events (ending_at row) row ++ (more ++ rest)))
+row-apart row l more rest kind =
+    let tail : List Event = tail_events (ending_at row) row in
+    ap (λ (k : RowKind). ((row.front ++ leaf_events k row ++ tail) ++ more) ++ rest) kind
+    ∙ apart row.front row.inside tail more rest
+
+-- what it adds, if it stands as a block by itself: its begin, what stands inside, and its end
+line-apart : (Lead : List Event → Type 0) (Begins : Event → Type 0) (es behind : List Event) →
+    (s : IsSpanned Lead Begins es) → es ++ behind ≡ s.lead ++ s.begin ∷ (s.inside ++ s.end ∷ behind)
+line-apart Lead Begins es behind s =
+    ap (λ (l : List Event). l ++ behind) s.is
+    ∙ append_assoc (s.lead ++ s.begin ∷ s.inside) (s.end ∷ []) behind
+    ∙ append_assoc s.lead (s.begin ∷ s.inside) (s.end ∷ behind)
 
 row-laid : (Lead : List Event → Type 0) (Begins : Event → Type 0) (row : Row) (l : LeafName) (more rest : List Event) →
     row.kind ≡ LeafRow l → (s : IsSpanned Lead Begins row.inside) →
@@ -227,64 +273,244 @@ row-laid : (Lead : List Event → Type 0) (Begins : Event → Type 0) (row : Row
     ≡ row.front
     ++ (s.lead ++ s.begin ∷ (s.inside ++ s.end ∷ (tail_events (ending_at row) row ++ (more ++ rest))))
 row-laid Lead Begins row l more rest kind s =
-    let tail : List Event = tail_events (ending_at row) row in
-    ap (λ (k : RowKind). ((row.front ++ leaf_events k row ++ tail) ++ more) ++ rest) kind
-    ∙ ap (λ (inside : List Event). ((row.front ++ inside ++ tail) ++ more) ++ rest) s.is
-    ∙ laid row.front s.lead s.begin s.inside s.end tail more rest
+    row-apart row l more rest kind
+    ∙ ap (λ (es : List Event). row.front ++ es)
+    (line-apart Lead Begins row.inside (tail_events (ending_at row) row ++ (more ++ rest)) s)
 
--- behind the begin of a line, and behind the last
+-- behind the last line
 abbrev last_tail : Row → List Row → List Event
 last_tail row rows = tail_events (ending_at (last_row row rows)) (last_row row rows)
 
 abbrev its_events : Row → List Event
 its_events row = row.inside
 
-abbrev joined_from : Row → List Row → List Event → List Event
-joined_from row rows rest =
-    span_rest its_events row rows ++ (end_of (last_row row rows).inside ++ (last_tail row rows ++ spanned rest))
+-- a line of a leaf stands behind another: no container ends between them, and prefixes alone stand in front of it
+record Follows (row next : Row) : Type 0 where
+  leaves : row.leaves ≡ []
+  name : LeafName
+  kind : next.kind ≡ LeafRow name
+  prefixes : ArePrefixes next.front
 
-lines-from : (options : ParseOptions) (bytes : List ℕ) (name : LeafName) (row : Row) (rows : List Row)
-    (before inside : List Event) (e : Event) (rest : List Event) →
-    (leaf name).ends ≡ false → AreTogether row rows → AreBehind options bytes (leaf (further_of name)) row rows →
-    row.inside ≡ before ++ e ∷ [] → NoLines inside → IsEnd e → goes_on rest ≡ false →
-    spanned_from Inside (inside ++ e ∷ (tail_events (ending_at row) row ++ (rows_events rows ++ rest)))
-    ≡ inside ++ joined_from row rows rest
-lines-from options bytes name row [] before inside e rest open_leaf together are is plain end ahead =
-    let tail : List Event = tail_events (ending_at row) row in
-    let unspanned : AreUnspanned tail = tail-unspanned row.kind row in
-    line-last inside e (tail ++ rest) plain end (plain-ahead tail rest (unspanned-lines tail unspanned) ahead)
-    ∙ ap (λ (l : List Event). inside ++ e ∷ l) (spanned-passes Outside tail rest (unspanned-pass tail unspanned))
-    ∙ ap (λ (l : List Event). inside ++ (l ++ (tail ++ spanned rest)))
-    (sym (ap (λ (l : List Event). end_of l) is ∙ end-is before e))
-lines-from options bytes name row (next ∷ rows) before inside e rest open_leaf together are is plain end ahead =
-    let s : IsSpanned IsNone IsFurther next.inside =
-    (span-laws name open_leaf).further_spanned options bytes next are.6 are.5 in
+next-apart : (row next : Row) (more rest : List Event) → Follows row next →
+    tail_events (ending_at row) row ++ ((row_events next ++ more) ++ rest)
+    ≡ ending_events (ending_at row) row
+    ++ (next.front ++ (next.inside ++ (tail_events (ending_at next) next ++ (more ++ rest))))
+next-apart row next more rest is =
+    ap₂ (λ (x y : List Event). x ++ y) (tail-none (ending_at row) row is.leaves)
+    (row-apart next is.name more rest is.kind)
+
+-- Bare lines, behind the last one that has a begin and an end.
+
+abbrev AreBare : Row → List Row → Type 0
+AreBare row [] = Unit {0}
+AreBare row (next ∷ rows) = Follows row next × NoBlocks next.inside × AreBare next rows
+
+passed : (es rest : List Event) → AreUnspanned es → spanned (es ++ rest) ≡ es ++ spanned rest
+passed es rest h = spanned-passes Outside es rest (unspanned-pass es h)
+
+unspanned-ahead : (es rest : List Event) → AreUnspanned es → goes_on rest ≡ false → goes_on (es ++ rest) ≡ false
+unspanned-ahead es rest h ahead = plain-ahead es rest (unspanned-lines es h) ahead
+
+prefixes-unspanned : (es : List Event) → ArePrefixes es → AreUnspanned es
+prefixes-unspanned es h = fronts-unspanned es (prefixes-front es h)
+
+-- none of them begins a further line,
+bare-ahead : (row : Row) (rows : List Row) (rest : List Event) → AreBare row rows → goes_on rest ≡ false →
+    goes_on (tail_events (ending_at row) row ++ (rows_events rows ++ rest)) ≡ false
+bare-ahead row [] rest are ahead =
+    unspanned-ahead (tail_events (ending_at row) row) rest (tail-unspanned row.kind row) ahead
+bare-ahead row (next ∷ rows) rest are ahead =
+    let ending : List Event = ending_events (ending_at row) row in
+    let behind : List Event = tail_events (ending_at next) next ++ (rows_events rows ++ rest) in
+    ap goes_on (next-apart row next (rows_events rows) rest are.0)
+    ∙ unspanned-ahead ending (next.front ++ (next.inside ++ behind))
+    (ending-unspanned (ending_at row) row (ending-name row.kind row))
+    (unspanned-ahead next.front (next.inside ++ behind) (prefixes-unspanned next.front are.0.prefixes)
+    (plain-ahead next.inside behind (blocks-lines next.inside are.1) (bare-ahead next rows rest are.2 ahead)))
+
+-- and what is left of each is whitespace
+bare-behind : (row : Row) (rows : List Row) (rest : List Event) → AreBare row rows →
+    spanned (tail_events (ending_at row) row ++ (rows_events rows ++ rest))
+    ≡ span_behind its_events row rows ++ (last_tail row rows ++ spanned rest)
+bare-behind row [] rest are = passed (tail_events (ending_at row) row) rest (tail-unspanned row.kind row)
+bare-behind row (next ∷ rows) rest are =
+    let ending : List Event = ending_events (ending_at row) row in
+    let behind : List Event = tail_events (ending_at next) next ++ (rows_events rows ++ rest) in
+    let white : List Event = map (renamed Outside) next.inside in
+    let S : List Event = span_behind its_events next rows in
+    let Z : List Event = last_tail next rows ++ spanned rest in
+    ap spanned (next-apart row next (rows_events rows) rest are.0)
+    ∙ passed ending (next.front ++ (next.inside ++ behind))
+    (ending-unspanned (ending_at row) row (ending-name row.kind row))
+    ∙ ap (λ (l : List Event). ending ++ l)
+    (passed next.front (next.inside ++ behind) (prefixes-unspanned next.front are.0.prefixes)
+    ∙ ap (λ (l : List Event). next.front ++ l)
+    (spanned-stays Outside next.inside behind (blocks-lines next.inside are.1)
+    ∙ ap (λ (l : List Event). white ++ l) (bare-behind next rows rest are.2)))
+    ∙ sym (apart ending next.front white S Z)
+
+-- Lines behind the begin of one: what is left of them, behind what stands inside of that line, and what is left of a gap
+-- behind its end.
+abbrev Joins : Row → List Row → List Event → Event → List Event → List Event → List Event → Type 0
+Joins row rows inside e gap given rest =
+    spanned_from Inside (inside ++ e ∷ (gap ++ (tail_events (ending_at row) row ++ (rows_events rows ++ rest))))
+    ≡ inside ++ (given ++ (span_rest its_events (e ∷ []) row rows ++ (last_tail row rows ++ spanned rest)))
+
+-- bare lines alone: the leaf ends as that line does
+bare-joined : (row : Row) (rows : List Row) (inside : List Event) (e : Event) (rest : List Event) →
+    AreBare row rows → any_framed its_events rows ≡ false → NoLines inside → IsEnd e → goes_on rest ≡ false →
+    Joins row rows inside e [] [] rest
+bare-joined row rows inside e rest are none plain end ahead =
+    let Z : List Event = last_tail row rows ++ spanned rest in
+    line-last inside e (tail_events (ending_at row) row ++ (rows_events rows ++ rest)) plain end
+    (bare-ahead row rows rest are ahead)
+    ∙ ap (λ (l : List Event). inside ++ e ∷ l) (bare-behind row rows rest are)
+    ∙ ap (λ (l : List Event). inside ++ (l ++ Z)) (sym (rest-behind its_events (e ∷ []) row rows none))
+
+-- one that has a begin and an end: the leaf goes on
+framed-joined : (row next : Row) (rows : List Row) (inside : List Event) (e : Event) (gap given rest : List Event) →
+    Follows row next → NoLines inside → IsEnd e → IsGap gap given → (s : IsSpanned IsNone IsFurther next.inside) →
+    Joins next rows s.inside s.end [] [] rest → Joins row (next ∷ rows) inside e gap given rest
+framed-joined row next rows inside e gap given rest is plain end free s on =
+    let ending : List Event = ending_events (ending_at row) row in
+    let as_line : List Event = ending_events n.LineEnding row in
+    let behind : List Event = tail_events (ending_at next) next ++ (rows_events rows ++ rest) in
+    let further : List Event = s.begin ∷ (s.inside ++ s.end ∷ behind) in
+    let between : IsGap (gap ++ ending ++ next.front) (given ++ as_line ++ next.front) =
+    front-gap gap given row next free is.prefixes in
     let next_is : next.inside ≡ s.begin ∷ s.inside ++ s.end ∷ [] = s.is
     ∙ ap (λ (lead : List Event). lead ++ s.begin ∷ s.inside ++ s.end ∷ []) s.lead_plain in
-    let kind = together-kind next rows together.3 in
-    let prefixes : ArePrefixes next.front = fronts-prefixes bytes [] are.0 next.first next.front refl are.3 in
-    let ending : List Event = ending_events (ending_at row) row in
-    let more : List Event = s.inside ++ s.end ∷ (tail_events (ending_at next) next ++ (rows_events rows ++ rest)) in
-    let gap : List Event = ending ++ next.front in
-    let given : List Event = ending_events n.LineEnding row ++ next.front in
-    let S : List Event = span_rest its_events next rows in
-    let Z : List Event = end_of (last_row next rows).inside ++ (last_tail next rows ++ spanned rest) in
-    ap (λ (l : List Event). spanned_from Inside (inside ++ e ∷ l))
-    (ap₂ (λ (x y : List Event). x ++ y) (tail-none (ending_at row) row together.2)
-    (row-laid IsNone IsFurther next kind.0 (rows_events rows) rest kind.1 s
-    ∙ ap (λ (lead : List Event). next.front ++ (lead ++ s.begin ∷ more)) s.lead_plain)
-    ∙ sym (append_assoc ending next.front (s.begin ∷ more)))
-    ∙ line-joined inside e gap s.begin more plain end
-    (gap-no_blocks ending next.front (ending-no_blocks (ending_at row) row (ending-name row.kind row)) prefixes) s.begins
-    ∙ ap₂ (λ (x y : List Event). inside ++ (x ++ y))
-    (gap-between ending (ending_events n.LineEnding row) next.front
-    (ending-between (ending_at row) row (ending-name row.kind row)) prefixes)
-    (lines-from options bytes name next rows (s.begin ∷ s.inside) s.inside s.end rest open_leaf together.3 are.7
-    next_is s.inside_plain s.ends ahead)
+    let S : List Event = span_rest its_events (s.end ∷ []) next rows in
+    let Z : List Event = last_tail next rows ++ spanned rest in
+    let left : span_rest its_events (e ∷ []) row (next ∷ rows) ≡ as_line ++ next.front ++ s.inside ++ S =
+    rest-framed its_events (e ∷ []) row next rows (spanned-framed IsNone IsFurther next.inside s)
+    ∙ ap₂ (λ (es : List Event) (last : List Event). as_line ++ next.front ++ es ++ span_rest its_events last next rows)
+    (ap but_ends next_is ∙ but_ends-is s.begin s.inside s.end)
+    (ap end_of next_is ∙ end-is (s.begin ∷ s.inside) s.end) in
+    ap (λ (l : List Event). spanned_from Inside (inside ++ e ∷ (gap ++ l)))
+    (next-apart row next (rows_events rows) rest is
+    ∙ ap (λ (l : List Event). ending ++ (next.front ++ l))
+    (line-apart IsNone IsFurther next.inside behind s
+    ∙ ap (λ (lead : List Event). lead ++ further) s.lead_plain))
+    ∙ ap (λ (l : List Event). spanned_from Inside (inside ++ e ∷ l))
+    (sym (append_assoc gap ending (next.front ++ further)) ∙ sym (append_assoc (gap ++ ending) next.front further))
+    ∙ line-joined inside e (gap ++ ending ++ next.front) s.begin (s.inside ++ s.end ∷ behind) plain end
+    between.no_blocks s.begins
+    ∙ ap₂ (λ (x y : List Event). inside ++ (x ++ y)) between.between on
     ∙ ap (λ (l : List Event). inside ++ l)
-    (sym (append_assoc given s.inside (S ++ Z)) ∙ sym (append_assoc (given ++ s.inside) S Z)
-    ∙ ap (λ (l : List Event). ((given ++ l) ++ S) ++ Z)
-    (sym (ap (λ (l : List Event). but_ends l) next_is ∙ but_ends-is s.begin s.inside s.end)))
+    (gathered given as_line next.front s.inside S Z ∙ ap (λ (l : List Event). given ++ (l ++ Z)) (sym left))
+
+-- a bare one, in front of one that has them: it is one more part of the gap
+bare-passed : (row next : Row) (rows : List Row) (inside : List Event) (e : Event) (gap given rest : List Event) →
+    Follows row next → IsBare next.inside → any_framed its_events rows ≡ true →
+    Joins next rows inside e (gap ++ ending_events (ending_at row) row ++ next.front ++ next.inside)
+    (given ++ ending_events n.LineEnding row ++ next.front ++ next.inside) rest →
+    Joins row (next ∷ rows) inside e gap given rest
+bare-passed row next rows inside e gap given rest is bare more on =
+    let ending : List Event = ending_events (ending_at row) row in
+    let as_line : List Event = ending_events n.LineEnding row in
+    let behind : List Event = tail_events (ending_at next) next ++ (rows_events rows ++ rest) in
+    let S : List Event = span_rest its_events (e ∷ []) next rows in
+    let Z : List Event = last_tail next rows ++ spanned rest in
+    ap (λ (l : List Event). spanned_from Inside (inside ++ e ∷ l))
+    (ap (λ (l : List Event). gap ++ l) (next-apart row next (rows_events rows) rest is)
+    ∙ sym (apart gap ending next.front next.inside behind))
+    ∙ on
+    ∙ ap (λ (l : List Event). inside ++ l)
+    (append_assoc (given ++ as_line ++ next.front) next.inside (S ++ Z)
+    ∙ gathered given as_line next.front next.inside S Z
+    ∙ ap (λ (l : List Event). given ++ (l ++ Z))
+    (sym (rest-bare its_events (e ∷ []) row next rows (bare-unframed next.inside bare) more)))
+
+-- The lines of a leaf, behind the begin of one of them.
+
+follows-from : (options : ParseOptions) (bytes : List ℕ) (name : LeafName) (row next : Row) (rows : List Row) →
+    AreTogether row (next ∷ rows) → AreBehind options bytes (leaf (further_of name)) row (next ∷ rows) →
+    Follows row next
+follows-from options bytes name row next rows together are =
+    let kind = together-kind next rows together.3 in
+    record {
+      leaves = together.2;
+      name = kind.0;
+      kind = kind.1;
+      prefixes = fronts-prefixes bytes [] are.0 next.first next.front refl are.3;
+    }
+
+-- those that have no begin and no end stand bare
+are-bare : (options : ParseOptions) (bytes : List ℕ) (name : LeafName) (row : Row) (rows : List Row) →
+    (leaf name).ends ≡ false → AreTogether row rows → AreBehind options bytes (leaf (further_of name)) row rows →
+    any_framed its_events rows ≡ false → AreBare row rows
+are-bare options bytes name row [] open_leaf together are none = tt
+are-bare options bytes name row (next ∷ rows) open_leaf together are none =
+    let each = or_parts (is_framed next.inside) (any_framed its_events rows) none in (
+      follows-from options bytes name row next rows together are,
+      bare ((span-laws name open_leaf).further_spanned options bytes next are.6 are.5) each.0,
+      are-bare options bytes name next rows open_leaf together.3 are.7 each.1,
+    )
+  where
+    bare : IsSpanned IsNone IsFurther next.inside ⊎ IsBare next.inside → is_framed next.inside ≡ false →
+        NoBlocks next.inside
+    bare (inl s) h = absurd (true≢false (sym (spanned-framed IsNone IsFurther next.inside s) ∙ h))
+    bare (inr b) h = b.no_blocks
+
+-- so the leaf ends, or goes on
+joined-by : (row : Row) (rows : List Row) (inside : List Event) (e : Event) (rest : List Event) →
+    (any_framed its_events rows ≡ false → AreBare row rows) →
+    (any_framed its_events rows ≡ true → Joins row rows inside e [] [] rest) →
+    NoLines inside → IsEnd e → goes_on rest ≡ false → Joins row rows inside e [] [] rest
+joined-by row rows inside e rest bare more plain end ahead = go (any_framed its_events rows) refl
+  where
+    go : (x : Bool) → any_framed its_events rows ≡ x → Joins row rows inside e [] [] rest
+    go true h = more h
+    go false h = bare-joined row rows inside e rest (bare h) h plain end ahead
+
+-- it goes on over what stands between two lines that have a begin and an end
+gaps-joined : (options : ParseOptions) (bytes : List ℕ) (name : LeafName) (row : Row) (rows : List Row)
+    (inside : List Event) (e : Event) (gap given rest : List Event) →
+    (leaf name).ends ≡ false → AreTogether row rows → AreBehind options bytes (leaf (further_of name)) row rows →
+    any_framed its_events rows ≡ true → NoLines inside → IsEnd e → IsGap gap given → goes_on rest ≡ false →
+    Joins row rows inside e gap given rest
+gaps-joined options bytes name row [] inside e gap given rest open_leaf together are more plain end free ahead =
+    absurd (let bad : false ≡ true = more in cc)
+gaps-joined options bytes name row (next ∷ rows) inside e gap given rest open_leaf together are more plain end free ahead =
+    go ((span-laws name open_leaf).further_spanned options bytes next are.6 are.5)
+    (λ inside e gap given more plain end free.
+    gaps-joined options bytes name next rows inside e gap given rest open_leaf together.3 are.7 more plain end free ahead)
+  where
+    Behind : Type 0
+    Behind =
+        (inside : List Event) (e : Event) (gap given : List Event) → any_framed its_events rows ≡ true →
+        NoLines inside → IsEnd e → IsGap gap given → Joins next rows inside e gap given rest
+
+    follows : Follows row next
+    follows = follows-from options bytes name row next rows together are
+
+    go : IsSpanned IsNone IsFurther next.inside ⊎ IsBare next.inside → Behind →
+        Joins row (next ∷ rows) inside e gap given rest
+    go (inl s) behind =
+        framed-joined row next rows inside e gap given rest follows plain end free s
+        (joined-by next rows s.inside s.end rest
+        (are-bare options bytes name next rows open_leaf together.3 are.7)
+        (λ more. behind s.inside s.end [] [] more s.inside_plain s.ends no-gap) s.inside_plain s.ends ahead)
+    go (inr b) behind =
+        let further : any_framed its_events rows ≡ true =
+        ap (λ (x : Bool). x || any_framed its_events rows) (sym (bare-unframed next.inside b)) ∙ more in
+        bare-passed row next rows inside e gap given rest follows b further
+        (behind inside e (gap ++ ending_events (ending_at row) row ++ next.front ++ next.inside)
+        (given ++ ending_events n.LineEnding row ++ next.front ++ next.inside) further plain end
+        (gap-append (gap ++ ending_events (ending_at row) row ++ next.front)
+        (given ++ ending_events n.LineEnding row ++ next.front) next.inside next.inside
+        (front-gap gap given row next free follows.prefixes) (bare-gap next.inside b)))
+
+lines-from : (options : ParseOptions) (bytes : List ℕ) (name : LeafName) (row : Row) (rows : List Row)
+    (inside : List Event) (e : Event) (rest : List Event) →
+    (leaf name).ends ≡ false → AreTogether row rows → AreBehind options bytes (leaf (further_of name)) row rows →
+    NoLines inside → IsEnd e → goes_on rest ≡ false → Joins row rows inside e [] [] rest
+lines-from options bytes name row rows inside e rest open_leaf together are plain end ahead =
+    joined-by row rows inside e rest (are-bare options bytes name row rows open_leaf together are)
+    (λ more.
+    gaps-joined options bytes name row rows inside e [] [] rest open_leaf together are more plain end no-gap ahead)
+    plain end ahead
 
 -- they are joined, from the first to the last
 span-joined : (options : ParseOptions) (bytes : List ℕ) (row : Row) (rows : List Row) (rest : List Event) →
@@ -297,26 +523,25 @@ span-joined options bytes row rows rest are begins ahead =
     let s : IsSpanned AreUnspanned IsBegin row.inside =
     (span-laws of_leaf.name of_leaf.open_leaf).first_spanned options bytes row of_leaf.is of_leaf.first in
     let front : List Event = row.front in
-    let tail : List Event = tail_events (ending_at row) row in
-    let more : List Event = s.inside ++ s.end ∷ (tail ++ (rows_events rows ++ rest)) in
-    let S : List Event = span_rest its_events row rows in
-    let E : List Event = end_of (last_row row rows).inside in
-    let T : List Event = last_tail row rows ++ spanned rest in
+    let begun : List Event = s.lead ++ s.begin ∷ s.inside in
+    let more : List Event = s.inside ++ s.end ∷ (tail_events (ending_at row) row ++ (rows_events rows ++ rest)) in
+    let R : List Event = span_rest its_events (s.end ∷ []) row rows in
+    let Z : List Event = last_tail row rows ++ spanned rest in
+    let whole : span_by its_events row rows ≡ begun ++ R =
+    ap₂ (λ (es last : List Event). es ++ span_rest its_events last row rows)
+    (ap but_end s.is ∙ but_end-is begun s.end) (ap end_of s.is ∙ end-is begun s.end) in
     ap spanned (row-laid AreUnspanned IsBegin row kind.0 (rows_events rows) rest kind.1 s)
-    ∙ spanned-passes Outside front (s.lead ++ s.begin ∷ more)
-    (unspanned-pass front (front-unspanned bytes row (span-front options bytes row rows are)))
+    ∙ passed front (s.lead ++ s.begin ∷ more) (front-unspanned bytes row (span-front options bytes row rows are))
     ∙ ap (λ (l : List Event). front ++ l)
-    (spanned-passes Outside s.lead (s.begin ∷ more) (unspanned-pass s.lead s.lead_plain)
+    (passed s.lead (s.begin ∷ more) s.lead_plain
     ∙ ap (λ (l : List Event). s.lead ++ l)
     (line-begins Outside s.begin more s.begins
     ∙ ap (λ (l : List Event). s.begin ∷ l)
-    (lines-from options bytes of_leaf.name row rows (s.lead ++ s.begin ∷ s.inside) s.inside s.end rest
-    of_leaf.open_leaf together of_leaf.behind s.is s.inside_plain s.ends ahead))
-    ∙ sym (append_assoc s.lead (s.begin ∷ s.inside) (S ++ (E ++ T)))
-    ∙ ap (λ (l : List Event). l ++ (S ++ (E ++ T)))
-    (sym (ap (λ (l : List Event). but_end l) s.is ∙ but_end-is (s.lead ++ s.begin ∷ s.inside) s.end))
-    ∙ sym (append_assoc (but_end row.inside) S (E ++ T)) ∙ sym (append_assoc (but_end row.inside ++ S) E T))
-    ∙ sym (append_assoc front (span_by its_events row rows) T)
+    (lines-from options bytes of_leaf.name row rows s.inside s.end rest of_leaf.open_leaf together of_leaf.behind
+    s.inside_plain s.ends ahead))
+    ∙ sym (append_assoc s.lead (s.begin ∷ s.inside) (R ++ Z)) ∙ sym (append_assoc begun R Z)
+    ∙ ap (λ (l : List Event). l ++ Z) (sym whole))
+    ∙ sym (append_assoc front (span_by its_events row rows) Z)
     ∙ sym (append_assoc (front ++ span_by its_events row rows) (last_tail row rows) (spanned rest))
 
 -- Other groups.
@@ -391,9 +616,6 @@ groups-ahead options bytes (Span row rows ∷ gs) are =
     ∙ plain-ahead row.front (s.lead ++ s.begin ∷ more)
     (unspanned-lines row.front (front-unspanned bytes row (span-front options bytes row rows are.0)))
     (plain-ahead s.lead (s.begin ∷ more) (unspanned-lines s.lead s.lead_plain) (begin-ahead s.begin more s.begins))
-
-passed : (es rest : List Event) → AreUnspanned es → spanned (es ++ rest) ≡ es ++ spanned rest
-passed es rest h = spanned-passes Outside es rest (unspanned-pass es h)
 
 -- so each leaf of several lines is joined by itself
 groups-joined : (options : ParseOptions) (bytes : List ℕ) (gs : List Group) → AreGroups options bytes gs →

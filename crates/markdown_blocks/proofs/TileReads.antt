@@ -2,7 +2,7 @@
 use Rattle.md_engine.specs.declared.tokenizer.held_leaf.HeldLeaf.TheVariants as held_leaf
 use Rattle.md_engine.specs.declared.tokenizer.held_leaf.HeldLeaf.{HeldLeaf}
 use Rattle.std.proofs.Common.{◌≡◌, ℕ, suc, Bool, true, false, cond, List, [], ◌∷◌, ◌++◌, length, refl, ap, sym, ◌∙◌}
-use Rattle.markdown_blocks.specs.Registry.{insider}
+use Rattle.markdown_blocks.specs.Registry.{insider, shuts_out}
 use Rattle.std.proofs.Common.{subst, append-nil}
 use Rattle.std.specs.Prelude.{Option, Some, None}
 use Rattle.md_engine.specs.declared.configuration.ParseOptions.{ParseOptions}
@@ -132,7 +132,7 @@ text-filled options bytes p lines are =
 
 empty-none : (options : ParseOptions) →
     mark_events [] ++ groups_events [] (groups (text_rows options [] (body_point []))) ≡ []
-unfolding text_feed held_at insider
+unfolding text_feed held_at insider shuts_out
 empty-none options = refl
 
 pub groups-empty : (options : ParseOptions) (bytes : List ℕ) → bytes ≡ [] →

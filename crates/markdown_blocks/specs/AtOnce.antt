@@ -38,10 +38,11 @@ abbrev pub opens_none : Option ℕ → Bool
 opens_none None = false
 opens_none (Some b) = not (is_white b || b == 10 || list_any (λ k. may_open k b) openers)
 
--- of leaves that are tried one after another, those from the first on that may begin with a byte
+-- of leaves that are tried one after another, those from the first on that may begin with a byte, where no whitespace
+-- stands in front of it
 abbrev pub left_to_try : ℕ → List LeafName → List LeafName
 left_to_try b [] = []
-left_to_try b (l ∷ ls) = if (leaf l).may_begin b then l ∷ ls else left_to_try b ls
+left_to_try b (l ∷ ls) = if (leaf l).may_begin false b then l ∷ ls else left_to_try b ls
 
 -- the state in front of these, where what stands here is no whitespace, and else of all
 abbrev pub begins_at : Option ℕ → FlowState

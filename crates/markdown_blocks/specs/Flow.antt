@@ -16,13 +16,13 @@ use Rattle.md_engine.specs.Scheme.{After, Rank, Scheme, Spot, ranked}
 use Rattle.md_engine.specs.World.{World, closed, container_of}
 use Rattle.md_leaves.specs.Blank as blank
 use Rattle.md_seam.specs.Look.{looks_behind, may_with}
-use Rattle.md_seam.specs.Spaces.{ends_line, rest_ready}
+use Rattle.md_seam.specs.Spaces.{ends_line, rest_ready, sees_white}
 use Rattle.md_seam.specs.Transition.{Transition, entered, exited, taken, tried}
 use Rattle.markdown_blocks.specs.LineFlags.{asking, begun_line, blanked, ending_name, next_container, next_line, stays}
 use Rattle.markdown_blocks.specs.LineFlags.{blank_here, ended_on, nothing_stands, shut_leaf, went_on, with_container}
 use Rattle.markdown_blocks.specs.Registry.{LeafName, front_of, goes_on_with, insider, leaf, may_go_on, may_open, next_of}
 use Rattle.markdown_blocks.specs.Registry.{next_opener, opener_at, opener_front, opener_rank, opener_tries, openers}
-use Rattle.markdown_blocks.specs.Registry.{opens_with, rank_of, trials, tried_at, tries_of}
+use Rattle.markdown_blocks.specs.Registry.{opens_with, rank_of, shuts_out, trials, tried_at, tries_of}
 
 -- What is tried.
 
@@ -56,7 +56,7 @@ leaf_end false = flow.After
 abbrev pub before_transition : LeafName → World → Transition
 before_transition l w =
     trial_code (leaf l).start (s.Flow (leaf_end (leaf l).ends)) (s.Flow (next_of l)) w
-    (may_with (leaf l).may_begin (looks_behind w))
+    (may_with ((leaf l).may_begin (sees_white w.current)) (looks_behind w))
 
 abbrev pub before_content_transition : World → Transition
 before_content_transition w =
@@ -88,7 +88,7 @@ abbrev pub existing_before_code : World → Bool → Option Container → Transi
 existing_before_code w true o =
     record { to = Retry (s.Document document.ContainersAfter); world = record w { flags = ended_on w.flags } }
 existing_before_code w false None =
-    record { to = Retry (s.Document (behind_all (is_some (insider w.flags.leaf)))); world = w }
+    record { to = Retry (s.Document (behind_all (shuts_out w.flags.leaf))); world = w }
 existing_before_code w false (Some c) =
     trial_code (goes_on_with c.kind) (s.Document document.ContainerExistingAfter)
     (s.Document (opener_front openers)) (asking c w) (may_with (may_go_on c.kind) (looks_behind w))

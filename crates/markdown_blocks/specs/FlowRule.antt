@@ -1,7 +1,6 @@
 -- What is left at each state of the lines of a text: the lines that are still to come, each by its containers and the
 -- block that takes the rest of it.
 use Rattle.std.specs.Prelude.{◌≡◌, ℕ, zero, suc, Bool, true, false, ◌==◌, Option, Some, None, if◌then◌else◌, List, [], ◌∷◌, ◌++◌, length}
-use Rattle.std.specs.Option.{is_some}
 use Rattle.md_engine.specs.declared.configuration.ParseOptions.{ParseOptions}
 use Rattle.md_engine.specs.declared.state.Name.TheVariants as s
 use Rattle.md_engine.specs.declared.state.document.State.{State as DocumentState}
@@ -19,7 +18,7 @@ use Rattle.md_seam.specs.Events.Nested.{pair}
 use Rattle.md_seam.specs.Look.{first_seen}
 use Rattle.md_seam.specs.Spaces.{ends_line}
 use Rattle.markdown_blocks.specs.Registry.{LeafName, begins_at, behind, continues_at, goes_on_with, insider, leaf, opener_at}
-use Rattle.markdown_blocks.specs.Registry.{openers, openers_behind, opens_with, trials, tried_at}
+use Rattle.markdown_blocks.specs.Registry.{openers, openers_behind, opens_with, shuts_out, trials, tried_at}
 use Rattle.markdown_blocks.specs.LineFlags.{asks, begun_line, blanked, ending_name, next_container, next_line, stays}
 use Rattle.markdown_blocks.specs.LineFlags.{blank_here, ended_on, nothing_stands, shut_leaf, went_on, with_container}
 
@@ -140,14 +139,14 @@ abbrev pub openers_of : ParseOptions → Rule → List ContainerKind → Rule
 openers_of options next ks cells h =
     opens_of options (λ rest k. new_of options next rest (opened k)) (behind_containers options next) ks cells h
 
--- where all containers went on, and a leaf is open in which none opens, that leaf is asked
+-- where all containers went on, by whether a leaf is open in which none opens
 abbrev pub all_on : ParseOptions → Rule → Bool → Rule
 all_on options next true cells h = behind_containers options next cells h
 all_on options next false cells h = new_of options next cells h
 
 -- each container is asked whether it goes on, from the outermost in, until one does not
 abbrev pub existing_by : ParseOptions → Rule → Rule → Option Container → Rule
-existing_by options next further None cells h = all_on options next (is_some (insider h.flags.leaf)) cells h
+existing_by options next further None cells h = all_on options next (shuts_out h.flags.leaf) cells h
 existing_by options next further (Some c) cells h =
     tried (continues_at options c.kind cells (asking_here c h))
     (λ rest k. further rest (record k { flags = went_on k.flags }))

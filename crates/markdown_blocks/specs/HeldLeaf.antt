@@ -1,9 +1,8 @@
 -- The leaf that is open between two lines: what the frame asks of each kind.
 --
--- A kind that keeps more than its name between lines (the fence of fenced code, the kind of HTML, where indented code
--- ends) keeps it in
--- `HeldLeaf`; what it is by the line definition is said here, and so is whether containers may open in it, once one may
--- not. Whether a container that opens interrupts it, containers ask themselves (`is_interrupted` of `Interrupts`).
+-- A kind that keeps more than its name between lines (the fence of fenced code, the kind of HTML) keeps it in
+-- `HeldLeaf`; what it is by the line definition is said here. Whether containers may open in it, the registry says
+-- (`shuts_out`); whether one that opens interrupts it, containers ask themselves (`is_interrupted` of `Interrupts`).
 use Rattle.std.specs.Prelude.{◌≡◌, Bool, true, false, ◌||◌, if◌then◌else◌}
 use Rattle.md_engine.specs.declared.tokenizer.held_leaf.HeldLeaf.{HeldLeaf}
 use Rattle.md_engine.specs.declared.tokenizer.held_leaf.HeldLeaf.TheVariants as held_leaf

@@ -22,12 +22,16 @@ pub record LineLeaf : Type 0 where
   pub start : StateName
   pub before : FlowState
   pub ends : Bool
+  -- Whether a blank line that it takes stays blank, so that its ending is that of a blank line; else an ending is so
+  -- where nothing at all stands on the line.
+  pub stays_blank : Bool
   -- Whether a line of it, where it meets a leaf, goes on that leaf.
   pub further : HeldLeaf → Bool
   -- Which leaf a line meets where this one is tried.
   pub asked : HeldLeaf → Bool
-  -- What may stand first behind whitespace where it begins: elsewhere it is refused at once.
-  pub may_begin : ℕ → Bool
+  -- Whether it may begin, by whether whitespace stands here, and by what stands first behind that: elsewhere it is
+  -- refused at once.
+  pub may_begin : Bool → ℕ → Bool
   -- By the cells of the rest of a line: what is left of it at its first state, whether it takes the line, and then
   -- which events it adds, and what is held behind it.
   pub trial : ParseOptions → List Cell → Here → Outcome

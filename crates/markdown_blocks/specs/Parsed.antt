@@ -29,10 +29,9 @@ use Rattle.markdown_blocks.specs.BlockList.{block_list}
 abbrev pub IsSmall : List ℕ → Type 0
 IsSmall text = length text ≤ (2 ^ 64 - 1) / 8
 
--- the constructs that are asked for are there: block quotes, list items, fenced code and math, ATX headings and breaks
--- alone
+-- the constructs that are asked for are there: block quotes, list items, indented and fenced code, math, ATX headings
+-- and breaks alone
 pub record IsBuilt (options : ParseOptions) : Type 0 where
-  pub code_indented : options.constructs.code_indented ≡ false
   pub definition : options.constructs.definition ≡ false
   pub frontmatter : options.constructs.frontmatter ≡ false
   pub gfm_footnote_definition : options.constructs.gfm_footnote_definition ≡ false

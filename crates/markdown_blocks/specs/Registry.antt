@@ -38,13 +38,16 @@ use Rattle.md_leaves.specs.HeadingText.{headings_resolved, is_heading}
 use Rattle.md_leaves.specs.Spanned.{passes}
 use Rattle.md_leaves.specs.declared.spans.Place.TheVariants.{Outside}
 use Rattle.md_seam.specs.Events.Spelled.{FootnoteShape, ItemShape, OrderedShape, QuoteShape, Shape, UnorderedShape}
-use Rattle.md_definition.specs.State.{Container, InFootnote, InItem, InQuote, Leaf, OpenFence}
+use Rattle.md_definition.specs.State.{Container, InFootnote, InItem, InQuote, Leaf, OpenCode, OpenFence}
+use Rattle.md_lines.specs.Code.{code_scheme, code_transition}
+use Rattle.md_lines.specs.CodeRule.{code_behaves}
 use Rattle.md_lines.specs.Fence.{fence_scheme, fence_transition}
 use Rattle.md_lines.specs.FenceRule.{fence_behaves}
 use Rattle.md_seam.specs.Transition.{Transition}
 use Rattle.markdown_blocks.specs.ContainerRules.{ContainerRules}
 use Rattle.markdown_blocks.specs.Containers.BlockQuote.{quote_rules}
 use Rattle.markdown_blocks.specs.Containers.ListItem.{item_rules}
+use Rattle.markdown_blocks.specs.Leaf.CodeIndented.{code_further, code_leaf, is_code}
 use Rattle.markdown_blocks.specs.Leaf.Fence.{fence_leaf}
 use Rattle.markdown_blocks.specs.Leaf.FenceFurther.{fence_further, is_fence}
 use Rattle.markdown_blocks.specs.Leaf.HeadingAtx.{heading_leaf}
@@ -54,15 +57,20 @@ use Rattle.markdown_blocks.specs.LineLeaf.{LineLeaf}
 use Rattle.markdown_blocks.specs.Passed.{Passed}
 use Rattle.markdown_blocks.specs.TextLeaf.{TextLeaf}
 
--- Leaves that take a line: of fenced code and math one takes the opening line, and one each further line.
+-- Leaves that take a line: of indented code, and of fenced code and math, one takes the first line, and one each further
+-- line.
 
 pub data LeafName : Type 0 where
+  CodeIndented : LeafName
+  CodeFurther : LeafName
   Fence : LeafName
   FenceFurther : LeafName
   HeadingAtx : LeafName
   ThematicBreak : LeafName
 
 abbrev pub leaf : LeafName → LineLeaf
+leaf CodeIndented = code_leaf
+leaf CodeFurther = code_further
 leaf Fence = fence_leaf
 leaf FenceFurther = fence_further
 leaf HeadingAtx = heading_leaf
@@ -70,16 +78,21 @@ leaf ThematicBreak = break_leaf
 
 -- the order in which they are tried, behind blank lines and in front of content
 abbrev pub trials : List LeafName
-trials = Fence ∷ HeadingAtx ∷ ThematicBreak ∷ []
+trials = CodeIndented ∷ Fence ∷ HeadingAtx ∷ ThematicBreak ∷ []
 
--- The leaf that is asked, in front of blank lines and all others, whether a line goes on the one that it meets: that of
--- a leaf in which no container opens (fences and math; HTML is not built).
+-- The leaf that is asked, in front of blank lines and all others, whether a line goes on the one that it meets.
 unfoldable pub insider : HeldLeaf → Option LeafName
-insider on = if is_fence on then Some FenceFurther else None
+insider on = if is_fence on then Some FenceFurther else if is_code on then Some CodeFurther else None
+
+-- Whether no container opens in this leaf, where all containers went on: in fences and math none does (HTML is not
+-- built).
+unfoldable pub shuts_out : HeldLeaf → Bool
+shuts_out on = is_fence on
 
 -- Whether a leaf of several lines may be on, so that a resolver joins its lines.
 unfoldable pub joins_lines : ParseOptions → Bool
-joins_lines options = options.constructs.code_fenced || options.constructs.math_flow
+joins_lines options =
+    options.constructs.code_fenced || options.constructs.math_flow || options.constructs.code_indented
 
 -- whether an event stays as it is where lines are joined and lists are put around items
 abbrev pub stays_alone : Event → Bool
@@ -87,12 +100,14 @@ stays_alone e = passes Outside e && passes_lists e
 
 -- the one that takes the further lines of a leaf whose first line this takes
 abbrev pub further_of : LeafName → LeafName
+further_of CodeIndented = CodeFurther
 further_of Fence = FenceFurther
 further_of l = l
 
--- The leaves of several lines that may be open between two lines, but for text: fenced code and math that a fence of
--- enough markers has opened.
+-- The leaves of several lines that may be open between two lines, but for text: indented code, and fenced code and math
+-- that a fence of enough markers has opened.
 unfoldable pub IsOpenSpan : Leaf → Type 0
+IsOpenSpan (OpenCode lines) = Unit {0}
 IsOpenSpan (OpenFence o lines) = is_fence (held_leaf.Fence o.marker o.size o.indent) ≡ true
 IsOpenSpan open_leaf = ⊥
 
@@ -103,6 +118,7 @@ first_of test (l ∷ ls) = if test l then Some l else first_of test ls
 
 -- the leaf that is tried at a state of flow; at no other is one
 abbrev pub tried_at : FlowState → Option LeafName
+tried_at flow.BeforeCodeIndented = Some CodeIndented
 tried_at flow.BeforeRaw = Some Fence
 tried_at flow.BeforeHeadingAtx = Some HeadingAtx
 tried_at flow.BeforeThematicBreak = Some ThematicBreak
@@ -110,10 +126,12 @@ tried_at _ = None
 
 -- a number by which each is known
 abbrev pub number : LeafName → ℕ
-number Fence = 0
-number FenceFurther = 1
-number HeadingAtx = 2
-number ThematicBreak = 3
+number CodeIndented = 0
+number CodeFurther = 1
+number Fence = 2
+number FenceFurther = 3
+number HeadingAtx = 4
+number ThematicBreak = 5
 
 -- the leaves that are tried behind one, where it has not taken the line
 abbrev pub behind_in : ℕ → List LeafName → List LeafName
@@ -136,6 +154,8 @@ abbrev pub weight : LeafName → ℕ
 weight l = 6 + 2 * length (behind l)
 
 abbrev pub low_weight : (l : LeafName) → (nat_lt (weight l) 64 ≡ true) × (nat_lt (suc (weight l)) 64 ≡ true)
+low_weight CodeIndented = (refl, refl)
+low_weight CodeFurther = (refl, refl)
 low_weight Fence = (refl, refl)
 low_weight FenceFurther = (refl, refl)
 low_weight HeadingAtx = (refl, refl)
@@ -309,6 +329,7 @@ goes_over held = (container_rules held.kind).over_empty held
 
 abbrev pub construct_owner : StateName → Scheme
 construct_owner (s.BlockQuote state) = quote_scheme
+construct_owner (s.CodeIndented state) = code_scheme
 construct_owner (s.HeadingAtx state) = heading_scheme
 construct_owner (s.ListItem state) = item_scheme
 construct_owner (s.RawFlow state) = fence_scheme
@@ -317,6 +338,7 @@ construct_owner _ = nowhere
 
 abbrev pub construct_transition : (ResolveName → ResolveName → Bool) → StateName → World → Transition
 construct_transition is_name (s.BlockQuote state) w = quote_transition state w
+construct_transition is_name (s.CodeIndented state) w = code_transition state w
 construct_transition is_name (s.HeadingAtx state) w = heading_transition (is_name r.HeadingAtx) state w
 construct_transition is_name (s.ListItem state) w = item_transition state w
 construct_transition is_name (s.RawFlow state) w = fence_transition state w
@@ -325,6 +347,7 @@ construct_transition is_name _ w = record { to = Nok; world = w }
 
 abbrev pub construct_behaves : ParseOptions → Behaviour
 construct_behaves options (s.BlockQuote state) cells h = quote_behaves options state cells h
+construct_behaves options (s.CodeIndented state) cells h = code_behaves options state cells h
 construct_behaves options (s.HeadingAtx state) cells h = heading_behaves options state cells h
 construct_behaves options (s.ListItem state) cells h = item_behaves options state cells h
 construct_behaves options (s.RawFlow state) cells h = fence_behaves options state cells h

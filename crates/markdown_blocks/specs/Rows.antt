@@ -2,11 +2,10 @@
 use Rattle.markdown_blocks.specs.HeldLeaf.{takes_lazy}
 use Rattle.md_engine.specs.declared.tokenizer.held_leaf.HeldLeaf.TheVariants as held_leaf
 use Rattle.md_engine.specs.declared.tokenizer.held_leaf.HeldLeaf.{HeldLeaf}
-use Rattle.std.specs.Prelude.{ℕ, zero, suc, Bool, true, false, ◌&&◌, ◌==◌, length, if◌then◌else◌, List, [], ◌∷◌, ◌++◌}
+use Rattle.std.specs.Prelude.{ℕ, zero, suc, Bool, true, false, ◌&&◌, ◌||◌, ◌==◌, length, if◌then◌else◌, List, [], ◌∷◌}
 use Rattle.md_seam.specs.Events.Tiles.{plain_read}
-use Rattle.md_seam.specs.Events.Spelled.{without_last}
-use Rattle.std.specs.Option.{is_some}
-use Rattle.std.specs.Prelude.{drop, slice_range, Option, Some, None}
+use Rattle.md_seam.specs.Events.Spelled.{role, without_last}
+use Rattle.std.specs.Prelude.{◌++◌, drop, map, slice_range, Option, Some, None}
 use Rattle.md_engine.specs.declared.configuration.ParseOptions.{ParseOptions}
 use Rattle.md_engine.specs.declared.event.Event.{Event}
 use Rattle.md_engine.specs.declared.event.Name.{Name}
@@ -15,6 +14,8 @@ use Rattle.md_engine.specs.declared.event.Point.{Point}
 use Rattle.md_engine.specs.Meaning.{Cell}
 use Rattle.md_content.specs.Chunks.{content_link}
 use Rattle.md_leaves.specs.BlankRule.{blank_events}
+use Rattle.md_leaves.specs.Spanned.{has_lines, renamed}
+use Rattle.md_leaves.specs.declared.spans.Place.TheVariants.{Outside}
 use Rattle.md_seam.specs.declared.inline.Chunk.{Chunk}
 use Rattle.md_seam.specs.Ahead.{from_ending, line_bytes, line_end}
 use Rattle.md_seam.specs.Look.{first_seen}
@@ -25,7 +26,8 @@ use Rattle.md_definition.specs.Rest.{Rest, is_blank}
 use Rattle.md_definition.specs.State.{Container}
 use Rattle.markdown_blocks.specs.LineFlags.{ending_name, nothing_stands}
 use Rattle.markdown_blocks.specs.Passed.{Passed}
-use Rattle.markdown_blocks.specs.Registry.{LeafName, first_of, goes_at, insider, leaf, opens_at, text_leaf, trials}
+use Rattle.markdown_blocks.specs.Registry.{LeafName, first_of, goes_at, insider, leaf, opens_at, shuts_out, text_leaf}
+use Rattle.markdown_blocks.specs.Registry.{trials}
 use Rattle.markdown_blocks.specs.Change.{Change, change_by, ends_of, interrupts, is_none, met, open_behind, others_of}
 
 -- what the rest of a line is, behind the prefixes of its containers
@@ -46,9 +48,9 @@ pub record Row : Type 0 where
   pub change : Change
   -- those that end behind it, the outermost first
   pub leaves : List Container
-  -- behind its containers: where it begins, whether it ends there too and no prefix stands in front, what flow adds for
-  -- it unless it is text (the whitespace of a blank line, or a leaf from its begin to its end), where its ending
-  -- begins, and where it has ended, if it has an ending
+  -- behind its containers: where it begins, whether its ending is that of a blank line if a leaf takes it, what flow
+  -- adds for it unless it is text (the whitespace of a blank line, or a leaf from its begin to its end), where its
+  -- ending begins, and where it has ended, if it has an ending
   pub first : Point
   pub empty : Bool
   pub inside : List Event
@@ -169,7 +171,7 @@ held_of options cs still went new =
 
 -- where a leaf is open in which no container opens, none does unless one did not go on
 abbrev pub is_inside : HeldLeaf → List Container → Bool
-is_inside still others = is_some (insider still) && is_none others
+is_inside still others = shuts_out still && is_none others
 
 abbrev pub new_behind : ParseOptions → HeldLeaf → List Container → Front → Front
 new_behind options still others went =
@@ -191,6 +193,16 @@ abbrev pub closes_before : List Container → List Row → List Container
 closes_before cs [] = cs
 closes_before cs (row ∷ rows) = row.change.closes
 
+-- whether a blank line stays blank, where a leaf of this kind takes it
+abbrev pub stays_blank : RowKind → Bool
+stays_blank (LeafRow l) = (leaf l).stays_blank
+stays_blank kind = false
+
+-- whether the ending of a line is that of a blank line, where a leaf takes it: it is blank and stays so, or nothing at
+-- all stands on it
+abbrev pub ends_blank : RowKind → List Cell → Point → Bool
+ends_blank kind cells p = (stays_blank kind && is_blank (line_bytes cells)) || nothing_stands (first_seen cells) p
+
 -- the leaf that is open behind it
 abbrev pub behind_held : ParseOptions → Held → HeldLeaf
 behind_held options h = leaf_behind options h.on h.cells h.point (row_kind options h.on h.cells)
@@ -204,7 +216,7 @@ row_of options h below = record {
   change = h.change;
   leaves = closes_before (open_behind h.change) below;
   first = h.point;
-  empty = nothing_stands (first_seen h.cells) h.point;
+  empty = ends_blank (row_kind options h.on h.cells) h.cells h.point;
   inside = inside_of options h.on h.cells h.point (row_kind options h.on h.cells);
   end = line_end h.cells h.point;
   after = after_ending (from_ending h.cells);
@@ -242,8 +254,8 @@ tail_events name row = ends_of row.leaves row.end ++ ending_events name row
 abbrev pub is_empty_row : Row → Bool
 is_empty_row row = row.first.index == row.end.index
 
--- whether a line is blank to its ending: so is a line of a leaf on which nothing at all stands, no prefix either, as an
--- empty one of fenced code; a line of text never is
+-- whether a line is blank to its ending: so is a line of a leaf that stays blank, and one on which nothing at all
+-- stands, no prefix either, as an empty one of fenced code; a line of text never is
 abbrev pub is_blank_by : RowKind → Row → Bool
 is_blank_by BlankRow row = true
 is_blank_by (LeafRow l) row = row.empty
@@ -359,8 +371,11 @@ read_lines bytes row (next ∷ rows) =
 abbrev pub text_done : List ℕ → Row → List Row → List Event
 text_done bytes row rows = around text_leaf.name row.first (last_row row rows).end (read_lines bytes row rows)
 
--- The lines of a leaf of several, joined: what each adds but its end, what one that goes on adds but its begin and its
--- end, and the end of the last; between them stand an ending in the leaf, and prefixes.
+-- The lines of a leaf of several, joined. A line is a pair of its own, from its begin to its end; but a blank line in
+-- indented code stands bare, without them, since it may stand behind the code. What the first line adds but its end, what
+-- a further one adds but its begin and its end, and the end of the last that has one are one block; between its lines
+-- stand an ending in the leaf, and prefixes. Bare lines behind it are whitespace.
+
 abbrev pub but_end : List Event → List Event
 but_end es = without_last es
 
@@ -372,14 +387,40 @@ end_of [] = []
 end_of (e ∷ []) = e ∷ []
 end_of (e ∷ f ∷ es) = end_of (f ∷ es)
 
--- behind the first of them
-abbrev pub span_rest : (Row → List Event) → Row → List Row → List Event
-span_rest f row [] = []
-span_rest f row (next ∷ rows) =
-    ending_events n.LineEnding row ++ next.front ++ but_ends (f next) ++ span_rest f next rows
+-- whether a line is such a pair: it begins and ends a block
+abbrev pub is_framed : List Event → Bool
+is_framed [] = false
+is_framed (e ∷ es) = has_lines (role e.name) || is_framed es
+
+-- whether any of these lines is
+abbrev pub any_framed : (Row → List Event) → List Row → Bool
+any_framed f [] = false
+any_framed f (row ∷ rows) = is_framed (f row) || any_framed f rows
+
+-- what a further line adds inside of the leaf: all but its begin and its end, or all of a bare one
+abbrev pub inside_leaf : List Event → List Event
+inside_leaf es = if is_framed es then but_ends es else es
+
+-- the end of the leaf, which is that of this line if it has one, and else that of a line in front
+abbrev pub end_by : List Event → List Event → List Event
+end_by end es = if is_framed es then end_of es else end
+
+-- behind the leaf: bare lines, as whitespace, each behind the ending of the line in front
+abbrev pub span_behind : (Row → List Event) → Row → List Row → List Event
+span_behind f row [] = []
+span_behind f row (next ∷ rows) =
+    ending_events (ending_of row.kind row) row ++ next.front ++ map (renamed Outside) (f next) ++ span_behind f next rows
+
+-- behind the first line, where this is the end of the leaf so far
+abbrev pub span_rest : (Row → List Event) → List Event → Row → List Row → List Event
+span_rest f end row [] = end
+span_rest f end row (next ∷ rows) =
+    if any_framed f (next ∷ rows)
+    then ending_events n.LineEnding row ++ next.front ++ inside_leaf (f next) ++ span_rest f (end_by end (f next)) next rows
+    else end ++ span_behind f row (next ∷ rows)
 
 abbrev pub span_by : (Row → List Event) → Row → List Row → List Event
-span_by f row rows = but_end (f row) ++ span_rest f row rows ++ end_of (f (last_row row rows))
+span_by f row rows = but_end (f row) ++ span_rest f (end_of (f row)) row rows
 
 -- once their text parts are read
 abbrev pub span_done : List ℕ → Row → List Row → List Event

@@ -9,4 +9,4 @@ pub use md_content::{content, paragraph};
 pub use md_leaves::{
     blank_line, heading_atx, partial_bom, partial_non_lazy_continuation, thematic_break,
 };
-pub use md_lines::raw_flow;
+pub use md_lines::{code_indented, raw_flow};

@@ -1,14 +1,15 @@
 -- A blank line where code was open, as the resolver that joins lines gives it: between two lines of code as it is, and
 -- behind the code as whitespace, which shows no block.
-use Rattle.std.proofs.Common.{◌≡◌, ℕ, Bool, true, false, cond, List, [], ◌∷◌, ◌++◌, refl, ◌∙◌}
+use Rattle.std.proofs.Common.{◌≡◌, ℕ, Bool, true, false, cond, List, [], ◌∷◌, ◌++◌, refl, ◌∙◌, ap}
 use Rattle.std.specs.Prelude.{map, nat_lt, None}
 use Rattle.md_engine.specs.declared.event.Event.{Event}
 use Rattle.md_engine.specs.declared.event.Name.{Name}
 use Rattle.md_engine.specs.declared.event.Name.TheVariants as n
 use Rattle.md_engine.specs.declared.event.Point.{Point}
 use Rattle.md_definition.specs.Rest.{Rest, indent, is_blank, lose}
-use Rattle.md_leaves.specs.declared.spans.Place.TheVariants.{Between, Outside}
-use Rattle.md_leaves.specs.Spanned.{renamed}
+use Rattle.md_leaves.specs.declared.spans.Place.{Place}
+use Rattle.md_leaves.specs.declared.spans.Place.TheVariants.{Between, Inside, Outside}
+use Rattle.md_leaves.specs.Spanned.{name_at, renamed}
 use Rattle.md_leaves.proofs.SpannedLines.{NoBlocks}
 use Rattle.md_lines.proofs.CodeLines.{blank-line}
 use Rattle.md_seam.specs.Events.Endings.{line_start}
@@ -41,31 +42,33 @@ blank-blocks r p q = inside-blocks (code_parts r p q) (code-inside r p q)
 abbrev line_by : Name → Bool → List ℕ → Point → Point → Point → List Event
 line_by name white line p at q = cond white (pair n.SpaceOrTab p at) [] ++ part_over name line at q
 
--- Between two lines of code it stays as it is,
-pub blank-between : (r : Rest) (p q : Point) → map (renamed Between) (code_parts r p q) ≡ code_parts r p q
-blank-between r p q = go (nat_lt 0 (indent r)) (rest_line (lose 4 r))
+-- Behind the code this is whitespace.
+abbrev pub blank_behind : Rest → Point → Point → List Event
+blank_behind r p q = lost_line n.SpaceOrTab 4 r p q
+
+-- It has the name that its place gives it: between two lines of code it stays as it is, and behind them it is whitespace.
+pub blank-placed : (place : Place) (r : Rest) (p q : Point) →
+    map (renamed place) (code_parts r p q) ≡ lost_line (name_at place n.CodeFlowChunk) 4 r p q
+blank-placed place r p q =
+    go (nat_lt 0 (indent r)) (rest_line (lose 4 r))
+    ∙ ap
+    (λ (name : Name).
+    cond (nat_lt 0 (indent r)) (pair name p at) []
+    ++ part_over (name_at place n.CodeFlowChunk) (rest_line (lose 4 r)) at q)
+    (white place)
   where
     at : Point
     at = past_columns 4 r p
 
-    go : (white : Bool) (line : List ℕ) →
-        map (renamed Between) (line_by n.CodeFlowChunk white line p (past_columns 4 r p) q) ≡
-        line_by n.CodeFlowChunk white line p (past_columns 4 r p) q
-    go true [] = refl
-    go true (b ∷ bs) = refl
-    go false [] = refl
-    go false (b ∷ bs) = refl
+    white : (place : Place) → name_at place n.SpaceOrTab ≡ n.SpaceOrTab
+    white Inside = refl
+    white Between = refl
+    white Outside = refl
 
--- and behind the code it is whitespace.
-abbrev pub blank_behind : Rest → Point → Point → List Event
-blank_behind r p q = lost_line n.SpaceOrTab 4 r p q
-
-pub blank-outside : (r : Rest) (p q : Point) → map (renamed Outside) (code_parts r p q) ≡ blank_behind r p q
-blank-outside r p q = go (nat_lt 0 (indent r)) (rest_line (lose 4 r))
-  where
-    go : (white : Bool) (line : List ℕ) →
-        map (renamed Outside) (line_by n.CodeFlowChunk white line p (past_columns 4 r p) q) ≡
-        line_by n.SpaceOrTab white line p (past_columns 4 r p) q
+    go : (some : Bool) (line : List ℕ) →
+        map (renamed place) (line_by n.CodeFlowChunk some line p (past_columns 4 r p) q) ≡
+        (cond some (pair (name_at place n.SpaceOrTab) p (past_columns 4 r p)) []
+        ++ part_over (name_at place n.CodeFlowChunk) line (past_columns 4 r p) q)
     go true [] = refl
     go true (b ∷ bs) = refl
     go false [] = refl
@@ -92,6 +95,7 @@ behind-facts bytes r p q blank is = record {
   tiled = placed.tiled;
   unread_stood = placed.stood;
   stood = placed.stood;
+  behind = false;
   unread_word =
       white-shape (λ es. grammar.Leads unread_text (blocks ∷ []) (blocks ∷ []) es) (λ outer. refl)
       (λ a b outer. refl) (λ a b c d outer. refl) r p q;

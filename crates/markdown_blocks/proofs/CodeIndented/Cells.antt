@@ -1,8 +1,9 @@
--- Indented code by the cells of its line: it takes the lines that the line definition says, and adds what it says of
--- their bytes; so does a blank line where code is open.
-use Rattle.std.proofs.Common.{◌≡◌, ℕ, zero, suc, ◌^◌, ◌<◌, Bool, true, false, cond, ◌&&◌, List, []}
+-- Lines of indented code by their cells: the first one and further ones take the lines that the line definition says,
+-- and add what it says of their bytes.
+use Rattle.std.proofs.Common.{◌≡◌, ℕ, zero, suc, ◌^◌, ◌<◌, Bool, true, false, cond, ◌&&◌, ◌||◌, List, []}
 use Rattle.std.proofs.Common.{◌∷◌, ◌++◌, length, refl, sym, ◌∙◌, ap, ap₂, arith}
-use Rattle.std.specs.Prelude.{◌==◌, nat_le, nat_lt, not}
+use Rattle.std.specs.Prelude.{◌==◌, nat_le, nat_lt, not, Some, None}
+use Rattle.std.specs.Option.{is_some}
 use Rattle.std.proofs.lemmas.Bool.{and_parts}
 use Rattle.std.proofs.lemmas.Bool.Decides.{nat_tests}
 use Rattle.md_engine.specs.declared.configuration.ParseOptions.{ParseOptions}
@@ -12,27 +13,31 @@ use Rattle.md_engine.specs.declared.event.Name.TheVariants as n
 use Rattle.md_engine.specs.declared.event.Point.{Point}
 use Rattle.md_engine.specs.declared.tokenizer.Line.{Line}
 use Rattle.md_engine.specs.declared.tokenizer.held_leaf.HeldLeaf.{HeldLeaf}
+use Rattle.md_engine.specs.declared.tokenizer.held_leaf.HeldLeaf.TheVariants as held_leaf
 use Rattle.md_engine.specs.Meaning.{Cell}
 use Rattle.md_definition.specs.Bytes.{is_end}
 use Rattle.md_definition.specs.Rest.{Rest, cut_tab, indent, is_blank, lose}
 use Rattle.md_definition.proofs.TextsLemmas.{NoEnding}
-use Rattle.md_lines.specs.Code.{begin_of, may_open}
-use Rattle.md_lines.specs.CodeRule.{blank_adds}
+use Rattle.md_lines.specs.Code.{may_open}
+use Rattle.md_lines.specs.CodeRule.{blank_adds, code_goes, is_indented, line_adds}
+use Rattle.md_lines.specs.Further.{further_link}
 use Rattle.md_lines.proofs.CodeLines.{blank-line, indented-same}
 use Rattle.md_seam.specs.Ahead.{line_bytes, line_end, white_end}
-use Rattle.md_seam.specs.Events.Nested.{exit, pair}
+use Rattle.md_seam.specs.Events.Nested.{enter, enter_link, exit, pair}
 use Rattle.md_seam.specs.Events.Places.{past_byte, past_text}
 use Rattle.md_seam.proofs.FeedLines.{Stops, bytes_of, cell, columns_more, spread, tab_cells}
 use Rattle.md_seam.proofs.LostColumns.{HasLost, lose-walk}
 use Rattle.md_seam.proofs.RestCells.{RestAt, cells_by, lose-no_ending, rest_cells}
 use Rattle.md_seam.proofs.RestLines.{blank-cells, rest-line, rest-past}
 use Rattle.markdown_blocks.specs.Fronted.{rest_line}
-use Rattle.markdown_blocks.specs.Leaf.CodeIndented.{blank_in_code, code_leaf, code_parts, starts_code}
+use Rattle.markdown_blocks.specs.Leaf.CodeIndented.{code_further, code_leaf, code_parts, further_parts, goes_on_code}
+use Rattle.markdown_blocks.specs.Leaf.CodeIndented.{is_code, line_parts, starts_code}
 use Rattle.markdown_blocks.specs.LineColumns.{part_over, past_columns}
 use Rattle.markdown_blocks.proofs.CodeIndented.Trial.{is_code_line, kept-some}
 use Rattle.markdown_blocks.proofs.LostLine.Columns.{columns-end, first-white, past-line, rest-again}
 
--- It takes the lines that the line definition says.
+-- They take the lines that the line definition says.
+
 pub code-fits : (options : ParseOptions) (on : HeldLeaf) (said : Line) (text behind : List ℕ) (r : Rest) (p : Point)
     (stop : List Cell) →
     RestAt text behind r p → NoEnding r.bytes → Stops stop → length (rest_cells said r p ++ stop) < 2 ^ 63 →
@@ -42,7 +47,26 @@ code-fits options on said text behind r p stop is h k short =
     ∙ ap₂ (λ (some blank : Bool). options.constructs.code_indented && may_open on && some && not blank)
     (indented-same said text behind r p stop is k) (blank-cells said r p stop h k)
 
--- What is known of the rest of such a line: an indent, and text behind it.
+goes-some : (leaf : HeldLeaf) (cells : List Cell) →
+    is_some (code_goes leaf cells) ≡ (is_blank (line_bytes cells) || is_indented cells)
+goes-some leaf cells = go (is_blank (line_bytes cells)) (is_indented cells)
+  where
+    go : (blank indented : Bool) →
+        is_some (cond blank (Some leaf) (cond indented (Some held_leaf.Code) None)) ≡ (blank || indented)
+    go true indented = refl
+    go false true = refl
+    go false false = refl
+
+pub code_further-fits : (options : ParseOptions) (on : HeldLeaf) (said : Line) (text behind : List ℕ) (r : Rest)
+    (p : Point) (stop : List Cell) →
+    RestAt text behind r p → NoEnding r.bytes → Stops stop → length (rest_cells said r p ++ stop) < 2 ^ 63 →
+    code_further.takes options on (rest_cells said r p ++ stop) ≡ code_further.starts options on r
+code_further-fits options on said text behind r p stop is h k short =
+    ap (λ (x : Bool). is_code on && x) (goes-some on (rest_cells said r p ++ stop))
+    ∙ ap₂ (λ (blank some : Bool). is_code on && (blank || some)) (blank-cells said r p stop h k)
+    (indented-same said text behind r p stop is k)
+
+-- What is known of the rest of a first line: an indent, and text behind it.
 pub record IsCodeRest (options : ParseOptions) (on : HeldLeaf) (r : Rest) : Type 0 where
   pub enabled : options.constructs.code_indented ≡ true
   pub free : may_open on ≡ true
@@ -66,6 +90,19 @@ code-rest options on r e =
     no : (x : Bool) → not x ≡ true → x ≡ false
     no false h = refl
     no true h = cc
+
+-- And of that of a further one: code is open, and it has an indent if it has text.
+pub record IsFurtherRest (on : HeldLeaf) (r : Rest) : Type 0 where
+  pub open_code : is_code on ≡ true
+  pub indented : is_blank r.bytes ≡ false → nat_le 4 (indent r) ≡ true
+
+pub further-rest : (on : HeldLeaf) (r : Rest) → goes_on_code on r ≡ true → IsFurtherRest on r
+further-rest on r e =
+    let both = and_parts (is_code on) (is_blank r.bytes || nat_le 4 (indent r)) e in
+    record {
+      open_code = both.0;
+      indented = λ dark. ap (λ (x : Bool). x || nat_le 4 (indent r)) (sym dark) ∙ both.1;
+    }
 
 -- By the bytes of the line.
 
@@ -97,28 +134,27 @@ code-parts r p q indented dark =
     ∙ ap (λ (es : List Event). pair n.SpaceOrTab p at ++ es)
     (over-some n.CodeFlowChunk (lose 4 r) at q (blank-line r ∙ dark))
 
--- It adds what the line definition says of its bytes.
+-- A line with text adds what the line definition says of its bytes, whatever its begin.
+line-adds : (begin : Event) (said : Line) (text behind : List ℕ) (r : Rest) (p : Point) (stop : List Cell) →
+    RestAt text behind r p → NoEnding r.bytes → Stops stop → nat_le 4 (indent r) ≡ true → is_blank r.bytes ≡ false →
+    line_adds begin (rest_cells said r p ++ stop) p ≡ line_parts begin r p (past_text (rest_line r) p)
+line-adds begin said text behind r p stop is h k indented dark =
+    ap₂ (λ (x y : Point). begin ∷ pair n.SpaceOrTab p x ++ pair n.CodeFlowChunk x y ++ exit n.CodeIndented y ∷ [])
+    (columns-end said text behind 4 r p stop is k) (line-ends said text behind r p stop is h k)
+    ∙ ap (λ (es : List Event). begin ∷ es ++ exit n.CodeIndented (past_text (rest_line r) p) ∷ [])
+    (sym (code-parts r p (past_text (rest_line r) p) indented dark))
+
 pub code-adds : (options : ParseOptions) (on : HeldLeaf) (said : Line) (text behind : List ℕ) (r : Rest) (p : Point)
     (stop : List Cell) →
     RestAt text behind r p → NoEnding r.bytes → Stops stop → length (rest_cells said r p ++ stop) < 2 ^ 63 →
     code_leaf.starts options on r ≡ true →
     code_leaf.adds options on (rest_cells said r p ++ stop) p ≡ code_leaf.added options on (rest_line r) p
 code-adds options on said text behind r p stop is h k short e =
-    ap₂
-    (λ (x y : Point).
-    begin_of on p ∷ pair n.SpaceOrTab p x ++ pair n.CodeFlowChunk x y ++ exit n.CodeIndented y ∷ [])
-    (columns-end said text behind 4 r p stop is k) (line-ends said text behind r p stop is h k)
-    ∙ ap around (sym (code-parts r p q rest.indented rest.dark))
-    ∙ sym (ap (λ (s : Rest). around (code_parts s p q)) (rest-again text behind r p is))
-  where
-    q : Point
-    q = past_text (rest_line r) p
-
-    rest : IsCodeRest options on r
-    rest = code-rest options on r e
-
-    around : List Event → List Event
-    around es = begin_of on p ∷ es ++ exit n.CodeIndented (past_text (rest_line r) p) ∷ []
+    let rest = code-rest options on r e in
+    line-adds (enter n.CodeIndented p) said text behind r p stop is h k rest.indented rest.dark
+    ∙ sym
+    (ap (λ (s : Rest). line_parts (enter n.CodeIndented p) s p (past_text (rest_line r) p))
+    (rest-again text behind r p is))
 
 -- A blank line.
 
@@ -155,9 +191,9 @@ over-by name [] p q = refl
 over-by name (b ∷ bs) p q = refl
 
 -- It adds what is said of its bytes; so would any other line.
-pub blank-adds : (said : Line) (text behind : List ℕ) (r : Rest) (p : Point) (stop : List Cell) →
+blank-adds : (said : Line) (text behind : List ℕ) (r : Rest) (p : Point) (stop : List Cell) →
     RestAt text behind r p → NoEnding r.bytes → Stops stop →
-    blank_adds (rest_cells said r p ++ stop) p ≡ blank_in_code (rest_line r) p
+    blank_adds (rest_cells said r p ++ stop) p ≡ code_parts r p (past_text (rest_line r) p)
 blank-adds said text behind r p stop is h k =
     ap₂
     (λ (white empty : Bool).
@@ -173,7 +209,6 @@ blank-adds said text behind r p stop is h k =
     (columns-end said text behind 4 r p stop is k) (line-ends said text behind r p stop is h k)
     ∙ ap (λ (es : List Event). cond (nat_lt 0 (indent r)) (pair n.SpaceOrTab p (past_columns 4 r p)) [] ++ es)
     (over-by n.CodeFlowChunk (rest_line (lose 4 r)) (past_columns 4 r p) q)
-    ∙ sym (ap (λ (s : Rest). code_parts s p q) (rest-again text behind r p is))
   where
     cells : List Cell
     cells = rest_cells said r p ++ stop
@@ -183,3 +218,28 @@ blank-adds said text behind r p stop is h k =
 
     lost : HasLost said text behind 4 r p stop cells (white_end 4 cells p)
     lost = lose-walk said text behind 4 r p stop is k
+
+-- So a further line adds what is said of its bytes, blank or not.
+pub code_further-adds : (options : ParseOptions) (on : HeldLeaf) (said : Line) (text behind : List ℕ) (r : Rest)
+    (p : Point) (stop : List Cell) →
+    RestAt text behind r p → NoEnding r.bytes → Stops stop → length (rest_cells said r p ++ stop) < 2 ^ 63 →
+    code_further.starts options on r ≡ true →
+    code_further.adds options on (rest_cells said r p ++ stop) p ≡ code_further.added options on (rest_line r) p
+code_further-adds options on said text behind r p stop is h k short e =
+    ap (λ (x : Bool). cond x (blank_adds cells p) (line_adds begin cells p)) (blank-cells said r p stop h k)
+    ∙ go (is_blank r.bytes) refl
+    ∙ sym (ap (λ (s : Rest). further_parts s p q) (rest-again text behind r p is))
+  where
+    cells : List Cell
+    cells = rest_cells said r p ++ stop
+
+    q : Point
+    q = past_text (rest_line r) p
+
+    begin : Event
+    begin = enter_link n.CodeIndented p further_link
+
+    go : (x : Bool) → is_blank r.bytes ≡ x →
+        cond x (blank_adds cells p) (line_adds begin cells p) ≡ cond x (code_parts r p q) (line_parts begin r p q)
+    go true blank = blank-adds said text behind r p stop is h k
+    go false dark = line-adds begin said text behind r p stop is h k ((further-rest on r e).indented dark) dark

@@ -4,12 +4,12 @@ use Rattle.std.specs.Prelude.{nat_le}
 use Rattle.md_engine.specs.declared.configuration.ParseOptions.{ParseOptions}
 use Rattle.md_engine.specs.declared.tokenizer.held_leaf.HeldLeaf.{HeldLeaf}
 use Rattle.md_engine.specs.declared.tokenizer.held_leaf.HeldLeaf.TheVariants as held_leaf
-use Rattle.md_definition.specs.Leaves.{Came, ParagraphContext, code_at, code_goes_on, is_free}
+use Rattle.md_definition.specs.Leaves.{Came, ParagraphContext, code_at, code_goes_on, goes_on, is_free}
 use Rattle.md_definition.specs.Rest.{Rest, indent, is_blank}
 use Rattle.md_definition.specs.State.{NoLeaf, OpenCode}
 use Rattle.md_definition.specs.Tree.{Line}
 use Rattle.md_lines.specs.Code.{may_open}
-use Rattle.markdown_blocks.specs.Leaf.CodeIndented.{code_comes, starts_code}
+use Rattle.markdown_blocks.specs.Leaf.CodeIndented.{code_further, code_leaf}
 
 -- a test that no blank line passes
 with-text : (x : Bool) (c : Came) → cond x (Some c) None ≡ cond (x && true) (Some c) None
@@ -20,23 +20,17 @@ with-text false c = refl
 -- text of the line definition does.
 pub code-found : (options : ParseOptions) (on : HeldLeaf) (against : ParagraphContext) (r : Rest) →
     may_open on ≡ is_free against → is_blank r.bytes ≡ false →
-    code_at options against r ≡ cond (starts_code options on r) (Some (code_comes NoLeaf r)) None
+    code_at options against r ≡
+    cond (code_leaf.starts options on r) (Some (code_leaf.comes options NoLeaf r)) None
 unfolding code_at
 code-found options on against r free dark =
     rw (free, dark)
-    (with-text (options.constructs.code_indented && is_free against && nat_le 4 (indent r)) (code_comes NoLeaf r))
+    (with-text (options.constructs.code_indented && is_free against && nat_le 4 (indent r))
+    (code_leaf.comes options NoLeaf r))
 
--- So does code that is open go on,
-pub code-goes : (options : ParseOptions) (lines : List Line) (r : Rest) → options.constructs.code_indented ≡ true →
-    is_blank r.bytes ≡ false →
-    code_goes_on lines r ≡
-    cond (starts_code options held_leaf.Code r) (Some (code_comes (OpenCode lines) r)) None
+-- Code that is open goes on where a further line of it does.
+pub code-goes : (options : ParseOptions) (lines : List Line) (r : Rest) →
+    goes_on options (OpenCode lines) r ≡
+    cond (code_further.starts options held_leaf.Code r) (Some (code_further.comes options (OpenCode lines) r)) None
 unfolding code_goes_on
-code-goes options lines r enabled dark =
-    rw (enabled, dark) (with-text (nat_le 4 (indent r)) (code_comes (OpenCode lines) r))
-
--- and over any blank line.
-pub code-goes-blank : (lines : List Line) (r : Rest) → is_blank r.bytes ≡ true →
-    code_goes_on lines r ≡ Some (code_comes (OpenCode lines) r)
-unfolding code_goes_on
-code-goes-blank lines r blank = rw blank refl
+code-goes options lines r = refl

@@ -1,25 +1,24 @@
--- The laws of indented code, as the frame asks for them.
+-- The laws of indented code, of its first line and of a further one, as the frame asks for them.
 use Rattle.std.proofs.Common.{◌≡◌, true, refl}
 use Rattle.md_engine.specs.declared.tokenizer.held_leaf.HeldLeaf.{HeldLeaf}
 use Rattle.md_engine.specs.declared.tokenizer.held_leaf.HeldLeaf.TheVariants as held_leaf
 use Rattle.markdown_blocks.specs.HeldLeaf.{has_lines}
 use Rattle.markdown_blocks.specs.Fronted.{rest_line}
-use Rattle.markdown_blocks.specs.Leaf.CodeIndented.{code_leaf, is_code}
-use Rattle.markdown_blocks.proofs.CodeIndented.Cells.{code-adds, code-fits}
+use Rattle.markdown_blocks.specs.Leaf.CodeIndented.{code_further, code_leaf, is_code}
+use Rattle.markdown_blocks.proofs.CodeIndented.Cells.{code-adds, code-fits, code_further-adds, code_further-fits}
+use Rattle.markdown_blocks.proofs.CodeIndented.Look.{code-looked, code_further-looked}
 use Rattle.markdown_blocks.proofs.CodeIndented.Outside.{code-no_content, code-outside, code-own}
-use Rattle.markdown_blocks.proofs.CodeIndented.Trial.{code-looked, code-refused, code-shrinks, code-took}
+use Rattle.markdown_blocks.proofs.CodeIndented.Outside.{code_further-no_content, code_further-outside}
+use Rattle.markdown_blocks.proofs.CodeIndented.Outside.{code_further-own}
+use Rattle.markdown_blocks.proofs.CodeIndented.Trial.{code-refused, code-shrinks, code-took}
+use Rattle.markdown_blocks.proofs.CodeIndented.Trial.{code_further-refused, code_further-shrinks, code_further-took}
 use Rattle.markdown_blocks.proofs.LeafLaws.{LeafLaws}
 
--- open code is a leaf of several lines
-code-lines : (on : HeldLeaf) → is_code on ≡ true → has_lines on ≡ true
-code-lines held_leaf.Code e = refl
-code-lines _ e = cc
-
--- All that the frame asks of indented code.
+-- All that the frame asks of the line that begins code,
 pub code-laws : LeafLaws code_leaf
 code-laws = record {
   looked = code-looked;
-  meets = λ options on r starts further. code-lines on further;
+  meets = λ options on r starts further. cc;
   took = λ options cells h is few. code-took options cells h is;
   refused = λ options cells h asked. code-refused options cells h;
   shrinks = code-shrinks;
@@ -30,9 +29,38 @@ code-laws = record {
   finishes = λ ends options leaf r. cc;
   holds_is = λ options leaf r starts. refl;
   not_lazy = λ options on. (λ cells p. refl, λ r. refl);
-  no_content = λ wants only options on. code-no_content wants only.flow options on;
+  no_content = λ wants only. code-no_content wants;
   own = λ options on cells p none. code-own options on cells p;
   outside = λ stays options on r p starts. code-outside options on (rest_line r) p;
+  set = λ ends options on r p es starts. cc;
+  unspanned = λ ends options on r p starts. absurd (cc);
+  facts = λ ends options on bytes r p q starts is. absurd (cc);
+  becomes = λ ends options on bytes r p q starts is wants reads w rt. absurd (cc);
+}
+
+-- open code is a leaf of several lines
+code-lines : (on : HeldLeaf) → is_code on ≡ true → has_lines on ≡ true
+code-lines held_leaf.Code e = refl
+code-lines _ e = cc
+
+-- and of a further line: it goes on the code that it meets.
+pub code_further-laws : LeafLaws code_further
+code_further-laws = record {
+  looked = code_further-looked;
+  meets = λ options on r starts further. code-lines on further;
+  took = λ options cells h is few. code_further-took options cells h is;
+  refused = code_further-refused;
+  shrinks = code_further-shrinks;
+  fits = code_further-fits;
+  adds_is = code_further-adds;
+  keeps_is = λ options on said text behind r p stop at none ends short starts. refl;
+  shut = λ ends options on. absurd (cc);
+  finishes = λ ends options leaf r. cc;
+  holds_is = λ options leaf r starts. refl;
+  not_lazy = λ options on. (λ cells p. refl, λ r. refl);
+  no_content = λ wants only. code_further-no_content wants only.flow;
+  own = λ options on cells p none. code_further-own options on cells p;
+  outside = λ stays options on r p starts. code_further-outside options on (rest_line r) p;
   set = λ ends options on r p es starts. cc;
   unspanned = λ ends options on r p starts. absurd (cc);
   facts = λ ends options on bytes r p q starts is. absurd (cc);

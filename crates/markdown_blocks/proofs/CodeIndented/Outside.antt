@@ -1,54 +1,100 @@
 -- Nothing stands on a line of code that a resolver rewrites, and no content.
-use Rattle.std.proofs.Common.{◌≡◌, ℕ, Bool, false, cond, List, [], ◌∷◌, refl, ap}
+use Rattle.std.proofs.Common.{◌≡◌, ℕ, Bool, true, false, cond, List, [], ◌∷◌, refl, ap}
 use Rattle.std.specs.Prelude.{Some, None}
 use Rattle.md_engine.specs.declared.configuration.ParseOptions.{ParseOptions}
 use Rattle.md_engine.specs.declared.event.Content.{Content}
 use Rattle.md_engine.specs.declared.event.Content.TheVariants as content
+use Rattle.md_engine.specs.declared.event.Event.{Event}
+use Rattle.md_engine.specs.declared.event.Kind.TheVariants.{Enter, Exit}
 use Rattle.md_engine.specs.declared.event.Name.TheVariants as n
 use Rattle.md_engine.specs.declared.event.Point.{Point}
 use Rattle.md_engine.specs.declared.tokenizer.held_leaf.HeldLeaf.{HeldLeaf}
 use Rattle.md_engine.specs.Meaning.{Cell}
 use Rattle.md_content.specs.Joined.{is_content}
-use Rattle.md_definition.specs.Rest.{Rest}
-use Rattle.md_lines.specs.Code.{begin_of}
-use Rattle.md_seam.specs.Events.Nested.{exit}
+use Rattle.md_definition.specs.Bytes.{is_end}
+use Rattle.md_definition.specs.Rest.{Rest, is_blank}
+use Rattle.md_lines.specs.CodeRule.{blank_adds, line_adds}
+use Rattle.md_lines.specs.Further.{further_link}
+use Rattle.md_seam.specs.Ahead.{begins_white, line_bytes, line_end, white_end, white_rest}
+use Rattle.md_seam.specs.Events.Nested.{enter, enter_link, exit, pair}
 use Rattle.md_seam.specs.Events.Places.{past_text}
 use Rattle.md_seam.specs.Substituted.{wanted}
-use Rattle.markdown_blocks.specs.Leaf.CodeIndented.{code_leaf, code_parts}
+use Rattle.markdown_blocks.specs.Leaf.CodeIndented.{code_further, code_leaf, code_parts, line_parts}
 use Rattle.markdown_blocks.specs.LineColumns.{rest_of}
-use Rattle.markdown_blocks.proofs.CodeIndented.Parts.{begin-each, code-inside}
+use Rattle.markdown_blocks.proofs.CodeIndented.Parts.{code-inside}
 use Rattle.markdown_blocks.proofs.ContentFacts.{NoContent}
-use Rattle.markdown_blocks.proofs.LostLine.Names.{inside-outside}
+use Rattle.markdown_blocks.proofs.LostLine.Names.{AreInside, More, either-part, inside-no_content, inside-outside}
 use Rattle.markdown_blocks.proofs.OutsideFacts.{AreOutside, IsOutside, outside-append}
+
+-- On a blank line whitespace stands, and a part of a leaf.
+blank-inside : (cells : List Cell) (p : Point) → AreInside (blank_adds cells p)
+blank-inside cells p = λ P none more.
+    either-part P more (begins_white cells) n.SpaceOrTab p (white_end 4 cells p) _ refl
+    (chunk P none more (is_end (line_bytes (white_rest 4 cells))))
+  where
+    chunk : (P : List Event → Type 0) → P [] → More P → (x : Bool) →
+        P (cond x [] (pair n.CodeFlowChunk (white_end 4 cells p) (line_end cells p)))
+    chunk P none more true = none
+    chunk P none more false =
+        more Enter n.CodeFlowChunk (white_end 4 cells p) _ refl
+        (more Exit n.CodeFlowChunk (line_end cells p) [] refl none)
+
+-- A further line is blank, or not.
+either : (P : List Event → Type 0) (blank : Bool) (xs ys : List Event) → P xs → P ys → P (cond blank xs ys)
+either P true xs ys a b = a
+either P false xs ys a b = b
 
 -- No part of it is rewritten.
 
-begin-outside : (on : HeldLeaf) (p : Point) → IsOutside (begin_of on p)
-begin-outside on p = begin-each IsOutside on p refl refl
+line-own : (begin : Event) (cells : List Cell) (p : Point) → IsOutside begin → AreOutside (line_adds begin cells p)
+line-own begin cells p is = (is, (refl, (refl, (refl, (refl, (refl, tt))))))
 
 pub code-own : (options : ParseOptions) (on : HeldLeaf) (cells : List Cell) (p : Point) →
     AreOutside (code_leaf.adds options on cells p)
-code-own options on cells p =
-    (begin-outside on p, (refl, (refl, (refl, (refl, (refl, tt))))))
+code-own options on cells p = line-own (enter n.CodeIndented p) cells p refl
 
-pub parts-outside : (r : Rest) (p q : Point) → AreOutside (code_parts r p q)
+pub code_further-own : (options : ParseOptions) (on : HeldLeaf) (cells : List Cell) (p : Point) →
+    AreOutside (code_further.adds options on cells p)
+code_further-own options on cells p =
+    let begin : Event = enter_link n.CodeIndented p further_link in
+    either AreOutside (is_blank (line_bytes cells)) (blank_adds cells p) (line_adds begin cells p)
+    (inside-outside (blank_adds cells p) (blank-inside cells p)) (line-own begin cells p refl)
+
+parts-outside : (r : Rest) (p q : Point) → AreOutside (code_parts r p q)
 parts-outside r p q = inside-outside (code_parts r p q) (code-inside r p q)
+
+line-outside : (begin : Event) (r : Rest) (p q : Point) → IsOutside begin → AreOutside (line_parts begin r p q)
+line-outside begin r p q is =
+    (is, outside-append (code_parts r p q) (exit n.CodeIndented q ∷ []) (parts-outside r p q) (refl, tt))
 
 pub code-outside : (options : ParseOptions) (on : HeldLeaf) (line : List ℕ) (p : Point) →
     AreOutside (code_leaf.added options on line p)
-code-outside options on line p =
+code-outside options on line p = line-outside (enter n.CodeIndented p) (rest_of p line) p (past_text line p) refl
+
+pub code_further-outside : (options : ParseOptions) (on : HeldLeaf) (line : List ℕ) (p : Point) →
+    AreOutside (code_further.added options on line p)
+code_further-outside options on line p =
+    let r : Rest = rest_of p line in
     let q : Point = past_text line p in
-    let r : Rest = rest_of p line in (
-      begin-outside on p,
-      outside-append (code_parts r p q) (exit n.CodeIndented q ∷ []) (parts-outside r p q) (refl, tt),
-    )
+    let begin : Event = enter_link n.CodeIndented p further_link in
+    either AreOutside (is_blank r.bytes) (code_parts r p q) (line_parts begin r p q) (parts-outside r p q)
+    (line-outside begin r p q refl)
 
 -- No content stands in it, and its link is to none that is read later.
-pub code-no_content : (wants : Content → Bool) → wants content.Flow ≡ false → (options : ParseOptions)
-    (on : HeldLeaf) (cells : List Cell) (p : Point) → NoContent wants (code_leaf.adds options on cells p)
-code-no_content wants flow options on cells p = (
-  begin-each (λ e. wanted wants e ≡ None) on p refl
-      (ap (λ (x : Bool). cond x (Some content.Flow) None) flow),
-  begin-each (λ e. is_content e.name ≡ false) on p refl refl,
-  (refl, refl, (refl, refl, (refl, refl, (refl, refl, (refl, refl, tt))))),
-)
+
+line-no_content : (wants : Content → Bool) (begin : Event) (cells : List Cell) (p : Point) →
+    wanted wants begin ≡ None → is_content begin.name ≡ false → NoContent wants (line_adds begin cells p)
+line-no_content wants begin cells p unwanted none =
+    (unwanted, none, (refl, refl, (refl, refl, (refl, refl, (refl, refl, (refl, refl, tt))))))
+
+pub code-no_content : (wants : Content → Bool) (options : ParseOptions) (on : HeldLeaf) (cells : List Cell)
+    (p : Point) → NoContent wants (code_leaf.adds options on cells p)
+code-no_content wants options on cells p = line-no_content wants (enter n.CodeIndented p) cells p refl refl
+
+pub code_further-no_content : (wants : Content → Bool) → wants content.Flow ≡ false → (options : ParseOptions)
+    (on : HeldLeaf) (cells : List Cell) (p : Point) → NoContent wants (code_further.adds options on cells p)
+code_further-no_content wants flow options on cells p =
+    let begin : Event = enter_link n.CodeIndented p further_link in
+    either (NoContent wants) (is_blank (line_bytes cells)) (blank_adds cells p) (line_adds begin cells p)
+    (inside-no_content wants (blank_adds cells p) (blank-inside cells p))
+    (line-no_content wants begin cells p (ap (λ (x : Bool). cond x (Some content.Flow) None) flow) refl)

@@ -1,27 +1,25 @@
 -- The states of indented code register nothing.
-use Rattle.std.proofs.Common.{◌≡◌, Bool, true, false, ◌&&◌, refl}
+use Rattle.std.proofs.Common.{Bool, true, false, ◌&&◌, refl}
+use Rattle.md_engine.specs.declared.event.Event.{Event}
 use Rattle.md_engine.specs.declared.event.Name.TheVariants as n
 use Rattle.md_engine.specs.declared.state.code_indented.State.{State as CodeState}
 use Rattle.md_engine.specs.declared.state.code_indented.State.TheVariants as its
-use Rattle.md_engine.specs.declared.tokenizer.held_leaf.HeldLeaf.{HeldLeaf}
-use Rattle.md_engine.specs.declared.tokenizer.held_leaf.HeldLeaf.TheVariants as held_leaf
 use Rattle.md_engine.specs.World.{World}
-use Rattle.md_lines.specs.Code.{code_transition, further_after_code, further_begin_code, further_inside_code}
-use Rattle.md_lines.specs.Code.{inside_blank_code, inside_code, may_open, opened, start_code}
-use Rattle.md_seam.specs.Events.Nested.{enter, exit}
+use Rattle.md_content.specs.Joined.{is_content}
+use Rattle.md_lines.specs.Code.{begun_code, code_transition, further_after_code, further_begin_code}
+use Rattle.md_lines.specs.Code.{further_inside_code, inside_blank_code, inside_code, may_open}
+use Rattle.md_lines.specs.Further.{further_link}
+use Rattle.md_seam.specs.Events.Nested.{enter, enter_link, exit}
 use Rattle.md_seam.specs.Spaces.{ends_line, sees_white}
+use Rattle.markdown_blocks.specs.Registry.{is_own}
+use Rattle.markdown_blocks.proofs.OutsideFacts.{IsNoEnd}
 use Rattle.markdown_blocks.proofs.Registers.{Registers, adds}
 
 -- A line begins, linked to the one in front or not.
-begins : (w : World) (on : HeldLeaf) → w.flags.leaf ≡ on → Registers w → Registers (opened w)
-begins w held_leaf.None e h = rw e (adds w.events _ w.resolvers refl refl h)
-begins w held_leaf.Text e h = rw e (adds w.events _ w.resolvers refl refl h)
-begins w held_leaf.Code e h = rw e (adds w.events _ w.resolvers refl refl h)
-begins w (held_leaf.Fence m size indent) e h = rw e (adds w.events _ w.resolvers refl refl h)
-
-at-start : (w : World) (b : Bool) → Registers w → Registers (start_code w b).world
-at-start w true h = begins w w.flags.leaf refl h
-at-start w false h = h
+at-line : (w : World) (begin : Event) (b : Bool) → IsNoEnd is_content begin → IsNoEnd is_own begin → Registers w →
+    Registers (begun_code w begin b).world
+at-line w begin true content own h = adds w.events begin w.resolvers content own h
+at-line w begin false content own h = h
 
 in-blank : (w : World) (a b : Bool) → Registers w → Registers (inside_blank_code w a b).world
 in-blank w true b h = h
@@ -48,12 +46,15 @@ further-inside w false false h = h
 -- each of them
 pub code-registers : (state : CodeState) (w : World) → Registers w → Registers (code_transition state w).world
 code-registers its.Start w h =
-    at-start w (w.setting.options.constructs.code_indented && may_open w.flags.leaf && sees_white w.current) h
+    at-line w (enter n.CodeIndented w.point)
+    (w.setting.options.constructs.code_indented && may_open w.flags.leaf && sees_white w.current) refl refl h
 code-registers its.AtBreak w h = adds w.events (enter n.CodeFlowChunk w.point) w.resolvers refl refl h
 code-registers its.InsideBlank w h = in-blank w (ends_line w.current) (sees_white w.current) h
 code-registers its.Inside w h = in-chunk w (ends_line w.current) h
 code-registers its.After w h = adds w.events (exit n.CodeIndented w.point) w.resolvers refl refl h
 code-registers its.FurtherStart w h = h
+code-registers its.FurtherLine w h =
+    at-line w (enter_link n.CodeIndented w.point further_link) (sees_white w.current) refl refl h
 code-registers its.FurtherBegin w h = further-begin w (sees_white w.current) h
 code-registers its.FurtherAfter w h = further-after w (ends_line w.current) h
 code-registers its.FurtherInside w h = further-inside w (ends_line w.current) (sees_white w.current) h

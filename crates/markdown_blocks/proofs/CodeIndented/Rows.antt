@@ -1,100 +1,101 @@
--- The rows of indented code: a line of code, and further ones and blank ones behind it, of which the last is no blank
--- one.
+-- The rows of indented code behind its first line: further lines of it, and blank ones.
 --
--- A blank line stands bare, as it may stand behind the code. Between two lines of code it is one of them, so it is
--- taken for a further line: with a begin and an end, which go when the lines are joined.
-use Rattle.std.proofs.Common.{◌≡◌, ℕ, zero, suc, ◌<◌, ◌≤◌, Bool, true, false, cond, List, [], ◌∷◌, ◌++◌, length}
-use Rattle.std.proofs.Common.{drop, refl, sym, ◌∙◌, ap, arith}
-use Rattle.std.specs.Prelude.{if◌then◌else◌, nat_lt, Some}
+-- A blank line stands bare, as it may stand behind the code. Between two lines of code it is one of them, so it is taken
+-- for a further line: with a begin and an end, which go when the lines are joined. Behind the last line of code it is
+-- whitespace.
+use Rattle.std.proofs.Common.{◌≡◌, ℕ, zero, suc, ◌<◌, ◌≤◌, Bool, true, false, cond, ◌||◌, not, List, [], ◌∷◌}
+use Rattle.std.proofs.Common.{◌++◌, length, drop, map, refl, sym, ◌∙◌, ap, subst₂, subst, arith}
+use Rattle.std.specs.Prelude.{◌==◌, ◌&&◌, nat_lt, None, Some}
 use Rattle.std.proofs.lemmas.Bool.Decides.{nat_tests}
 use Rattle.std.proofs.lemmas.List.{drop_all}
 use Rattle.md_engine.specs.declared.configuration.ParseOptions.{ParseOptions}
 use Rattle.md_engine.specs.declared.event.Event.{Event}
 use Rattle.md_engine.specs.declared.event.Name.TheVariants as n
 use Rattle.md_engine.specs.declared.event.Point.{Point}
-use Rattle.md_engine.specs.declared.tokenizer.held_leaf.HeldLeaf.{HeldLeaf}
-use Rattle.md_engine.specs.declared.tokenizer.held_leaf.HeldLeaf.TheVariants as held_leaf
 use Rattle.md_definition.specs.Leaves.{code_line}
 use Rattle.md_definition.specs.Rest.{Rest, cut_tab, is_blank}
 use Rattle.md_definition.specs.Tree.{Line}
-use Rattle.md_leaves.specs.Spanned.{has_lines}
-use Rattle.md_lines.specs.Code.{begin_of}
+use Rattle.md_leaves.specs.Spanned.{renamed}
+use Rattle.md_leaves.specs.declared.spans.Place.TheVariants.{Outside}
 use Rattle.md_lines.specs.Further.{further_link}
 use Rattle.md_seam.specs.Events.Nested.{enter_link, exit}
-use Rattle.md_seam.specs.Events.Spelled.{role}
 use Rattle.markdown_blocks.specs.Fronted.{rest_line}
-use Rattle.markdown_blocks.specs.Leaf.CodeIndented.{blank_in_code, code_leaf, code_parts}
-use Rattle.markdown_blocks.specs.Rows.{Row}
-use Rattle.markdown_blocks.proofs.CodeIndented.Parts.{blank-is, code-at, code-inside, code-is}
+use Rattle.markdown_blocks.specs.Leaf.CodeIndented.{code_further, code_parts, further_parts, line_parts}
+use Rattle.markdown_blocks.specs.Rows.{Row, is_blank_row, is_empty_row, is_framed, last_row}
+use Rattle.markdown_blocks.proofs.CodeIndented.Blank.{behind-facts, blank-placed, blank_behind}
+use Rattle.markdown_blocks.proofs.CodeIndented.Parts.{code-inside, further-is}
+use Rattle.markdown_blocks.proofs.FenceSpan.Rest.{row_unread}
 use Rattle.markdown_blocks.proofs.FrontFacts.{LinePrefix}
 use Rattle.markdown_blocks.proofs.FrontPlaces.{fronts-grow}
-use Rattle.markdown_blocks.proofs.LeafFacts.{LineAt}
+use Rattle.markdown_blocks.proofs.LeafFacts.{LeafFacts, LineAt}
 use Rattle.markdown_blocks.proofs.LineTexts.{line-stands}
-use Rattle.markdown_blocks.proofs.LostLine.Parts.{inside-lines}
-use Rattle.markdown_blocks.proofs.LostLine.Places.{FurtherAt}
+use Rattle.markdown_blocks.proofs.LostLine.Names.{lost-inside}
+use Rattle.markdown_blocks.proofs.LostLine.Parts.{inside-lines, inside-unlinked}
+use Rattle.markdown_blocks.proofs.LostLine.Places.{FurtherAt, further-at, further-rest}
+use Rattle.markdown_blocks.proofs.LostLine.Shown.{left-clear}
+use Rattle.markdown_blocks.proofs.PartFacts.{NoLinks}
 use Rattle.markdown_blocks.proofs.RowFacts.{IsEnding}
+use Rattle.markdown_blocks.proofs.Span.Bare.{paired}
+use Rattle.markdown_blocks.proofs.Span.Behind.{IsOutside}
+use Rattle.markdown_blocks.proofs.Span.Framed.{plain-unframed}
 use Rattle.markdown_blocks.proofs.SpanLaws.{IsLineOf}
-use Rattle.md_leaves.proofs.SpannedLines.{NoLines}
 
--- A row by its events, taken for a line.
+-- A row taken for a line.
 
--- whether it is a line by itself
-abbrev pub begins_line : List Event → Bool
-begins_line [] = false
-begins_line (e ∷ es) = has_lines (role e.name)
+-- the begin and the end of a further line
+abbrev pub begins : Row → Event
+begins row = enter_link n.CodeIndented row.first further_link
 
-abbrev pub framed : Point → Point → List Event → List Event
-framed p q es = enter_link n.CodeIndented p further_link ∷ es ++ exit n.CodeIndented q ∷ []
+abbrev pub ends : Row → Event
+ends row = exit n.CodeIndented row.end
 
 abbrev pub as_line : Row → List Event
-as_line row = if begins_line row.inside then row.inside else framed row.first row.end row.inside
+as_line row = paired begins ends row_unread row
 
--- parts of a leaf are no line by themselves
-begins-none : (es : List Event) → NoLines es → begins_line es ≡ false
-begins-none [] h = refl
-begins-none (e ∷ es) h = h.0
+-- with what stands between them
+abbrev pub line_in : Rest → Point → Point → List Event
+line_in r p q = line_parts (enter_link n.CodeIndented p further_link) r p q
 
--- A further line of the code, or a blank one in it: its rest, and what is added for it.
+-- A further line of code, blank or not, where it stands: its rest, and what is added for it.
 pub record InCode (bytes : List ℕ) (row : Row) : Type 0 where
   pub rest : Rest
   pub at : FurtherAt bytes rest row.first row.end
-  pub is : as_line row ≡ framed row.first row.end (code_parts rest row.first row.end)
+  pub inside : row.inside ≡ further_parts rest row.first row.end
+  -- its ending is that of a blank line just if it is blank
+  pub ending : is_blank_row row ≡ is_blank rest.bytes
 
--- a line of code
-pub line-in : (options : ParseOptions) (bytes : List ℕ) (row : Row) → IsLineOf options bytes code_leaf row →
-    row.on ≡ held_leaf.Code → InCode bytes row
-line-in options bytes row is on =
-    let at = code-at options bytes row is in
-    let same : row.inside ≡ framed row.first row.end (code_parts is.rest row.first row.end) = is.inside
-    ∙ code-is bytes row.on is.rest row.first row.end at
-    ∙ ap
-    (λ (h : HeldLeaf).
-    begin_of h row.first ∷ code_parts is.rest row.first row.end ++ exit n.CodeIndented row.end ∷ []) on in
-    record {
-      rest = is.rest;
-      at = at;
-      is = ap (λ (es : List Event). cond (begins_line es) es (framed row.first row.end es)) same;
-    }
+-- parts of it are no line by themselves
+parts-bare : (r : Rest) (p q : Point) → is_framed (code_parts r p q) ≡ false
+parts-bare r p q = plain-unframed (code_parts r p q) (inside-lines (code_parts r p q) (code-inside r p q))
 
--- A blank line where code is open, where it stands: its rest, and what is added for it.
-pub record IsBlankIn (bytes : List ℕ) (row : Row) : Type 0 where
-  pub rest : Rest
-  pub at : FurtherAt bytes rest row.first row.end
-  pub blank : is_blank rest.bytes ≡ true
-  pub inside : row.inside ≡ blank_in_code (rest_line rest) row.first
+-- it is a pair of its own unless it is blank
+pub in-framed : (bytes : List ℕ) (row : Row) → (is : InCode bytes row) →
+    is_framed row.inside ≡ not (is_blank is.rest.bytes)
+in-framed bytes row is = ap is_framed is.inside ∙ go (is_blank is.rest.bytes)
+  where
+    go : (blank : Bool) →
+        is_framed (cond blank (code_parts is.rest row.first row.end) (line_in is.rest row.first row.end)) ≡ not blank
+    go true = parts-bare is.rest row.first row.end
+    go false = refl
 
-pub blank-in : (bytes : List ℕ) (row : Row) → IsBlankIn bytes row → InCode bytes row
-blank-in bytes row is =
-    let parts = code_parts is.rest row.first row.end in
-    let same : row.inside ≡ parts = is.inside ∙ blank-is bytes is.rest row.first row.end is.at in
-    let none = begins-none parts (inside-lines parts (code-inside is.rest row.first row.end)) in
-    record {
-      rest = is.rest;
-      at = is.at;
-      is =
-          ap (λ (es : List Event). cond (begins_line es) es (framed row.first row.end es)) same
-          ∙ ap (λ (x : Bool). cond x parts (framed row.first row.end parts)) none;
-    }
+-- and taken for a line it has what stands on it between a begin and an end
+pub as-line : (bytes : List ℕ) (row : Row) → (is : InCode bytes row) →
+    as_line row ≡ line_in is.rest row.first row.end
+as-line bytes row is = ap line is.inside ∙ go (is_blank is.rest.bytes)
+  where
+    parts : List Event
+    parts = code_parts is.rest row.first row.end
+
+    line : List Event → List Event
+    line es = cond (is_framed es) es (begins row ∷ es ++ ends row ∷ [])
+
+    go : (blank : Bool) →
+        line (cond blank (code_parts is.rest row.first row.end) (line_in is.rest row.first row.end)) ≡
+        line_in is.rest row.first row.end
+    go true =
+        ap (λ (framed : Bool). cond framed parts (line_in is.rest row.first row.end))
+        (parts-bare is.rest row.first row.end)
+    go false = refl
 
 -- Such rows behind one with this rest; on the last of them stands text, as on each line of code.
 abbrev pub AreInCode : List ℕ → Rest → Row → List Row → Type 0
@@ -112,7 +113,7 @@ lines_behind bytes r row (next ∷ rows) are =
     code_line are.4.rest ∷ lines_behind bytes are.4.rest next rows are.5
 
 -- The text goes on with them: behind a line with text stands no end of it, nor in front of one.
-pub some-text : (r : Rest) → is_blank r.bytes ≡ false → 0 < length (rest_line r)
+some-text : (r : Rest) → is_blank r.bytes ≡ false → 0 < length (rest_line r)
 some-text r dark = go r.spaces r.bytes dark
   where
     go : (spaces : ℕ) (bytes : List ℕ) → is_blank bytes ≡ false → 0 < length (cut_tab spaces ++ bytes)
@@ -146,3 +147,75 @@ goes-on bytes r row (next ∷ rows) is are =
     let size = is.at.size in
     let ending = are.2.size in
     omega (arith, further, grow, size, ending)
+
+-- Something stands on a line with text.
+pub text-some : (bytes : List ℕ) (r : Rest) (row : Row) → FurtherAt bytes r row.first row.end →
+    is_blank r.bytes ≡ false → is_empty_row row ≡ false
+text-some bytes r row is dark =
+    let some = some-text r dark in
+    let size = is.at.size in
+    let full : (row.first.index == row.end.index) ≡ false = grind (arith, nat_tests) in
+    full
+
+-- where the last of them ends, no tab is cut, and its ending is that of a line with text
+pub last-in : (bytes : List ℕ) (r : Rest) (row : Row) (rows : List Row) → FurtherAt bytes r row.first row.end →
+    is_blank_row row ≡ is_blank r.bytes → AreInCode bytes r row rows →
+    ((last_row row rows).end.vs ≡ 0) × (is_blank_row (last_row row rows) ≡ false)
+last-in bytes r row [] at ending are = (at.at.end_whole, ending ∙ are)
+last-in bytes r row (next ∷ rows) at ending are =
+    last-in bytes are.4.rest next rows are.4.at are.4.ending are.5
+
+-- Behind the last of them a blank line stands as whitespace.
+pub row-outside : (bytes : List ℕ) (row : Row) → (is : InCode bytes row) → is_blank is.rest.bytes ≡ true →
+    IsOutside bytes row_unread row
+row-outside bytes row is blank = record {
+  clear =
+      left-clear bytes (drop row.end.index bytes) r row.first (further-rest bytes r row.first row.end is.at);
+  whole = is.at.at.end_whole;
+  facts =
+      subst₂ (λ (full : Bool) (es : List Event). LeafFacts bytes None full row.first row.end es es)
+      (sym (ap not (is.ending ∙ blank))) (sym same) (behind-facts bytes r row.first row.end blank is.at);
+  unlinked =
+      subst NoLinks (sym same)
+      (inside-unlinked (blank_behind r row.first row.end) (lost-inside n.SpaceOrTab 4 r row.first row.end refl));
+}
+  where
+    r : Rest
+    r = is.rest
+
+    parts : List Event
+    parts = code_parts is.rest row.first row.end
+
+    same : map (renamed Outside) row.inside ≡ blank_behind is.rest row.first row.end
+    same =
+        ap (map (renamed Outside))
+        (is.inside ∙ ap (λ (x : Bool). cond x parts (line_in is.rest row.first row.end)) blank)
+        ∙ blank-placed Outside is.rest row.first row.end
+
+-- A row of the value that takes further lines is such a row.
+
+pub row-inside : (options : ParseOptions) (bytes : List ℕ) (row : Row) →
+    (is : IsLineOf options bytes code_further row) → row.inside ≡ further_parts is.rest row.first row.end
+row-inside options bytes row is =
+    is.inside
+    ∙ further-is bytes is.rest row.first row.end (further-at options bytes code_further row is)
+
+pub row-ending : (options : ParseOptions) (bytes : List ℕ) (row : Row) →
+    (is : IsLineOf options bytes code_further row) → is_blank_row row ≡ is_blank is.rest.bytes
+row-ending options bytes row is = is.ending ∙ is.empty ∙ go (is_blank is.rest.bytes) refl
+  where
+    go : (x : Bool) → is_blank is.rest.bytes ≡ x →
+        ((code_further.stays_blank && x) || (is_empty_row row && (row.first.column == 1))) ≡ x
+    go true e = refl
+    go false e =
+        ap (λ (y : Bool). y && (row.first.column == 1))
+        (text-some bytes is.rest row (further-at options bytes code_further row is) e)
+
+abbrev pub row-in : (options : ParseOptions) (bytes : List ℕ) (row : Row) →
+    IsLineOf options bytes code_further row → InCode bytes row
+row-in options bytes row is = record {
+  rest = is.rest;
+  at = further-at options bytes code_further row is;
+  inside = row-inside options bytes row is;
+  ending = row-ending options bytes row is;
+}

@@ -1,168 +1,212 @@
--- Indented code with all its lines, joined: a first line, and rows behind it that stand in the code.
-use Rattle.std.proofs.Common.{◌≡◌, ℕ, Bool, true, false, cond, List, [], ◌∷◌, ◌++◌, not, refl, sym, ◌∙◌, ap, subst}
-use Rattle.std.specs.Prelude.{Some}
+-- The laws of indented code with all its lines, joined.
+use Rattle.std.proofs.Common.{◌≡◌, ◌⊎◌, inl, inr, ℕ, Bool, true, false, cond, ◌||◌, ◌&&◌, not, List, [], ◌∷◌, ◌++◌, refl}
+use Rattle.std.proofs.Common.{sym, ◌∙◌, ap, subst, subst₂}
+use Rattle.std.specs.Prelude.{◌==◌, Some}
 use Rattle.md_engine.specs.declared.configuration.ParseOptions.{ParseOptions}
-use Rattle.md_engine.specs.declared.event.Content.{Content}
 use Rattle.md_engine.specs.declared.event.Event.{Event}
 use Rattle.md_engine.specs.declared.event.Name.TheVariants as n
+use Rattle.md_engine.specs.declared.event.Point.{Point}
 use Rattle.md_definition.specs.Leaves.{code_line}
-use Rattle.md_definition.specs.Rest.{Rest, lose}
-use Rattle.md_definition.specs.Tree.{Code}
-use Rattle.md_outline.specs.LinesStand.{begun_site}
-use Rattle.md_seam.specs.Events.Nested.{around, enter, exit}
-use Rattle.md_seam.specs.Events.Spelled.{CodeLeaf, OfCode, OpenLeaf, fresh}
-use Rattle.md_seam.specs.Events.Tiles.{plain_read}
-use Rattle.md_seam.specs.Substituted.{Readings}
-use Rattle.md_seam.proofs.EndingsLemmas.{AreOthers, Stays, in_leaf, leads-append, others-lead}
-use Rattle.markdown_blocks.specs.Fronted.{rest_line}
-use Rattle.markdown_blocks.specs.Leaf.CodeIndented.{code_leaf, code_parts, is_code}
-use Rattle.markdown_blocks.specs.Rows.{Row, but_end, end_of, last_row, span_by, span_rest}
-use Rattle.markdown_blocks.proofs.CodeIndented.Cells.{IsCodeRest, code-parts, code-rest}
-use Rattle.markdown_blocks.proofs.CodeIndented.Facts.{code_site, first-facts, first_parts}
-use Rattle.markdown_blocks.proofs.CodeIndented.Grammar.{behind_line, code_begun}
-use Rattle.markdown_blocks.proofs.CodeIndented.Parts.{begin-first, code-at, code-is}
-use Rattle.markdown_blocks.proofs.CodeIndented.Rows.{AreInCode, as_line, begins_line, framed, lines_behind}
-use Rattle.markdown_blocks.proofs.CodeIndented.Walk.{last-end, last-full, lines-fill, lines-further, rest-unlinked}
+use Rattle.md_definition.specs.Rest.{Rest, is_blank}
+use Rattle.md_definition.specs.Tree.{Block, Code}
+use Rattle.md_leaves.specs.declared.spans.Place.TheVariants.{Between}
+use Rattle.md_leaves.proofs.SpannedLines.{IsBegin, IsFurther}
+use Rattle.md_lines.specs.Further.{further_link}
+use Rattle.md_seam.specs.Events.Nested.{enter, enter_link, exit}
+use Rattle.markdown_blocks.specs.Leaf.CodeIndented.{code_further, code_leaf, code_parts, line_parts}
+use Rattle.markdown_blocks.specs.Rows.{Row, any_framed, is_blank_row, last_row, span_behind, span_by, span_done}
+use Rattle.markdown_blocks.proofs.CodeIndented.Blank.{blank-blocks, blank-placed}
+use Rattle.markdown_blocks.proofs.CodeIndented.Cells.{code-rest}
+use Rattle.markdown_blocks.proofs.CodeIndented.Parts.{code-inside, code-is}
+use Rattle.markdown_blocks.proofs.CodeIndented.Rows.{InCode, as_line, begins, ends, last-in, line_in, lines_behind}
+use Rattle.markdown_blocks.proofs.CodeIndented.Rows.{row-in, text-some}
+use Rattle.markdown_blocks.proofs.CodeIndented.Lines.{first-framed, lines-facts, lines-unlinked}
+use Rattle.markdown_blocks.proofs.CodeIndented.Split.{AreSplit, rows-split, split-shuts}
 use Rattle.markdown_blocks.proofs.EachEvent.{each-append}
-use Rattle.markdown_blocks.proofs.FenceSpan.Laws.{stays-same}
-use Rattle.markdown_blocks.proofs.FenceSpan.Sites.{is_told_of}
+use Rattle.markdown_blocks.proofs.FenceSpan.Rest.{row_unread}
 use Rattle.markdown_blocks.proofs.FillFacts.{filled-read}
 use Rattle.markdown_blocks.proofs.LeafFacts.{LeafFacts}
-use Rattle.markdown_blocks.proofs.LostLine.Places.{FurtherAt}
+use Rattle.markdown_blocks.proofs.LostLine.Parts.{inside-lines}
+use Rattle.markdown_blocks.proofs.LostLine.Places.{further-at}
 use Rattle.markdown_blocks.proofs.PartFacts.{IsUnlinked, NoLinks}
-use Rattle.markdown_blocks.proofs.Span.Cuts.{but_end-is, end-is}
-use Rattle.markdown_blocks.proofs.Span.Lead.{lead-none}
-use Rattle.markdown_blocks.proofs.Span.Leaf.{IsLeafName}
-use Rattle.markdown_blocks.proofs.Span.Lines.{AreFurther, SpanFirst, ends-by, span-facts, span-inside}
-use Rattle.markdown_blocks.proofs.SpanLaws.{IsLineOf, is_bare_row}
+use Rattle.markdown_blocks.proofs.Span.Bare.{inner, outer, outer-last, span-split}
+use Rattle.markdown_blocks.proofs.Span.Behind.{behind-unlinked, rows-behind}
+use Rattle.markdown_blocks.proofs.Span.Framed.{framed_by}
+use Rattle.markdown_blocks.proofs.SpanLaws.{AreBehind, IsBare, IsLineOf, IsNone, IsSpanned, SpanLaws}
+use Rattle.markdown_blocks.proofs.SpannedFacts.{AreUnspanned}
 use Rattle.markdown_blocks.proofs.SubstitutedLemmas.{Becomes, becomes-same, no_links-unwanted}
 
--- The name of code.
-abbrev pub code_name : IsLeafName n.CodeIndented OfCode
-code_name = record {
-  is = refl;
-  leaf = refl;
-  no_part = refl;
-  no_list = refl;
-  block = refl;
-  begin = code_begun;
-  begins = λ text. refl;
-  lined = tt;
+-- Each line of code is a block by itself at first, from this begin to its end.
+
+line-spanned : (Lead : List Event → Type 0) (Begins : Event → Type 0) (begin : Event) (r : Rest) (p q : Point)
+    (es : List Event) →
+    Lead [] → Begins begin → es ≡ line_parts begin r p q → IsSpanned Lead Begins es
+line-spanned Lead Begins begin r p q es none is same = record {
+  lead = [];
+  begin = begin;
+  inside = code_parts r p q;
+  end = exit n.CodeIndented q;
+  is = same;
+  lead_plain = none;
+  begins = is;
+  inside_plain = inside-lines (code_parts r p q) (code-inside r p q);
+  ends = record { kind = refl; lines = refl };
 }
 
--- its first line
-first-is : (options : ParseOptions) (bytes : List ℕ) (row : Row) → (is : IsLineOf options bytes code_leaf row) →
-    is_code row.on ≡ false →
-    as_line row ≡ around n.CodeIndented row.first row.end (first_parts is.rest row.first row.end)
-first-is options bytes row is first =
+first-spanned : (options : ParseOptions) (bytes : List ℕ) (row : Row) → IsLineOf options bytes code_leaf row →
+    IsSpanned AreUnspanned IsBegin row.inside
+first-spanned options bytes row is =
     let r = is.rest in
-    let p = row.first in
-    let q = row.end in
-    let of = code-rest options row.on r is.starts in
-    let same : row.inside ≡ around n.CodeIndented p q (first_parts r p q) = is.inside
-    ∙ code-is bytes row.on r p q (code-at options bytes row is)
-    ∙ ap (λ (e : Event). e ∷ code_parts r p q ++ exit n.CodeIndented q ∷ []) (begin-first row.on p first)
-    ∙ ap (λ (es : List Event). around n.CodeIndented p q es) (code-parts r p q of.indented of.dark) in
-    ap (λ (es : List Event). cond (begins_line es) es (framed p q es)) same
+    line-spanned AreUnspanned IsBegin (enter n.CodeIndented row.first) r row.first row.end row.inside tt
+    (record { kind = refl; lines = refl; link = refl })
+    (is.inside ∙ code-is bytes r row.first row.end (further-at options bytes code_leaf row is))
 
-first-begins : (options : ParseOptions) (bytes : List ℕ) (row : Row) → (is : IsLineOf options bytes code_leaf row) →
-    is_code row.on ≡ false →
-    but_end (as_line row) ≡ enter n.CodeIndented row.first ∷ first_parts is.rest row.first row.end
-first-begins options bytes row is first =
-    ap but_end (first-is options bytes row is first)
-    ∙ but_end-is (enter n.CodeIndented row.first ∷ first_parts is.rest row.first row.end)
-    (exit n.CodeIndented row.end)
-
--- All that the frame asks of it: it shows the block of all its lines, and on the last of them something stands.
-pub code-span : (options : ParseOptions) (bytes : List ℕ) (row : Row) (rows : List Row) →
-    (is : IsLineOf options bytes code_leaf row) → is_code row.on ≡ false → (are : AreInCode bytes is.rest row rows) →
-    LeafFacts bytes (Some (Code (code_line is.rest ∷ lines_behind bytes is.rest row rows are))) true row.first
-    (last_row row rows).end (span_by as_line row rows) (span_by as_line row rows)
-code-span options bytes row rows is first are =
-    let stays = span-inside bytes as_line as_line n.CodeIndented OfCode to row rows code_name line further in
-    span-facts bytes as_line as_line n.CodeIndented OfCode to row rows true code_name line further
-    (ends es stays.unread_stays refl) (ends es stays.stays refl)
+-- a further one says that it goes on the one before, and a blank one stands bare
+further-spanned : (bytes : List ℕ) (row : Row) → InCode bytes row →
+    IsSpanned IsNone IsFurther row.inside ⊎ IsBare row.inside
+further-spanned bytes row is =
+    subst (λ (es : List Event). IsSpanned IsNone IsFurther es ⊎ IsBare es) (sym is.inside) (go (is_blank is.rest.bytes))
   where
-    r : Rest
-    r = is.rest
+    Either : List Event → Type 0
+    Either es = IsSpanned IsNone IsFurther es ⊎ IsBare es
 
-    at : FurtherAt bytes is.rest row.first row.end
-    at = code-at options bytes row is
+    go : (blank : Bool) →
+        Either (cond blank (code_parts is.rest row.first row.end) (line_in is.rest row.first row.end))
+    go true =
+        inr
+        (record {
+          no_blocks = blank-blocks is.rest row.first row.end;
+          between = blank-placed Between is.rest row.first row.end;
+        })
+    go false =
+        inl
+        (line-spanned IsNone IsFurther (enter_link n.CodeIndented row.first further_link) is.rest row.first row.end
+        (line_in is.rest row.first row.end) refl (record { kind = refl; lines = refl; link = refl }) refl)
 
-    of : IsCodeRest options row.on is.rest
-    of = code-rest options row.on is.rest is.starts
+-- All lines.
 
-    es : List Event
-    es = first_parts is.rest row.first row.end
+abbrev ins : List Row → List Row
+ins rows = inner row_unread rows
 
-    to : OpenLeaf
-    to = CodeLeaf (code_line is.rest ∷ lines_behind bytes is.rest row rows are)
+abbrev outs : List Row → List Row
+outs rows = outer row_unread rows
 
-    same : as_line row ≡ ((enter n.CodeIndented row.first ∷ es) ++ exit n.CodeIndented row.end ∷ [])
-    same = first-is options bytes row is first
+-- the first has text, so they are in the code and behind it
+abbrev all-split : (options : ParseOptions) (bytes : List ℕ) (row : Row) (rows : List Row) →
+    (is : IsLineOf options bytes code_leaf row) → (are : AreBehind options bytes code_further row rows) →
+    AreSplit options bytes is.rest row rows (ins rows) (outs rows) are
+all-split options bytes row rows is are =
+    rows-split options bytes is.rest row rows are
+    (ap (λ (x : Bool). not x || any_framed row_unread rows) (code-rest options row.on is.rest is.starts).dark)
 
-    line : SpanFirst bytes as_line as_line n.CodeIndented code_begun (fresh OfCode) (begun_site OfCode) row
-    line = record {
-      ends =
-          ends-by as_line as_line n.CodeIndented row (enter n.CodeIndented row.first ∷ es)
-          (enter n.CodeIndented row.first ∷ es) at.at.end_whole same same;
-      lead = [];
-      at = row.first;
-      lead_is = lead-none bytes row.first;
-      unread_inside = es;
-      inside = es;
-      unread_is = first-begins options bytes row is first;
-      is = first-begins options bytes row is first;
-      unread_starts = refl;
-      starts = refl;
-      left = behind_line;
-      leaf = CodeLeaf (code_line is.rest ∷ []);
-      site = code_site is.rest;
-      facts = first-facts bytes r row.first row.end at of.indented of.dark;
-    }
+abbrev all-block : (options : ParseOptions) (bytes : List ℕ) (row : Row) (rows : List Row) →
+    IsLineOf options bytes code_leaf row → AreBehind options bytes code_further row rows → Block
+all-block options bytes row rows is are =
+    Code
+    (code_line is.rest ∷ lines_behind bytes is.rest row (ins rows) (all-split options bytes row rows is are).within)
 
-    further :
-        AreFurther bytes as_line as_line n.CodeIndented behind_line (CodeLeaf (code_line is.rest ∷ [])) to
-        (code_site is.rest) row rows
-    further =
-        lines-further bytes r row rows are (code_line r ∷ []) behind_line (is_told_of (rest_line (lose 4 r))) refl refl
+-- the ending of the first is that of a line with text
+first-ending : (options : ParseOptions) (bytes : List ℕ) (row : Row) → (is : IsLineOf options bytes code_leaf row) →
+    is_blank_row row ≡ is_blank is.rest.bytes
+first-ending options bytes row is =
+    let dark = (code-rest options row.on is.rest is.starts).dark in
+    is.ending ∙ is.empty
+    ∙ ap (λ (x : Bool). x && (row.first.column == 1))
+    (text-some bytes is.rest row (further-at options bytes code_leaf row is) dark)
+    ∙ sym dark
 
-    -- something stands on the last line, also in what is read of it
-    ends : (es : List Event) (stays : Stays (es ++ span_rest as_line row rows)) → AreOthers es →
-        (stays true).0 ≡ true
-    ends es stays others =
-        stays-same (es ++ span_rest as_line row rows) stays true
-        (leads-append (in_leaf true) (in_leaf true) (in_leaf true) es (span_rest as_line row rows)
-        (others-lead (in_leaf true) es refl others) (lines-fill bytes is.rest row rows are true (λ dark. refl)))
+-- the ending of the last has the name that it tells
+last-ending : (options : ParseOptions) (bytes : List ℕ) (row : Row) (rows : List Row) →
+    is_blank_row row ≡ row.empty → AreBehind options bytes code_further row rows →
+    is_blank_row (last_row row rows) ≡ (last_row row rows).empty
+last-ending options bytes row [] is are = is
+last-ending options bytes row (next ∷ rows) is are = last-ending options bytes next rows are.6.ending are.7
 
--- Something stands on its last line,
-pub code-full : (options : ParseOptions) (bytes : List ℕ) (row : Row) (rows : List Row) →
-    (is : IsLineOf options bytes code_leaf row) → AreInCode bytes is.rest row rows →
-    not (is_bare_row (last_row row rows)) ≡ true
-code-full options bytes row rows is are = last-full bytes is.rest row rows (code-at options bytes row is) are
+-- their events: those of the lines in the code, and whitespace behind it
+all-joined : (options : ParseOptions) (bytes : List ℕ) (row : Row) (rows : List Row) →
+    IsLineOf options bytes code_leaf row →
+    span_by row_unread row rows ≡
+    framed_by as_line row (ins rows) ++ span_behind row_unread (last_row row (ins rows)) (outs rows)
+all-joined options bytes row rows is =
+    span-split begins ends row_unread row rows (first-framed options bytes row is)
 
--- and nothing is read of it later: it has no text parts.
-pub code-becomes : (options : ParseOptions) (bytes : List ℕ) (row : Row) (rows : List Row) →
-    (is : IsLineOf options bytes code_leaf row) → is_code row.on ≡ false → AreInCode bytes is.rest row rows →
-    (wants : Content → Bool) (reads : Readings) →
-    Becomes wants reads (span_by as_line row rows) (span_by as_line row rows)
-code-becomes options bytes row rows is first are wants reads =
-    becomes-same wants reads (span_by as_line row rows)
-    (no_links-unwanted wants (span_by as_line row rows)
-    (each-append IsUnlinked (but_end (as_line row) ++ span_rest as_line row rows) (end_of (as_line (last_row row rows)))
-    (each-append IsUnlinked (but_end (as_line row)) (span_rest as_line row rows)
-    (subst NoLinks (sym (first-begins options bytes row is first)) (refl, (refl, (refl, (refl, (refl, tt))))))
-    (rest-unlinked bytes is.rest row rows are))
-    (subst NoLinks
-    (sym
-    (last-end bytes is.rest row rows are
-    (ap end_of (first-is options bytes row is first)
-    ∙ end-is (enter n.CodeIndented row.first ∷ first_parts is.rest row.first row.end)
-    (exit n.CodeIndented row.end)))) (refl, tt))))
+all-facts : (options : ParseOptions) (bytes : List ℕ) (row : Row) (rows : List Row) →
+    (is : IsLineOf options bytes code_leaf row) → (are : AreBehind options bytes code_further row rows) →
+    LeafFacts bytes (Some (all-block options bytes row rows is are)) (not (last_row row rows).empty) row.first
+    (last_row row rows).end (span_by row_unread row rows) (span_by row_unread row rows)
+all-facts options bytes row rows is are =
+    subst (λ (es : List Event). Facts (not (last_row row rows).empty) (last_row row rows).end es)
+    (sym (all-joined options bytes row rows is))
+    (subst₂ (λ (blank : Bool) (end : Point). Facts (not blank) end both)
+    (ap is_blank_row last ∙ last-ending options bytes row rows is.ending are) (ap (λ (r : Row). r.end) last)
+    (rows-behind bytes (Some (all-block options bytes row rows is are)) row_unread row.first last_in (outs rows) lines
+    lines at.0
+    (subst (λ (blank : Bool). Facts (not blank) last_in.end lines) (sym at.1)
+    (lines-facts options bytes row (ins rows) is split.within)) split.outside))
+  where
+    Facts : Bool → Point → List Event → Type 0
+    Facts full end es = LeafFacts bytes (Some (all-block options bytes row rows is are)) full row.first end es es
 
-pub code-read : (options : ParseOptions) (bytes : List ℕ) (row : Row) (rows : List Row) →
-    (is : IsLineOf options bytes code_leaf row) → is_code row.on ≡ false → AreInCode bytes is.rest row rows →
-    plain_read bytes (span_by as_line row rows) ≡ span_by as_line row rows
-code-read options bytes row rows is first are =
-    filled-read bytes (span_by as_line row rows) (span_by as_line row rows)
-    (code-span options bytes row rows is first are).filled
+    split : AreSplit options bytes is.rest row rows (ins rows) (outs rows) are
+    split = all-split options bytes row rows is are
+
+    last_in : Row
+    last_in = last_row row (ins rows)
+
+    lines : List Event
+    lines = framed_by as_line row (ins rows)
+
+    both : List Event
+    both = framed_by as_line row (ins rows) ++ span_behind row_unread (last_row row (ins rows)) (outs rows)
+
+    last : last_row (last_row row (ins rows)) (outs rows) ≡ last_row row rows
+    last = outer-last row_unread row rows
+
+    at : ((last_row row (ins rows)).end.vs ≡ 0) × (is_blank_row (last_row row (ins rows)) ≡ false)
+    at =
+        last-in bytes is.rest row (ins rows) (further-at options bytes code_leaf row is)
+        (first-ending options bytes row is) (all-split options bytes row rows is are).within
+
+-- Nothing of them is read later, so they are read as they are.
+
+all-unlinked : (options : ParseOptions) (bytes : List ℕ) (row : Row) (rows : List Row) →
+    IsLineOf options bytes code_leaf row →
+    AreBehind options bytes code_further row rows → NoLinks (span_by row_unread row rows)
+all-unlinked options bytes row rows is are =
+    let split = all-split options bytes row rows is are in
+    let behind = span_behind row_unread (last_row row (ins rows)) (outs rows) in
+    subst NoLinks (sym (all-joined options bytes row rows is))
+    (each-append IsUnlinked (framed_by as_line row (ins rows)) behind
+    (lines-unlinked options bytes row (ins rows) is split.within)
+    (behind-unlinked bytes row_unread (last_row row (ins rows)) (outs rows) split.outside))
+
+all-read : (options : ParseOptions) (bytes : List ℕ) (row : Row) (rows : List Row) →
+    (is : IsLineOf options bytes code_leaf row) →
+    AreBehind options bytes code_further row rows → span_by row_unread row rows ≡ span_done bytes row rows
+all-read options bytes row rows is are =
+    sym
+    (filled-read bytes (span_by row_unread row rows) (span_by row_unread row rows)
+    (all-facts options bytes row rows is are).filled)
+
+-- The laws.
+pub code-span : SpanLaws code_leaf code_further
+code-span = record {
+  first_spanned = λ options bytes row is first. first-spanned options bytes row is;
+  further_spanned = λ options bytes row is further. further-spanned bytes row (row-in options bytes row is);
+  block = all-block;
+  facts = λ options bytes row rows is first are.
+      subst
+      (λ (es : List Event).
+      LeafFacts bytes (Some (all-block options bytes row rows is are)) (not (last_row row rows).empty) row.first
+      (last_row row rows).end (span_by row_unread row rows) es) (all-read options bytes row rows is are)
+      (all-facts options bytes row rows is are);
+  shuts = λ options bytes row rows is first are bs.
+      split-shuts options bytes is.rest row rows (ins rows) (outs rows) are
+      (all-split options bytes row rows is are) bs;
+  becomes = λ options bytes row rows is first are wants reads text string texts strings.
+      subst (λ (es : List Event). Becomes wants reads (span_by row_unread row rows) es)
+      (all-read options bytes row rows is are)
+      (becomes-same wants reads (span_by row_unread row rows)
+      (no_links-unwanted wants (span_by row_unread row rows)
+      (all-unlinked options bytes row rows is are)));
+}

@@ -1,7 +1,7 @@
 -- All lines of indented code behind its first one: each, also a blank one, is one more line of it.
 use Rattle.std.proofs.Common.{◌≡◌, ℕ, Bool, true, false, cond, ◌||◌, not, List, [], ◌∷◌, ◌++◌, length, drop, refl}
 use Rattle.std.proofs.Common.{sym, ◌∙◌, ap, subst, arith, append_assoc, append-nil}
-use Rattle.std.specs.Prelude.{◌&&◌, ◌==◌, nat_lt}
+use Rattle.std.specs.Prelude.{nat_lt}
 use Rattle.std.proofs.lemmas.Bool.Decides.{nat_tests}
 use Rattle.md_engine.specs.declared.event.Event.{Event}
 use Rattle.md_engine.specs.declared.event.Name.TheVariants as n
@@ -20,12 +20,12 @@ use Rattle.md_seam.proofs.EndingsLemmas.{Leads, in_leaf, leads-append}
 use Rattle.markdown_blocks.specs.Fronted.{rest_line}
 use Rattle.markdown_blocks.specs.Leaf.CodeIndented.{code_parts}
 use Rattle.markdown_blocks.specs.LineColumns.{past_columns}
-use Rattle.markdown_blocks.specs.Rows.{Row, but_ends, end_of, ending_events, last_row, span_rest}
+use Rattle.markdown_blocks.specs.Rows.{Row, but_ends, end_of, ending_events, last_row}
 use Rattle.markdown_blocks.proofs.CodeIndented.Cells.{over-some}
 use Rattle.markdown_blocks.proofs.CodeIndented.Facts.{code_site, line-facts, parts-placed}
 use Rattle.markdown_blocks.proofs.CodeIndented.Grammar.{in_line, line-ending, line-ends, line-takes, line_left}
 use Rattle.markdown_blocks.proofs.CodeIndented.Parts.{code-inside}
-use Rattle.markdown_blocks.proofs.CodeIndented.Rows.{AreInCode, InCode, as_line, goes-on, lines_behind, some-text}
+use Rattle.markdown_blocks.proofs.CodeIndented.Rows.{AreInCode, InCode, as-line, as_line, goes-on, line_in, lines_behind}
 use Rattle.markdown_blocks.proofs.ContainerNames.{TakesPrefixes}
 use Rattle.markdown_blocks.proofs.EachEvent.{each-append}
 use Rattle.markdown_blocks.proofs.FenceSpan.Rest.{others-fill}
@@ -38,16 +38,17 @@ use Rattle.markdown_blocks.proofs.LostLine.Parts.{inside-others, inside-unlinked
 use Rattle.markdown_blocks.proofs.LostLine.Places.{FurtherAt, further-rest}
 use Rattle.markdown_blocks.proofs.LostLine.Shown.{left-clear}
 use Rattle.markdown_blocks.proofs.PartFacts.{IsUnlinked, NoLinks}
+use Rattle.markdown_blocks.proofs.PrefixFacts.{is_bare}
 use Rattle.markdown_blocks.proofs.Span.Cuts.{but_ends-is, end-is, ending-is}
+use Rattle.markdown_blocks.proofs.Span.Framed.{framed_rest}
 use Rattle.markdown_blocks.proofs.Span.Inside.{InsideFacts, behind_ending}
 use Rattle.markdown_blocks.proofs.Span.Lines.{AreFurther, SpanLine, ends-by}
-use Rattle.markdown_blocks.proofs.SpanLaws.{is_bare, is_bare_row}
 
 -- what stands inside of a row of the code
 in-parts : (bytes : List ℕ) (row : Row) → (is : InCode bytes row) →
     but_ends (as_line row) ≡ code_parts is.rest row.first row.end
 in-parts bytes row is =
-    ap but_ends is.is
+    ap but_ends (as-line bytes row is)
     ∙ but_ends-is (enter_link n.CodeIndented row.first further_link) (code_parts is.rest row.first row.end)
     (exit n.CodeIndented row.end)
 
@@ -73,6 +74,9 @@ line-next bytes r row next rows are lines left told to line rest =
 
     at : FurtherAt bytes are.4.rest next.first next.end
     at = are.4.at
+
+    same : as_line next ≡ line_in are.4.rest next.first next.end
+    same = as-line bytes next are.4
 
     -- the text goes on behind the ending
     some : nat_lt q.index (length bytes) ≡ true
@@ -110,7 +114,7 @@ line-next bytes r row next rows are lines left told to line rest =
     one = record {
       ends =
           ends-by as_line as_line n.CodeIndented next (enter_link n.CodeIndented next.first further_link ∷ parts)
-          (enter_link n.CodeIndented next.first further_link ∷ parts) at.at.end_whole are.4.is are.4.is;
+          (enter_link n.CodeIndented next.first further_link ∷ parts) at.at.end_whole same same;
       clear =
           left-clear bytes (drop next.end.index bytes) s next.first (further-rest bytes s next.first next.end at);
       left = line_left s;
@@ -165,12 +169,12 @@ text-full r p q dark =
 -- so the endings between them lead from a line to a line with something on it
 pub lines-fill : (bytes : List ℕ) (r : Rest) (row : Row) (rows : List Row) → AreInCode bytes r row rows →
     (full : Bool) → (is_blank r.bytes ≡ false → full ≡ true) →
-    Leads (in_leaf full) (in_leaf true) (span_rest as_line row rows)
+    Leads (in_leaf full) (in_leaf true) (framed_rest as_line row rows)
 lines-fill bytes r row [] are full is =
     subst (λ (x : Bool). Leads (in_leaf x) (in_leaf true) []) (sym (is are)) (λ ys. refl)
 lines-fill bytes r row (next ∷ rows) are full is =
     leads-append (in_leaf full) (in_leaf here) (in_leaf true) (ended ++ next.front ++ but_ends (as_line next))
-    (span_rest as_line next rows)
+    (framed_rest as_line next rows)
     (leads-append (in_leaf full) (in_leaf (not (is_bare next.front))) (in_leaf here) (ended ++ next.front)
     (but_ends (as_line next))
     (leads-append (in_leaf full) (in_leaf false) (in_leaf (not (is_bare next.front))) ended next.front
@@ -206,13 +210,13 @@ lines-fill bytes r row (next ∷ rows) are full is =
 -- Nothing is read of them later.
 
 pub rest-unlinked : (bytes : List ℕ) (r : Rest) (row : Row) (rows : List Row) → AreInCode bytes r row rows →
-    NoLinks (span_rest as_line row rows)
+    NoLinks (framed_rest as_line row rows)
 rest-unlinked bytes r row [] are = tt
 rest-unlinked bytes r row (next ∷ rows) are =
     let s = are.4.rest in
     let ended = ending_events n.LineEnding row in
     let parts = code_parts s next.first next.end in
-    each-append IsUnlinked (ended ++ next.front ++ but_ends (as_line next)) (span_rest as_line next rows)
+    each-append IsUnlinked (ended ++ next.front ++ but_ends (as_line next)) (framed_rest as_line next rows)
     (each-append IsUnlinked (ended ++ next.front) (but_ends (as_line next))
     (each-append IsUnlinked ended next.front
     (subst NoLinks (sym (ending-is n.LineEnding row are.0 are.1)) (refl, (refl, tt)))
@@ -229,19 +233,6 @@ last-end bytes r row [] are e = e
 last-end bytes r row (next ∷ rows) are e =
     let s = are.4.rest in
     last-end bytes s next rows are.5
-    (ap end_of are.4.is
+    (ap end_of (as-line bytes next are.4)
     ∙ end-is (enter_link n.CodeIndented next.first further_link ∷ code_parts s next.first next.end)
     (exit n.CodeIndented next.end))
-
-pub last-full : (bytes : List ℕ) (r : Rest) (row : Row) (rows : List Row) → FurtherAt bytes r row.first row.end →
-    AreInCode bytes r row rows → not (is_bare_row (last_row row rows)) ≡ true
-last-full bytes r row [] is are =
-    let some = some-text r are in
-    let size = is.at.size in
-    let full : (row.first.index == row.end.index) ≡ false = grind (arith, nat_tests) in
-    ap (λ (x : Bool). not (is_bare row.front && x)) full ∙ any (is_bare row.front)
-  where
-    any : (x : Bool) → not (x && false) ≡ true
-    any true = refl
-    any false = refl
-last-full bytes r row (next ∷ rows) is are = last-full bytes are.4.rest next rows are.4.at are.5

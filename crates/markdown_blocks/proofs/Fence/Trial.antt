@@ -109,7 +109,7 @@ begins-keeps options cells p e = some-is (fence_begins options cells p) (begins-
 pub fence-took : (options : ParseOptions) (cells : List Cell) (h : Here) → IsRest h.scratch →
     length cells ≤ any_size → is_fence options cells ≡ true →
     fence_at options cells h ≡
-    whole_line (fence_leaf.adds options h.flags.leaf cells h.point) (fence_keeps options cells h.point) cells h
+    whole_line (fence_leaf.adds options h.flags.leaf cells h.point) (fence_keeps options cells h.point) false cells h
 fence-took options cells h is short e =
     fence-whole options cells h is short
     ∙ ap (λ (o : Option HeldLeaf). fence_by options o cells h) (begins-keeps options cells h.point e)

@@ -1,11 +1,10 @@
 -- The names of the events of a further line of fenced code or math.
 use Rattle.std.proofs.Common.{◌≡◌, ℕ, Bool, true, false, cond, ◌&&◌, List, [], ◌∷◌, ◌++◌, refl}
-use Rattle.std.specs.Prelude.{◌==◌, nat_lt, None, take, drop}
+use Rattle.std.specs.Prelude.{◌==◌, nat_lt, take, drop}
 use Rattle.md_engine.specs.declared.configuration.ParseOptions.{ParseOptions}
 use Rattle.md_engine.specs.declared.event.Content.{Content}
 use Rattle.md_engine.specs.declared.event.Content.TheVariants as content
 use Rattle.md_engine.specs.declared.event.Event.{Event}
-use Rattle.md_engine.specs.declared.event.Kind.{Kind}
 use Rattle.md_engine.specs.declared.event.Kind.TheVariants.{Enter, Exit}
 use Rattle.md_engine.specs.declared.event.Name.{Name}
 use Rattle.md_engine.specs.declared.event.Name.TheVariants as n
@@ -19,18 +18,17 @@ use Rattle.md_lines.specs.Fence.{block_name, chunk_name, fence_name, held_indent
 use Rattle.md_lines.specs.FenceLine.{chunk_events, closes_here, closing_end, closing_events, further_inside, spaces}
 use Rattle.md_lines.specs.FenceRule.{is_end, is_line, run_end, run_rest}
 use Rattle.md_seam.specs.Ahead.{begins_white, white_end, white_rest}
-use Rattle.md_seam.specs.Events.Nested.{exit, is_enter, pair}
+use Rattle.md_seam.specs.Events.Nested.{exit, pair}
 use Rattle.md_seam.specs.Events.Places.{past_text}
 use Rattle.md_seam.specs.Spaces.{any_size, small_indent}
-use Rattle.md_seam.specs.Substituted.{wanted}
 use Rattle.markdown_blocks.specs.Leaf.FenceFurther.{closing_line, closing_part, fence_further}
 use Rattle.markdown_blocks.specs.Leaf.FenceFurther.{chunk_line, further_parts, opening_of, past_columns}
 use Rattle.markdown_blocks.specs.Leaf.FenceFurther.{rest_of}
 use Rattle.markdown_blocks.specs.Registry.{is_own}
 use Rattle.markdown_blocks.proofs.ContentFacts.{NoContent}
 pub use Rattle.markdown_blocks.proofs.LostLine.Names.{inside-name, is_inside}
-use Rattle.markdown_blocks.proofs.LostLine.Names.{AreInside, More, either-part, inside-outside, inside-own, over-each}
-use Rattle.markdown_blocks.proofs.LostLine.Names.{lost-each, part_event}
+use Rattle.markdown_blocks.proofs.LostLine.Names.{AreInside, More, either-part, inside-outside, lost-each}
+use Rattle.markdown_blocks.proofs.LostLine.Names.{more-no_content, more-outside, over-each}
 use Rattle.markdown_blocks.proofs.OutsideFacts.{AreOutside, NoEnds, outside-append}
 
 pub either-name : (P : Name → Type 0) (x : Bool) (a b : Name) → P a → P b → P (cond x a b)
@@ -135,27 +133,18 @@ inside-each P more options on cells p es h = go (closes_here options on cells)
 
 -- What stands in the line has no name of a resolver's, and no content.
 
-inside-content : (name : Name) → is_inside name ≡ true → is_content name ≡ false
-inside-content n.Content e = absurd (cc)
-inside-content _ e = refl
-
 block-own : (m : ℕ) → is_own (block_name m) ≡ false
 block-own m = either-name (λ a. is_own a ≡ false) (m == 36) _ _ refl refl
 
 block-content : (m : ℕ) → is_content (block_name m) ≡ false
 block-content m = either-name (λ a. is_content a ≡ false) (m == 36) _ _ refl refl
 
-and-false : (x : Bool) → (x && false) ≡ false
-and-false true = refl
-and-false false = refl
-
 -- Nothing begins in it that a resolver rewrites.
 pub further-own : (options : ParseOptions) (on : HeldLeaf) (cells : List Cell) (p : Point) →
     NoEnds is_own (fence_further.adds options on cells p) → AreOutside (fence_further.adds options on cells p)
 further-own options on cells p h = (
   block-own (held_marker on),
-  inside-each AreOutside (λ kind name x es e k. (rw (inside-own name e) (and-false (is_enter kind)), k)) options on
-      cells p _ (refl, tt),
+  inside-each AreOutside more-outside options on cells p _ (refl, tt),
 )
 
 pub further-outside : (options : ParseOptions) (on : HeldLeaf) (line : List ℕ) (p : Point) →
@@ -174,10 +163,6 @@ pub further-no_content : (wants : Content → Bool) → wants content.Flow ≡ f
 further-no_content wants flow options on cells p = (
   rw flow refl,
   block-content (held_marker on),
-  inside-each (NoContent wants) (λ kind name x es e k. (unlinked kind name x, inside-content name e, k)) options on
-      cells p _ (refl, block-content (held_marker on), tt),
+  inside-each (NoContent wants) (more-no_content wants) options on cells p _
+      (refl, block-content (held_marker on), tt),
 )
-  where
-    unlinked : (kind : Kind) (name : Name) (x : Point) → wanted wants (part_event kind name x) ≡ None
-    unlinked Enter name x = refl
-    unlinked Exit name x = refl

@@ -17,7 +17,8 @@ use Rattle.md_seam.proofs.RestLines.{count-none, count-one, indent-trims}
 use Rattle.md_seam.specs.Events.Places.{past_text}
 use Rattle.md_seam.proofs.RestCells.{Bare, Cut, HasIndent, bare, indent-taken}
 use Rattle.markdown_blocks.specs.Leaf.FenceFurther.{opening_of, past_columns}
-pub use Rattle.markdown_blocks.proofs.LostLine.Places.{FurtherAt, HasLeft, further-no_ending, further-rest, has-left}
+pub use Rattle.markdown_blocks.proofs.LostLine.Places.{FurtherAt, HasLeft, further-at, further-no_ending, further-rest}
+pub use Rattle.markdown_blocks.proofs.LostLine.Places.{has-left}
 use Rattle.markdown_blocks.proofs.LostLine.Places.{unsaid}
 
 -- A closing fence.

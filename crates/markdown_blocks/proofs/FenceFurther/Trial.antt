@@ -37,7 +37,7 @@ fence-size on e = (and_parts (may_begin (held_marker on)) (nat_le (least_size (h
 
 -- Any byte may stand first.
 pub further-looked : (options : ParseOptions) (on : HeldLeaf) (cells : List Cell) (b : ℕ) → seen_behind cells ≡ Some b →
-    fence_further.may_begin b ≡ false → fence_further.takes options on cells ≡ false
+    fence_further.may_begin (begins_white cells) b ≡ false → fence_further.takes options on cells ≡ false
 further-looked options on cells b seen e = cc
 
 -- The line is taken to its end.
@@ -45,7 +45,7 @@ pub further-took : (options : ParseOptions) (cells : List Cell) (h : Here) → I
     fence_further.takes options h.flags.leaf cells ≡ true →
     fence_further.trial options cells h ≡
     whole_line (fence_further.adds options h.flags.leaf cells h.point)
-    (left_open fence_further.ends (fence_further.keeps options h.flags.leaf cells h.point) h.flags.leaf) cells h
+    (left_open fence_further.ends (fence_further.keeps options h.flags.leaf cells h.point) h.flags.leaf) false cells h
 further-took options cells h is e =
     let leaf = h.flags.leaf in
     let end = further-end options leaf cells h.point (fence-marker leaf e) in

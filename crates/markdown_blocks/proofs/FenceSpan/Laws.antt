@@ -1,6 +1,6 @@
 -- The laws of fenced code and math with all their lines, joined.
 use Rattle.std.proofs.Common.{◌≡◌, ℕ, Bool, true, false, cond, not, List, [], ◌∷◌, ◌++◌, drop, refl, sym, ◌∙◌}
-use Rattle.std.proofs.Common.{subst}
+use Rattle.std.proofs.Common.{inl, subst, subst₂}
 use Rattle.std.proofs.Common.{append_assoc}
 use Rattle.std.specs.Prelude.{Some}
 use Rattle.md_engine.specs.declared.configuration.ParseOptions.{ParseOptions}
@@ -32,27 +32,28 @@ use Rattle.md_seam.proofs.SpelledLemmas.{Roles}
 use Rattle.markdown_blocks.specs.Fronted.{rest_line}
 use Rattle.markdown_blocks.specs.Leaf.Fence.{fence_leaf, linked, opening_at, past_white, read_inner, white_part}
 use Rattle.markdown_blocks.specs.Leaf.FenceFurther.{fence_further, further_parts}
-use Rattle.markdown_blocks.specs.Rows.{Row, but_end, end_of, last_row, span_by, span_done, span_rest}
+use Rattle.markdown_blocks.specs.Rows.{Row, but_end, end_of, last_row, span_by, span_done}
 use Rattle.markdown_blocks.proofs.Fence.Kept as kept
 use Rattle.markdown_blocks.proofs.FenceFurther.Grammar.{behind-line-ends, behind_line}
 use Rattle.markdown_blocks.proofs.FenceFurther.Joined.{block-lines, further-begins, further-ends, further-is}
 use Rattle.markdown_blocks.proofs.FenceFurther.Parts.{further-lines}
+use Rattle.markdown_blocks.proofs.FenceFurther.Places.{further-at}
 use Rattle.markdown_blocks.proofs.FenceSpan.First.{first-becomes, first-others, first_inside, marks_of}
 use Rattle.markdown_blocks.proofs.FenceSpan.Open.{fence-begin, fence-name, kind_of, leaf_of}
 use Rattle.markdown_blocks.proofs.FenceSpan.Opening.{begin-is, done-is, line-ends, line-fence, line-full, line-held}
 use Rattle.markdown_blocks.proofs.FenceSpan.Opening.{line-inside, line-laid, line-lead, line-marks, name_of, opening-same}
 use Rattle.markdown_blocks.proofs.FenceSpan.Opening.{opening_of, text_of, unread-is}
-use Rattle.markdown_blocks.proofs.FenceSpan.Rest.{HasRest, block_by, came-shut, full-last, full_behind, further-at}
+use Rattle.markdown_blocks.proofs.FenceSpan.Rest.{HasRest, block_by, came-shut, full-last, full_behind}
 use Rattle.markdown_blocks.proofs.FenceSpan.Rest.{row_done, row_unread}
 use Rattle.markdown_blocks.proofs.FenceSpan.Walk.{rest-open}
 use Rattle.markdown_blocks.proofs.FillFacts.{filled-read}
 use Rattle.markdown_blocks.proofs.LeafFacts.{LeafFacts, ReadsString}
 use Rattle.markdown_blocks.proofs.PartFacts.{NoLinks}
+use Rattle.markdown_blocks.proofs.Span.Framed.{AreFramed, framed_by, framed_rest, span-framed, spanned-framed}
 use Rattle.markdown_blocks.proofs.Span.Inside.{InsideFacts}
 use Rattle.markdown_blocks.proofs.Span.Leaf.{IsLeafName}
 use Rattle.markdown_blocks.proofs.Span.Lines.{EndsLeaf, SpanFirst, last-ends, span-facts, span-inside}
 use Rattle.markdown_blocks.proofs.SpanLaws.{AreBehind, IsLineOf, IsNone, IsSpanned, SpanLaws, come_behind}
-use Rattle.markdown_blocks.proofs.SpanLaws.{is_bare_row}
 use Rattle.markdown_blocks.proofs.SpannedFacts.{AreUnspanned}
 use Rattle.markdown_blocks.proofs.SubstitutedLemmas.{Becomes, becomes-append, becomes-same, no_links-unwanted}
 
@@ -109,7 +110,7 @@ further-spanned options bytes row is =
       begin = enter_link (block_name m) row.first further_link;
       inside = further_parts options row.on is.rest row.first row.end;
       end = exit (block_name m) row.end;
-      is = is.inside ∙ further-is options bytes row.on is.rest row.first row.end (further-at options bytes row is);
+      is = is.inside ∙ further-is options bytes row.on is.rest row.first row.end (further-at options bytes fence_further row is);
       lead_plain = refl;
       begins = further-begins m row.first;
       inside_plain = further-lines options row.on is.rest row.first row.end;
@@ -117,6 +118,20 @@ further-spanned options bytes row is =
     }
 
 -- All lines.
+
+-- each further one has a begin and an end, so all are joined by these
+further-framed : (options : ParseOptions) (bytes : List ℕ) (row : Row) (rows : List Row) →
+    AreBehind options bytes fence_further row rows → AreFramed row_unread rows
+further-framed options bytes row [] are = tt
+further-framed options bytes row (next ∷ rows) are = (
+  spanned-framed IsNone IsFurther next.inside (further-spanned options bytes next are.6),
+  further-framed options bytes next rows are.7,
+)
+
+lines-framed : (options : ParseOptions) (bytes : List ℕ) (row : Row) (rows : List Row) →
+    AreBehind options bytes fence_further row rows → span_by row_unread row rows ≡ framed_by row_unread row rows
+lines-framed options bytes row rows are =
+    span-framed row_unread row rows (further-framed options bytes row rows are)
 
 -- what stands behind the first
 rest-of : (options : ParseOptions) (bytes : List ℕ) (row : Row) (rows : List Row) →
@@ -161,21 +176,21 @@ span-of : (options : ParseOptions) (bytes : List ℕ) (row : Row) (rows : List R
     (is : IsLineOf options bytes fence_leaf row) → (are : AreBehind options bytes fence_further row rows) →
     LeafFacts bytes
     (Some (block_by (come_behind options bytes fence_further row rows are (Opened (OpenFence (opening_at is.rest) [])))))
-    (not (is_bare_row (last_row row rows))) row.first (last_row row rows).end (span_by row_unread row rows)
-    (span_by (row_done bytes) row rows)
+    (not (last_row row rows).empty) row.first (last_row row rows).end (span_by row_unread row rows)
+    (framed_by (row_done bytes) row rows)
 span-of options bytes row rows is are =
-    subst
-    (λ (b : Block).
-    LeafFacts bytes (Some b) full row.first (last_row row rows).end (span_by row_unread row rows)
-    (span_by (row_done bytes) row rows)) rest.block
+    subst₂
+    (λ (b : Block) (joined : List Event).
+    LeafFacts bytes (Some b) full row.first (last_row row rows).end joined (framed_by (row_done bytes) row rows))
+    rest.block (sym (lines-framed options bytes row rows are))
     (span-facts bytes row_unread (row_done bytes) name (kind_of m) rest.to row rows full named first rest.further
-    (stays-same (us ++ span_rest row_unread row rows)
+    (stays-same (us ++ framed_rest row_unread row rows)
     (span-inside bytes row_unread (row_done bytes) name (kind_of m) rest.to row rows named first rest.further).unread_stays
-    full (filled us (span_rest row_unread row rows) others.0 rest.fills))
-    (stays-same (es ++ span_rest (row_done bytes) row rows)
+    full (filled us (framed_rest row_unread row rows) others.0 rest.fills))
+    (stays-same (es ++ framed_rest (row_done bytes) row rows)
     (span-inside bytes row_unread (row_done bytes) name (kind_of m) rest.to row rows named first rest.further).stays
     full
-    (filled es (span_rest (row_done bytes) row rows) others.1
+    (filled es (framed_rest (row_done bytes) row rows) others.1
     (λ x.
     subst (λ (l : List Event). Leads (in_leaf x) (in_leaf (full_behind x rows)) l) (sym rest.same) (rest.fills x)))))
   where
@@ -198,7 +213,7 @@ span-of options bytes row rows is are =
     es = first_inside (read_inner bytes) (rest_line is.rest) row.first row.end
 
     full : Bool
-    full = not (is_bare_row (last_row row rows))
+    full = not (last_row row rows).empty
 
     leaf : OpenLeaf
     leaf = leaf_of (opening_of is.rest) (marks_of (text_of is.rest)) [] false
@@ -258,29 +273,31 @@ span-of options bytes row rows is are =
 -- what is read of them all is read of each
 done-read : (options : ParseOptions) (bytes : List ℕ) (row : Row) (rows : List Row) →
     IsLineOf options bytes fence_leaf row → AreBehind options bytes fence_further row rows →
-    span_by (row_done bytes) row rows ≡ span_done bytes row rows
+    framed_by (row_done bytes) row rows ≡ span_done bytes row rows
 done-read options bytes row rows is are =
     sym
-    (filled-read bytes (span_by row_unread row rows) (span_by (row_done bytes) row rows)
+    (filled-read bytes (span_by row_unread row rows) (framed_by (row_done bytes) row rows)
     (span-of options bytes row rows is are).filled)
 
 -- Whoever reads strings as the plain layer does gives that.
 span-becomes : (options : ParseOptions) (bytes : List ℕ) (row : Row) (rows : List Row) →
     IsLineOf options bytes fence_leaf row → AreBehind options bytes fence_further row rows →
     (wants : Content → Bool) (reads : Readings) → wants content.String ≡ true → ReadsString bytes reads →
-    Becomes wants reads (span_by row_unread row rows) (span_by (row_done bytes) row rows)
+    Becomes wants reads (span_by row_unread row rows) (framed_by (row_done bytes) row rows)
 span-becomes options bytes row rows is are wants reads w rs =
-    becomes-append wants reads (but_end row.inside ++ span_rest row_unread row rows)
-    (but_end (row_done bytes row) ++ span_rest (row_done bytes) row rows) (end_of (last_row row rows).inside)
+    subst (λ (joined : List Event). Becomes wants reads joined (framed_by (row_done bytes) row rows))
+    (sym (lines-framed options bytes row rows are))
+    (becomes-append wants reads (but_end row.inside ++ framed_rest row_unread row rows)
+    (but_end (row_done bytes row) ++ framed_rest (row_done bytes) row rows) (end_of (last_row row rows).inside)
     (end_of (row_done bytes (last_row row rows)))
-    (becomes-append wants reads (but_end row.inside) (but_end (row_done bytes row)) (span_rest row_unread row rows)
-    (span_rest (row_done bytes) row rows) begins
-    (subst (λ (es : List Event). Becomes wants reads (span_rest row_unread row rows) es) (sym rest.same)
-    (same (span_rest row_unread row rows) rest.unlinked)))
+    (becomes-append wants reads (but_end row.inside) (but_end (row_done bytes row)) (framed_rest row_unread row rows)
+    (framed_rest (row_done bytes) row rows) begins
+    (subst (λ (es : List Event). Becomes wants reads (framed_rest row_unread row rows) es) (sym rest.same)
+    (same (framed_rest row_unread row rows) rest.unlinked)))
     (subst (λ (xs : List Event). Becomes wants reads xs (end_of (row_done bytes (last_row row rows))))
     (sym ends.unread_end)
     (subst (λ (xs : List Event). Becomes wants reads (exit name (last_row row rows).end ∷ []) xs) (sym ends.end)
-    (same (exit name (last_row row rows).end ∷ []) (refl, tt))))
+    (same (exit name (last_row row rows).end ∷ []) (refl, tt)))))
   where
     name : Name
     name = name_of is.rest
@@ -331,7 +348,7 @@ span-becomes options bytes row rows is are wants reads w rs =
 pub fence-span : SpanLaws fence_leaf fence_further
 fence-span = record {
   first_spanned = λ options bytes row is first. first-spanned options bytes row is;
-  further_spanned = λ options bytes row is further. further-spanned options bytes row is;
+  further_spanned = λ options bytes row is further. inl (further-spanned options bytes row is);
   block = λ options bytes row rows is are.
       block_by (come_behind options bytes fence_further row rows are (Opened (OpenFence (opening_at is.rest) [])));
   facts = λ options bytes row rows is first are.
@@ -339,7 +356,7 @@ fence-span = record {
       (λ (es : List Event).
       LeafFacts bytes
       (Some (block_by (come_behind options bytes fence_further row rows are (Opened (OpenFence (opening_at is.rest) [])))))
-      (not (is_bare_row (last_row row rows))) row.first (last_row row rows).end (span_by row_unread row rows) es)
+      (not (last_row row rows).empty) row.first (last_row row rows).end (span_by row_unread row rows) es)
       (done-read options bytes row rows is are) (span-of options bytes row rows is are);
   shuts = λ options bytes row rows is first are bs.
       came-shut options bs

@@ -39,7 +39,7 @@ use Rattle.markdown_blocks.proofs.Span.Cuts.{but_end-is}
 use Rattle.markdown_blocks.proofs.Span.Inside.{InsideFacts}
 use Rattle.markdown_blocks.proofs.Span.Lead.{LeadFacts}
 use Rattle.markdown_blocks.proofs.Span.Lines.{EndsLeaf, ends-by}
-use Rattle.markdown_blocks.proofs.SpanLaws.{IsLineOf, is_bare, is_bare_row}
+use Rattle.markdown_blocks.proofs.SpanLaws.{IsLineOf}
 
 -- By the rest of the line: its bytes, what stands behind its whitespace, and what it opens.
 abbrev pub text_of : Rest → List ℕ
@@ -80,11 +80,11 @@ line-held options bytes row is = is.behind ∙ ap held_of (opening-same is.rest)
 
 -- something stands on it
 pub line-full : (options : ParseOptions) (bytes : List ℕ) (row : Row) → (is : IsLineOf options bytes fence_leaf row) →
-    not (is_bare_row row) ≡ true
+    not row.empty ≡ true
 line-full options bytes row is =
     let some = filled (rest_line is.rest) (line-marks options bytes row is).some in
     let size = is.at.size in
-    ap not (ap (λ (x : Bool). is_bare row.front && x) (apart some size) ∙ none (is_bare row.front))
+    ap not (is.empty ∙ ap (λ (x : Bool). x && (row.first.column == 1)) (apart some size))
   where
     filled : (line : List ℕ) → (length (marks_of (trim_start line)) == 0) ≡ false → 0 < length line
     filled [] h = absurd (true≢false h)
@@ -93,10 +93,6 @@ line-full options bytes row is =
     apart : 0 < length (rest_line is.rest) → row.end.index ≡ row.first.index + length (rest_line is.rest) →
         (row.first.index == row.end.index) ≡ false
     apart some size = grind (arith, nat_tests)
-
-    none : (x : Bool) → (x && false) ≡ false
-    none true = refl
-    none false = refl
 
 -- Its events.
 

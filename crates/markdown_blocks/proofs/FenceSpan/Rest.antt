@@ -31,28 +31,31 @@ use Rattle.md_seam.specs.Events.Tiles.{plain_read}
 use Rattle.md_seam.proofs.EndingsLemmas.{AreOthers, Leads, in_leaf, is_other, leads-append, others-lead}
 use Rattle.markdown_blocks.specs.Fronted.{rest_line}
 use Rattle.markdown_blocks.specs.Leaf.FenceFurther.{fence_further, further_parts, is_fence}
-use Rattle.markdown_blocks.specs.Rows.{Row, but_ends, ending_events, last_row, span_rest}
+use Rattle.markdown_blocks.specs.Rows.{Row, but_ends, ending_events, is_empty_row, last_row}
 use Rattle.markdown_blocks.proofs.ContainerNames.{TakesPrefixes}
 use Rattle.markdown_blocks.proofs.EachEvent.{each-append}
 use Rattle.markdown_blocks.proofs.FenceFurther.Definition.{held_of}
 use Rattle.markdown_blocks.proofs.FenceFurther.Inside.{further-placed}
 use Rattle.markdown_blocks.proofs.FenceFurther.Joined.{further-is}
 use Rattle.markdown_blocks.proofs.FenceFurther.Parts.{further-others, further-unlinked}
-use Rattle.markdown_blocks.proofs.FenceFurther.Places.{FurtherAt, further-rest}
+use Rattle.markdown_blocks.proofs.FenceFurther.Places.{FurtherAt, further-at, further-rest}
 use Rattle.markdown_blocks.proofs.FenceFurther.Shown.{left-clear}
 use Rattle.markdown_blocks.proofs.FenceSpan.Further.{bare-same}
 use Rattle.markdown_blocks.proofs.FenceSpan.Further.{same-bare}
 use Rattle.markdown_blocks.proofs.FrontFacts.{LinePrefix}
 use Rattle.markdown_blocks.proofs.FrontLemmas.{fronts-balanced}
 use Rattle.markdown_blocks.proofs.FrontNames.{fronts-unlinked}
+use Rattle.markdown_blocks.proofs.FrontPlaces.{fronts-columns}
 use Rattle.markdown_blocks.proofs.FrontStands.{fronts-others}
 use Rattle.markdown_blocks.proofs.PartedFacts.{clear}
 use Rattle.markdown_blocks.proofs.PartFacts.{IsUnlinked, NoLinks}
+use Rattle.markdown_blocks.proofs.PrefixFacts.{is_bare}
 use Rattle.markdown_blocks.proofs.RowFacts.{IsEnding}
 use Rattle.markdown_blocks.proofs.Span.Cuts.{but_ends-is, ending-is}
+use Rattle.markdown_blocks.proofs.Span.Framed.{framed_rest}
 use Rattle.markdown_blocks.proofs.Span.Inside.{InsideFacts, behind_ending}
 use Rattle.markdown_blocks.proofs.Span.Lines.{AreFurther, SpanLine, ends-by}
-use Rattle.markdown_blocks.proofs.SpanLaws.{IsLineOf, is_bare, is_bare_row}
+use Rattle.markdown_blocks.proofs.SpanLaws.{IsLineOf}
 
 -- What is read of a line: a further one, which is linked to the one in front, has no text parts.
 abbrev pub goes_back : List Event → Bool
@@ -86,12 +89,12 @@ came-shut options bs _ is = absurd is
 
 abbrev pub full_behind : Bool → List Row → Bool
 full_behind full [] = full
-full_behind full (next ∷ rows) = full_behind (not (is_bare_row next)) rows
+full_behind full (next ∷ rows) = full_behind (not next.empty) rows
 
-pub full-last : (full : Bool) (row : Row) (rows : List Row) → full ≡ not (is_bare_row row) →
-    full_behind full rows ≡ not (is_bare_row (last_row row rows))
+pub full-last : (full : Bool) (row : Row) (rows : List Row) → full ≡ not row.empty →
+    full_behind full rows ≡ not (last_row row rows).empty
 full-last full row [] e = e
-full-last full row (next ∷ rows) e = full-last (not (is_bare_row next)) next rows refl
+full-last full row (next ∷ rows) e = full-last (not next.empty) next rows refl
 
 -- events that are parts of a leaf fill a line, if there are any
 pub others-fill : (full : Bool) (es : List Event) → AreOthers es → Balanced es →
@@ -126,8 +129,10 @@ pub record FurtherLine (bytes : List ℕ) (o : Opening) (x left : Expression) (f
     pub others : AreOthers parts
     pub balanced : Balanced parts
     pub unlinked : NoLinks parts
-    -- nothing stands in it just where it ends where it began
-    pub bare : is_bare parts ≡ (row.first.index == row.end.index)
+    -- nothing stands in it just where it ends where it began; its ending is then that of a blank line, where no prefix
+    -- stands in front
+    pub bare : is_bare parts ≡ is_empty_row row
+    pub empty : row.empty ≡ (is_empty_row row && (row.first.column == 1))
     pub facts : InsideFacts bytes row.first row.end x left from leaf start site parts parts
 
 -- Further lines behind one: what they come to.
@@ -139,10 +144,10 @@ pub record HasRest (bytes : List ℕ) (o : Opening) (left : Expression) (leaf : 
   pub came : IsCame c
   pub block : block_of to ≡ block_by c
   -- whether something stands on the last line, as its endings say
-  pub fills : (full : Bool) → Leads (in_leaf full) (in_leaf (full_behind full rows)) (span_rest row_unread row rows)
+  pub fills : (full : Bool) → Leads (in_leaf full) (in_leaf (full_behind full rows)) (framed_rest row_unread row rows)
   -- nothing is read of them later
-  pub unlinked : NoLinks (span_rest row_unread row rows)
-  pub same : span_rest (row_done bytes) row rows ≡ span_rest row_unread row rows
+  pub unlinked : NoLinks (framed_rest row_unread row rows)
+  pub same : framed_rest (row_done bytes) row rows ≡ framed_rest row_unread row rows
 
 -- none
 pub rest-none : (bytes : List ℕ) (o : Opening) (left : Expression) (leaf : OpenLeaf) (site : Site) (row : Row)
@@ -174,7 +179,7 @@ rest-more bytes o left x after leaf to site end row next rows c q ended_at endin
   fills = λ full.
       leads-append (in_leaf full) (in_leaf (not (is_bare next.front) || not (is_bare line.parts)))
       (in_leaf (full_behind full (next ∷ rows))) (ended ++ next.front ++ but_ends next.inside)
-      (span_rest row_unread next rows)
+      (framed_rest row_unread next rows)
       (leads-append (in_leaf full) (in_leaf (not (is_bare next.front)))
       (in_leaf (not (is_bare next.front) || not (is_bare line.parts))) (ended ++ next.front) (but_ends next.inside)
       (leads-append (in_leaf full) (in_leaf false) (in_leaf (not (is_bare next.front))) ended next.front
@@ -187,10 +192,10 @@ rest-more bytes o left x after leaf to site end row next rows c q ended_at endin
       Leads (in_leaf (not (is_bare next.front))) (in_leaf (not (is_bare next.front) || not (is_bare line.parts))) es)
       (sym parts) (others-fill (not (is_bare next.front)) line.parts line.others line.balanced)))
       (subst
-      (λ (full : Bool). Leads (in_leaf full) (in_leaf (full_behind (not (is_bare_row next)) rows))
-      (span_rest row_unread next rows)) (sym filled) (rest.fills (not (is_bare_row next))));
+      (λ (full : Bool). Leads (in_leaf full) (in_leaf (full_behind (not next.empty) rows))
+      (framed_rest row_unread next rows)) (sym filled) (rest.fills (not next.empty)));
   unlinked =
-      each-append IsUnlinked (ended ++ next.front ++ but_ends next.inside) (span_rest row_unread next rows)
+      each-append IsUnlinked (ended ++ next.front ++ but_ends next.inside) (framed_rest row_unread next rows)
       (each-append IsUnlinked (ended ++ next.front) (but_ends next.inside)
       (each-append IsUnlinked ended next.front
       (subst NoLinks (sym (ending-is n.LineEnding row q ended_at)) (refl, (refl, tt)))
@@ -212,14 +217,20 @@ rest-more bytes o left x after leaf to site end row next rows c q ended_at endin
     parts : but_ends next.inside ≡ line.parts
     parts = ap but_ends line.is ∙ but_ends-is (enter_link name next.first further_link) line.parts (exit name next.end)
 
-    filled : (not (is_bare next.front) || not (is_bare line.parts)) ≡ not (is_bare_row next)
+    -- behind an ending prefixes alone take columns
+    filled : (not (is_bare next.front) || not (is_bare line.parts)) ≡ not next.empty
     filled =
-        ap (λ (b : Bool). not (is_bare next.front) || not b) line.bare
-        ∙ both (is_bare next.front) (next.first.index == next.end.index)
+        ap₂ (λ (a b : Bool). not a || not b)
+        ((fronts-columns bytes [] q next.first next.front front refl).1
+        ∙ ap (λ (n : ℕ). next.first.column == n) ending.column) line.bare
+        ∙ both (next.first.column == 1) (is_empty_row next)
+        ∙ ap not (sym line.empty)
       where
-        both : (a b : Bool) → (not a || not b) ≡ not (a && b)
-        both true b = refl
-        both false b = refl
+        both : (a b : Bool) → (not a || not b) ≡ not (b && a)
+        both true true = refl
+        both true false = refl
+        both false true = refl
+        both false false = refl
 
     one :
         SpanLine bytes row_unread (row_done bytes) name (behind n.LineEnding left) (behind_ending bytes q leaf)
@@ -248,13 +259,7 @@ rest-more bytes o left x after leaf to site end row next rows c q ended_at endin
           line.facts));
     }
 
--- A line, where the block is open.
-
-pub further-at : (options : ParseOptions) (bytes : List ℕ) (row : Row) → (is : IsLineOf options bytes fence_further row) →
-    FurtherAt bytes is.rest row.first row.end
-further-at options bytes row is = record { at = is.at; column = is.column }
-
--- with what is known of what stands in it
+-- A line, where the block is open, with what is known of what stands in it.
 pub further-line : (options : ParseOptions) (bytes : List ℕ) (o : Opening) (x left : Expression) (from leaf : OpenLeaf)
     (start site : Site) (row : Row) → (is : IsLineOf options bytes fence_further row) → row.on ≡ held_of o →
     is_fence (held_of o) ≡ true →
@@ -273,6 +278,7 @@ further-line options bytes o x left from leaf start site row is on e facts = rec
   balanced = (further-placed options bytes (held_of o) is.rest row.first row.end e at).nested.0;
   unlinked = further-unlinked options (held_of o) is.rest row.first row.end;
   bare = bare;
+  empty = is.empty;
   facts = facts;
 }
   where
@@ -280,13 +286,13 @@ further-line options bytes o x left from leaf start site row is on e facts = rec
     parts = further_parts options (held_of o) is.rest row.first row.end
 
     at : FurtherAt bytes is.rest row.first row.end
-    at = further-at options bytes row is
+    at = further-at options bytes fence_further row is
 
-    bare : is_bare parts ≡ (row.first.index == row.end.index)
-    bare = go (row.first.index == row.end.index) refl parts refl
+    bare : is_bare parts ≡ is_empty_row row
+    bare = go (is_empty_row row) refl parts refl
       where
-        go : (same : Bool) → (row.first.index == row.end.index) ≡ same → (es : List Event) → parts ≡ es →
-            is_bare parts ≡ (row.first.index == row.end.index)
+        go : (same : Bool) → is_empty_row row ≡ same → (es : List Event) → parts ≡ es →
+            is_bare parts ≡ is_empty_row row
         go true k es h =
             ap is_bare (same-bare options bytes (held_of o) is.rest row.first row.end e at k).none ∙ sym k
         go false k [] h =

@@ -25,10 +25,10 @@ use Rattle.markdown_blocks.proofs.ContainerNames.{TakesPrefixes}
 use Rattle.markdown_blocks.proofs.FenceFurther.Definition.{further-goes, held_of}
 use Rattle.markdown_blocks.proofs.FenceFurther.Grammar.{behind-line-ends, ending-line, in-line-ends, in_line, left_by}
 use Rattle.markdown_blocks.proofs.FenceFurther.Grammar.{takes-line}
-use Rattle.markdown_blocks.proofs.FenceFurther.Places.{FurtherAt}
+use Rattle.markdown_blocks.proofs.FenceFurther.Places.{FurtherAt, further-at}
 use Rattle.markdown_blocks.proofs.FenceSpan.Further.{IsBare, bare-facts, closing-reads, end-bare, further-facts, line-reads}
 use Rattle.markdown_blocks.proofs.FenceSpan.Open.{AreMarks, block-is, kind_of, leaf_of}
-use Rattle.markdown_blocks.proofs.FenceSpan.Rest.{HasRest, further-at, further-line, rest-more, rest-none}
+use Rattle.markdown_blocks.proofs.FenceSpan.Rest.{HasRest, further-line, rest-more, rest-none}
 use Rattle.markdown_blocks.proofs.FenceSpan.Sites.{ended-goes, ended-over, is_told_of, line-leaves, line-on, line_site}
 use Rattle.markdown_blocks.proofs.FrontPlaces.{fronts-grow}
 use Rattle.markdown_blocks.proofs.Span.Inside.{InsideFacts, ReadsLeaf, behind_ending}
@@ -106,7 +106,7 @@ rest-next options bytes o marks lines left told row next rows marked fence line 
     on = are.4 ∙ held
 
     at : FurtherAt bytes r next.first next.end
-    at = further-at options bytes next is
+    at = further-at options bytes fence_further next is
 
     x : Expression
     x = in_line plain_text o.marker

@@ -59,6 +59,7 @@ heading-facts options bytes r p q starts is = record {
   tiled = subst (λ (e : Point). Tiled p e unread) (sym is.end) (heading-tiled line p);
   unread_stood = unread-stood bytes r line p q is begins;
   stood = read-stood bytes r line p q is begins;
+  behind = true;
   unread_word = unread-word line p begins;
   word = read-word bytes line p begins;
   unread_ending = unread-ending line p;

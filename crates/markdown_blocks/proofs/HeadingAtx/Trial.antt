@@ -28,7 +28,8 @@ trial-looked options cells b seen e =
 -- a line that holds a heading is taken
 pub trial-took : (options : ParseOptions) (cells : List Cell) (h : Here) → IsRest h.scratch →
     is_heading_line options cells ≡ true →
-    heading_at options cells h ≡ whole_line (heading_leaf.adds options held_leaf.None cells h.point) h.flags.leaf cells h
+    heading_at options cells h ≡
+    whole_line (heading_leaf.adds options held_leaf.None cells h.point) h.flags.leaf false cells h
 trial-took options cells h is e = heading-taken options cells h (rest-calm h.scratch is ∙ sym is) e
 
 -- any other line is refused

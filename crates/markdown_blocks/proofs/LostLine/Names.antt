@@ -1,17 +1,21 @@
 -- The names of what stands on a line that loses columns of whitespace, and in a fence.
 use Rattle.std.proofs.Common.{◌≡◌, ℕ, Bool, true, false, cond, ◌&&◌, List, [], ◌∷◌, ◌++◌, refl}
 use Rattle.std.specs.Prelude.{nat_lt, None}
+use Rattle.md_engine.specs.declared.event.Content.{Content}
 use Rattle.md_engine.specs.declared.event.Event.{Event}
 use Rattle.md_engine.specs.declared.event.Kind.{Kind}
 use Rattle.md_engine.specs.declared.event.Kind.TheVariants.{Enter, Exit}
 use Rattle.md_engine.specs.declared.event.Name.{Name}
 use Rattle.md_engine.specs.declared.event.Name.TheVariants as n
 use Rattle.md_engine.specs.declared.event.Point.{Point}
+use Rattle.md_content.specs.Joined.{is_content}
 use Rattle.md_definition.specs.Rest.{Rest, indent, lose}
 use Rattle.md_seam.specs.Events.Nested.{is_enter, pair}
+use Rattle.md_seam.specs.Substituted.{wanted}
 use Rattle.markdown_blocks.specs.Fronted.{rest_line}
 use Rattle.markdown_blocks.specs.LineColumns.{lost_line, part_over, past_columns}
 use Rattle.markdown_blocks.specs.Registry.{is_own}
+use Rattle.markdown_blocks.proofs.ContentFacts.{NoContent}
 use Rattle.markdown_blocks.proofs.OutsideFacts.{AreOutside}
 
 -- An event of a part.
@@ -82,7 +86,7 @@ lost-inside name lost r p q e = λ P none more. lost-each P none more name lost 
 
 -- A resolver rewrites none of them.
 
-pub inside-own : (name : Name) → is_inside name ≡ true → is_own name ≡ false
+inside-own : (name : Name) → is_inside name ≡ true → is_own name ≡ false
 inside-own n.SpaceOrTab e = refl
 inside-own _ e = cc
 
@@ -90,6 +94,24 @@ and-false : (x : Bool) → (x && false) ≡ false
 and-false true = refl
 and-false false = refl
 
+pub more-outside : More AreOutside
+more-outside kind name x es e k = (rw (inside-own name e) (and-false (is_enter kind)), k)
+
 pub inside-outside : (es : List Event) → AreInside es → AreOutside es
-inside-outside es all =
-    all AreOutside tt (λ kind name x es e k. (rw (inside-own name e) (and-false (is_enter kind)), k))
+inside-outside es all = all AreOutside tt more-outside
+
+-- No content stands among them.
+
+inside-content : (name : Name) → is_inside name ≡ true → is_content name ≡ false
+inside-content n.Content e = absurd (cc)
+inside-content _ e = refl
+
+pub more-no_content : (wants : Content → Bool) → More (NoContent wants)
+more-no_content wants kind name x es e k = (unlinked kind, inside-content name e, k)
+  where
+    unlinked : (kind : Kind) → wanted wants (part_event kind name x) ≡ None
+    unlinked Enter = refl
+    unlinked Exit = refl
+
+pub inside-no_content : (wants : Content → Bool) (es : List Event) → AreInside es → NoContent wants es
+inside-no_content wants es all = all (NoContent wants) tt (more-no_content wants)

@@ -4,6 +4,7 @@ use Rattle.std.proofs.Common.{◌++◌, drop, refl, sym, ◌∙◌, ap, arith, s
 use Rattle.std.specs.Prelude.{◌==◌, nat_lt}
 use Rattle.std.proofs.lemmas.Bool.{and_parts}
 use Rattle.std.proofs.lemmas.Bool.Decides.{nat_tests}
+use Rattle.md_engine.specs.declared.configuration.ParseOptions.{ParseOptions}
 use Rattle.md_engine.specs.declared.event.Point.{Point}
 use Rattle.md_engine.specs.declared.tokenizer.Line.{Line}
 use Rattle.md_engine.specs.Meaning.{Cell}
@@ -15,14 +16,22 @@ use Rattle.md_seam.specs.Events.Places.{past_text, same_place}
 use Rattle.md_seam.proofs.RestCells.{RestAt, rest_cells, without_first}
 use Rattle.markdown_blocks.specs.Fronted.{rest_line}
 use Rattle.markdown_blocks.specs.LineColumns.{next_point, past_columns}
+use Rattle.markdown_blocks.specs.LineLeaf.{LineLeaf}
+use Rattle.markdown_blocks.specs.Rows.{Row}
 use Rattle.markdown_blocks.proofs.LeafFacts.{LineAt}
 use Rattle.markdown_blocks.proofs.LineTexts.{line-stands}
 use Rattle.markdown_blocks.proofs.LostLine.Columns.{columns-end, first-white, past-line}
+use Rattle.markdown_blocks.proofs.SpanLaws.{IsLineOf}
 
 -- A line that is known where it stands, with the column where it begins.
 pub record FurtherAt (bytes : List ℕ) (r : Rest) (p q : Point) : Type 0 where
   pub at : LineAt bytes r (rest_line r) p q
   pub column : p.column ≡ r.column + 1
+
+-- so stands a line of a leaf
+pub further-at : (options : ParseOptions) (bytes : List ℕ) (l : LineLeaf) (row : Row) →
+    (is : IsLineOf options bytes l row) → FurtherAt bytes is.rest row.first row.end
+further-at options bytes l row is = record { at = is.at; column = is.column }
 
 -- its rest
 pub further-rest : (bytes : List ℕ) (r : Rest) (p q : Point) → FurtherAt bytes r p q →

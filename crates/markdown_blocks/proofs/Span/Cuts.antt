@@ -6,7 +6,8 @@ use Rattle.md_engine.specs.declared.event.Name.{Name}
 use Rattle.md_engine.specs.declared.event.Point.{Point}
 use Rattle.md_seam.specs.Events.Nested.{around, enter, exit, pair}
 use Rattle.markdown_blocks.specs.Rows.{Row, ending_events, last_row}
-use Rattle.markdown_blocks.specs.Rows.{but_end, but_ends, end_of, span_by, span_rest}
+use Rattle.markdown_blocks.specs.Rows.{but_end, but_ends, end_of}
+use Rattle.markdown_blocks.proofs.Span.Framed.{framed_by, framed_rest}
 
 -- events in front of an end
 pub but_end-is : (es : List Event) (e : Event) → but_end (es ++ e ∷ []) ≡ es
@@ -29,7 +30,7 @@ pub span-is : (f : Row → List Event) (name : Name) (at : Point) (lead inside :
     (rows : List Row) →
     but_end (f row) ≡ lead ++ enter name at ∷ inside →
     end_of (f (last_row row rows)) ≡ exit name (last_row row rows).end ∷ [] →
-    span_by f row rows ≡ lead ++ around name at (last_row row rows).end (inside ++ span_rest f row rows)
+    framed_by f row rows ≡ lead ++ around name at (last_row row rows).end (inside ++ framed_rest f row rows)
 span-is f name at lead inside row rows first last =
     ap (λ (l : List Event). l ++ rest ++ end_of (f (last_row row rows))) first
     ∙ ap (λ (l : List Event). (lead ++ enter name at ∷ inside) ++ rest ++ l) last
@@ -37,7 +38,7 @@ span-is f name at lead inside row rows first last =
     ∙ append_assoc lead (enter name at ∷ inside ++ rest) end
   where
     rest : List Event
-    rest = span_rest f row rows
+    rest = framed_rest f row rows
 
     end : List Event
     end = exit name (last_row row rows).end ∷ []

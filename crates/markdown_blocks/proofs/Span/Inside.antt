@@ -20,7 +20,8 @@ use Rattle.md_outline.specs.Between.{is_between}
 use Rattle.md_outline.specs.LinesStand.{Site}
 use Rattle.md_outline.proofs.LinesPass.{IsOnLine, ended_site, passes-ending, passes-prefixes}
 use Rattle.markdown_blocks.proofs.BetweenFacts.{AreBetween, between-append, between-pair}
-use Rattle.markdown_blocks.proofs.ChunkFacts.{ending-order, ending-stands, line-ending}
+use Rattle.markdown_blocks.proofs.ChunkFacts.{ending-stands, line-ending}
+use Rattle.markdown_blocks.proofs.EndingFacts.{ending-nested}
 use Rattle.markdown_blocks.proofs.ContainerNames.{TakesPrefixes}
 use Rattle.markdown_blocks.proofs.FillFacts.{Fill, fill-append, fill-same}
 use Rattle.markdown_blocks.proofs.FrontFacts.{LinePrefix}
@@ -182,10 +183,7 @@ ending-inside bytes p q x leaf site whole is on = record {
 }
   where
     nested : Nested_in p q (pair n.LineEnding p q)
-    nested = (
-      record { matches = (tt, (refl, tt)); closed = refl },
-      ((at_or_before-refl p, (ending-order bytes p q is, tt)), at_or_before-refl q),
-    )
+    nested = ending-nested bytes n.LineEnding p q is
 
     stood : Stood bytes (pair n.LineEnding p q)
     stood = stood-pair bytes n.LineEnding p q (ending-stands bytes n.LineEnding p q line-ending whole is)

@@ -147,6 +147,7 @@ inside-leaf bytes name kind p a q left to end full lead unread done named front 
   stood =
       stood-append bytes lead (around name a q done) front.stood
       (stood-around bytes name a q done starts h.stood);
+  behind = true;
   unread_word =
       grammar.leads-append unread_text (blocks ∷ []) (blocks ∷ []) (behind_block ∷ []) lead (around name a q unread)
       (front.word unread_text) (around-word unread_text left name kind a q unread named h.unread_word ends);

@@ -12,7 +12,7 @@ use Rattle.md_outline.specs.Between.{is_between}
 use Rattle.md_outline.specs.LinesStand.{Site, begun_site}
 use Rattle.md_outline.proofs.LinesPass.{IsOnLine, MayLeave, ended_site, on-ended}
 use Rattle.markdown_blocks.specs.Rows.{Row, last_row}
-use Rattle.markdown_blocks.specs.Rows.{but_end, but_ends, end_of, span_by, span_rest}
+use Rattle.markdown_blocks.specs.Rows.{but_end, but_ends, end_of}
 use Rattle.markdown_blocks.proofs.BetweenFacts.{ending-before, ending-behind}
 use Rattle.markdown_blocks.proofs.ContainerNames.{TakesPrefixes}
 use Rattle.markdown_blocks.proofs.FrontFacts.{LinePrefix}
@@ -22,6 +22,7 @@ use Rattle.markdown_blocks.proofs.PartedFacts.{clear}
 use Rattle.markdown_blocks.proofs.PieceFacts.{Starts, starts-append}
 use Rattle.markdown_blocks.proofs.RowFacts.{IsEnding}
 use Rattle.markdown_blocks.proofs.Span.Cuts.{end-is, ending-is, span-is}
+use Rattle.markdown_blocks.proofs.Span.Framed.{framed_by, framed_rest}
 use Rattle.markdown_blocks.proofs.Span.Inside.{InsideFacts, Meets, behind_ending, ending-inside, front-inside}
 use Rattle.markdown_blocks.proofs.Span.Inside.{inside-append, inside-none}
 use Rattle.markdown_blocks.proofs.Span.Lead.{LeadFacts}
@@ -135,9 +136,9 @@ next-inside : (bytes : List ℕ) (unread done : Row → List Event) (name : Name
     (site : Site) (row next : Row) (rows : List Row) →
     row.end.vs ≡ 0 → (are : AreFurther bytes unread done name left leaf to site row (next ∷ rows)) →
     RestInside bytes next.end (last_row next rows).end are.6.left are.6.leaf to are.6.site
-    (span_rest unread next rows) (span_rest done next rows) →
-    RestInside bytes row.end (last_row next rows).end left leaf to site (span_rest unread row (next ∷ rows))
-    (span_rest done row (next ∷ rows))
+    (framed_rest unread next rows) (framed_rest done next rows) →
+    RestInside bytes row.end (last_row next rows).end left leaf to site (framed_rest unread row (next ∷ rows))
+    (framed_rest done row (next ∷ rows))
 next-inside bytes unread done name left leaf to site row next rows whole are rest = record {
   left = rest.left;
   end = rest.end;
@@ -147,12 +148,12 @@ next-inside bytes unread done name left leaf to site row next rows whole are res
       subst
       (λ (es : List Event).
       InsideFacts bytes row.end last left rest.left leaf to site rest.site
-      (es ++ next.front ++ but_ends (unread next) ++ span_rest unread next rows)
-      (es ++ next.front ++ but_ends (done next) ++ span_rest done next rows))
+      (es ++ next.front ++ but_ends (unread next) ++ framed_rest unread next rows)
+      (es ++ next.front ++ but_ends (done next) ++ framed_rest done next rows))
       (sym (ending-is n.LineEnding row q are.1))
       (inside-append bytes row.end next.end last left line.left rest.left leaf line.leaf to site line.site rest.site
       (ended ++ next.front ++ but_ends (unread next)) (ended ++ next.front ++ but_ends (done next))
-      (span_rest unread next rows) (span_rest done next rows)
+      (framed_rest unread next rows) (framed_rest done next rows)
       (meets-end bytes unread done name line.left line.leaf to line.site next rows line.ends.whole are.7)
       (inside-append bytes row.end next.first next.end left again line.left leaf opened line.leaf site start line.site
       (ended ++ next.front) (ended ++ next.front) (but_ends (unread next)) (but_ends (done next))
@@ -200,8 +201,8 @@ next-inside bytes unread done name left leaf to site row next rows whole are res
 pub rest-inside : (bytes : List ℕ) (unread done : Row → List Event) (name : Name) (left : Expression)
     (leaf to : OpenLeaf) (site : Site) (row : Row) (rows : List Row) →
     row.end.vs ≡ 0 → AreFurther bytes unread done name left leaf to site row rows →
-    RestInside bytes row.end (last_row row rows).end left leaf to site (span_rest unread row rows)
-    (span_rest done row rows)
+    RestInside bytes row.end (last_row row rows).end left leaf to site (framed_rest unread row rows)
+    (framed_rest done row rows)
 rest-inside bytes unread done name left leaf to site row [] whole are = record {
   left = left;
   end = are.0;
@@ -223,17 +224,17 @@ pub span-inside : (bytes : List ℕ) (unread done : Row → List Event) (name : 
     (are : AreFurther bytes unread done name first.left first.leaf to first.site row rows) →
     let rest = rest-inside bytes unread done name first.left first.leaf to first.site row rows first.ends.whole are in
     InsideFacts bytes first.at (last_row row rows).end named.begin rest.left (fresh kind) to (begun_site kind) rest.site
-    (first.unread_inside ++ span_rest unread row rows) (first.inside ++ span_rest done row rows)
+    (first.unread_inside ++ framed_rest unread row rows) (first.inside ++ framed_rest done row rows)
 span-inside bytes unread done name kind to row rows named first are =
     inside-append bytes first.at row.end (last_row row rows).end named.begin first.left rest.left (fresh kind)
-    first.leaf to (begun_site kind) first.site rest.site first.unread_inside first.inside (span_rest unread row rows)
-    (span_rest done row rows)
+    first.leaf to (begun_site kind) first.site rest.site first.unread_inside first.inside (framed_rest unread row rows)
+    (framed_rest done row rows)
     (meets-end bytes unread done name first.left first.leaf to first.site row rows first.ends.whole are) first.facts
     rest.facts
   where
     rest :
         RestInside bytes row.end (last_row row rows).end first.left first.leaf to first.site
-        (span_rest unread row rows) (span_rest done row rows)
+        (framed_rest unread row rows) (framed_rest done row rows)
     rest = rest-inside bytes unread done name first.left first.leaf to first.site row rows first.ends.whole are
 
 -- All that the frame asks of the lines of a leaf, joined, by whether anything stands on the last of them.
@@ -244,22 +245,22 @@ pub span-facts : (bytes : List ℕ) (unread done : Row → List Event) (name : N
     (are : AreFurther bytes unread done name first.left first.leaf to first.site row rows) →
     ((span-inside bytes unread done name kind to row rows named first are).unread_stays true).0 ≡ filled →
     ((span-inside bytes unread done name kind to row rows named first are).stays true).0 ≡ filled →
-    LeafFacts bytes (Some (block_of to)) filled row.first (last_row row rows).end (span_by unread row rows)
-    (span_by done row rows)
+    LeafFacts bytes (Some (block_of to)) filled row.first (last_row row rows).end (framed_by unread row rows)
+    (framed_by done row rows)
 span-facts bytes unread done name kind to row rows filled named first are unread_is is =
     subst
     (λ (es : List Event).
-    LeafFacts bytes (Some (block_of to)) filled row.first last es (span_by done row rows))
+    LeafFacts bytes (Some (block_of to)) filled row.first last es (framed_by done row rows))
     (sym (span-is unread name first.at first.lead first.unread_inside row rows first.unread_is ends.unread_end))
     (subst
     (λ (es : List Event).
     LeafFacts bytes (Some (block_of to)) filled row.first last
-    (first.lead ++ around name first.at last (first.unread_inside ++ span_rest unread row rows)) es)
+    (first.lead ++ around name first.at last (first.unread_inside ++ framed_rest unread row rows)) es)
     (sym (span-is done name first.at first.lead first.inside row rows first.is ends.end))
     (inside-leaf bytes name kind row.first first.at last rest.left to rest.site filled first.lead
-    (first.unread_inside ++ span_rest unread row rows) (first.inside ++ span_rest done row rows) named first.lead_is
-    (starts-append first.unread_inside (span_rest unread row rows) first.unread_starts)
-    (starts-append first.inside (span_rest done row rows) first.starts)
+    (first.unread_inside ++ framed_rest unread row rows) (first.inside ++ framed_rest done row rows) named first.lead_is
+    (starts-append first.unread_inside (framed_rest unread row rows) first.unread_starts)
+    (starts-append first.inside (framed_rest done row rows) first.starts)
     (span-inside bytes unread done name kind to row rows named first are) unread_is is rest.end rest.leave))
   where
     last : Point
@@ -270,5 +271,5 @@ span-facts bytes unread done name kind to row rows filled named first are unread
 
     rest :
         RestInside bytes row.end (last_row row rows).end first.left first.leaf to first.site
-        (span_rest unread row rows) (span_rest done row rows)
+        (framed_rest unread row rows) (framed_rest done row rows)
     rest = rest-inside bytes unread done name first.left first.leaf to first.site row rows first.ends.whole are

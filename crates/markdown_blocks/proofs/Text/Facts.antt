@@ -87,6 +87,7 @@ text-facts options bytes row rows h = record {
   stood =
       stood-around bytes text_leaf.name row.first end done (read-starts options bytes row rows h)
       (read-stood options bytes row rows h);
+  behind = true;
   unread_word =
       leads-around unread_text blocks text_leaf.name row.first end unread
       (linked-word options bytes unread_text row rows refl h);

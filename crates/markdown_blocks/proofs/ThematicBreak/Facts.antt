@@ -350,6 +350,7 @@ break-facts options bytes r p q starts at =
       tiled = tiled-around n.ThematicBreak p q inside_of tiled;
       unread_stood = stood;
       stood = stood;
+      behind = true;
       unread_word = leads-around unread_text blocks n.ThematicBreak p q inside_of (word unread_text);
       word = leads-around plain_text blocks n.ThematicBreak p q inside_of (word plain_text);
       unread_ending = ends;

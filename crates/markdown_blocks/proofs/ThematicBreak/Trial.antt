@@ -93,7 +93,7 @@ pub break-took : (options : ParseOptions) (cells : List Cell) (h : Here) → IsR
     is_break options cells ≡ true →
     break_at options cells h ≡
     whole_line (around n.ThematicBreak h.point (line_end cells h.point) (break_inside options cells h.point)) h.flags.leaf
-    cells h
+    false cells h
 break-took options cells h is e = go (begins_white cells) refl
   where
     room : ℕ
@@ -124,7 +124,8 @@ break-took options cells h is e = go (begins_white cells) refl
     go : (x : Bool) → begins_white cells ≡ x →
         break_at options cells h ≡
         whole_line
-        (around n.ThematicBreak h.point (line_end cells h.point) (break_inside options cells h.point)) h.flags.leaf cells h
+        (around n.ThematicBreak h.point (line_end cells h.point) (break_inside options cells h.point)) h.flags.leaf false
+        cells h
     go true s =
         let at : Here = behind_white room cells (entered_here n.ThematicBreak h) in
         let end : line_end left q ≡ p = white-line_end room cells h.point in

@@ -21,13 +21,11 @@ ghost use Rattle.md_engine.specs.declared.state.document.State.{State as Documen
 ghost use Rattle.markdown_blocks.specs.Flow.{containers_after_transition, existing_after_transition};
 ghost use Rattle.markdown_blocks.specs.Flow.{behind_all, existing_before_transition, flow_end_transition};
 ghost use Rattle.markdown_blocks.specs.Flow.{inside_transition, new_after_transition};
-ghost use Rattle.markdown_blocks.specs.Registry.{insider};
-ghost use Rattle.std.specs.Option.{is_some};
 ghost use Rattle.markdown_blocks.specs.Flow.{new_before_transition};
 ghost use Rattle.markdown_blocks.specs.LineFlags.{asking, begun_line, ended_on, ending_name, next_container, stays};
 ghost use Rattle.markdown_blocks.specs.AtOnce.{GoesAtOnce, asking_next, openers_passed};
 ghost use Rattle.md_containers.specs.PlainBullet.{IsPlainBullet};
-ghost use Rattle.markdown_blocks.specs.Registry.{opener_front, openers};
+ghost use Rattle.markdown_blocks.specs.Registry.{opener_front, openers, shuts_out};
 ghost use Rattle.markdown_blocks.specs.States.{FlowStep};
 ghost use Rattle.md_engine.specs.declared.resolve.name.Name.{Name as ResolveName};
 ghost use Rattle.markdown_blocks.specs.HeldLeaf.{takes_lazy};
@@ -113,9 +111,9 @@ fn pass_over(tokenizer: &mut Tokenizer)
 /// The state where all containers went on: none is tried where a leaf is open in which none opens.
 #[inline(always)]
 fn behind_all(tokenizer: &Tokenizer) -> DocumentState
-    ensures { result ≡ behind_all (is_some (insider (world tokenizer.now).flags.leaf)) }
+    ensures { result ≡ behind_all (shuts_out (world tokenizer.now).flags.leaf) }
 {
-    if registry::goes_inside(tokenizer.flags.leaf) {
+    if registry::shuts_out(tokenizer.flags.leaf) {
         DocumentState::ContainersAfter
     } else {
         registry::first_opener()
@@ -306,8 +304,8 @@ pub fn containers_after(tokenizer: &mut Tokenizer) -> State
     }
 }
 
-/// Behind all containers of a line, where a leaf is open in which none opens: it is asked first whether the line goes on
-/// it. It may do so over a line on which nothing stands, no prefix either, whose ending is that of a blank line.
+/// Behind all containers of a line, where a leaf is open that is asked first whether the line goes on it. It may do so
+/// over a line on which nothing stands, no prefix either, whose ending is that of a blank line.
 ///
 /// ```markdown
 ///   | ~~~

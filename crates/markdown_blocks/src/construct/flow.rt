@@ -1,9 +1,11 @@
 // Flow: the leaf blocks of a document or a container (CommonMark 4).
 //
-//     flow ::= blank_line | raw_flow | heading_atx | thematic_break | content
+//     flow ::= blank_line | code_indented | raw_flow | heading_atx | thematic_break | content
 //
-// The rest of a line, behind the prefixes of its containers, is tried in this order. What may not begin with the byte
-// that stands first behind whitespace is refused at once; else an attempt tells. The line then ends in the document.
+// The rest of a line, behind the prefixes of its containers, is tried in this order. What may not begin here, by the
+// byte that stands first behind whitespace and by whether whitespace stands in front of it, is refused at once; else an
+// attempt tells. The line then ends in the document. A line that goes on an open leaf of several lines is read
+// before.
 
 ghost use Rattle.std.specs.Prelude.{◌≡◌, ◌≢◌};
 ghost use Rattle.md_engine.specs.Going.{SeesOn};
@@ -21,7 +23,9 @@ ghost use Rattle.markdown_blocks.specs.Flow.{flow_own_transition, leaf_after_tra
 ghost use Rattle.markdown_blocks.specs.Registry.{front_of, opener_front, openers, trials};
 ghost use Rattle.md_seam.specs.Transition.{IsAt, NeedsNothing};
 
-pub use crate::construct::registry::{before_heading_atx, before_raw, before_thematic_break};
+pub use crate::construct::registry::{
+    before_code_indented, before_heading_atx, before_raw, before_thematic_break,
+};
 use crate::construct::{document, registry};
 use crate::resolve;
 use md_content::content;
@@ -186,7 +190,7 @@ fn leaves(tokenizer: &mut Tokenizer) -> State
 {
     match registry::begins_at(tokenizer.current) {
         FlowState::BeforeContent => content_begins(tokenizer),
-        state => registry::before_leaf(tokenizer, state),
+        state => registry::leaf_begins(tokenizer, state),
     }
 }
 

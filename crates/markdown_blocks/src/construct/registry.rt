@@ -1,7 +1,7 @@
 // The constructs that are built: the one place of the frame's code that names them.
 //
 //     container ::= block_quote | list_item
-//     leaf      ::= raw_flow | heading_atx | thematic_break
+//     leaf      ::= code_indented | raw_flow | heading_atx | thematic_break
 //
 // What flow itself is made of (blank lines, content, whitespace) stands in its own table.
 
@@ -21,13 +21,16 @@ ghost use Rattle.md_engine.specs.declared.state.flow.State.{State as FlowState};
 ghost use Rattle.markdown_blocks.specs.Flow.{before_transition, leaf_transition, new_before_transition};
 ghost use Rattle.markdown_blocks.specs.Flow.{opener_transition};
 ghost use Rattle.markdown_blocks.specs.LineFlags.{asking};
-ghost use Rattle.markdown_blocks.specs.Registry.{joins_lines, stays_alone};
+ghost use Rattle.markdown_blocks.specs.Registry.{joins_lines, shuts_out, stays_alone};
 ghost use Rattle.markdown_blocks.specs.Registry.{construct_transition, goes_on_with, insider, leaf};
 ghost use Rattle.markdown_blocks.specs.AtOnce.{HasPrefix, all_asked, begins_at, opens_none, prefix_taken};
 ghost use Rattle.markdown_blocks.specs.Registry.{may_go_on, may_open, next_opener, opener_front, openers};
 ghost use Rattle.markdown_blocks.specs.Registry.{LeafName, front_of, opener_at, opens_with, resolved_by, trials, tried_at};
 ghost use Rattle.markdown_blocks.specs.States.{FlowStep, flow_table_scheme, flow_transition, is_flow_own};
+ghost use Rattle.md_definition.specs.Rest.{is_white};
+ghost use Rattle.markdown_blocks.specs.Leaf.CodeIndented.{is_code};
 ghost use Rattle.md_seam.specs.Look.{looks_behind, may_with};
+ghost use Rattle.md_seam.specs.Spaces.{sees_white};
 ghost use Rattle.md_seam.specs.Stays.{TakesEach};
 ghost use Rattle.md_seam.specs.Transition.{IsAt, NeedsNothing};
 
@@ -40,6 +43,7 @@ use md_engine::message::Message;
 use md_engine::or_error;
 use md_engine::resolve::Name as ResolveName;
 use md_engine::state::block_quote::State as QuoteState;
+use md_engine::state::code_indented::State as CodeState;
 use md_engine::state::document::State as DocumentState;
 use md_engine::state::flow::State as FlowState;
 use md_engine::state::heading_atx::State as HeadingState;
@@ -52,7 +56,7 @@ use md_engine::subtokenize::Subresult;
 use md_engine::tokenizer::{Container, ContainerKind, HeldLeaf, Tokenizer};
 use md_leaves::spans::{self, Place};
 use md_leaves::{heading_atx, thematic_break};
-use md_lines::raw_flow;
+use md_lines::{code_indented, raw_flow};
 use md_seam::space_or_tab::look_behind;
 
 /// The state of the document in front of the first container that may open.
@@ -159,7 +163,9 @@ pub fn begins_at(current: Option<u8>) -> FlowState
     match current {
         None => first_trial(),
         Some(byte) => {
-            if is_white(byte) || raw_flow::may_begin(current) {
+            if is_white(byte) {
+                first_trial()
+            } else if raw_flow::may_begin(current) {
                 FlowState::BeforeRaw
             } else if heading_atx::may_begin(current) {
                 FlowState::BeforeHeadingAtx
@@ -177,7 +183,7 @@ pub fn begins_at(current: Option<u8>) -> FlowState
 pub fn first_trial() -> FlowState
     ensures { result ≡ front_of trials }
 {
-    FlowState::BeforeRaw
+    FlowState::BeforeCodeIndented
 }
 
 /// Whether this is that state.
@@ -186,9 +192,52 @@ pub fn is_first_trial(state: FlowState) -> bool
     ensures { result ≡ true → state ≡ front_of trials }
 {
     match state {
-        FlowState::BeforeRaw => true,
+        FlowState::BeforeCodeIndented => true,
         _ => false,
     }
+}
+
+/// Whether whitespace stands here, or what stands here is not known yet.
+#[inline(always)]
+fn may_be_white(current: Option<u8>) -> bool
+    ensures { result ≡ may_with is_white current }
+{
+    match current {
+        None => true,
+        Some(byte) => is_white(byte),
+    }
+}
+
+/// Whether indented code may begin here: whitespace alone tells, whatever stands behind it.
+#[inline(always)]
+fn may_be_indented(tokenizer: &Tokenizer) -> bool
+    ensures { result ≡
+        may_with ((leaf LeafName.CodeIndented).may_begin (sees_white (world tokenizer.now).current))
+        (looks_behind (world tokenizer.now)) }
+{
+    may_be_white(tokenizer.current)
+}
+
+/// Before indented code: where no whitespace stands none begins.
+///
+/// ```markdown
+/// > |     a
+///     ^
+/// ```
+pub fn before_code_indented(tokenizer: &mut Tokenizer) -> State
+    requires { IsAt NeedsNothing (StateName.Flow FlowState.BeforeCodeIndented) (world tokenizer.old) }
+    ensures to { result ≢ State.Error → result ≡ (before_transition LeafName.CodeIndented (world tokenizer.old)).to }
+    ensures world { result ≢ State.Error →
+        world tokenizer.new ≡ (before_transition LeafName.CodeIndented (world tokenizer.old)).world }
+{
+    if !may_be_indented(tokenizer) {
+        return State::Retry(StateName::Flow(FlowState::BeforeRaw));
+    }
+    or_error!(tokenizer.attempt(
+        State::Next(StateName::Flow(FlowState::After)),
+        State::Next(StateName::Flow(FlowState::BeforeRaw))
+    ));
+    State::Retry(StateName::CodeIndented(CodeState::Start))
 }
 
 /// Before fenced code or math.
@@ -268,11 +317,58 @@ pub fn before_leaf(tokenizer: &mut Tokenizer, state: FlowState) -> State
         world tokenizer.new ≡ (leaf_transition (tried_at state) (world tokenizer.old)).world }
 {
     match state {
+        FlowState::BeforeCodeIndented => before_code_indented(tokenizer),
         FlowState::BeforeRaw => before_raw(tokenizer),
         FlowState::BeforeHeadingAtx => before_heading_atx(tokenizer),
         FlowState::BeforeThematicBreak => before_thematic_break(tokenizer),
         _ => State::Nok,
     }
+}
+
+/// Before an ATX heading: where it is tried, it begins in the same call, with its opening sequence.
+#[inline(always)]
+fn heading_begins(tokenizer: &mut Tokenizer) -> State
+    requires { IsAt NeedsNothing (StateName.Flow FlowState.BeforeHeadingAtx) (world tokenizer.old) }
+    ensures runs { result ≢ State.Error →
+        RunsHere (FlowStep (λ target other. ⟦<ResolveName as PartialEq>⟧.eq other target))
+        (StateName.Flow FlowState.BeforeHeadingAtx) (world tokenizer.old) result (world tokenizer.new) }
+    ensures sees { result ≢ State.Error → SeesOn result (world tokenizer.old) (world tokenizer.new) }
+{
+    match before_heading_atx(tokenizer) {
+        State::Retry(StateName::HeadingAtx(HeadingState::Start)) => {
+            match heading_atx::start(tokenizer) {
+                State::Retry(StateName::HeadingAtx(HeadingState::Before)) => {
+                    heading_atx::before(tokenizer)
+                }
+                state => state,
+            }
+        }
+        state => state,
+    }
+}
+
+/// Before a leaf that is tried, which may begin in the same call.
+#[inline(always)]
+pub fn leaf_begins(tokenizer: &mut Tokenizer, state: FlowState) -> State
+    requires at { IsAt NeedsNothing (StateName.Flow state) (world tokenizer.old) }
+    requires tried { is_some (tried_at state) ≡ true }
+    ensures runs { result ≢ State.Error →
+        RunsHere (FlowStep (λ target other. ⟦<ResolveName as PartialEq>⟧.eq other target)) (StateName.Flow state)
+        (world tokenizer.old) result (world tokenizer.new) }
+    ensures sees { result ≢ State.Error → SeesOn result (world tokenizer.old) (world tokenizer.new) }
+{
+    match state {
+        FlowState::BeforeHeadingAtx => heading_begins(tokenizer),
+        _ => before_leaf(tokenizer, state),
+    }
+}
+
+/// Whether indented code is open.
+#[inline(always)]
+fn is_code(held: HeldLeaf) -> bool
+    ensures { result ≡ is_code held }
+{
+    matches!(held, HeldLeaf::Code)
 }
 
 /// The first state of a further line of the leaf that is asked first whether a line goes on it.
@@ -282,17 +378,28 @@ pub fn inside_start(held: HeldLeaf) -> Option<StateName>
 {
     if raw_flow::is_open(held) {
         Some(StateName::RawFlow(RawState::AtNonLazyBreak))
+    } else if is_code(held) {
+        Some(StateName::CodeIndented(CodeState::FurtherStart))
     } else {
         None
     }
 }
 
-/// Whether there is such a leaf: then no container opens in it.
+/// Whether there is such a leaf.
 #[inline(always)]
 pub fn goes_inside(leaf: HeldLeaf) -> bool
     ensures { result ≡ is_some (insider leaf) }
 {
     inside_start(leaf).is_some()
+}
+
+/// Whether no container opens in this leaf, where all containers went on.
+#[inline(always)]
+#[tactic(auto, unfolding(crate::specs::Registry::shuts_out))]
+pub fn shuts_out(leaf: HeldLeaf) -> bool
+    ensures { result ≡ shuts_out leaf }
+{
+    raw_flow::is_open(leaf)
 }
 
 /// The state of a container where it may open.
@@ -408,6 +515,7 @@ pub fn call(tokenizer: &mut Tokenizer, name: StateName) -> State
 {
     match name {
         StateName::BlockQuote(state) => block_quote::call(tokenizer, state),
+        StateName::CodeIndented(state) => code_indented::call(tokenizer, state),
         StateName::HeadingAtx(state) => heading_atx::call(tokenizer, state),
         StateName::ListItem(state) => list_item::call(tokenizer, state),
         StateName::RawFlow(state) => raw_flow::call(tokenizer, state),
@@ -456,6 +564,7 @@ pub fn stays(name: StateName) -> Option<Stay>
         TakesEach stay name (flow_transition is_name name)) }
 {
     match name {
+        StateName::CodeIndented(state) => code_indented::stays(state),
         StateName::HeadingAtx(state) => heading_atx::stays(state),
         StateName::ListItem(state) => list_item::stays(state),
         StateName::RawFlow(state) => raw_flow::stays(state),
@@ -466,10 +575,13 @@ pub fn stays(name: StateName) -> Option<Stay>
 
 /// Whether a leaf of several lines may be on, so that its lines are joined.
 #[inline(always)]
+#[tactic(auto, unfolding(crate::specs::Registry::joins_lines))]
 pub fn joins_lines(options: &ParseOptions) -> bool
     ensures { result ≡ joins_lines options.now }
 {
-    options.constructs.code_fenced || options.constructs.math_flow
+    options.constructs.code_fenced
+        || options.constructs.math_flow
+        || options.constructs.code_indented
 }
 
 /// Whether an event stays as it is where lines are joined and lists are put around items: it is of no leaf of several

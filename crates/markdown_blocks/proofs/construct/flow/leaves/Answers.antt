@@ -1,4 +1,4 @@
-use Rattle.std.proofs.Common.{◌≡◌, ◌≢◌, ◌∙◌, Bool, ap, inl, refl, subst, sym}
+use Rattle.std.proofs.Common.{◌≡◌, ◌≢◌, ◌∙◌, Bool, inl, refl, subst, sym}
 use Rattle.md_engine.specs.World.{World, looks, world}
 use Rattle.md_engine.specs.contracts.resolve.name.NamePartialEq.TheImpl as names
 use Rattle.md_engine.specs.declared.resolve.name.Name.{Name as ResolveName}
@@ -9,13 +9,10 @@ use Rattle.md_engine.specs.declared.state.State.TheVariants.{Error}
 use Rattle.md_engine.proofs.Loops.{CameHere, came-first}
 use Rattle.md_engine.proofs.StayLemmas.{within-world}
 use Rattle.md_engine.proofs.Walks.{Within}
-use Rattle.md_seam.specs.Transition.{Transition}
 use Rattle.markdown_blocks.specs.AtOnce.{begins_at}
-use Rattle.markdown_blocks.specs.Flow.{flow_own_transition, leaf_transition}
-use Rattle.markdown_blocks.specs.Registry.{front_of, trials, tried_at}
+use Rattle.markdown_blocks.specs.Registry.{front_of, trials}
 use Rattle.markdown_blocks.specs.States.{FlowStep}
-use Rattle.markdown_blocks.proofs.LinesAtOnce.{Leaves, begins-calls, ends-with, passes-leaves, runs-on}
-use Rattle.markdown_blocks.proofs.LinesAtOnce.{tried-leaf-leaves}
+use Rattle.markdown_blocks.proofs.LinesAtOnce.{passes-leaves, runs-on}
 use Rattle.markdown_blocks.proofs.construct.flow.leaves.Goals as goal
 
 -- whether a name that is registered is the one that is looked for
@@ -45,15 +42,10 @@ pub returns-in_default : goal.returns-in_default
 returns-in_default c =
     let first = n.Flow (front_of trials) in
     let w = world c.args.tokenizer.now in
-    let x : FlowState = begins_at w.current in
-    let one : x ≢ flow.BeforeContent = λ e. c.in_default.not-BeforeContent (c.begins_at.ensures ∙ e) in
-    let is : leaf_transition (tried_at c.begins_at.result) w ≡ flow_own_transition x w =
-    ap (λ (y : FlowState). leaf_transition (tried_at y) w) c.begins_at.ensures ∙ sym (begins-calls w.current w one) in
-    let all = λ (fine : c.before_leaf.result ≢ Error).
-    ends-with is_name first (n.Flow x) w w c.before_leaf.result (world c.before_leaf.new.tokenizer)
-    (comes w c.requires.current (within-world c.args.tokenizer.now))
-    (subst (λ (a : Transition). Leaves a w) (sym (begins-calls w.current w one)) (tried-leaf-leaves (tried_at x) w))
-    (c.before_leaf.ensures.to fine ∙ ap (λ (a : Transition). a.to) is)
-    (c.before_leaf.ensures.world fine ∙ ap (λ (a : Transition). a.world) is) fine c.requires.current
-    (within-world c.args.tokenizer.now) refl in
+    let state = c.begins_at.result in
+    let came = subst (λ (x : FlowState). CameHere (FlowStep is_name) first w (n.Flow x) w) (sym c.begins_at.ensures)
+    (comes w c.requires.current (within-world c.args.tokenizer.now)) in
+    let all = λ (fine : c.leaf_begins.result ≢ Error).
+    runs-on is_name first (n.Flow state) w w c.leaf_begins.result (world c.leaf_begins.new.tokenizer) came
+    (c.leaf_begins.ensures.runs fine) (c.leaf_begins.ensures.sees fine) c.requires.current (inl refl) in
     record { runs = λ fine. (all fine).0; sees = λ fine. (all fine).1 }

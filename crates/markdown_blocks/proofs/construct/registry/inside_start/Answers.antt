@@ -6,6 +6,12 @@ pub returns-then-is_open : goal.returns-then-is_open
 unfolding insider
 returns-then-is_open c = rw (sym c.is_open.ensures ∙ c.if-is_open.true) refl
 
-pub returns-else-is_open : goal.returns-else-is_open
+pub returns-then-is_code : goal.returns-then-is_code
 unfolding insider
-returns-else-is_open c = rw (sym c.is_open.ensures ∙ c.if-is_open.false) refl
+returns-then-is_code c =
+    rw (sym c.is_open.ensures ∙ c.if-is_open.false, sym c.is_code.ensures ∙ c.if-is_code.true) refl
+
+pub returns-else-is_code : goal.returns-else-is_code
+unfolding insider
+returns-else-is_code c =
+    rw (sym c.is_open.ensures ∙ c.if-is_open.false, sym c.is_code.ensures ∙ c.if-is_code.false) refl

@@ -4,7 +4,7 @@ use Rattle.markdown_blocks.proofs.construct.registry.stays.Goals as goal
 
 pub returns-in-HeadingAtx : goal.returns-in-HeadingAtx
 returns-in-HeadingAtx c =
-    rw c.in-HeadingAtx.is (IfSome_then c.stays.result c.stays.ensures (λ k h. λ is_name. h (is_name r.HeadingAtx)))
+    rw c.in-HeadingAtx.is (IfSome_then c.stays-in-HeadingAtx.result c.stays-in-HeadingAtx.ensures (λ k h. λ is_name. h (is_name r.HeadingAtx)))
 
 pub returns-in-ListItem : goal.returns-in-ListItem
 returns-in-ListItem c =
