@@ -113,6 +113,7 @@ PARTS = {
     "lists": "- one\n- two of them\n  and more\n\n  - within\n\n1. three\n2. four\n\n",
     "fences of some words": "```\nsome words\n```\n",
     "lines of an open fence": "~~~ a line of words\n",
+    "lines of indented code": "    a line of words\n",
     "code": "```rust\nlet a = 1;\n    b(a);\n```\n\n    indented\n\n",
     "HTML": '<div class="a">\n<p>some text</p>\n</div>\n\n<!-- c -->\n\n',
     "definitions": '[a label]: /destination "title"\n[b]: <c>\n\n',
@@ -147,6 +148,11 @@ def fences(count: int, first: str = "", further: str = "") -> str:
     return f"{first}```\n{further}a\n{further}```\n" * count
 
 
+def code(blank: int, behind: str, first: str = "", empty: str = "", further: str = "") -> str:
+    """A line of indented code, so many blank lines and one line more, in containers with these prefixes."""
+    return f"{first}    a\n" + f"{empty}\n" * blank + f"{further}{behind}\n"
+
+
 # Texts that grow in another way, where they are once or twice as large.
 GROWING: dict[str, Callable[[int], str]] = {
     "4,000 quotes on one line": lambda n: deep(4_000 * n, "", 0),
@@ -172,6 +178,13 @@ GROWING: dict[str, Callable[[int], str]] = {
     "100,000 fences": lambda n: fences(100_000 * n),
     "100,000 fences in a quote": lambda n: fences(100_000 * n, "> ", "> "),
     "100,000 fences in items": lambda n: fences(100_000 * n, "- ", "  "),
+    "100,000 blank lines in code": lambda n: code(100_000 * n, "    b"),
+    "100,000 blank lines in code in a quote": lambda n: code(100_000 * n, "    b", "> ", ">", "> "),
+    "100,000 blank lines in code in an item": lambda n: code(100_000 * n, "    b", "- ", "", "  "),
+    "100,000 blank lines behind code": lambda n: code(100_000 * n, "b"),
+    "100,000 blank lines behind code in a quote": lambda n: code(100_000 * n, "b", "> ", ">", "> "),
+    "100,000 blank lines behind code in an item": lambda n: code(100_000 * n, "b", "- ", "", "  "),
+    "100,000 lines of code with as many blank ones": lambda n: "    a\n\n" * 100_000 * n,
 }
 
 # What is timed: a part, and how many times it stands.

@@ -14,6 +14,9 @@ const LEAVES: [&str; 6] = ["a", ">", "#", "*", " ", "\n"];
 /// Letters that begin items, quotes and breaks, or lines.
 const ITEMS: [&str; 7] = ["a", "-", "1", ".", ">", " ", "\n"];
 
+/// Letters that indent code and items, and cut tabs, those that begin what code stands in, and lines.
+const CODE: [&str; 7] = ["a", "    ", "  ", "\t", ">", "-", "\n"];
+
 /// Letters that begin and end fences, those that begin what they stand in, and lines.
 const FENCES: [&str; 7] = ["a", "```", "~~~", ">", "-", " ", "\n"];
 
@@ -31,6 +34,7 @@ pub fn try_agree<A: Body, B: Body>(
 ) -> Result<(), CaseError> {
     try_letters::<A, B>(alloc, &LEAVES, most, report)?;
     try_letters::<A, B>(alloc, &ITEMS, most, report)?;
+    try_letters::<A, B>(alloc, &CODE, most, report)?;
     try_letters::<A, B>(alloc, &FENCES, most, report)?;
     try_letters::<A, B>(alloc, &SIZES, most, report)?;
     try_letters::<A, B>(alloc, &MATH, most, report)
