@@ -29,6 +29,7 @@ MOST: dict[str, tuple[int, int]] = {
     "fences of some words": (40, 5_492),
     "lines of an open fence": (74, 5_492),
     "lines of indented code": (81, 5_492),
+    "HTML": (22, 5_492),
     "blank lines": (582, 5_492),
     "one line of tabs": (500, 5_492),
     "one line of spaces": (2_500, 5_492),

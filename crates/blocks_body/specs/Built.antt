@@ -5,8 +5,8 @@ use Rattle.md_program.specs.Listing.{Listing}
 use Rattle.md_definition.specs.Meaning.{tree}
 use Rattle.md_definition.specs.Outline.{outline}
 
--- what is asked for, as far as it is there: block quotes, list items, indented and fenced code, math, ATX headings and
--- breaks alone
+-- what is asked for, as far as it is there: block quotes, list items, indented and fenced code, math, HTML, ATX
+-- headings and breaks alone
 abbrev pub built_from : ParseOptions → ParseOptions
 built_from options = record {
   constructs = record {
@@ -19,7 +19,7 @@ built_from options = record {
     gfm_table = false;
     heading_atx = options.constructs.heading_atx;
     heading_setext = false;
-    html_flow = false;
+    html_flow = options.constructs.html_flow;
     list_item = options.constructs.list_item;
     math_flow = options.constructs.math_flow;
     thematic_break = options.constructs.thematic_break;

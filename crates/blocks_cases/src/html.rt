@@ -490,5 +490,447 @@ CommonMark 4.6, kind 7 | commonmark | html_flow
 "<a b=\u{e9}>"
 html
   | <a b=\u{e9}>
+
+CommonMark 4.6, kind 1: whitespace in front of the `>` ends nothing | commonmark | html_flow
+"<script\na\n</sCript >\nb</script\n>\n</Script>c\nd"
+html
+  | <script
+  | a
+  | </sCript >
+  | b</script
+  | >
+  | </Script>c
+paragraph
+  | d
+
+CommonMark 4.6, kind 1: an end behind what only begins like one | commonmark | html_flow
+"<pre></</pre>\n<pre><</a</STYLE>\n<pre></prex></pre\n</>\n</script></pre>a\nb"
+html
+  | <pre></</pre>
+html
+  | <pre><</a</STYLE>
+html
+  | <pre></prex></pre
+  | </>
+  | </script></pre>a
+paragraph
+  | b
+
+CommonMark 4.6, kind 1 | commonmark | block_quote html_flow
+"> <pre>\n>\n> \ta\n> </pre>\n> b"
+quote
+  html
+    | <pre>
+    |\u{20}
+    | \ta
+    | </pre>
+  paragraph
+    | b
+
+CommonMark 4.6, kind 1: it ends with its container | commonmark | block_quote html_flow
+"> <pre>\n\na\n\n> <style>\nb"
+quote
+  html
+    | <pre>
+paragraph
+  | a
+quote
+  html
+    | <style>
+paragraph
+  | b
+
+CommonMark 4.6, kind 2 | commonmark | html_flow
+"<!---\na--\n>\n->\n--->b\nc"
+html
+  | <!---
+  | a--
+  | >
+  | ->
+  | --->b
+paragraph
+  | c
+
+CommonMark 4.6, kind 2: it ends with its container | commonmark | block_quote html_flow list_item
+"> - <!--\n>\n> -->\na"
+quote
+  list -
+    item
+      html
+        | <!--
+        |\u{20}
+  paragraph
+    | -->
+    | a
+
+CommonMark 4.6, kind 2 | commonmark | html_flow list_item
+"-\n  <!--\n\n  a\n\n\tb -->\nc"
+list -
+  item
+    html
+      | <!--
+      |\u{20}
+      | a
+      |\u{20}
+      |   b -->
+paragraph
+  | c
+
+CommonMark 2.1 and 4.6, kind 2 | commonmark | html_flow
+"<!--\ra\r\n\r-->\rb"
+html
+  | <!--
+  | a
+  |\u{20}
+  | -->
+paragraph
+  | b
+
+CommonMark 2.2 and 4.6, kind 2 | commonmark | html_flow list_item
+"- <!--\n\ta\n\t\n\t-->b\n  c"
+list -
+  item
+    html
+      | <!--
+      |   a
+      |  \u{20}
+      |   -->b
+    paragraph
+      | c
+
+CommonMark 4.6, kind 3 | commonmark | html_flow
+"<?x?>\n<??>\n<?a? >\n?\n>?>\nb"
+html
+  | <?x?>
+html
+  | <??>
+html
+  | <?a? >
+  | ?
+  | >?>
+paragraph
+  | b
+
+CommonMark 4.6, kind 3 | commonmark | html_flow list_item
+"- <?\n\n  ?>\n  a"
+list -
+  item
+    html
+      | <?
+      |\u{20}
+      | ?>
+    paragraph
+      | a
+
+CommonMark 4.6, kind 4: it ends with its container, and none opens in it | commonmark | block_quote html_flow list_item
+"- <!a\n\n  - b\n> c"
+list -
+  item
+    html
+      | <!a
+      |\u{20}
+      | - b
+quote
+  paragraph
+    | c
+
+CommonMark 4.6, kind 5 | commonmark | html_flow
+"<![CDATA[] ]> ]]\n]>\n]]]]>a\n<![CDATA\n\n<![CDATA]>\n\n<! [CDATA[\n\n<![ CDATA["
+html
+  | <![CDATA[] ]> ]]
+  | ]>
+  | ]]]]>a
+paragraph
+  | <![CDATA
+paragraph
+  | <![CDATA]>
+paragraph
+  | <! [CDATA[
+paragraph
+  | <![ CDATA[
+
+CommonMark 4.6, kind 5 | commonmark | html_flow list_item
+"1. <![CDATA[\n\n    ]]\n   >\n   ]]>\n   a"
+list .
+  item
+    html
+      | <![CDATA[
+      |\u{20}
+      |  ]]
+      | >
+      | ]]>
+    paragraph
+      | a
+
+CommonMark 4.6, kind 6 | commonmark | html_flow
+"<div/>\na\n\n<div\t/ x\n\n<div/x>\n\n<div/ >\n\n<div//>"
+html
+  | <div/>
+  | a
+html
+  | <div\t/ x
+paragraph
+  | <div/x>
+paragraph
+  | <div/ >
+paragraph
+  | <div//>
+
+CommonMark 4.6, kind 6: its closing tags may have anything behind whitespace | commonmark | html_flow
+"</div a='b\n>c\n\n</DIV/>\na"
+html
+  | </div a='b
+  | >c
+html
+  | </DIV/>
+  | a
+
+CommonMark 4.6, kind 6: an indent of three columns, and one of four | commonmark | code_indented html_flow
+"   <div>\n    a\n\n    <div>\n<b>"
+html
+  |    <div>
+  |     a
+code
+  | <div>
+html
+  | <b>
+
+CommonMark 4.6, kind 6: an indent of four columns | commonmark | block_quote code_indented
+"    <?>\n\n  \t<!a>\na\n    <hr>\n\n> b\n    <hr>"
+code
+  | <?>
+  |\u{20}
+  | <!a>
+paragraph
+  | a
+  | <hr>
+quote
+  paragraph
+    | b
+    | <hr>
+
+CommonMark 2.1 and 4.6, kinds 6 and 7 | commonmark | html_flow
+"<div\r\r<b>\r\nc\r\n \r<x a=b\r\r\n<x a='b\rc"
+html
+  | <div
+html
+  | <b>
+  | c
+paragraph
+  | <x a=b
+paragraph
+  | <x a='b
+  | c
+
+CommonMark 4.6, kind 6: a line that is blank in its container | commonmark | block_quote html_flow list_item
+"> <div>\n> \t\n> a\n\n- <div>\n\n  b"
+quote
+  html
+    | <div>
+  paragraph
+    | a
+list -
+  item
+    html
+      | <div>
+    paragraph
+      | b
+
+CommonMark 2.2 and 4.6, kind 7 | commonmark | block_quote html_flow
+">\t<b>\n>\t\ta\n> \tb"
+quote
+  html
+    |   <b>
+    |   \ta
+    | \tb
+
+CommonMark 4.6, kind 7: an indent of three columns, and one of four | commonmark | block_quote code_indented html_flow
+">    <b>\n>     c\n\n>     <d>"
+quote
+  html
+    |    <b>
+    |     c
+quote
+  code
+    | <d>
+
+CommonMark 4.6, kind 7 | commonmark | html_flow
+"<b>\n---\n# a\n- b\n> c\n    d\n<!--\n\n==="
+html
+  | <b>
+  | ---
+  | # a
+  | - b
+  | > c
+  |     d
+  | <!--
+paragraph
+  | ===
+
+CommonMark 4.6, kind 7: behind HTML that has ended | commonmark | html_flow
+"<!--a-->\n<!--b-->\n</c>\nd"
+html
+  | <!--a-->
+html
+  | <!--b-->
+html
+  | </c>
+  | d
+
+CommonMark 4.6, kind 7: against text where all containers went on | commonmark | block_quote
+"> a\n> <b>"
+quote
+  paragraph
+    | a
+    | <b>
+
+CommonMark 4.6, kind 7: in a container that opens | commonmark | block_quote html_flow list_item
+"a\n> <b>\n\n- c\n- <d>\n\n> e\n> > <f>"
+paragraph
+  | a
+quote
+  html
+    | <b>
+list -
+  item
+    paragraph
+      | c
+  item
+    html
+      | <d>
+quote
+  paragraph
+    | e
+  quote
+    html
+      | <f>
+
+CommonMark 5.1 and 4.6, own choice: on a lazy line kind 7 may begin | commonmark | block_quote html_flow
+"> > a\n> <b>\n> c\n\nd"
+quote
+  quote
+    paragraph
+      | a
+  html
+    | <b>
+    | c
+paragraph
+  | d
+
+CommonMark 5.1 and 4.6: each kind on a lazy line | commonmark | block_quote html_flow
+"> a\n<pre></pre>\n> b\n<!-->\n> c\n<?>\n> d\n<!e>\n> f\n<![CDATA[]]>\n> g\n<hr>\n\n> h\n</i>"
+quote
+  paragraph
+    | a
+html
+  | <pre></pre>
+quote
+  paragraph
+    | b
+html
+  | <!-->
+quote
+  paragraph
+    | c
+html
+  | <?>
+quote
+  paragraph
+    | d
+html
+  | <!e>
+quote
+  paragraph
+    | f
+html
+  | <![CDATA[]]>
+quote
+  paragraph
+    | g
+html
+  | <hr>
+quote
+  paragraph
+    | h
+html
+  | </i>
+
+CommonMark 4.6, kind 7: closing tags have no attributes | commonmark | nothing
+"</pre a>\n\n</x\ty='z'>\n\n</x /b>"
+paragraph
+  | </pre a>
+paragraph
+  | </x\ty='z'>
+paragraph
+  | </x /b>
+
+CommonMark 4.6, kind 7 | commonmark | html_flow
+"<x a='\">' b=\"'\" c=''>\n\n<x a='b' c>\n\n<x a = 'b'\t/>"
+html
+  | <x a='\">' b=\"'\" c=''>
+html
+  | <x a='b' c>
+html
+  | <x a = 'b'\t/>
+
+CommonMark 4.6, kind 7: a slash may be of a value | commonmark | html_flow
+"<x a=/>\n\n<x a= />\n\n<x a=b/ >\n\n<x a />"
+html
+  | <x a=/>
+html
+  | <x a= />
+html
+  | <x a=b/ >
+html
+  | <x a />
+
+CommonMark 4.6, kind 7 | commonmark | nothing
+"<x a=b'>\n\n<x a='b''c>\n\n<x 'a'>\n\n<x a='b\"c>\n\n<x a=b\n\n<x a='b'\n\n<x a="
+paragraph
+  | <x a=b'>
+paragraph
+  | <x a='b''c>
+paragraph
+  | <x 'a'>
+paragraph
+  | <x a='b\"c>
+paragraph
+  | <x a=b
+paragraph
+  | <x a='b'
+paragraph
+  | <x a=
+
+CommonMark 4.6, kind 7 | commonmark | nothing
+"<a/b>\n\n< a>\n\n<a:b>\n\n<a.b>\n\n<a_b>\n\n</ a>\n\n<-a>\n\n<a</>"
+paragraph
+  | <a/b>
+paragraph
+  | < a>
+paragraph
+  | <a:b>
+paragraph
+  | <a.b>
+paragraph
+  | <a_b>
+paragraph
+  | </ a>
+paragraph
+  | <-a>
+paragraph
+  | <a</>
+
+CommonMark 4.6, own choice: letters are those of ASCII | commonmark | nothing
+"<\u{17f}cript>\n\n<lin\u{212a}>"
+paragraph
+  | <\u{17f}cript>
+paragraph
+  | <lin\u{212a}>
+
+own choice: a byte order mark is taken off | commonmark | html_flow
+"\u{feff}<b>\na"
+html
+  | <b>
+  | a
 "##
 }

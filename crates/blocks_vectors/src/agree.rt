@@ -26,7 +26,28 @@ const SIZES: [&str; 6] = ["```", "`", "a", ">", "\t", "\n"];
 /// Letters that begin and end math, alone and in quotes.
 const MATH: [&str; 6] = ["a", "$$", "$", ">", " ", "\n"];
 
-/// Tries two bodies on all texts of at most so many letters of each alphabet, with all constructs of the first.
+/// Letters of which tags and comments are made, and lines.
+const HTML: [&str; 8] = ["<", "/", "a", "!", "-", ">", " ", "\n"];
+
+/// Begins and ends of the kinds of HTML and parts of a tag, quotes, and lines.
+const KINDS: [&str; 13] = [
+    "<pre>",
+    "</pre>",
+    "<!--",
+    "-->",
+    "<?",
+    "?>",
+    "<![CDATA[",
+    "]]>",
+    "<div",
+    "<a ",
+    "b=\"",
+    "> ",
+    "\n",
+];
+
+/// Tries two bodies on all texts of at most so many letters of each alphabet, with all constructs of the first. The texts
+/// of the last two alphabets, which have more letters, are one and two letters shorter.
 pub fn try_agree<A: Body, B: Body>(
     alloc: Global,
     most: usize,
@@ -37,7 +58,9 @@ pub fn try_agree<A: Body, B: Body>(
     try_letters::<A, B>(alloc, &CODE, most, report)?;
     try_letters::<A, B>(alloc, &FENCES, most, report)?;
     try_letters::<A, B>(alloc, &SIZES, most, report)?;
-    try_letters::<A, B>(alloc, &MATH, most, report)
+    try_letters::<A, B>(alloc, &MATH, most, report)?;
+    try_letters::<A, B>(alloc, &HTML, most.saturating_sub(1), report)?;
+    try_letters::<A, B>(alloc, &KINDS, most.saturating_sub(2), report)
 }
 
 /// Tries them on all texts of at most so many of these letters.

@@ -1,9 +1,9 @@
 -- The containers of a line by its bytes: those that go on are those that were open.
 use Rattle.md_engine.specs.declared.tokenizer.held_leaf.HeldLeaf.TheVariants as held_leaf
 use Rattle.md_engine.specs.declared.tokenizer.held_leaf.HeldLeaf.{HeldLeaf}
-use Rattle.std.proofs.Common.{◌≡◌, ◌+◌, Bool, true, false, List, [], ◌∷◌, ◌++◌, length, map, refl, ap, sym, ◌∙◌}
-use Rattle.markdown_blocks.specs.HeldLeaf.{has_lines, takes_lazy}
-use Rattle.std.proofs.Common.{append-nil}
+use Rattle.std.proofs.Common.{◌≡◌, ◌+◌, Bool, true, false, cond, ◌&&◌, List, [], ◌∷◌, ◌++◌, length, map, refl, ap, sym}
+use Rattle.markdown_blocks.specs.HeldLeaf.{has_lines, met_by, takes_lazy}
+use Rattle.std.proofs.Common.{◌∙◌, append-nil}
 use Rattle.std.specs.Prelude.{Option, Some, None}
 use Rattle.std.proofs.lemmas.List.{length-append, length-map}
 use Rattle.md_engine.specs.declared.configuration.ParseOptions.{ParseOptions}
@@ -13,7 +13,7 @@ use Rattle.md_definition.specs.State.{Container}
 use Rattle.markdown_blocks.specs.Change.{change_by, is_none, met, others_of}
 use Rattle.markdown_blocks.specs.Registry.{container_kind, shape_of}
 use Rattle.markdown_blocks.specs.Fronted.{Prefixed, contained, no_prefix, one_more, prefixes_behind, prefixes_on}
-use Rattle.markdown_blocks.specs.Rows.{RowKind, is_lazy, line_kind}
+use Rattle.markdown_blocks.specs.Rows.{RowKind, is_lazy, is_text, line_kind}
 use Rattle.markdown_blocks.proofs.ContainerNames.{continues-kind, continues-shape}
 
 -- What a container keeps while it is open: what its events tell of it, and its kind.
@@ -98,21 +98,36 @@ change-opens false went others opens = refl
 -- a line on which a container opens goes on no paragraph
 pub lazy-some : (still : HeldLeaf) (c : Container) (cs : List Container) (kind : RowKind) →
     is_lazy still (c ∷ cs) kind ≡ false
-lazy-some held_leaf.Text c cs kind = refl
-lazy-some held_leaf.None c cs kind = refl
-lazy-some held_leaf.Code c cs kind = refl
-lazy-some (held_leaf.Fence marker size indent) c cs kind = refl
+lazy-some still c cs kind = go (takes_lazy still)
+  where
+    go : (x : Bool) → (x && false && is_text kind) ≡ false
+    go true = refl
+    go false = refl
 
 -- on a line that goes on the open paragraph nothing opens
 pub lazy-opens : (still : HeldLeaf) (opens : List Container) (kind : RowKind) → is_lazy still opens kind ≡ true →
     opens ≡ []
 lazy-opens still [] kind e = refl
-lazy-opens held_leaf.Text (c ∷ cs) kind e = cc
-lazy-opens held_leaf.None (c ∷ cs) kind e = cc
-lazy-opens held_leaf.Code (c ∷ cs) kind e = cc
-lazy-opens (held_leaf.Fence marker size indent) (c ∷ cs) kind e = cc
+lazy-opens still (c ∷ cs) kind e = let some = lazy-some still c cs kind in cc
 
 -- A leaf of several lines that a line meets.
+
+-- it takes no lazy line,
+pub lines-unlazy : (still : HeldLeaf) → has_lines still ≡ true → takes_lazy still ≡ false
+lines-unlazy held_leaf.None lines = cc
+lines-unlazy held_leaf.Text lines = cc
+lines-unlazy held_leaf.LazyText lines = cc
+lines-unlazy held_leaf.Code lines = refl
+lines-unlazy (held_leaf.Fence marker size indent) lines = refl
+lines-unlazy (held_leaf.Html kind) lines = refl
+
+-- and is not met where its containers did not go on
+pub ended-lines : (still : HeldLeaf) → has_lines (met_by false still) ≡ false
+ended-lines still = go (takes_lazy still)
+  where
+    go : (x : Bool) → has_lines (cond x held_leaf.LazyText held_leaf.None) ≡ false
+    go true = refl
+    go false = refl
 
 -- no container opens on that line, and none ends in front of it
 record MeetsLines (still : HeldLeaf) (others opens : List Container) : Type 0 where
@@ -124,22 +139,14 @@ record MeetsLines (still : HeldLeaf) (others opens : List Container) : Type 0 wh
 met-lines : (still : HeldLeaf) (others opens : List Container) → has_lines (met still others opens) ≡ true →
     MeetsLines still others opens
 met-lines still others (c ∷ opens) h = cc
-met-lines held_leaf.None [] [] h = cc
-met-lines held_leaf.None (c ∷ others) [] h = cc
-met-lines held_leaf.Text others [] h = cc
-met-lines held_leaf.Code [] [] h = record { opened = refl; ended = refl; is = refl; still_lines = refl }
-met-lines held_leaf.Code (c ∷ others) [] h = cc
-met-lines (held_leaf.Fence marker size indent) [] [] h =
-    record { opened = refl; ended = refl; is = refl; still_lines = refl }
-met-lines (held_leaf.Fence marker size indent) (c ∷ others) [] h = cc
+met-lines still (c ∷ others) [] h = let none = ended-lines still in cc
+met-lines still [] [] h = record { opened = refl; ended = refl; is = refl; still_lines = lines-unlazy still h }
 
 -- where it takes no lazy line, those that did not go on end
 not-lazy : (still : HeldLeaf) (went others opens : List Container) (kind : RowKind) → takes_lazy still ≡ false →
     (change_by (is_lazy still opens kind) went others opens).closes ≡ others
-not-lazy held_leaf.Text went others opens kind h = cc
-not-lazy held_leaf.None went others opens kind h = refl
-not-lazy held_leaf.Code went others opens kind h = refl
-not-lazy (held_leaf.Fence marker size indent) went others opens kind h = refl
+not-lazy still went others opens kind h =
+    ap (λ (x : Bool). (change_by (x && is_none opens && is_text kind) went others opens).closes) h
 
 pub contained-met : (options : ParseOptions) (cs : List Container) (still : HeldLeaf) (r : Rest) →
     has_lines (contained options cs still r).on ≡ true →

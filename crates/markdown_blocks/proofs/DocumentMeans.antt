@@ -1,7 +1,6 @@
 -- Each state of the document takes one step of what the document means.
 use Rattle.std.proofs.Common.{◌≡◌, Bool, false, List, length, take, refl, sym, ap, arith}
 use Rattle.std.proofs.lemmas.List.{take_all}
-use Rattle.md_engine.specs.declared.configuration.ParseOptions.{ParseOptions}
 use Rattle.md_engine.specs.declared.event.Event.{Event}
 use Rattle.md_engine.specs.declared.state.Name.{Name as StateName}
 use Rattle.md_engine.specs.declared.state.Name.TheVariants as n
@@ -13,7 +12,7 @@ use Rattle.md_engine.specs.Meaning.{Accepts, Fails, Feed, Outcome, Refuses, Step
 use Rattle.md_engine.specs.Run.{reading}
 use Rattle.md_engine.specs.Scheme.{stands}
 use Rattle.md_engine.specs.Standing.{MeansAt, StandsOn}
-use Rattle.md_engine.specs.World.{World}
+use Rattle.md_engine.specs.World.{Setting, World}
 use Rattle.md_engine.proofs.StepOf.{Sees, begins_only, passes, sees, steps-as}
 use Rattle.md_leaves.specs.BomRule.{HasBom, bom_at}
 use Rattle.md_leaves.proofs.BomSteps.{bom_steps}
@@ -73,9 +72,9 @@ document_steps feed (n.Document state) w s at = front_steps feed state w at
 document_steps feed name w s at = absurd at
 
 -- each state of the document takes one step of what the document means
-pub document_means : (options : ParseOptions) (is_end : Bool) →
-    MeansAt DocumentStep document_table_scheme options document_behaves is_end
-document_means options is_end feed name w to new f called step =
+pub document_means : (under : Setting) (is_end : Bool) →
+    MeansAt DocumentStep document_table_scheme under document_behaves is_end
+document_means under is_end feed name w to new f called step =
     steps-as document_behaves feed (Next name) _ to (reading w) _ new step.to_is step.new_is
     (document_steps feed name (reading w) (sees feed w is_end f called.may) called.stands)
 

@@ -314,9 +314,9 @@ document-reads R bytes options end at found new small run f =
         comes_to document_behaves (text_feed x) end at) ×
         stands document_table_scheme at (plain end)
     pushed =
-        runs-mean DocumentStep document_table_scheme options document_behaves false (text_feed x)
-        (Next (s.Document document.Start)) w0 (document_means options false) document_stands
-        (text-follows x (length bytes) false small (omega arith) (λ e. cc)) refl stood end at run
+        runs-mean DocumentStep document_table_scheme document_behaves false (text_feed x)
+        (Next (s.Document document.Start)) w0 (document_means w0.setting false) document_stands
+        (text-follows x (length bytes) false small (omega arith) (λ e. cc)) stood end at run
 
     kept : at.setting ≡ x
     kept = runs-setting DocumentStep false (Next (s.Document document.Start)) w0 end at run
@@ -325,11 +325,9 @@ document-reads R bytes options end at found new small run f =
         goes document_behaves f.end (text_feed x f.at.point) (here f.at)
     flushed =
         let P : Setting → Type 0 = λ y. Follows (text_feed x) y true in
-        let Q : Setting → Type 0 = λ y. y.options ≡ options in
-        flush-means DocumentStep R document_table_scheme options document_behaves (text_feed x) end at true found new
-        (document_means options true) document_stands
-        (subst P (sym kept) (text-follows x x.limit true small (omega arith) (λ e. refl)))
-        (subst Q (sym kept) refl) pushed.1 f
+        flush-means DocumentStep R document_table_scheme document_behaves (text_feed x) end at true found new
+        (document_means at.setting true) document_stands
+        (subst P (sym kept) (text-follows x x.limit true small (omega arith) (λ e. refl))) pushed.1 f
 
     ended : record (begun bytes options) { events = mark_events bytes; point = body_point bytes } ≡ here f.at
     ended =

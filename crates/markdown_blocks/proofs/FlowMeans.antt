@@ -32,7 +32,7 @@ use Rattle.md_engine.specs.Run.{reading}
 use Rattle.md_engine.specs.Scheme.{after_all, spot, stands}
 use Rattle.md_engine.specs.Standing.{MeansAt, StandsOn}
 use Rattle.md_engine.specs.declared.tokenizer.container.name.ContainerKind.{ContainerKind}
-use Rattle.md_engine.specs.World.{Flags, World, after, closed, container_of}
+use Rattle.md_engine.specs.World.{Flags, Setting, World, after, closed, container_of, looks}
 use Rattle.md_engine.proofs.StepOf.{Sees, ahead, begins_only, changes, outermost-frames, passes, sees, steps-as}
 use Rattle.md_content.specs.ChunkRule.{chunk_at}
 use Rattle.md_content.proofs.ContentSteps.{chunk_steps}
@@ -428,13 +428,14 @@ flow_end_steps B feed w options next has s none on =
     (closed w (flags.stays w.flags) w.flags.line_end) options next w.current has none none s.next on
     (has.containers document.FlowEnd _ _ ∙ ap (λ (x : List Cell). line_ended next x (here w)) s.next)
 
-flow_has : (options : ParseOptions) (next : Rule) → HasFlow (flow_behaves_by options next) options next
-flow_has options next = record {
-  blank = record { white = white_has options next; each = λ _ _ _. refl };
+flow_has : (bytes : List ℕ) (options : ParseOptions) (next : Rule) →
+    HasFlow (flow_behaves_by bytes options next) options next
+flow_has bytes options next = record {
+  blank = record { white = white_has bytes options next; each = λ _ _ _. refl };
   chunk = record { each = λ _ _ _. refl };
-  starts = λ l. (leaf-states l).starts options next;
-  opens = λ k. (container-states k).begins_is options next;
-  goes_on = λ k. (container-states k).goes_on_is options next;
+  starts = λ l. (leaf-states l).starts bytes options next;
+  opens = λ k. (container-states k).begins_is bytes options next;
+  goes_on = λ k. (container-states k).goes_on_is bytes options next;
   containers = λ _ _ _. refl;
   leaves = λ _ _ _. refl;
 }
@@ -498,17 +499,18 @@ leaves_steps B feed next state w has s at = leaf_steps B feed next state (tried_
 
 -- each state takes one step of what it means
 each_steps : (is_name : ResolveName → ResolveName → Bool) (feed : Feed) (next : Rule) (name : StateName) (w : World) →
-    Sees feed w → stands flow_table_scheme w (Next name) →
-    GoesOn (flow_behaves_by w.setting.options next) next (feeds name w.current) →
-    Steps (flow_behaves_by w.setting.options next) feed (Next name) w (flow_transition is_name name w).to
+    Sees feed w → w.current ≡ looks w → stands flow_table_scheme w (Next name) →
+    GoesOn (flow_behaves_by w.setting.bytes w.setting.options next) next (feeds name w.current) →
+    Steps (flow_behaves_by w.setting.bytes w.setting.options next) feed (Next name) w
+    (flow_transition is_name name w).to
     (flow_transition is_name name w).world
-each_steps is_name feed next name w s at on = go name at on
+each_steps is_name feed next name w s c at on = go name at on
   where
     B : Behaviour
-    B = flow_behaves_by w.setting.options next
+    B = flow_behaves_by w.setting.bytes w.setting.options next
 
     has : HasFlow B w.setting.options next
-    has = flow_has w.setting.options next
+    has = flow_has w.setting.bytes w.setting.options next
 
     go : (name : StateName) → stands flow_table_scheme w (Next name) → GoesOn B next (feeds name w.current) →
         Steps B feed (Next name) w (flow_transition is_name name w).to (flow_transition is_name name w).world
@@ -517,23 +519,24 @@ each_steps is_name feed next name w s at on = go name at on
     go (n.Document state) at on = containers_steps B feed next state w has s at on
     go (n.Flow state) at on = leaves_steps B feed next state w has s at
     go (n.SpaceOrTab state) at on = white_steps B feed state w has.blank.white s
-    go name at on = construct-steps is_name feed next name w s at
+    go name at on = construct-steps is_name feed next name w s c at
 
 -- whatever follows behind the line, a call that takes no ending is one step of what flow means
 pub flow-steps-by : (is_name : ResolveName → ResolveName → Bool) (feed : Feed) (next : Rule) (name : StateName)
     (w : World) →
-    Sees feed w → stands flow_table_scheme w (Next name) → feeds name w.current ≡ 0 →
-    Steps (flow_behaves_by w.setting.options next) feed (Next name) w (flow_transition is_name name w).to
+    Sees feed w → w.current ≡ looks w → stands flow_table_scheme w (Next name) → feeds name w.current ≡ 0 →
+    Steps (flow_behaves_by w.setting.bytes w.setting.options next) feed (Next name) w
+    (flow_transition is_name name w).to
     (flow_transition is_name name w).world
-flow-steps-by is_name feed next name w s at none = each_steps is_name feed next name w s at (inl none)
+flow-steps-by is_name feed next name w s c at none = each_steps is_name feed next name w s c at (inl none)
 
 -- an ending is taken with no attempt around, and then the rule goes on
 pub record Takes (next : Rule) (feed : Feed) (w : World) (to : State) (new : World) : Type 0 where
   pub frames : w.frames ≡ []
   pub to_is : to ≡ Next (n.Document document.ContainerExistingBefore)
   pub still : new.frames ≡ []
-  pub goes_on : goes (flow_behaves_by w.setting.options next) (Next (n.Document document.FlowEnd)) (feed w.point)
-      (here w) ≡
+  pub goes_on : goes (flow_behaves_by w.setting.bytes w.setting.options next) (Next (n.Document document.FlowEnd))
+      (feed w.point) (here w) ≡
       next (feed new.point) (here new)
 
 pub ending-taken : (is_name : ResolveName → ResolveName → Bool) (feed : Feed) (next : Rule) (w : World) → Sees feed w →
@@ -562,13 +565,13 @@ ending-taken is_name feed next w s at is = subst P (sym (ap (flow_end_code v) is
     }
 
 -- each state of flow takes one step of what flow means: behind a line all further lines follow
-pub flow_means : (is_name : ResolveName → ResolveName → Bool) (options : ParseOptions) (is_end : Bool) →
-    MeansAt (FlowStep is_name) flow_table_scheme options (flow_behaves options) is_end
-flow_means is_name options is_end feed name w to new f called step =
-    steps-as (flow_behaves options) feed (Next name) _ to (reading w) _ new step.to_is step.new_is
-    (rw (sym called.options)
+pub flow_means : (is_name : ResolveName → ResolveName → Bool) (under : Setting) (is_end : Bool) →
+    MeansAt (FlowStep is_name) flow_table_scheme under (flow_behaves under.bytes under.options) is_end
+flow_means is_name under is_end feed name w to new f called step =
+    steps-as (flow_behaves under.bytes under.options) feed (Next name) _ to (reading w) _ new step.to_is step.new_is
+    (rw (sym called.setting)
     (each_steps is_name feed (flow_at w.setting.options) name (reading w)
-    (sees feed w is_end f called.may) called.stands (inr (flow_by_line w.setting.options))))
+    (sees feed w is_end f called.may) refl called.stands (inr (flow_by_line w.setting.options))))
 
 -- and comes to where the table stands
 pub flow_stands : (is_name : ResolveName → ResolveName → Bool) → StandsOn (FlowStep is_name) flow_table_scheme

@@ -276,9 +276,9 @@ flow-reads bytes options p end at found items lines more new small run f joining
         (Next (s.Document document.ContainerExistingBefore))
     begun = ((refl, record { ok = λ s q t is up way. tt; nok = λ s q t is up. tt }), tt)
 
-    pushed : (comes_to (flow_behaves options) (text_feed (text_setting bytes options p))
+    pushed : (comes_to (flow_behaves bytes options) (text_feed (text_setting bytes options p))
         (Next (s.Document document.ContainerExistingBefore)) (fresh bytes options p) ≡
-        comes_to (flow_behaves options) (text_feed (text_setting bytes options p)) end at) ×
+        comes_to (flow_behaves bytes options) (text_feed (text_setting bytes options p)) end at) ×
         stands flow_table_scheme at (plain end)
     pushed =
         flow_push same_name (Next (s.Document document.ContainerExistingBefore)) end (fresh bytes options p) at
@@ -292,11 +292,11 @@ flow-reads bytes options p end at found items lines more new small run f joining
     limit : at.setting.limit < 2 ^ 61
     limit = let P : Setting → Type 0 = λ y. y.limit < 2 ^ 61 in subst P (sym kept) small
 
-    means : comes_to (flow_behaves at.setting.options) (text_feed at.setting) end at ≡
+    means : comes_to (flow_behaves at.setting.bytes at.setting.options) (text_feed at.setting) end at ≡
         flow_at at.setting.options (text_cells bytes options p) (here (fresh bytes options p))
     means =
         let P : Setting →
-        Type 0 = λ y. comes_to (flow_behaves y.options) (text_feed y) end at ≡
+        Type 0 = λ y. comes_to (flow_behaves y.bytes y.options) (text_feed y) end at ≡
         flow_at y.options (text_cells bytes options p) (here (fresh bytes options p)) in
         subst P (sym kept)
         (sym pushed.0 ∙ sym (flow_by_line options (text_cells bytes options p) (here (fresh bytes options p))))
@@ -312,7 +312,7 @@ flow-reads bytes options p end at found items lines more new small run f joining
 
     -- the run of a push and a flush, which ends with the text
     ends : (e : State) → IsEnd e →
-        goes (flow_behaves at.setting.options) e (text_feed at.setting f.at.point) (here f.at) ≡
+        goes (flow_behaves at.setting.bytes at.setting.options) e (text_feed at.setting f.at.point) (here f.at) ≡
         Accepts (here f.at) [] →
         (e ≡ Ok) × (text_feed at.setting f.at.point ≡ [])
     ends Ok t e = (refl, cc)
@@ -324,10 +324,10 @@ flow-reads bytes options p end at found items lines more new small run f joining
     ran_so : FlowRan bytes options p f.end f.at
     ran_so =
         let same : flow_at at.setting.options (text_cells bytes options p) (here (fresh bytes options p)) ≡
-        goes (flow_behaves at.setting.options) f.end (text_feed at.setting f.at.point) (here f.at) =
+        goes (flow_behaves at.setting.bytes at.setting.options) f.end (text_feed at.setting f.at.point) (here f.at) =
         sym means ∙ flow_flush same_name resolved_as end at true found items limit pushed.1 f in
-        let comes : goes (flow_behaves at.setting.options) f.end (text_feed at.setting f.at.point) (here f.at) ≡
-        Accepts (here f.at) [] =
+        let comes : goes (flow_behaves at.setting.bytes at.setting.options) f.end (text_feed at.setting f.at.point)
+        (here f.at) ≡ Accepts (here f.at) [] =
         sym same
         ∙ flow_outcome same_name resolved_as end at true found items (text_cells bytes options p)
         (here (fresh bytes options p)) limit pushed.1 means f in

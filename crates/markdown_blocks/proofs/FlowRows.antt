@@ -919,10 +919,11 @@ between-asked front tail p cs still w h c column b = record {
 
 -- where no container opens, a line of text goes on the open paragraph
 lazy-none : (still : HeldLeaf) (k : RowKind) → is_lazy still [] k ≡ (takes_lazy still && is_text k)
-lazy-none held_leaf.Text k = refl
-lazy-none held_leaf.None k = refl
-lazy-none held_leaf.Code k = refl
-lazy-none (held_leaf.Fence marker size indent) k = refl
+lazy-none still k = go (takes_lazy still)
+  where
+    go : (x : Bool) → (x && true && is_text k) ≡ (x && is_text k)
+    go true = refl
+    go false = refl
 
 -- and such a line leaves a leaf that takes one
 lazy-behind : (options : ParseOptions) (on : HeldLeaf) (cells : List Cell) (p : Point) (k : RowKind) →

@@ -20,32 +20,33 @@ use Rattle.markdown_blocks.proofs.FlowMeans.{flow_means, flow_stands}
 pub flow_push : (is_name : ResolveName → ResolveName → Bool) (s s' : State) (w w' : World) (limit total : ℕ) →
     total < 2 ^ 61 → limit ≤ total → stands flow_table_scheme (reads_to w limit) (plain s) →
     Runs (FlowStep is_name) false s (reads_to w limit) s' w' →
-    (comes_to (flow_behaves w.setting.options) (text_feed (reads_to w total).setting) s w ≡
-    comes_to (flow_behaves w.setting.options) (text_feed (reads_to w total).setting) s' w') ×
+    (comes_to (flow_behaves w.setting.bytes w.setting.options) (text_feed (reads_to w total).setting) s w ≡
+    comes_to (flow_behaves w.setting.bytes w.setting.options) (text_feed (reads_to w total).setting) s' w') ×
     stands flow_table_scheme w' (plain s')
 flow_push is_name s s' w w' limit total small le at run =
-    runs-mean (FlowStep is_name) flow_table_scheme w.setting.options (flow_behaves w.setting.options) false
-    (text_feed (reads_to w total).setting) s (reads_to w limit) (flow_means is_name w.setting.options false)
+    runs-mean (FlowStep is_name) flow_table_scheme (flow_behaves w.setting.bytes w.setting.options) false
+    (text_feed (reads_to w total).setting) s (reads_to w limit) (flow_means is_name (reads_to w limit).setting false)
     (flow_stands is_name)
-    (text-follows (reads_to w total).setting limit false small le (λ e. cc)) refl at s' w' run
+    (text-follows (reads_to w total).setting limit false small le (λ e. cc)) at s' w' run
 
 -- a flush comes to where the tokenizer ends
 pub flow_flush : (is_name : ResolveName → ResolveName → Bool) (R : Resolution) (s : State) (w : World) (resolve : Bool)
     (found : Found) (new : World) →
     w.setting.limit < 2 ^ 61 → stands flow_table_scheme w (plain s) →
     (f : Flushes (FlowStep is_name) R s w resolve found new) →
-    comes_to (flow_behaves w.setting.options) (text_feed w.setting) s w ≡
-    goes (flow_behaves w.setting.options) f.end (text_feed w.setting f.at.point) (here f.at)
+    comes_to (flow_behaves w.setting.bytes w.setting.options) (text_feed w.setting) s w ≡
+    goes (flow_behaves w.setting.bytes w.setting.options) f.end (text_feed w.setting f.at.point) (here f.at)
 flow_flush is_name R s w resolve found new small at f =
-    flush-means (FlowStep is_name) R flow_table_scheme w.setting.options (flow_behaves w.setting.options)
-    (text_feed w.setting) s w resolve found new (flow_means is_name w.setting.options true) (flow_stands is_name)
-    (text-follows w.setting w.setting.limit true small (omega arith) (λ e. refl)) refl at f
+    flush-means (FlowStep is_name) R flow_table_scheme (flow_behaves w.setting.bytes w.setting.options)
+    (text_feed w.setting) s w resolve found new (flow_means is_name w.setting true) (flow_stands is_name)
+    (text-follows w.setting w.setting.limit true small (omega arith) (λ e. refl)) at f
 
 -- a tokenizer that comes to what flow means of some cells ends with all of them taken, and with its events
 pub flow_outcome : (is_name : ResolveName → ResolveName → Bool) (R : Resolution) (s : State) (w : World)
     (resolve : Bool) (found : Found) (new : World) (cells : List Cell) (h : Here) →
     w.setting.limit < 2 ^ 61 → stands flow_table_scheme w (plain s) →
-    comes_to (flow_behaves w.setting.options) (text_feed w.setting) s w ≡ flow_at w.setting.options cells h →
+    comes_to (flow_behaves w.setting.bytes w.setting.options) (text_feed w.setting) s w ≡
+    flow_at w.setting.options cells h →
     (f : Flushes (FlowStep is_name) R s w resolve found new) →
     flow_at w.setting.options cells h ≡ Accepts (here f.at) []
 flow_outcome is_name R s w resolve found new cells h small at is f =
@@ -59,7 +60,7 @@ flow_outcome is_name R s w resolve found new cells h small at is f =
 
     go : (e : State) → IsEnd e →
         flow_at w.setting.options cells h ≡
-        goes (flow_behaves w.setting.options) e (text_feed w.setting f.at.point) (here f.at) →
+        goes (flow_behaves w.setting.bytes w.setting.options) e (text_feed w.setting f.at.point) (here f.at) →
         flow_at w.setting.options cells h ≡ Accepts (here f.at) []
     go Ok t k = k ∙ ap (Accepts (here f.at)) (subst P k ends)
     go Nok t k = absurd (subst P k ends)

@@ -125,6 +125,8 @@ pub mod Fence
 pub mod FenceFurther
 pub mod FenceSpan
 pub mod CodeIndented
+pub mod HtmlFlow
+pub mod HtmlSpan
 pub mod HeadingAtx
 pub mod ThematicBreak
 pub mod Registry

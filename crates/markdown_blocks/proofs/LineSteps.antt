@@ -4,9 +4,10 @@ use Rattle.md_engine.specs.declared.tokenizer.held_leaf.HeldLeaf.TheVariants as 
 use Rattle.md_engine.specs.declared.tokenizer.held_leaf.HeldLeaf.{HeldLeaf}
 use Rattle.std.proofs.Common.{◌≡◌, ℕ, zero, suc, ◌≤◌, Bool, true, false, cond, ◌&&◌, ◌||◌, List, [], ◌∷◌, ◌++◌}
 use Rattle.std.proofs.Common.{length, refl, ap, ap₂, sym, ◌∙◌, arith}
-use Rattle.std.specs.Prelude.{Option, Some, None, not}
+use Rattle.std.specs.Prelude.{Option, Some, None}
 use Rattle.std.specs.Option.{is_some}
 use Rattle.md_engine.specs.declared.configuration.ParseOptions.{ParseOptions}
+use Rattle.md_containers.specs.Interrupts.{is_interrupted}
 use Rattle.md_definition.specs.Containers.{Taken, continues, opens}
 use Rattle.md_definition.specs.Leaves.{Came, LazyText, NoText, Opened, Text, goes_on, starts, with_line}
 use Rattle.md_definition.specs.Rest.{Rest, is_blank}
@@ -30,11 +31,11 @@ use Rattle.markdown_blocks.specs.Rows.{kind_of, line_kind}
 use Rattle.markdown_blocks.specs.HeldLeaf.{IsBuiltLeaf, kind_of_leaf, met_by}
 use Rattle.markdown_blocks.specs.Stands.{IsPlain, containers_of, still_of}
 use Rattle.markdown_blocks.specs.Leaf.Paragraph.{held_of}
-use Rattle.markdown_blocks.proofs.ContainedLemmas.{change-opens, lazy-some}
+use Rattle.markdown_blocks.proofs.ContainedLemmas.{change-opens, ended-lines, lazy-some, lines-unlazy}
 use Rattle.markdown_blocks.proofs.KindLemmas.{kind-plain, kind-starts}
 use Rattle.markdown_blocks.proofs.OpenSpan.{AllBegin, OpenSpan}
-use Rattle.markdown_blocks.proofs.Registry.{came_of, insider-none, insider-text, laws, leaf_at, open-span, text-laws}
-use Rattle.markdown_blocks.proofs.Registry.{shuts_out-none, shuts_out-text, text-starts, trials-begin}
+use Rattle.markdown_blocks.proofs.Registry.{IsAgainst, came_of, insider-none, laws, leaf_at, open-span, text-laws}
+use Rattle.markdown_blocks.proofs.Registry.{shuts_out-none, text-starts, trials-begin}
 use Rattle.markdown_blocks.proofs.RegistryFound.{starts-found, table-off, underline-off}
 
 -- Leaves of several lines.
@@ -53,33 +54,22 @@ none-further options on r none = go (line_kind options on r) refl
     go (LeafRow l) e = not l ((leaf l).further on) refl (kind-starts options on r l e)
     go TextRow e = refl
 
--- one takes no lazy line,
-lines-unlazy : (still : HeldLeaf) → has_lines still ≡ true → takes_lazy still ≡ false
-lines-unlazy held_leaf.None lines = cc
-lines-unlazy held_leaf.Text lines = cc
-lines-unlazy held_leaf.Code lines = refl
-lines-unlazy (held_leaf.Fence marker size indent) lines = refl
-
--- so no line goes on it lazily, and it is not met where its containers did not go on
+-- no line goes on one lazily, and it is not met where its containers did not go on
 lazy-none : (still : HeldLeaf) (opens : List Container) (kind : RowKind) → takes_lazy still ≡ false →
     is_lazy still opens kind ≡ false
 lazy-none still opens kind unlazy = ap (λ (x : Bool). x && is_none opens && is_text kind) unlazy
 
 met-none : (still : HeldLeaf) → takes_lazy still ≡ false → met_by false still ≡ held_leaf.None
-met-none still unlazy = ap (λ (x : Bool). cond (x || false) still held_leaf.None) unlazy
+met-none still unlazy = ap (λ (x : Bool). cond x held_leaf.LazyText held_leaf.None) unlazy
 
-ended-lines : (still : HeldLeaf) → has_lines (met_by false still) ≡ false
-ended-lines held_leaf.None = refl
-ended-lines held_leaf.Text = refl
-ended-lines held_leaf.Code = refl
-ended-lines (held_leaf.Fence marker size indent) = refl
-
-met-all : (still : HeldLeaf) → met_by true still ≡ still
-met-all still = go (takes_lazy still)
-  where
-    go : (x : Bool) → cond (x || true) still held_leaf.None ≡ still
-    go true = refl
-    go false = refl
+-- a line that meets one, or no leaf, stands against no text
+context-none : (on : HeldLeaf) → takes_lazy on ≡ false → IsAgainst NoText on
+context-none held_leaf.None unlazy = refl
+context-none held_leaf.Text unlazy = cc
+context-none held_leaf.LazyText unlazy = cc
+context-none held_leaf.Code unlazy = refl
+context-none (held_leaf.Fence marker size indent) unlazy = refl
+context-none (held_leaf.Html kind) unlazy = refl
 
 -- by the line definition one goes on or ends, and takes no lazy line
 span-line : (options : ParseOptions) (s : Spot) (r : Rest) (open_leaf : Leaf) →
@@ -98,8 +88,9 @@ span-lazy options r _ e = refl
 built-concrete : (open_leaf : Leaf) → IsBuiltLeaf open_leaf →
     is_concrete open_leaf ≡ shuts_out (kind_of_leaf open_leaf)
 built-concrete open_leaf plain =
-    text-laws.cases (λ (l : Leaf). is_concrete l ≡ shuts_out (kind_of_leaf l)) (sym shuts_out-none)
-    (λ k ks. sym shuts_out-text) (λ l is. (open-span l is).concrete) open_leaf plain
+    text-laws.cases (λ (l : Leaf). is_concrete l ≡ shuts_out (kind_of_leaf l))
+    (sym (shuts_out-none held_leaf.None refl))
+    (λ k ks. sym (shuts_out-none held_leaf.Text refl)) (λ l is. (open-span l is).concrete) open_leaf plain
 
 -- the first of them interrupts what is open if that is text
 text-interrupted : (open_leaf : Leaf) → is_open_text open_leaf ≡ interrupts (kind_of_leaf open_leaf) []
@@ -159,13 +150,14 @@ fresh-plain options on bs r unlazy built =
         spot_by options bs [] r (cond x BlankRow (kind_of (leaf_at options on r)))
     go true e = refl
     go false e =
-        ap (fresh_by bs r) (starts-found options on NoText r (sym (ap not unlazy)) e built) ∙ by (leaf_at options on r)
+        ap (fresh_by bs r) (starts-found options on NoText r (context-none on unlazy) e built)
+        ∙ by (leaf_at options on r)
 
 pub fresh-found : (options : ParseOptions) (bs : Blocks) (r : Rest) → IsBuilt options →
     fresh_line options bs r ≡ spot_by options bs [] r (line_kind options held_leaf.None r)
 fresh-found options bs r built =
     fresh-plain options held_leaf.None bs r refl built
-    ∙ ap (spot_by options bs [] r) (sym (kind-plain options held_leaf.None r insider-none))
+    ∙ ap (spot_by options bs [] r) (sym (kind-plain options held_leaf.None r (insider-none held_leaf.None refl)))
 
 -- a line where text is open
 text-found : (options : ParseOptions) (bs : Blocks) (lines : List Kept) (k : Kept) (r : Rest) → IsBuilt options →
@@ -174,7 +166,8 @@ unfolding text_line
 text-found options bs lines k r built =
     rw (underline-off options r built, text-laws.shut options bs (k ∷ lines) built.definition)
     (go (is_blank r.bytes) refl
-    ∙ ap (spot_by options bs (k ∷ lines) r) (sym (kind-plain options held_leaf.Text r insider-text)))
+    ∙ ap (spot_by options bs (k ∷ lines) r)
+    (sym (kind-plain options held_leaf.Text r (insider-none held_leaf.Text refl))))
   where
     by : (o : Option LeafName) →
         text_by options bs (k ∷ lines) r (came_of options r o) ≡ spot_by options bs (k ∷ lines) r (kind_of o)
@@ -397,20 +390,12 @@ span-stepped options bs r built open_leaf is =
     ∙ ap (λ (o : Option Came). At (on_or_fresh options s r o)) (is.goes options r)
     ∙ go ((leaf is.name).starts options still r)
     ∙ ap by (sym (asked-kind options still r is.name is.asked))
-    ∙ ap onto (sym (met-all still))
   where
     s : Spot
     s = record { here = bs; leaf = open_leaf }
 
     still : HeldLeaf
     still = kind_of_leaf open_leaf
-
-    onto : HeldLeaf → Path
-    onto on =
-        cond (is_lazy still [] (line_kind options on r)) (longer (At s) (kept r ∷ []))
-        (cond (is_further (line_kind options on r) on)
-        (At (came bs (come_by options open_leaf r (line_kind options on r))))
-        (At (spot_by options (shut options s) [] r (line_kind options on r))))
 
     further : RowKind → Path
     further kind = At (came bs (come_by options open_leaf r kind))
@@ -545,19 +530,20 @@ lazy-stepped options before c p r built leaf e plain =
     kind_by on x = cond x BlankRow (kind_of (leaf_at options on r))
 
     plain_line : At (fresh_line options bs r) ≡ other (kind_by held_leaf.None (is_blank r.bytes))
-    plain_line = fresh ∙ ap other (kind-plain options held_leaf.None r insider-none)
+    plain_line = fresh ∙ ap other (kind-plain options held_leaf.None r (insider-none held_leaf.None refl))
 
     text : (k : Kept) (ks : List Kept) → By (text_leaf.held (k ∷ ks))
     text k ks e =
         go (is_blank r.bytes) refl
-        ∙ ap (longer_by held_leaf.Text) (sym (kind-plain options held_leaf.Text r insider-text))
+        ∙ ap (longer_by held_leaf.Text)
+        (sym (kind-plain options held_leaf.LazyText r (insider-none held_leaf.LazyText refl)))
       where
         to : Bool → Option Came → Path
         to x o =
             lazy_by options before c p r
             (cond (x || is_some o) None (Some (text_leaf.held (k ∷ ks ++ kept r ∷ []))))
 
-        by : is_blank r.bytes ≡ false → (o : Option LeafName) → leaf_at options held_leaf.Text r ≡ o →
+        by : is_blank r.bytes ≡ false → (o : Option LeafName) → leaf_at options held_leaf.LazyText r ≡ o →
             to false (came_of options r o) ≡ longer_by held_leaf.Text (kind_of o)
         by dark (Some l) found =
             plain_line ∙ ap (λ (x : Bool). other (kind_by held_leaf.None x)) dark
@@ -569,17 +555,17 @@ lazy-stepped options before c p r built leaf e plain =
 
         go : (x : Bool) → is_blank r.bytes ≡ x →
             to (is_blank r.bytes) (starts options LazyText r) ≡
-            longer_by held_leaf.Text (kind_by held_leaf.Text (is_blank r.bytes))
+            longer_by held_leaf.Text (kind_by held_leaf.LazyText (is_blank r.bytes))
         go true b =
             ap (λ (x : Bool). to x (starts options LazyText r)) b
             ∙ plain_line
             ∙ ap (λ (x : Bool). other (kind_by held_leaf.None x)) b
-            ∙ sym (ap (λ (x : Bool). longer_by held_leaf.Text (kind_by held_leaf.Text x)) b)
+            ∙ sym (ap (λ (x : Bool). longer_by held_leaf.Text (kind_by held_leaf.LazyText x)) b)
         go false b =
             ap (λ (x : Bool). to x (starts options LazyText r)) b
-            ∙ ap (to false) (starts-found options held_leaf.Text LazyText r refl b built)
-            ∙ by b (leaf_at options held_leaf.Text r) refl
-            ∙ sym (ap (λ (x : Bool). longer_by held_leaf.Text (kind_by held_leaf.Text x)) b)
+            ∙ ap (to false) (starts-found options held_leaf.LazyText LazyText r refl b built)
+            ∙ by b (leaf_at options held_leaf.LazyText r) refl
+            ∙ sym (ap (λ (x : Bool). longer_by held_leaf.Text (kind_by held_leaf.LazyText x)) b)
 
     span : (l : Leaf) → OpenSpan l → By l
     span l is e =
@@ -604,7 +590,7 @@ step-stopped options before c p r built plain =
     go (opens options false r)
     ∙ ap (stepped options (Within before c p) [])
     (sym (new-found options false (length r.bytes) r (omega arith))
-    ∙ ap (λ (x : Bool). all_new options x r) (never (still_of p))
+    ∙ ap (λ (x : Bool). all_new options x r) (never (is_interrupted (still_of p)))
     ∙ sym (new-others options (still_of p) c (containers_of p) (no_prefix r)))
   where
     on : HeldLeaf
@@ -613,11 +599,9 @@ step-stopped options before c p r built plain =
     kind : RowKind
     kind = line_kind options on r
 
-    never : (x : HeldLeaf) → false ≡ interrupts x (c ∷ containers_of p)
-    never held_leaf.Text = refl
-    never held_leaf.None = refl
-    never held_leaf.Code = refl
-    never (held_leaf.Fence marker size indent) = refl
+    never : (x : Bool) → false ≡ (x && false)
+    never true = refl
+    never false = refl
 
     go : (o : Option Taken) →
         stopped_by options before c p r o ≡ stepped options (Within before c p) [] (found_by options r o)

@@ -260,57 +260,61 @@ none-or-ending (s.Document document.FlowEnd) (Some b) = go (nat_eq b 10) refl
     go false e = inl refl
 none-or-ending name o = inl refl
 
+-- what is left of one line at each state
+abbrev line_behaves : Setting → Behaviour
+line_behaves x = flow_behaves_by x.bytes x.options line_stop
+
 -- So many of all lines were fed; the tokenizer comes to what is left of the line that it reads.
-record Within (options : ParseOptions) (feed : Feed) (from : Point) (all : List Row) (n : ℕ) (t : State)
+record Within (under : Setting) (feed : Feed) (from : Point) (all : List Row) (n : ℕ) (t : State)
     (v : World) : Type 0 where
   at : stands flow_table_scheme v (plain t)
   left : List Cell
   begin : Here
-  line : LineAt options from all n left begin
-  comes : comes_to (flow_behaves_by options line_stop) feed t v ≡ line_then options line_stop left begin
+  line : LineAt under.options from all n left begin
+  comes : comes_to (line_behaves under) feed t v ≡ line_then under.options line_stop left begin
 
 -- a line was fed: no attempt is around, and the next begins
-record Behind (options : ParseOptions) (feed : Feed) (from : Point) (all : List Row) (n : ℕ) (t : State)
+record Behind (under : Setting) (feed : Feed) (from : Point) (all : List Row) (n : ℕ) (t : State)
     (v : World) : Type 0 where
   to : t ≡ Next (s.Document document.ContainerExistingBefore)
   frames : v.frames ≡ []
-  line : LineAt options from all n (feed v.point) (here v)
+  line : LineAt under.options from all n (feed v.point) (here v)
 
 -- an attempt is left
-within-leaves : (options : ParseOptions) (feed : Feed) (from : Point) (all : List Row) (n : ℕ) (t : State) (v : World)
+within-leaves : (under : Setting) (feed : Feed) (from : Point) (all : List Row) (n : ℕ) (t : State) (v : World)
     (t' : State) (v' : World) →
-    Within options feed from all n t v → Leaves t v t' v' → Within options feed from all n t' v'
-within-leaves options feed from all n t v t' v' w l = record {
+    Within under feed from all n t v → Leaves t v t' v' → Within under feed from all n t' v'
+within-leaves under feed from all n t v t' v' w l = record {
   at = leaves_stands flow_table_scheme v v' t t' l w.at;
   left = w.left;
   begin = w.begin;
   line = w.line;
-  comes = sym (leaves-keep (flow_behaves_by options line_stop) feed t t' v v' l) ∙ w.comes;
+  comes = sym (leaves-keep (line_behaves under) feed t t' v v' l) ∙ w.comes;
 }
 
 -- where a state is called
-comes-called : (options : ParseOptions) (feed : Feed) (from : Point) (all : List Row) (n : ℕ) (t : State) (v : World)
+comes-called : (under : Setting) (feed : Feed) (from : Point) (all : List Row) (n : ℕ) (t : State) (v : World)
     (name : StateName) →
-    plain t ≡ Next name → (w : Within options feed from all n t v) →
-    comes_to (flow_behaves_by options line_stop) feed (Next name) v ≡ line_then options line_stop w.left w.begin
-comes-called options feed from all n t v name names w =
-    let B = flow_behaves_by options line_stop in
+    plain t ≡ Next name → (w : Within under feed from all n t v) →
+    comes_to (line_behaves under) feed (Next name) v ≡ line_then under.options line_stop w.left w.begin
+comes-called under feed from all n t v name names w =
+    let B = line_behaves under in
     ap (λ (x : State). comes_to B feed x v) (sym names) ∙ plain-same B feed v t ∙ w.comes
 
 -- a call that feeds no line
-within-calls : (is_name : ResolveName → ResolveName → Bool) (options : ParseOptions) (feed : Feed) (from : Point)
+within-calls : (is_name : ResolveName → ResolveName → Bool) (under : Setting) (feed : Feed) (from : Point)
     (all : List Row) (n : ℕ) (t : State) (v : World) (t' : State) (v' : World) →
-    Follows feed v.setting true → v.setting.options ≡ options → Within options feed from all n t v →
-    (c : Calls (FlowStep is_name) true t v t' v') → feeds c.name (looks v) ≡ 0 → Within options feed from all n t' v'
-within-calls is_name options feed from all n t v t' v' f o w c none = record {
+    Follows feed v.setting true → v.setting ≡ under → Within under feed from all n t v →
+    (c : Calls (FlowStep is_name) true t v t' v') → feeds c.name (looks v) ≡ 0 → Within under feed from all n t' v'
+within-calls is_name under feed from all n t v t' v' f o w c none = record {
   at = flow_stands is_name c.name v t' v' stood c.step;
   left = w.left;
   begin = w.begin;
   line = w.line;
   comes =
       sym
-      (steps-keep (flow_behaves_by options line_stop) feed (Next c.name) t' (reading v) v' c.within (subst P o steps))
-      ∙ comes-called options feed from all n t v c.name c.names w;
+      (steps-keep (line_behaves under) feed (Next c.name) t' (reading v) v' c.within (subst P o steps))
+      ∙ comes-called under feed from all n t v c.name c.names w;
 }
   where
     Q : State → Type 0
@@ -319,27 +323,27 @@ within-calls is_name options feed from all n t v t' v' f o w c none = record {
     stood : stands flow_table_scheme v (Next c.name)
     stood = subst Q c.names w.at
 
-    P : ParseOptions → Type 0
-    P x = Steps (flow_behaves_by x line_stop) feed (Next c.name) (reading v) t' v'
+    P : Setting → Type 0
+    P x = Steps (line_behaves x) feed (Next c.name) (reading v) t' v'
 
-    steps : Steps (flow_behaves_by v.setting.options line_stop) feed (Next c.name) (reading v) t' v'
+    steps : Steps (line_behaves v.setting) feed (Next c.name) (reading v) t' v'
     steps =
-        steps-as (flow_behaves_by v.setting.options line_stop) feed (Next c.name)
+        steps-as (line_behaves v.setting) feed (Next c.name)
         (flow_transition is_name c.name (reading v)).to t' (reading v)
         (flow_transition is_name c.name (reading v)).world v' c.step.to_is c.step.new_is
-        (flow-steps-by is_name feed line_stop c.name (reading v) (sees feed v true f c.may) stood none)
+        (flow-steps-by is_name feed line_stop c.name (reading v) (sees feed v true f c.may) refl stood none)
 
 -- the call that takes an ending
-behind-calls : (is_name : ResolveName → ResolveName → Bool) (options : ParseOptions) (feed : Feed) (from : Point)
+behind-calls : (is_name : ResolveName → ResolveName → Bool) (under : Setting) (feed : Feed) (from : Point)
     (all : List Row) (n : ℕ) (t : State) (v : World) (t' : State) (v' : World) →
-    Follows feed v.setting true → v.setting.options ≡ options → Within options feed from all n t v →
+    Follows feed v.setting true → v.setting ≡ under → Within under feed from all n t v →
     Calls (FlowStep is_name) true t v t' v' → plain t ≡ Next (s.Document document.FlowEnd) →
     FlowStep is_name (s.Document document.FlowEnd) (reading v) t' v' → looks v ≡ Some 10 →
-    Behind options feed from all (suc n) t' v'
-behind-calls is_name options feed from all n t v t' v' f o w c names step ten = record {
+    Behind under feed from all (suc n) t' v'
+behind-calls is_name under feed from all n t v t' v' f o w c names step ten = record {
   to = step.to_is ∙ taken.to_is;
   frames = ap (λ (x : World). x.frames) step.new_is ∙ taken.still;
-  line = line-next options from all n w.left w.begin w.line (feed v'.point) (here v') ended;
+  line = line-next under.options from all n w.left w.begin w.line (feed v'.point) (here v') ended;
 }
   where
     Q : State → Type 0
@@ -349,56 +353,56 @@ behind-calls is_name options feed from all n t v t' v' f o w c names step ten = 
         (flow_transition is_name (s.Document document.FlowEnd) (reading v)).world
     taken = ending-taken is_name feed line_stop (reading v) (sees feed v true f c.may) (subst Q names w.at) ten
 
-    ended : line_then options line_stop w.left w.begin ≡ line_stop (feed v'.point) (here v')
+    ended : line_then under.options line_stop w.left w.begin ≡ line_stop (feed v'.point) (here v')
     ended =
-        sym (comes-called options feed from all n t v (s.Document document.FlowEnd) names w)
+        sym (comes-called under feed from all n t v (s.Document document.FlowEnd) names w)
         ∙ ap
         (λ (fs : List Frame).
-        resume_all (flow_behaves_by options line_stop) feed v.events fs
-        (goes (flow_behaves_by options line_stop) (Next (s.Document document.FlowEnd)) (feed v.point) (here v)))
+        resume_all (line_behaves under) feed v.events fs
+        (goes (line_behaves under) (Next (s.Document document.FlowEnd)) (feed v.point) (here v)))
         taken.frames
         ∙ ap
-        (λ (x : ParseOptions).
-        goes (flow_behaves_by x line_stop) (Next (s.Document document.FlowEnd)) (feed v.point) (here v))
+        (λ (x : Setting).
+        goes (line_behaves x) (Next (s.Document document.FlowEnd)) (feed v.point) (here v))
         (sym o)
         ∙ taken.goes_on
         ∙ ap (λ (x : World). line_stop (feed x.point) (here x)) (sym step.new_is)
 
 -- by the state that is called
-behind-feed : (is_name : ResolveName → ResolveName → Bool) (options : ParseOptions) (feed : Feed) (from : Point)
+behind-feed : (is_name : ResolveName → ResolveName → Bool) (under : Setting) (feed : Feed) (from : Point)
     (all : List Row) (n : ℕ) (t : State) (v : World) (t' : State) (v' : World) →
-    Follows feed v.setting true → v.setting.options ≡ options → Within options feed from all n t v →
+    Follows feed v.setting true → v.setting ≡ under → Within under feed from all n t v →
     (c : Calls (FlowStep is_name) true t v t' v') → c.name ≡ s.Document document.FlowEnd → looks v ≡ Some 10 →
-    Behind options feed from all (suc n) t' v'
-behind-feed is_name options feed from all n t v t' v' f o w c e ten =
+    Behind under feed from all (suc n) t' v'
+behind-feed is_name under feed from all n t v t' v' f o w c e ten =
     let P : StateName → Type 0 = λ x. FlowStep is_name x (reading v) t' v' in
-    behind-calls is_name options feed from all n t v t' v' f o w c (c.names ∙ ap (λ (x : StateName). Next x) e)
+    behind-calls is_name under feed from all n t v t' v' f o w c (c.names ∙ ap (λ (x : StateName). Next x) e)
     (subst P e c.step) ten
 
 -- there the tokenizer reads the next line
-behind-within : (options : ParseOptions) (feed : Feed) (from : Point) (all : List Row) (n : ℕ) (t : State) (v : World) →
-    stands flow_table_scheme v (plain t) → Behind options feed from all n t v → Within options feed from all n t v
-behind-within options feed from all n t v at b = record {
+behind-within : (under : Setting) (feed : Feed) (from : Point) (all : List Row) (n : ℕ) (t : State) (v : World) →
+    stands flow_table_scheme v (plain t) → Behind under feed from all n t v → Within under feed from all n t v
+behind-within under feed from all n t v at b = record {
   at = at;
   left = feed v.point;
   begin = here v;
   line = b.line;
-  comes = ap (λ (x : State). comes_to (flow_behaves_by options line_stop) feed x v) b.to
+  comes = ap (λ (x : State). comes_to (line_behaves under) feed x v) b.to
       ∙ ap
       (λ (fs : List Frame).
-      resume_all (flow_behaves_by options line_stop) feed v.events fs
-      (line_then options line_stop (feed v.point) (here v))) b.frames;
+      resume_all (line_behaves under) feed v.events fs
+      (line_then under.options line_stop (feed v.point) (here v))) b.frames;
 }
 
 -- so any call leads on
-within-next : (is_name : ResolveName → ResolveName → Bool) (options : ParseOptions) (feed : Feed) (from : Point)
+within-next : (is_name : ResolveName → ResolveName → Bool) (under : Setting) (feed : Feed) (from : Point)
     (all : List Row) (n : ℕ) (t : State) (v : World) (t' : State) (v' : World) →
-    Follows feed v.setting true → v.setting.options ≡ options → Within options feed from all n t v →
-    (c : Calls (FlowStep is_name) true t v t' v') → Within options feed from all (feeds c.name (looks v) + n) t' v'
-within-next is_name options feed from all n t v t' v' f o w c = go (none-or-ending c.name (looks v))
+    Follows feed v.setting true → v.setting ≡ under → Within under feed from all n t v →
+    (c : Calls (FlowStep is_name) true t v t' v') → Within under feed from all (feeds c.name (looks v) + n) t' v'
+within-next is_name under feed from all n t v t' v' f o w c = go (none-or-ending c.name (looks v))
   where
     P : ℕ → Type 0
-    P k = Within options feed from all k t' v'
+    P k = Within under feed from all k t' v'
 
     Q : State → Type 0
     Q x = stands flow_table_scheme v x
@@ -407,34 +411,34 @@ within-next is_name options feed from all n t v t' v' f o w c = go (none-or-endi
     at = flow_stands is_name c.name v t' v' (subst Q c.names w.at) c.step
 
     go : (feeds c.name (looks v) ≡ 0) ⊎ ((c.name ≡ s.Document document.FlowEnd) × (looks v ≡ Some 10)) →
-        Within options feed from all (feeds c.name (looks v) + n) t' v'
+        Within under feed from all (feeds c.name (looks v) + n) t' v'
     go (inl none) =
         let same : n ≡ feeds c.name (looks v) + n = omega (arith, none) in
-        subst P same (within-calls is_name options feed from all n t v t' v' f o w c none)
+        subst P same (within-calls is_name under feed from all n t v t' v' f o w c none)
     go (inr one) =
         let lines : feeds c.name (looks v) ≡ 1 = ap (λ (x : StateName). feeds x (looks v)) one.0
         ∙ ap (λ (x : Option ℕ). feeds (s.Document document.FlowEnd) x) one.1 in
         let same : suc n ≡ feeds c.name (looks v) + n = omega (arith, lines) in
         subst P same
-        (behind-within options feed from all (suc n) t' v' at
-        (behind-feed is_name options feed from all n t v t' v' f o w c one.0 one.1))
+        (behind-within under feed from all (suc n) t' v' at
+        (behind-feed is_name under feed from all n t v t' v' f o w c one.0 one.1))
 
 -- and all of a run does
-within-run : (is_name : ResolveName → ResolveName → Bool) (options : ParseOptions) (feed : Feed) (from : Point)
+within-run : (is_name : ResolveName → ResolveName → Bool) (under : Setting) (feed : Feed) (from : Point)
     (all : List Row) (begin : State) (w : World) →
-    Follows feed w.setting true → w.setting.options ≡ options → Within options feed from all 0 begin w →
+    Follows feed w.setting true → w.setting ≡ under → Within under feed from all 0 begin w →
     (t : State) (v : World) (run : Runs (FlowStep is_name) true begin w t v) →
-    Within options feed from all (fed (FlowStep is_name) true begin w t v run) t v
-within-run is_name options feed from all begin w f o begun t v Stays = begun
-within-run is_name options feed from all begin w f o begun to new (ThenLeaves t v t' v' run l) =
-    within-leaves options feed from all (fed (FlowStep is_name) true begin w t v run) t v t' v'
-    (within-run is_name options feed from all begin w f o begun t v run) l
-within-run is_name options feed from all begin w f o begun to new (ThenCalls t v t' v' run c) =
+    Within under feed from all (fed (FlowStep is_name) true begin w t v run) t v
+within-run is_name under feed from all begin w f o begun t v Stays = begun
+within-run is_name under feed from all begin w f o begun to new (ThenLeaves t v t' v' run l) =
+    within-leaves under feed from all (fed (FlowStep is_name) true begin w t v run) t v t' v'
+    (within-run is_name under feed from all begin w f o begun t v run) l
+within-run is_name under feed from all begin w f o begun to new (ThenCalls t v t' v' run c) =
     let P : Setting → Type 0 = λ x. Follows feed x true in
     let kept : v.setting ≡ w.setting = runs-setting (FlowStep is_name) true begin w t v run in
-    within-next is_name options feed from all (fed (FlowStep is_name) true begin w t v run) t v t' v'
-    (subst P (sym kept) f) (ap (λ (x : Setting). x.options) kept ∙ o)
-    (within-run is_name options feed from all begin w f o begun t v run) c
+    within-next is_name under feed from all (fed (FlowStep is_name) true begin w t v run) t v t' v'
+    (subst P (sym kept) f) (kept ∙ o)
+    (within-run is_name under feed from all begin w f o begun t v run) c
 
 -- A text.
 
@@ -470,16 +474,16 @@ text-follows_it bytes options p small =
 text-within : (is_name : ResolveName → ResolveName → Bool) (bytes : List ℕ) (options : ParseOptions) (p : Point) →
     length bytes < 2 ^ 61 →
     (t : State) (v : World) (run : Runs (FlowStep is_name) true line_begins (flow_begins bytes options p) t v) →
-    Within options (feed_of bytes options p) p (text_rows options bytes p)
+    Within (text_setting bytes options p) (feed_of bytes options p) p (text_rows options bytes p)
     (fed (FlowStep is_name) true line_begins (flow_begins bytes options p) t v run) t v
 text-within is_name bytes options p small t v run =
-    within-run is_name options (feed_of bytes options p) p (text_rows options bytes p) line_begins
-    (flow_begins bytes options p) (text-follows_it bytes options p small) refl begun t v run
+    within-run is_name (text_setting bytes options p) (feed_of bytes options p) p (text_rows options bytes p)
+    line_begins (flow_begins bytes options p) (text-follows_it bytes options p small) refl begun t v run
   where
     closed : (held_at options [] held_leaf.None (text_cells bytes options p) p).change.closes ≡ []
     closed = no-closes options (text_cells bytes options p) p
 
-    begun : Within options (feed_of bytes options p) p (text_rows options bytes p) 0 line_begins
+    begun : Within (text_setting bytes options p) (feed_of bytes options p) p (text_rows options bytes p) 0 line_begins
         (flow_begins bytes options p)
     begun = record {
       at = ((refl, record { ok = λ s q t is up way. tt; nok = λ s q t is up. tt }), tt);
@@ -535,11 +539,12 @@ line-fed is_name bytes options p small t v t' v' run c one = record {
     ending : (c.name ≡ s.Document document.FlowEnd) × (looks v ≡ Some 10)
     ending = ending-fed c.name (looks v) one
 
-    b : Behind options (feed_of bytes options p) p (text_rows options bytes p) (suc n) t' v'
+    b : Behind (text_setting bytes options p) (feed_of bytes options p) p (text_rows options bytes p) (suc n) t' v'
     b =
         let P : Setting → Type 0 = λ x. Follows (feed_of bytes options p) x true in
-        behind-feed is_name options (feed_of bytes options p) p (text_rows options bytes p) n t v t' v'
-        (subst P (sym kept) (text-follows_it bytes options p small)) (ap (λ (x : Setting). x.options) kept)
+        behind-feed is_name (text_setting bytes options p) (feed_of bytes options p) p (text_rows options bytes p) n t v
+        t' v'
+        (subst P (sym kept) (text-follows_it bytes options p small)) kept
         (text-within is_name bytes options p small t v run) c ending.0 ending.1
 
 -- The last line.
@@ -595,11 +600,11 @@ lines-fed is_name bytes options p small end at run ok none done =
     ∙ ap (Accepts (here at)) done)
   where
     B : Behaviour
-    B = flow_behaves_by options line_stop
+    B = line_behaves (text_setting bytes options p)
 
     feed : Feed
     feed = feed_of bytes options p
 
-    w : Within options (feed_of bytes options p) p (text_rows options bytes p)
+    w : Within (text_setting bytes options p) (feed_of bytes options p) p (text_rows options bytes p)
         (fed (FlowStep is_name) true line_begins (flow_begins bytes options p) end at run) end at
     w = text-within is_name bytes options p small end at run

@@ -7,3 +7,4 @@ pub mod Parts
 pub mod Shown
 pub mod Reads
 pub mod Grammar
+pub mod Facts

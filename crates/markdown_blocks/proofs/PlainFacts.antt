@@ -11,7 +11,8 @@ use Rattle.md_seam.specs.declared.inline.Chunk.{Chunk}
 use Rattle.md_seam.specs.Events.Inline.{line_end, plain_chunk}
 use Rattle.md_seam.specs.Events.Nested.{around, enter, exit, pair}
 use Rattle.md_seam.specs.Events.Places.{past_byte, past_text, same_place}
-use Rattle.md_seam.specs.Events.Spelled.{AsInfo, AsLine, AsMeta, IsFence, IsQuiet, OfCode, OfFence, OfMath, Opens, Role}
+use Rattle.md_seam.specs.Events.Spelled.{AsInfo, AsLine, AsMeta, IsFence, IsQuiet, OfCode, OfFence, OfHtml, OfMath}
+use Rattle.md_seam.specs.Events.Spelled.{Opens, Role}
 use Rattle.md_seam.specs.Events.Spelled.{Tells, role}
 use Rattle.md_seam.proofs.SpelledLemmas.{Quiet, Roles}
 use Rattle.md_outline.specs.LinesStand.{Outside, Site}
@@ -90,6 +91,7 @@ unlisted-plain : (x : Role) → is_plain x ≡ true → is_unlisted x ≡ true
 unlisted-plain (Opens OfCode) h = refl
 unlisted-plain (Opens OfFence) h = refl
 unlisted-plain (Opens OfMath) h = refl
+unlisted-plain (Opens OfHtml) h = refl
 unlisted-plain IsFence h = refl
 unlisted-plain (Tells AsLine) h = refl
 unlisted-plain (Tells AsInfo) h = refl

@@ -1,7 +1,7 @@
 -- The laws of the constructs that are built, and what the table has of them: the one place of the frame's proofs that
 -- names them.
-use Rattle.std.proofs.Common.{◌≡◌, ◌<◌, Bool, true, false, cond, ◌&&◌, ◌||◌, List, [], ◌∷◌, ◌++◌, refl, sym, ◌∙◌, ap, ap₂}
-use Rattle.std.proofs.Common.{arith}
+use Rattle.std.proofs.Common.{◌≡◌, ◌<◌, Bool, true, false, cond, ◌&&◌, ◌||◌, List, [], ◌∷◌, ◌++◌, refl, sym, ◌∙◌, ap}
+use Rattle.std.proofs.Common.{ap₂, ℕ, arith}
 use Rattle.std.specs.Option.{is_some}
 use Rattle.md_engine.specs.declared.tokenizer.held_leaf.HeldLeaf.TheVariants as held_leaf
 use Rattle.markdown_blocks.specs.Registry.{IsOpenSpan, insider, shuts_out}
@@ -47,20 +47,21 @@ use Rattle.md_seam.specs.Ahead.{HasWhite}
 use Rattle.md_seam.specs.Spaces.{rest_ready}
 use Rattle.md_definition.specs.Containers.{Taken, opens, opens_footnote, opens_item, opens_quote}
 use Rattle.md_definition.specs.Leaves.{Came, Finished, Opened, ParagraphContext, break_at, closes, code_at, fence_at}
-use Rattle.md_definition.specs.Leaves.{fence_goes_on, heading_at, is_free, is_rule}
+use Rattle.md_definition.specs.Leaves.{fence_goes_on, heading_at, html_at, html_line, is_free, is_rule}
 use Rattle.md_leaves.specs.HeadingRule.{is_heading}
 use Rattle.md_lines.specs.Code.{may_open}
 use Rattle.md_definition.specs.Rest.{Rest, has_small_indent, indent, is_blank, line_of, lose, trim_start}
 use Rattle.md_definition.specs.State.{Leaf, NoLeaf, OpenCode, OpenFence, OpenHtml, OpenParagraph, OpenTable, Opening}
 use Rattle.md_definition.specs.State.{fence_block, without_trailing_blank}
-use Rattle.md_definition.specs.Tree.{Break, Code, Line}
+use Rattle.md_definition.specs.Tree.{Break, Code, Html, Line}
 use Rattle.md_lines.proofs.CodeGoods.{CodeFits, code_does}
 use Rattle.md_lines.proofs.CodeSteps.{code_steps}
 use Rattle.md_lines.proofs.FenceGoods.{FenceFits, fence_does}
 use Rattle.md_lines.proofs.FenceSteps.{fence_steps}
 use Rattle.md_seam.proofs.SpacesGoods.{Does, WhiteFits}
 use Rattle.markdown_blocks.specs.FlowRule.{Rule}
-use Rattle.markdown_blocks.specs.HeldLeaf.{IsBuiltLeaf, kind_of_leaf, left_by, takes_lazy}
+use Rattle.markdown_blocks.specs.Context.{context_of}
+use Rattle.markdown_blocks.specs.HeldLeaf.{IsBuiltLeaf, has_lines, kind_of_leaf, left_by}
 use Rattle.markdown_blocks.specs.LineLeaf.{LineLeaf}
 use Rattle.markdown_blocks.specs.Leaf.CodeIndented.{code_further, code_leaf, is_code}
 use Rattle.markdown_blocks.specs.Leaf.Fence.{fence_leaf, opening_at}
@@ -68,7 +69,8 @@ use Rattle.markdown_blocks.specs.Leaf.FenceFurther.{fence_further, is_fence, ope
 use Rattle.markdown_blocks.specs.Leaf.HeadingAtx.{heading_leaf}
 use Rattle.markdown_blocks.specs.Leaf.ThematicBreak.{break_leaf}
 use Rattle.markdown_blocks.specs.Parsed.{IsBuilt}
-use Rattle.markdown_blocks.specs.Registry.{CodeFurther, CodeIndented, Fence, FenceFurther, HeadingAtx, LeafName}
+use Rattle.markdown_blocks.specs.Registry.{CodeFurther, CodeIndented, Fence, FenceFurther, HeadingAtx, HtmlFlow}
+use Rattle.markdown_blocks.specs.Registry.{HtmlFurther, LeafName}
 use Rattle.markdown_blocks.specs.Registry.{ThematicBreak, behind}
 use Rattle.markdown_blocks.specs.Registry.{construct_owner}
 use Rattle.markdown_blocks.specs.Registry.{construct_transition, container_rules, first_of, further_of, is_own, leaf}
@@ -94,6 +96,17 @@ use Rattle.markdown_blocks.proofs.FenceFurther.Definition.{opening-fence}
 use Rattle.markdown_blocks.proofs.FenceFurther.Laws.{fence_further-laws}
 use Rattle.markdown_blocks.proofs.FenceSpan.Laws.{fence-span}
 use Rattle.markdown_blocks.proofs.Goods.{Anywhere, ContainerFits, IsWithin}
+use Rattle.markdown_blocks.proofs.HtmlFlow.Found.{html-enabled, html-found, html-goes, html-held, html-indented, html-lazy}
+use Rattle.markdown_blocks.proofs.HtmlFlow.Laws.{html-laws, html_further-laws}
+use Rattle.markdown_blocks.proofs.HtmlFlow.Registers.{html-registers}
+use Rattle.markdown_blocks.proofs.HtmlSpan.Laws.{html-span}
+use Rattle.md_definition.specs.Html.{HtmlKind, html_ends}
+use Rattle.md_rich.specs.Html.{ends_in_front, is_html}
+use Rattle.md_rich.specs.HtmlLine as rule
+use Rattle.md_rich.specs.HtmlRule.{left}
+use Rattle.md_rich.proofs.HtmlGoods.{HtmlFits, html_does}
+use Rattle.md_rich.proofs.HtmlSteps.{html_steps}
+use Rattle.markdown_blocks.specs.Leaf.HtmlFlow.{begins_as, html_further, html_leaf, kind_begun}
 use Rattle.markdown_blocks.proofs.HeadingAtx.Found.{heading-found, heading-shallow}
 use Rattle.markdown_blocks.proofs.HeadingAtx.Laws.{heading-laws}
 use Rattle.markdown_blocks.proofs.HeadingAtx.Outside.{front-heading}
@@ -121,6 +134,8 @@ laws CodeIndented = code-laws
 laws CodeFurther = code_further-laws
 laws Fence = fence-laws
 laws FenceFurther = fence_further-laws
+laws HtmlFlow = html-laws
+laws HtmlFurther = html_further-laws
 laws HeadingAtx = heading-laws
 laws ThematicBreak = break-laws
 
@@ -133,44 +148,52 @@ abbrev pub came_of : ParseOptions → Rest → Option LeafName → Option Came
 came_of options r None = None
 came_of options r (Some l) = Some ((leaf l).comes options NoLeaf r)
 
--- The leaf that a line meets is what the line stands against: text is open in both, or in neither.
+-- The leaf that a line meets is what the line stands against: no text, text, or text that it is lazy for.
 abbrev pub IsAgainst : ParagraphContext → HeldLeaf → Type 0
-IsAgainst against on = is_free against ≡ not (takes_lazy on)
+IsAgainst against on = against ≡ context_of on
 
 -- so indented code may begin by both, or by neither
-free-open : (on : HeldLeaf) → may_open on ≡ not (takes_lazy on)
+free-open : (on : HeldLeaf) → may_open on ≡ is_free (context_of on)
 free-open held_leaf.None = refl
 free-open held_leaf.Text = refl
+free-open held_leaf.LazyText = refl
 free-open held_leaf.Code = refl
 free-open (held_leaf.Fence m size indent) = refl
+free-open (held_leaf.Html kind) = refl
 
 -- of the leaves of the line definition these alone are built, in this order
 pub leaves-found : (options : ParseOptions) (on : HeldLeaf) (against : ParagraphContext) (r : Rest) →
     IsAgainst against on → is_blank r.bytes ≡ false →
     option_or (code_at options against r)
-    (option_or (fence_at options r) (option_or (heading_at options r) (break_at options r))) ≡
+    (option_or (fence_at options r)
+    (option_or (html_at options against r) (option_or (heading_at options r) (break_at options r)))) ≡
     came_of options r (leaf_at options on r)
 leaves-found options on against r same dark =
-    ap₂ (λ (x y : Option Came). option_or x y) (code-found options on against r (free-open on ∙ sym same) dark)
+    ap₂ (λ (x y : Option Came). option_or x y)
+    (code-found options on against r (free-open on ∙ sym (ap is_free same)) dark)
     (ap₂ (λ (x y : Option Came). option_or x y) (fence-found options r)
-    (ap₂ (λ (x y : Option Came). option_or x y) (heading-found options r) (break-found options r)))
-    ∙ go (code_leaf.starts options on r) (fence_leaf.starts options on r) (heading_leaf.starts options on r)
-    (break_leaf.starts options on r)
+    (ap₂ (λ (x y : Option Came). option_or x y) (html-found options on against r same)
+    (ap₂ (λ (x y : Option Came). option_or x y) (heading-found options r) (break-found options r))))
+    ∙ go (code_leaf.starts options on r) (fence_leaf.starts options on r) (html_leaf.starts options on r)
+    (heading_leaf.starts options on r) (break_leaf.starts options on r)
   where
     -- a leaf, if it starts
     one : Bool → LeafName → Option Came
     one x l = cond x (Some ((leaf l).comes options NoLeaf r)) None
 
-    go : (c x y z : Bool) →
-        option_or (one c CodeIndented) (option_or (one x Fence) (option_or (one y HeadingAtx) (one z ThematicBreak))) ≡
+    go : (c x h y z : Bool) →
+        option_or (one c CodeIndented)
+        (option_or (one x Fence) (option_or (one h HtmlFlow) (option_or (one y HeadingAtx) (one z ThematicBreak)))) ≡
         came_of options r
         (cond c (Some CodeIndented)
-        (cond x (Some Fence) (cond y (Some HeadingAtx) (cond z (Some ThematicBreak) None))))
-    go true x y z = refl
-    go false true y z = refl
-    go false false true z = refl
-    go false false false true = refl
-    go false false false false = refl
+        (cond x (Some Fence)
+        (cond h (Some HtmlFlow) (cond y (Some HeadingAtx) (cond z (Some ThematicBreak) None)))))
+    go true x h y z = refl
+    go false true h y z = refl
+    go false false true y z = refl
+    go false false false true z = refl
+    go false false false false true = refl
+    go false false false false false = refl
 
 -- no leaf with a small indent starts where code does
 not-small : (options : ParseOptions) (r : Rest) → options.constructs.code_indented ≡ true → nat_le 4 (indent r) ≡ true →
@@ -183,16 +206,17 @@ fence-none : (options : ParseOptions) (r : Rest) → has_small_indent options r 
 unfolding fence_at
 fence-none options r far = rw far refl
 
--- So one that starts where text is open starts where none is.
-pub text-starts : (options : ParseOptions) (r : Rest) (l : LeafName) → leaf_at options held_leaf.Text r ≡ Some l →
+-- So one that starts where a line is lazy for text starts where none is open.
+pub text-starts : (options : ParseOptions) (r : Rest) (l : LeafName) → leaf_at options held_leaf.LazyText r ≡ Some l →
     leaf_at options held_leaf.None r ≡ Some l
 text-starts options r l found = go (code_leaf.starts options held_leaf.None r) refl
   where
+    Others : Bool → Bool → Bool → Bool → Option LeafName
+    Others x h y z =
+        cond x (Some Fence) (cond h (Some HtmlFlow) (cond y (Some HeadingAtx) (cond z (Some ThematicBreak) None)))
+
     others : Option LeafName
     others = first_of (λ l. (leaf l).starts options held_leaf.None r) (behind CodeIndented)
-
-    Others : Bool → Bool → Bool → Option LeafName
-    Others x y z = cond x (Some Fence) (cond y (Some HeadingAtx) (cond z (Some ThematicBreak) None))
 
     off : (x y z : Bool) → (x && false && y && z) ≡ false
     off true y z = refl
@@ -204,17 +228,25 @@ text-starts options r l found = go (code_leaf.starts options held_leaf.None r) r
 
     text : others ≡ Some l
     text =
-        ap (λ (c : Bool). cond c (Some CodeIndented) others)
+        ap (λ (h : Bool). Others (fence_leaf.starts options held_leaf.None r) h
+        (heading_leaf.starts options held_leaf.None r) (break_leaf.starts options held_leaf.None r))
+        (sym (html-lazy options r))
+        ∙ ap (λ (c : Bool). cond c (Some CodeIndented)
+        (Others (fence_leaf.starts options held_leaf.None r) (html_leaf.starts options held_leaf.LazyText r)
+        (heading_leaf.starts options held_leaf.None r) (break_leaf.starts options held_leaf.None r)))
         (sym (off options.constructs.code_indented (nat_le 4 (indent r)) (not (is_blank r.bytes)))) ∙ found
 
     none : has_small_indent options r ≡ false → others ≡ None
     none far =
-        ap (λ (x : Bool). Others x (heading_leaf.starts options held_leaf.None r)
-        (break_leaf.starts options held_leaf.None r)) (fence-none options r far)
-        ∙ ap (λ (x : Bool). Others false x (break_leaf.starts options held_leaf.None r))
+        ap (λ (x : Bool). Others x (html_leaf.starts options held_leaf.None r)
+        (heading_leaf.starts options held_leaf.None r) (break_leaf.starts options held_leaf.None r))
+        (fence-none options r far)
+        ∙ ap (λ (x : Bool). Others false x (heading_leaf.starts options held_leaf.None r)
+        (break_leaf.starts options held_leaf.None r)) (html-indented options held_leaf.None r far)
+        ∙ ap (λ (x : Bool). Others false false x (break_leaf.starts options held_leaf.None r))
         (ap (λ (s : Bool). options.constructs.heading_atx && s && is_heading (trim_start r.bytes)) far
         ∙ small options.constructs.heading_atx (is_heading (trim_start r.bytes)))
-        ∙ ap (Others false false)
+        ∙ ap (Others false false false)
         (ap (λ (s : Bool). options.constructs.thematic_break && s && is_rule (trim_start r.bytes)) far
         ∙ small options.constructs.thematic_break (is_rule (trim_start r.bytes)))
 
@@ -223,6 +255,44 @@ text-starts options r l found = go (code_leaf.starts options held_leaf.None r) r
     go true e =
         let of = code-rest options held_leaf.None r e in
         let bad : None ≡ Some l = sym (none (not-small options r of.enabled of.indented)) ∙ text in cc
+
+-- a line of HTML comes to what may be open, and an outline can show it
+html-built : (kind : HtmlKind) (lines : List Line) (r : Rest) → IsBuiltLeaf (left_by (html_line kind lines r))
+unfolding IsOpenSpan
+html-built kind lines r = go (html_ends kind r.bytes)
+  where
+    all : List Line
+    all = lines ++ line_of r ∷ []
+
+    go : (x : Bool) → IsBuiltLeaf (left_by (cond x (Finished (Html all)) (Opened (OpenHtml kind all))))
+    go true = tt
+    go false = tt
+
+html-shallow : (kind : HtmlKind) (lines : List Line) (r : Rest) → ComesShallow (html_line kind lines r)
+html-shallow kind lines r = go (html_ends kind r.bytes)
+  where
+    all : List Line
+    all = lines ++ line_of r ∷ []
+
+    go : (x : Bool) → ComesShallow (cond x (Finished (Html all)) (Opened (OpenHtml kind all)))
+    go true bs h = shallow-then bs (Html all) h refl
+    go false bs h = h
+
+-- so does one that begins it, or would
+begun-built : (kind : Option HtmlKind) (r : Rest) → IsBuiltLeaf (left_by (begins_as kind r))
+begun-built None r = tt
+begun-built (Some kind) r = html-built kind [] r
+
+begun-shallow : (kind : Option HtmlKind) (r : Rest) → ComesShallow (begins_as kind r)
+begun-shallow None r bs h = shallow-then bs (Html []) h refl
+begun-shallow (Some kind) r bs h = html-shallow kind [] r bs h
+
+-- a further line of HTML begins none
+html-begins : (options : ParseOptions) (on : HeldLeaf) (r : Rest) → html_further.starts options on r ≡ true →
+    html_further.further on ≡ false → ⊥
+html-begins options on r starts begins =
+    let open_html = (and_parts (is_html on) (not (ends_in_front on && is_blank r.bytes)) starts).0 in
+    let bad : true ≡ false = sym open_html ∙ begins in cc
 
 -- what a line comes to that begins one of them
 pub leaf-begun : (l : LeafName) (options : ParseOptions) (on : HeldLeaf) (r : Rest) →
@@ -237,6 +307,12 @@ leaf-begun Fence options on r h begins = record {
   shallow = λ bs shallow. shallow;
 }
 leaf-begun FenceFurther options on r h begins = let bad : true ≡ false = sym h ∙ begins in absurd (cc)
+leaf-begun HtmlFlow options on r h begins = record {
+  holds = html-held options on NoLeaf r;
+  built = begun-built (kind_begun r) r;
+  shallow = begun-shallow (kind_begun r) r;
+}
+leaf-begun HtmlFurther options on r h begins = absurd (html-begins options on r h begins)
 leaf-begun HeadingAtx options on r h begins = record {
   holds = refl;
   built = tt;
@@ -247,18 +323,51 @@ leaf-begun ThematicBreak options on r h begins =
 
 -- those that are tried go on none
 pub trials-begin : AllBegin trials
-trials-begin = (λ on. refl, (λ on. refl, (λ on. refl, (λ on. refl, tt))))
+trials-begin = (λ on. refl, (λ on. refl, (λ on. refl, (λ on. refl, (λ on. refl, tt)))))
 
--- behind a line of a fence no code is open
-fence-left : (options : ParseOptions) (on : HeldLeaf) (r : Rest) → is_code (fence_further.holds options on r) ≡ true → ⊥
-fence-left options on r e = go (is_fence on) (closes options (opening_of on) r) on refl e
+-- behind a line of a fence no other leaf of several lines is open,
+fence-left : (t : HeldLeaf → Bool) (options : ParseOptions) (on : HeldLeaf) (r : Rest) → t held_leaf.None ≡ false →
+    (is_fence on ≡ true → t on ≡ false) → t (fence_further.holds options on r) ≡ true → ⊥
+fence-left t options on r none other e = go (is_fence on) (closes options (opening_of on) r) refl e
   where
-    go : (x y : Bool) (on : HeldLeaf) → is_fence on ≡ x →
-        is_code (cond x (cond y held_leaf.None on) held_leaf.None) ≡ true → ⊥
-    go false y on f e = cc
-    go true true on f e = cc
-    go true false held_leaf.Code f e = cc
-    go true false _ f e = cc
+    go : (x y : Bool) → is_fence on ≡ x → t (cond x (cond y held_leaf.None on) held_leaf.None) ≡ true → ⊥
+    go false y f e = let bad : true ≡ false = sym e ∙ none in cc
+    go true true f e = let bad : true ≡ false = sym e ∙ none in cc
+    go true false f e = let bad : true ≡ false = sym e ∙ other f in cc
+
+fence-not_code : (on : HeldLeaf) → is_fence on ≡ true → is_code on ≡ false
+fence-not_code held_leaf.Code f = cc
+fence-not_code _ f = refl
+
+fence-not_html : (on : HeldLeaf) → is_fence on ≡ true → is_html on ≡ false
+fence-not_html (held_leaf.Html kind) f = cc
+fence-not_html _ f = refl
+
+-- nor is one behind a line of HTML
+abbrev NotHtml : (HeldLeaf → Bool) → Type 0
+NotHtml t = (t held_leaf.None ≡ false) × ((kind : HtmlKind) → t (held_leaf.Html kind) ≡ false)
+
+kind-left : (t : HeldLeaf → Bool) (kind : HtmlKind) (line : List ℕ) → NotHtml t → t (left kind line) ≡ true → ⊥
+kind-left t kind line not_html e = go (html_ends kind line) e
+  where
+    go : (x : Bool) → t (cond x held_leaf.None (held_leaf.Html kind)) ≡ true → ⊥
+    go true e = let bad : true ≡ false = sym e ∙ not_html.0 in cc
+    go false e = let bad : true ≡ false = sym e ∙ not_html.1 kind in cc
+
+html-left : (t : HeldLeaf → Bool) (kind : Option HtmlKind) (line : List ℕ) → NotHtml t →
+    t (rule.left_by kind line) ≡ true → ⊥
+html-left t None line not_html e = let bad : true ≡ false = sym e ∙ not_html.0 in cc
+html-left t (Some kind) line not_html e = kind-left t kind line not_html e
+
+further-left : (t : HeldLeaf → Bool) (on : HeldLeaf) (line : List ℕ) → NotHtml t → t (rule.left_of on line) ≡ true → ⊥
+further-left t (held_leaf.Html kind) line not_html e = kind-left t kind line not_html e
+further-left t _ line not_html e = let bad : true ≡ false = sym e ∙ not_html.0 in cc
+
+code-not_html : NotHtml is_code
+code-not_html = (refl, λ kind. refl)
+
+fence-none_html : NotHtml is_fence
+fence-none_html = (refl, λ kind. refl)
 
 -- a line that goes on what a line of one has left is one of the leaf that takes its further lines
 pub further-is : (l m : LeafName) (options : ParseOptions) (on : HeldLeaf) (r : Rest) →
@@ -272,11 +381,26 @@ further-is ThematicBreak FenceFurther options on r e = cc
 further-is CodeIndented FenceFurther options on r e = cc
 further-is CodeFurther FenceFurther options on r e = cc
 further-is Fence CodeFurther options on r e = cc
-further-is FenceFurther CodeFurther options on r e = absurd (fence-left options on r e)
+further-is FenceFurther CodeFurther options on r e = absurd (fence-left is_code options on r refl (fence-not_code on) e)
 further-is HeadingAtx CodeFurther options on r e = cc
 further-is ThematicBreak CodeFurther options on r e = cc
+further-is HtmlFlow CodeFurther options on r e =
+    absurd (html-left is_code (kind_begun r) r.bytes code-not_html e)
+further-is HtmlFurther CodeFurther options on r e = absurd (further-left is_code on r.bytes code-not_html e)
+further-is HtmlFlow FenceFurther options on r e =
+    absurd (html-left is_fence (kind_begun r) r.bytes fence-none_html e)
+further-is HtmlFurther FenceFurther options on r e = absurd (further-left is_fence on r.bytes fence-none_html e)
+further-is CodeIndented HtmlFurther options on r e = cc
+further-is CodeFurther HtmlFurther options on r e = cc
+further-is Fence HtmlFurther options on r e = cc
+further-is FenceFurther HtmlFurther options on r e = absurd (fence-left is_html options on r refl (fence-not_html on) e)
+further-is HtmlFlow HtmlFurther options on r e = refl
+further-is HtmlFurther HtmlFurther options on r e = refl
+further-is HeadingAtx HtmlFurther options on r e = cc
+further-is ThematicBreak HtmlFurther options on r e = cc
 further-is l CodeIndented options on r e = cc
 further-is l Fence options on r e = cc
+further-is l HtmlFlow options on r e = cc
 further-is l HeadingAtx options on r e = cc
 further-is l ThematicBreak options on r e = cc
 
@@ -286,6 +410,8 @@ further-further CodeIndented = refl
 further-further CodeFurther = refl
 further-further Fence = refl
 further-further FenceFurther = refl
+further-further HtmlFlow = refl
+further-further HtmlFurther = refl
 further-further HeadingAtx = refl
 further-further ThematicBreak = refl
 
@@ -319,6 +445,8 @@ span-laws CodeIndented e = code-span
 span-laws CodeFurther e = further-span code_leaf code_further code-span code-begins
 span-laws Fence e = fence-span
 span-laws FenceFurther e = further-span fence_leaf fence_further fence-span fence-begins
+span-laws HtmlFlow e = html-span
+span-laws HtmlFurther e = further-span html_leaf html_further html-span html-begins
 span-laws HeadingAtx e = absurd (cc)
 span-laws ThematicBreak e = absurd (cc)
 
@@ -329,12 +457,13 @@ AreAsked [] = Unit {0}
 AreAsked (l ∷ ls) = ((on : HeldLeaf) → (leaf l).asked on ≡ true) × AreAsked ls
 
 pub trials-asked : AreAsked trials
-trials-asked = (λ on. refl, (λ on. refl, (λ on. refl, (λ on. refl, tt))))
+trials-asked = (λ on. refl, (λ on. refl, (λ on. refl, (λ on. refl, (λ on. refl, tt)))))
 
 pub trial-asked : (state : FlowState) (l : LeafName) → tried_at state ≡ Some l → (on : HeldLeaf) →
     (leaf l).asked on ≡ true
 trial-asked flow.BeforeCodeIndented CodeIndented e on = refl
 trial-asked flow.BeforeRaw Fence e on = refl
+trial-asked flow.BeforeHtml HtmlFlow e on = refl
 trial-asked flow.BeforeHeadingAtx HeadingAtx e on = refl
 trial-asked flow.BeforeThematicBreak ThematicBreak e on = refl
 trial-asked _ _ e on = cc
@@ -344,21 +473,31 @@ pub lines-join : (l : LeafName) → (leaf l).ends ≡ false → (options : Parse
     (leaf l).starts options on r ≡ true → (leaf l).further on ≡ false → joins_lines options ≡ true
 unfolding joins_lines
 lines-join CodeIndented e options on r starts begins =
-    rw (code-rest options on r starts).enabled (last options.constructs.code_fenced options.constructs.math_flow)
+    rw (code-rest options on r starts).enabled (third options.constructs.code_fenced options.constructs.math_flow)
   where
-    last : (x y : Bool) → (x || y || true) ≡ true
-    last true y = refl
-    last false true = refl
-    last false false = refl
+    third : (x y : Bool) → (x || y || true || options.constructs.html_flow) ≡ true
+    third true y = refl
+    third false true = refl
+    third false false = refl
 lines-join CodeFurther e options on r starts begins = absurd (code-begins options on r starts begins)
 lines-join Fence e options on r starts begins = go options.constructs.code_fenced refl options.constructs.math_flow refl
   where
     go : (x : Bool) → options.constructs.code_fenced ≡ x → (y : Bool) → options.constructs.math_flow ≡ y →
-        (x || y || options.constructs.code_indented) ≡ true
+        (x || y || options.constructs.code_indented || options.constructs.html_flow) ≡ true
     go true f y g = refl
     go false f true g = refl
     go false f false g = let none = ap is_some (fence-off options r f g) in absurd (cc)
 lines-join FenceFurther e options on r starts begins = let bad : true ≡ false = sym starts ∙ begins in absurd (cc)
+lines-join HtmlFlow e options on r starts begins =
+    rw (html-enabled options on r starts)
+    (last options.constructs.code_fenced options.constructs.math_flow options.constructs.code_indented)
+  where
+    last : (x y z : Bool) → (x || y || z || true) ≡ true
+    last true y z = refl
+    last false true z = refl
+    last false false true = refl
+    last false false false = refl
+lines-join HtmlFurther e options on r starts begins = absurd (html-begins options on r starts begins)
 lines-join HeadingAtx e options on r starts begins = absurd (cc)
 lines-join ThematicBreak e options on r starts begins = absurd (cc)
 
@@ -368,6 +507,7 @@ lines-join ThematicBreak e options on r starts begins = absurd (cc)
 pub tried-before : (state : FlowState) (l : LeafName) → tried_at state ≡ Some l → (leaf l).before ≡ state
 tried-before flow.BeforeCodeIndented CodeIndented e = refl
 tried-before flow.BeforeRaw Fence e = refl
+tried-before flow.BeforeHtml HtmlFlow e = refl
 tried-before flow.BeforeHeadingAtx HeadingAtx e = refl
 tried-before flow.BeforeThematicBreak ThematicBreak e = refl
 tried-before _ _ e = cc
@@ -389,46 +529,55 @@ leaf-next CodeIndented is = (refl, refl)
 leaf-next CodeFurther is = absurd (cc)
 leaf-next Fence is = (refl, refl)
 leaf-next FenceFurther is = absurd (cc)
+leaf-next HtmlFlow is = (refl, refl)
+leaf-next HtmlFurther is = absurd (cc)
 leaf-next HeadingAtx is = (refl, refl)
 leaf-next ThematicBreak is = tt
 
 -- what the table has of a leaf: that its first state is ready at rest, of a lower level than flow; and that its trial is
--- left there
+-- left there, whatever the text is
 pub record LeafStates (l : LeafName) : Type 1 where
   pub level : (flow_owner (leaf l).start).level (leaf l).start < 3
   pub ready : (x : Spot) (K : After) → rest_ready x K → (flow_owner (leaf l).start).ready (leaf l).start x K
-  pub starts : (options : ParseOptions) (next : Rule) (cells : List Cell) (h : Here) →
-      flow_behaves_by options next (leaf l).start cells h ≡ (leaf l).trial options cells h
+  pub starts : (bytes : List ℕ) (options : ParseOptions) (next : Rule) (cells : List Cell) (h : Here) →
+      flow_behaves_by bytes options next (leaf l).start cells h ≡ (leaf l).trial options cells h
 
 pub leaf-states : (l : LeafName) → LeafStates l
-leaf-states CodeIndented = record { level = omega arith; ready = λ x K is. is; starts = λ options next cells h. refl }
+leaf-states CodeIndented =
+    record { level = omega arith; ready = λ x K is. is; starts = λ bytes options next cells h. refl }
 leaf-states CodeFurther =
-    record { level = omega arith; ready = λ x K is. is; starts = λ options next cells h. refl }
-leaf-states Fence = record { level = omega arith; ready = λ x K is. is; starts = λ options next cells h. refl }
+    record { level = omega arith; ready = λ x K is. is; starts = λ bytes options next cells h. refl }
+leaf-states Fence = record { level = omega arith; ready = λ x K is. is; starts = λ bytes options next cells h. refl }
 leaf-states FenceFurther =
-    record { level = omega arith; ready = λ x K is. is; starts = λ options next cells h. refl }
+    record { level = omega arith; ready = λ x K is. is; starts = λ bytes options next cells h. refl }
+leaf-states HtmlFlow =
+    record { level = omega arith; ready = λ x K is. is; starts = λ bytes options next cells h. refl }
+leaf-states HtmlFurther =
+    record { level = omega arith; ready = λ x K is. is; starts = λ bytes options next cells h. refl }
 leaf-states HeadingAtx =
-    record { level = omega arith; ready = λ x K is. is; starts = λ options next cells h. refl }
+    record { level = omega arith; ready = λ x K is. is; starts = λ bytes options next cells h. refl }
 leaf-states ThematicBreak =
-    record { level = omega arith; ready = λ x K is. is; starts = λ options next cells h. refl }
+    record { level = omega arith; ready = λ x K is. is; starts = λ bytes options next cells h. refl }
 
--- none is asked first where no leaf is open, or text
-pub insider-none : insider held_leaf.None ≡ None
+-- none is asked first where no leaf of several lines is open
+pub insider-none : (on : HeldLeaf) → has_lines on ≡ false → insider on ≡ None
 unfolding insider
-insider-none = refl
-
-pub insider-text : insider held_leaf.Text ≡ None
-unfolding insider
-insider-text = refl
+insider-none held_leaf.None e = refl
+insider-none held_leaf.Text e = refl
+insider-none held_leaf.LazyText e = refl
+insider-none held_leaf.Code e = cc
+insider-none (held_leaf.Fence m size indent) e = cc
+insider-none (held_leaf.Html kind) e = cc
 
 -- nor is a container shut out there
-pub shuts_out-none : shuts_out held_leaf.None ≡ false
+pub shuts_out-none : (on : HeldLeaf) → has_lines on ≡ false → shuts_out on ≡ false
 unfolding shuts_out
-shuts_out-none = refl
-
-pub shuts_out-text : shuts_out held_leaf.Text ≡ false
-unfolding shuts_out
-shuts_out-text = refl
+shuts_out-none held_leaf.None e = refl
+shuts_out-none held_leaf.Text e = refl
+shuts_out-none held_leaf.LazyText e = refl
+shuts_out-none held_leaf.Code e = cc
+shuts_out-none (held_leaf.Fence m size indent) e = cc
+shuts_out-none (held_leaf.Html kind) e = cc
 
 -- One that is asked first does not always end on its line, it is asked of that leaf, and its line goes on that one.
 record IsInsider (on : HeldLeaf) (l : LeafName) : Type 0 where
@@ -438,15 +587,18 @@ record IsInsider (on : HeldLeaf) (l : LeafName) : Type 0 where
 
 insider-is : (on : HeldLeaf) (l : LeafName) → insider on ≡ Some l → IsInsider on l
 unfolding insider
-insider-is on l e = go (is_fence on) (is_code on) refl refl l e
+insider-is on l e = go (is_fence on) (is_html on) (is_code on) refl refl refl l e
   where
-    go : (x y : Bool) → is_fence on ≡ x → is_code on ≡ y → (l : LeafName) →
-        cond x (Some FenceFurther) (cond y (Some CodeFurther) None) ≡ Some l → IsInsider on l
-    go true y f k FenceFurther e = record { ends = refl; asked = f; further = f }
-    go false true f k CodeFurther e = record { ends = refl; asked = k; further = k }
-    go true y f k l e = absurd (cc)
-    go false true f k l e = absurd (cc)
-    go false false f k l e = absurd (cc)
+    go : (x y z : Bool) → is_fence on ≡ x → is_html on ≡ y → is_code on ≡ z → (l : LeafName) →
+        cond x (Some FenceFurther) (cond y (Some HtmlFurther) (cond z (Some CodeFurther) None)) ≡ Some l →
+        IsInsider on l
+    go true y z f h k FenceFurther e = record { ends = refl; asked = f; further = f }
+    go false true z f h k HtmlFurther e = record { ends = refl; asked = h; further = h }
+    go false false true f h k CodeFurther e = record { ends = refl; asked = k; further = k }
+    go true y z f h k l e = absurd (cc)
+    go false true z f h k l e = absurd (cc)
+    go false false true f h k l e = absurd (cc)
+    go false false false f h k l e = absurd (cc)
 
 pub insider-open : (on : HeldLeaf) (l : LeafName) → insider on ≡ Some l → (leaf l).ends ≡ false
 insider-open on l e = (insider-is on l e).ends
@@ -464,7 +616,7 @@ fence-open o lines is = record {
   same = refl;
   further = is;
   lines = refl;
-  concrete = sym is;
+  concrete = sym (ap (λ (x : Bool). x || false) is);
   goes = λ options r. rw is refl;
   built = λ options r starts. built (closes options o r) (lines ++ line_of (lose o.indent r) ∷ []);
   shallow = λ options r. shallow (closes options o r) (lines ++ line_of (lose o.indent r) ∷ []);
@@ -498,6 +650,22 @@ code-open lines = record {
   closed = λ options bs h. shallow-then bs (Code (without_trailing_blank lines)) h refl;
 }
 
+-- HTML that is open
+html-open : (kind : HtmlKind) (lines : List Line) → OpenSpan (OpenHtml kind lines)
+unfolding insider shuts_out
+html-open kind lines = record {
+  name = HtmlFurther;
+  asked = refl;
+  same = refl;
+  further = refl;
+  lines = refl;
+  concrete = refl;
+  goes = λ options r. html-goes options kind lines r;
+  built = λ options r starts. html-built kind lines r;
+  shallow = λ options r. html-shallow kind lines r;
+  closed = λ options bs h. shallow-then bs (Html lines) h refl;
+}
+
 -- what may be open of several lines is as the frame asks
 pub open-span : (open_leaf : Leaf) → IsOpenSpan open_leaf → OpenSpan open_leaf
 unfolding IsOpenSpan
@@ -505,7 +673,7 @@ open-span (OpenFence o lines) is = fence-open o lines is
 open-span NoLeaf is = absurd is
 open-span (OpenParagraph lines) is = absurd is
 open-span (OpenCode lines) is = code-open lines
-open-span (OpenHtml kind lines) is = absurd is
+open-span (OpenHtml kind lines) is = html-open kind lines
 open-span (OpenTable delimiter rows) is = absurd is
 
 -- Lines of text.
@@ -551,11 +719,12 @@ pub record ContainerStates (k : ContainerKind) : Type 1 where
   pub tried : opener_at (container_rules k).before ≡ Some k
   pub next : NextOpener (openers_behind k)
   pub begins : ContainerFits flow_table_scheme Anywhere (container_rules k).start
-  pub begins_is : (options : ParseOptions) (next : Rule) (cells : List Cell) (h : Here) →
-      flow_behaves_by options next (container_rules k).start cells h ≡ (container_rules k).begins options cells h
+  pub begins_is : (bytes : List ℕ) (options : ParseOptions) (next : Rule) (cells : List Cell) (h : Here) →
+      flow_behaves_by bytes options next (container_rules k).start cells h ≡ (container_rules k).begins options cells h
   pub goes_on : ContainerFits flow_table_scheme IsWithin (container_rules k).further
-  pub goes_on_is : (options : ParseOptions) (next : Rule) (cells : List Cell) (h : Here) →
-      flow_behaves_by options next (container_rules k).further cells h ≡ (container_rules k).continues options cells h
+  pub goes_on_is : (bytes : List ℕ) (options : ParseOptions) (next : Rule) (cells : List Cell) (h : Here) →
+      flow_behaves_by bytes options next (container_rules k).further cells h ≡
+      (container_rules k).continues options cells h
 
 pub container-states : (k : ContainerKind) → ContainerStates k
 container-states kind.BlockQuote = record {
@@ -567,14 +736,14 @@ container-states kind.BlockQuote = record {
     level = omega arith;
     ready = λ x K rest here ends. (rest, ends);
   };
-  begins_is = λ options next cells h. refl;
+  begins_is = λ bytes options next cells h. refl;
   goes_on = record {
     own = quote_scheme;
     starts = fits flow_owner (n.BlockQuote its.ContStart);
     level = omega arith;
     ready = λ x K rest here ends. (rest, ends);
   };
-  goes_on_is = λ options next cells h. refl;
+  goes_on_is = λ bytes options next cells h. refl;
 }
 container-states kind.ListItem = record {
   tried = refl;
@@ -585,14 +754,14 @@ container-states kind.ListItem = record {
     level = omega arith;
     ready = λ x K rest here ends. (rest, ends);
   };
-  begins_is = λ options next cells h. refl;
+  begins_is = λ bytes options next cells h. refl;
   goes_on = record {
     own = item_scheme;
     starts = fits flow_owner (n.ListItem item.ContStart);
     level = omega arith;
     ready = λ x K rest here ends. ((rest, ends), here);
   };
-  goes_on_is = λ options next cells h. refl;
+  goes_on_is = λ bytes options next cells h. refl;
 }
 
 -- Of the containers of the line definition the first of these opens, where the others are off.
@@ -633,6 +802,9 @@ code_fits = record { white = white_fits; each = λ state. fits flow_owner (n.Cod
 fence_fits : FenceFits flow_table_scheme
 fence_fits = record { white = white_fits; each = λ state. fits flow_owner (n.RawFlow state) }
 
+html_fits : HtmlFits flow_table_scheme
+html_fits = record { each = λ state. fits flow_owner (n.HtmlFlow state) }
+
 quote_fits : QuoteFits flow_table_scheme
 quote_fits = record { white = white_fits; each = λ state. fits flow_owner (n.BlockQuote state) }
 
@@ -644,8 +816,8 @@ item_fits = record {
   each = λ state. fits flow_owner (n.ListItem state);
 }
 
-pub white_has : (options : ParseOptions) (next : Rule) → HasWhite (flow_behaves_by options next)
-white_has options next = record { each = λ _ _ _. refl }
+pub white_has : (bytes : List ℕ) (options : ParseOptions) (next : Rule) → HasWhite (flow_behaves_by bytes options next)
+white_has bytes options next = record { each = λ _ _ _. refl }
 
 -- each state keeps what its table needs,
 pub construct-does : (is_name : ResolveName → ResolveName → Bool) (name : StateName) (w : World) →
@@ -655,6 +827,7 @@ construct-does is_name (n.BlockQuote state) w c at = quote_does flow_table_schem
 construct-does is_name (n.CodeIndented state) w c at = code_does flow_table_scheme state w code_fits c at
 construct-does is_name (n.HeadingAtx state) w c at =
     heading_does flow_table_scheme (is_name r.HeadingAtx) state w heading_fits c at
+construct-does is_name (n.HtmlFlow state) w c at = html_does flow_table_scheme state w html_fits c at
 construct-does is_name (n.ListItem state) w c at = item_does flow_table_scheme state w item_fits c at
 construct-does is_name (n.RawFlow state) w c at = fence_does flow_table_scheme state w fence_fits c at
 construct-does is_name (n.ThematicBreak state) w c at = break_does flow_table_scheme state w break_fits c at
@@ -663,29 +836,36 @@ construct-does is_name name w c at = absurd at
 -- takes one step of what it means,
 pub construct-steps : (is_name : ResolveName → ResolveName → Bool) (feed : Feed) (next : Rule) (name : StateName)
     (w : World) →
-    Sees feed w → (construct_owner name).ready name (spot w) (after_all flow_table_scheme w.frames) →
-    Steps (flow_behaves_by w.setting.options next) feed (Next name) w (construct_transition is_name name w).to
+    Sees feed w → w.current ≡ looks w → (construct_owner name).ready name (spot w) (after_all flow_table_scheme w.frames) →
+    Steps (flow_behaves_by w.setting.bytes w.setting.options next) feed (Next name) w
+    (construct_transition is_name name w).to
     (construct_transition is_name name w).world
-construct-steps is_name feed next (n.BlockQuote state) w s at =
-    quote_steps _ feed state w (record { white = white_has w.setting.options next; each = λ _ _ _. refl }) s
-construct-steps is_name feed next (n.CodeIndented state) w s at =
-    code_steps _ feed state w (record { white = white_has w.setting.options next; each = λ _ _ _. refl }) s at.0
-construct-steps is_name feed next (n.HeadingAtx state) w s at =
+construct-steps is_name feed next (n.BlockQuote state) w s c at =
+    quote_steps _ feed state w
+    (record { white = white_has w.setting.bytes w.setting.options next; each = λ _ _ _. refl }) s
+construct-steps is_name feed next (n.CodeIndented state) w s c at =
+    code_steps _ feed state w
+    (record { white = white_has w.setting.bytes w.setting.options next; each = λ _ _ _. refl }) s at.0
+construct-steps is_name feed next (n.HeadingAtx state) w s c at =
     heading_steps _ feed (is_name r.HeadingAtx) state w _
-    (record { white = white_has w.setting.options next; each = λ _ _ _. refl }) s at
-construct-steps is_name feed next (n.ListItem state) w s at =
+    (record { white = white_has w.setting.bytes w.setting.options next; each = λ _ _ _. refl }) s at
+construct-steps is_name feed next (n.HtmlFlow state) w s c at =
+    html_steps _ feed state w _ (record { each = λ _ _ _. refl }) s c at
+construct-steps is_name feed next (n.ListItem state) w s c at =
     item_steps _ feed state w _
     (record {
-      white = white_has w.setting.options next;
-      blank = record { white = white_has w.setting.options next; each = λ _ _ _. refl };
-      breaks = record { white = white_has w.setting.options next; each = λ _ _ _. refl };
+      white = white_has w.setting.bytes w.setting.options next;
+      blank = record { white = white_has w.setting.bytes w.setting.options next; each = λ _ _ _. refl };
+      breaks = record { white = white_has w.setting.bytes w.setting.options next; each = λ _ _ _. refl };
       each = λ _ _ _. refl;
     }) s at
-construct-steps is_name feed next (n.RawFlow state) w s at =
-    fence_steps _ feed state w _ (record { white = white_has w.setting.options next; each = λ _ _ _. refl }) s at
-construct-steps is_name feed next (n.ThematicBreak state) w s at =
-    break_steps _ feed state w _ (record { white = white_has w.setting.options next; each = λ _ _ _. refl }) s at
-construct-steps is_name feed next name w s at = absurd at
+construct-steps is_name feed next (n.RawFlow state) w s c at =
+    fence_steps _ feed state w _
+    (record { white = white_has w.setting.bytes w.setting.options next; each = λ _ _ _. refl }) s at
+construct-steps is_name feed next (n.ThematicBreak state) w s c at =
+    break_steps _ feed state w _
+    (record { white = white_has w.setting.bytes w.setting.options next; each = λ _ _ _. refl }) s at
+construct-steps is_name feed next name w s c at = absurd at
 
 -- and keeps what is known of resolvers
 pub construct-registers : (name : StateName) (w : World) → Registers w →
@@ -693,6 +873,7 @@ pub construct-registers : (name : StateName) (w : World) → Registers w →
 construct-registers (n.BlockQuote state) w h = quote-registers state w h
 construct-registers (n.CodeIndented state) w h = code-registers state w h
 construct-registers (n.HeadingAtx state) w h = heading-registers state w h
+construct-registers (n.HtmlFlow state) w h = html-registers state w h
 construct-registers (n.ListItem state) w h = item-registers state w h
 construct-registers (n.RawFlow state) w h = fence-registers state w h
 construct-registers (n.ThematicBreak state) w h = break-registers state w h

@@ -3,7 +3,7 @@ use Rattle.std.proofs.Common.{◌≡◌, false, List, refl}
 use Rattle.md_engine.specs.declared.tokenizer.held_leaf.HeldLeaf.{HeldLeaf}
 use Rattle.std.specs.Prelude.{None}
 use Rattle.md_engine.specs.declared.configuration.ParseOptions.{ParseOptions}
-use Rattle.md_definition.specs.Leaves.{ParagraphContext, html_at, starts, table_at, underline_depth}
+use Rattle.md_definition.specs.Leaves.{ParagraphContext, starts, table_at, underline_depth}
 use Rattle.md_definition.specs.Rest.{Rest, is_blank}
 use Rattle.md_definition.specs.State.{Kept}
 use Rattle.md_definition.specs.Tree.{Blocks}
@@ -11,11 +11,6 @@ use Rattle.markdown_blocks.specs.Parsed.{IsBuilt}
 use Rattle.markdown_blocks.proofs.Registry.{IsAgainst, came_of, leaf_at, leaves-found}
 
 -- What is not built.
-
-html-off : (options : ParseOptions) (against : ParagraphContext) (r : Rest) → options.constructs.html_flow ≡ false →
-    html_at options against r ≡ None
-unfolding html_at
-html-off options against r off = rw off refl
 
 -- no line turns the open text into something else: it is no underline, and no row of a table begins behind it
 pub underline-off : (options : ParseOptions) (r : Rest) → IsBuilt options → underline_depth options r ≡ None
@@ -32,5 +27,4 @@ pub starts-found : (options : ParseOptions) (on : HeldLeaf) (against : Paragraph
     IsAgainst against on → is_blank r.bytes ≡ false → IsBuilt options →
     starts options against r ≡ came_of options r (leaf_at options on r)
 unfolding starts
-starts-found options on against r same dark built =
-    rw (html-off options against r built.html_flow) (leaves-found options on against r same dark)
+starts-found options on against r same dark built = leaves-found options on against r same dark

@@ -6,4 +6,6 @@ pub mod Inside
 pub mod Lead
 pub mod Leaf
 pub mod Lines
+pub mod Rest
+pub mod Whole
 pub mod Behind

@@ -35,6 +35,7 @@ front-unspanned : (name : Name) → is_front name ≡ true → (not (has_lines (
 front-unspanned n.CodeIndented h = cc
 front-unspanned n.CodeFenced h = cc
 front-unspanned n.MathFlow h = cc
+front-unspanned n.HtmlFlow h = cc
 front-unspanned n.CodeFlowChunk h = cc
 front-unspanned _ h = refl
 

@@ -5,8 +5,8 @@ use Rattle.md_engine.specs.declared.tokenizer.held_leaf.HeldLeaf.{HeldLeaf}
 use Rattle.std.proofs.Common.{◌≡◌, ℕ, zero, suc, ◌-◌, Bool, true, false, cond, not, ◌==◌, ◌&&◌, ◌||◌, List, [], ◌∷◌}
 use Rattle.md_definition.specs.Leaves.{Came}
 use Rattle.md_definition.specs.State.{spot}
-use Rattle.markdown_blocks.proofs.Registry.{insider-none, insider-text}
-use Rattle.markdown_blocks.specs.Registry.{insider, leaf}
+use Rattle.markdown_blocks.proofs.Registry.{insider-none}
+use Rattle.markdown_blocks.specs.Registry.{leaf}
 use Rattle.markdown_blocks.specs.Rows.{is_further, is_inside}
 use Rattle.markdown_blocks.specs.Fronted.{prefixes_behind}
 use Rattle.markdown_blocks.specs.Change.{met}
@@ -304,12 +304,6 @@ empty-line options p column read =
     none interrupting false = refl
 
 -- where it goes on no leaf of several lines, it is blank
-no_lines-asked : (on : HeldLeaf) → has_lines on ≡ false → insider on ≡ None
-no_lines-asked held_leaf.None e = insider-none
-no_lines-asked held_leaf.Text e = insider-text
-no_lines-asked held_leaf.Code e = cc
-no_lines-asked (held_leaf.Fence marker size indent) e = cc
-
 empty-blank : (options : ParseOptions) (p : Path) (column : ℕ) → IsPlain p →
     let on = (contained_at options p (rest_at column [])).on in
     is_further (line_kind options on (rest_at column [])) on ≡ false →
@@ -337,7 +331,7 @@ empty-blank options p column plain e = go (has_lines on) refl
         ∙ by is ((leaf is.name).starts options (still_of p) r)
         (ap (λ (kind : RowKind). is_further kind (still_of p)) (sym asked)
         ∙ ap (λ (x : HeldLeaf). is_further (line_kind options x r) x) (sym same) ∙ e)
-    go false lines = kind-plain options on r (no_lines-asked on lines)
+    go false lines = kind-plain options on r (insider-none on lines)
 
 renewed-some : (n : ℕ) (p : Path) → renewed (take n (containers_of p)) p ≡ p
 renewed-some zero p = refl

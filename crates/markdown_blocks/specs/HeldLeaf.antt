@@ -3,34 +3,39 @@
 -- A kind that keeps more than its name between lines (the fence of fenced code, the kind of HTML) keeps it in
 -- `HeldLeaf`; what it is by the line definition is said here. Whether containers may open in it, the registry says
 -- (`shuts_out`); whether one that opens interrupts it, containers ask themselves (`is_interrupted` of `Interrupts`).
-use Rattle.std.specs.Prelude.{◌≡◌, Bool, true, false, ◌||◌, if◌then◌else◌}
+use Rattle.std.specs.Prelude.{◌≡◌, Bool, true, false, if◌then◌else◌}
 use Rattle.md_engine.specs.declared.tokenizer.held_leaf.HeldLeaf.{HeldLeaf}
 use Rattle.md_engine.specs.declared.tokenizer.held_leaf.HeldLeaf.TheVariants as held_leaf
 use Rattle.md_definition.specs.Leaves.{Came, Finished, Opened}
-use Rattle.md_definition.specs.State.{Leaf, NoLeaf, OpenCode, OpenFence}
+use Rattle.md_definition.specs.State.{Leaf, NoLeaf, OpenCode, OpenFence, OpenHtml}
 use Rattle.markdown_blocks.specs.Leaf.Paragraph.{IsTextOr, held_or}
 use Rattle.markdown_blocks.specs.Registry.{IsOpenSpan}
 
--- whether a line goes on it that starts no other leaf, although not all containers went on (CommonMark 5.1, "laziness")
+-- whether a line that starts no other leaf goes on it although not all containers went on (CommonMark 5.1, "laziness"):
+-- so it does on text, also where a lazy line meets it
 abbrev pub takes_lazy : HeldLeaf → Bool
 takes_lazy held_leaf.Text = true
+takes_lazy held_leaf.LazyText = true
 takes_lazy _ = false
 
 -- whether it is a leaf of several lines that are no text
 abbrev pub has_lines : HeldLeaf → Bool
 has_lines held_leaf.None = false
 has_lines held_leaf.Text = false
+has_lines held_leaf.LazyText = false
 has_lines leaf = true
 
--- what a line meets of a leaf, where no container opens: the leaf is left where all containers went on, or where it
--- takes lazy lines; else it has ended with its containers
+-- what a line meets of a leaf, where no container opens: the leaf itself where all containers went on; else text that
+-- the line is lazy for, if the leaf takes lazy lines, and none if not, since it has ended with its containers
 abbrev pub met_by : Bool → HeldLeaf → HeldLeaf
-met_by all leaf = if takes_lazy leaf || all then leaf else held_leaf.None
+met_by all leaf = if all then leaf else if takes_lazy leaf then held_leaf.LazyText else held_leaf.None
 
--- the kind of an open leaf of the line definition, of one that is no text and of any
+-- the kind of an open leaf of the line definition, of one that is no text and of any: between two lines text is held as
+-- `Text` alone
 abbrev pub kind_of_other : Leaf → HeldLeaf
 kind_of_other (OpenCode lines) = held_leaf.Code
 kind_of_other (OpenFence o lines) = held_leaf.Fence o.marker o.size o.indent
+kind_of_other (OpenHtml kind lines) = held_leaf.Html kind
 kind_of_other leaf = held_leaf.None
 
 abbrev pub kind_of_leaf : Leaf → HeldLeaf

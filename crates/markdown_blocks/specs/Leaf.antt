@@ -3,5 +3,6 @@ pub mod CodeIndented
 pub mod Fence
 pub mod FenceFurther
 pub mod HeadingAtx
+pub mod HtmlFlow
 pub mod Paragraph
 pub mod ThematicBreak

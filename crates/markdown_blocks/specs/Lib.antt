@@ -12,6 +12,7 @@ pub mod MarkRuns
 pub mod Passed
 pub mod ContainerRules
 pub mod Containers
+pub mod Context
 pub mod LineLeaf
 pub mod TextLeaf
 pub mod Leaf

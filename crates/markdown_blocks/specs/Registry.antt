@@ -38,11 +38,13 @@ use Rattle.md_leaves.specs.HeadingText.{headings_resolved, is_heading}
 use Rattle.md_leaves.specs.Spanned.{passes}
 use Rattle.md_leaves.specs.declared.spans.Place.TheVariants.{Outside}
 use Rattle.md_seam.specs.Events.Spelled.{FootnoteShape, ItemShape, OrderedShape, QuoteShape, Shape, UnorderedShape}
-use Rattle.md_definition.specs.State.{Container, InFootnote, InItem, InQuote, Leaf, OpenCode, OpenFence}
+use Rattle.md_definition.specs.State.{Container, InFootnote, InItem, InQuote, Leaf, OpenCode, OpenFence, OpenHtml}
 use Rattle.md_lines.specs.Code.{code_scheme, code_transition}
 use Rattle.md_lines.specs.CodeRule.{code_behaves}
 use Rattle.md_lines.specs.Fence.{fence_scheme, fence_transition}
 use Rattle.md_lines.specs.FenceRule.{fence_behaves}
+use Rattle.md_rich.specs.Html.{html_scheme, html_transition, is_html}
+use Rattle.md_rich.specs.HtmlRule.{html_behaves}
 use Rattle.md_seam.specs.Transition.{Transition}
 use Rattle.markdown_blocks.specs.ContainerRules.{ContainerRules}
 use Rattle.markdown_blocks.specs.Containers.BlockQuote.{quote_rules}
@@ -51,20 +53,23 @@ use Rattle.markdown_blocks.specs.Leaf.CodeIndented.{code_further, code_leaf, is_
 use Rattle.markdown_blocks.specs.Leaf.Fence.{fence_leaf}
 use Rattle.markdown_blocks.specs.Leaf.FenceFurther.{fence_further, is_fence}
 use Rattle.markdown_blocks.specs.Leaf.HeadingAtx.{heading_leaf}
+use Rattle.markdown_blocks.specs.Leaf.HtmlFlow.{html_further, html_leaf}
 use Rattle.markdown_blocks.specs.Leaf.Paragraph.{paragraph_leaf}
 use Rattle.markdown_blocks.specs.Leaf.ThematicBreak.{break_leaf}
 use Rattle.markdown_blocks.specs.LineLeaf.{LineLeaf}
 use Rattle.markdown_blocks.specs.Passed.{Passed}
 use Rattle.markdown_blocks.specs.TextLeaf.{TextLeaf}
 
--- Leaves that take a line: of indented code, and of fenced code and math, one takes the first line, and one each further
--- line.
+-- Leaves that take a line: of indented code, of fenced code and math, and of HTML, one takes the first line, and one each
+-- further line.
 
 pub data LeafName : Type 0 where
   CodeIndented : LeafName
   CodeFurther : LeafName
   Fence : LeafName
   FenceFurther : LeafName
+  HtmlFlow : LeafName
+  HtmlFurther : LeafName
   HeadingAtx : LeafName
   ThematicBreak : LeafName
 
@@ -73,26 +78,32 @@ leaf CodeIndented = code_leaf
 leaf CodeFurther = code_further
 leaf Fence = fence_leaf
 leaf FenceFurther = fence_further
+leaf HtmlFlow = html_leaf
+leaf HtmlFurther = html_further
 leaf HeadingAtx = heading_leaf
 leaf ThematicBreak = break_leaf
 
 -- the order in which they are tried, behind blank lines and in front of content
 abbrev pub trials : List LeafName
-trials = CodeIndented ∷ Fence ∷ HeadingAtx ∷ ThematicBreak ∷ []
+trials = CodeIndented ∷ Fence ∷ HtmlFlow ∷ HeadingAtx ∷ ThematicBreak ∷ []
 
 -- The leaf that is asked, in front of blank lines and all others, whether a line goes on the one that it meets.
 unfoldable pub insider : HeldLeaf → Option LeafName
-insider on = if is_fence on then Some FenceFurther else if is_code on then Some CodeFurther else None
+insider on =
+    if is_fence on then Some FenceFurther
+    else if is_html on then Some HtmlFurther
+    else if is_code on then Some CodeFurther
+    else None
 
--- Whether no container opens in this leaf, where all containers went on: in fences and math none does (HTML is not
--- built).
+-- Whether no container opens in this leaf, where all containers went on: in fences, math and HTML none does.
 unfoldable pub shuts_out : HeldLeaf → Bool
-shuts_out on = is_fence on
+shuts_out on = is_fence on || is_html on
 
 -- Whether a leaf of several lines may be on, so that a resolver joins its lines.
 unfoldable pub joins_lines : ParseOptions → Bool
 joins_lines options =
     options.constructs.code_fenced || options.constructs.math_flow || options.constructs.code_indented
+    || options.constructs.html_flow
 
 -- whether an event stays as it is where lines are joined and lists are put around items
 abbrev pub stays_alone : Event → Bool
@@ -102,13 +113,15 @@ stays_alone e = passes Outside e && passes_lists e
 abbrev pub further_of : LeafName → LeafName
 further_of CodeIndented = CodeFurther
 further_of Fence = FenceFurther
+further_of HtmlFlow = HtmlFurther
 further_of l = l
 
--- The leaves of several lines that may be open between two lines, but for text: indented code, and fenced code and math
--- that a fence of enough markers has opened.
+-- The leaves of several lines that may be open between two lines, but for text: indented code, HTML, and fenced code and
+-- math that a fence of enough markers has opened.
 unfoldable pub IsOpenSpan : Leaf → Type 0
 IsOpenSpan (OpenCode lines) = Unit {0}
 IsOpenSpan (OpenFence o lines) = is_fence (held_leaf.Fence o.marker o.size o.indent) ≡ true
+IsOpenSpan (OpenHtml kind lines) = Unit {0}
 IsOpenSpan open_leaf = ⊥
 
 -- the first of them that passes a test
@@ -120,6 +133,7 @@ first_of test (l ∷ ls) = if test l then Some l else first_of test ls
 abbrev pub tried_at : FlowState → Option LeafName
 tried_at flow.BeforeCodeIndented = Some CodeIndented
 tried_at flow.BeforeRaw = Some Fence
+tried_at flow.BeforeHtml = Some HtmlFlow
 tried_at flow.BeforeHeadingAtx = Some HeadingAtx
 tried_at flow.BeforeThematicBreak = Some ThematicBreak
 tried_at _ = None
@@ -130,8 +144,10 @@ number CodeIndented = 0
 number CodeFurther = 1
 number Fence = 2
 number FenceFurther = 3
-number HeadingAtx = 4
-number ThematicBreak = 5
+number HtmlFlow = 4
+number HtmlFurther = 5
+number HeadingAtx = 6
+number ThematicBreak = 7
 
 -- the leaves that are tried behind one, where it has not taken the line
 abbrev pub behind_in : ℕ → List LeafName → List LeafName
@@ -158,6 +174,8 @@ low_weight CodeIndented = (refl, refl)
 low_weight CodeFurther = (refl, refl)
 low_weight Fence = (refl, refl)
 low_weight FenceFurther = (refl, refl)
+low_weight HtmlFlow = (refl, refl)
+low_weight HtmlFurther = (refl, refl)
 low_weight HeadingAtx = (refl, refl)
 low_weight ThematicBreak = (refl, refl)
 
@@ -324,13 +342,14 @@ goes_at options c cells p = goes_by options c cells p (container_kind c)
 abbrev pub goes_over : Held → Bool
 goes_over held = (container_rules held.kind).over_empty held
 
--- States: which construct has each, what each does, and what is left at it; `is_name` finds a resolver among those that
--- are registered.
+-- States: which construct has each, what each does, and what is left at it, where this is the text; `is_name` finds a
+-- resolver among those that are registered.
 
 abbrev pub construct_owner : StateName → Scheme
 construct_owner (s.BlockQuote state) = quote_scheme
 construct_owner (s.CodeIndented state) = code_scheme
 construct_owner (s.HeadingAtx state) = heading_scheme
+construct_owner (s.HtmlFlow state) = html_scheme
 construct_owner (s.ListItem state) = item_scheme
 construct_owner (s.RawFlow state) = fence_scheme
 construct_owner (s.ThematicBreak state) = break_scheme
@@ -340,16 +359,18 @@ abbrev pub construct_transition : (ResolveName → ResolveName → Bool) → Sta
 construct_transition is_name (s.BlockQuote state) w = quote_transition state w
 construct_transition is_name (s.CodeIndented state) w = code_transition state w
 construct_transition is_name (s.HeadingAtx state) w = heading_transition (is_name r.HeadingAtx) state w
+construct_transition is_name (s.HtmlFlow state) w = html_transition state w
 construct_transition is_name (s.ListItem state) w = item_transition state w
 construct_transition is_name (s.RawFlow state) w = fence_transition state w
 construct_transition is_name (s.ThematicBreak state) w = break_transition state w
 construct_transition is_name _ w = record { to = Nok; world = w }
 
-abbrev pub construct_behaves : ParseOptions → Behaviour
-construct_behaves options (s.BlockQuote state) cells h = quote_behaves options state cells h
-construct_behaves options (s.CodeIndented state) cells h = code_behaves options state cells h
-construct_behaves options (s.HeadingAtx state) cells h = heading_behaves options state cells h
-construct_behaves options (s.ListItem state) cells h = item_behaves options state cells h
-construct_behaves options (s.RawFlow state) cells h = fence_behaves options state cells h
-construct_behaves options (s.ThematicBreak state) cells h = break_behaves options state cells h
-construct_behaves options _ cells h = Refuses h.scratch h.flags
+abbrev pub construct_behaves : List ℕ → ParseOptions → Behaviour
+construct_behaves bytes options (s.BlockQuote state) cells h = quote_behaves options state cells h
+construct_behaves bytes options (s.CodeIndented state) cells h = code_behaves options state cells h
+construct_behaves bytes options (s.HeadingAtx state) cells h = heading_behaves options state cells h
+construct_behaves bytes options (s.HtmlFlow state) cells h = html_behaves bytes options state cells h
+construct_behaves bytes options (s.ListItem state) cells h = item_behaves options state cells h
+construct_behaves bytes options (s.RawFlow state) cells h = fence_behaves options state cells h
+construct_behaves bytes options (s.ThematicBreak state) cells h = break_behaves options state cells h
+construct_behaves bytes options _ cells h = Refuses h.scratch h.flags

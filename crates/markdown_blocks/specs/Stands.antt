@@ -3,8 +3,8 @@
 --
 -- The events before a line, without the ends of the containers that the line closes, spell the finished blocks, and the
 -- open leaf as if it ended there. What is still open, and may go on, is told by the flags. What the tokenizer holds of
--- a container is said in `Registry`. Items are meant as they stand before their resolver puts lists around them. A leaf
--- of several lines (fenced code, HTML, a table) will add what its scratch holds.
+-- a container is said in `Registry`, and of the open leaf in `HeldLeaf`. Items are meant as they stand before their
+-- resolver puts lists around them.
 use Rattle.markdown_blocks.specs.HeldLeaf.{IsBuiltLeaf, MatchesLeaf, kind_of_leaf}
 use Rattle.md_engine.specs.declared.tokenizer.held_leaf.HeldLeaf.{HeldLeaf}
 use Rattle.std.specs.Prelude.{◌≡◌, List, [], ◌∷◌, None}

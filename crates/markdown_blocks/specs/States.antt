@@ -1,5 +1,5 @@
 -- The table of flow: which construct has each state, what each does, and what is left at it.
-use Rattle.std.specs.Prelude.{◌≡◌, Bool, true, false, Option, Some, None}
+use Rattle.std.specs.Prelude.{◌≡◌, ℕ, Bool, true, false, List, Option, Some, None}
 use Rattle.md_engine.specs.declared.resolve.name.Name.{Name as ResolveName}
 use Rattle.md_engine.specs.declared.resolve.name.Name.TheVariants as r
 use Rattle.md_engine.specs.declared.state.Name.{Name as StateName}
@@ -91,15 +91,15 @@ pub record FlowStep (is_name : ResolveName → ResolveName → Bool) (name : Sta
   pub to_is : to ≡ (flow_transition is_name name w).to
   pub new_is : new ≡ (flow_transition is_name name w).world
 
--- what is left at each state, by a rule for what follows behind the line,
-abbrev pub flow_behaves_by : ParseOptions → Rule → Behaviour
-flow_behaves_by options next (s.BlankLine state) cells h = blank_behaves state cells h
-flow_behaves_by options next (s.Content state) cells h = chunk_behaves state cells h
-flow_behaves_by options next (s.Document state) cells h = containers_behave options next state cells h
-flow_behaves_by options next (s.Flow state) cells h = leaves_behave options next state cells h
-flow_behaves_by options next (s.SpaceOrTab state) cells h = white_behaves state cells h
-flow_behaves_by options next name cells h = construct_behaves options name cells h
+-- what is left at each state, where this is the text, by a rule for what follows behind the line,
+abbrev pub flow_behaves_by : List ℕ → ParseOptions → Rule → Behaviour
+flow_behaves_by bytes options next (s.BlankLine state) cells h = blank_behaves state cells h
+flow_behaves_by bytes options next (s.Content state) cells h = chunk_behaves state cells h
+flow_behaves_by bytes options next (s.Document state) cells h = containers_behave options next state cells h
+flow_behaves_by bytes options next (s.Flow state) cells h = leaves_behave options next state cells h
+flow_behaves_by bytes options next (s.SpaceOrTab state) cells h = white_behaves state cells h
+flow_behaves_by bytes options next name cells h = construct_behaves bytes options name cells h
 
 -- where all further lines follow behind it
-abbrev pub flow_behaves : ParseOptions → Behaviour
-flow_behaves options = flow_behaves_by options (flow_at options)
+abbrev pub flow_behaves : List ℕ → ParseOptions → Behaviour
+flow_behaves bytes options = flow_behaves_by bytes options (flow_at options)

@@ -10,3 +10,4 @@ pub use md_leaves::{
     blank_line, heading_atx, partial_bom, partial_non_lazy_continuation, thematic_break,
 };
 pub use md_lines::{code_indented, raw_flow};
+pub use md_rich::html_flow;

@@ -21,10 +21,10 @@ pub content_push : (s s' : State) (w w' : World) (limit total : ℕ) → total <
     comes_to content_behaves (text_feed (reads_to w total).setting) s' w') ×
     stands content_scheme w' (plain s')
 content_push s s' w w' limit total small le at run =
-    runs-mean ContentStep content_scheme w.setting.options content_behaves false
+    runs-mean ContentStep content_scheme content_behaves false
     (text_feed (reads_to w total).setting) s (reads_to w limit)
-    (content_means w.setting.options false) content_stands
-    (text-follows (reads_to w total).setting limit false small le (λ e. cc)) refl at s' w' run
+    (content_means (reads_to w limit).setting false) content_stands
+    (text-follows (reads_to w total).setting limit false small le (λ e. cc)) at s' w' run
 
 -- a flush comes to where the tokenizer ends
 pub content_flush : (R : Resolution) (s : State) (w : World) (resolve : Bool) (found : Found) (new : World) →
@@ -33,9 +33,9 @@ pub content_flush : (R : Resolution) (s : State) (w : World) (resolve : Bool) (f
     comes_to content_behaves (text_feed w.setting) s w ≡
     goes content_behaves f.end (text_feed w.setting f.at.point) (here f.at)
 content_flush R s w resolve found new small at f =
-    flush-means ContentStep R content_scheme w.setting.options content_behaves
-    (text_feed w.setting) s w resolve found new (content_means w.setting.options true) content_stands
-    (text-follows w.setting w.setting.limit true small (omega arith) (λ e. refl)) refl at f
+    flush-means ContentStep R content_scheme content_behaves
+    (text_feed w.setting) s w resolve found new (content_means w.setting true) content_stands
+    (text-follows w.setting w.setting.limit true small (omega arith) (λ e. refl)) at f
 
 -- one that accepts ends with these events
 pub content_outcome : (R : Resolution) (s : State) (w : World) (resolve : Bool) (found : Found) (new : World)

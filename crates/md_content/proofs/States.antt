@@ -1,6 +1,5 @@
 -- Each state of content keeps what its table needs, and takes one step of what it means.
 use Rattle.std.proofs.Common.{◌≡◌, Bool, refl}
-use Rattle.md_engine.specs.declared.configuration.ParseOptions.{ParseOptions}
 use Rattle.md_engine.specs.declared.state.Name.{Name as StateName}
 use Rattle.md_engine.specs.declared.state.Name.TheVariants as n
 use Rattle.md_engine.specs.declared.state.State.TheVariants.{Next}
@@ -8,7 +7,7 @@ use Rattle.md_engine.specs.Meaning.{Feed, Steps}
 use Rattle.md_engine.specs.Run.{reading}
 use Rattle.md_engine.specs.Scheme.{stands}
 use Rattle.md_engine.specs.Standing.{MeansAt, StandsOn}
-use Rattle.md_engine.specs.World.{World, looks}
+use Rattle.md_engine.specs.World.{Setting, World, looks}
 use Rattle.md_engine.proofs.Local.{fits}
 use Rattle.md_engine.proofs.StepOf.{Sees, sees, steps-as}
 use Rattle.md_content.specs.States.{ContentStep, content_behaves, content_owner, content_scheme, content_transition}
@@ -34,9 +33,9 @@ content_steps feed (n.Paragraph state) w s at = paragraph_steps content_behaves 
 content_steps feed name w s at = absurd at
 
 -- each state of content takes one step of what it means
-pub content_means : (options : ParseOptions) (is_end : Bool) →
-    MeansAt ContentStep content_scheme options content_behaves is_end
-content_means options is_end feed name w to new f called step =
+pub content_means : (under : Setting) (is_end : Bool) →
+    MeansAt ContentStep content_scheme under content_behaves is_end
+content_means under is_end feed name w to new f called step =
     steps-as content_behaves feed (Next name) _ to (reading w) _ new step.to_is step.new_is
     (content_steps feed name (reading w) (sees feed w is_end f called.may) called.stands)
 

@@ -9,19 +9,12 @@ use Rattle.md_definition.specs.Rest.{is_white, is_blank, is_parted, trim_start}
 use Rattle.md_definition.specs.Bytes.{after, begins, after_optional}
 use Rattle.md_definition.specs.Ascii.{backtick, colon, dot, double_quote, equals_sign, exclamation_mark, greater_than}
 use Rattle.md_definition.specs.Ascii.{hyphen, less_than, single_quote, slash, underscore}
-
--- The kinds 1 to 7 of the standard, in its order.
-pub data HtmlKind : Type 0 where
-  -- of `pre`, `script`, `style` and `textarea`
-  Raw : HtmlKind
-  Comment : HtmlKind
-  Instruction : HtmlKind
-  Declaration : HtmlKind
-  Cdata : HtmlKind
-  -- of a name of the standard's long list
-  Basic : HtmlKind
-  -- of any complete tag
-  Complete : HtmlKind
+-- The kinds 1 to 7 of the standard, in its order: Raw is kind 1 (of `pre`, `script`, `style` and `textarea`), then come
+-- Comment, Instruction, Declaration and Cdata, Basic is kind 6 (of a name of the standard's long list), and Complete is
+-- kind 7 (of any complete tag). A tokenizer holds the kind of an open block, so its engine has their names.
+pub use Rattle.md_engine.specs.declared.tokenizer.held_leaf.HtmlKind.{HtmlKind}
+pub use Rattle.md_engine.specs.declared.tokenizer.held_leaf.HtmlKind.TheVariants.{Raw, Comment, Instruction}
+pub use Rattle.md_engine.specs.declared.tokenizer.held_leaf.HtmlKind.TheVariants.{Declaration, Cdata, Basic, Complete}
 
 -- the names of kind 1
 abbrev pub raw_names : List (List ℕ)

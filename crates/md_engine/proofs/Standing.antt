@@ -1,6 +1,5 @@
 -- A run from where a table stands keeps what the tokenizer comes to.
 use Rattle.std.proofs.Common.{◌≡◌, Bool, refl, sym, ◌∙◌, ap, subst}
-use Rattle.md_engine.specs.declared.configuration.ParseOptions.{ParseOptions}
 use Rattle.md_engine.specs.declared.state.State.{State}
 use Rattle.md_engine.specs.declared.state.State.TheVariants.{Next}
 use Rattle.md_engine.specs.Meaning.{Behaviour, Feed, Follows, comes_to}
@@ -12,25 +11,23 @@ use Rattle.md_engine.specs.World.{Setting, World}
 use Rattle.md_engine.proofs.Falls.{leaves_stands}
 use Rattle.md_engine.proofs.Keeps.{leaves-keep, plain-same, runs-setting, steps-keep}
 
-pub runs-mean : (T : Step) (S : Scheme) (options : ParseOptions) (B : Behaviour) (is_end : Bool) (feed : Feed)
-    (s : State) (w : World) →
-    MeansAt T S options B is_end → StandsOn T S → Follows feed w.setting is_end → w.setting.options ≡ options →
-    stands S w (plain s) →
+pub runs-mean : (T : Step) (S : Scheme) (B : Behaviour) (is_end : Bool) (feed : Feed) (s : State) (w : World) →
+    MeansAt T S w.setting B is_end → StandsOn T S → Follows feed w.setting is_end → stands S w (plain s) →
     (s' : State) (w' : World) → Runs T is_end s w s' w' →
     (comes_to B feed s w ≡ comes_to B feed s' w') × stands S w' (plain s')
-runs-mean T S options B is_end feed s w m on f o at s' w' Stays = (refl, at)
-runs-mean T S options B is_end feed s w m on f o at s' w' (ThenLeaves t v t' v' r l) =
-    let before = runs-mean T S options B is_end feed s w m on f o at t v r in
+runs-mean T S B is_end feed s w m on f at s' w' Stays = (refl, at)
+runs-mean T S B is_end feed s w m on f at s' w' (ThenLeaves t v t' v' r l) =
+    let before = runs-mean T S B is_end feed s w m on f at t v r in
     (before.0 ∙ leaves-keep B feed t t' v v' l, leaves_stands S v v' t t' l before.1)
-runs-mean T S options B is_end feed s w m on f o at s' w' (ThenCalls t v t' v' r c) =
-    let before = runs-mean T S options B is_end feed s w m on f o at t v r in
+runs-mean T S B is_end feed s w m on f at s' w' (ThenCalls t v t' v' r c) =
+    let before = runs-mean T S B is_end feed s w m on f at t v r in
     let P : Setting → Type 0 = λ x. Follows feed x is_end in
     let Q : State → Type 0 = λ x. stands S v x in
     let here' : stands S v (Next c.name) = subst Q c.names before.1 in
     let kept : v.setting ≡ w.setting = runs-setting T is_end s w t v r in
-    let called : IsCalled S options is_end c.name v = record {
+    let called : IsCalled S w.setting is_end c.name v = record {
       may = c.may;
-      options = ap (λ (x : Setting). x.options) kept ∙ o;
+      setting = kept;
       stands = here';
     } in (
       before.0 ∙ sym (plain-same B feed v t) ∙ ap (λ (x : State). comes_to B feed x v) c.names

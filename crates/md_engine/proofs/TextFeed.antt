@@ -2,7 +2,6 @@
 use Rattle.std.proofs.Common.{◌≡◌, ℕ, zero, suc, ◌^◌, ◌<◌, ◌≤◌, Bool, true, false, cond, nat_lt, List, [], ◌∷◌, length}
 use Rattle.std.proofs.Common.{refl, sym, ◌∙◌, ap, arith}
 use Rattle.std.proofs.lemmas.Bool.Decides.{nat_tests}
-use Rattle.md_engine.specs.declared.configuration.ParseOptions.{ParseOptions}
 use Rattle.md_engine.specs.declared.event.Point.{Point}
 use Rattle.md_engine.specs.declared.state.State.{State}
 use Rattle.md_engine.specs.declared.tokenizer.Frame.{Frame}
@@ -99,11 +98,10 @@ text-follows x limit is_end small le end = record {
 }
 
 -- what a tokenizer comes to is where it has come to at the end
-pub flush-means : (T : Step) (R : Resolution) (S : Scheme) (options : ParseOptions) (B : Behaviour) (feed : Feed)
-    (s : State) (w : World) (resolve : Bool) (found : Found) (new : World) →
-    MeansAt T S options B true → StandsOn T S → Follows feed w.setting true → w.setting.options ≡ options →
-    stands S w (plain s) →
+pub flush-means : (T : Step) (R : Resolution) (S : Scheme) (B : Behaviour) (feed : Feed) (s : State) (w : World)
+    (resolve : Bool) (found : Found) (new : World) →
+    MeansAt T S w.setting B true → StandsOn T S → Follows feed w.setting true → stands S w (plain s) →
     (f : Flushes T R s w resolve found new) → comes_to B feed s w ≡ goes B f.end (feed f.at.point) (here f.at)
-flush-means T R S options B feed s w resolve found new m on follows o at f =
-    (runs-mean T S options B true feed s w m on follows o at f.end f.at f.runs).0
+flush-means T R S B feed s w resolve found new m on follows at f =
+    (runs-mean T S B true feed s w m on follows at f.end f.at f.runs).0
     ∙ ap (λ (x : List Frame). resume_all B feed f.at.events x (goes B f.end (feed f.at.point) (here f.at))) f.none_left

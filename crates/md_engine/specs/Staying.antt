@@ -71,6 +71,7 @@ takes stay.White s b = is_white b && nat_lt s.whitespace.size s.whitespace.max
 takes (stay.Byte one) s b = b == one
 takes (stay.UpTo one most) s b = (b == one) && nat_lt s.size most
 takes stay.Markers s b = (b == s.marker) && nat_lt s.size (2 ^ 64 - 1)
+takes stay.ToMarker s b = not (b == 10) && not (b == s.marker)
 
 abbrev pub counted : Stay → Scratch → Scratch
 counted stay.White s = record s { whitespace = record s.whitespace { size = s.whitespace.size + 1 } }

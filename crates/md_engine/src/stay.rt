@@ -21,6 +21,8 @@ pub enum Stay {
     UpTo(u8, usize),
     /// The marker, counted as `size`.
     Markers,
+    /// The rest of a line, up to the marker.
+    ToMarker,
 }
 
 impl Stay {
@@ -35,6 +37,7 @@ impl Stay {
             Stay::Byte(one) => byte == one,
             Stay::UpTo(one, most) => byte == one && scratch.size < most,
             Stay::Markers => byte == scratch.marker && scratch.size < usize::MAX,
+            Stay::ToMarker => byte != b'\n' && byte != scratch.marker,
         }
     }
 
@@ -44,7 +47,7 @@ impl Stay {
         ensures { scratch.new ≡ counted self scratch.old }
     {
         match self {
-            Stay::Line | Stay::Word | Stay::Byte(_) => {}
+            Stay::Line | Stay::Word | Stay::Byte(_) | Stay::ToMarker => {}
             Stay::White => {
                 let whitespace = scratch.whitespace;
                 scratch.whitespace = Whitespace {

@@ -1,6 +1,6 @@
 -- What the steps of leaves share: what is seen of a byte, and a run of whitespace that is taken byte by byte.
 use Rattle.std.proofs.Common.{◌≡◌, ℕ, Bool, true, false, List, [], ◌∷◌, ◌++◌, length, Option, Some, None, refl, sym}
-use Rattle.std.proofs.Common.{◌∙◌, arith, zero, suc, ◌≤◌, append_assoc, ap₂}
+use Rattle.std.proofs.Common.{◌∙◌, arith, zero, suc, ◌≤◌, append_assoc, ap₂, nat_eq}
 use Rattle.md_engine.specs.declared.event.Event.{Event}
 use Rattle.md_engine.specs.declared.event.Name.TheVariants.{SpaceOrTab}
 use Rattle.md_engine.specs.declared.state.State.{State}
@@ -10,10 +10,11 @@ use Rattle.md_engine.specs.declared.tokenizer.Scratch.{Scratch}
 use Rattle.md_engine.specs.Meaning.{Cell, Feed, Here, Outcome}
 use Rattle.md_engine.specs.World.{World, after}
 use Rattle.md_engine.proofs.StepOf.{Sees, ahead, cell_here}
-use Rattle.md_seam.specs.Ahead.{white_rest, white_end}
+use Rattle.md_definition.specs.Bytes.{is_end}
+use Rattle.md_seam.specs.Ahead.{from_ending, line_bytes, line_cells, white_end, white_rest}
 use Rattle.md_seam.specs.Events.Nested.{enter, exit}
 use Rattle.md_definition.specs.Rest.{is_white}
-use Rattle.md_seam.specs.Spaces.{calmed}
+use Rattle.md_seam.specs.Spaces.{calmed, ends_line}
 use Rattle.md_seam.proofs.WhiteSteps.{behind_white}
 
 -- what is seen of a byte that passes a test
@@ -25,6 +26,38 @@ sees-one feed w t none s e = go w.current e s.next
         (b : ℕ) × (feed w.point ≡ cell_here feed w b ∷ feed (after w.setting w.point)) × (t (Some b) ≡ true)
     go None e k = let bad : true ≡ false = sym e ∙ none in cc
     go (Some b) e k = (b, k, e)
+
+-- Where the line ends.
+
+-- where the line ends here, nothing of it is left
+pub record Ended (cells : List Cell) : Type 0 where
+  pub line : line_cells cells ≡ []
+  pub ending : from_ending cells ≡ cells
+
+pub ended : (cells : List Cell) → is_end (line_bytes cells) ≡ true → Ended cells
+ended [] e = record { line = refl; ending = refl }
+ended (c ∷ cs) e = go (nat_eq c.byte 10) refl
+  where
+    go : (x : Bool) → nat_eq c.byte 10 ≡ x → Ended (c ∷ cs)
+    go true k = record { line = rw k refl; ending = rw k refl }
+    go false k = let bad : false ≡ true = rw k at e in cc
+
+-- what is seen of that
+end-ahead : (feed : Feed) (w : World) (o : Option ℕ) → is_end (line_bytes (ahead feed w o)) ≡ ends_line o
+end-ahead feed w None = refl
+end-ahead feed w (Some b) = go (nat_eq b 10) refl
+  where
+    go : (x : Bool) → nat_eq b 10 ≡ x → is_end (line_bytes (ahead feed w (Some b))) ≡ nat_eq b 10
+    go true e = rw e refl
+    go false e = rw e refl
+
+pub end-seen : (feed : Feed) (w : World) → Sees feed w → is_end (line_bytes (feed w.point)) ≡ ends_line w.current
+end-seen feed w s = rw s.next (end-ahead feed w w.current)
+
+pub ends-seen : (feed : Feed) (w : World) → Sees feed w → ends_line w.current ≡ true → Ended (feed w.point)
+ends-seen feed w s e = ended (feed w.point) (end-seen feed w s ∙ e)
+
+-- Whitespace.
 
 abbrev pub white_frame : State → World → List Event → Frame
 white_frame ok w events = record { ok = ok; nok = Nok; is_check = false; events_len = length events; point = w.point }

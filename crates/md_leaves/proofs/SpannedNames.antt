@@ -119,4 +119,5 @@ pub part-no_lines : (name : Name) → is_part name ≡ true → has_lines (role 
 part-no_lines n.CodeIndented h = absurd (let none : false ≡ true = h in cc)
 part-no_lines n.CodeFenced h = absurd (let none : false ≡ true = h in cc)
 part-no_lines n.MathFlow h = absurd (let none : false ≡ true = h in cc)
+part-no_lines n.HtmlFlow h = absurd (let none : false ≡ true = h in cc)
 part-no_lines _ h = refl

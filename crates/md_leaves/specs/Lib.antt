@@ -1,6 +1,7 @@
 pub mod Blank
 pub mod Bom
 pub mod Break
+pub mod Further
 pub mod Heading
 pub mod HeadingHeld
 pub mod HeadingText

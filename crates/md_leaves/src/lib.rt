@@ -2,6 +2,7 @@
 #![tactic(auto)]
 
 pub mod blank_line;
+pub mod further;
 pub mod heading_atx;
 pub mod heading_text;
 mod leaf_start;

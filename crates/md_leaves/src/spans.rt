@@ -29,7 +29,10 @@ use md_seam::names::is_block;
 fn has_lines(name: Name) -> bool
     ensures { result ≡ has_lines (role name) }
 {
-    matches!(name, Name::CodeIndented | Name::CodeFenced | Name::MathFlow)
+    matches!(
+        name,
+        Name::CodeIndented | Name::CodeFenced | Name::MathFlow | Name::HtmlFlow
+    )
 }
 
 /// Whether these events are of a line of code.

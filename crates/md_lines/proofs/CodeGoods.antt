@@ -14,7 +14,7 @@ use Rattle.md_engine.proofs.Points.{stays, takes}
 use Rattle.md_lines.specs.Code.{begun_code, code_level, code_rank, code_scheme, code_transition}
 use Rattle.md_lines.specs.Code.{further_after_code, further_begin_code, further_inside_code, inside_blank_code}
 use Rattle.md_lines.specs.Code.{inside_code}
-use Rattle.md_lines.specs.Further.{further_link}
+use Rattle.md_leaves.specs.Further.{further_link}
 use Rattle.md_seam.specs.Events.Nested.{enter, enter_link}
 use Rattle.md_seam.specs.Spaces.{IsRest, ends_line, rest_ready, sees_white}
 use Rattle.md_seam.specs.Transition.{entered, exited, taken}

@@ -2,7 +2,6 @@
 use Rattle.std.proofs.Common.{◌≡◌, ℕ, zero, suc, ◌+◌, ◌-◌, ◌<◌, ◌≤◌, Bool, true, false, cond, ◌&&◌, ◌||◌, List, [], ◌∷◌}
 use Rattle.std.proofs.Common.{◌++◌, slice_range, Some, None, refl, sym, ap, ap₂, ◌∙◌, arith}
 use Rattle.std.specs.Prelude.{◌==◌, nat_le, not}
-use Rattle.std.proofs.lemmas.Bool.{or_parts}
 use Rattle.std.proofs.lemmas.Bool.Decides.{nat_tests}
 use Rattle.md_engine.specs.declared.configuration.ParseOptions.{ParseOptions}
 use Rattle.md_engine.specs.declared.event.Point.{Point}
@@ -12,7 +11,7 @@ use Rattle.md_engine.specs.declared.tokenizer.held_leaf.HeldLeaf.TheVariants as 
 use Rattle.md_engine.specs.Meaning.{Cell}
 use Rattle.md_definition.specs.Bytes.{is_end}
 use Rattle.md_definition.specs.Leaves.{Opened, ParagraphContext, code_at, code_goes_on, code_line, is_free}
-use Rattle.md_definition.specs.Rest.{Rest, indent, is_blank, line_of, lose, tab_columns, without_column}
+use Rattle.md_definition.specs.Rest.{Rest, cut_tab, indent, is_blank, line_of, lose, tab_columns, without_column}
 use Rattle.md_definition.specs.State.{OpenCode}
 use Rattle.md_definition.specs.Tree.{Line}
 use Rattle.md_definition.proofs.TextsLemmas.{NoEnding}
@@ -20,49 +19,24 @@ use Rattle.md_lines.specs.Code.{may_open}
 use Rattle.md_lines.specs.CodeLine.{KeepsCode, chunk_line, told_line}
 use Rattle.md_lines.specs.CodeRule.{code_begins, code_goes, is_indented}
 use Rattle.md_seam.specs.Ahead.{line_bytes, line_end, white_end, white_rest, white_size}
-use Rattle.md_seam.specs.Events.Places.{past_byte, past_text}
+use Rattle.md_seam.specs.Events.Places.{past_text}
 use Rattle.md_seam.specs.Events.Spelled.{byte_at, columns_left, empty_line}
-use Rattle.md_seam.proofs.FeedLines.{Stops, cell, columns_more}
-use Rattle.md_seam.proofs.FeedLines.{past-next, slice-front, spread, tab_cells, tab_end}
+use Rattle.md_seam.proofs.FeedLines.{Stops, past-next, slice-front, tab_end}
 use Rattle.md_seam.proofs.InlineLemmas.{past-index}
 use Rattle.md_seam.proofs.LostColumns.{HasLost, lose-walk}
-use Rattle.md_seam.proofs.RestCells.{RestAt, cells_by, lose-no_ending, past_cut, past_rest, rest_cells}
-use Rattle.md_seam.proofs.RestCells.{without_first}
-use Rattle.md_seam.proofs.RestLines.{blank-cells, rest-past}
+use Rattle.md_seam.proofs.RestCells.{RestAt, lose-no_ending, past_cut, past_rest, rest_cells, without_first}
+use Rattle.md_seam.proofs.RestLines.{blank-cells, end-cells, rest-past}
 
 -- where the line ends before any cell, the rest is empty
 end-empty : (line : Fed) (r : Rest) (p : Point) (stop : List Cell) → NoEnding r.bytes → Stops stop →
     is_end (line_bytes (rest_cells line r p ++ stop)) ≡ true → line_of r ≡ empty_line
-end-empty line r p stop h k e = go r.spaces r.bytes h e
+end-empty line r p stop h k e = go r.spaces r.bytes (sym (end-cells line r p stop h k) ∙ e)
   where
-    go : (spaces : ℕ) (bytes : List ℕ) → NoEnding bytes →
-        is_end (line_bytes (cells_by line spaces bytes p ++ stop)) ≡ true →
+    go : (spaces : ℕ) (bytes : List ℕ) → is_end (cut_tab spaces ++ bytes) ≡ true →
         line_of (record { column = r.column; spaces = spaces; bytes = bytes }) ≡ empty_line
-    go (suc zero) bytes h e = cc
-    go (suc (suc n)) bytes h e = cc
-    go zero [] h e = refl
-    go zero (b ∷ bs) h e = by (b == 9) e
-      where
-        more : List Cell
-        more = spread line bs (past_byte b p)
-
-        Empty : Type 0
-        Empty = line_of (record { column = r.column; spaces = 0; bytes = b ∷ bs }) ≡ empty_line
-
-        no_end : (b == 10) ≡ false
-        no_end = (or_parts (b == 10) (b == 13) h.0).0
-
-        tab : (n : ℕ) → is_end (line_bytes ((tab_cells line n 9 p ++ more) ++ stop)) ≡ true → Empty
-        tab zero e = cc
-        tab (suc n) e = cc
-
-        by : (t : Bool) →
-            is_end
-            (line_bytes
-            ((cond t (tab_cells line (columns_more p) 9 p) (cell b (past_byte b p) line ∷ []) ++ more) ++ stop)) ≡
-            true → Empty
-        by true e = tab (columns_more p) e
-        by false e = let bad : false ≡ true = rw no_end at e in cc
+    go zero [] e = refl
+    go zero (b ∷ bs) e = cc
+    go (suc n) bytes e = cc
 
 -- A chunk.
 

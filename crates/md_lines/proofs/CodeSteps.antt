@@ -1,5 +1,5 @@
 -- Each state of indented code takes one step of its rule.
-use Rattle.std.proofs.Common.{◌≡◌, ℕ, ◌+◌, ◌-◌, ◌≤◌, Bool, true, false, cond, ◌&&◌, nat_eq, nat_lt, List, [], ◌∷◌, ◌++◌}
+use Rattle.std.proofs.Common.{◌≡◌, ℕ, ◌+◌, ◌-◌, ◌≤◌, Bool, true, false, cond, ◌&&◌, nat_lt, List, [], ◌∷◌, ◌++◌}
 use Rattle.std.proofs.Common.{length, Option, Some, None, refl, sym, ◌∙◌, ap, ap₂, arith, append_assoc}
 use Rattle.std.proofs.Math.Seq.{take-length}
 use Rattle.std.specs.Prelude.{nat_le}
@@ -25,9 +25,8 @@ use Rattle.md_lines.specs.Code.{further_inside_code, inside_blank_code, inside_c
 use Rattle.md_lines.specs.CodeRule.{HasCode, at_break, behind_columns, blank_ends, code_ends, further_after}
 use Rattle.md_lines.specs.CodeRule.{further_begin, further_inside, further_line, in_blank, in_text, is_indented}
 use Rattle.md_lines.specs.CodeRule.{line_at, or_blank, then_here}
-use Rattle.md_lines.specs.Further.{further_link}
-use Rattle.md_lines.proofs.CodeWhole.{Ended, ended}
-use Rattle.md_leaves.proofs.LeafSteps.{sees-one, white_frame}
+use Rattle.md_leaves.specs.Further.{further_link}
+use Rattle.md_leaves.proofs.LeafSteps.{Ended, end-seen, ends-seen, sees-one, white_frame}
 use Rattle.md_seam.specs.Ahead.{HasWhite, after_white, begins_white, inside_white, line_bytes, white_at}
 use Rattle.md_seam.specs.Ahead.{white_end, white_rest, white_size}
 use Rattle.md_seam.specs.Events.Nested.{enter, enter_link, exit}
@@ -36,22 +35,6 @@ use Rattle.md_definition.specs.Rest.{is_white}
 use Rattle.md_seam.specs.Spaces.{IsRest, asking, calmed, ends_line, sees_white}
 use Rattle.md_seam.proofs.AheadLemmas.{none-size, white-no_ending}
 use Rattle.md_seam.proofs.WhiteSteps.{begins-seen, white-tried}
-
--- Whether the line ends here.
-
-end-ahead : (feed : Feed) (w : World) (o : Option ℕ) → is_end (line_bytes (ahead feed w o)) ≡ ends_line o
-end-ahead feed w None = refl
-end-ahead feed w (Some b) = go (nat_eq b 10) refl
-  where
-    go : (x : Bool) → nat_eq b 10 ≡ x → is_end (line_bytes (ahead feed w (Some b))) ≡ nat_eq b 10
-    go true e = rw e refl
-    go false e = rw e refl
-
-end-seen : (feed : Feed) (w : World) → Sees feed w → is_end (line_bytes (feed w.point)) ≡ ends_line w.current
-end-seen feed w s = rw s.next (end-ahead feed w w.current)
-
-ends-seen : (feed : Feed) (w : World) → Sees feed w → ends_line w.current ≡ true → Ended (feed w.point)
-ends-seen feed w s e = ended (feed w.point) (end-seen feed w s ∙ e)
 
 -- So many columns of whitespace.
 

@@ -14,8 +14,9 @@ use Rattle.md_lines.specs.Code.{may_open}
 use Rattle.md_lines.specs.CodeRule.{at_break, behind_columns, blank_adds, blank_ends, code_adds, code_adds_on, code_at}
 use Rattle.md_lines.specs.CodeRule.{code_begins, code_further, code_goes, further_after, further_begin, further_inside}
 use Rattle.md_lines.specs.CodeRule.{in_blank, in_text, is_indented, line_adds, line_at, line_by, or_blank, then_here}
-use Rattle.md_lines.specs.Further.{further_link}
-use Rattle.md_seam.specs.Ahead.{begins_white, from_ending, line_bytes, line_cells, line_end, white_end}
+use Rattle.md_leaves.specs.Further.{further_link}
+use Rattle.md_leaves.proofs.LeafSteps.{ended}
+use Rattle.md_seam.specs.Ahead.{begins_white, line_bytes, line_end, white_end}
 use Rattle.md_seam.specs.Ahead.{white_rest}
 use Rattle.md_seam.specs.Events.Nested.{enter, enter_link, exit, pair}
 use Rattle.md_definition.specs.Bytes.{is_end}
@@ -24,19 +25,6 @@ use Rattle.md_seam.specs.Spaces.{calmed}
 use Rattle.md_seam.proofs.AheadLemmas.{none-rest, white-ending, white-line_end, white-no_ending}
 
 -- Whitespace, and the end of a line.
-
--- where the line ends here, nothing of it is left
-pub record Ended (cells : List Cell) : Type 0 where
-  pub line : line_cells cells ≡ []
-  pub ending : from_ending cells ≡ cells
-
-pub ended : (cells : List Cell) → is_end (line_bytes cells) ≡ true → Ended cells
-ended [] e = record { line = refl; ending = refl }
-ended (c ∷ cs) e = go (nat_eq c.byte 10) refl
-  where
-    go : (x : Bool) → nat_eq c.byte 10 ≡ x → Ended (c ∷ cs)
-    go true k = record { line = rw k refl; ending = rw k refl }
-    go false k = let bad : false ≡ true = rw k at e in cc
 
 -- an ended line is blank
 end-blank : (cells : List Cell) → is_end (line_bytes cells) ≡ true → is_blank (line_bytes cells) ≡ true

@@ -22,7 +22,7 @@ use Rattle.md_lines.specs.Fence.{block_name, chunk_name, held_indent, held_marke
 use Rattle.md_lines.specs.FenceLine.{chunk_events, closes_here, closing_end, fence_goes, further_end, further_events}
 use Rattle.md_lines.specs.FenceLine.{further_inside, further_rest, is_closing, spaces}
 use Rattle.md_lines.specs.FenceRule.{is_end, is_line, run_end, run_rest, run_size}
-use Rattle.md_lines.specs.Further.{further_link}
+use Rattle.md_leaves.specs.Further.{further_link}
 use Rattle.md_lines.proofs.FenceCells.{closing-spread, first-spread, line-all, line-done, line-run, line-white}
 use Rattle.md_lines.proofs.FenceCells.{marker-dark, marker-goes}
 use Rattle.md_seam.specs.Ahead.{begins_white, from_ending, line_end, white_end, white_rest}

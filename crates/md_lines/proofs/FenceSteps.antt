@@ -36,7 +36,7 @@ use Rattle.md_lines.specs.FenceRule.{closed_or_content, content_at, fence_at, fu
 use Rattle.md_lines.specs.FenceRule.{in_close, in_info, in_meta, in_sequence, is_end, is_line, is_word, line_begun}
 use Rattle.md_lines.specs.FenceRule.{line_done, opens, part_begun, part_ended, refuses, run_end, run_has, run_rest}
 use Rattle.md_lines.specs.FenceRule.{run_size, with_event}
-use Rattle.md_lines.specs.Further.{further_link}
+use Rattle.md_leaves.specs.Further.{further_link}
 use Rattle.md_lines.proofs.FenceGoods.{rest-clear}
 use Rattle.md_leaves.proofs.LeafSteps.{sees-one, white_frame}
 use Rattle.md_seam.specs.Ahead.{begins_white}

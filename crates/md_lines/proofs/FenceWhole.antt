@@ -17,7 +17,7 @@ use Rattle.md_lines.specs.FenceLine.{further_taken, is_closing, spaces}
 use Rattle.md_lines.specs.FenceRule.{before_chunk, before_close, behind_columns, behind_white_of, close_at, close_end}
 use Rattle.md_lines.specs.FenceRule.{closed_or_content, content_at, further_at, in_chunk, in_close, is_end, is_line}
 use Rattle.md_lines.specs.FenceRule.{line_begun, refuses, run_end, run_rest, run_size, with_event}
-use Rattle.md_lines.specs.Further.{further_link}
+use Rattle.md_leaves.specs.Further.{further_link}
 use Rattle.md_lines.proofs.FenceGoods.{rest-clear}
 use Rattle.md_lines.proofs.FenceSteps.{line-first, run-none}
 use Rattle.md_seam.specs.Ahead.{begins_white, white_end, white_rest}

@@ -11,7 +11,7 @@ use Rattle.md_engine.specs.declared.tokenizer.held_leaf.HeldLeaf.{HeldLeaf}
 use Rattle.md_engine.specs.declared.tokenizer.held_leaf.HeldLeaf.TheVariants as held_leaf
 use Rattle.md_engine.specs.Scheme.{Rank, Scheme, Spot, ranked}
 use Rattle.md_engine.specs.World.{World}
-use Rattle.md_lines.specs.Further.{further_link}
+use Rattle.md_leaves.specs.Further.{further_link}
 use Rattle.md_seam.specs.Events.Nested.{enter, enter_link}
 use Rattle.md_seam.specs.Spaces.{ends_line, rest_ready, sees_white, white_then}
 use Rattle.md_seam.specs.Transition.{Transition, entered, exited, taken, tried}
@@ -19,6 +19,7 @@ use Rattle.md_seam.specs.Transition.{Transition, entered, exited, taken, tried}
 -- whether code may begin where this leaf is open: text is not interrupted, and any other leaf has ended before
 abbrev pub may_open : HeldLeaf → Bool
 may_open held_leaf.Text = false
+may_open held_leaf.LazyText = false
 may_open _ = true
 
 -- a line of code with this begin, by whether it may begin, and whitespace stands here

@@ -12,7 +12,7 @@ use Rattle.md_engine.specs.declared.tokenizer.held_leaf.HeldLeaf.{HeldLeaf}
 use Rattle.md_engine.specs.declared.tokenizer.held_leaf.HeldLeaf.TheVariants as held_leaf
 use Rattle.md_engine.specs.Meaning.{Accepts, Behaviour, Cell, Here, Outcome, Refuses}
 use Rattle.md_lines.specs.Code.{may_open}
-use Rattle.md_lines.specs.Further.{further_link}
+use Rattle.md_leaves.specs.Further.{further_link}
 use Rattle.md_seam.specs.Ahead.{HasWhite, begins_white, from_ending, line_bytes, line_end, white_end, white_rest}
 use Rattle.md_seam.specs.Ahead.{white_size}
 use Rattle.md_seam.specs.Events.Nested.{enter, enter_link, exit, pair}

@@ -17,7 +17,7 @@ use Rattle.md_engine.specs.declared.tokenizer.held_leaf.HeldLeaf.TheVariants as 
 use Rattle.md_engine.specs.Scheme.{After, Ends, Rank, Scheme, Spot, cells_before, ranked, seen}
 use Rattle.md_engine.specs.World.{World}
 use Rattle.md_definition.specs.Leaves.{is_fence_marker, least_size}
-use Rattle.md_lines.specs.Further.{further_link}
+use Rattle.md_leaves.specs.Further.{further_link}
 use Rattle.md_seam.specs.Spaces.{any_size, ends_line, IsRest, is_current, rest_ready, sees_white, small_indent, white_then}
 use Rattle.md_seam.specs.Transition.{Transition, entered, entered_link, exited, taken, tried}
 

@@ -15,7 +15,7 @@ use Rattle.md_definition.specs.Leaves.{is_fence_marker, least_size}
 use Rattle.md_definition.specs.Rest.{is_white}
 use Rattle.md_lines.specs.Fence.{block_name, chunk_name, cleared, fence_name, held_indent, held_marker, held_size, is_on}
 use Rattle.md_lines.specs.Fence.{is_refused, meta_name, sequence_name, string_link}
-use Rattle.md_lines.specs.Further.{further_link}
+use Rattle.md_leaves.specs.Further.{further_link}
 use Rattle.md_seam.specs.Ahead.{HasWhite, begins_white, white_end, white_rest}
 use Rattle.md_seam.specs.Events.Nested.{enter, enter_link, exit, pair}
 use Rattle.md_seam.specs.Look.{first_seen}

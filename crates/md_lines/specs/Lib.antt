@@ -1,5 +1,4 @@
 pub mod Code
-pub mod Further
 pub mod Fence
 pub mod CodeRule
 pub mod CodeLine

@@ -22,7 +22,6 @@ ghost use Rattle.md_lines.specs.Code.{may_open, start_transition};
 ghost use Rattle.md_seam.specs.Stays.{TakesEach};
 ghost use Rattle.md_seam.specs.Transition.{IsAt, NeedsNothing};
 
-use crate::further::FURTHER;
 use md_engine::event::Name;
 use md_engine::message::Message;
 use md_engine::or_error;
@@ -30,6 +29,7 @@ use md_engine::state::code_indented::State as CodeState;
 use md_engine::state::{Name as StateName, State};
 use md_engine::stay::Stay;
 use md_engine::tokenizer::{HeldLeaf, Tokenizer};
+use md_leaves::further::FURTHER;
 use md_seam::space_or_tab::{is_space_or_tab, space_or_tab_min_max};
 
 /// Code is indented by so many columns.
@@ -39,7 +39,7 @@ const INDENT: usize = 4;
 fn may_open(leaf: HeldLeaf) -> bool
     ensures { result ≡ may_open leaf }
 {
-    !matches!(leaf, HeldLeaf::Text)
+    !matches!(leaf, HeldLeaf::Text | HeldLeaf::LazyText)
 }
 
 /// Before the first line of code.

@@ -2,5 +2,4 @@
 #![tactic(auto)]
 
 pub mod code_indented;
-pub mod further;
 pub mod raw_flow;

@@ -38,7 +38,6 @@ ghost use Rattle.md_seam.specs.Spaces.{sees_white};
 ghost use Rattle.md_seam.specs.Stays.{TakesEach};
 ghost use Rattle.md_seam.specs.Transition.{IsAt};
 
-use crate::further::FURTHER;
 use md_engine::configuration::ParseOptions;
 use md_engine::event::{Content, Link, Name};
 use md_engine::or_error;
@@ -46,6 +45,7 @@ use md_engine::state::raw_flow::State as RawState;
 use md_engine::state::{Name as StateName, State};
 use md_engine::stay::Stay;
 use md_engine::tokenizer::{HeldLeaf, Scratch, Tokenizer};
+use md_leaves::further::FURTHER;
 use md_seam::space_or_tab::{is_space_or_tab, small_indent, space_or_tab_min_max};
 
 /// What stands behind an opening sequence is read later.

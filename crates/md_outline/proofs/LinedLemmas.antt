@@ -14,12 +14,12 @@ use Rattle.md_definition.specs.Outline.{part_entry}
 use Rattle.md_definition.specs.State.{then_block}
 use Rattle.md_definition.specs.Texts.{first_byte}
 use Rattle.md_definition.specs.Tree.{Line}
-use Rattle.md_seam.specs.Events.Spelled.{AsInfo, AsLine, AsMarkers, AsMeta, CodeLeaf, FenceLeaf, IsEnding, IsFence}
-use Rattle.md_seam.specs.Events.Spelled.{IsPrefix, IsQuiet, LeafKind, MathLeaf, OfCode, OfFence, OfMath, OpenLeaf, Opens}
-use Rattle.md_seam.specs.Events.Spelled.{Holds, OrderedShape, UnorderedShape, Reading, Tells, Text, at_ending, at_fence}
-use Rattle.md_seam.specs.Events.Spelled.{before_prefix, begun, block_of, byte_at, columns_left, empty_line, finished}
-use Rattle.md_seam.specs.Events.Spelled.{after_prefix, fresh, joined, next_line, on_last, on_leaf, read_by, read_enter}
-use Rattle.md_seam.specs.Events.Spelled.{read_exit, without_last}
+use Rattle.md_seam.specs.Events.Spelled.{AsInfo, AsLine, AsMarkers, AsMeta, CodeLeaf, FenceLeaf, Holds, HtmlLeaf}
+use Rattle.md_seam.specs.Events.Spelled.{IsEnding, IsFence, IsPrefix, IsQuiet, LeafKind, MathLeaf, OfCode, OfFence}
+use Rattle.md_seam.specs.Events.Spelled.{OfHtml, OfMath, OpenLeaf, Opens, OrderedShape, Reading, Tells, Text}
+use Rattle.md_seam.specs.Events.Spelled.{UnorderedShape, after_prefix, at_ending, at_fence, before_prefix, begun}
+use Rattle.md_seam.specs.Events.Spelled.{block_of, byte_at, columns_left, empty_line, finished, fresh, joined}
+use Rattle.md_seam.specs.Events.Spelled.{next_line, on_last, on_leaf, read_by, read_enter, read_exit, without_last}
 use Rattle.md_seam.specs.Events.Spelled as spelled
 use Rattle.md_outline.specs.HeadingDepths.{are_shallow}
 use Rattle.md_outline.specs.LinedState.{begin_lines, closed_word, filled_line, marked_word, with_head, without_end}
@@ -49,11 +49,13 @@ lined_leaf OfFence markers info meta lines closed =
     FenceLeaf (record { markers = markers; lines = lines; closed = closed }) info meta
 lined_leaf OfMath markers info meta lines closed =
     MathLeaf (record { markers = markers; lines = lines; closed = closed }) meta
+lined_leaf OfHtml markers info meta lines closed = HtmlLeaf lines
 lined_leaf _ markers info meta lines closed = CodeLeaf lines
 
 abbrev pub lined_word : LeafKind → ℕ → Bool → Word
 lined_word OfFence marker closed = word.Fence marker closed
 lined_word OfMath marker closed = word.Math closed
+lined_word OfHtml marker closed = word.Html
 lined_word _ marker closed = word.Code
 
 abbrev pub lined_parts : LeafKind → ℕ → Option (List ℕ) → Option (List ℕ) → List Entry
@@ -72,6 +74,7 @@ lined-shown : (kind : LeafKind) (depth : ℕ) (markers : List ℕ) (info meta : 
     ≡ lined_entries kind depth markers info meta lines closed
 lined-shown OfFence depth markers info meta lines closed = refl
 lined-shown OfMath depth markers info meta lines closed = refl
+lined-shown OfHtml depth markers info meta lines closed = refl
 lined-shown _ depth markers info meta lines closed = refl
 
 -- What an outline has shown of one that is open: its lines, as if it ended here.
@@ -221,6 +224,7 @@ next-lined : (kind : LeafKind) (markers : List ℕ) (info meta : Option (List �
     ≡ lined_leaf kind markers info meta (lines ++ empty_line ∷ []) closed
 next-lined OfFence markers info meta lines closed = refl
 next-lined OfMath markers info meta lines closed = refl
+next-lined OfHtml markers info meta lines closed = refl
 next-lined _ markers info meta lines closed = refl
 
 line-begins : (kind : LeafKind) (info meta : Option (List ℕ)) (lines : List Line) (s : OutlineState) (r : Reading) →
@@ -421,6 +425,7 @@ line-leaf : (kind : LeafKind) (markers : List ℕ) (info meta : Option (List ℕ
     ≡ lined_leaf kind markers info meta (on_last (λ (l : Line). joined l line) lines) false
 line-leaf OfFence markers info meta lines line = refl
 line-leaf OfMath markers info meta lines line = refl
+line-leaf OfHtml markers info meta lines line = refl
 line-leaf _ markers info meta lines line = refl
 
 line-told : (kind : LeafKind) (info meta : Option (List ℕ)) (lines : List Line) (line : Line) (s : OutlineState)
@@ -599,6 +604,7 @@ leaf-ends : (bytes : List ℕ) (x : LeafKind) (p : Point) (s : OutlineState) (r 
 leaf-ends bytes OfCode p s r h is = is
 leaf-ends bytes OfFence p s r h is = is
 leaf-ends bytes OfMath p s r h is = is
+leaf-ends bytes OfHtml p s r h is = is
 leaf-ends bytes _ p s r h is = absurd h
 
 -- Prefixes between its lines.
@@ -690,6 +696,7 @@ AgreesWithin site stage s r = ⊥
 first-leaf : (kind : LeafKind) → at_fence (lined_leaf kind [] None None [] false) ≡ lined_leaf kind [] None None [] false
 first-leaf OfFence = refl
 first-leaf OfMath = refl
+first-leaf OfHtml = refl
 first-leaf _ = refl
 
 fence-begins : (kind : LeafKind) (s : OutlineState) (r : Reading) → Lining kind [] None None [] false false s r →
@@ -884,6 +891,27 @@ no-span bytes kind p None e k = refl
 no-span bytes kind p (Some span) e k =
     absurd (true≢false (sym k ∙ ap (λ (x : Bool). not x && not span.is_parted) e))
 
+-- it begins with a line, and without fences
+line-first : (bytes : List ℕ) (kind : LeafKind) (w : Word) (p : Point) (s : OutlineState) (r : Reading) →
+    IsMarked kind [] false → fresh kind ≡ lined_leaf kind [] None None (empty_line ∷ []) false →
+    begin_lines s.depth w ≡ lined_entries kind s.depth [] None None (empty_line ∷ []) false → s.text ≡ None →
+    Agrees s r →
+    AgreesIn (AtLine kind) (state_enter bytes (role.Lined w) p s) (read_enter bytes (Opens kind) p r)
+line-first bytes kind w p s r marked leaf begins none is = (
+  (
+    None,
+    None,
+    [],
+    record {
+      markers = [];
+      fenced = false;
+      marked = marked;
+      is = lining-begins bytes kind w (empty_line ∷ []) p s r leaf begins none is;
+    },
+  ),
+  (none, begins-texts s r none is),
+)
+
 pub agrees-site : (bytes : List ℕ) (site : Site) (stage : Stage) (kind : Kind) (x : spelled.Role) (p : Point)
     (s : OutlineState) (r : Reading) → is_shown x ≡ true → parts_by bytes kind x p s.text ≡ true →
     are_shallow (read_by bytes kind x p r).here ≡ true → MayFollow bytes stage kind x p →
@@ -891,20 +919,9 @@ pub agrees-site : (bytes : List ℕ) (site : Site) (stage : Stage) (kind : Kind)
     AgreesWithin (site_by bytes site kind x p) (stage_by stage kind x p) (state_by bytes kind (shown_as x) p s)
     (read_by bytes kind x p r)
 agrees-site bytes Outside AllTold Enter (Opens OfCode) p s r h k d may stands is =
-    let none : s.text ≡ None = no-span bytes OfCode p s.text refl k in (
-      (
-        None,
-        None,
-        [],
-        record {
-          markers = [];
-          fenced = false;
-          marked = tt;
-          is = lining-begins bytes OfCode word.Code (empty_line ∷ []) p s r refl refl none is;
-        },
-      ),
-      (none, begins-texts s r none is),
-    )
+    line-first bytes OfCode word.Code p s r tt refl refl (no-span bytes OfCode p s.text refl k) is
+agrees-site bytes Outside AllTold Enter (Opens OfHtml) p s r h k d may stands is =
+    line-first bytes OfHtml word.Html p s r tt refl refl (no-span bytes OfHtml p s.text refl k) is
 agrees-site bytes Outside AllTold Enter (Opens OfFence) p s r h k d may stands is =
     let none : s.text ≡ None = no-span bytes OfFence p s.text refl k in
     (tt, lining-begins bytes OfFence (word.Fence 0 false) [] p s r refl refl none is, (none, begins-texts s r none is))
@@ -914,9 +931,11 @@ agrees-site bytes Outside AllTold Enter (Opens OfMath) p s r h k d may stands is
 agrees-site bytes Outside stage Enter (Opens OfCode) p s r h k d may stands is = absurd may
 agrees-site bytes Outside stage Enter (Opens OfFence) p s r h k d may stands is = absurd may
 agrees-site bytes Outside stage Enter (Opens OfMath) p s r h k d may stands is = absurd may
+agrees-site bytes Outside stage Enter (Opens OfHtml) p s r h k d may stands is = absurd may
 agrees-site bytes Outside stage Exit (Opens OfCode) p s r h k d may stands is = absurd stands
 agrees-site bytes Outside stage Exit (Opens OfFence) p s r h k d may stands is = absurd stands
 agrees-site bytes Outside stage Exit (Opens OfMath) p s r h k d may stands is = absurd stands
+agrees-site bytes Outside stage Exit (Opens OfHtml) p s r h k d may stands is = absurd stands
 agrees-site bytes Outside stage kind IsFence p s r h k d may stands is = absurd stands
 agrees-site bytes Outside stage kind (Tells AsLine) p s r h k d may stands is = absurd stands
 agrees-site bytes Outside stage kind (Tells AsInfo) p s r h k d may stands is = absurd stands

@@ -12,7 +12,7 @@ use Rattle.md_engine.specs.declared.event.Name.TheVariants as n
 use Rattle.md_engine.specs.declared.event.Point.{Point}
 use Rattle.md_seam.specs.Events.Nested.{around, exit, pair}
 use Rattle.md_seam.specs.Events.Spelled.{AsInfo, AsLine, AsMeta, IsEnding, IsFence, IsPrefix, IsQuiet, LeafKind, OfCode}
-use Rattle.md_seam.specs.Events.Spelled.{OfFence, OfMath, Opens, Role, Tells, role}
+use Rattle.md_seam.specs.Events.Spelled.{OfFence, OfHtml, OfMath, Opens, Role, Tells, role}
 use Rattle.md_seam.proofs.SpelledLemmas.{Quiet, QuietOrPrefix, Roles}
 use Rattle.md_outline.specs.LinesStand.{AtEnd, AtEnding, AtLine, HasLines, LinesStand, MayStand, Outside, Site}
 use Rattle.md_outline.specs.LinesStand.{begun_site, site_by}
@@ -58,6 +58,7 @@ pub keeps-plain : (bytes : List ℕ) (x : Role) → is_plain x ≡ true → Keep
 keeps-plain bytes (Opens OfCode) h kind p = absurd (true≢false (sym h))
 keeps-plain bytes (Opens OfFence) h kind p = absurd (true≢false (sym h))
 keeps-plain bytes (Opens OfMath) h kind p = absurd (true≢false (sym h))
+keeps-plain bytes (Opens OfHtml) h kind p = absurd (true≢false (sym h))
 keeps-plain bytes IsFence h kind p = absurd (true≢false (sym h))
 keeps-plain bytes (Tells AsLine) h kind p = absurd (true≢false (sym h))
 keeps-plain bytes (Tells AsInfo) h kind p = absurd (true≢false (sym h))

@@ -15,12 +15,11 @@ use Rattle.md_engine.specs.declared.event.Point.{Point}
 use Rattle.md_definition.specs.declared.outline.Word.TheVariants as word
 use Rattle.md_definition.specs.Outline.{Entry, outline}
 use Rattle.md_seam.specs.Events.Nested.{Balanced}
-use Rattle.md_seam.specs.Events.Spelled.{AsInfo, AsLine, AsMeta, Holds, IsFence, IsPrefix, OfCode, OfFence, OfMath}
-use Rattle.md_seam.specs.Events.Spelled.{OpenLeaf, Opens, OrderedShape, Reading, Shape, Tells, Text}
-use Rattle.md_seam.specs.Events.Spelled.{UnorderedShape}
-use Rattle.md_seam.specs.Events.Spelled.{after_prefix, at_ending, before_prefix, begun, block_around, block_of, byte_at}
-use Rattle.md_seam.specs.Events.Spelled.{finished, left, next_line, on_leaf, read, read_by, read_enter, read_exit}
-use Rattle.md_seam.specs.Events.Spelled.{spelled, text_to, unread}
+use Rattle.md_seam.specs.Events.Spelled.{AsInfo, AsLine, AsMeta, Holds, IsFence, IsPrefix, OfCode, OfFence, OfHtml}
+use Rattle.md_seam.specs.Events.Spelled.{OfMath, OpenLeaf, Opens, OrderedShape, Reading, Shape, Tells, Text}
+use Rattle.md_seam.specs.Events.Spelled.{UnorderedShape, after_prefix, at_ending, before_prefix, begun, block_around}
+use Rattle.md_seam.specs.Events.Spelled.{block_of, byte_at, finished, left, next_line, on_leaf, read, read_by}
+use Rattle.md_seam.specs.Events.Spelled.{read_enter, read_exit, spelled, text_to, unread}
 use Rattle.md_seam.specs.Events.Spelled as spelled
 use Rattle.md_outline.specs.Between.{is_between}
 use Rattle.md_outline.specs.HeadingDepths.{are_shallow, fits}
@@ -116,6 +115,7 @@ span-step bytes Exit (Holds UnorderedShape) p s h = refl
 span-step bytes Enter (Opens OfCode) p s h = refl
 span-step bytes Enter (Opens OfFence) p s h = refl
 span-step bytes Enter (Opens OfMath) p s h = refl
+span-step bytes Enter (Opens OfHtml) p s h = refl
 span-step bytes Enter IsFence p s h = span-fenced s.lined s
 span-step bytes Enter (Tells AsLine) p s h = refl
 span-step bytes Enter (Tells AsInfo) p s h = refl
@@ -123,6 +123,7 @@ span-step bytes Enter (Tells AsMeta) p s h = refl
 span-step bytes Exit (Opens OfCode) p s h = refl
 span-step bytes Exit (Opens OfFence) p s h = refl
 span-step bytes Exit (Opens OfMath) p s h = refl
+span-step bytes Exit (Opens OfHtml) p s h = refl
 span-step bytes Exit IsFence p s h = refl
 span-step bytes Exit (Tells AsLine) p s h = span-told bytes purpose.Line p.index s.text s refl
 span-step bytes Exit (Tells AsInfo) p s h = span-told bytes (purpose.Part word.Info) p.index s.text s refl

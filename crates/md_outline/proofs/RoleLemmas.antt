@@ -8,10 +8,9 @@ use Rattle.md_engine.specs.declared.event.Point.{Point}
 use Rattle.md_definition.specs.declared.outline.Word.{Word}
 use Rattle.md_definition.specs.Outline.{block_entries, entry}
 use Rattle.md_seam.specs.Events.Spelled.{AsDigits, AsItemMarker, AsMarkers, CodeLeaf, Holds, IsEnding, IsPrefix}
-use Rattle.md_seam.specs.Events.Spelled.{IsQuiet, LeafKind, OfCode, OpenLeaf, Opens, OrderedShape, Reading, Shape}
-use Rattle.md_seam.specs.Events.Spelled.{Tells, UnorderedShape}
-use Rattle.md_seam.specs.Events.Spelled.{Text, add_block, at_ending, block_around, fresh, named, next_line, on_leaf}
-use Rattle.md_seam.specs.Events.Spelled.{on_shape, spelled, text_to}
+use Rattle.md_seam.specs.Events.Spelled.{IsQuiet, LeafKind, OfCode, OfHtml, OpenLeaf, Opens, OrderedShape, Reading}
+use Rattle.md_seam.specs.Events.Spelled.{Shape, Tells, Text, UnorderedShape, add_block, at_ending, block_around, fresh}
+use Rattle.md_seam.specs.Events.Spelled.{named, next_line, on_leaf, on_shape, spelled, text_to}
 use Rattle.md_seam.specs.Events.Spelled as spelled
 use Rattle.md_seam.specs.Events.Told.{OfContainer, OfItself, OfLeaf, Told, block_told, told_of}
 use Rattle.md_seam.proofs.ToldLemmas.{told-block, told-named, told-noted}
@@ -88,6 +87,7 @@ by-role P (Holds UnorderedShape) by h = absurd (cc)
 by-role P (Holds _) by h = first_of (cc, search (by.container))
 by-role P IsPrefix by h = by.prefix
 by-role P (Opens OfCode) by h = absurd (cc)
+by-role P (Opens OfHtml) by h = absurd (cc)
 by-role P (Opens _) by h = first_of (cc, search (by.begins))
 by-role P (Tells AsMarkers) by h =
     by.markers (record { tree = λ line r. refl; whole = λ bytes p text. refl })

@@ -4,9 +4,10 @@ use Rattle.md_definition.specs.declared.outline.Word.{Word}
 use Rattle.md_definition.specs.declared.outline.Word.TheVariants as word
 use Rattle.md_definition.specs.Outline.{Entry, entry}
 
--- it begins: code with its first line, which is empty yet
+-- it begins: indented code and HTML with their first line, which is empty yet
 abbrev pub first_lines : ℕ → Word → List Entry
 first_lines depth word.Code = entry depth word.Line ∷ []
+first_lines depth word.Html = entry depth word.Line ∷ []
 first_lines depth _ = []
 
 abbrev pub begin_lines : ℕ → Word → List Entry

@@ -9,7 +9,8 @@ use Rattle.md_engine.specs.declared.event.Kind.TheVariants.{Enter, Exit}
 use Rattle.md_engine.specs.declared.event.Point.{Point}
 use Rattle.md_definition.specs.Texts.{first_byte}
 use Rattle.md_seam.specs.Events.Spelled.{AsInfo, AsLine, AsMarkers, AsMeta, IsEnding, IsFence, IsPrefix, IsQuiet}
-use Rattle.md_seam.specs.Events.Spelled.{LeafKind, OfCode, OfFence, OfMath, Opens, Purpose, Role, Tells, byte_at, role}
+use Rattle.md_seam.specs.Events.Spelled.{LeafKind, OfCode, OfFence, OfHtml, OfMath, Opens, Purpose, Role, Tells}
+use Rattle.md_seam.specs.Events.Spelled.{byte_at, role}
 
 -- Where in a leaf block of several lines one is, with its kind.
 pub data Site : Type 0 where
@@ -31,11 +32,12 @@ pub data Site : Type 0 where
   AtEnd : LeafKind → Site
   InEnd : LeafKind → Site
 
--- where a leaf block begins: code with a line
+-- where a leaf block begins: indented code and HTML with a line
 abbrev pub begun_site : LeafKind → Site
 begun_site OfCode = AtLine OfCode
 begun_site OfFence = AtMarkers OfFence
 begun_site OfMath = AtMarkers OfMath
+begun_site OfHtml = AtLine OfHtml
 begun_site kind = Outside
 
 -- behind a line ending, which opens a line if the text goes on
@@ -81,6 +83,7 @@ abbrev pub HasLines : LeafKind → Type 0
 HasLines OfCode = Unit {0}
 HasLines OfFence = Unit {0}
 HasLines OfMath = Unit {0}
+HasLines OfHtml = Unit {0}
 HasLines _ = ⊥
 
 -- a text ends as what it begins as
@@ -96,6 +99,7 @@ MayStand bytes Outside Enter (Opens x) p = Unit {0}
 MayStand bytes Outside Exit (Opens OfCode) p = ⊥
 MayStand bytes Outside Exit (Opens OfFence) p = ⊥
 MayStand bytes Outside Exit (Opens OfMath) p = ⊥
+MayStand bytes Outside Exit (Opens OfHtml) p = ⊥
 MayStand bytes Outside kind IsFence p = ⊥
 MayStand bytes Outside kind (Tells AsLine) p = ⊥
 MayStand bytes Outside kind (Tells AsInfo) p = ⊥

@@ -15,7 +15,7 @@ use Rattle.std.specs.Prelude.{ℕ, Bool, true, false, List, None}
 use Rattle.md_definition.specs.declared.outline.Word.TheVariants as word
 use Rattle.md_definition.specs.Outline.{Entry, block_entries}
 use Rattle.md_seam.specs.Events.Spelled.{AsDigits, AsHeading, AsInfo, AsItemMarker, AsLine, AsMarkers, AsMeta}
-use Rattle.md_seam.specs.Events.Spelled.{AsParagraph, BreakLeaf, IsFence, LeafKind, OfCode, OfFence, OfMath}
+use Rattle.md_seam.specs.Events.Spelled.{AsParagraph, BreakLeaf, IsFence, LeafKind, OfCode, OfFence, OfHtml, OfMath}
 use Rattle.md_seam.specs.Events.Spelled.{HeadingAtxLeaf, Holds, IsEnding, IsPrefix, IsQuiet, ItemShape, OfBreak}
 use Rattle.md_seam.specs.Events.Spelled.{OfHeadingAtx, OpenLeaf, Opens, OrderedShape, QuoteShape, Tells}
 use Rattle.md_seam.specs.Events.Spelled.{UnorderedShape, block_of}
@@ -59,6 +59,7 @@ abbrev pub has_lines : LeafKind → Bool
 has_lines OfCode = true
 has_lines OfFence = true
 has_lines OfMath = true
+has_lines OfHtml = true
 has_lines _ = false
 
 -- the plain ones, and those of such leaf blocks and their parts: all that are shown, but those of lists
@@ -66,6 +67,7 @@ abbrev pub is_unlisted : spelled.Role → Bool
 is_unlisted (Opens OfCode) = true
 is_unlisted (Opens OfFence) = true
 is_unlisted (Opens OfMath) = true
+is_unlisted (Opens OfHtml) = true
 is_unlisted IsFence = true
 is_unlisted (Tells AsLine) = true
 is_unlisted (Tells AsInfo) = true
@@ -99,6 +101,7 @@ shown_as (Tells AsItemMarker) = role.Text purpose.Marker
 shown_as (Opens OfCode) = role.Lined word.Code
 shown_as (Opens OfFence) = role.Lined (word.Fence 0 false)
 shown_as (Opens OfMath) = role.Lined (word.Math false)
+shown_as (Opens OfHtml) = role.Lined word.Html
 shown_as IsFence = role.Fence
 shown_as (Tells AsInfo) = role.Text (purpose.Part word.Info)
 shown_as (Tells AsMeta) = role.Text (purpose.Part word.Meta)

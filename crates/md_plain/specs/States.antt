@@ -20,7 +20,6 @@ use Rattle.md_plain.specs.declared.leaves.Transition.TheVariants as went
 use Rattle.md_plain.specs.declared.state.ParagraphContext.{ParagraphContext}
 use Rattle.md_plain.specs.declared.state.ParagraphContext.TheVariants as against
 use Rattle.md_plain.specs.declared.state.Taken.{Taken}
-use Rattle.plain_grammars.specs.Kinds.{kind_meaning}
 use Rattle.plain_grammars.specs.Rests.{rest_meaning}
 use Rattle.plain_grammars.specs.Trees.{meaning, meanings, line_meanings}
 
@@ -49,7 +48,7 @@ leaf_meaning leaf.None = s.NoLeaf
 leaf_meaning (leaf.Paragraph lines) = s.OpenParagraph (kept_meanings lines.items)
 leaf_meaning (leaf.Code lines) = s.OpenCode (line_meanings lines.items)
 leaf_meaning (leaf.Fence o lines) = s.OpenFence (opening_meaning o) (line_meanings lines.items)
-leaf_meaning (leaf.Html k lines) = s.OpenHtml (kind_meaning k) (line_meanings lines.items)
+leaf_meaning (leaf.Html k lines) = s.OpenHtml k (line_meanings lines.items)
 leaf_meaning (leaf.Table delimiter rows) =
     s.OpenTable delimiter.now (map (λ row. map (λ cell. cell.now) row.items) rows.items)
 

@@ -9,7 +9,6 @@ ghost use Rattle.md_definition.specs.Rest.{is_blank, is_white, is_parted};
 ghost use Rattle.md_definition.specs.State.{fence_block, OpenCode, OpenHtml, OpenTable};
 ghost use Rattle.plain_grammars.specs.Rests.{rest_meaning};
 ghost use Rattle.plain_grammars.specs.Trees.{meaning, line_meanings, slices};
-ghost use Rattle.plain_grammars.specs.Kinds.{kind_meaning};
 ghost use Rattle.md_plain.specs.States.{opening_meaning, came_meaning, came_option, against_meaning, leaf_meaning};
 ghost use Rattle.md_plain.specs.States.{went_option, HandsBack};
 
@@ -292,7 +291,7 @@ pub fn fence_goes_on<'a>(
 fn html_line<'a>(kind: HtmlKind, lines: Vec<Line<'a>>, rest: &Rest<'a>) -> Result<Came<'a>, Message>
     ensures { IfOk result
         (λ x.
-        came_meaning x ≡ leaves.html_line (kind_meaning kind) (line_meanings lines.entry.items)
+        came_meaning x ≡ leaves.html_line kind (line_meanings lines.entry.items)
         (rest_meaning rest.now)) }
 {
     let mut lines = lines;
@@ -321,7 +320,7 @@ fn html_at<'a>(
     let Some(kind) = html_kind(rest.text()) else {
         return Ok(None);
     };
-    if kind == HtmlKind::Complete && against == ParagraphContext::Text {
+    if matches!(kind, HtmlKind::Complete) && against == ParagraphContext::Text {
         return Ok(None);
     }
     Ok(Some(html_line(kind, Vec::new(alloc), rest)?))
@@ -394,10 +393,10 @@ fn html_goes_on<'a>(
     ensures value { IfOk result
         (λ w.
         went_option w ≡
-        leaves.html_goes_on (kind_meaning kind) (line_meanings lines.entry.items) (rest_meaning rest.now)) }
-    ensures ends { IfOk result (λ w. HandsBack w (OpenHtml (kind_meaning kind) (line_meanings lines.entry.items))) }
+        leaves.html_goes_on kind (line_meanings lines.entry.items) (rest_meaning rest.now)) }
+    ensures ends { IfOk result (λ w. HandsBack w (OpenHtml kind (line_meanings lines.entry.items))) }
 {
-    if (kind == HtmlKind::Basic || kind == HtmlKind::Complete) && is_blank(rest.bytes) {
+    if matches!(kind, HtmlKind::Basic | HtmlKind::Complete) && is_blank(rest.bytes) {
         Ok(Transition::Ends(Leaf::Html(kind, lines)))
     } else {
         Ok(Transition::On(html_line(kind, lines, rest)?))

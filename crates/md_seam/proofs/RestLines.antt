@@ -8,13 +8,15 @@ use Rattle.md_engine.specs.declared.configuration.ParseOptions.{ParseOptions}
 use Rattle.md_engine.specs.declared.event.Point.{Point}
 use Rattle.md_engine.specs.declared.tokenizer.Line.{Line}
 use Rattle.md_engine.specs.Meaning.{Cell}
-use Rattle.md_definition.specs.Rest.{Rest, behind_indent, has_small_indent, indent, is_blank, is_white, lose}
+use Rattle.md_definition.specs.Bytes.{is_end}
+use Rattle.md_definition.specs.Rest.{Rest, behind_indent, cut_tab, has_small_indent, indent, is_blank, is_white, lose}
 use Rattle.md_definition.specs.Rest.{tab_columns, trim_start}
 use Rattle.md_definition.proofs.TextsLemmas.{NoEnding}
 use Rattle.md_seam.specs.Ahead.{from_ending, line_bytes, line_cells, line_end, point_after}
+use Rattle.md_seam.specs.Events.Places.{past_byte}
 use Rattle.md_seam.specs.Spaces.{any_size, small_indent}
-use Rattle.md_seam.proofs.FeedLines.{NoFeed, Stops, all-spread, bytes_of, from_ending-append, line_cells-append}
-use Rattle.md_seam.proofs.FeedLines.{next_column, no_feed-spread, spread, tab_cells, tab_end}
+use Rattle.md_seam.proofs.FeedLines.{NoFeed, Stops, all-spread, bytes_of, cell, columns_more, from_ending-append}
+use Rattle.md_seam.proofs.FeedLines.{line_cells-append, next_column, no_feed-spread, spread, tab_cells, tab_end}
 use Rattle.md_seam.proofs.RestCells.{Bare, bare, cells_by, past_rest, rest-end, rest_cells, without_first}
 
 -- Where the line stops.
@@ -90,6 +92,33 @@ blank-cells line r p stop h k =
     go (suc n) =
         blank-columns line n p (spread line r.bytes (tab_end n p))
         ∙ all-spread is_white refl line r.bytes (tab_end n p)
+
+-- A rest ends before any cell where no byte of it stands in the text.
+pub end-cells : (line : Line) (r : Rest) (p : Point) (stop : List Cell) → NoEnding r.bytes → Stops stop →
+    is_end (line_bytes (rest_cells line r p ++ stop)) ≡ is_end (cut_tab r.spaces ++ r.bytes)
+end-cells line r p stop h k =
+    ap (λ (l : List Cell). is_end (bytes_of l)) (rest-line line r p stop h k) ∙ go r.spaces r.bytes
+  where
+    go : (spaces : ℕ) (bytes : List ℕ) →
+        is_end (bytes_of (cells_by line spaces bytes p)) ≡ is_end (cut_tab spaces ++ bytes)
+    go (suc zero) bytes = refl
+    go (suc (suc n)) bytes = refl
+    go zero [] = refl
+    go zero (b ∷ bs) = by (b == 9)
+      where
+        more : List Cell
+        more = spread line bs (past_byte b p)
+
+        tab : (n : ℕ) → is_end (bytes_of (tab_cells line n 9 p ++ more)) ≡ false
+        tab zero = refl
+        tab (suc n) = refl
+
+        by : (t : Bool) →
+            is_end
+            (bytes_of (cond t (tab_cells line (columns_more p) 9 p) (cell b (past_byte b p) line ∷ []) ++ more)) ≡
+            false
+        by true = tab (columns_more p)
+        by false = refl
 
 -- The indent.
 

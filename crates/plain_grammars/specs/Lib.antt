@@ -5,5 +5,4 @@ pub mod Definitions
 pub mod Labels
 pub mod Fronts
 pub mod Words
-pub mod Kinds
 pub mod WholeTrees

@@ -1,119 +1,17 @@
 // How each of the seven kinds of HTML block begins and ends (CommonMark 4.6).
-ghost use Rattle.std.specs.Prelude.{◌≡◌, ◌≤◌, length, nat_eq, option_map, option_copied};
+ghost use Rattle.std.specs.Prelude.{◌≡◌, ◌≤◌, length, nat_eq, option_copied};
 ghost use Rattle.std.specs.Char.{is_ascii_alphabetic};
 ghost use Rattle.std.specs.List.{prefix_len, starts_with};
 ghost use Rattle.std.specs.Str.{str_eq_ignore_ascii_case};
 ghost use Rattle.md_definition.specs.Bytes.{begins};
 ghost use Rattle.md_definition.specs.Html as h;
-ghost use Rattle.plain_grammars.specs.Kinds.{kind_meaning};
 
 use crate::ahead::{after_optional, begins_white, begins_with};
 use crate::bytes::{is_blank, is_parted, is_white, trim_start};
-
-/// A kind of HTML block, in the order of the standard.
-#[derive(Clone, Copy, PartialEq, Eq)]
-pub enum HtmlKind {
-    /// `pre`, `script`, `style` or `textarea`.
-    Raw,
-    Comment,
-    Instruction,
-    Declaration,
-    Cdata,
-    /// A name of the standard's long list.
-    Basic,
-    /// Any complete tag.
-    Complete,
-}
-
-const RAW_NAMES: [&str; 4] = ["pre", "script", "style", "textarea"];
+use md_definition::html_names::{is_basic_name, is_name, is_raw_name};
+pub use md_engine::tokenizer::HtmlKind;
 
 const RAW_ENDS: [&str; 4] = ["</pre>", "</script>", "</style>", "</textarea>"];
-
-const BASIC_NAMES: [&str; 62] = [
-    "address",
-    "article",
-    "aside",
-    "base",
-    "basefont",
-    "blockquote",
-    "body",
-    "caption",
-    "center",
-    "col",
-    "colgroup",
-    "dd",
-    "details",
-    "dialog",
-    "dir",
-    "div",
-    "dl",
-    "dt",
-    "fieldset",
-    "figcaption",
-    "figure",
-    "footer",
-    "form",
-    "frame",
-    "frameset",
-    "h1",
-    "h2",
-    "h3",
-    "h4",
-    "h5",
-    "h6",
-    "head",
-    "header",
-    "hr",
-    "html",
-    "iframe",
-    "legend",
-    "li",
-    "link",
-    "main",
-    "menu",
-    "menuitem",
-    "nav",
-    "noframes",
-    "ol",
-    "optgroup",
-    "option",
-    "p",
-    "param",
-    "search",
-    "section",
-    "summary",
-    "table",
-    "tbody",
-    "td",
-    "tfoot",
-    "th",
-    "thead",
-    "title",
-    "tr",
-    "track",
-    "ul",
-];
-
-/// Whether the two are equal, ASCII case ignored.
-fn is_name(known: &str, name: &[u8]) -> bool
-    ensures { result ≡ str_eq_ignore_ascii_case known.now name.now }
-{
-    known.as_bytes().eq_ignore_ascii_case(name)
-}
-
-/// Whether this is a name of `HtmlKind::Raw`, in any ASCII case.
-fn is_raw_name(name: &[u8]) -> bool
-    ensures { result ≡ h.is_raw_name name.now }
-{
-    RAW_NAMES.iter().any(|known| is_name(known, name))
-}
-
-/// Whether this is a name of `HtmlKind::Basic`, in any ASCII case.
-fn is_basic_name(name: &[u8]) -> bool
-    ensures { result ≡ h.is_basic_name name.now }
-{
-    BASIC_NAMES.iter().any(|known| is_name(known, name))
-}
 
 /// How many bytes of a tag name come first (CommonMark 6.6).
 fn tag_len(rest: &[u8]) -> usize
@@ -292,7 +190,7 @@ fn begins_complete(bytes: &[u8]) -> bool
 /// The kind that begins here, after `<`.
 #[tactic(auto, unfolding(md_definition::specs::Html::kind_after))]
 fn kind_after(rest: &[u8]) -> Option<HtmlKind>
-    ensures { option_map kind_meaning result ≡ h.kind_after rest.now }
+    ensures { result ≡ h.kind_after rest.now }
 {
     if begins_raw(rest) {
         Some(HtmlKind::Raw)
@@ -316,7 +214,7 @@ fn kind_after(rest: &[u8]) -> Option<HtmlKind>
 /// The kind that a line begins, given from its `<` on.
 #[tactic(auto, unfolding(md_definition::specs::Html::html_kind))]
 pub fn html_kind(line: &[u8]) -> Option<HtmlKind>
-    ensures { option_map kind_meaning result ≡ h.html_kind line.now }
+    ensures { result ≡ h.html_kind line.now }
 {
     match line {
         [b'<', rest @ ..] => kind_after(rest),
@@ -370,7 +268,7 @@ fn holds_word(word: &[u8], line: &[u8]) -> bool
 /// Whether the line holds the end of this kind. The last two kinds end before a blank line.
 #[tactic(auto, unfolding(md_definition::specs::Html::html_ends))]
 pub fn html_ends(kind: HtmlKind, line: &[u8]) -> bool
-    ensures { result ≡ h.html_ends (kind_meaning kind) line.now }
+    ensures { result ≡ h.html_ends kind line.now }
 {
     match kind {
         HtmlKind::Raw => holds_raw_end(line),

@@ -2,7 +2,7 @@
 -- and add what it says of their bytes.
 use Rattle.std.proofs.Common.{◌≡◌, ℕ, zero, suc, ◌^◌, ◌<◌, Bool, true, false, cond, ◌&&◌, ◌||◌, List, []}
 use Rattle.std.proofs.Common.{◌∷◌, ◌++◌, length, refl, sym, ◌∙◌, ap, ap₂, arith}
-use Rattle.std.specs.Prelude.{◌==◌, nat_le, nat_lt, not, Some, None}
+use Rattle.std.specs.Prelude.{nat_le, nat_lt, not, Some, None}
 use Rattle.std.specs.Option.{is_some}
 use Rattle.std.proofs.lemmas.Bool.{and_parts}
 use Rattle.std.proofs.lemmas.Bool.Decides.{nat_tests}
@@ -20,15 +20,15 @@ use Rattle.md_definition.specs.Rest.{Rest, cut_tab, indent, is_blank, lose}
 use Rattle.md_definition.proofs.TextsLemmas.{NoEnding}
 use Rattle.md_lines.specs.Code.{may_open}
 use Rattle.md_lines.specs.CodeRule.{blank_adds, code_goes, is_indented, line_adds}
-use Rattle.md_lines.specs.Further.{further_link}
+use Rattle.md_leaves.specs.Further.{further_link}
 use Rattle.md_lines.proofs.CodeLines.{blank-line, indented-same}
 use Rattle.md_seam.specs.Ahead.{line_bytes, line_end, white_end}
 use Rattle.md_seam.specs.Events.Nested.{enter, enter_link, exit, pair}
-use Rattle.md_seam.specs.Events.Places.{past_byte, past_text}
-use Rattle.md_seam.proofs.FeedLines.{Stops, bytes_of, cell, columns_more, spread, tab_cells}
+use Rattle.md_seam.specs.Events.Places.{past_text}
+use Rattle.md_seam.proofs.FeedLines.{Stops}
 use Rattle.md_seam.proofs.LostColumns.{HasLost, lose-walk}
-use Rattle.md_seam.proofs.RestCells.{RestAt, cells_by, lose-no_ending, rest_cells}
-use Rattle.md_seam.proofs.RestLines.{blank-cells, rest-line, rest-past}
+use Rattle.md_seam.proofs.RestCells.{RestAt, lose-no_ending, rest_cells}
+use Rattle.md_seam.proofs.RestLines.{blank-cells, end-cells, rest-past}
 use Rattle.markdown_blocks.specs.Fronted.{rest_line}
 use Rattle.markdown_blocks.specs.Leaf.CodeIndented.{code_further, code_leaf, code_parts, further_parts, goes_on_code}
 use Rattle.markdown_blocks.specs.Leaf.CodeIndented.{is_code, line_parts, starts_code}
@@ -107,8 +107,9 @@ further-rest on r e =
 -- By the bytes of the line.
 
 -- the line ends where its bytes do
-line-ends : (said : Line) (text behind : List ℕ) (r : Rest) (p : Point) (stop : List Cell) → RestAt text behind r p →
-    NoEnding r.bytes → Stops stop → line_end (rest_cells said r p ++ stop) p ≡ past_text (rest_line r) p
+pub line-ends : (said : Line) (text behind : List ℕ) (r : Rest) (p : Point) (stop : List Cell) →
+    RestAt text behind r p → NoEnding r.bytes → Stops stop →
+    line_end (rest_cells said r p ++ stop) p ≡ past_text (rest_line r) p
 line-ends said text behind r p stop is h k =
     rest-past said r p stop h k (let at = is.column in omega arith) ∙ past-line text behind r p is
 
@@ -158,33 +159,6 @@ code-adds options on said text behind r p stop is h k short e =
 
 -- A blank line.
 
--- it ends before any cell where no byte is left
-end-rest : (said : Line) (r : Rest) (p : Point) (stop : List Cell) → NoEnding r.bytes → Stops stop →
-    is_end (line_bytes (rest_cells said r p ++ stop)) ≡ is_end (rest_line r)
-end-rest said r p stop h k =
-    ap (λ (l : List Cell). is_end (bytes_of l)) (rest-line said r p stop h k) ∙ go r.spaces r.bytes
-  where
-    go : (spaces : ℕ) (bytes : List ℕ) →
-        is_end (bytes_of (cells_by said spaces bytes p)) ≡ is_end (cut_tab spaces ++ bytes)
-    go (suc zero) bytes = refl
-    go (suc (suc m)) bytes = refl
-    go zero [] = refl
-    go zero (b ∷ bs) = by (b == 9)
-      where
-        more : List Cell
-        more = spread said bs (past_byte b p)
-
-        tab : (m : ℕ) → is_end (bytes_of (tab_cells said m 9 p ++ more)) ≡ false
-        tab zero = refl
-        tab (suc m) = refl
-
-        by : (t : Bool) →
-            is_end
-            (bytes_of (cond t (tab_cells said (columns_more p) 9 p) (cell b (past_byte b p) said ∷ []) ++ more)) ≡
-            false
-        by true = tab (columns_more p)
-        by false = refl
-
 over-by : (name : Name) (line : List ℕ) (p q : Point) →
     cond (is_end line) [] (pair name p q) ≡ part_over name line p q
 over-by name [] p q = refl
@@ -201,7 +175,7 @@ blank-adds said text behind r p stop is h k =
     ++ cond empty [] (pair n.CodeFlowChunk (white_end 4 cells p) (line_end cells p)))
     (first-white said text behind r p stop is k)
     (ap (λ (l : List Cell). is_end (line_bytes l)) lost.left
-    ∙ end-rest said (lose 4 r) (white_end 4 cells p) stop (lose-no_ending 4 r h) k)
+    ∙ end-cells said (lose 4 r) (white_end 4 cells p) stop (lose-no_ending 4 r h) k)
     ∙ ap₂
     (λ (x y : Point).
     cond (nat_lt 0 (indent r)) (pair n.SpaceOrTab p x) []

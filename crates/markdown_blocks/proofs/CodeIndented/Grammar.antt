@@ -5,14 +5,11 @@ use Rattle.md_engine.specs.declared.event.Point.{Point}
 use Rattle.md_definition.specs.Rest.{Rest, lose}
 use Rattle.md_seam.specs.Events.Grammar.{Expression, behind, inside, may_end, plain_text}
 use Rattle.md_seam.specs.Events.Nested.{pair}
-use Rattle.md_seam.proofs.EndingsLemmas.{Stays, stays-others}
 use Rattle.md_seam.proofs.GrammarLemmas.{Leads}
 use Rattle.markdown_blocks.specs.Fronted.{rest_line}
 use Rattle.markdown_blocks.specs.Leaf.CodeIndented.{code_parts}
-use Rattle.markdown_blocks.proofs.CodeIndented.Parts.{code-inside}
 use Rattle.markdown_blocks.proofs.ContainerNames.{TakesPrefixes}
 use Rattle.markdown_blocks.proofs.LostLine.Grammar.{left_over, lost-leads}
-use Rattle.markdown_blocks.proofs.LostLine.Parts.{inside-others}
 
 -- What is left of code, which has no text parts: at its begin, behind a line with something in it, and where a further
 -- line begins.
@@ -51,7 +48,3 @@ first-leads text p at q = λ outer. refl
 pub line-leads : (text : Expression) (r : Rest) (p q : Point) →
     Leads text (in_line ∷ []) (line_left r ∷ []) (code_parts r p q)
 line-leads text r p q = lost-leads text in_line behind_line n.CodeFlowChunk 4 r p q refl refl refl
-
--- It leads out of no leaf.
-pub parts-stay : (r : Rest) (p q : Point) → Stays (code_parts r p q)
-parts-stay r p q = stays-others (code_parts r p q) (inside-others (code_parts r p q) (code-inside r p q))

@@ -21,8 +21,8 @@ use Rattle.markdown_blocks.proofs.CodeIndented.Parts.{code-is}
 use Rattle.markdown_blocks.proofs.CodeIndented.Rows.{AreInCode, as_line, begins, ends, lines_behind}
 use Rattle.markdown_blocks.proofs.CodeIndented.Walk.{last-end, lines-fill, lines-further, rest-unlinked}
 use Rattle.markdown_blocks.proofs.EachEvent.{each-append}
-use Rattle.markdown_blocks.proofs.FenceSpan.Laws.{stays-same}
-use Rattle.markdown_blocks.proofs.FenceSpan.Rest.{row_unread}
+use Rattle.markdown_blocks.proofs.Span.Whole.{stays-same}
+use Rattle.markdown_blocks.proofs.Span.Rest.{row_unread}
 use Rattle.markdown_blocks.proofs.FenceSpan.Sites.{is_told_of}
 use Rattle.markdown_blocks.proofs.LeafFacts.{LeafFacts}
 use Rattle.markdown_blocks.proofs.LostLine.Places.{FurtherAt, further-at}

@@ -14,7 +14,7 @@ use Rattle.md_content.specs.Joined.{is_content}
 use Rattle.md_definition.specs.Bytes.{is_end}
 use Rattle.md_definition.specs.Rest.{Rest, is_blank}
 use Rattle.md_lines.specs.CodeRule.{blank_adds, line_adds}
-use Rattle.md_lines.specs.Further.{further_link}
+use Rattle.md_leaves.specs.Further.{further_link}
 use Rattle.md_seam.specs.Ahead.{begins_white, line_bytes, line_end, white_end, white_rest}
 use Rattle.md_seam.specs.Events.Nested.{enter, enter_link, exit, pair}
 use Rattle.md_seam.specs.Events.Places.{past_text}

@@ -8,7 +8,7 @@ use Rattle.md_engine.specs.World.{World}
 use Rattle.md_content.specs.Joined.{is_content}
 use Rattle.md_lines.specs.Code.{begun_code, code_transition, further_after_code, further_begin_code}
 use Rattle.md_lines.specs.Code.{further_inside_code, inside_blank_code, inside_code, may_open}
-use Rattle.md_lines.specs.Further.{further_link}
+use Rattle.md_leaves.specs.Further.{further_link}
 use Rattle.md_seam.specs.Events.Nested.{enter, enter_link, exit}
 use Rattle.md_seam.specs.Spaces.{ends_line, sees_white}
 use Rattle.markdown_blocks.specs.Registry.{is_own}

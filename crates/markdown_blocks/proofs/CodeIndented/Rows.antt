@@ -17,14 +17,14 @@ use Rattle.md_definition.specs.Rest.{Rest, cut_tab, is_blank}
 use Rattle.md_definition.specs.Tree.{Line}
 use Rattle.md_leaves.specs.Spanned.{renamed}
 use Rattle.md_leaves.specs.declared.spans.Place.TheVariants.{Outside}
-use Rattle.md_lines.specs.Further.{further_link}
+use Rattle.md_leaves.specs.Further.{further_link}
 use Rattle.md_seam.specs.Events.Nested.{enter_link, exit}
 use Rattle.markdown_blocks.specs.Fronted.{rest_line}
 use Rattle.markdown_blocks.specs.Leaf.CodeIndented.{code_further, code_parts, further_parts, line_parts}
 use Rattle.markdown_blocks.specs.Rows.{Row, is_blank_row, is_empty_row, is_framed, last_row}
 use Rattle.markdown_blocks.proofs.CodeIndented.Blank.{behind-facts, blank-placed, blank_behind}
 use Rattle.markdown_blocks.proofs.CodeIndented.Parts.{code-inside, further-is}
-use Rattle.markdown_blocks.proofs.FenceSpan.Rest.{row_unread}
+use Rattle.markdown_blocks.proofs.Span.Rest.{row_unread}
 use Rattle.markdown_blocks.proofs.FrontFacts.{LinePrefix}
 use Rattle.markdown_blocks.proofs.FrontPlaces.{fronts-grow}
 use Rattle.markdown_blocks.proofs.LeafFacts.{LeafFacts, LineAt}

@@ -11,8 +11,8 @@ use Rattle.md_definition.specs.Rest.{Rest, is_blank}
 use Rattle.md_definition.specs.Tree.{Block, Code}
 use Rattle.md_leaves.specs.declared.spans.Place.TheVariants.{Between}
 use Rattle.md_leaves.proofs.SpannedLines.{IsBegin, IsFurther}
-use Rattle.md_lines.specs.Further.{further_link}
-use Rattle.md_seam.specs.Events.Nested.{enter, enter_link, exit}
+use Rattle.md_leaves.specs.Further.{further_link}
+use Rattle.md_seam.specs.Events.Nested.{enter, enter_link}
 use Rattle.markdown_blocks.specs.Leaf.CodeIndented.{code_further, code_leaf, code_parts, line_parts}
 use Rattle.markdown_blocks.specs.Rows.{Row, any_framed, is_blank_row, last_row, span_behind, span_by, span_done}
 use Rattle.markdown_blocks.proofs.CodeIndented.Blank.{blank-blocks, blank-placed}
@@ -23,7 +23,7 @@ use Rattle.markdown_blocks.proofs.CodeIndented.Rows.{row-in, text-some}
 use Rattle.markdown_blocks.proofs.CodeIndented.Lines.{first-framed, lines-facts, lines-unlinked}
 use Rattle.markdown_blocks.proofs.CodeIndented.Split.{AreSplit, rows-split, split-shuts}
 use Rattle.markdown_blocks.proofs.EachEvent.{each-append}
-use Rattle.markdown_blocks.proofs.FenceSpan.Rest.{row_unread}
+use Rattle.markdown_blocks.proofs.Span.Rest.{row_unread}
 use Rattle.markdown_blocks.proofs.FillFacts.{filled-read}
 use Rattle.markdown_blocks.proofs.LeafFacts.{LeafFacts}
 use Rattle.markdown_blocks.proofs.LostLine.Parts.{inside-lines}
@@ -31,33 +31,25 @@ use Rattle.markdown_blocks.proofs.LostLine.Places.{further-at}
 use Rattle.markdown_blocks.proofs.PartFacts.{IsUnlinked, NoLinks}
 use Rattle.markdown_blocks.proofs.Span.Bare.{inner, outer, outer-last, span-split}
 use Rattle.markdown_blocks.proofs.Span.Behind.{behind-unlinked, rows-behind}
-use Rattle.markdown_blocks.proofs.Span.Framed.{framed_by}
+use Rattle.markdown_blocks.proofs.Span.Framed.{framed_by, line-spanned}
 use Rattle.markdown_blocks.proofs.SpanLaws.{AreBehind, IsBare, IsLineOf, IsNone, IsSpanned, SpanLaws}
 use Rattle.markdown_blocks.proofs.SpannedFacts.{AreUnspanned}
 use Rattle.markdown_blocks.proofs.SubstitutedLemmas.{Becomes, becomes-same, no_links-unwanted}
 
 -- Each line of code is a block by itself at first, from this begin to its end.
 
-line-spanned : (Lead : List Event → Type 0) (Begins : Event → Type 0) (begin : Event) (r : Rest) (p q : Point)
+code-spanned : (Lead : List Event → Type 0) (Begins : Event → Type 0) (begin : Event) (r : Rest) (p q : Point)
     (es : List Event) →
     Lead [] → Begins begin → es ≡ line_parts begin r p q → IsSpanned Lead Begins es
-line-spanned Lead Begins begin r p q es none is same = record {
-  lead = [];
-  begin = begin;
-  inside = code_parts r p q;
-  end = exit n.CodeIndented q;
-  is = same;
-  lead_plain = none;
-  begins = is;
-  inside_plain = inside-lines (code_parts r p q) (code-inside r p q);
-  ends = record { kind = refl; lines = refl };
-}
+code-spanned Lead Begins begin r p q es none is same =
+    line-spanned Lead Begins n.CodeIndented begin q (code_parts r p q) es none is refl
+    (inside-lines (code_parts r p q) (code-inside r p q)) same
 
 first-spanned : (options : ParseOptions) (bytes : List ℕ) (row : Row) → IsLineOf options bytes code_leaf row →
     IsSpanned AreUnspanned IsBegin row.inside
 first-spanned options bytes row is =
     let r = is.rest in
-    line-spanned AreUnspanned IsBegin (enter n.CodeIndented row.first) r row.first row.end row.inside tt
+    code-spanned AreUnspanned IsBegin (enter n.CodeIndented row.first) r row.first row.end row.inside tt
     (record { kind = refl; lines = refl; link = refl })
     (is.inside ∙ code-is bytes r row.first row.end (further-at options bytes code_leaf row is))
 
@@ -80,7 +72,7 @@ further-spanned bytes row is =
         })
     go false =
         inl
-        (line-spanned IsNone IsFurther (enter_link n.CodeIndented row.first further_link) is.rest row.first row.end
+        (code-spanned IsNone IsFurther (enter_link n.CodeIndented row.first further_link) is.rest row.first row.end
         (line_in is.rest row.first row.end) refl (record { kind = refl; lines = refl; link = refl }) refl)
 
 -- All lines.

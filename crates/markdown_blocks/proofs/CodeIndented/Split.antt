@@ -17,7 +17,7 @@ use Rattle.markdown_blocks.specs.Rows.{Row, any_framed, is_framed, last_row}
 use Rattle.markdown_blocks.proofs.CodeIndented.Closed.{AreBlank, lines-trailing, trailing-blank}
 use Rattle.markdown_blocks.proofs.CodeIndented.Rows.{AreInCode, InCode, goes-on, in-framed, lines_behind, row-in}
 use Rattle.markdown_blocks.proofs.CodeIndented.Rows.{row-outside}
-use Rattle.markdown_blocks.proofs.FenceSpan.Rest.{row_unread}
+use Rattle.markdown_blocks.proofs.Span.Rest.{row_unread}
 use Rattle.markdown_blocks.proofs.FrontPlaces.{fronts-grow}
 use Rattle.markdown_blocks.proofs.Span.Bare.{inner, outer}
 use Rattle.markdown_blocks.proofs.Span.Behind.{AreOutside}

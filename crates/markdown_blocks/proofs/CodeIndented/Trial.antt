@@ -11,10 +11,11 @@ use Rattle.md_engine.specs.declared.tokenizer.held_leaf.HeldLeaf.TheVariants as 
 use Rattle.md_engine.specs.Meaning.{Accepts, Cell, Fails, Here, Outcome, Refuses}
 use Rattle.md_definition.specs.Bytes.{is_end}
 use Rattle.md_definition.specs.Rest.{is_blank}
+use Rattle.md_leaves.proofs.LeafSteps.{ended}
 use Rattle.md_lines.specs.Code.{may_open}
 use Rattle.md_lines.specs.CodeRule.{at_break, code_goes, further_after, further_begin, further_inside}
 use Rattle.md_lines.specs.CodeRule.{further_line, in_blank, in_text, is_indented, line_at, line_by, or_blank}
-use Rattle.md_lines.proofs.CodeWhole.{code-line, code-on, ended}
+use Rattle.md_lines.proofs.CodeWhole.{code-line, code-on}
 use Rattle.md_seam.specs.Ahead.{begins_white, line_bytes, white_rest}
 use Rattle.md_seam.specs.Spaces.{IsRest, calmed}
 use Rattle.md_seam.proofs.RestCells.{white-length}

@@ -9,7 +9,7 @@ use Rattle.md_engine.specs.declared.event.Point.{Point}
 use Rattle.md_definition.specs.Leaves.{code_line}
 use Rattle.md_definition.specs.Rest.{Rest, indent, is_blank, lose}
 use Rattle.md_definition.specs.Tree.{Line}
-use Rattle.md_lines.specs.Further.{further_link}
+use Rattle.md_leaves.specs.Further.{further_link}
 use Rattle.md_lines.proofs.CodeLines.{blank-line}
 use Rattle.md_outline.specs.LinesStand.{Site}
 use Rattle.md_outline.proofs.LinesPass.{ended_site}
@@ -28,7 +28,7 @@ use Rattle.markdown_blocks.proofs.CodeIndented.Parts.{code-inside}
 use Rattle.markdown_blocks.proofs.CodeIndented.Rows.{AreInCode, InCode, as-line, as_line, goes-on, line_in, lines_behind}
 use Rattle.markdown_blocks.proofs.ContainerNames.{TakesPrefixes}
 use Rattle.markdown_blocks.proofs.EachEvent.{each-append}
-use Rattle.markdown_blocks.proofs.FenceSpan.Rest.{others-fill}
+use Rattle.markdown_blocks.proofs.Span.Rest.{others-fill}
 use Rattle.markdown_blocks.proofs.FenceSpan.Sites.{ended-goes, is_told_of, line-leaves, line-on, line_site}
 use Rattle.markdown_blocks.proofs.FrontLemmas.{fronts-balanced}
 use Rattle.markdown_blocks.proofs.FrontNames.{fronts-unlinked}

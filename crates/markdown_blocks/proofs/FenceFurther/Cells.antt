@@ -24,7 +24,7 @@ use Rattle.md_lines.specs.FenceLine.{chunk_events, closes_here, closing_end, clo
 use Rattle.md_lines.specs.FenceLine.{further_inside}
 use Rattle.md_lines.specs.FenceLine.{spaces}
 use Rattle.md_lines.specs.FenceRule.{is_line, run_end, run_rest}
-use Rattle.md_lines.specs.Further.{further_link}
+use Rattle.md_leaves.specs.Further.{further_link}
 use Rattle.md_lines.proofs.FenceCells.{RunOf, first-spread, marker-dark, marker-ten, run-walk}
 use Rattle.md_lines.proofs.FenceFurther.{chunk-agrees, closes-agrees, further-agrees, is_nothing, left_part}
 use Rattle.md_seam.proofs.LostColumns.{lose-walk}

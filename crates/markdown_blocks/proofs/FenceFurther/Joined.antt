@@ -13,7 +13,7 @@ use Rattle.md_definition.specs.Rest.{Rest, has_small_indent, lose}
 use Rattle.md_leaves.specs.Spanned.{has_lines}
 use Rattle.md_leaves.proofs.SpannedLines.{IsEnd, IsFurther}
 use Rattle.md_lines.specs.Fence.{block_name, chunk_name, held_indent, held_marker, held_size}
-use Rattle.md_lines.specs.Further.{further_link}
+use Rattle.md_leaves.specs.Further.{further_link}
 use Rattle.md_seam.specs.Events.Nested.{enter_link, exit, pair}
 use Rattle.md_seam.specs.Events.Spelled.{role}
 use Rattle.markdown_blocks.specs.Fronted.{rest_line}

@@ -16,8 +16,10 @@ use Rattle.markdown_blocks.proofs.LeafLaws.{LeafLaws}
 fence-lines : (on : HeldLeaf) → is_fence on ≡ true → has_lines on ≡ true
 fence-lines held_leaf.None e = absurd (cc)
 fence-lines held_leaf.Text e = absurd (cc)
+fence-lines held_leaf.LazyText e = absurd (cc)
 fence-lines held_leaf.Code e = refl
 fence-lines (held_leaf.Fence m size indent) e = refl
+fence-lines (held_leaf.Html kind) e = refl
 
 -- All that the frame asks of a further line: it goes on the block that it meets, and does not always end it.
 pub fence_further-laws : LeafLaws fence_further

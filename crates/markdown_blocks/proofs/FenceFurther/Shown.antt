@@ -134,7 +134,7 @@ further-known options bytes on r p q e is begin = record {
 }
   where
     known : (name : Name) → is_inside name ≡ true → is_unlisted (role name) ≡ true
-    known = inside-name (λ name. is_unlisted (role name) ≡ true) refl refl refl refl refl refl refl
+    known = inside-name (λ name. is_unlisted (role name) ≡ true) refl refl refl refl refl refl refl refl
 
 -- No text is parted.
 

@@ -157,8 +157,10 @@ further-shrinks options cells h =
 lazy-none : (on : HeldLeaf) → is_fence on ≡ true → takes_lazy on ≡ false
 lazy-none held_leaf.None e = refl
 lazy-none held_leaf.Text e = absurd (cc)
+lazy-none held_leaf.LazyText e = absurd (cc)
 lazy-none held_leaf.Code e = refl
 lazy-none (held_leaf.Fence m size indent) e = refl
+lazy-none (held_leaf.Html kind) e = refl
 
 not-lazy : (on : HeldLeaf) (x y : Bool) → is_fence on ≡ x →
     takes_lazy (cond x (cond y held_leaf.None on) held_leaf.None) ≡ false

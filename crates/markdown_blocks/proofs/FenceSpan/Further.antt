@@ -1,9 +1,9 @@
 -- A further line of fenced code or math in its block: what is known of what stands in it.
-use Rattle.std.proofs.Common.{◌≡◌, ℕ, zero, suc, ◌≤◌, Bool, true, false, cond, List, [], ◌∷◌, ◌++◌, length, drop, refl, sym, ap, ◌∙◌}
+use Rattle.std.proofs.Common.{◌≡◌, ℕ, zero, suc, ◌≤◌, Bool, true, false, cond, List, [], ◌∷◌, ◌++◌, length, refl, sym}
+use Rattle.std.proofs.Common.{ap, ◌∙◌}
 use Rattle.std.proofs.Common.{subst, arith}
 use Rattle.std.specs.Prelude.{◌==◌, Some}
 use Rattle.std.proofs.lemmas.Bool.{and_parts, eqb-true}
-use Rattle.std.proofs.lemmas.List.{drop_all}
 use Rattle.md_engine.specs.declared.configuration.ParseOptions.{ParseOptions}
 use Rattle.md_engine.specs.declared.event.Event.{Event}
 use Rattle.md_engine.specs.declared.event.Point.{Point}
@@ -31,7 +31,7 @@ use Rattle.markdown_blocks.proofs.FenceFurther.Shown.{further-between, further-k
 use Rattle.markdown_blocks.proofs.FenceSpan.Open.{AreMarks, behind-same, closing-told, kind_of, leaf_of, line-same}
 use Rattle.markdown_blocks.proofs.FenceSpan.Open.{lines-told, opened-line}
 use Rattle.markdown_blocks.proofs.FenceSpan.Sites.{further-passes, further_site}
-use Rattle.markdown_blocks.proofs.LineTexts.{line-stands}
+use Rattle.markdown_blocks.proofs.LostLine.Places.{line-over}
 use Rattle.markdown_blocks.proofs.PiecesLemmas.{Tiled}
 use Rattle.markdown_blocks.proofs.Span.Inside.{InsideFacts, ReadsLeaf, inside-none}
 
@@ -147,13 +147,7 @@ line-bare options bytes on r p q e is none = record {
 -- where the text ends
 pub end-bare : (options : ParseOptions) (bytes : List ℕ) (on : HeldLeaf) (r : Rest) (p q : Point) → is_fence on ≡ true →
     FurtherAt bytes r p q → length bytes ≤ p.index → IsBare options on r p q
-end-bare options bytes on r p q e is over =
-    line-bare options bytes on r p q e is
-    (go (rest_line r) (sym (line-stands bytes r (rest_line r) p q is.at) ∙ drop_all p.index bytes over))
-  where
-    go : (line : List ℕ) → line ++ drop q.index bytes ≡ [] → line ≡ []
-    go [] h = refl
-    go (b ∷ bs) h = absurd (cc)
+end-bare options bytes on r p q e is over = line-bare options bytes on r p q e is (line-over bytes r p q is over)
 
 -- where it ends where it began
 pub same-bare : (options : ParseOptions) (bytes : List ℕ) (on : HeldLeaf) (r : Rest) (p q : Point) →

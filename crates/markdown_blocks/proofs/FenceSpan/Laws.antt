@@ -1,6 +1,6 @@
 -- The laws of fenced code and math with all their lines, joined.
 use Rattle.std.proofs.Common.{◌≡◌, ℕ, Bool, true, false, cond, not, List, [], ◌∷◌, ◌++◌, drop, refl, sym, ◌∙◌}
-use Rattle.std.proofs.Common.{inl, subst, subst₂}
+use Rattle.std.proofs.Common.{inl, subst}
 use Rattle.std.proofs.Common.{append_assoc}
 use Rattle.std.specs.Prelude.{Some}
 use Rattle.md_engine.specs.declared.configuration.ParseOptions.{ParseOptions}
@@ -15,24 +15,21 @@ use Rattle.md_definition.specs.Leaves.{Opened}
 use Rattle.md_definition.specs.Rest.{Rest, is_white}
 use Rattle.md_definition.specs.State.{OpenFence, Opening}
 use Rattle.md_definition.specs.Texts.{first_byte}
-use Rattle.md_definition.specs.Tree.{Block}
 use Rattle.md_leaves.specs.Spanned.{has_lines}
 use Rattle.md_leaves.proofs.SpannedLines.{IsBegin, IsFurther, NoLines}
 use Rattle.md_lines.specs.Fence.{block_name, held_marker}
-use Rattle.md_lines.specs.Further.{further_link}
+use Rattle.md_leaves.specs.Further.{further_link}
 use Rattle.md_outline.specs.LinesStand.{AtEnding, begun_site}
 use Rattle.md_seam.specs.Events.Grammar.{Expression, plain_text}
 use Rattle.md_seam.specs.Events.Nested.{enter, enter_link, exit, pair}
-use Rattle.md_seam.specs.Events.Places.{first_point}
-use Rattle.md_seam.specs.Events.Endings.{endings_stand_from}
 use Rattle.md_seam.specs.Events.Spelled.{OpenLeaf, Opens, Role, fresh, role}
 use Rattle.md_seam.specs.Substituted.{Readings}
-use Rattle.md_seam.proofs.EndingsLemmas.{AreOthers, Leads, Stays, in_leaf, leads-append, others-lead}
+use Rattle.md_seam.proofs.EndingsLemmas.{AreOthers}
 use Rattle.md_seam.proofs.SpelledLemmas.{Roles}
 use Rattle.markdown_blocks.specs.Fronted.{rest_line}
 use Rattle.markdown_blocks.specs.Leaf.Fence.{fence_leaf, linked, opening_at, past_white, read_inner, white_part}
 use Rattle.markdown_blocks.specs.Leaf.FenceFurther.{fence_further, further_parts}
-use Rattle.markdown_blocks.specs.Rows.{Row, but_end, end_of, last_row, span_by, span_done}
+use Rattle.markdown_blocks.specs.Rows.{Row, but_end, last_row, span_by, span_done}
 use Rattle.markdown_blocks.proofs.Fence.Kept as kept
 use Rattle.markdown_blocks.proofs.FenceFurther.Grammar.{behind-line-ends, behind_line}
 use Rattle.markdown_blocks.proofs.FenceFurther.Joined.{block-lines, further-begins, further-ends, further-is}
@@ -41,18 +38,19 @@ use Rattle.markdown_blocks.proofs.FenceFurther.Places.{further-at}
 use Rattle.markdown_blocks.proofs.FenceSpan.First.{first-becomes, first-others, first_inside, marks_of}
 use Rattle.markdown_blocks.proofs.FenceSpan.Open.{fence-begin, fence-name, kind_of, leaf_of}
 use Rattle.markdown_blocks.proofs.FenceSpan.Opening.{begin-is, done-is, line-ends, line-fence, line-full, line-held}
-use Rattle.markdown_blocks.proofs.FenceSpan.Opening.{line-inside, line-laid, line-lead, line-marks, name_of, opening-same}
+use Rattle.markdown_blocks.proofs.FenceSpan.Opening.{line-inside, line-laid, line-lead, line-marks, name_of}
+use Rattle.markdown_blocks.proofs.FenceSpan.Opening.{opening-same}
 use Rattle.markdown_blocks.proofs.FenceSpan.Opening.{opening_of, text_of, unread-is}
-use Rattle.markdown_blocks.proofs.FenceSpan.Rest.{HasRest, block_by, came-shut, full-last, full_behind}
-use Rattle.markdown_blocks.proofs.FenceSpan.Rest.{row_done, row_unread}
+use Rattle.markdown_blocks.proofs.Span.Rest.{HasRest, block_by, came-shut, row_done, row_unread}
+use Rattle.markdown_blocks.proofs.Span.Whole.{rest-becomes, rest-facts}
 use Rattle.markdown_blocks.proofs.FenceSpan.Walk.{rest-open}
 use Rattle.markdown_blocks.proofs.FillFacts.{filled-read}
 use Rattle.markdown_blocks.proofs.LeafFacts.{LeafFacts, ReadsString}
 use Rattle.markdown_blocks.proofs.PartFacts.{NoLinks}
-use Rattle.markdown_blocks.proofs.Span.Framed.{AreFramed, framed_by, framed_rest, span-framed, spanned-framed}
+use Rattle.markdown_blocks.proofs.Span.Framed.{framed_by}
 use Rattle.markdown_blocks.proofs.Span.Inside.{InsideFacts}
 use Rattle.markdown_blocks.proofs.Span.Leaf.{IsLeafName}
-use Rattle.markdown_blocks.proofs.Span.Lines.{EndsLeaf, SpanFirst, last-ends, span-facts, span-inside}
+use Rattle.markdown_blocks.proofs.Span.Lines.{SpanFirst}
 use Rattle.markdown_blocks.proofs.SpanLaws.{AreBehind, IsLineOf, IsNone, IsSpanned, SpanLaws, come_behind}
 use Rattle.markdown_blocks.proofs.SpannedFacts.{AreUnspanned}
 use Rattle.markdown_blocks.proofs.SubstitutedLemmas.{Becomes, becomes-append, becomes-same, no_links-unwanted}
@@ -119,31 +117,17 @@ further-spanned options bytes row is =
 
 -- All lines.
 
--- each further one has a begin and an end, so all are joined by these
-further-framed : (options : ParseOptions) (bytes : List ℕ) (row : Row) (rows : List Row) →
-    AreBehind options bytes fence_further row rows → AreFramed row_unread rows
-further-framed options bytes row [] are = tt
-further-framed options bytes row (next ∷ rows) are = (
-  spanned-framed IsNone IsFurther next.inside (further-spanned options bytes next are.6),
-  further-framed options bytes next rows are.7,
-)
-
-lines-framed : (options : ParseOptions) (bytes : List ℕ) (row : Row) (rows : List Row) →
-    AreBehind options bytes fence_further row rows → span_by row_unread row rows ≡ framed_by row_unread row rows
-lines-framed options bytes row rows are =
-    span-framed row_unread row rows (further-framed options bytes row rows are)
-
 -- what stands behind the first
 rest-of : (options : ParseOptions) (bytes : List ℕ) (row : Row) (rows : List Row) →
     (is : IsLineOf options bytes fence_leaf row) → (are : AreBehind options bytes fence_further row rows) →
-    HasRest bytes (opening_of is.rest) (behind_line plain_text (first_byte (text_of is.rest)))
+    HasRest bytes (name_of is.rest) (behind_line plain_text (first_byte (text_of is.rest)))
     (leaf_of (opening_of is.rest) (marks_of (text_of is.rest)) [] false)
     (AtEnding (kind_of (first_byte (text_of is.rest)))) row rows
     (come_behind options bytes fence_further row rows are (Opened (OpenFence (opening_at is.rest) [])))
 rest-of options bytes row rows is are =
     subst
     (λ (o : Opening).
-    HasRest bytes (opening_of is.rest) (behind_line plain_text m) leaf (AtEnding (kind_of m)) row rows
+    HasRest bytes (name_of is.rest) (behind_line plain_text m) leaf (AtEnding (kind_of m)) row rows
     (come_behind options bytes fence_further row rows are (Opened (OpenFence o [])))) (sym (opening-same is.rest))
     (rest-open options bytes (opening_of is.rest) (marks_of (text_of is.rest)) row rows
     (line-marks options bytes row is) (line-fence options bytes row is) [] (behind_line plain_text m) true
@@ -155,21 +139,6 @@ rest-of options bytes row rows is are =
     leaf : OpenLeaf
     leaf = leaf_of (opening_of is.rest) (marks_of (text_of is.rest)) [] false
 
--- Where events lead that stay in a leaf is told by them alone.
-pub stays-same : (es : List Event) (h : Stays es) (full : Bool) → Leads (in_leaf true) (in_leaf full) es →
-    (h true).0 ≡ full
-stays-same es h full leads = told (h true).0 full (sym ((h true).1 ending) ∙ leads ending)
-  where
-    -- behind a leaf stands its ending, if its last line is filled
-    ending : List Event
-    ending = exit n.CodeFenced first_point ∷ enter n.LineEnding first_point ∷ []
-
-    told : (a b : Bool) → endings_stand_from (in_leaf a) ending ≡ endings_stand_from (in_leaf b) ending → a ≡ b
-    told true true e = refl
-    told false false e = refl
-    told true false e = cc
-    told false true e = cc
-
 -- The facts.
 
 span-of : (options : ParseOptions) (bytes : List ℕ) (row : Row) (rows : List Row) →
@@ -179,20 +148,9 @@ span-of : (options : ParseOptions) (bytes : List ℕ) (row : Row) (rows : List R
     (not (last_row row rows).empty) row.first (last_row row rows).end (span_by row_unread row rows)
     (framed_by (row_done bytes) row rows)
 span-of options bytes row rows is are =
-    subst₂
-    (λ (b : Block) (joined : List Event).
-    LeafFacts bytes (Some b) full row.first (last_row row rows).end joined (framed_by (row_done bytes) row rows))
-    rest.block (sym (lines-framed options bytes row rows are))
-    (span-facts bytes row_unread (row_done bytes) name (kind_of m) rest.to row rows full named first rest.further
-    (stays-same (us ++ framed_rest row_unread row rows)
-    (span-inside bytes row_unread (row_done bytes) name (kind_of m) rest.to row rows named first rest.further).unread_stays
-    full (filled us (framed_rest row_unread row rows) others.0 rest.fills))
-    (stays-same (es ++ framed_rest (row_done bytes) row rows)
-    (span-inside bytes row_unread (row_done bytes) name (kind_of m) rest.to row rows named first rest.further).stays
-    full
-    (filled es (framed_rest (row_done bytes) row rows) others.1
-    (λ x.
-    subst (λ (l : List Event). Leads (in_leaf x) (in_leaf (full_behind x rows)) l) (sym rest.same) (rest.fills x)))))
+    rest-facts bytes (name_of is.rest) (kind_of m) row rows
+    (come_behind options bytes fence_further row rows are (Opened (OpenFence (opening_at is.rest) []))) named first
+    (rest-of options bytes row rows is are) others.0 others.1 (line-full options bytes row is)
   where
     r : Rest
     r = is.rest
@@ -211,9 +169,6 @@ span-of options bytes row rows is are =
 
     es : List Event
     es = first_inside (read_inner bytes) (rest_line is.rest) row.first row.end
-
-    full : Bool
-    full = not (last_row row rows).empty
 
     leaf : OpenLeaf
     leaf = leaf_of (opening_of is.rest) (marks_of (text_of is.rest)) [] false
@@ -248,27 +203,10 @@ span-of options bytes row rows is are =
           (AtEnding (kind_of m)) us es) (sym (fence-begin m)) (line-inside options bytes row is);
     }
 
-    rest :
-        HasRest bytes (opening_of is.rest) (behind_line plain_text (first_byte (text_of is.rest)))
-        (leaf_of (opening_of is.rest) (marks_of (text_of is.rest)) [] false)
-        (AtEnding (kind_of (first_byte (text_of is.rest)))) row rows
-        (come_behind options bytes fence_further row rows are (Opened (OpenFence (opening_at is.rest) [])))
-    rest = rest-of options bytes row rows is are
-
     others : AreOthers us × AreOthers es
     others =
         first-others options bytes (rest_line is.rest) (drop row.end.index bytes) row.first row.end
         (line-laid options bytes row is)
-
-    -- the first line is filled, so the last one is by itself
-    filled : (xs ys : List Event) → AreOthers xs →
-        ((x : Bool) → Leads (in_leaf x) (in_leaf (full_behind x rows)) ys) →
-        Leads (in_leaf true) (in_leaf full) (xs ++ ys)
-    filled xs ys h k =
-        subst (λ (x : Bool). Leads (in_leaf true) (in_leaf x) (xs ++ ys))
-        (full-last true row rows (sym (line-full options bytes row is)))
-        (leads-append (in_leaf true) (in_leaf true) (in_leaf (full_behind true rows)) xs ys
-        (others-lead (in_leaf true) xs refl h) (k true))
 
 -- what is read of them all is read of each
 done-read : (options : ParseOptions) (bytes : List ℕ) (row : Row) (rows : List Row) →
@@ -285,19 +223,11 @@ span-becomes : (options : ParseOptions) (bytes : List ℕ) (row : Row) (rows : L
     (wants : Content → Bool) (reads : Readings) → wants content.String ≡ true → ReadsString bytes reads →
     Becomes wants reads (span_by row_unread row rows) (framed_by (row_done bytes) row rows)
 span-becomes options bytes row rows is are wants reads w rs =
-    subst (λ (joined : List Event). Becomes wants reads joined (framed_by (row_done bytes) row rows))
-    (sym (lines-framed options bytes row rows are))
-    (becomes-append wants reads (but_end row.inside ++ framed_rest row_unread row rows)
-    (but_end (row_done bytes row) ++ framed_rest (row_done bytes) row rows) (end_of (last_row row rows).inside)
-    (end_of (row_done bytes (last_row row rows)))
-    (becomes-append wants reads (but_end row.inside) (but_end (row_done bytes row)) (framed_rest row_unread row rows)
-    (framed_rest (row_done bytes) row rows) begins
-    (subst (λ (es : List Event). Becomes wants reads (framed_rest row_unread row rows) es) (sym rest.same)
-    (same (framed_rest row_unread row rows) rest.unlinked)))
-    (subst (λ (xs : List Event). Becomes wants reads xs (end_of (row_done bytes (last_row row rows))))
-    (sym ends.unread_end)
-    (subst (λ (xs : List Event). Becomes wants reads (exit name (last_row row rows).end ∷ []) xs) (sym ends.end)
-    (same (exit name (last_row row rows).end ∷ []) (refl, tt)))))
+    rest-becomes bytes (name_of is.rest) (behind_line plain_text (first_byte (text_of is.rest)))
+    (leaf_of (opening_of is.rest) (marks_of (text_of is.rest)) [] false)
+    (AtEnding (kind_of (first_byte (text_of is.rest)))) row rows
+    (come_behind options bytes fence_further row rows are (Opened (OpenFence (opening_at is.rest) [])))
+    (line-ends options bytes row is) (rest-of options bytes row rows is are) wants reads begins
   where
     name : Name
     name = name_of is.rest
@@ -316,20 +246,6 @@ span-becomes options bytes row rows is are wants reads w rs =
 
     same : (xs : List Event) → NoLinks xs → Becomes wants reads xs xs
     same xs h = becomes-same wants reads xs (no_links-unwanted wants xs h)
-
-    rest :
-        HasRest bytes (opening_of is.rest) (behind_line plain_text (first_byte (text_of is.rest)))
-        (leaf_of (opening_of is.rest) (marks_of (text_of is.rest)) [] false)
-        (AtEnding (kind_of (first_byte (text_of is.rest)))) row rows
-        (come_behind options bytes fence_further row rows are (Opened (OpenFence (opening_at is.rest) [])))
-    rest = rest-of options bytes row rows is are
-
-    ends : EndsLeaf row_unread (row_done bytes) name (last_row row rows)
-    ends =
-        last-ends bytes row_unread (row_done bytes) name (behind_line plain_text (first_byte (text_of is.rest)))
-        (leaf_of (opening_of is.rest) (marks_of (text_of is.rest)) [] false) rest.to
-        (AtEnding (kind_of (first_byte (text_of is.rest)))) row rows
-        (line-ends options bytes row is) rest.further
 
     begins : Becomes wants reads (but_end row.inside) (but_end (row_done bytes row))
     begins =

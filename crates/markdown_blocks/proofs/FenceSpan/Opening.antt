@@ -31,7 +31,7 @@ use Rattle.markdown_blocks.proofs.FenceFurther.Definition.{held_of, opening-fenc
 use Rattle.markdown_blocks.proofs.FenceFurther.Grammar.{behind_line}
 use Rattle.markdown_blocks.proofs.FenceSpan.First.{first-facts, first_inside, marks-are, marks_of, opened_by}
 use Rattle.markdown_blocks.proofs.FenceSpan.Open.{AreMarks, begin_of, kind_of, leaf_of}
-use Rattle.markdown_blocks.proofs.FenceSpan.Rest.{goes_back, row_done, row_unread}
+use Rattle.markdown_blocks.proofs.Span.Rest.{goes_back, row_done, row_unread}
 use Rattle.markdown_blocks.proofs.FenceSpan.White.{white-lead}
 use Rattle.markdown_blocks.proofs.FillFacts.{filled-read}
 use Rattle.markdown_blocks.proofs.RestFacts.{rest-trim}

@@ -1,5 +1,6 @@
 -- All further lines of fenced code or math: as long as the block is open, each is one more line of it, or closes it.
-use Rattle.std.proofs.Common.{◌≡◌, ℕ, ◌≤◌, Bool, true, false, cond, List, [], ◌∷◌, ◌++◌, length, refl, sym, ap, ◌∙◌, subst}
+use Rattle.std.proofs.Common.{◌≡◌, ℕ, ◌≤◌, Bool, true, false, cond, List, [], ◌∷◌, ◌++◌, length, refl, sym, ap, ◌∙◌}
+use Rattle.std.proofs.Common.{subst}
 use Rattle.std.proofs.Common.{arith}
 use Rattle.std.specs.Prelude.{nat_lt}
 use Rattle.std.proofs.lemmas.Bool.Decides.{nat_tests}
@@ -13,6 +14,7 @@ use Rattle.md_definition.specs.Leaves.{Came, Finished, Opened, closes}
 use Rattle.md_definition.specs.Rest.{Rest, line_of, lose}
 use Rattle.md_definition.specs.State.{OpenFence, Opening, fence_block}
 use Rattle.md_definition.specs.Tree.{Line}
+use Rattle.md_lines.specs.Fence.{block_name}
 use Rattle.md_outline.specs.LinesStand.{AtEnd, AtLine, Site}
 use Rattle.md_outline.proofs.LinesPass.{ended_site}
 use Rattle.md_seam.specs.Events.Grammar.{Expression, Nothing, behind, may_end, plain_text}
@@ -25,13 +27,16 @@ use Rattle.markdown_blocks.proofs.ContainerNames.{TakesPrefixes}
 use Rattle.markdown_blocks.proofs.FenceFurther.Definition.{further-goes, held_of}
 use Rattle.markdown_blocks.proofs.FenceFurther.Grammar.{behind-line-ends, ending-line, in-line-ends, in_line, left_by}
 use Rattle.markdown_blocks.proofs.FenceFurther.Grammar.{takes-line}
+use Rattle.markdown_blocks.proofs.FenceFurther.Joined.{block-lines}
 use Rattle.markdown_blocks.proofs.FenceFurther.Places.{FurtherAt, further-at}
-use Rattle.markdown_blocks.proofs.FenceSpan.Further.{IsBare, bare-facts, closing-reads, end-bare, further-facts, line-reads}
+use Rattle.markdown_blocks.proofs.FenceSpan.Further.{IsBare, bare-facts, closing-reads, end-bare, further-facts}
+use Rattle.markdown_blocks.proofs.FenceSpan.Further.{line-reads}
 use Rattle.markdown_blocks.proofs.FenceSpan.Open.{AreMarks, block-is, kind_of, leaf_of}
-use Rattle.markdown_blocks.proofs.FenceSpan.Rest.{HasRest, further-line, rest-more, rest-none}
+use Rattle.markdown_blocks.proofs.FenceSpan.Rest.{further-line}
 use Rattle.markdown_blocks.proofs.FenceSpan.Sites.{ended-goes, ended-over, is_told_of, line-leaves, line-on, line_site}
 use Rattle.markdown_blocks.proofs.FrontPlaces.{fronts-grow}
 use Rattle.markdown_blocks.proofs.Span.Inside.{InsideFacts, ReadsLeaf, behind_ending}
+use Rattle.markdown_blocks.proofs.Span.Rest.{HasRest, rest-more, rest-none}
 use Rattle.markdown_blocks.proofs.SpanLaws.{AreBehind, IsLineOf, come_behind}
 
 -- what is left of the grammar behind a line of the block
@@ -62,10 +67,10 @@ line-held options bytes o row closed is on e f =
 rest-closed : (options : ParseOptions) (bytes : List ℕ) (o : Opening) (marks : List ℕ) (lines : List Line) (row : Row)
     (rows : List Row) →
     AreMarks o marks → row.behind ≡ held_leaf.None → (are : AreBehind options bytes fence_further row rows) →
-    HasRest bytes o Nothing (leaf_of o marks lines true) (AtEnd (kind_of o.marker)) row rows
+    HasRest bytes (block_name o.marker) Nothing (leaf_of o marks lines true) (AtEnd (kind_of o.marker)) row rows
     (come_behind options bytes fence_further row rows are (Finished (fence_block o lines true)))
 rest-closed options bytes o marks lines row [] marked none are =
-    rest-none bytes o Nothing (leaf_of o marks lines true) (AtEnd (kind_of o.marker)) row
+    rest-none bytes (block_name o.marker) Nothing (leaf_of o marks lines true) (AtEnd (kind_of o.marker)) row
     (Finished (fence_block o lines true)) refl tt tt
     (block-is o marks lines true marked)
 rest-closed options bytes o marks lines row (next ∷ rows) marked none are =
@@ -80,7 +85,7 @@ Rests options bytes o marks row rows =
     (lines : List Line) (left : Expression) (told : Bool) → may_end left ≡ true →
     behind n.LineEnding left ≡ in_line plain_text o.marker → row.behind ≡ held_of o →
     (are : AreBehind options bytes fence_further row rows) →
-    HasRest bytes o left (leaf_of o marks lines false) (line_site (kind_of o.marker) told) row rows
+    HasRest bytes (block_name o.marker) left (leaf_of o marks lines false) (line_site (kind_of o.marker) told) row rows
     (come_behind options bytes fence_further row rows are (Opened (OpenFence o lines)))
 
 rest-next : (options : ParseOptions) (bytes : List ℕ) (o : Opening) (marks : List ℕ) (lines : List Line)
@@ -88,8 +93,8 @@ rest-next : (options : ParseOptions) (bytes : List ℕ) (o : Opening) (marks : L
     AreMarks o marks → is_fence (held_of o) ≡ true → behind n.LineEnding left ≡ in_line plain_text o.marker →
     row.behind ≡ held_of o → (are : AreBehind options bytes fence_further row (next ∷ rows)) →
     Rests options bytes o marks next rows →
-    HasRest bytes o left (leaf_of o marks lines false) (line_site (kind_of o.marker) told) row (next ∷ rows)
-    (come_behind options bytes fence_further row (next ∷ rows) are (Opened (OpenFence o lines)))
+    HasRest bytes (block_name o.marker) left (leaf_of o marks lines false) (line_site (kind_of o.marker) told) row
+    (next ∷ rows) (come_behind options bytes fence_further row (next ∷ rows) are (Opened (OpenFence o lines)))
 rest-next options bytes o marks lines left told row next rows marked fence line held are rests =
     go (nat_lt q.index (length bytes)) refl
   where
@@ -137,17 +142,19 @@ rest-next options bytes o marks lines left told row next rows marked fence line 
 
     After : Came → Type 0
     After c =
-        HasRest bytes o left leaf site row (next ∷ rows) (come_behind options bytes fence_further next rows are.7 c)
+        HasRest bytes (block_name o.marker) left leaf site row (next ∷ rows)
+        (come_behind options bytes fence_further next rows are.7 c)
 
     -- the line in front of those behind it
     joined : (after : Expression) (to : OpenLeaf) (end : Site) (c : Came) →
         InsideFacts bytes next.first next.end x after (behind_ending bytes q leaf) to (ended_site bytes q site) end
         parts parts →
-        HasRest bytes o after to end next rows (come_behind options bytes fence_further next rows are.7 c) → After c
+        HasRest bytes (block_name o.marker) after to end next rows
+        (come_behind options bytes fence_further next rows are.7 c) → After c
     joined after to end c facts rest =
-        rest-more bytes o left x after leaf to site end row next rows
+        rest-more bytes (block_name o.marker) left x after leaf to site end row next rows
         (come_behind options bytes fence_further next rows are.7 c) q are.1
-        are.2 are.3 line (line-takes o.marker) (line-on kind told)
+        are.2 are.3 (block-lines o.marker) line (line-takes o.marker) (line-on kind told)
         (further-line options bytes o x after (behind_ending bytes q leaf) to (ended_site bytes q site) end next is on
         fence facts) rest
 
@@ -214,7 +221,7 @@ pub rest-open : (options : ParseOptions) (bytes : List ℕ) (o : Opening) (marks
     (rows : List Row) →
     AreMarks o marks → is_fence (held_of o) ≡ true → Rests options bytes o marks row rows
 rest-open options bytes o marks row [] marked fence lines left told ends line held are =
-    rest-none bytes o left (leaf_of o marks lines false) (line_site (kind_of o.marker) told) row
+    rest-none bytes (block_name o.marker) left (leaf_of o marks lines false) (line_site (kind_of o.marker) told) row
     (Opened (OpenFence o lines)) ends (line-leaves (kind_of o.marker) told) tt (block-is o marks lines false marked)
 rest-open options bytes o marks row (next ∷ rows) marked fence lines left told ends line held are =
     rest-next options bytes o marks lines left told row next rows marked fence line held are

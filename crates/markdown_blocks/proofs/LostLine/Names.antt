@@ -1,4 +1,4 @@
--- The names of what stands on a line that loses columns of whitespace, and in a fence.
+-- The names of what stands on a line of a leaf, which may lose columns of whitespace, and in a fence.
 use Rattle.std.proofs.Common.{◌≡◌, ℕ, Bool, true, false, cond, ◌&&◌, List, [], ◌∷◌, ◌++◌, refl}
 use Rattle.std.specs.Prelude.{nat_lt, None}
 use Rattle.md_engine.specs.declared.event.Content.{Content}
@@ -32,20 +32,22 @@ is_inside n.CodeFlowChunk = true
 is_inside n.MathFlowFence = true
 is_inside n.MathFlowFenceSequence = true
 is_inside n.MathFlowChunk = true
+is_inside n.HtmlFlowData = true
 is_inside _ = false
 
 -- what holds of each of them
 pub inside-name : (P : Name → Type 0) → P n.SpaceOrTab → P n.CodeFencedFence → P n.CodeFencedFenceSequence →
-    P n.CodeFlowChunk → P n.MathFlowFence → P n.MathFlowFenceSequence → P n.MathFlowChunk → (name : Name) →
-    is_inside name ≡ true → P name
-inside-name P white fence sequence chunk math math_sequence math_chunk n.SpaceOrTab e = white
-inside-name P white fence sequence chunk math math_sequence math_chunk n.CodeFencedFence e = fence
-inside-name P white fence sequence chunk math math_sequence math_chunk n.CodeFencedFenceSequence e = sequence
-inside-name P white fence sequence chunk math math_sequence math_chunk n.CodeFlowChunk e = chunk
-inside-name P white fence sequence chunk math math_sequence math_chunk n.MathFlowFence e = math
-inside-name P white fence sequence chunk math math_sequence math_chunk n.MathFlowFenceSequence e = math_sequence
-inside-name P white fence sequence chunk math math_sequence math_chunk n.MathFlowChunk e = math_chunk
-inside-name P white fence sequence chunk math math_sequence math_chunk _ e = absurd (cc)
+    P n.CodeFlowChunk → P n.MathFlowFence → P n.MathFlowFenceSequence → P n.MathFlowChunk → P n.HtmlFlowData →
+    (name : Name) → is_inside name ≡ true → P name
+inside-name P white fence sequence chunk math math_sequence math_chunk html n.SpaceOrTab e = white
+inside-name P white fence sequence chunk math math_sequence math_chunk html n.CodeFencedFence e = fence
+inside-name P white fence sequence chunk math math_sequence math_chunk html n.CodeFencedFenceSequence e = sequence
+inside-name P white fence sequence chunk math math_sequence math_chunk html n.CodeFlowChunk e = chunk
+inside-name P white fence sequence chunk math math_sequence math_chunk html n.MathFlowFence e = math
+inside-name P white fence sequence chunk math math_sequence math_chunk html n.MathFlowFenceSequence e = math_sequence
+inside-name P white fence sequence chunk math math_sequence math_chunk html n.MathFlowChunk e = math_chunk
+inside-name P white fence sequence chunk math math_sequence math_chunk html n.HtmlFlowData e = html
+inside-name P white fence sequence chunk math math_sequence math_chunk html _ e = absurd (cc)
 
 -- Each event.
 

@@ -24,16 +24,16 @@ use Rattle.markdown_blocks.proofs.PartsStand.{Stands, stands-outside}
 
 -- each is the name of a part of a leaf
 inside-part : (name : Name) → is_inside name ≡ true → IsPart (role name)
-inside-part = inside-name (λ name. IsPart (role name)) tt tt tt tt tt tt tt
+inside-part = inside-name (λ name. IsPart (role name)) tt tt tt tt tt tt tt tt
 
 inside-block : (name : Name) → is_inside name ≡ true → is_block (role name) ≡ false
-inside-block = inside-name (λ name. is_block (role name) ≡ false) refl refl refl refl refl refl refl
+inside-block = inside-name (λ name. is_block (role name) ≡ false) refl refl refl refl refl refl refl refl
 
 inside-kind : (name : Name) → is_inside name ≡ true → part_kind name ≡ None
-inside-kind = inside-name (λ name. part_kind name ≡ None) refl refl refl refl refl refl refl
+inside-kind = inside-name (λ name. part_kind name ≡ None) refl refl refl refl refl refl refl refl
 
 inside-other : (name : Name) → is_inside name ≡ true → is_other (on_line name) ≡ true
-inside-other = inside-name (λ name. is_other (on_line name) ≡ true) refl refl refl refl refl refl refl
+inside-other = inside-name (λ name. is_other (on_line name) ≡ true) refl refl refl refl refl refl refl refl
 
 -- Events.
 

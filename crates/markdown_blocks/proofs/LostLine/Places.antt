@@ -1,9 +1,10 @@
 -- A line that loses columns of whitespace, where it stands: from the point where it begins to its end.
-use Rattle.std.proofs.Common.{◌≡◌, ℕ, zero, suc, ◌+◌, ◌≤◌, Bool, true, false, cond, ◌&&◌, List, []}
+use Rattle.std.proofs.Common.{◌≡◌, ℕ, zero, suc, ◌+◌, ◌≤◌, Bool, true, false, cond, ◌&&◌, List, [], ◌∷◌, length}
 use Rattle.std.proofs.Common.{◌++◌, drop, refl, sym, ◌∙◌, ap, arith, subst}
 use Rattle.std.specs.Prelude.{◌==◌, nat_lt}
 use Rattle.std.proofs.lemmas.Bool.{and_parts}
 use Rattle.std.proofs.lemmas.Bool.Decides.{nat_tests}
+use Rattle.std.proofs.lemmas.List.{drop_all}
 use Rattle.md_engine.specs.declared.configuration.ParseOptions.{ParseOptions}
 use Rattle.md_engine.specs.declared.event.Point.{Point}
 use Rattle.md_engine.specs.declared.tokenizer.Line.{Line}
@@ -48,6 +49,16 @@ further-no_ending bytes r p q is = go r.spaces is.at.no_ending
     go : (spaces : ℕ) → NoEnding (cut_tab spaces ++ r.bytes) → NoEnding r.bytes
     go zero h = h
     go (suc k) h = h.1
+
+-- where the text ends nothing stands on it
+pub line-over : (bytes : List ℕ) (r : Rest) (p q : Point) → FurtherAt bytes r p q → length bytes ≤ p.index →
+    rest_line r ≡ []
+line-over bytes r p q is over =
+    go (rest_line r) (sym (line-stands bytes r (rest_line r) p q is.at) ∙ drop_all p.index bytes over)
+  where
+    go : (line : List ℕ) → line ++ drop q.index bytes ≡ [] → line ≡ []
+    go [] h = refl
+    go (b ∷ bs) h = absurd (cc)
 
 -- Behind so many columns of whitespace.
 pub record HasLeft (bytes : List ℕ) (room : ℕ) (r : Rest) (p q : Point) : Type 0 where

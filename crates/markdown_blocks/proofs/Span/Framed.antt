@@ -3,9 +3,12 @@ use Rattle.std.proofs.Common.{◌≡◌, Bool, true, false, cond, ◌||◌, List
 use Rattle.std.proofs.Common.{append_assoc, append-nil}
 use Rattle.std.proofs.lemmas.Bool.{or_from, or_right}
 use Rattle.md_engine.specs.declared.event.Event.{Event}
+use Rattle.md_engine.specs.declared.event.Name.{Name}
 use Rattle.md_engine.specs.declared.event.Name.TheVariants as n
+use Rattle.md_engine.specs.declared.event.Point.{Point}
 use Rattle.md_leaves.specs.Spanned.{has_lines}
 use Rattle.md_leaves.proofs.SpannedLines.{NoLines}
+use Rattle.md_seam.specs.Events.Nested.{exit}
 use Rattle.md_seam.specs.Events.Spelled.{role}
 use Rattle.markdown_blocks.specs.Rows.{Row, any_framed, but_end, but_ends, end_of, ending_events, is_framed, last_row}
 use Rattle.markdown_blocks.specs.Rows.{end_by, inside_leaf, span_behind, span_by, span_rest}
@@ -34,6 +37,23 @@ framed-end (f ∷ es) e h = or_right (has_lines (role f.name)) (is_framed (es ++
 pub spanned-framed : (Lead : List Event → Type 0) (Begins : Event → Type 0) (es : List Event) →
     IsSpanned Lead Begins es → is_framed es ≡ true
 spanned-framed Lead Begins es s = ap is_framed s.is ∙ framed-end (s.lead ++ s.begin ∷ s.inside) s.end s.ends.lines
+
+-- such a line, of which no other line begins or ends inside
+pub line-spanned : (Lead : List Event → Type 0) (Begins : Event → Type 0) (name : Name) (begin : Event) (q : Point)
+    (inside es : List Event) →
+    Lead [] → Begins begin → has_lines (role name) ≡ true → NoLines inside →
+    es ≡ begin ∷ inside ++ exit name q ∷ [] → IsSpanned Lead Begins es
+line-spanned Lead Begins name begin q inside es none is lines plain same = record {
+  lead = [];
+  begin = begin;
+  inside = inside;
+  end = exit name q;
+  is = same;
+  lead_plain = none;
+  begins = is;
+  inside_plain = plain;
+  ends = record { kind = refl; lines = lines };
+}
 
 -- and where no block of several lines begins or ends there is none
 pub plain-unframed : (es : List Event) → NoLines es → is_framed es ≡ false

@@ -1,5 +1,6 @@
 -- Events that stand inside of a leaf, with its begin and its end and whitespace in front of it, are a leaf.
-use Rattle.std.proofs.Common.{◌≡◌, ℕ, Bool, true, false, ◌&&◌, ◌||◌, not, List, [], ◌∷◌, ◌++◌, refl, ap, sym, ◌∙◌, subst}
+use Rattle.std.proofs.Common.{◌≡◌, ℕ, Bool, true, false, ◌&&◌, ◌||◌, not, List, [], ◌∷◌, ◌++◌, refl, ap, sym, ◌∙◌}
+use Rattle.std.proofs.Common.{subst}
 use Rattle.std.proofs.Common.{append_assoc}
 use Rattle.std.specs.Prelude.{Option, Some, None}
 use Rattle.md_engine.specs.declared.event.Event.{Event}
@@ -13,7 +14,8 @@ use Rattle.md_seam.specs.Events.Endings.{spot_behind}
 use Rattle.md_seam.specs.Events.Grammar.{Expression, behind, behind_block, blocks, inside, may_end, plain_text}
 use Rattle.md_seam.specs.Events.Grammar.{unread_text}
 use Rattle.md_seam.specs.Events.Nested.{around, exit}
-use Rattle.md_seam.specs.Events.Spelled.{IsQuiet, LeafKind, OfCode, OfFence, OfMath, OpenLeaf, Opens, Reading, Role}
+use Rattle.md_seam.specs.Events.Spelled.{IsQuiet, LeafKind, OfCode, OfFence, OfHtml, OfMath, OpenLeaf, Opens, Reading}
+use Rattle.md_seam.specs.Events.Spelled.{Role}
 use Rattle.md_seam.specs.Events.Spelled.{add_block, block_of, fresh, read, read_enter, read_exit, role}
 use Rattle.md_seam.specs.Events.Tiles.{part_kind}
 use Rattle.md_seam.proofs.EndingsLemmas as ending
@@ -114,6 +116,7 @@ lined-known : (kind : LeafKind) → HasLines kind → is_unlisted (Opens kind) �
 lined-known OfCode lined = refl
 lined-known OfFence lined = refl
 lined-known OfMath lined = refl
+lined-known OfHtml lined = refl
 lined-known _ lined = absurd lined
 
 around-plain : (bytes : List ℕ) (name : Name) (kind : LeafKind) (p q : Point) (end : Site) (es : List Event) →

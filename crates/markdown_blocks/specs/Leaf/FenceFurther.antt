@@ -16,7 +16,7 @@ use Rattle.md_lines.specs.Fence.{block_name, chunk_name, fence_name, held_indent
 use Rattle.md_lines.specs.Fence.{sequence_name}
 use Rattle.md_lines.specs.FenceLine.{fence_goes, further_events}
 use Rattle.md_lines.specs.FenceRule.{further_at}
-use Rattle.md_lines.specs.Further.{further_link}
+use Rattle.md_leaves.specs.Further.{further_link}
 use Rattle.md_seam.specs.Events.Nested.{around, enter_link, exit, pair}
 use Rattle.md_seam.specs.Events.Places.{past_text}
 use Rattle.md_definition.specs.Leaves.{Came, Opened, closes, fence_goes_on}

@@ -337,8 +337,12 @@ fn begin_line(tokenizer: &mut Tokenizer)
 {
     let all = !(tokenizer.flags.continued < tokenizer.containers.len());
     tokenizer.flags.leaf_before = tokenizer.flags.leaf;
-    if !(takes_lazy(tokenizer.flags.leaf) || all) {
-        tokenizer.flags.leaf = HeldLeaf::None;
+    if !all {
+        tokenizer.flags.leaf = if takes_lazy(tokenizer.flags.leaf) {
+            HeldLeaf::LazyText
+        } else {
+            HeldLeaf::None
+        };
     }
 }
 
@@ -349,7 +353,7 @@ fn takes_lazy(leaf: HeldLeaf) -> bool
     ensures { result ≡ takes_lazy leaf }
 {
     match leaf {
-        HeldLeaf::Text => true,
+        HeldLeaf::Text | HeldLeaf::LazyText => true,
         _ => false,
     }
 }

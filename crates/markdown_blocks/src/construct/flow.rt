@@ -1,6 +1,6 @@
 // Flow: the leaf blocks of a document or a container (CommonMark 4).
 //
-//     flow ::= blank_line | code_indented | raw_flow | heading_atx | thematic_break | content
+//     flow ::= blank_line | code_indented | raw_flow | html_flow | heading_atx | thematic_break | content
 //
 // The rest of a line, behind the prefixes of its containers, is tried in this order. What may not begin here, by the
 // byte that stands first behind whitespace and by whether whitespace stands in front of it, is refused at once; else an
@@ -24,7 +24,7 @@ ghost use Rattle.markdown_blocks.specs.Registry.{front_of, opener_front, openers
 ghost use Rattle.md_seam.specs.Transition.{IsAt, NeedsNothing};
 
 pub use crate::construct::registry::{
-    before_code_indented, before_heading_atx, before_raw, before_thematic_break,
+    before_code_indented, before_heading_atx, before_html, before_raw, before_thematic_break,
 };
 use crate::construct::{document, registry};
 use crate::resolve;

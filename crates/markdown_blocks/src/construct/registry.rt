@@ -1,7 +1,7 @@
 // The constructs that are built: the one place of the frame's code that names them.
 //
 //     container ::= block_quote | list_item
-//     leaf      ::= code_indented | raw_flow | heading_atx | thematic_break
+//     leaf      ::= code_indented | raw_flow | html_flow | heading_atx | thematic_break
 //
 // What flow itself is made of (blank lines, content, whitespace) stands in its own table.
 
@@ -47,6 +47,7 @@ use md_engine::state::code_indented::State as CodeState;
 use md_engine::state::document::State as DocumentState;
 use md_engine::state::flow::State as FlowState;
 use md_engine::state::heading_atx::State as HeadingState;
+use md_engine::state::html_flow::State as HtmlState;
 use md_engine::state::list_item::State as ItemState;
 use md_engine::state::raw_flow::State as RawState;
 use md_engine::state::thematic_break::State as BreakState;
@@ -57,6 +58,7 @@ use md_engine::tokenizer::{Container, ContainerKind, HeldLeaf, Tokenizer};
 use md_leaves::spans::{self, Place};
 use md_leaves::{heading_atx, thematic_break};
 use md_lines::{code_indented, raw_flow};
+use md_rich::html_flow;
 use md_seam::space_or_tab::look_behind;
 
 /// The state of the document in front of the first container that may open.
@@ -167,6 +169,8 @@ pub fn begins_at(current: Option<u8>) -> FlowState
                 first_trial()
             } else if raw_flow::may_begin(current) {
                 FlowState::BeforeRaw
+            } else if html_flow::may_begin(current) {
+                FlowState::BeforeHtml
             } else if heading_atx::may_begin(current) {
                 FlowState::BeforeHeadingAtx
             } else if thematic_break::may_begin(current) {
@@ -255,13 +259,35 @@ pub fn before_raw(tokenizer: &mut Tokenizer) -> State
         world tokenizer.new ≡ (before_transition LeafName.Fence (world tokenizer.old)).world }
 {
     if !raw_flow::may_begin(look_behind(tokenizer)) {
+        return State::Retry(StateName::Flow(FlowState::BeforeHtml));
+    }
+    or_error!(tokenizer.attempt(
+        State::Next(StateName::Flow(FlowState::After)),
+        State::Next(StateName::Flow(FlowState::BeforeHtml))
+    ));
+    State::Retry(StateName::RawFlow(RawState::Start))
+}
+
+/// Before HTML.
+///
+/// ```markdown
+/// > | <div>
+///     ^
+/// ```
+pub fn before_html(tokenizer: &mut Tokenizer) -> State
+    requires { IsAt NeedsNothing (StateName.Flow FlowState.BeforeHtml) (world tokenizer.old) }
+    ensures to { result ≢ State.Error → result ≡ (before_transition LeafName.HtmlFlow (world tokenizer.old)).to }
+    ensures world { result ≢ State.Error →
+        world tokenizer.new ≡ (before_transition LeafName.HtmlFlow (world tokenizer.old)).world }
+{
+    if !html_flow::may_begin(look_behind(tokenizer)) {
         return State::Retry(StateName::Flow(FlowState::BeforeHeadingAtx));
     }
     or_error!(tokenizer.attempt(
         State::Next(StateName::Flow(FlowState::After)),
         State::Next(StateName::Flow(FlowState::BeforeHeadingAtx))
     ));
-    State::Retry(StateName::RawFlow(RawState::Start))
+    State::Retry(StateName::HtmlFlow(HtmlState::Start))
 }
 
 /// Before an ATX heading.
@@ -319,6 +345,7 @@ pub fn before_leaf(tokenizer: &mut Tokenizer, state: FlowState) -> State
     match state {
         FlowState::BeforeCodeIndented => before_code_indented(tokenizer),
         FlowState::BeforeRaw => before_raw(tokenizer),
+        FlowState::BeforeHtml => before_html(tokenizer),
         FlowState::BeforeHeadingAtx => before_heading_atx(tokenizer),
         FlowState::BeforeThematicBreak => before_thematic_break(tokenizer),
         _ => State::Nok,
@@ -378,6 +405,8 @@ pub fn inside_start(held: HeldLeaf) -> Option<StateName>
 {
     if raw_flow::is_open(held) {
         Some(StateName::RawFlow(RawState::AtNonLazyBreak))
+    } else if html_flow::is_html(held) {
+        Some(StateName::HtmlFlow(HtmlState::ContinuationStart))
     } else if is_code(held) {
         Some(StateName::CodeIndented(CodeState::FurtherStart))
     } else {
@@ -399,7 +428,7 @@ pub fn goes_inside(leaf: HeldLeaf) -> bool
 pub fn shuts_out(leaf: HeldLeaf) -> bool
     ensures { result ≡ shuts_out leaf }
 {
-    raw_flow::is_open(leaf)
+    raw_flow::is_open(leaf) || html_flow::is_html(leaf)
 }
 
 /// The state of a container where it may open.
@@ -517,6 +546,7 @@ pub fn call(tokenizer: &mut Tokenizer, name: StateName) -> State
         StateName::BlockQuote(state) => block_quote::call(tokenizer, state),
         StateName::CodeIndented(state) => code_indented::call(tokenizer, state),
         StateName::HeadingAtx(state) => heading_atx::call(tokenizer, state),
+        StateName::HtmlFlow(state) => html_flow::call(tokenizer, state),
         StateName::ListItem(state) => list_item::call(tokenizer, state),
         StateName::RawFlow(state) => raw_flow::call(tokenizer, state),
         StateName::ThematicBreak(state) => thematic_break::call(tokenizer, state),
@@ -566,6 +596,7 @@ pub fn stays(name: StateName) -> Option<Stay>
     match name {
         StateName::CodeIndented(state) => code_indented::stays(state),
         StateName::HeadingAtx(state) => heading_atx::stays(state),
+        StateName::HtmlFlow(state) => html_flow::stays(state),
         StateName::ListItem(state) => list_item::stays(state),
         StateName::RawFlow(state) => raw_flow::stays(state),
         StateName::ThematicBreak(state) => thematic_break::stays(state),
@@ -582,6 +613,7 @@ pub fn joins_lines(options: &ParseOptions) -> bool
     options.constructs.code_fenced
         || options.constructs.math_flow
         || options.constructs.code_indented
+        || options.constructs.html_flow
 }
 
 /// Whether an event stays as it is where lines are joined and lists are put around items: it is of no leaf of several

@@ -4,6 +4,7 @@
 #[derive(Clone, Copy)]
 pub enum State {
     Start,
+    Indent,
     Before,
     Open,
     DeclarationOpen,

@@ -1,5 +1,5 @@
 // What an outline knows of a leaf block of several lines that is open, and what it shows of it: indented code, fenced
-// code and math. Its lines are shown as they come, and the line of its word is told later what its fences say.
+// code, math and HTML. Its lines are shown as they come, and the line of its word is told later what its fences say.
 
 ghost use Rattle.std.specs.Prelude.{◌≡◌, ◌+◌, ◌∷◌, [], ◌++◌, if◌then◌else◌, OnOk};
 ghost use Rattle.std.specs.Str.{IsUtf8};
@@ -58,7 +58,7 @@ fn closed(word: Word) -> Word
     }
 }
 
-/// Adds a leaf block as it begins: code with its first line, which is empty yet.
+/// Adds a leaf block as it begins: indented code and HTML with their first line, which is empty yet.
 pub fn push_begun<'a>(
     lines: &mut Vec<OutlineLine<'a>>,
     depth: usize,
@@ -68,7 +68,7 @@ pub fn push_begun<'a>(
 {
     push(lines, depth, word, "")?;
     match word {
-        Word::Code => push(lines, next(depth)?, Word::Line, ""),
+        Word::Code | Word::Html => push(lines, next(depth)?, Word::Line, ""),
         _ => Ok(()),
     }
 }

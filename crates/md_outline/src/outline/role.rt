@@ -96,6 +96,7 @@ pub fn role_of<'a>(name: Name) -> Role<'a>
             closed: false,
         }),
         Name::MathFlow => Role::Lined(Word::Math { closed: false }),
+        Name::HtmlFlow => Role::Lined(Word::Html),
         Name::FrontmatterFence | Name::CodeFencedFence | Name::MathFlowFence => Role::Fence,
         Name::CodeFencedFenceInfo => Role::Text(Purpose::Part(Word::Info)),
         Name::CodeFencedFenceMeta | Name::MathFlowFenceMeta => {

@@ -6,12 +6,25 @@ pub returns-then-is_open : goal.returns-then-is_open
 unfolding insider
 returns-then-is_open c = rw (sym c.is_open.ensures ∙ c.if-is_open.true) refl
 
+pub returns-then-is_html : goal.returns-then-is_html
+unfolding insider
+returns-then-is_html c =
+    rw (sym c.is_open.ensures ∙ c.if-is_open.false, sym c.is_html.ensures ∙ c.if-is_html.true) refl
+
 pub returns-then-is_code : goal.returns-then-is_code
 unfolding insider
 returns-then-is_code c =
-    rw (sym c.is_open.ensures ∙ c.if-is_open.false, sym c.is_code.ensures ∙ c.if-is_code.true) refl
+    rw (
+      sym c.is_open.ensures ∙ c.if-is_open.false,
+      sym c.is_html.ensures ∙ c.if-is_html.false,
+      sym c.is_code.ensures ∙ c.if-is_code.true,
+    ) refl
 
 pub returns-else-is_code : goal.returns-else-is_code
 unfolding insider
 returns-else-is_code c =
-    rw (sym c.is_open.ensures ∙ c.if-is_open.false, sym c.is_code.ensures ∙ c.if-is_code.false) refl
+    rw (
+      sym c.is_open.ensures ∙ c.if-is_open.false,
+      sym c.is_html.ensures ∙ c.if-is_html.false,
+      sym c.is_code.ensures ∙ c.if-is_code.false,
+    ) refl

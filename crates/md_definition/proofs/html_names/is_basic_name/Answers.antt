@@ -3,7 +3,7 @@ use Rattle.std.specs.Str.{str_eq_ignore_ascii_case}
 use Rattle.std.proofs.lemmas.Iterator.{YieldsList-from_slice}
 use Rattle.std.proofs.lemmas.Iterator.Search.{any_from_yields_List}
 use Rattle.md_definition.specs.Html.{is_basic_name}
-use Rattle.plain_grammars.proofs.html.is_basic_name.Goals as goal
+use Rattle.md_definition.proofs.html_names.is_basic_name.Goals as goal
 
 pub returns : goal.returns
 unfolding is_basic_name

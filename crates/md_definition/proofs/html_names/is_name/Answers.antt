@@ -1,6 +1,6 @@
 use Rattle.std.proofs.lemmas.Bool.Decides.{same_from_decides}
 use Rattle.std.proofs.lemmas.Slice.Eq.{bytes_eq-Decides}
-use Rattle.plain_grammars.proofs.html.is_name.Goals as goal
+use Rattle.md_definition.proofs.html_names.is_name.Goals as goal
 
 pub returns : goal.returns
 returns c =

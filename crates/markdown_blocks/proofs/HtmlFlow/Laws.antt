@@ -1,0 +1,60 @@
+-- The laws of HTML, of its first line and of a further one, as the frame asks for them.
+use Rattle.markdown_blocks.specs.Fronted.{rest_line}
+use Rattle.markdown_blocks.specs.HeldLeaf.{kind_of_leaf}
+use Rattle.markdown_blocks.specs.Leaf.HtmlFlow.{html_further, html_leaf}
+use Rattle.markdown_blocks.proofs.HtmlFlow.Cells.{further-adds, further-fits, further-keeps, html-adds, html-fits}
+use Rattle.markdown_blocks.proofs.HtmlFlow.Cells.{html-keeps}
+use Rattle.markdown_blocks.proofs.HtmlFlow.Found.{further-held, further-not_lazy, html-held, html-lines, html-not_lazy}
+use Rattle.markdown_blocks.proofs.HtmlFlow.Outside.{further-no_content, further-outside, further-own}
+use Rattle.markdown_blocks.proofs.HtmlFlow.Outside.{html-no_content, html-outside, html-own}
+use Rattle.markdown_blocks.proofs.HtmlFlow.Trial.{further-looked, further-refused, further-shrinks, further-took}
+use Rattle.markdown_blocks.proofs.HtmlFlow.Trial.{html-looked, html-refused, html-shrinks, html-took}
+use Rattle.markdown_blocks.proofs.LeafLaws.{LeafLaws}
+
+-- All that the frame asks of the line that begins HTML,
+pub html-laws : LeafLaws html_leaf
+html-laws = record {
+  looked = html-looked;
+  meets = λ options on r starts further. cc;
+  took = λ options cells h is few. html-took options cells h is;
+  refused = λ options cells h asked. html-refused options cells h;
+  shrinks = html-shrinks;
+  fits = html-fits;
+  adds_is = html-adds;
+  keeps_is = html-keeps;
+  shut = λ ends options on. absurd (cc);
+  finishes = λ ends options leaf r. cc;
+  holds_is = λ options leaf r starts. html-held options (kind_of_leaf leaf) leaf r;
+  not_lazy = html-not_lazy;
+  no_content = λ wants only. html-no_content wants;
+  own = λ options on cells p none. html-own options on cells p;
+  outside = λ stays options on r p starts. html-outside options on (rest_line r) p;
+  set = λ ends options on r p es starts. cc;
+  unspanned = λ ends options on r p starts. absurd (cc);
+  facts = λ ends options on bytes r p q starts is. absurd (cc);
+  becomes = λ ends options on bytes r p q starts is wants reads w rt. absurd (cc);
+}
+
+-- and of a further line: it goes on the HTML that it meets.
+pub html_further-laws : LeafLaws html_further
+html_further-laws = record {
+  looked = further-looked;
+  meets = λ options on r starts further. html-lines on further;
+  took = λ options cells h is few. further-took options cells h is;
+  refused = further-refused;
+  shrinks = further-shrinks;
+  fits = further-fits;
+  adds_is = further-adds;
+  keeps_is = further-keeps;
+  shut = λ ends options on. absurd (cc);
+  finishes = λ ends options leaf r. cc;
+  holds_is = λ options leaf r starts. further-held options leaf r;
+  not_lazy = further-not_lazy;
+  no_content = λ wants only. further-no_content wants only.flow;
+  own = λ options on cells p none. further-own options on cells p;
+  outside = λ stays options on r p starts. further-outside options on (rest_line r) p;
+  set = λ ends options on r p es starts. cc;
+  unspanned = λ ends options on r p starts. absurd (cc);
+  facts = λ ends options on bytes r p q starts is. absurd (cc);
+  becomes = λ ends options on bytes r p q starts is wants reads w rt. absurd (cc);
+}

@@ -1,0 +1,109 @@
+-- A leaf whose lines all have a begin and an end: its first line and its further lines, joined.
+use Rattle.std.proofs.Common.{◌≡◌, ℕ, Bool, true, false, not, List, [], ◌∷◌, ◌++◌, refl, sym, ◌∙◌, subst, subst₂}
+use Rattle.std.specs.Prelude.{Some}
+use Rattle.md_engine.specs.declared.event.Content.{Content}
+use Rattle.md_engine.specs.declared.event.Event.{Event}
+use Rattle.md_engine.specs.declared.event.Name.{Name}
+use Rattle.md_engine.specs.declared.event.Name.TheVariants as n
+use Rattle.md_definition.specs.Leaves.{Came}
+use Rattle.md_definition.specs.Tree.{Block}
+use Rattle.md_outline.specs.LinesStand.{Site, begun_site}
+use Rattle.md_seam.specs.Events.Endings.{endings_stand_from}
+use Rattle.md_seam.specs.Events.Grammar.{Expression}
+use Rattle.md_seam.specs.Events.Nested.{enter, exit}
+use Rattle.md_seam.specs.Events.Places.{first_point}
+use Rattle.md_seam.specs.Events.Spelled.{LeafKind, OpenLeaf, fresh}
+use Rattle.md_seam.specs.Substituted.{Readings}
+use Rattle.md_seam.proofs.EndingsLemmas.{AreOthers, Leads, Stays, in_leaf, leads-append, others-lead}
+use Rattle.markdown_blocks.specs.Rows.{Row, but_end, end_of, last_row, span_by}
+use Rattle.markdown_blocks.proofs.LeafFacts.{LeafFacts}
+use Rattle.markdown_blocks.proofs.PartFacts.{NoLinks}
+use Rattle.markdown_blocks.proofs.Span.Framed.{framed_by, framed_rest, span-framed}
+use Rattle.markdown_blocks.proofs.Span.Leaf.{IsLeafName}
+use Rattle.markdown_blocks.proofs.Span.Lines.{EndsLeaf, SpanFirst, last-ends, span-facts, span-inside}
+use Rattle.markdown_blocks.proofs.Span.Rest.{HasRest, block_by, full-last, full_behind, row_done, row_unread}
+use Rattle.markdown_blocks.proofs.SubstitutedLemmas.{Becomes, becomes-append, becomes-same, no_links-unwanted}
+
+-- Where events lead that stay in a leaf is told by them alone.
+pub stays-same : (es : List Event) (h : Stays es) (full : Bool) → Leads (in_leaf true) (in_leaf full) es →
+    (h true).0 ≡ full
+stays-same es h full leads = told (h true).0 full (sym ((h true).1 ending) ∙ leads ending)
+  where
+    -- behind a leaf stands its ending, if its last line is filled
+    ending : List Event
+    ending = exit n.CodeFenced first_point ∷ enter n.LineEnding first_point ∷ []
+
+    told : (a b : Bool) → endings_stand_from (in_leaf a) ending ≡ endings_stand_from (in_leaf b) ending → a ≡ b
+    told true true e = refl
+    told false false e = refl
+    told true false e = cc
+    told false true e = cc
+
+-- All that the frame asks of the lines of such a leaf, on the first of which something stands.
+pub rest-facts : (bytes : List ℕ) (name : Name) (kind : LeafKind) (row : Row) (rows : List Row) (c : Came) →
+    (named : IsLeafName name kind) →
+    (first : SpanFirst bytes row_unread (row_done bytes) name named.begin (fresh kind) (begun_site kind) row) →
+    HasRest bytes name first.left first.leaf first.site row rows c → AreOthers first.unread_inside →
+    AreOthers first.inside → not row.empty ≡ true →
+    LeafFacts bytes (Some (block_by c)) (not (last_row row rows).empty) row.first (last_row row rows).end
+    (span_by row_unread row rows) (framed_by (row_done bytes) row rows)
+rest-facts bytes name kind row rows c named first rest unread_others others some =
+    subst₂
+    (λ (b : Block) (joined : List Event).
+    LeafFacts bytes (Some b) full row.first (last_row row rows).end joined (framed_by (row_done bytes) row rows))
+    rest.block (sym (span-framed row_unread row rows rest.framed))
+    (span-facts bytes row_unread (row_done bytes) name kind rest.to row rows full named first rest.further
+    (stays-same (us ++ framed_rest row_unread row rows)
+    (span-inside bytes row_unread (row_done bytes) name kind rest.to row rows named first rest.further).unread_stays
+    full (filled us (framed_rest row_unread row rows) unread_others rest.fills))
+    (stays-same (es ++ framed_rest (row_done bytes) row rows)
+    (span-inside bytes row_unread (row_done bytes) name kind rest.to row rows named first rest.further).stays full
+    (filled es (framed_rest (row_done bytes) row rows) others
+    (λ x.
+    subst (λ (l : List Event). Leads (in_leaf x) (in_leaf (full_behind x rows)) l) (sym rest.same) (rest.fills x)))))
+  where
+    us : List Event
+    us = first.unread_inside
+
+    es : List Event
+    es = first.inside
+
+    full : Bool
+    full = not (last_row row rows).empty
+
+    -- the first line is filled, so the last one is by itself
+    filled : (xs ys : List Event) → AreOthers xs →
+        ((x : Bool) → Leads (in_leaf x) (in_leaf (full_behind x rows)) ys) →
+        Leads (in_leaf true) (in_leaf full) (xs ++ ys)
+    filled xs ys h k =
+        subst (λ (x : Bool). Leads (in_leaf true) (in_leaf x) (xs ++ ys)) (full-last true row rows (sym some))
+        (leads-append (in_leaf true) (in_leaf true) (in_leaf (full_behind true rows)) xs ys
+        (others-lead (in_leaf true) xs refl h) (k true))
+
+-- Whoever reads text parts as the plain layer does gives what is read of the lines, if so does the first.
+pub rest-becomes : (bytes : List ℕ) (name : Name) (left : Expression) (leaf : OpenLeaf) (site : Site) (row : Row)
+    (rows : List Row) (c : Came) →
+    EndsLeaf row_unread (row_done bytes) name row → HasRest bytes name left leaf site row rows c →
+    (wants : Content → Bool) (reads : Readings) →
+    Becomes wants reads (but_end row.inside) (but_end (row_done bytes row)) →
+    Becomes wants reads (span_by row_unread row rows) (framed_by (row_done bytes) row rows)
+rest-becomes bytes name left leaf site row rows c first_ends rest wants reads begins =
+    subst (λ (joined : List Event). Becomes wants reads joined (framed_by (row_done bytes) row rows))
+    (sym (span-framed row_unread row rows rest.framed))
+    (becomes-append wants reads (but_end row.inside ++ framed_rest row_unread row rows)
+    (but_end (row_done bytes row) ++ framed_rest (row_done bytes) row rows) (end_of (last_row row rows).inside)
+    (end_of (row_done bytes (last_row row rows)))
+    (becomes-append wants reads (but_end row.inside) (but_end (row_done bytes row)) (framed_rest row_unread row rows)
+    (framed_rest (row_done bytes) row rows) begins
+    (subst (λ (es : List Event). Becomes wants reads (framed_rest row_unread row rows) es) (sym rest.same)
+    (same (framed_rest row_unread row rows) rest.unlinked)))
+    (subst (λ (xs : List Event). Becomes wants reads xs (end_of (row_done bytes (last_row row rows))))
+    (sym ends.unread_end)
+    (subst (λ (xs : List Event). Becomes wants reads (exit name (last_row row rows).end ∷ []) xs) (sym ends.end)
+    (same (exit name (last_row row rows).end ∷ []) (refl, tt)))))
+  where
+    same : (xs : List Event) → NoLinks xs → Becomes wants reads xs xs
+    same xs h = becomes-same wants reads xs (no_links-unwanted wants xs h)
+
+    ends : EndsLeaf row_unread (row_done bytes) name (last_row row rows)
+    ends = last-ends bytes row_unread (row_done bytes) name left leaf rest.to site row rows first_ends rest.further

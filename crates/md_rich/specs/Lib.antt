@@ -1,0 +1,3 @@
+pub mod Html
+pub mod HtmlRule
+pub mod HtmlLine
