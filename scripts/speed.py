@@ -108,6 +108,7 @@ PARTS = {
     "one long line": LINE + " ",
     "paragraphs of two bytes": "ab\n\n",
     "headings of some words": "## A heading of some words ##\n",
+    "setext headings": "Some words of a heading\n---\n",
     "quotes of long lines": f"> {LINE}\n",
     "quotes in quotes in quotes": "> > > a few words\n",
     "lists": "- one\n- two of them\n  and more\n\n  - within\n\n1. three\n2. four\n\n",
@@ -185,6 +186,19 @@ GROWING: dict[str, Callable[[int], str]] = {
     "100,000 blank lines behind code in a quote": lambda n: code(100_000 * n, "b", "> ", ">", "> "),
     "100,000 blank lines behind code in an item": lambda n: code(100_000 * n, "b", "- ", "", "  "),
     "100,000 lines of code with as many blank ones": lambda n: "    a\n\n" * 100_000 * n,
+    "a comment of 8 MB that is not closed": lambda n: "<!--\n" + f"{LINE}\n" * 101_000 * n,
+    "300,000 of `<!-` in a comment": lambda n: "<!--\n" + "<!-" * 300_000 * n,
+    "300,000 of `]]` in CDATA": lambda n: "<![CDATA[" + "]]" * 300_000 * n,
+    "300,000 of `</` in a script": lambda n: "<script>\n" + "</" * 300_000 * n,
+    "300,000 lines `<a `": lambda n: "<a \n" * 300_000 * n,
+    "300,000 of `<a ` on one line": lambda n: "<a " * 300_000 * n,
+    "a tag with 100,000 attributes": lambda n: "<a" + ' b="c"' * 100_000 * n + ">\n",
+    "such a tag that is not closed": lambda n: "<a" + ' b="c"' * 100_000 * n + "\n",
+    "100,000 setext headings": lambda n: "a\n-\n" * 100_000 * n,
+    "a setext heading of 100,000 lines": lambda n: "a\n" * 100_000 * n + "=\n",
+    "such a heading in a quote": lambda n: "> a\n" * 100_000 * n + "> =\n",
+    "100,000 underlines behind a line": lambda n: "a\n" + "=\n" * 100_000 * n,
+    "100,000 lines of HTML in a quote": lambda n: "> <div>\n" + "> a\n" * 100_000 * n,
 }
 
 # What is timed: a part, and how many times it stands.

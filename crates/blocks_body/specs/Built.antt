@@ -5,7 +5,7 @@ use Rattle.md_program.specs.Listing.{Listing}
 use Rattle.md_definition.specs.Meaning.{tree}
 use Rattle.md_definition.specs.Outline.{outline}
 
--- what is asked for, as far as it is there: block quotes, list items, indented and fenced code, math, HTML, ATX
+-- what is asked for, as far as it is there: block quotes, list items, indented and fenced code, math, HTML,
 -- headings and breaks alone
 abbrev pub built_from : ParseOptions → ParseOptions
 built_from options = record {
@@ -18,7 +18,7 @@ built_from options = record {
     gfm_footnote_definition = false;
     gfm_table = false;
     heading_atx = options.constructs.heading_atx;
-    heading_setext = false;
+    heading_setext = options.constructs.heading_setext;
     html_flow = options.constructs.html_flow;
     list_item = options.constructs.list_item;
     math_flow = options.constructs.math_flow;

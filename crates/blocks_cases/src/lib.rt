@@ -28,15 +28,17 @@ pub mod lines;
 pub mod lists;
 pub mod quotes;
 pub mod tables;
+pub mod underlines;
 pub mod wrap;
 pub mod wraps;
 
 /// The rows of all modules.
-pub fn all() -> [&'static str; 12] {
+pub fn all() -> [&'static str; 13] {
     [
         lines::rows(),
         breaks::rows(),
         headings::rows(),
+        underlines::rows(),
         code::rows(),
         html::rows(),
         definitions::rows(),

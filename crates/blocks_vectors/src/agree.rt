@@ -26,6 +26,9 @@ const SIZES: [&str; 6] = ["```", "`", "a", ">", "\t", "\n"];
 /// Letters that begin and end math, alone and in quotes.
 const MATH: [&str; 6] = ["a", "$$", "$", ">", " ", "\n"];
 
+/// Letters of which underlines, items and breaks are made, text that they may stand behind, quotes, and lines.
+const UNDERLINES: [&str; 6] = ["a", "=", "-", ">", " ", "\n"];
+
 /// Letters of which tags and comments are made, and lines.
 const HTML: [&str; 8] = ["<", "/", "a", "!", "-", ">", " ", "\n"];
 
@@ -59,6 +62,7 @@ pub fn try_agree<A: Body, B: Body>(
     try_letters::<A, B>(alloc, &FENCES, most, report)?;
     try_letters::<A, B>(alloc, &SIZES, most, report)?;
     try_letters::<A, B>(alloc, &MATH, most, report)?;
+    try_letters::<A, B>(alloc, &UNDERLINES, most, report)?;
     try_letters::<A, B>(alloc, &HTML, most.saturating_sub(1), report)?;
     try_letters::<A, B>(alloc, &KINDS, most.saturating_sub(2), report)
 }

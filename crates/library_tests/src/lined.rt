@@ -29,6 +29,9 @@ fn name(letter: u8) -> Name {
         b'Q' => Name::BlockQuote,
         b'O' => Name::BlockQuotePrefix,
         b'P' => Name::Paragraph,
+        b'U' => Name::HeadingSetext,
+        b'T' => Name::HeadingSetextText,
+        b'V' => Name::HeadingSetextUnderlineSequence,
         _ => Name::SpaceOrTab,
     }
 }
@@ -117,6 +120,10 @@ fn add(shown: &mut String, word: Word, spaces: usize, text: &str) -> Result<(), 
             shown.push(char::from(marker))
         }
         Word::Math { closed } => shown.push_str(if closed { "closed$" } else { "open$" }),
+        Word::Heading(depth) => {
+            shown.push_str("h")?;
+            shown.push(char::from(depth.saturating_add(b'0')))
+        }
         Word::Quote => shown.push_str("q"),
         Word::Paragraph => shown.push_str("p"),
         _ => {
@@ -145,6 +152,34 @@ fn check(rt: &impl Abort, alloc: Global, text: &str, list: &str, want: &str) {
         matches!(all, Ok(ref all) if all.as_str() == want),
         "of {text:?}"
     );
+}
+
+// CommonMark 4.3
+#[test]
+fn shows_setext_headings(rt: HostRuntime) {
+    for (text, list, want) in [
+        ("a\n=", "Ua Ta tb Lb lc Vc vd ud", "h1|a|"),
+        // Several lines, and what stands behind it
+        (
+            "a\n  b\n---\nc",
+            "Ua Ta Lb lc tf Lf lg Vg vj uj Lj lk Pk pl",
+            "h2|a||b|p|c|",
+        ),
+        // The prefixes of a quote between its lines, and in front of its underline
+        (
+            "> a\n> b\n> =",
+            "Qa Oa oc Uc Tc Ld le Oe og th Lh li Oi ok Vk vl ul ql",
+            "qh1|a||b|",
+        ),
+        // Of two quotes: prefixes behind one another
+        (
+            ">>a\n>>b\n>>-",
+            "Qa Oa ob Qb Ob oc Uc Tc Ld le Oe of Of og th Lh li Oi oj Oj ok Vk vl ul ql ql",
+            "qqh2|a||b|",
+        ),
+    ] {
+        check(&rt, rt.alloc(), text, list, want);
+    }
 }
 
 // CommonMark 4.4

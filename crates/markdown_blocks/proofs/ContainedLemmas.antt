@@ -2,7 +2,7 @@
 use Rattle.md_engine.specs.declared.tokenizer.held_leaf.HeldLeaf.TheVariants as held_leaf
 use Rattle.md_engine.specs.declared.tokenizer.held_leaf.HeldLeaf.{HeldLeaf}
 use Rattle.std.proofs.Common.{◌≡◌, ◌+◌, Bool, true, false, cond, ◌&&◌, List, [], ◌∷◌, ◌++◌, length, map, refl, ap, sym}
-use Rattle.markdown_blocks.specs.HeldLeaf.{has_lines, met_by, takes_lazy}
+use Rattle.markdown_blocks.specs.HeldLeaf.{has_lines, may_go_on, met_by, takes_lazy}
 use Rattle.std.proofs.Common.{◌∙◌, append-nil}
 use Rattle.std.specs.Prelude.{Option, Some, None}
 use Rattle.std.proofs.lemmas.List.{length-append, length-map}
@@ -110,9 +110,9 @@ pub lazy-opens : (still : HeldLeaf) (opens : List Container) (kind : RowKind) �
 lazy-opens still [] kind e = refl
 lazy-opens still (c ∷ cs) kind e = let some = lazy-some still c cs kind in cc
 
--- A leaf of several lines that a line meets.
+-- A leaf on which a line that meets it may go.
 
--- it takes no lazy line,
+-- one of several lines takes no lazy line
 pub lines-unlazy : (still : HeldLeaf) → has_lines still ≡ true → takes_lazy still ≡ false
 lines-unlazy held_leaf.None lines = cc
 lines-unlazy held_leaf.Text lines = cc
@@ -121,41 +121,49 @@ lines-unlazy held_leaf.Code lines = refl
 lines-unlazy (held_leaf.Fence marker size indent) lines = refl
 lines-unlazy (held_leaf.Html kind) lines = refl
 
--- and is not met where its containers did not go on
-pub ended-lines : (still : HeldLeaf) → has_lines (met_by false still) ≡ false
-ended-lines still = go (takes_lazy still)
+-- it may be gone on
+pub lines-open : (still : HeldLeaf) → has_lines still ≡ true → may_go_on still ≡ true
+lines-open held_leaf.None lines = cc
+lines-open held_leaf.Text lines = cc
+lines-open held_leaf.LazyText lines = cc
+lines-open held_leaf.Code lines = refl
+lines-open (held_leaf.Fence marker size indent) lines = refl
+lines-open (held_leaf.Html kind) lines = refl
+
+-- none such is met where its containers did not go on
+pub ended-open : (still : HeldLeaf) → may_go_on (met_by false still) ≡ false
+ended-open still = go (takes_lazy still)
   where
-    go : (x : Bool) → has_lines (cond x held_leaf.LazyText held_leaf.None) ≡ false
+    go : (x : Bool) → may_go_on (cond x held_leaf.LazyText held_leaf.None) ≡ false
     go true = refl
     go false = refl
 
 -- no container opens on that line, and none ends in front of it
-record MeetsLines (still : HeldLeaf) (others opens : List Container) : Type 0 where
+record MeetsOpen (still : HeldLeaf) (others opens : List Container) : Type 0 where
   opened : opens ≡ []
   ended : others ≡ []
   is : met still others opens ≡ still
-  still_lines : takes_lazy still ≡ false
 
-met-lines : (still : HeldLeaf) (others opens : List Container) → has_lines (met still others opens) ≡ true →
-    MeetsLines still others opens
-met-lines still others (c ∷ opens) h = cc
-met-lines still (c ∷ others) [] h = let none = ended-lines still in cc
-met-lines still [] [] h = record { opened = refl; ended = refl; is = refl; still_lines = lines-unlazy still h }
+met-open : (still : HeldLeaf) (others opens : List Container) → may_go_on (met still others opens) ≡ true →
+    MeetsOpen still others opens
+met-open still others (c ∷ opens) h = cc
+met-open still (c ∷ others) [] h = let none = ended-open still in cc
+met-open still [] [] h = record { opened = refl; ended = refl; is = refl }
 
--- where it takes no lazy line, those that did not go on end
-not-lazy : (still : HeldLeaf) (went others opens : List Container) (kind : RowKind) → takes_lazy still ≡ false →
-    (change_by (is_lazy still opens kind) went others opens).closes ≡ others
-not-lazy still went others opens kind h =
-    ap (λ (x : Bool). (change_by (x && is_none opens && is_text kind) went others opens).closes) h
+-- where all went on, none ends
+none-ends : (lazy : Bool) (went others opens : List Container) → others ≡ [] →
+    (change_by lazy went others opens).closes ≡ []
+none-ends true went others opens none = refl
+none-ends false went others opens none = none
 
 pub contained-met : (options : ParseOptions) (cs : List Container) (still : HeldLeaf) (r : Rest) →
-    has_lines (contained options cs still r).on ≡ true →
+    may_go_on (contained options cs still r).on ≡ true →
     ((contained options cs still r).change.opens ≡ []) × ((contained options cs still r).change.closes ≡ [])
 unfolding contained
 contained-met options cs still r h =
-    let is : MeetsLines still others new.containers = met-lines still others new.containers h in (
+    let is : MeetsOpen still others new.containers = met-open still others new.containers h in (
       change-opens (is_lazy still new.containers kind) on.containers others new.containers ∙ is.opened,
-      not-lazy still on.containers others new.containers kind is.still_lines ∙ is.ended,
+      none-ends (is_lazy still new.containers kind) on.containers others new.containers is.ended,
     )
   where
     on : Prefixed
@@ -172,9 +180,9 @@ contained-met options cs still r h =
 
 -- it is the leaf that was open
 pub contained-still : (options : ParseOptions) (cs : List Container) (still : HeldLeaf) (r : Rest) →
-    has_lines (contained options cs still r).on ≡ true → (contained options cs still r).on ≡ still
+    may_go_on (contained options cs still r).on ≡ true → (contained options cs still r).on ≡ still
 unfolding contained
 contained-still options cs still r h =
     let on : Prefixed = prefixes_on options cs r in
     let others : List Container = others_of cs on.containers in
-    let new : Prefixed = prefixes_behind options still others on in (met-lines still others new.containers h).is
+    let new : Prefixed = prefixes_behind options still others on in (met-open still others new.containers h).is

@@ -1,10 +1,10 @@
 -- The endings of blank lines are told from others, before the text of a document is read and once it is.
 use Rattle.md_engine.specs.declared.tokenizer.held_leaf.HeldLeaf.TheVariants as held_leaf
-use Rattle.std.proofs.Common.{◌≡◌, ℕ, Bool, true, false, cond, List, [], ◌∷◌, ◌++◌, refl, ap, sym, ◌∙◌, subst}
-use Rattle.std.proofs.Common.{append_assoc}
+use Rattle.std.proofs.Common.{◌≡◌, ℕ, Bool, true, false, cond, ◌&&◌, List, [], ◌∷◌, ◌++◌, refl, ap, sym, ◌∙◌}
+use Rattle.std.proofs.Common.{append_assoc, subst}
 use Rattle.markdown_blocks.proofs.GroupsAre.{AreSpan}
 use Rattle.markdown_blocks.specs.Registry.{leaf}
-use Rattle.markdown_blocks.specs.Rows.{Span, is_blank_by, is_further, last_row, onto_leaf}
+use Rattle.markdown_blocks.specs.Rows.{Span, Turned, is_blank_by, is_further, is_last, last_row, onto_leaf}
 use Rattle.std.specs.Prelude.{Option, Some, None, not}
 use Rattle.md_engine.specs.declared.configuration.ParseOptions.{ParseOptions}
 use Rattle.md_engine.specs.declared.event.Event.{Event}
@@ -36,6 +36,8 @@ use Rattle.markdown_blocks.proofs.GroupFacts.{group-front, more-groups, span-blo
 use Rattle.markdown_blocks.proofs.Text.Facts.{kept-of, text-facts}
 use Rattle.md_definition.specs.State.{texts}
 use Rattle.markdown_blocks.proofs.LeafFacts.{LeafFacts, spot_behind}
+use Rattle.markdown_blocks.proofs.Turned.Facts.{turned-block, turned-facts}
+use Rattle.markdown_blocks.proofs.Underlines.{under-filled}
 
 -- Events that are no ending, and no begin or end of a leaf.
 
@@ -60,6 +62,7 @@ leaf-ended row true gs h k = (h, k)
 leaf-ended row false [] h k = (h, k)
 leaf-ended row false (Single below ∷ gs) h k = (h, k)
 leaf-ended row false (Lines below rows ∷ gs) h k = (h, k)
+leaf-ended row false (Turned below rows under ∷ gs) h k = (h, k)
 leaf-ended row false (Span below rows ∷ gs) h k = go (is_further below.kind below.on)
   where
     go : (x : Bool) → EachEnded (cond x (Span row (below ∷ rows) ∷ gs) (Span row [] ∷ Span below rows ∷ gs))
@@ -72,7 +75,19 @@ onto-ended row BlankRow gs h k = (h, k)
 onto-ended row (LeafRow l) gs h k = leaf-ended row (leaf l).ends gs h k
 onto-ended row TextRow [] h k = (h, k)
 onto-ended row TextRow (Single below ∷ gs) h k = (h, k)
-onto-ended row TextRow (Span below rows ∷ gs) h k = (h, k)
+onto-ended row TextRow (Turned below rows under ∷ gs) h k = go (goes_on row below)
+  where
+    go : (x : Bool) →
+        EachEnded (cond x (Turned row (below ∷ rows) under ∷ gs) (Lines row [] ∷ Turned below rows under ∷ gs))
+    go true = k
+    go false = (h, k)
+onto-ended row TextRow (Span below rows ∷ gs) h k = go (is_further below.kind below.on) rows k
+  where
+    go : (x : Bool) (rows : List Row) → EachEnded (Span below rows ∷ gs) →
+        EachEnded (cond (x && is_last rows) (Turned row [] below ∷ gs) (Lines row [] ∷ Span below rows ∷ gs))
+    go true [] k = k
+    go true (next ∷ rows) k = (h, k)
+    go false rows k = (h, k)
 onto-ended row TextRow (Lines below rows ∷ gs) h k = go (goes_on row below)
   where
     go : (x : Bool) → EachEnded (cond x (Lines row (below ∷ rows) ∷ gs) (Lines row [] ∷ Lines below rows ∷ gs))
@@ -182,6 +197,18 @@ group-ends options bytes (Single row) gs are =
     record {
       block = block_of row.kind is.is.rest;
       facts = row-facts options bytes is.line row is.is is.other is.ends;
+    }
+group-ends options bytes (Turned row rows under) gs are =
+    let block : Block = turned-block options bytes row rows under are.0 are.1 in
+    record {
+      block = Some block;
+      facts =
+          subst
+          (λ (blank : Bool).
+          LeafFacts bytes (Some block) (not blank) row.first under.end (group_unread bytes (Turned row rows under))
+          (group_done bytes (Turned row rows under)))
+          (sym (under-filled options bytes row rows under are.0 are.1))
+          (turned-facts options bytes row rows under are.0 are.1);
     }
 group-ends options bytes (Span row rows) gs are =
     let block : Block = span-block options bytes row rows are.0 in

@@ -29,6 +29,7 @@ use Rattle.md_containers.specs.Listed.{listed}
 use Rattle.md_content.specs.ContentReads.{content_readings, wants_content}
 use Rattle.md_content.specs.Joined.{is_content, joined}
 use Rattle.md_content.specs.Resolves.{Resolves, found_in_content}
+use Rattle.md_leaves.specs.Turned.{turned}
 use Rattle.markdown_blocks.specs.FlowReads.{lines_joined}
 use Rattle.md_seam.specs.Substituted.{Substituted}
 use Rattle.markdown_blocks.specs.Fed.{FlowRan}
@@ -253,15 +254,16 @@ pub flushed-frames : (T : Step) (end : State) (at : World) (found : Found) (new 
 flushed-frames T end at found new f =
     resolved-frames (record f.at { resolvers = [] }) f.at.resolvers found new f.resolved ∙ f.none_left
 
--- what flow has read of a text from a point on, once all of it was pushed and flushed, the lines of leaves were joined,
--- and lists were put around items
+-- what flow has read of a text from a point on, once all of it was pushed and flushed, setext headings were set, the
+-- lines of leaves were joined, and lists were put around items
 pub flow-reads : (bytes : List ℕ) (options : ParseOptions) (p : Point) (end : State) (at : World) (found : Found)
     (items lines : World) (more : Option Found) (new : World) →
     length bytes < 2 ^ 61 →
     Runs (FlowStep same_name) false (Next (s.Document document.ContainerExistingBefore))
     (reads_to (fresh bytes options p) (length bytes)) end at →
     Flushes (FlowStep same_name) resolved_as end at true found items →
-    lines ≡ record items { events = lines_joined options items.events } → resolved_as r.ListItem lines more new →
+    lines ≡ record items { events = lines_joined options (turned items.events) } →
+    resolved_as r.ListItem lines more new →
     FlowReads bytes options p found new
 flow-reads bytes options p end at found items lines more new small run f joining listing =
     go
@@ -381,14 +383,17 @@ flow-reads bytes options p end at found items lines more new small run f joining
         (rows-outside rows framed (subst Q events (registers.no_own e))) read.read) ran.sets in
         let before : items ≡ record w { events = resolved ran.mid.events } = set.1
         ∙ ap (λ (x : World). record x { events = resolved ran.mid.events }) read.rest in
-        let joined_up : lines ≡ record w { events = lines_joined options (resolved ran.mid.events) } = joining
-        ∙ ap (λ (x : World). record x { events = lines_joined options x.events }) before in
+        let joined_up : lines ≡ record w { events = lines_joined options (turned (resolved ran.mid.events)) } = joining
+        ∙ ap (λ (x : World). record x { events = lines_joined options (turned x.events) }) before in
         let text : lines.setting.bytes ≡ bytes = ap (λ (x : World). x.setting.bytes) joined_up
         ∙ ap (λ (x : Setting). x.bytes) setting in
-        let all : new ≡ record w { events = listed bytes (lines_joined options (resolved ran.mid.events)) } = listing.1
+        let all : new ≡
+        record w { events = listed bytes (lines_joined options (turned (resolved ran.mid.events))) } = listing.1
         ∙ ap (λ (x : World). record x { events = listed lines.setting.bytes x.events }) joined_up
-        ∙ ap (λ (l : List ℕ). record w { events = listed l (lines_joined options (resolved ran.mid.events)) }) text in
-        let is : new.events ≡ listed bytes (lines_joined options (resolved ran.mid.events)) = ap (λ (x : World). x.events) all in
+        ∙ ap (λ (l : List ℕ). record w { events = listed l (lines_joined options (turned (resolved ran.mid.events))) })
+        text in
+        let is : new.events ≡ listed bytes (lines_joined options (turned (resolved ran.mid.events))) =
+        ap (λ (x : World). x.events) all in
         let F : Found →
         Type 0 = λ x. ((has_text rows ≡ false) × (x ≡ nothing)) ⊎ (x ≡ found_in_content ran.mid.events) in
         record {
@@ -413,7 +418,8 @@ pub flow-reads-from : (is_name : ResolveName → ResolveName → Bool) (bytes : 
     length bytes < 2 ^ 61 →
     Runs (FlowStep is_name) false (Next (s.Document document.ContainerExistingBefore)) (reads_to start to) end at →
     Flushes (FlowStep is_name) resolved_as end at true found items →
-    lines ≡ record items { events = lines_joined options items.events } → resolved_as r.ListItem lines more new →
+    lines ≡ record items { events = lines_joined options (turned items.events) } →
+    resolved_as r.ListItem lines more new →
     FlowReads bytes options p found new
 flow-reads-from is_name bytes options p start to end at found items lines more new names same all small run f joining
     listing =

@@ -1,8 +1,8 @@
--- The events of the lines of a text, joined and read, are those of its blocks.
+-- The events of the lines of a text, joined, with their content read and their leaves set, are those of its groups.
 use Rattle.md_engine.specs.declared.tokenizer.held_leaf.HeldLeaf.{HeldLeaf}
-use Rattle.std.proofs.Common.{◌≡◌, ℕ, ◌<◌, ◌≤◌, Bool, true, false, cond, ◌&&◌, List, [], ◌∷◌, ◌++◌, length, drop}
-use Rattle.markdown_blocks.specs.HeldLeaf.{has_lines}
-use Rattle.markdown_blocks.specs.Rows.{Span, group_kind, is_further, span_by, span_done}
+use Rattle.std.proofs.Common.{◌≡◌, ◌≢◌, ℕ, ◌<◌, ◌≤◌, Bool, true, false, cond, ◌&&◌, List, [], ◌∷◌, ◌++◌, length, drop}
+use Rattle.markdown_blocks.specs.HeldLeaf.{may_go_on}
+use Rattle.markdown_blocks.specs.Rows.{Span, Turned}
 use Rattle.std.proofs.Common.{slice_range, refl, ap, sym, ◌∙◌, subst, append_assoc, append-nil, arith, length-append}
 use Rattle.std.specs.Prelude.{◌==◌, Option, Some, None}
 use Rattle.std.specs.List.{list_all}
@@ -34,36 +34,35 @@ use Rattle.markdown_blocks.specs.Registry.{container_name, first_of, leaf as lin
 use Rattle.markdown_blocks.specs.Registry.{trials}
 use Rattle.markdown_blocks.specs.Rows.{BlankRow, Group, LeafRow, Lines, Row, RowKind, Single, TextRow}
 use Rattle.markdown_blocks.specs.Rows.{behind_row, blank_line, chunks_of, ending_events, ending_of}
-use Rattle.markdown_blocks.specs.Rows.{group_events, groups, groups_events, kind_of, last_row, leaf_done}
+use Rattle.markdown_blocks.specs.Rows.{groups, kind_of, last_row}
 use Rattle.markdown_blocks.specs.Rows.{leaf_events, leaf_unread, line_kind, read_lines, row_events}
-use Rattle.markdown_blocks.specs.Rows.{row_events_by, rows_events, single_events_by, tail_events}
+use Rattle.markdown_blocks.specs.Rows.{row_events_by, rows_events, tail_events}
 use Rattle.markdown_blocks.specs.Fronted.{cut_tab}
-use Rattle.markdown_blocks.specs.Unread.{joined_groups, linked, linked_lines, listed_group, listed_groups}
+use Rattle.markdown_blocks.specs.Unread.{joined_groups, linked, linked_lines}
 use Rattle.markdown_blocks.specs.Unread.{listed_row_by, set_groups, text_unread, unread_group, unread_groups}
 use Rattle.markdown_blocks.specs.Unread.{unread_lines}
 use Rattle.md_seam.proofs.FeedLines.{ending-some}
 pub use Rattle.markdown_blocks.proofs.GroupsAre.{AreGroups, AreLines, AreSpan, EndsBeforeGroups, HasFront, IsSingle}
 pub use Rattle.markdown_blocks.proofs.GroupsAre.{IsSpanLine, groups-are}
-use Rattle.markdown_blocks.proofs.GroupsAre.{behind-first, line-further, line-of, span-begins}
+use Rattle.markdown_blocks.proofs.GroupsAre.{IsUnder}
 use Rattle.markdown_blocks.proofs.FrontNames.{ends-first, fronts-prefixes}
 use Rattle.markdown_blocks.proofs.FrontPlaces.{fronts-grow}
 use Rattle.markdown_blocks.proofs.JoinedLemmas.{EachEnds, EachFront, EachNoContent, HasNoContent, behind-is, ending-is}
 use Rattle.markdown_blocks.proofs.JoinedLemmas.{ending-other, events-no_content, has_front-no_content, joined-rows}
-use Rattle.markdown_blocks.proofs.JoinedLemmas.{tail-no_content}
+use Rattle.markdown_blocks.proofs.JoinedLemmas.{front-no_content, tail-no_content}
 use Rattle.markdown_blocks.proofs.RowFacts.{AreRows, IsEnding, IsRow, behind_line, line-text}
-use Rattle.markdown_blocks.proofs.SubstitutedLemmas.{AllBelong, Becomes, CutAt, EachPrefixed, NextBelongs, Rest}
-use Rattle.markdown_blocks.proofs.SubstitutedLemmas.{Unwanted, becomes-append, becomes-same, behind-exit, line_after}
-use Rattle.markdown_blocks.proofs.SubstitutedLemmas.{lines-becomes, passes, places}
-use Rattle.markdown_blocks.proofs.LeafFacts.{ReadsString, ReadsText}
+use Rattle.markdown_blocks.proofs.SubstitutedLemmas.{AllBelong, CutAt, EachPrefixed, NextBelongs, Rest}
+use Rattle.markdown_blocks.proofs.SubstitutedLemmas.{Unwanted, behind-exit, line_after}
+use Rattle.markdown_blocks.proofs.SubstitutedLemmas.{passes, places}
 use Rattle.markdown_blocks.proofs.ContentFacts.{NoContent, WantsContent, no_content-append, no_content-unwanted}
 use Rattle.markdown_blocks.proofs.ContainerNames.{container-facts}
 use Rattle.md_definition.specs.Rest.{Rest as LineRest, is_blank}
 use Rattle.markdown_blocks.proofs.LineTexts.{one-last, one-next, piece, without-none, without-one}
 use Rattle.markdown_blocks.proofs.OutsideFacts.{AreOutside, outside-append}
-use Rattle.markdown_blocks.proofs.OutsideLemmas.{around-outside, ending-own, has_front-outside, leaf-set}
+use Rattle.markdown_blocks.proofs.OutsideLemmas.{around-outside, ending-own, front-outside, has_front-outside, leaf-set}
 use Rattle.markdown_blocks.proofs.OutsideLemmas.{linked-outside, tail-outside}
-use Rattle.markdown_blocks.proofs.Registry.{laws, outside-passes, span-laws}
-use Rattle.markdown_blocks.proofs.RowLeaf.{row-becomes}
+use Rattle.markdown_blocks.proofs.PrefixNames.{ArePrefixes, prefixes-front}
+use Rattle.markdown_blocks.proofs.Registry.{laws, outside-passes}
 use Rattle.markdown_blocks.proofs.KindLemmas.{kind-starts, kind-text}
 use Rattle.markdown_blocks.specs.Rows.{is_blank_by}
 
@@ -156,41 +155,47 @@ chunks-whole options bytes row (next ∷ rows) h =
 
 -- Reading.
 
--- behind the lines of a text no more of it stands
-behind-lines : (wants : Content → Bool) (row : Row) (gs : List Group) → EndsBeforeGroups row gs →
-    chunks_behind wants (tail_events n.LineEnding row ++ joined_groups gs) ≡ []
-behind-lines wants row gs h = tail row.leaves
+-- behind the containers that end there, and an ending, no more of a text stands
+behind-tail : (wants : Content → Bool) (row : Row) (es : List Event) →
+    chunks_behind wants (ending_events n.LineEnding row ++ es) ≡ [] →
+    chunks_behind wants (tail_events n.LineEnding row ++ es) ≡ []
+behind-tail wants row es h = go row.leaves
   where
-    ending : (gs : List Group) → EndsBeforeGroups row gs →
-        chunks_behind wants (ending_events n.LineEnding row ++ joined_groups gs) ≡ []
-    ending [] h = go row.after
-      where
-        go : (after : Option Point) →
-            chunks_behind wants (elim after [ None ↦ [] | Some q ↦ pair n.LineEnding row.end q ] ++ []) ≡ []
-        go None = refl
-        go (Some q) = refl
-    ending (group ∷ gs) h =
-        ap (λ (l : List Event). chunks_behind wants (l ++ joined_groups (group ∷ gs)))
-        (ending-is n.LineEnding row h.0 h.1)
-
-    tail : (leaves : List Container) →
-        chunks_behind wants ((ends_of leaves row.end ++ ending_events n.LineEnding row) ++ joined_groups gs) ≡ []
-    tail [] = ending gs h
-    tail (c ∷ leaves) =
+    go : (leaves : List Container) →
+        chunks_behind wants ((ends_of leaves row.end ++ ending_events n.LineEnding row) ++ es) ≡ []
+    go [] = h
+    go (c ∷ leaves) =
         ap (chunks_behind wants)
-        (append_assoc (ends_of (c ∷ leaves) row.end) (ending_events n.LineEnding row) (joined_groups gs))
+        (append_assoc (ends_of (c ∷ leaves) row.end) (ending_events n.LineEnding row) es)
         ∙ ends-first (λ (l : List Event). chunks_behind wants l ≡ []) c leaves row.end
-        (ending_events n.LineEnding row ++ joined_groups gs)
+        (ending_events n.LineEnding row ++ es)
         (λ d es. behind-exit wants (container_name d) row.end es (container-facts d).no_prefix)
 
+behind-ended : (wants : Content → Bool) (row : Row) (q : Point) (es : List Event) → row.after ≡ Some q →
+    chunks_behind wants (tail_events n.LineEnding row ++ es) ≡ []
+behind-ended wants row q es after =
+    behind-tail wants row es
+    (ap (λ (l : List Event). chunks_behind wants (l ++ es)) (ending-is n.LineEnding row q after))
+
+behind-lines : (wants : Content → Bool) (row : Row) (gs : List Group) → EndsBeforeGroups row gs →
+    chunks_behind wants (tail_events n.LineEnding row ++ joined_groups gs) ≡ []
+behind-lines wants row [] h = behind-tail wants row [] (go row.after)
+  where
+    go : (after : Option Point) →
+        chunks_behind wants (elim after [ None ↦ [] | Some q ↦ pair n.LineEnding row.end q ] ++ []) ≡ []
+    go None = refl
+    go (Some q) = refl
+behind-lines wants row (group ∷ gs) h = behind-ended wants row h.0 (joined_groups (group ∷ gs)) h.1
+
 -- what stands around the parts of a line is not read later
-tail-unwanted : (wants : Content → Bool) (kind : RowKind) (row : Row) →
+pub tail-unwanted : (wants : Content → Bool) (kind : RowKind) (row : Row) →
     Unwanted wants (tail_events (ending_of kind row) row)
 tail-unwanted wants kind row =
     no_content-unwanted wants (tail_events (ending_of kind row) row)
     (tail-no_content wants (ending_of kind row) row (ending-other (is_blank_by kind row)))
 
-front-unwanted : (wants : Content → Bool) (bytes : List ℕ) (row : Row) → HasFront bytes row → Unwanted wants row.front
+pub front-unwanted : (wants : Content → Bool) (bytes : List ℕ) (row : Row) → HasFront bytes row →
+    Unwanted wants row.front
 front-unwanted wants bytes row h = no_content-unwanted wants row.front (has_front-no_content wants bytes row h)
 
 -- a line that is no text, of which a reader reads no text
@@ -221,6 +226,25 @@ span-unwanted : (options : ParseOptions) (bytes : List ℕ) (wants : Content →
     Unwanted wants (rows_events (row ∷ rows))
 span-unwanted options bytes wants row rows are quiet w =
     no_content-unwanted wants (rows_events (row ∷ rows)) (spans-quiet options bytes wants row rows are quiet w)
+
+-- nor the line that turns a text
+pub under-other : (options : ParseOptions) (bytes : List ℕ) (last under : Row) → IsUnder options bytes last under →
+    under.kind ≢ TextRow
+under-other options bytes last under is h = let bad : LeafRow is.name ≡ TextRow = sym is.kind ∙ h in cc
+
+-- in front of it stand prefixes alone
+pub under-prefixed : (options : ParseOptions) (bytes : List ℕ) (last under : Row) → IsUnder options bytes last under →
+    ArePrefixes under.front
+under-prefixed options bytes last under is =
+    fronts-prefixes bytes [] is.after under.first under.front refl is.front
+
+under-unwanted : (options : ParseOptions) (bytes : List ℕ) (wants : Content → Bool) (last under : Row) →
+    IsUnder options bytes last under → WantsContent wants → Unwanted wants (row_events under)
+under-unwanted options bytes wants last under is w =
+    no_content-unwanted wants (row_events under)
+    (events-no_content wants under under.kind refl (under-other options bytes last under is)
+    (front-no_content wants under.front (prefixes-front under.front (under-prefixed options bytes last under is)))
+    (is.quiet wants w))
 
 -- in front of the further lines of a text stand prefixes alone
 pub lines-prefixed : (options : ParseOptions) (bytes : List ℕ) (row : Row) (rows : List Row) →
@@ -346,6 +370,41 @@ group-joins front given tail rest out one two three h i j k =
     ∙ sym (append_assoc front given (tail ++ rest))
     ∙ sym (append_assoc (front ++ given) tail rest)
 
+-- lines of text in front of others: what is read of them stands in the places of their chunks
+text-content : (options : ParseOptions) (bytes : List ℕ) (wants : Content → Bool) (reads : Readings) →
+    wants content.Content ≡ true → ReadsContent options bytes reads →
+    (row : Row) (rows : List Row) → AreLines options bytes row rows → HasFront bytes row → (es left out : List Event) →
+    chunks_behind wants (tail_events n.LineEnding (last_row row rows) ++ es) ≡ [] →
+    Substituted wants reads left 0
+    (((row.front ++ linked_lines n.Content content_link row rows) ++ tail_events n.LineEnding (last_row row rows))
+    ++ es) out →
+    Rest wants reads (unread_group (Lines row rows)) es out
+text-content options bytes wants reads w unique row rows are front es left out none s =
+    let tail : List Event = tail_events n.LineEnding (last_row row rows) in
+    let inside : List Event = linked_lines n.Content content_link row rows in
+    let ys : List Event = tail ++ es in
+    let given : List Event = text_unread row rows in
+    let begun : (rest : List Event) × (is : out ≡ row.front ++ rest) ×
+    Substituted wants reads left 0 (inside ++ ys) rest =
+    passes wants reads left 0 row.front (inside ++ ys) out (front-unwanted wants bytes row front)
+    (subst (λ (l : List Event). Substituted wants reads left 0 l out)
+    (append_assoc (row.front ++ inside) tail es ∙ append_assoc row.front inside ys) s) in
+    let rest : Rest wants reads given ys begun.0 =
+    places wants reads left n.Content content_link row rows ys given begun.0 w none
+    (lines-prefixed options bytes row rows are)
+    (λ answer read.
+    subst (λ (l : List Event). CutAt row rows l given) (sym (unique row rows are answer read))
+    (unread-cut options bytes row rows are)) begun.2 in
+    let two : (more : List Event) × (is : rest.0 ≡ tail ++ more) ×
+    Substituted wants reads rest.1 0 es more = passes wants reads rest.1 0 tail es rest.0
+    (tail-unwanted wants TextRow (last_row row rows)) rest.3 in (
+      two.0,
+      rest.1,
+      group-joins row.front given tail two.0 out begun.0 rest.0 two.0 begun.1 rest.2 two.1
+          (refl {a = two.0}),
+      two.2,
+    )
+
 groups-content : (options : ParseOptions) (bytes : List ℕ) (wants : Content → Bool) (reads : Readings) →
     wants content.Content ≡ true → WantsContent wants → ReadsContent options bytes reads →
     (gs : List Group) → AreGroups options bytes gs → (left out : List Event) →
@@ -359,6 +418,26 @@ groups-content options bytes wants reads w other unique (Single row ∷ gs) are 
     one.1
     ∙ ap (λ (l : List Event). row_events row ++ l)
     (groups-content options bytes wants reads w other unique gs are.1 left one.0 one.2)
+groups-content options bytes wants reads w other unique (Turned row rows under ∷ gs) are left out s =
+    let text : List Event = unread_group (Lines row rows) in
+    let behind : List Event = row_events under ++ joined_groups gs in
+    let one : Rest wants reads text behind out =
+    text-content options bytes wants reads w unique row rows are.0 are.3 behind left out
+    (behind-ended wants (last_row row rows) are.1.after behind are.1.after_is)
+    (subst (λ (l : List Event). Substituted wants reads left 0 l out)
+    (append_assoc
+    ((row.front ++ linked_lines n.Content content_link row rows) ++ tail_events n.LineEnding (last_row row rows))
+    (row_events under) (joined_groups gs)) s) in
+    let two : (rest : List Event) × (is : one.0 ≡ row_events under ++ rest) ×
+    Substituted wants reads one.1 0 (joined_groups gs) rest =
+    passes wants reads one.1 0 (row_events under) (joined_groups gs) one.0
+    (under-unwanted options bytes wants (last_row row rows) under are.1 other) one.3 in
+    one.2
+    ∙ ap (λ (l : List Event). text ++ l)
+    (two.1
+    ∙ ap (λ (l : List Event). row_events under ++ l)
+    (groups-content options bytes wants reads w other unique gs are.4 one.1 two.0 two.2))
+    ∙ sym (append_assoc text (row_events under) (unread_groups gs))
 groups-content options bytes wants reads w other unique (Span row rows ∷ gs) are left out s =
     let one : (rest : List Event) × (is : out ≡ rows_events (row ∷ rows) ++ rest) ×
     Substituted wants reads left 0 (joined_groups gs) rest =
@@ -368,31 +447,18 @@ groups-content options bytes wants reads w other unique (Span row rows ∷ gs) a
     ∙ ap (λ (l : List Event). rows_events (row ∷ rows) ++ l)
     (groups-content options bytes wants reads w other unique gs are.2 left one.0 one.2)
 groups-content options bytes wants reads w other unique (Lines row rows ∷ gs) are left out s =
-    let tail : List Event = tail_events n.LineEnding (last_row row rows) in
-    let inside : List Event = linked_lines n.Content content_link row rows in
-    let ys : List Event = tail ++ joined_groups gs in
-    let given : List Event = text_unread row rows in
-    let begun : (rest : List Event) × (is : out ≡ row.front ++ rest) ×
-    Substituted wants reads left 0 (inside ++ ys) rest =
-    passes wants reads left 0 row.front (inside ++ ys) out (front-unwanted wants bytes row are.2)
-    (subst (λ (l : List Event). Substituted wants reads left 0 l out)
-    (append_assoc (row.front ++ inside) tail (joined_groups gs) ∙ append_assoc row.front inside ys) s) in
-    let rest : Rest wants reads given ys begun.0 =
-    places wants reads left n.Content content_link row rows ys given begun.0 w
-    (behind-lines wants (last_row row rows) gs are.1) (lines-prefixed options bytes row rows are.0)
-    (λ answer read.
-    subst (λ (l : List Event). CutAt row rows l given) (sym (unique row rows are.0 answer read))
-    (unread-cut options bytes row rows are.0)) begun.2 in
-    let two : (more : List Event) × (is : rest.0 ≡ tail ++ more) ×
-    Substituted wants reads rest.1 0 (joined_groups gs) more = passes wants reads rest.1 0 tail
-    (joined_groups gs) rest.0 (tail-unwanted wants TextRow (last_row row rows)) rest.3 in
-    group-joins row.front given tail (unread_groups gs) out begun.0 rest.0 two.0 begun.1 rest.2 two.1
-    (groups-content options bytes wants reads w other unique gs are.3 rest.1 two.0 two.2)
+    let text : List Event = unread_group (Lines row rows) in
+    let one : Rest wants reads text (joined_groups gs) out =
+    text-content options bytes wants reads w unique row rows are.0 are.2 (joined_groups gs) left out
+    (behind-lines wants (last_row row rows) gs are.1) s in
+    one.2
+    ∙ ap (λ (l : List Event). text ++ l)
+    (groups-content options bytes wants reads w other unique gs are.3 one.1 one.0 one.3)
 
 -- The events of the lines of a text, joined, and their content read: texts that are not read yet.
 pub content-read : (options : ParseOptions) (bytes : List ℕ) (open_before : List Container) (still : HeldLeaf)
     (p : Point) (lines : List (List ℕ)) (rows : List Row) →
-    has_lines still ≡ false → AreRows options bytes open_before still p lines rows → EachNoContent rows →
+    may_go_on still ≡ false → AreRows options bytes open_before still p lines rows → EachNoContent rows →
     (wants : Content → Bool) (reads : Readings) → wants content.Content ≡ true → WantsContent wants →
     ReadsContent options bytes reads →
     (unread : List Event) → Substituted wants reads [] 0 (joined (rows_events rows)) unread →
@@ -433,31 +499,52 @@ single-set options bytes row es is kind e =
         (sym is.is.line_is ∙ sym is.is.text)
     leaf TextRow e es = absurd (is.other e)
 
--- the lines of a leaf of several are left to the resolver that joins them
-span_line-outside : (options : ParseOptions) (bytes : List ℕ) (row : Row) → IsSpanLine options bytes row →
-    (kind : RowKind) → row.kind ≡ kind → AreOutside (row_events_by kind row)
-span_line-outside options bytes row is kind e =
-    outside-append (row.front ++ leaf_events kind row) (tail_events (ending_of kind row) row)
-    (outside-append row.front (leaf_events kind row) (has_front-outside bytes row is.front) (leaf kind e))
-    (tail-outside (ending_of kind row) row (ending-own (is_blank_by kind row)))
+-- a line of a leaf that may go on is left to the resolvers that join such lines, and that set headings
+line-outside : (options : ParseOptions) (bytes line : List ℕ) (row : Row) (name : LeafName) →
+    IsRow options bytes line row → row.kind ≡ LeafRow name → (line_leaf name).ends ≡ false → AreOutside row.front →
+    AreOutside (row_events row)
+line-outside options bytes line row name is named open_leaf front =
+    outside-append (row.front ++ leaf_events row.kind row) (tail_events (ending_of row.kind row) row)
+    (outside-append row.front (leaf_events row.kind row) front
+    (subst (λ (kind : RowKind). AreOutside (leaf_events kind row)) (sym named) inside))
+    (tail-outside (ending_of row.kind row) row (ending-own (is_blank_by row.kind row)))
   where
-    leaf : (kind : RowKind) → row.kind ≡ kind → AreOutside (leaf_events kind row)
-    leaf BlankRow e = let bad : LeafRow is.name ≡ BlankRow = sym is.kind ∙ e in cc
-    leaf TextRow e = let bad : LeafRow is.name ≡ TextRow = sym is.kind ∙ e in cc
-    leaf (LeafRow l) e =
-        subst AreOutside (sym (is.is.leaf_is is.name is.kind))
-        (subst (λ (line : List ℕ). AreOutside ((line_leaf is.name).added options row.on line row.first))
-        (sym is.is.line_is)
-        ((laws is.name).outside is.open_leaf options row.on is.is.rest row.first
-        (kind-starts options row.on is.is.rest is.name (sym is.is.kind ∙ is.kind))))
+    inside : AreOutside row.inside
+    inside =
+        subst AreOutside (sym (is.leaf_is name named))
+        (subst (λ (line : List ℕ). AreOutside ((line_leaf name).added options row.on line row.first)) (sym is.line_is)
+        ((laws name).outside open_leaf options row.on is.rest row.first
+        (kind-starts options row.on is.rest name (sym is.kind ∙ named))))
+
+span_line-outside : (options : ParseOptions) (bytes : List ℕ) (row : Row) → IsSpanLine options bytes row →
+    AreOutside (row_events row)
+span_line-outside options bytes row is =
+    line-outside options bytes is.line row is.name is.is is.kind is.open_leaf (has_front-outside bytes row is.front)
+
+under-outside : (options : ParseOptions) (bytes : List ℕ) (last under : Row) → IsUnder options bytes last under →
+    AreOutside (row_events under)
+under-outside options bytes last under is =
+    line-outside options bytes is.line under is.name is.is is.kind is.open_leaf
+    (front-outside under.front (prefixes-front under.front (under-prefixed options bytes last under is)))
 
 span-outside : (options : ParseOptions) (bytes : List ℕ) (row : Row) (rows : List Row) →
     AreSpan options bytes row rows → AreOutside (rows_events (row ∷ rows))
 span-outside options bytes row [] are =
-    outside-append (row_events row) [] (span_line-outside options bytes row are row.kind refl) tt
+    outside-append (row_events row) [] (span_line-outside options bytes row are) tt
 span-outside options bytes row (next ∷ rows) are =
     outside-append (row_events row) (rows_events (next ∷ rows))
-    (span_line-outside options bytes row are.0 row.kind refl) (span-outside options bytes next rows are.8)
+    (span_line-outside options bytes row are.0) (span-outside options bytes next rows are.8)
+
+-- the lines of a text
+text-outside : (options : ParseOptions) (bytes : List ℕ) (row : Row) (rows : List Row) →
+    AreLines options bytes row rows → HasFront bytes row → AreOutside (unread_group (Lines row rows))
+text-outside options bytes row rows are front =
+    let last : Row = last_row row rows in
+    outside-append (row.front ++ text_unread row rows) (tail_events n.LineEnding last)
+    (outside-append row.front (text_unread row rows) (has_front-outside bytes row front)
+    (around-outside text_leaf.name row.first last.end (unread_lines row rows) refl
+    (linked-outside text_link row rows (lines-prefixed options bytes row rows are))))
+    (tail-outside n.LineEnding last refl)
 
 groups-set : (options : ParseOptions) (bytes : List ℕ) (gs : List Group) → AreGroups options bytes gs →
     resolved (unread_groups gs) ≡ set_groups bytes gs
@@ -466,14 +553,15 @@ groups-set options bytes (Single row ∷ gs) are =
     single-set options bytes row (unread_groups gs) are.0 row.kind refl
     ∙ ap (λ (l : List Event). listed_row_by bytes row.kind row ++ l) (groups-set options bytes gs are.1)
 groups-set options bytes (Lines row rows ∷ gs) are =
-    let last : Row = last_row row rows in
-    leaf-set row.front (text_unread row rows) (text_unread row rows) (tail_events n.LineEnding last) (unread_groups gs)
-    (has_front-outside bytes row are.2) (tail-outside n.LineEnding last refl)
-    (λ es.
-    outside-passes (text_unread row rows) es
-    (around-outside text_leaf.name row.first last.end (unread_lines row rows) refl
-    (linked-outside text_link row rows (lines-prefixed options bytes row rows are.0))))
+    outside-passes (unread_group (Lines row rows)) (unread_groups gs)
+    (text-outside options bytes row rows are.0 are.2)
     ∙ ap (λ (l : List Event). unread_group (Lines row rows) ++ l) (groups-set options bytes gs are.3)
+groups-set options bytes (Turned row rows under ∷ gs) are =
+    outside-passes (unread_group (Turned row rows under)) (unread_groups gs)
+    (outside-append (unread_group (Lines row rows)) (row_events under)
+    (text-outside options bytes row rows are.0 are.3)
+    (under-outside options bytes (last_row row rows) under are.1))
+    ∙ ap (λ (l : List Event). unread_group (Turned row rows under) ++ l) (groups-set options bytes gs are.4)
 groups-set options bytes (Span row rows ∷ gs) are =
     outside-passes (rows_events (row ∷ rows)) (unread_groups gs) (span-outside options bytes row rows are.0)
     ∙ ap (λ (l : List Event). rows_events (row ∷ rows) ++ l) (groups-set options bytes gs are.2)
@@ -481,30 +569,10 @@ groups-set options bytes (Span row rows ∷ gs) are =
 -- Each leaf on one line is set, and all else stays.
 pub leaves-set : (options : ParseOptions) (bytes : List ℕ) (open_before : List Container) (still : HeldLeaf) (p : Point)
     (lines : List (List ℕ)) (rows : List Row) →
-    has_lines still ≡ false → AreRows options bytes open_before still p lines rows → EachNoContent rows →
+    may_go_on still ≡ false → AreRows options bytes open_before still p lines rows → EachNoContent rows →
     resolved (unread_groups (groups rows)) ≡ set_groups bytes (groups rows)
 leaves-set options bytes open_before still p lines rows shut are quiet =
     groups-set options bytes (groups rows) (groups-are options bytes open_before still p lines rows shut are quiet)
-
--- The text of leaves, and texts.
-
--- what stands between the front of a line and its tail
-leaf-becomes : (wants : Content → Bool) (reads : Readings) (front leaf read tail : List Event) → Unwanted wants front →
-    Unwanted wants tail → Becomes wants reads leaf read →
-    Becomes wants reads ((front ++ leaf) ++ tail) ((front ++ read) ++ tail)
-leaf-becomes wants reads front leaf read tail h k becomes =
-    becomes-append wants reads (front ++ leaf) (front ++ read) tail tail
-    (becomes-append wants reads front front leaf read (becomes-same wants reads front h) becomes)
-    (becomes-same wants reads tail k)
-
-single-becomes : (options : ParseOptions) (bytes : List ℕ) (row : Row) (wants : Content → Bool) (reads : Readings) →
-    wants content.Text ≡ true → ReadsText bytes reads → IsSingle options bytes row →
-    Becomes wants reads (listed_row_by bytes row.kind row) (single_events_by bytes row.kind row)
-single-becomes options bytes row wants reads w rt is =
-    leaf-becomes wants reads row.front (leaf_unread bytes row.kind row) (leaf_done bytes row.kind row)
-    (tail_events (ending_of row.kind row) row) (front-unwanted wants bytes row is.front)
-    (tail-unwanted wants row.kind row)
-    (row-becomes options bytes is.line row is.is is.other is.ends wants reads w rt)
 
 -- The lines of a text, cut at the ends of its lines.
 
@@ -569,7 +637,8 @@ plain-first options bytes row (next ∷ rows) end h k =
     (plain_events bytes (record { kind = Text; chunks = chunks_of next rows })) end (omega arith) k
 
 -- the lines of a text
-text-cut : (options : ParseOptions) (bytes : List ℕ) (row : Row) (rows : List Row) → AreLines options bytes row rows →
+pub text-cut : (options : ParseOptions) (bytes : List ℕ) (row : Row) (rows : List Row) →
+    AreLines options bytes row rows →
     CutAt row rows (plain_events bytes (record { kind = Text; chunks = chunks_of row rows }))
     (read_lines bytes row rows)
 text-cut options bytes row [] h = sym (append-nil (plain_chunk bytes (record { first = row.first; after = row.end })))
@@ -587,74 +656,3 @@ text-cut options bytes row (next ∷ rows) h =
       append_assoc (plain_chunk bytes chunk) next.front (read_lines bytes next rows),
       text-cut options bytes next rows h.7,
     )
-
-lines-become : (options : ParseOptions) (bytes : List ℕ) (row : Row) (rows : List Row) (wants : Content → Bool)
-    (reads : Readings) →
-    wants content.Text ≡ true → ReadsText bytes reads → AreLines options bytes row rows → HasFront bytes row →
-    Becomes wants reads (unread_group (Lines row rows)) (group_events bytes (Lines row rows))
-lines-become options bytes row rows wants reads w rt is front =
-    let last : Row = last_row row rows in
-    let given : List Event = read_lines bytes row rows in
-    let unique : (answer : List Event) → reads content.Text (chunks_of row rows) answer →
-    answer ≡ plain_events bytes (record { kind = Text; chunks = chunks_of row rows }) =
-    λ answer r. rt (chunks_of row rows) answer r last.end (chunks-lines options bytes row rows is)
-    (chunks-whole options bytes row rows is) in
-    leaf-becomes wants reads row.front (text_unread row rows) (around text_leaf.name row.first last.end given)
-    (tail_events n.LineEnding last) (front-unwanted wants bytes row front) (tail-unwanted wants TextRow last)
-    (lines-becomes wants reads text_leaf.name n.Data text_link row.first last.end row rows given w refl
-    (lines-prefixed options bytes row rows is)
-    (λ answer r.
-    subst (λ (l : List Event). CutAt row rows l given) (sym (unique answer r)) (text-cut options bytes row rows is)))
-
--- the lines of a leaf of several
-span-becomes : (options : ParseOptions) (bytes : List ℕ) (row : Row) (rows : List Row) (wants : Content → Bool)
-    (reads : Readings) →
-    wants content.Text ≡ true → wants content.String ≡ true → ReadsText bytes reads → ReadsString bytes reads →
-    AreSpan options bytes row rows → is_further row.kind row.on ≡ false →
-    Becomes wants reads (listed_group bytes (Span row rows)) (group_events bytes (Span row rows))
-span-becomes options bytes row rows wants reads w ws rt rs are begins =
-    let is : IsSpanLine options bytes row = span-begins options bytes row rows are in
-    let kind : RowKind = group_kind (Span row rows) in
-    leaf-becomes wants reads row.front (span_by (λ (r : Row). r.inside) row rows) (span_done bytes row rows)
-    (tail_events (ending_of kind (last_row row rows)) (last_row row rows)) (front-unwanted wants bytes row is.front)
-    (tail-unwanted wants kind (last_row row rows))
-    ((span-laws is.name is.open_leaf).becomes options bytes row rows (line-of options bytes row is)
-    (line-further options bytes row is false begins) (behind-first options bytes row rows are) wants reads w ws rt rs)
-
-groups-become : (options : ParseOptions) (bytes : List ℕ) (wants : Content → Bool) (reads : Readings) →
-    wants content.Text ≡ true → wants content.String ≡ true → ReadsText bytes reads → ReadsString bytes reads →
-    (gs : List Group) → AreGroups options bytes gs →
-    Becomes wants reads (listed_groups bytes gs) (groups_events bytes gs)
-groups-become options bytes wants reads w ws rt rs [] are = becomes-same wants reads [] tt
-groups-become options bytes wants reads w ws rt rs (Single row ∷ gs) are =
-    becomes-append wants reads (listed_group bytes (Single row)) (group_events bytes (Single row))
-    (listed_groups bytes gs) (groups_events bytes gs)
-    (single-becomes options bytes row wants reads w rt are.0)
-    (groups-become options bytes wants reads w ws rt rs gs are.1)
-groups-become options bytes wants reads w ws rt rs (Span row rows ∷ gs) are =
-    becomes-append wants reads (listed_group bytes (Span row rows)) (group_events bytes (Span row rows))
-    (listed_groups bytes gs) (groups_events bytes gs)
-    (span-becomes options bytes row rows wants reads w ws rt rs are.0 are.4)
-    (groups-become options bytes wants reads w ws rt rs gs are.2)
-groups-become options bytes wants reads w ws rt rs (Lines row rows ∷ gs) are =
-    becomes-append wants reads (listed_group bytes (Lines row rows)) (group_events bytes (Lines row rows))
-    (listed_groups bytes gs) (groups_events bytes gs)
-    (lines-become options bytes row rows wants reads w rt are.0 are.2)
-    (groups-become options bytes wants reads w ws rt rs gs are.3)
-
--- The text of leaves, and texts, read: the events of a text.
-pub text-read : (options : ParseOptions) (bytes : List ℕ) (open_before : List Container) (still : HeldLeaf) (p : Point)
-    (lines : List (List ℕ)) (rows : List Row) →
-    has_lines still ≡ false → AreRows options bytes open_before still p lines rows → EachNoContent rows →
-    (wants : Content → Bool) (reads : Readings) → wants content.Text ≡ true → wants content.String ≡ true →
-    ReadsText bytes reads → ReadsString bytes reads →
-    (events : List Event) → Substituted wants reads [] 0 (listed_groups bytes (groups rows)) events →
-    events ≡ groups_events bytes (groups rows)
-text-read options bytes open_before still p lines rows shut are quiet wants reads w ws rt rs events s =
-    let unread : List Event = listed_groups bytes (groups rows) in
-    let rest : Rest wants reads (groups_events bytes (groups rows)) [] events =
-    groups-become options bytes wants reads w ws rt rs (groups rows)
-    (groups-are options bytes open_before still p lines rows shut are quiet) [] [] events
-    (subst (λ (l : List Event). Substituted wants reads [] 0 l events) (sym (append-nil unread)) s) in
-    rest.2 ∙ ap (λ (l : List Event). groups_events bytes (groups rows) ++ l) rest.3
-    ∙ append-nil (groups_events bytes (groups rows))

@@ -1,6 +1,6 @@
--- Events of no leaf of several lines and of no item: joining lines and putting lists around items leaves them as they
--- are.
-use Rattle.std.proofs.Common.{◌≡◌, ℕ, ◌+◌, Bool, true, false, cond, List, [], ◌∷◌, length, refl, ap}
+-- Events of no underline, of no leaf of several lines and of no item: setting headings, joining lines and putting lists
+-- around items leaves them as they are.
+use Rattle.std.proofs.Common.{◌≡◌, ℕ, ◌+◌, Bool, true, false, cond, ◌&&◌, List, [], ◌∷◌, length, refl, ap}
 use Rattle.std.proofs.Common.{◌∙◌, arith}
 use Rattle.std.specs.List.{prefix_len}
 use Rattle.std.proofs.lemmas.Bool.{and_parts}
@@ -10,7 +10,9 @@ use Rattle.md_containers.specs.Listed.{listed, passes as passes_lists}
 use Rattle.md_containers.proofs.ListedLemmas.{listed-none}
 use Rattle.md_leaves.specs.declared.spans.Place.TheVariants.{Outside}
 use Rattle.md_leaves.specs.Spanned.{passes, spanned}
+use Rattle.md_leaves.specs.Turned.{is_no_underline, turned}
 use Rattle.md_leaves.proofs.SpannedLemmas.{spanned-none}
+use Rattle.md_leaves.proofs.TurnedLemmas.{turned-none}
 use Rattle.markdown_blocks.specs.FlowReads.{lines_joined}
 use Rattle.markdown_blocks.specs.Registry.{joins_lines, stays_alone}
 
@@ -28,16 +30,27 @@ all-pass p q gives (e ∷ es) all = go (p e) refl (λ rest. all-pass p q gives e
         ap (λ (x : Bool). cond x (1 + prefix_len q es) 0) (gives e here) ∙ omega (arith, below)
     go false here more all = cc
 
--- where all stay, nothing is joined, and no list is put
+-- what stays alone is of no leaf of several lines, of no item, and of no underline
+record Alone (e : Event) : Type 0 where
+  unspanned : passes Outside e ≡ true
+  unlisted : passes_lists e ≡ true
+  free : is_no_underline e ≡ true
+
+alone : (e : Event) → stays_alone e ≡ true → Alone e
+alone e h =
+    let parts = and_parts (passes Outside e && passes_lists e) (is_no_underline e) h in
+    let two = and_parts (passes Outside e) (passes_lists e) parts.0 in
+    record { unspanned = two.0; unlisted = two.1; free = parts.1 }
+
+-- where all stay, no heading is set, nothing is joined, and no list is put
 pub all-alone : (bytes : List ℕ) (options : ParseOptions) (es : List Event) → prefix_len stays_alone es ≡ length es →
-    listed bytes (lines_joined options es) ≡ es
+    listed bytes (lines_joined options (turned es)) ≡ es
 all-alone bytes options es all =
-    ap (listed bytes) (joined (joins_lines options))
-    ∙ listed-none bytes es
-    (all-pass stays_alone passes_lists (λ e h. (and_parts (passes Outside e) (passes_lists e) h).1) es all)
+    ap (λ (l : List Event). listed bytes (lines_joined options l))
+    (turned-none es (all-pass stays_alone is_no_underline (λ e h. (alone e h).free) es all))
+    ∙ ap (listed bytes) (joined (joins_lines options))
+    ∙ listed-none bytes es (all-pass stays_alone passes_lists (λ e h. (alone e h).unlisted) es all)
   where
     joined : (x : Bool) → cond x (spanned es) es ≡ es
-    joined true =
-        spanned-none es
-        (all-pass stays_alone (passes Outside) (λ e h. (and_parts (passes Outside e) (passes_lists e) h).0) es all)
+    joined true = spanned-none es (all-pass stays_alone (passes Outside) (λ e h. (alone e h).unspanned) es all)
     joined false = refl

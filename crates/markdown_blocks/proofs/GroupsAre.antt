@@ -1,20 +1,21 @@
--- What the groups of the lines of a text are: lines that are no text, lines of text that belong together, and the lines
--- of a leaf of several.
+-- What the groups of the lines of a text are: lines that are no text, lines of text that belong together, with the line
+-- that turns them if one does, and the lines of a leaf of several.
 use Rattle.std.proofs.Common.{◌≡◌, ◌≢◌, ℕ, Bool, true, false, cond, ◌&&◌, List, [], ◌∷◌, refl, ap, sym, ◌∙◌, subst}
-use Rattle.std.specs.Prelude.{◌||◌, ◌==◌, Some}
+use Rattle.std.specs.Prelude.{Some}
 use Rattle.md_engine.specs.declared.configuration.ParseOptions.{ParseOptions}
 use Rattle.md_engine.specs.declared.event.Point.{Point}
 use Rattle.md_engine.specs.declared.tokenizer.held_leaf.HeldLeaf.{HeldLeaf}
-use Rattle.md_definition.specs.Rest.{is_blank}
+use Rattle.md_engine.specs.declared.tokenizer.held_leaf.HeldLeaf.TheVariants as held_leaf
 use Rattle.md_definition.specs.State.{Container}
 use Rattle.markdown_blocks.specs.Change as change
 use Rattle.markdown_blocks.specs.Change.{Change}
 use Rattle.markdown_blocks.specs.Fronted.{contained, rest_from, rest_line}
-use Rattle.markdown_blocks.specs.HeldLeaf.{has_lines}
+use Rattle.markdown_blocks.specs.HeldLeaf.{may_go_on}
 use Rattle.markdown_blocks.specs.Registry.{LeafName, further_of, leaf}
-use Rattle.markdown_blocks.specs.Rows.{BlankRow, Group, LeafRow, Lines, Row, RowKind, Single, Span, TextRow, first_row}
-use Rattle.markdown_blocks.specs.Rows.{goes_on, groups, is_blank_by, is_empty_row, is_further, last_row, line_behind}
-use Rattle.markdown_blocks.specs.Rows.{onto_groups, onto_leaf, stays_blank}
+use Rattle.markdown_blocks.specs.Rows.{BlankRow, Group, LeafRow, Lines, Row, RowKind, Single, Span, TextRow, Turned}
+use Rattle.markdown_blocks.specs.Rows.{first_row}
+use Rattle.markdown_blocks.specs.Rows.{goes_on, groups, is_further, last_row, line_behind}
+use Rattle.markdown_blocks.specs.Rows.{is_last, onto_groups, onto_leaf, onto_underline}
 use Rattle.markdown_blocks.proofs.ContainedLemmas.{contained-met, contained-still}
 use Rattle.markdown_blocks.proofs.FrontFacts.{LinePrefix}
 pub use Rattle.markdown_blocks.proofs.FrontNames.{HasFront}
@@ -22,8 +23,9 @@ use Rattle.markdown_blocks.proofs.JoinedLemmas.{EachNoContent, HasNoContent}
 use Rattle.markdown_blocks.proofs.KindLemmas.{kind-starts}
 use Rattle.markdown_blocks.proofs.Registry.{further-further, further-is, laws}
 use Rattle.markdown_blocks.proofs.RowFacts.{AreRows, IsEnding, IsLine, IsRow, behind_line}
-use Rattle.markdown_blocks.proofs.RowLeaf.{EndsOnLine, leaf-at}
+use Rattle.markdown_blocks.proofs.RowLeaf.{EndsOnLine, row-as}
 use Rattle.markdown_blocks.proofs.SpanLaws.{AreBehind, IsLineOf}
+use Rattle.markdown_blocks.proofs.UnderNames.{under-shuts}
 
 -- The groups of a text.
 
@@ -68,6 +70,22 @@ AreSpan options bytes row (next ∷ rows) =
     × (leaves : row.leaves ≡ []) × (on : next.on ≡ row.behind) × (further : is_further next.kind next.on ≡ true)
     × AreSpan options bytes next rows
 
+-- the line that turns a text, behind the last line of that: between them no container ends or opens
+pub record IsUnder (options : ParseOptions) (bytes : List ℕ) (last under : Row) : Type 0 where
+  pub line : List ℕ
+  pub is : IsRow options bytes line under
+  pub name : LeafName
+  pub kind : under.kind ≡ LeafRow name
+  pub open_leaf : (leaf name).ends ≡ false
+  pub after : Point
+  pub after_is : last.after ≡ Some after
+  pub ending : IsEnding bytes last.end after
+  pub front : LinePrefix bytes [] after under.first under.front
+  pub leaves : last.leaves ≡ []
+  pub on : under.on ≡ last.behind
+  pub further : is_further under.kind under.on ≡ true
+  pub quiet : HasNoContent under
+
 -- a line goes on no leaf
 abbrev pub Begins : Row → Type 0
 Begins row = is_further row.kind row.on ≡ false
@@ -79,6 +97,9 @@ AreGroups options bytes (Single row ∷ gs) = IsSingle options bytes row × AreG
 AreGroups options bytes (Span row rows ∷ gs) =
     AreSpan options bytes row rows × EndsBeforeGroups (last_row row rows) gs × AreGroups options bytes gs ×
     EachNoContent (row ∷ rows) × Begins row
+AreGroups options bytes (Turned row rows under ∷ gs) =
+    AreLines options bytes row rows × IsUnder options bytes (last_row row rows) under × EndsBeforeGroups under gs ×
+    HasFront bytes row × AreGroups options bytes gs
 AreGroups options bytes (Lines row rows ∷ gs) =
     AreLines options bytes row rows × EndsBeforeGroups (last_row row rows) gs × HasFront bytes row ×
     AreGroups options bytes gs
@@ -93,6 +114,7 @@ span-first P row true gs h = h
 span-first P row false [] h = h
 span-first P row false (Single first ∷ gs) h = h
 span-first P row false (Lines first rows ∷ gs) h = h
+span-first P row false (Turned first rows under ∷ gs) h = h
 span-first P row false (Span first rows ∷ gs) h = go (is_further first.kind first.on)
   where
     go : (x : Bool) → FirstIs P (cond x (Span row (first ∷ rows) ∷ gs) (Span row [] ∷ Span first rows ∷ gs))
@@ -105,7 +127,17 @@ onto-first P row BlankRow gs h = h
 onto-first P row (LeafRow l) gs h = span-first P row (leaf l).ends gs h
 onto-first P row TextRow [] h = h
 onto-first P row TextRow (Single first ∷ gs) h = h
-onto-first P row TextRow (Span first rows ∷ gs) h = h
+onto-first P row TextRow (Span first rows ∷ gs) h = go (is_further first.kind first.on && is_last rows)
+  where
+    go : (x : Bool) → FirstIs P (cond x (Turned row [] first ∷ gs) (Lines row [] ∷ Span first rows ∷ gs))
+    go true = h
+    go false = h
+onto-first P row TextRow (Turned first rows under ∷ gs) h = go (goes_on row first)
+  where
+    go : (x : Bool) →
+        FirstIs P (cond x (Turned row (first ∷ rows) under ∷ gs) (Lines row [] ∷ Turned first rows under ∷ gs))
+    go true = h
+    go false = h
 onto-first P row TextRow (Lines first rows ∷ gs) h = go (goes_on row first)
   where
     go : (x : Bool) → FirstIs P (cond x (Lines row (first ∷ rows) ∷ gs) (Lines row [] ∷ Lines first rows ∷ gs))
@@ -122,21 +154,7 @@ span-begins options bytes row (next ∷ rows) are = are.0
 -- a line of it is one of its leaf
 abbrev pub line-as : (options : ParseOptions) (bytes : List ℕ) (row : Row) → IsSpanLine options bytes row →
     (l : LeafName) → row.kind ≡ LeafRow l → IsLineOf options bytes (leaf l) row
-line-as options bytes row is l kind = record {
-  rest = is.is.rest;
-  at = leaf-at options bytes is.line row is.is;
-  column = is.is.column;
-  starts = kind-starts options row.on is.is.rest l (sym is.is.kind ∙ kind);
-  inside =
-      is.is.leaf_is l kind ∙ ap (λ (line : List ℕ). (leaf l).added options row.on line row.first) is.is.line_is;
-  behind = is.is.behind ∙ ap (line_behind options row.on is.is.rest) kind;
-  empty =
-      is.is.empty
-      ∙ ap
-      (λ (k : RowKind). (stays_blank k && is_blank is.is.rest.bytes) || (is_empty_row row && (row.first.column == 1)))
-      kind;
-  ending = ap (λ (k : RowKind). is_blank_by k row) kind;
-}
+line-as options bytes row is l kind = row-as options bytes is.line row is.is l kind
 
 abbrev pub line-of : (options : ParseOptions) (bytes : List ℕ) (row : Row) → (is : IsSpanLine options bytes row) →
     IsLineOf options bytes (leaf is.name) row
@@ -181,46 +199,61 @@ behind-first options bytes row rows are =
 -- Lines in front of groups.
 
 -- what is known of the line behind another: it stands behind this point; where it goes on a leaf it meets what that one
--- leaves, and no container ends or opens between them; and it goes on none where none of several lines is open
+-- leaves, and no container ends or opens between them; and it goes on none where none is open that a line may go on
 pub record IsBehind (bytes : List ℕ) (p : Point) (row below : Row) : Type 0 where
   pub front : LinePrefix bytes below.change.opens p below.first below.front
   pub met : is_further below.kind below.on ≡ true →
       (leaves : row.leaves ≡ []) × (opens : below.change.opens ≡ []) × (below.on ≡ row.behind)
-  pub begins : has_lines row.behind ≡ false → Begins below
+  pub begins : may_go_on row.behind ≡ false → Begins below
 
--- where a line goes on the leaf that it meets, that one has lines
-further-lines : (options : ParseOptions) (bytes line : List ℕ) (row : Row) → IsRow options bytes line row →
-    is_further row.kind row.on ≡ true → has_lines row.on ≡ true
-further-lines options bytes line row is f = go row.kind refl f
+-- where a line goes on the leaf that it meets, it may do so
+pub further-may : (options : ParseOptions) (bytes line : List ℕ) (row : Row) → IsRow options bytes line row →
+    is_further row.kind row.on ≡ true → may_go_on row.on ≡ true
+further-may options bytes line row is f = go row.kind refl f
   where
-    go : (kind : RowKind) → row.kind ≡ kind → is_further kind row.on ≡ true → has_lines row.on ≡ true
+    go : (kind : RowKind) → row.kind ≡ kind → is_further kind row.on ≡ true → may_go_on row.on ≡ true
     go BlankRow e f = cc
     go TextRow e f = cc
     go (LeafRow l) e f =
         (laws l).meets options row.on is.rest (kind-starts options row.on is.rest l (sym is.kind ∙ e)) f
 
--- no leaf of several lines is open behind a line of no such leaf
-pub shut-behind : (options : ParseOptions) (bytes line : List ℕ) (row : Row) → IsRow options bytes line row →
-    EndsOnLine row.kind → has_lines row.behind ≡ false
-shut-behind options bytes line row is ends = ap has_lines is.behind ∙ go row.kind refl
-  where
-    go : (kind : RowKind) → row.kind ≡ kind → has_lines (line_behind options row.on is.rest kind) ≡ false
-    go BlankRow e = refl
-    go TextRow e = refl
-    go (LeafRow l) e = ap has_lines (((laws l).shut (ends l e) options row.on).1 is.rest)
+-- a line that goes on text is one alone: no line goes on it
+pub turned-alone : (options : ParseOptions) (bytes : List ℕ) (row next : Row) (rows : List Row) →
+    row.on ≡ held_leaf.Text → is_further row.kind row.on ≡ true → AreSpan options bytes row (next ∷ rows) → ⊥
+turned-alone options bytes row next rows on f are =
+    let is : IsSpanLine options bytes row = are.0 in
+    let below : IsSpanLine options bytes next = span-begins options bytes next rows are.8 in
+    let above : IsLineOf options bytes (leaf is.name) row = line-of options bytes row is in
+    let further : (leaf is.name).further held_leaf.Text ≡ true =
+    ap (leaf is.name).further (sym on) ∙ line-further options bytes row is true f in
+    let shut : may_go_on next.on ≡ false =
+    ap may_go_on (are.6 ∙ above.behind ∙ under-shuts is.name further options row.on above.rest) in
+    let may : may_go_on next.on ≡ true = further-may options bytes below.line next below.is are.7 in
+    let bad : true ≡ false = sym may ∙ shut in
+    cc
 
--- a line begins a leaf where none of several lines is open
+-- no line goes on a line that is no text and of no leaf of several lines
+pub shut-behind : (options : ParseOptions) (bytes line : List ℕ) (row : Row) → IsRow options bytes line row →
+    EndsOnLine row.kind → row.kind ≢ TextRow → may_go_on row.behind ≡ false
+shut-behind options bytes line row is ends other = ap may_go_on is.behind ∙ go row.kind refl
+  where
+    go : (kind : RowKind) → row.kind ≡ kind → may_go_on (line_behind options row.on is.rest kind) ≡ false
+    go BlankRow e = refl
+    go TextRow e = absurd (other e)
+    go (LeafRow l) e = ap may_go_on (((laws l).shut (ends l e) options row.on).1 is.rest)
+
+-- a line begins a leaf where none is open that a line may go on
 pub line-begins : (options : ParseOptions) (bytes : List ℕ) (cs : List Container) (still : HeldLeaf) (p : Point)
     (line : List ℕ) (row : Row) →
-    IsLine options bytes cs still p line row → has_lines still ≡ false → Begins row
+    IsLine options bytes cs still p line row → may_go_on still ≡ false → Begins row
 line-begins options bytes cs still p line row is shut = go (is_further row.kind row.on) refl
   where
     go : (x : Bool) → is_further row.kind row.on ≡ x → x ≡ false
     go false f = refl
     go true f =
-        let lines = further-lines options bytes _ row is.is f in
-        let met = contained-still options cs still (rest_from p line) (ap has_lines (sym is.on) ∙ lines) in
-        let bad : true ≡ false = sym lines ∙ ap has_lines (is.on ∙ met) ∙ shut in
+        let may = further-may options bytes _ row is.is f in
+        let met = contained-still options cs still (rest_from p line) (ap may_go_on (sym is.on) ∙ may) in
+        let bad : true ≡ false = sym may ∙ ap may_go_on (is.on ∙ met) ∙ shut in
         cc
 
 -- where it goes on one, no container ends in front of it, and none opens
@@ -229,11 +262,11 @@ line-met : (options : ParseOptions) (bytes : List ℕ) (cs : List Container) (st
     IsLine options bytes cs still p line row → is_further row.kind row.on ≡ true →
     (opens : row.change.opens ≡ []) × (closes : row.change.closes ≡ []) × (row.on ≡ still)
 line-met options bytes cs still p line row is f =
-    let lines = ap has_lines (sym is.on) ∙ further-lines options bytes _ row is.is f in
-    let met = contained-met options cs still (rest_from p line) lines in (
+    let may = ap may_go_on (sym is.on) ∙ further-may options bytes _ row is.is f in
+    let met = contained-met options cs still (rest_from p line) may in (
       ap (λ (c : Change). c.opens) is.change ∙ met.0,
       ap (λ (c : Change). c.closes) is.change ∙ met.1,
-      is.on ∙ contained-still options cs still (rest_from p line) lines,
+      is.on ∙ contained-still options cs still (rest_from p line) may,
     )
 
 -- the first line, where these containers and this leaf are open
@@ -290,20 +323,23 @@ below-are : (options : ParseOptions) (bytes : List ℕ) (gs : List Group) → Fi
 below-are options bytes [] begins are = are
 below-are options bytes (Single row ∷ gs) begins are = are
 below-are options bytes (Lines row rows ∷ gs) begins are = are
+below-are options bytes (Turned row rows under ∷ gs) begins are = are
 below-are options bytes (Span row rows ∷ gs) begins are = (are.0, are.1, are.2, are.3, begins)
 
 first-begin : (gs : List Group) → FirstIs Begins gs → FirstBegins gs
 first-begin [] h = tt
 first-begin (Single row ∷ gs) h = tt
 first-begin (Lines row rows ∷ gs) h = tt
+first-begin (Turned row rows under ∷ gs) h = tt
 first-begin (Span row rows ∷ gs) h = h
 
--- so it is behind a line of no leaf of several
+-- so it is behind a line that no other goes on
 pub begins-behind : (bytes : List ℕ) (p : Point) (row : Row) (gs : List Group) → FirstIs (IsBehind bytes p row) gs →
-    has_lines row.behind ≡ false → FirstBegins gs
+    may_go_on row.behind ≡ false → FirstBegins gs
 begins-behind bytes p row [] first shut = tt
 begins-behind bytes p row (Single below ∷ gs) first shut = tt
 begins-behind bytes p row (Lines below rows ∷ gs) first shut = tt
+begins-behind bytes p row (Turned below rows under ∷ gs) first shut = tt
 begins-behind bytes p row (Span below rows ∷ gs) first shut = first.begins shut
 
 -- a line, with what stands in front of it
@@ -338,15 +374,17 @@ span-line options bytes line p row l is e ends = record {
 pub blank-ends : (kind : RowKind) → kind ≡ BlankRow → EndsOnLine kind
 blank-ends kind e l k = let bad : BlankRow ≡ LeafRow l = sym e ∙ k in cc
 
-pub text-ends : (kind : RowKind) → kind ≡ TextRow → EndsOnLine kind
-text-ends kind e l k = let bad : TextRow ≡ LeafRow l = sym e ∙ k in cc
-
 pub leaf-row-ends : (kind : RowKind) (l : LeafName) → kind ≡ LeafRow l → (leaf l).ends ≡ true → EndsOnLine kind
 leaf-row-ends kind l e ends m k = go (sym e ∙ k)
   where
     go : LeafRow l ≡ LeafRow m → (leaf m).ends ≡ true
     go same = let name : l ≡ m = cc in subst (λ (n : LeafName). (leaf n).ends ≡ true) name ends
 
+-- what is known of a text does not tell of a leaf
+pub leaf-other : (kind : RowKind) (l : LeafName) → kind ≡ LeafRow l → kind ≢ TextRow
+leaf-other kind l e h = let bad : LeafRow l ≡ TextRow = sym e ∙ h in cc
+
+-- a line of a leaf is no text
 -- a line of a leaf goes before groups
 leaf-are : (options : ParseOptions) (bytes line : List ℕ) (p : Point) (row : Row) (l : LeafName) (q : Point)
     (gs : List Group) →
@@ -354,16 +392,19 @@ leaf-are : (options : ParseOptions) (bytes line : List ℕ) (p : Point) (row : R
     FirstIs (IsBehind bytes q row) gs → AreBelow options bytes gs → (ends : Bool) → (leaf l).ends ≡ ends →
     AreBelow options bytes (onto_leaf ends row gs)
 leaf-are options bytes line p row l q gs is e after ending first are true k =
-    let ends : EndsOnLine row.kind = leaf-row-ends row.kind l e k in (
-      alone-is options bytes line p row is (λ h. let bad : LeafRow l ≡ TextRow = sym e ∙ h in cc) ends,
+    let ends : EndsOnLine row.kind = leaf-row-ends row.kind l e k in
+    let other : row.kind ≢ TextRow = leaf-other row.kind l e in (
+      alone-is options bytes line p row is other ends,
       below-are options bytes gs
-          (begins-behind bytes q row gs first (shut-behind options bytes line row is.is ends)) are,
+          (begins-behind bytes q row gs first (shut-behind options bytes line row is.is ends other)) are,
     )
 leaf-are options bytes line p row l q [] is e after ending first are false k =
     (span-line options bytes line p row l is e k, tt, tt, (is.quiet, tt))
 leaf-are options bytes line p row l q (Single below ∷ gs) is e after ending first are false k =
     (span-line options bytes line p row l is e k, (q, after), are, (is.quiet, tt))
 leaf-are options bytes line p row l q (Lines below rows ∷ gs) is e after ending first are false k =
+    (span-line options bytes line p row l is e k, (q, after), are, (is.quiet, tt))
+leaf-are options bytes line p row l q (Turned below rows under ∷ gs) is e after ending first are false k =
     (span-line options bytes line p row l is e k, (q, after), are, (is.quiet, tt))
 leaf-are options bytes line p row l q (Span below rows ∷ gs) is e after ending first are false k =
     go (is_further below.kind below.on) refl
@@ -394,16 +435,100 @@ leaf-are options bytes line p row l q (Span below rows ∷ gs) is e after ending
       (is.quiet, tt),
     )
 
+-- a text goes before a line that goes on none
+text-begins : (options : ParseOptions) (bytes line : List ℕ) (p : Point) (row : Row) (q : Point) (gs : List Group) →
+    IsBegun options bytes line p row → row.kind ≡ TextRow → EndsBeforeGroups row gs → AreGroups options bytes gs →
+    AreGroups options bytes (Lines row [] ∷ gs)
+text-begins options bytes line p row q gs is e ends are = ((line, is.is, e), ends, (p, is.front), are)
+
+-- the line that turns a text
+pub text-under : (options : ParseOptions) (bytes line : List ℕ) (row : Row) (q : Point) (below : Row) →
+    row.after ≡ Some q → IsEnding bytes row.end q → IsBehind bytes q row below →
+    is_further below.kind below.on ≡ true → IsSpanLine options bytes below → HasNoContent below →
+    IsUnder options bytes row below
+text-under options bytes line row q below after ending first f is quiet =
+    let met = first.met f in
+    record {
+      line = is.line;
+      is = is.is;
+      name = is.name;
+      kind = is.kind;
+      open_leaf = is.open_leaf;
+      after = q;
+      after_is = after;
+      ending = ending;
+      front = subst (λ (cs : List Container). LinePrefix bytes cs q below.first below.front) met.1 first.front;
+      leaves = met.0;
+      on = met.2;
+      further = f;
+      quiet = quiet;
+    }
+
+-- text goes before a leaf of several lines: where its first line goes on text, it is that line alone
+text-span : (options : ParseOptions) (bytes line : List ℕ) (p : Point) (row : Row) (q : Point) (below : Row)
+    (rows : List Row) (gs : List Group) →
+    IsBegun options bytes line p row → row.kind ≡ TextRow → row.after ≡ Some q → IsEnding bytes row.end q →
+    IsBehind bytes q row below → AreBelow options bytes (Span below rows ∷ gs) →
+    AreBelow options bytes (onto_underline row below rows gs)
+text-span options bytes line p row q below rows gs is e after ending first are =
+    go (is_further below.kind below.on) refl rows are
+  where
+    go : (x : Bool) → is_further below.kind below.on ≡ x → (rows : List Row) →
+        AreBelow options bytes (Span below rows ∷ gs) →
+        AreBelow options bytes
+        (cond (x && is_last rows) (Turned row [] below ∷ gs) (Lines row [] ∷ Span below rows ∷ gs))
+    go true f [] are = (
+      (line, is.is, e),
+      text-under options bytes line row q below after ending first f are.0 are.3.0,
+      are.1,
+      (p, is.front),
+      are.2,
+    )
+    go true f (next ∷ rows) are =
+        absurd
+        (turned-alone options bytes below next rows
+        ((first.met f).2 ∙ is.is.behind ∙ ap (line_behind options row.on is.is.rest) e) f are.0)
+    go false f rows are =
+        text-begins options bytes line p row q (Span below rows ∷ gs) is e (q, after)
+        (are.0, are.1, are.2, are.3, f)
+
 -- text goes before groups
 text-are : (options : ParseOptions) (bytes line : List ℕ) (p : Point) (row : Row) (q : Point) (gs : List Group) →
     IsBegun options bytes line p row → row.kind ≡ TextRow → row.after ≡ Some q → IsEnding bytes row.end q →
-    FirstIs (IsBehind bytes q row) gs → AreGroups options bytes gs →
+    FirstIs (IsBehind bytes q row) gs → AreBelow options bytes gs →
     AreBelow options bytes (onto_groups row TextRow gs)
-text-are options bytes line p row q [] is e after ending first are = ((line, is.is, e), tt, (p, is.front), tt)
+text-are options bytes line p row q [] is e after ending first are =
+    text-begins options bytes line p row q [] is e tt are
 text-are options bytes line p row q (Single below ∷ gs) is e after ending first are =
-    ((line, is.is, e), (q, after), (p, is.front), are)
+    text-begins options bytes line p row q (Single below ∷ gs) is e (q, after) are
 text-are options bytes line p row q (Span below rows ∷ gs) is e after ending first are =
-    ((line, is.is, e), (q, after), (p, is.front), are)
+    text-span options bytes line p row q below rows gs is e after ending first are
+text-are options bytes line p row q (Turned below rows under ∷ gs) is e after ending first are =
+    go (change.is_none row.leaves) below.change.opens refl
+  where
+    go : (x : Bool) (opens : List Container) → below.change.opens ≡ opens →
+        AreBelow options bytes
+        (cond (x && change.is_none opens) (Turned row (below ∷ rows) under ∷ gs)
+        (Lines row [] ∷ Turned below rows under ∷ gs))
+    go true [] none = (
+      (
+        line,
+        is.is,
+        e,
+        q,
+        after,
+        ending,
+        subst (λ (l : List Container). LinePrefix bytes l q below.first below.front) none first.front,
+        are.0,
+      ),
+      are.1,
+      are.2,
+      (p, is.front),
+      are.4,
+    )
+    go true (c ∷ opens) k =
+        text-begins options bytes line p row q (Turned below rows under ∷ gs) is e (q, after) are
+    go false opens k = text-begins options bytes line p row q (Turned below rows under ∷ gs) is e (q, after) are
 text-are options bytes line p row q (Lines below rows ∷ gs) is e after ending first are =
     go (change.is_none row.leaves) below.change.opens refl
   where
@@ -425,8 +550,9 @@ text-are options bytes line p row q (Lines below rows ∷ gs) is e after ending 
       (p, is.front),
       are.3,
     )
-    go true (c ∷ opens) k = ((line, is.is, e), (q, after), (p, is.front), are)
-    go false opens k = ((line, is.is, e), (q, after), (p, is.front), are)
+    go true (c ∷ opens) k =
+        text-begins options bytes line p row q (Lines below rows ∷ gs) is e (q, after) are
+    go false opens k = text-begins options bytes line p row q (Lines below rows ∷ gs) is e (q, after) are
 
 -- a line goes before groups
 onto-are : (options : ParseOptions) (bytes line : List ℕ) (p : Point) (row : Row) (q : Point) (gs : List Group) →
@@ -434,17 +560,16 @@ onto-are : (options : ParseOptions) (bytes line : List ℕ) (p : Point) (row : R
     FirstIs (IsBehind bytes q row) gs → AreBelow options bytes gs → (kind : RowKind) → row.kind ≡ kind →
     AreBelow options bytes (onto_groups row kind gs)
 onto-are options bytes line p row q gs is after ending first are BlankRow e =
-    let ends : EndsOnLine row.kind = blank-ends row.kind e in (
-      alone-is options bytes line p row is (λ k. cc) ends,
+    let ends : EndsOnLine row.kind = blank-ends row.kind e in
+    let other : row.kind ≢ TextRow = λ k. cc in (
+      alone-is options bytes line p row is other ends,
       below-are options bytes gs
-          (begins-behind bytes q row gs first (shut-behind options bytes line row is.is ends)) are,
+          (begins-behind bytes q row gs first (shut-behind options bytes line row is.is ends other)) are,
     )
 onto-are options bytes line p row q gs is after ending first are (LeafRow l) e =
     leaf-are options bytes line p row l q gs is e after ending first are (leaf l).ends refl
 onto-are options bytes line p row q gs is after ending first are TextRow e =
-    text-are options bytes line p row q gs is e after ending first
-    (below-are options bytes gs
-    (begins-behind bytes q row gs first (shut-behind options bytes line row is.is (text-ends row.kind e))) are)
+    text-are options bytes line p row q gs is e after ending first are
 
 last-are : (options : ParseOptions) (bytes line : List ℕ) (p : Point) (row : Row) → IsBegun options bytes line p row →
     (kind : RowKind) → row.kind ≡ kind → AreBelow options bytes (onto_groups row kind [])
@@ -454,8 +579,7 @@ last-are options bytes line p row is (LeafRow l) e = go (leaf l).ends refl
   where
     go : (ends : Bool) → (leaf l).ends ≡ ends → AreBelow options bytes (onto_leaf ends row [])
     go true k = (
-      alone-is options bytes line p row is (λ h. let bad : LeafRow l ≡ TextRow = sym e ∙ h in cc)
-          (leaf-row-ends row.kind l e k),
+      alone-is options bytes line p row is (leaf-other row.kind l e) (leaf-row-ends row.kind l e k),
       tt,
     )
     go false k = (span-line options bytes line p row l is e k, tt, tt, (is.quiet, tt))
@@ -485,10 +609,10 @@ groups-below options bytes open_before still p (line ∷ next ∷ lines) (row �
     (first-behind options bytes open_next h.2 (next ∷ lines) row below rows h.5 h.1)
     (groups-below options bytes open_next row.behind h.2 (next ∷ lines) (below ∷ rows) h.5 k.1) row.kind refl
 
--- The first line of a text begins a leaf, if no leaf of several lines is open in front of it.
+-- The first line of a text begins a leaf, if none is open in front of it that a line may go on.
 pub first-begins : (options : ParseOptions) (bytes : List ℕ) (open_before : List Container) (still : HeldLeaf)
     (p : Point) (lines : List (List ℕ)) (rows : List Row) →
-    has_lines still ≡ false → AreRows options bytes open_before still p lines rows → FirstBegins (groups rows)
+    may_go_on still ≡ false → AreRows options bytes open_before still p lines rows → FirstBegins (groups rows)
 first-begins options bytes open_before still p lines [] shut h = tt
 first-begins options bytes open_before still p lines (row ∷ rows) shut h =
     first-begin (groups (row ∷ rows))
@@ -499,10 +623,11 @@ first-begins options bytes open_before still p lines (row ∷ rows) shut h =
     go [] is = absurd is
     go (line ∷ lines) is = line-begins options bytes open_before still p line row is shut
 
--- The groups of the lines of a text are lines of text that belong together, lines of a leaf of several, and others.
+-- The groups of the lines of a text are lines of text that belong together, with the line that turns them if one does,
+-- lines of a leaf of several, and others.
 pub groups-are : (options : ParseOptions) (bytes : List ℕ) (open_before : List Container) (still : HeldLeaf) (p : Point)
     (lines : List (List ℕ)) (rows : List Row) →
-    has_lines still ≡ false → AreRows options bytes open_before still p lines rows → EachNoContent rows →
+    may_go_on still ≡ false → AreRows options bytes open_before still p lines rows → EachNoContent rows →
     AreGroups options bytes (groups rows)
 groups-are options bytes open_before still p lines rows shut h k =
     below-are options bytes (groups rows) (first-begins options bytes open_before still p lines rows shut h)

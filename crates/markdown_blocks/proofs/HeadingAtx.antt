@@ -6,6 +6,7 @@ pub mod Endings
 pub mod Found
 pub mod Hashes
 pub mod Laws
+pub mod Names
 pub mod Nested
 pub mod NoContent
 pub mod Outside
@@ -20,5 +21,4 @@ pub mod Stands
 pub mod Texts
 pub mod Tiled
 pub mod Trial
-pub mod Unspanned
 pub mod Words

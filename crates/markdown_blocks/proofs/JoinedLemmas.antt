@@ -4,7 +4,7 @@ use Rattle.std.proofs.Common.{◌≡◌, ◌≢◌, ℕ, zero, suc, Bool, true, 
 use Rattle.std.proofs.Common.{append-nil}
 use Rattle.markdown_blocks.specs.LineFlags.{ending_name}
 use Rattle.markdown_blocks.specs.Registry.{leaf}
-use Rattle.markdown_blocks.specs.Rows.{Span, is_further, onto_leaf}
+use Rattle.markdown_blocks.specs.Rows.{Span, Turned, is_further, is_last, onto_leaf, onto_underline}
 use Rattle.markdown_blocks.specs.Rows.{behind_held}
 use Rattle.std.proofs.Common.{◌∙◌, subst, append_assoc}
 use Rattle.std.specs.Prelude.{Option, Some, None}
@@ -26,7 +26,7 @@ use Rattle.md_seam.specs.Events.Prefix.{is_prefix}
 use Rattle.markdown_blocks.specs.Change.{ends_of, is_none, open_behind}
 use Rattle.markdown_blocks.specs.Rows.{leaf_behind, BlankRow, Group, Held, Lines, Row, RowKind, Single, TextRow}
 use Rattle.markdown_blocks.specs.Rows.{behind_row, ending_events, ending_of, groups, held_at, inside_of, is_text}
-use Rattle.markdown_blocks.specs.Rows.{last_row, leaf_events, onto_groups, onto_lines, row_events, row_events_by}
+use Rattle.markdown_blocks.specs.Rows.{last_row, leaf_events, onto_groups, row_events, row_events_by}
 use Rattle.markdown_blocks.specs.Rows.{row_kind, rows_at, rows_by, rows_events, tail_events, LeafRow}
 use Rattle.markdown_blocks.specs.Rows as lines
 use Rattle.markdown_blocks.specs.Unread.{joined_groups, linked_lines}
@@ -324,17 +324,61 @@ other-behind bytes row rows ends front h kind e other =
     go (LeafRow l) other = inside (LeafRow l)
     go TextRow other = absurd (other refl)
 
--- a line of text begins a paragraph with those behind it
-lines-first : (Q : List Group → Type 0) (row : Row) (gs : List Group) →
-    ((more : List Row) (rest : List Group) → Q (Lines row more ∷ rest)) → Q (onto_groups row TextRow gs)
-lines-first Q row [] h = h [] []
-lines-first Q row (Single first ∷ gs) h = h [] (Single first ∷ gs)
-lines-first Q row (Span first rows ∷ gs) h = h [] (Span first rows ∷ gs)
+-- lines of text, and the line that turns them if one does
+abbrev pub text_group : Option Row → Row → List Row → Group
+text_group None row rows = Lines row rows
+text_group (Some under) row rows = Turned row rows under
+
+-- what such a line adds
+abbrev under_events : Option Row → List Event
+under_events None = []
+under_events (Some under) = row_events under
+
+-- what the lines add, in front of others
+abbrev before_lines : Row → List Row → List Event → List Event
+before_lines row rows es =
+    ((row.front ++ linked_lines n.Content content_link row rows) ++ tail_events n.LineEnding (last_row row rows)) ++ es
+
+group-text : (o : Option Row) (row : Row) (rows : List Row) (gs : List Group) →
+    joined_groups (text_group o row rows ∷ gs) ≡ before_lines row rows (under_events o ++ joined_groups gs)
+group-text None row rows gs = refl
+group-text (Some under) row rows gs =
+    append_assoc
+    ((row.front ++ linked_lines n.Content content_link row rows) ++ tail_events n.LineEnding (last_row row rows))
+    (row_events under) (joined_groups gs)
+
+-- a line of text in front of such
+abbrev pub onto_text : Option Row → Row → Row → List Row → List Group → List Group
+onto_text o row next rows gs =
+    cond (lines.goes_on row next) (text_group o row (next ∷ rows) ∷ gs) (Lines row [] ∷ text_group o next rows ∷ gs)
+
+pub text-onto : (o : Option Row) (row next : Row) (rows : List Row) (gs : List Group) →
+    onto_groups row TextRow (text_group o next rows ∷ gs) ≡ onto_text o row next rows gs
+text-onto None row next rows gs = refl
+text-onto (Some under) row next rows gs = refl
+
+-- a line of text begins a text with those behind it
+pub lines-first : (Q : List Group → Type 0) (row : Row) (gs : List Group) →
+    ((o : Option Row) (more : List Row) (rest : List Group) → Q (text_group o row more ∷ rest)) →
+    Q (onto_groups row TextRow gs)
+lines-first Q row [] h = h None [] []
+lines-first Q row (Single first ∷ gs) h = h None [] (Single first ∷ gs)
+lines-first Q row (Turned first rows under ∷ gs) h = go (lines.goes_on row first)
+  where
+    go : (x : Bool) →
+        Q (cond x (Turned row (first ∷ rows) under ∷ gs) (Lines row [] ∷ Turned first rows under ∷ gs))
+    go true = h (Some under) (first ∷ rows) gs
+    go false = h None [] (Turned first rows under ∷ gs)
+lines-first Q row (Span first rows ∷ gs) h = go (is_further first.kind first.on && is_last rows)
+  where
+    go : (x : Bool) → Q (cond x (Turned row [] first ∷ gs) (Lines row [] ∷ Span first rows ∷ gs))
+    go true = h (Some first) [] gs
+    go false = h None [] (Span first rows ∷ gs)
 lines-first Q row (Lines first rows ∷ gs) h = go (lines.goes_on row first)
   where
     go : (x : Bool) → Q (cond x (Lines row (first ∷ rows) ∷ gs) (Lines row [] ∷ Lines first rows ∷ gs))
-    go true = h (first ∷ rows) gs
-    go false = h [] (Lines first rows ∷ gs)
+    go true = h None (first ∷ rows) gs
+    go false = h None [] (Lines first rows ∷ gs)
 
 -- a line that goes on
 line-joins : (front below parts tail rest : List Event) (e f : Event) →
@@ -345,21 +389,23 @@ line-joins front below parts tail rest e f =
     ∙ append_assoc front (e ∷ f ∷ below ++ parts) (tail ++ rest)
     ∙ ap (λ (l : List Event). front ++ (e ∷ f ∷ l)) (sym (append_assoc (below ++ parts) tail rest)))
 
--- a line of text in front of a paragraph
-text-lines : (bytes : List ℕ) (row below : Row) (more rows : List Row) (gs : List Group) (q : Point) →
+-- a line of text in front of a text
+text-lines : (bytes : List ℕ) (o : Option Row) (row below : Row) (more rows : List Row) (gs : List Group) (q : Point) →
     row.after ≡ Some q → HasFront bytes row → HasFront bytes below → below.kind ≡ TextRow →
-    joined (rows_events (below ∷ rows)) ≡ joined_groups (Lines below more ∷ gs) →
-    joined (row_events_by TextRow row ++ rows_events (below ∷ rows)) ≡ joined_groups (onto_lines row below more gs)
-text-lines bytes row below more rows gs q after front under text same = go row.leaves refl below.change.opens refl
+    joined (rows_events (below ∷ rows)) ≡ joined_groups (text_group o below more ∷ gs) →
+    joined (row_events_by TextRow row ++ rows_events (below ∷ rows)) ≡
+    joined_groups (onto_groups row TextRow (text_group o below more ∷ gs))
+text-lines bytes o row below more rows gs q after front under text same =
+    go row.leaves refl below.change.opens refl ∙ ap joined_groups (sym (text-onto o row below more gs))
   where
     es : List Event
     es = rows_events (below ∷ rows)
 
     goes : Bool → List Group
-    goes x = cond x (Lines row (below ∷ more) ∷ gs) (Lines row [] ∷ Lines below more ∷ gs)
+    goes x = cond x (text_group o row (below ∷ more) ∷ gs) (Lines row [] ∷ text_group o below more ∷ gs)
 
     apart : (is_none row.leaves && content_behind es) ≡ false →
-        joined (row_events_by TextRow row ++ es) ≡ joined_groups (Lines row [] ∷ Lines below more ∷ gs)
+        joined (row_events_by TextRow row ++ es) ≡ joined_groups (Lines row [] ∷ text_group o below more ∷ gs)
     apart h =
         text-apart bytes row es front (tail-stops row es q after h)
         ∙ ap (λ (l : List Event). row_events_by TextRow row ++ l) same
@@ -371,8 +417,9 @@ text-lines bytes row below more rows gs q after front under text same = go row.l
         (behind_front below (rows_events rows)) k under.1
 
     joins : row.leaves ≡ [] → below.change.opens ≡ [] →
-        joined (row_events_by TextRow row ++ es) ≡ joined_groups (Lines row (below ∷ more) ∷ gs)
+        joined (row_events_by TextRow row ++ es) ≡ joined_groups (text_group o row (below ∷ more) ∷ gs)
     joins none opens_none =
+        let behind : List Event = under_events o ++ joined_groups gs in
         let begin = enter_link n.Content row.first content_link in
         let tail = tail_events n.LineEnding row in
         let goes_behind : content_behind es ≡ true =
@@ -391,20 +438,21 @@ text-lines bytes row below more rows gs q after front under text same = go row.l
         (ap (λ (leaves : List Container). ends_of leaves row.end ++ ending_events n.LineEnding row) none
         ∙ ending-is n.LineEnding row q after)
         ∙ ap (λ (l : List Event). row.front ++ l) (text-goes_on row.first row.end q es goes_behind)
-        ∙ ap (λ (l : List Event). row.front ++ (begin ∷ exit n.Content q ∷ l)) same
-        ∙ ap (λ (p : Point). row.front ++ (begin ∷ exit n.Content p ∷ joined_groups (Lines below more ∷ gs)))
+        ∙ ap (λ (l : List Event). row.front ++ (begin ∷ exit n.Content q ∷ l)) (same ∙ group-text o below more gs)
+        ∙ ap (λ (p : Point). row.front ++ (begin ∷ exit n.Content p ∷ before_lines below more behind))
         (sym (behind-is row q after))
         ∙ line-joins row.front below.front (linked_lines n.Content content_link below more)
-        (tail_events n.LineEnding (last_row below more)) (joined_groups gs) begin (exit n.Content (behind_row row))
+        (tail_events n.LineEnding (last_row below more)) behind begin (exit n.Content (behind_row row))
+        ∙ sym (group-text o row (below ∷ more) gs)
 
     chosen : (leaves : List Container) → row.leaves ≡ leaves → (opens : List Container) → below.change.opens ≡ opens →
-        joined_groups (onto_lines row below more gs) ≡ joined_groups (goes (is_none leaves && is_none opens))
+        joined_groups (onto_text o row below more gs) ≡ joined_groups (goes (is_none leaves && is_none opens))
     chosen leaves e opens k =
         ap (λ (l : List Container). joined_groups (goes (is_none l && is_none below.change.opens))) e
         ∙ ap (λ (l : List Container). joined_groups (goes (is_none leaves && is_none l))) k
 
     go : (leaves : List Container) → row.leaves ≡ leaves → (opens : List Container) → below.change.opens ≡ opens →
-        joined (row_events_by TextRow row ++ es) ≡ joined_groups (onto_lines row below more gs)
+        joined (row_events_by TextRow row ++ es) ≡ joined_groups (onto_text o row below more gs)
     go [] e [] k = joins e k ∙ sym (chosen [] e [] k)
     go [] e (c ∷ opens) k =
         apart (ap (λ (l : List Container). is_none l && content_behind es) e ∙ behind (ap is_none k))
@@ -423,6 +471,8 @@ leaf-joined false row (Single below ∷ gs) =
     ap (λ (l : List Event). l ++ joined_groups (Single below ∷ gs)) (append-nil (row_events row))
 leaf-joined false row (Lines below rows ∷ gs) =
     ap (λ (l : List Event). l ++ joined_groups (Lines below rows ∷ gs)) (append-nil (row_events row))
+leaf-joined false row (Turned below rows under ∷ gs) =
+    ap (λ (l : List Event). l ++ joined_groups (Turned below rows under ∷ gs)) (append-nil (row_events row))
 leaf-joined false row (Span below rows ∷ gs) = go (is_further below.kind below.on)
   where
     go : (x : Bool) →
@@ -431,20 +481,36 @@ leaf-joined false row (Span below rows ∷ gs) = go (is_further below.kind below
     go true = append_assoc (row_events row) (rows_events (below ∷ rows)) (joined_groups gs)
     go false = ap (λ (l : List Event). l ++ joined_groups (Span below rows ∷ gs)) (append-nil (row_events row))
 
--- text does not go on it
+-- a line of text in front of the lines of a leaf, of which the first may be its underline
+span-first : (row below : Row) (rows : List Row) (gs : List Group) →
+    joined_groups (onto_underline row below rows gs) ≡ row_events_by TextRow row ++ joined_groups (Span below rows ∷ gs)
+span-first row below rows gs = go (is_further below.kind below.on) rows
+  where
+    go : (x : Bool) (rows : List Row) →
+        joined_groups (cond (x && is_last rows) (Turned row [] below ∷ gs) (Lines row [] ∷ Span below rows ∷ gs)) ≡
+        row_events_by TextRow row ++ joined_groups (Span below rows ∷ gs)
+    go true [] =
+        append_assoc (row_events_by TextRow row) (row_events below) (joined_groups gs)
+        ∙ ap (λ (l : List Event). row_events_by TextRow row ++ (l ++ joined_groups gs))
+        (sym (append-nil (row_events below)))
+    go true (next ∷ rows) = refl
+    go false rows = refl
+
 pub leaf-first : (ends : Bool) (row below : Row) (gs : List Group) →
-    onto_groups row TextRow (onto_leaf ends below gs) ≡ Lines row [] ∷ onto_leaf ends below gs
+    joined_groups (onto_groups row TextRow (onto_leaf ends below gs)) ≡
+    row_events_by TextRow row ++ joined_groups (onto_leaf ends below gs)
 leaf-first true row below gs = refl
-leaf-first false row below [] = refl
-leaf-first false row below (Single next ∷ gs) = refl
-leaf-first false row below (Lines next rows ∷ gs) = refl
+leaf-first false row below [] = span-first row below [] []
+leaf-first false row below (Single next ∷ gs) = span-first row below [] (Single next ∷ gs)
+leaf-first false row below (Lines next rows ∷ gs) = span-first row below [] (Lines next rows ∷ gs)
+leaf-first false row below (Turned next rows under ∷ gs) = span-first row below [] (Turned next rows under ∷ gs)
 leaf-first false row below (Span next rows ∷ gs) = go (is_further next.kind next.on)
   where
     go : (x : Bool) →
         let gs' = cond x (Span below (next ∷ rows) ∷ gs) (Span below [] ∷ Span next rows ∷ gs) in
-        onto_groups row TextRow gs' ≡ Lines row [] ∷ gs'
-    go true = refl
-    go false = refl
+        joined_groups (onto_groups row TextRow gs') ≡ row_events_by TextRow row ++ joined_groups gs'
+    go true = span-first row below (next ∷ rows) gs
+    go false = span-first row below [] (Span next rows ∷ gs)
 
 -- a line of text in front of others
 text-rows : (bytes : List ℕ) (row below : Row) (rows : List Row) (q : Point) → row.after ≡ Some q →
@@ -460,7 +526,7 @@ text-rows bytes row below rows q after fronts ends h kind e same = go kind e sam
 
     other : (kind : RowKind) → below.kind ≡ kind → kind ≢ TextRow → (gs : List Group) →
         joined es ≡ joined_groups gs →
-        joined (row_events_by TextRow row ++ es) ≡ joined_groups (Lines row [] ∷ gs)
+        joined (row_events_by TextRow row ++ es) ≡ row_events_by TextRow row ++ joined_groups gs
     other kind e apart gs same =
         text-apart bytes row es fronts.0
         (tail-stops row es q after
@@ -474,14 +540,14 @@ text-rows bytes row below rows q after fronts ends h kind e same = go kind e sam
     go BlankRow e same = other BlankRow e (λ k. cc) (Single below ∷ groups rows) same
     go (LeafRow l) e same =
         other (LeafRow l) e (λ k. cc) (onto_leaf (leaf l).ends below (groups rows)) same
-        ∙ ap joined_groups (sym (leaf-first (leaf l).ends row below (groups rows)))
+        ∙ sym (leaf-first (leaf l).ends row below (groups rows))
     go TextRow e same =
         lines-first
         (λ (gs : List Group).
         joined es ≡ joined_groups gs →
         joined (row_events_by TextRow row ++ es) ≡ joined_groups (onto_groups row TextRow gs)) below
         (groups rows)
-        (λ more rest same. text-lines bytes row below more rows rest q after fronts.0 fronts.1.0 e same) same
+        (λ o more rest same. text-lines bytes o row below more rows rest q after fronts.0 fronts.1.0 e same) same
 
 -- a line that is not text, and what follows it
 single-rows : (row : Row) (rows : List Row) → NoContent nothing (row_events row) →
@@ -515,7 +581,8 @@ joined-rows bytes (row ∷ []) fronts ends h = go row.kind refl
         joined (row_events row ++ []) ≡ joined_groups (Single row ∷ [])
     other kind e apart =
         single-rows row []
-        (events-no_content nothing row kind e apart (has_front-no_content nothing bytes row fronts.0) (h.0 nothing nothing-wanted)) refl
+        (events-no_content nothing row kind e apart (has_front-no_content nothing bytes row fronts.0)
+        (h.0 nothing nothing-wanted)) refl
 
     go : (kind : RowKind) → row.kind ≡ kind → joined (row_events row ++ []) ≡ joined_groups (onto_groups row kind [])
     go BlankRow e = other BlankRow e (λ k. cc)
@@ -529,7 +596,8 @@ joined-rows bytes (row ∷ below ∷ rows) fronts ends h =
         joined (row_events row ++ rows_events (below ∷ rows)) ≡ joined_groups (Single row ∷ groups (below ∷ rows))
     other same kind e apart =
         single-rows row (below ∷ rows)
-        (events-no_content nothing row kind e apart (has_front-no_content nothing bytes row fronts.0) (h.0 nothing nothing-wanted)) same
+        (events-no_content nothing row kind e apart (has_front-no_content nothing bytes row fronts.0)
+        (h.0 nothing nothing-wanted)) same
 
     go : joined (rows_events (below ∷ rows)) ≡ joined_groups (groups (below ∷ rows)) → (kind : RowKind) →
         row.kind ≡ kind →

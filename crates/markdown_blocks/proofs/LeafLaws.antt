@@ -1,6 +1,6 @@
 -- The laws of a leaf on one line: what the frame asks of each (`LineLeaf`), and of the registry.
 use Rattle.std.proofs.Common.{◌≡◌, ℕ, ◌^◌, ◌<◌, ◌≤◌, Bool, true, false, cond, List, ◌++◌, length}
-use Rattle.markdown_blocks.specs.HeldLeaf.{has_lines, kind_of_leaf, left_by, takes_lazy}
+use Rattle.markdown_blocks.specs.HeldLeaf.{kind_of_leaf, left_by, may_go_on, takes_lazy}
 use Rattle.std.specs.Prelude.{◌&&◌, ◌||◌, Some}
 use Rattle.md_engine.specs.declared.configuration.ParseOptions.{ParseOptions}
 use Rattle.md_engine.specs.declared.event.Content.{Content}
@@ -26,6 +26,8 @@ use Rattle.markdown_blocks.specs.Registry.{is_own, resolved}
 use Rattle.markdown_blocks.proofs.OutsideFacts.{AreOutside, NoEnds}
 use Rattle.markdown_blocks.proofs.LeafFacts.{LeafFacts, LineAt, ReadsText}
 use Rattle.markdown_blocks.proofs.SpannedFacts.{AreUnspanned}
+use Rattle.markdown_blocks.proofs.UnturnedFacts.{AreUnturned}
+use Rattle.markdown_blocks.specs.HeldLeaf.{has_lines}
 use Rattle.markdown_blocks.proofs.SubstitutedLemmas.{Becomes}
 use Rattle.md_seam.specs.Substituted.{Readings}
 use Rattle.markdown_blocks.proofs.ContentFacts.{NoContent, WantsContent}
@@ -62,9 +64,9 @@ pub record LeafLaws (l : LineLeaf) : Type 1 where
   -- It takes no line where it may not begin, by what stands first behind whitespace, and whether such stands in front.
   pub looked : (options : ParseOptions) (on : HeldLeaf) (cells : List Cell) (b : ℕ) → seen_behind cells ≡ Some b →
       l.may_begin (begins_white cells) b ≡ false → l.takes options on cells ≡ false
-  -- A line of it that goes on a leaf meets one of several lines.
+  -- A line of it that goes on a leaf meets one on which a line may go on.
   pub meets : (options : ParseOptions) (on : HeldLeaf) (r : Rest) → l.starts options on r ≡ true →
-      l.further on ≡ true → has_lines on ≡ true
+      l.further on ≡ true → may_go_on on ≡ true
   -- Where it is tried, it takes a line to its end, or refuses it and leaves all as it was.
   pub took : (options : ParseOptions) (cells : List Cell) (h : Here) → IsRest h.scratch → length cells ≤ any_size →
       l.takes options h.flags.leaf cells ≡ true →
@@ -111,14 +113,20 @@ pub record LeafLaws (l : LineLeaf) : Type 1 where
   -- Where no part ends in what it adds that a resolver rewrites, so that none is registered, none begins there.
   pub own : (options : ParseOptions) (on : HeldLeaf) (cells : List Cell) (p : Point) →
       NoEnds is_own (l.adds options on cells p) → AreOutside (l.adds options on cells p)
-  -- If it is open behind its line, no resolver rewrites it but the one that joins its lines.
+  -- If it is open behind its line, no resolver rewrites it but the one that joins its lines, and the one that sets
+  -- headings where it goes on text.
   pub outside : l.ends ≡ false → (options : ParseOptions) (on : HeldLeaf) (r : Rest) (p : Point) →
       l.starts options on r ≡ true → AreOutside (l.added options on (rest_line r) p)
+  pub unturned_line : l.ends ≡ false → (options : ParseOptions) (on : HeldLeaf) (r : Rest) (p : Point) →
+      l.starts options on r ≡ true → (l.further on ≡ true → has_lines on ≡ true) →
+      AreUnturned (l.added options on (rest_line r) p)
   -- If it always ends on its line, resolvers set what is its own,
   pub set : l.ends ≡ true → (options : ParseOptions) (on : HeldLeaf) (r : Rest) (p : Point) (es : List Event) →
       l.starts options on r ≡ true →
       resolved (l.added options on (rest_line r) p ++ es) ≡ l.unread (rest_line r) p ++ resolved es
-  -- and the one that joins the lines of leaves of several passes it;
+  -- and those that set setext headings and join the lines of leaves of several pass it;
+  pub unturned : l.ends ≡ true → (options : ParseOptions) (on : HeldLeaf) (r : Rest) (p : Point) →
+      l.starts options on r ≡ true → AreUnturned (l.unread (rest_line r) p)
   pub unspanned : l.ends ≡ true → (options : ParseOptions) (on : HeldLeaf) (r : Rest) (p : Point) →
       l.starts options on r ≡ true → AreUnspanned (l.unread (rest_line r) p)
   -- its events are known, and show its block.

@@ -21,6 +21,7 @@ pub mod Openers
 pub mod OpensAtOnce
 pub mod OutsideFacts
 pub mod SpannedFacts
+pub mod UnturnedFacts
 pub mod BetweenFacts
 pub mod PartedFacts
 pub mod Reached
@@ -73,9 +74,13 @@ pub mod Registers
 pub mod StatesRegister
 pub mod JoinedLemmas
 pub mod GroupLemmas
+pub mod GroupsBecome
+pub mod UnderNames
 pub mod GroupsAre
+pub mod TurnedGroups
 pub mod SpannedGroups
 pub mod Text
+pub mod Turned
 pub mod Span
 pub mod ShallowBlocks
 pub mod RegistryFound
@@ -90,6 +95,7 @@ pub mod SpelledGroups
 pub mod SpelledRows
 pub mod StandsLemmas
 pub mod EachRow
+pub mod Underlines
 pub mod NestedRows
 pub mod GrammarFronts
 pub mod GrammarRows
@@ -128,5 +134,7 @@ pub mod CodeIndented
 pub mod HtmlFlow
 pub mod HtmlSpan
 pub mod HeadingAtx
+pub mod HeadingSetext
+pub mod MarkRuns
 pub mod ThematicBreak
 pub mod Registry

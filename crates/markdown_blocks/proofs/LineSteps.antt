@@ -1,5 +1,5 @@
--- What one line does to the containers and the text that are open, where only leaves that are built may be on.
-use Rattle.markdown_blocks.specs.HeldLeaf.{has_lines, takes_lazy}
+-- What one line does to the containers and the leaf that are open, where only leaves that are built may be on.
+use Rattle.markdown_blocks.specs.HeldLeaf.{has_lines, may_go_on, takes_lazy}
 use Rattle.md_engine.specs.declared.tokenizer.held_leaf.HeldLeaf.TheVariants as held_leaf
 use Rattle.md_engine.specs.declared.tokenizer.held_leaf.HeldLeaf.{HeldLeaf}
 use Rattle.std.proofs.Common.{◌≡◌, ℕ, zero, suc, ◌≤◌, Bool, true, false, cond, ◌&&◌, ◌||◌, List, [], ◌∷◌, ◌++◌}
@@ -9,14 +9,14 @@ use Rattle.std.specs.Option.{is_some}
 use Rattle.md_engine.specs.declared.configuration.ParseOptions.{ParseOptions}
 use Rattle.md_containers.specs.Interrupts.{is_interrupted}
 use Rattle.md_definition.specs.Containers.{Taken, continues, opens}
-use Rattle.md_definition.specs.Leaves.{Came, LazyText, NoText, Opened, Text, goes_on, starts, with_line}
+use Rattle.md_definition.specs.Leaves.{Came, LazyText, NoText, Opened, goes_on, starts, underline_depth, with_line}
 use Rattle.md_definition.specs.Rest.{Rest, is_blank}
 use Rattle.md_definition.specs.State.{At, Container, Kept, Leaf, NoLeaf, OpenParagraph, Path, Spot, Within, at_spot}
 use Rattle.md_definition.specs.State.{closed, container_block, kept, shut, spot, texts, then_block, then_leaf}
 use Rattle.md_definition.specs.Step.{all_continued, all_continued_by, came, entered, fresh_by, fresh_line, is_concrete}
 use Rattle.md_definition.specs.Step.{is_open_text, lazy_by, leaf_line, leaf_line_by, on_or_fresh, opened, spot_of, step}
 use Rattle.md_definition.specs.Step.{stopped, stopped_by}
-use Rattle.md_definition.specs.Step.{text_by, text_line, with_lazy}
+use Rattle.md_definition.specs.Step.{text_line, underline_or_text, with_lazy}
 use Rattle.md_definition.specs.Tree.{Blocks, End}
 use Rattle.md_definition.proofs.ColumnLemmas.{opened_by, step_by}
 use Rattle.md_definition.proofs.ContainerLemmas.{opens-leaves}
@@ -31,22 +31,22 @@ use Rattle.markdown_blocks.specs.Rows.{kind_of, line_kind}
 use Rattle.markdown_blocks.specs.HeldLeaf.{IsBuiltLeaf, kind_of_leaf, met_by}
 use Rattle.markdown_blocks.specs.Stands.{IsPlain, containers_of, still_of}
 use Rattle.markdown_blocks.specs.Leaf.Paragraph.{held_of}
-use Rattle.markdown_blocks.proofs.ContainedLemmas.{change-opens, ended-lines, lazy-some, lines-unlazy}
+use Rattle.markdown_blocks.proofs.ContainedLemmas.{change-opens, ended-open, lazy-some, lines-unlazy}
 use Rattle.markdown_blocks.proofs.KindLemmas.{kind-plain, kind-starts}
 use Rattle.markdown_blocks.proofs.OpenSpan.{AllBegin, OpenSpan}
 use Rattle.markdown_blocks.proofs.Registry.{IsAgainst, came_of, insider-none, laws, leaf_at, open-span, text-laws}
 use Rattle.markdown_blocks.proofs.Registry.{shuts_out-none, text-starts, trials-begin}
-use Rattle.markdown_blocks.proofs.RegistryFound.{starts-found, table-off, underline-off}
+use Rattle.markdown_blocks.proofs.RegistryFound.{starts-found, text-comes, text_came}
 
 -- Leaves of several lines.
 
--- a line that meets none goes on none
-pub none-further : (options : ParseOptions) (on : HeldLeaf) (r : Rest) → has_lines on ≡ false →
+-- a line that meets none, and no text, goes on none
+pub none-further : (options : ParseOptions) (on : HeldLeaf) (r : Rest) → may_go_on on ≡ false →
     is_further (line_kind options on r) on ≡ false
 none-further options on r none = go (line_kind options on r) refl
   where
     not : (l : LeafName) (x : Bool) → (leaf l).further on ≡ x → (leaf l).starts options on r ≡ true → x ≡ false
-    not l true e starts = let lines = (laws l).meets options on r starts e in cc
+    not l true e starts = let may = (laws l).meets options on r starts e in cc
     not l false e starts = refl
 
     go : (kind : RowKind) → line_kind options on r ≡ kind → is_further kind on ≡ false
@@ -116,23 +116,24 @@ asked-kind options on r l e =
     ap
     (λ (o : Option LeafName). inside_or (λ k. (leaf k).starts options on r) o (plain_kind options on r)) e
 
--- and another goes on no leaf
-found-begins : (on : HeldLeaf) (test : LeafName → Bool) (ls : List LeafName) → AllBegin ls →
+-- and another goes on no leaf of several lines
+found-begins : (on : HeldLeaf) (test : LeafName → Bool) (ls : List LeafName) → has_lines on ≡ true → AllBegin ls →
     is_further (kind_of (first_of test ls)) on ≡ false
-found-begins on test [] all = refl
-found-begins on test (l ∷ ls) all = go (test l) (found-begins on test ls all.1)
+found-begins on test [] lines all = refl
+found-begins on test (l ∷ ls) lines all = go (test l) (found-begins on test ls lines all.1)
   where
     go : (x : Bool) → is_further (kind_of (first_of test ls)) on ≡ false →
         is_further (kind_of (cond x (Some l) (first_of test ls))) on ≡ false
-    go true below = all.0 on
+    go true below = all.0 on lines
     go false below = below
 
-pub plain-begins : (options : ParseOptions) (on : HeldLeaf) (r : Rest) → is_further (plain_kind options on r) on ≡ false
-plain-begins options on r = go (is_blank r.bytes)
+pub plain-begins : (options : ParseOptions) (on : HeldLeaf) (r : Rest) → has_lines on ≡ true →
+    is_further (plain_kind options on r) on ≡ false
+plain-begins options on r lines = go (is_blank r.bytes)
   where
     go : (x : Bool) → is_further (cond x BlankRow (kind_of (leaf_at options on r))) on ≡ false
     go true = refl
-    go false = found-begins on (λ l. (leaf l).starts options on r) trials trials-begin
+    go false = found-begins on (λ l. (leaf l).starts options on r) trials lines trials-begin
 
 -- a line where nothing is open, or what was open has ended and is no text
 fresh-plain : (options : ParseOptions) (on : HeldLeaf) (bs : Blocks) (r : Rest) → takes_lazy on ≡ false →
@@ -150,7 +151,7 @@ fresh-plain options on bs r unlazy built =
         spot_by options bs [] r (cond x BlankRow (kind_of (leaf_at options on r)))
     go true e = refl
     go false e =
-        ap (fresh_by bs r) (starts-found options on NoText r (context-none on unlazy) e built)
+        ap (fresh_by bs r) (starts-found options on NoText r (context-none on unlazy) refl e built)
         ∙ by (leaf_at options on r)
 
 pub fresh-found : (options : ParseOptions) (bs : Blocks) (r : Rest) → IsBuilt options →
@@ -159,31 +160,36 @@ fresh-found options bs r built =
     fresh-plain options held_leaf.None bs r refl built
     ∙ ap (spot_by options bs [] r) (sym (kind-plain options held_leaf.None r (insider-none held_leaf.None refl)))
 
--- a line where text is open
-text-found : (options : ParseOptions) (bs : Blocks) (lines : List Kept) (k : Kept) (r : Rest) → IsBuilt options →
-    text_line options bs (k ∷ lines) r ≡ spot_by options bs (k ∷ lines) r (line_kind options held_leaf.Text r)
+-- what an open leaf comes to with a line of this kind
+abbrev pub come_by : ParseOptions → Leaf → Rest → RowKind → Came
+come_by options open_leaf r (LeafRow l) = (leaf l).comes options open_leaf r
+come_by options open_leaf r kind = Opened open_leaf
+
+-- a line where text is open: it turns the text, or stands behind it, or is one more line of it
+abbrev text_spot : ParseOptions → Blocks → List Kept → Rest → RowKind → Spot
+text_spot options bs lines r kind =
+    cond (is_further kind held_leaf.Text) (came bs (come_by options (text_leaf.held lines) r kind))
+    (spot_by options bs lines r kind)
+
+text-found : (options : ParseOptions) (bs : Blocks) (k : Kept) (ks : List Kept) (r : Rest) → IsBuilt options →
+    text_line options bs (k ∷ ks) r ≡ text_spot options bs (k ∷ ks) r (line_kind options held_leaf.Text r)
 unfolding text_line
-text-found options bs lines k r built =
-    rw (underline-off options r built, text-laws.shut options bs (k ∷ lines) built.definition)
-    (go (is_blank r.bytes) refl
-    ∙ ap (spot_by options bs (k ∷ lines) r)
-    (sym (kind-plain options held_leaf.Text r (insider-none held_leaf.Text refl))))
+text-found options bs k ks r built =
+    go (is_blank r.bytes) refl
+    ∙ ap (text_spot options bs (k ∷ ks) r)
+    (sym (kind-plain options held_leaf.Text r (insider-none held_leaf.Text refl)))
   where
     by : (o : Option LeafName) →
-        text_by options bs (k ∷ lines) r (came_of options r o) ≡ spot_by options bs (k ∷ lines) r (kind_of o)
-    by (Some l) =
-        ap (λ (x : Blocks). came x ((leaf l).comes options NoLeaf r))
-        (text-laws.shut options bs (k ∷ lines) built.definition)
-    by None = rw (table-off options bs (k ∷ lines) r built) refl
+        text_came options bs (k ∷ ks) r o ≡ text_spot options bs (k ∷ ks) r (kind_of o)
+    by (Some l) = refl
+    by None = refl
 
     go : (x : Bool) → is_blank r.bytes ≡ x →
-        cond x (spot_of (text_leaf.behind bs (texts (k ∷ lines))))
-        (text_by options bs (k ∷ lines) r (starts options Text r)) ≡
-        spot_by options bs (k ∷ lines) r (cond x BlankRow (kind_of (leaf_at options held_leaf.Text r)))
-    go true e = refl
-    go false e =
-        ap (text_by options bs (k ∷ lines) r) (starts-found options held_leaf.Text Text r refl e built)
-        ∙ by (leaf_at options held_leaf.Text r)
+        cond x (spot_of (then_leaf options bs (text_leaf.held (k ∷ ks))))
+        (underline_or_text options bs (k ∷ ks) r (underline_depth options r)) ≡
+        text_spot options bs (k ∷ ks) r (cond x BlankRow (kind_of (leaf_at options held_leaf.Text r)))
+    go true e = ap spot_of (text-laws.shut options bs (k ∷ ks) built.definition)
+    go false e = text-comes options bs k ks r e built ∙ by (leaf_at options held_leaf.Text r)
 
 -- The containers that open.
 
@@ -273,18 +279,14 @@ abbrev pub new_line : ParseOptions → HeldLeaf → List Container → Rest → 
 new_line options on [] r bs = At (spot_by options bs [] r (line_kind options on r))
 new_line options on (c ∷ cs) r bs = Within bs c (new_line options on cs r End)
 
--- what an open leaf comes to with a line of this kind
-abbrev pub come_by : ParseOptions → Leaf → Rest → RowKind → Came
-come_by options open_leaf r (LeafRow l) = (leaf l).comes options open_leaf r
-come_by options open_leaf r kind = Opened open_leaf
-
 -- with what the innermost leaf came to
 abbrev pub with_came : Path → Came → Path
 with_came (At s) c = At (came s.here c)
 with_came (Within before container p) c = Within before container (with_came p c)
 
 -- What a line does where these containers went on, and these open on it: it goes on the open text, and all containers
--- stay; or it goes on the open leaf of several lines; or all else is closed, and it begins in the new containers.
+-- stay; or it goes on the open leaf of several lines, or turns the open text; or all else is closed, and it begins in
+-- the new containers.
 abbrev pub stepped : ParseOptions → Path → List Container → Prefixed → Path
 stepped options p went new =
     let on = met (still_of p) (others_of (containers_of p) went) new.containers in
@@ -357,31 +359,32 @@ IsStepped options bs r open_leaf =
 text-stepped : (options : ParseOptions) (bs : Blocks) (r : Rest) → IsBuilt options → (k : Kept) (ks : List Kept) →
     IsStepped options bs r (text_leaf.held (k ∷ ks))
 text-stepped options bs r built k ks =
-    ap At (text-found options bs ks k r built) ∙ go (line_kind options held_leaf.Text r)
-    ∙ sym
-    (ap (λ (x : Bool). by (line_kind options held_leaf.Text r) (cond x further other))
-    (none-further options held_leaf.Text r refl)
-    ∙ ap (λ (x : Blocks). by (line_kind options held_leaf.Text r)
-    (At (spot_by options x [] r (line_kind options held_leaf.Text r))))
-    (text-laws.shut options bs (k ∷ ks) built.definition))
+    ap At (text-found options bs k ks r built) ∙ go (line_kind options held_leaf.Text r)
+    ∙ ap (λ (x : Blocks). by (line_kind options held_leaf.Text r) x)
+    (sym (text-laws.shut options bs (k ∷ ks) built.definition))
   where
-    further : Path
-    further = At (came bs (come_by options (text_leaf.held (k ∷ ks)) r (line_kind options held_leaf.Text r)))
-
-    other : Path
-    other =
-        At
-        (spot_by options (then_leaf options bs (text_leaf.held (k ∷ ks))) [] r (line_kind options held_leaf.Text r))
-
-    by : RowKind → Path → Path
-    by kind p = cond (is_lazy held_leaf.Text [] kind) (At (with_line bs (k ∷ ks) r)) p
+    -- where the text is shut with these blocks
+    by : RowKind → Blocks → Path
+    by kind shut_to =
+        cond (is_lazy held_leaf.Text [] kind) (At (with_line bs (k ∷ ks) r))
+        (cond (is_further kind held_leaf.Text) (At (came bs (come_by options (text_leaf.held (k ∷ ks)) r kind)))
+        (At (spot_by options shut_to [] r kind)))
 
     go : (kind : RowKind) →
-        At (spot_by options bs (k ∷ ks) r kind) ≡
-        by kind (At (spot_by options (text_leaf.behind bs (texts (k ∷ ks))) [] r kind))
+        At (text_spot options bs (k ∷ ks) r kind) ≡ by kind (text_leaf.behind bs (texts (k ∷ ks)))
     go BlankRow = refl
-    go (LeafRow l) = refl
     go TextRow = refl
+    go (LeafRow l) = to ((leaf l).further held_leaf.Text)
+      where
+        turned : Spot
+        turned = came bs ((leaf l).comes options (text_leaf.held (k ∷ ks)) r)
+
+        behind : Spot
+        behind = came (text_leaf.behind bs (texts (k ∷ ks))) ((leaf l).comes options NoLeaf r)
+
+        to : (x : Bool) → At (cond x turned behind) ≡ cond x (At turned) (At behind)
+        to true = refl
+        to false = refl
 
 span-stepped : (options : ParseOptions) (bs : Blocks) (r : Rest) → IsBuilt options → (open_leaf : Leaf) →
     OpenSpan open_leaf → IsStepped options bs r open_leaf
@@ -423,7 +426,7 @@ span-stepped options bs r built open_leaf is =
     go true = unlazy (LeafRow is.name) true is.further
     go false =
         ap At (fresh-plain options still (shut options s) r (lines-unlazy still is.lines) built)
-        ∙ unlazy (plain_kind options still r) false (plain-begins options still r)
+        ∙ unlazy (plain_kind options still r) false (plain-begins options still r is.lines)
 
 leaf-stepped : (options : ParseOptions) (bs : Blocks) (open_leaf : Leaf) (r : Rest) → IsBuilt options →
     IsBuiltLeaf open_leaf → IsStepped options bs r open_leaf
@@ -563,7 +566,7 @@ lazy-stepped options before c p r built leaf e plain =
             ∙ sym (ap (λ (x : Bool). longer_by held_leaf.Text (kind_by held_leaf.LazyText x)) b)
         go false b =
             ap (λ (x : Bool). to x (starts options LazyText r)) b
-            ∙ ap (to false) (starts-found options held_leaf.LazyText LazyText r refl b built)
+            ∙ ap (to false) (starts-found options held_leaf.LazyText LazyText r refl refl b built)
             ∙ by b (leaf_at options held_leaf.LazyText r) refl
             ∙ sym (ap (λ (x : Bool). longer_by held_leaf.Text (kind_by held_leaf.LazyText x)) b)
 
@@ -615,7 +618,7 @@ step-stopped options before c p r built plain =
         (λ (x : Bool).
         cond x (with_came (Within before c p) (come_by options (spot p).leaf r kind))
         (At (spot_by options (then_block before (container_block c (closed options p))) [] r kind)))
-        (none-further options on r (ended-lines (still_of p)))))
+        (none-further options on r (ended-open (still_of p)))))
     go (Some t) =
         entered-new options (then_block before (container_block c (closed options p))) t built
         ∙ sym (stepped-more options (Within before c p) [] t.container (all_new options false t.rest))
@@ -679,7 +682,7 @@ contained_at options p r = contained options (containers_of p) (still_of p) r
 abbrev pub goes_lazy : ParseOptions → Path → Contained → Bool
 goes_lazy options p c = is_lazy (still_of p) c.change.opens (line_kind options c.on c.rest)
 
--- whether it goes on the leaf of several lines that it meets, and what is open behind it then
+-- whether it goes on the leaf that it meets, one of several lines or text, and what is open behind it then
 abbrev pub goes_further : ParseOptions → Contained → Bool
 goes_further options c = is_further (line_kind options c.on c.rest) c.on
 

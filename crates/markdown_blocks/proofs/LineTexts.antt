@@ -1,18 +1,20 @@
 -- The bytes of a line: its parts, its ending, and where it stands in a text.
-use Rattle.std.proofs.Common.{◌≡◌, ℕ, ◌-◌, ◌<◌, ◌≤◌, Bool, true, cond, List, [], ◌∷◌, ◌++◌, length}
+use Rattle.std.proofs.Common.{◌≡◌, ℕ, zero, suc, ◌-◌, ◌<◌, ◌≤◌, Bool, true, false, cond, List, [], ◌∷◌, ◌++◌, length}
 use Rattle.std.proofs.Common.{drop, slice_range, refl, ap, sym, ◌∙◌, append-nil, drop-drop, arith}
-use Rattle.std.specs.Prelude.{not}
-use Rattle.std.proofs.lemmas.List.{take-append-drop}
+use Rattle.std.specs.Prelude.{nat_lt, not}
+use Rattle.std.proofs.lemmas.Bool.Decides.{nat_tests}
+use Rattle.std.proofs.lemmas.List.{drop_all, take-append-drop}
 use Rattle.std.proofs.lemmas.List.Sums.{take_while-cons}
 use Rattle.md_engine.specs.declared.event.Point.{Point}
 use Rattle.md_seam.specs.Events.Inline.{is_one_line}
 use Rattle.md_seam.specs.Events.Places.{past_byte, past_text}
 use Rattle.md_definition.specs.Lines.{is_ending, without_ending}
-use Rattle.md_definition.specs.Rest.{Rest}
+use Rattle.md_definition.specs.Rest.{Rest, cut_tab, is_blank}
 use Rattle.md_definition.specs.Texts.{split_lines}
 use Rattle.md_seam.proofs.FeedLines.{past_text-whole}
 use Rattle.md_definition.proofs.TextsLemmas.{Both, Ending, EndsBefore, LineFeed, NoEnding, Return, ending_bytes}
 use Rattle.md_definition.proofs.TextsLemmas.{split-line, split-next}
+use Rattle.markdown_blocks.specs.Fronted.{rest_line}
 use Rattle.markdown_blocks.proofs.LeafFacts.{LineAt}
 
 -- the parts of a line without endings have none
@@ -74,6 +76,31 @@ pub line-stands : (bytes : List ℕ) (r : Rest) (line : List ℕ) (p q : Point) 
 line-stands bytes r line p q is =
     piece bytes p.index q.index (omega (arith, is.size))
     ∙ ap (λ (l : List ℕ). l ++ drop q.index bytes) is.text
+
+-- where something stands on a line, the text goes on with it
+pub some-text : (r : Rest) → is_blank r.bytes ≡ false → 0 < length (rest_line r)
+some-text r dark = go r.spaces r.bytes dark
+  where
+    go : (spaces : ℕ) (bytes : List ℕ) → is_blank bytes ≡ false → 0 < length (cut_tab spaces ++ bytes)
+    go zero [] h = cc
+    go zero (b ∷ bs) h = omega arith
+    go (suc k) bytes h = omega arith
+
+pub text-behind : (bytes : List ℕ) (r : Rest) (p q : Point) → LineAt bytes r (rest_line r) p q →
+    0 < length (rest_line r) → p.index < length bytes
+text-behind bytes r p q at some = go (nat_lt p.index (length bytes)) refl
+  where
+    over : (line left : List ℕ) → 0 < length line → line ++ left ≡ [] → ⊥
+    over [] left some e = absurd (omega (arith, some))
+    over (b ∷ line) left some e = cc
+
+    go : (x : Bool) → nat_lt p.index (length bytes) ≡ x → p.index < length bytes
+    go true e = grind (arith, nat_tests)
+    go false e =
+        let le : length bytes ≤ p.index = grind (arith, nat_tests) in
+        absurd
+        (over (rest_line r) (drop q.index bytes) some
+        (sym (line-stands bytes r (rest_line r) p q at) ∙ drop_all p.index bytes le))
 
 -- behind some bytes no tab is cut
 pub past-whole : (line : List ℕ) (p : Point) → 0 < length line → (past_text line p).vs ≡ 0

@@ -2,11 +2,11 @@
 use Rattle.md_engine.specs.declared.tokenizer.held_leaf.HeldLeaf.TheVariants as held_leaf
 use Rattle.md_engine.specs.declared.tokenizer.held_leaf.HeldLeaf.{HeldLeaf}
 use Rattle.markdown_blocks.specs.Registry.{LeafName, leaf}
-use Rattle.markdown_blocks.proofs.GroupsAre.{AreSpan, FirstBegins, FirstIs, IsBehind, IsSpanLine, begins-behind}
-use Rattle.markdown_blocks.proofs.GroupsAre.{blank-ends, first-begins, first-behind, leaf-row-ends, shut-behind}
-use Rattle.markdown_blocks.proofs.GroupsAre.{text-ends}
-use Rattle.std.proofs.Common.{◌≡◌, ◌≢◌, ℕ, Bool, true, false, cond, List, [], ◌∷◌, ◌++◌, refl, ap, sym, ◌∙◌, subst}
-use Rattle.std.proofs.Common.{append_assoc, append-nil}
+use Rattle.markdown_blocks.proofs.GroupsAre.{AreSpan, Begins, FirstBegins, FirstIs, IsBehind, IsSpanLine, IsUnder}
+use Rattle.markdown_blocks.proofs.GroupsAre.{begins-behind, blank-ends, first-begins, first-behind, leaf-other}
+use Rattle.markdown_blocks.proofs.GroupsAre.{leaf-row-ends, shut-behind, text-under, turned-alone}
+use Rattle.std.proofs.Common.{◌≡◌, ◌≢◌, ℕ, Bool, true, false, cond, ◌&&◌, List, [], ◌∷◌, ◌++◌, refl, ap, sym, ◌∙◌}
+use Rattle.std.proofs.Common.{append_assoc, append-nil, subst}
 use Rattle.std.specs.Prelude.{IsTrue, Option, Some, None}
 use Rattle.std.proofs.lemmas.Bool.{and_parts}
 use Rattle.md_engine.specs.declared.configuration.ParseOptions.{ParseOptions}
@@ -20,7 +20,7 @@ use Rattle.md_seam.proofs.NestedLemmas.{at_or_before-refl, balanced-none, forwar
 use Rattle.md_seam.proofs.NestedLemmas.{open_after-append}
 use Rattle.markdown_blocks.specs.Change.{Change, ends_of, is_none, open_behind}
 use Rattle.markdown_blocks.specs.Fronted.{contained, rest_from, rest_line}
-use Rattle.markdown_blocks.specs.Rows.{Span, is_further, onto_leaf, final_row, first_row, group_done}
+use Rattle.markdown_blocks.specs.Rows.{Span, Turned, is_further, is_last, onto_leaf, final_row, first_row, group_done}
 use Rattle.markdown_blocks.specs.Rows.{LeafRow, BlankRow, Group, Lines, Row, RowKind, Single, TextRow}
 use Rattle.markdown_blocks.specs.Rows.{behind_row, closes_before, ending_events, goes_on, groups, groups_events}
 use Rattle.markdown_blocks.specs.Rows.{last_row, onto_groups, tail_events}
@@ -29,7 +29,7 @@ use Rattle.markdown_blocks.proofs.FrontFacts.{LinePrefix}
 use Rattle.markdown_blocks.proofs.FrontLemmas.{Turns, ends-spans, ends-turn, fronts-spans, fronts-turn, names-append}
 use Rattle.markdown_blocks.proofs.FrontLemmas.{shapes-names, turns-balanced}
 use Rattle.markdown_blocks.proofs.JoinedLemmas.{behind-is, behind-none}
-use Rattle.markdown_blocks.proofs.GroupFacts.{span-group, IsGroupLeaf, text-leaf}
+use Rattle.markdown_blocks.proofs.GroupFacts.{span-group, IsGroupLeaf, text-leaf, turned-leaf}
 use Rattle.markdown_blocks.proofs.GroupLemmas.{AreLines}
 use Rattle.markdown_blocks.proofs.RowLeaf.{EndsOnLine, row-leaf}
 use Rattle.markdown_blocks.proofs.Text.Order.{ending-order}
@@ -37,6 +37,8 @@ use Rattle.markdown_blocks.proofs.RowFacts.{AreRows, IsEnding, IsLine, IsRow, be
 use Rattle.markdown_blocks.proofs.SpanLemmas.{Nested_in, Spans}
 use Rattle.markdown_blocks.proofs.ContainerNames.{open_names}
 use Rattle.markdown_blocks.specs.Rows.{group_ending}
+use Rattle.markdown_blocks.proofs.Turned.Under.{text-open}
+use Rattle.markdown_blocks.proofs.Underlines.{further-quiet}
 
 -- Lines.
 
@@ -139,6 +141,17 @@ record Lined (options : ParseOptions) (bytes : List ℕ) (P : List Name → Poin
   keeps : Keeps names (Lines row rows) kept
   more : P kept (behind_row (last_row row rows)) gs
 
+-- lines of text and the one that turns them in front of groups
+record UnderLined (options : ParseOptions) (bytes : List ℕ) (P : List Name → Point → List Group → Type 0)
+    (names : List Name) (p : Point) (row : Row) (rows : List Row) (under : Row) (gs : List Group) : Type 0 where
+  front : LinePrefix bytes row.change.opens p row.first row.front
+  are : AreLines options bytes row rows
+  is : IsUnder options bytes (last_row row rows) under
+  ends : IsTrue (at_or_before under.end (behind_row under))
+  kept : List Name
+  keeps : Keeps names (Turned row rows under) kept
+  more : P kept (behind_row under) gs
+
 -- lines of a leaf of several in front of groups
 record Spanned (options : ParseOptions) (bytes : List ℕ) (P : List Name → Point → List Group → Type 0)
     (names : List Name) (p : Point) (row : Row) (rows : List Row) (gs : List Group) : Type 0 where
@@ -155,6 +168,7 @@ abbrev Begun : ParseOptions → List ℕ → (List Name → Point → List Group
 Begun options bytes P names p [] = Unit {0}
 Begun options bytes P names p (Single row ∷ gs) = Unit {0}
 Begun options bytes P names p (Lines row rows ∷ gs) = Lined options bytes P names p row rows gs
+Begun options bytes P names p (Turned row rows under ∷ gs) = UnderLined options bytes P names p row rows under gs
 Begun options bytes P names p (Span row rows ∷ gs) = Spanned options bytes P names p row rows gs
 
 -- a line has an ending if more follows
@@ -206,6 +220,19 @@ onto-holds options bytes line P by names kept p q row gs begun ended first below
       lined,
     )
 
+    turned : (rows : List Row) (under : Row) (gs : List Group) →
+        UnderLined options bytes P names p row rows under gs → Both_of (Turned row rows under ∷ gs)
+    turned rows under gs lined = (
+      λ begins. by.group names lined.kept p (Turned row rows under) gs
+          (record {
+            front = lined.front;
+            leaf = turned-leaf options bytes row rows under lined.are lined.is;
+            ends = lined.ends;
+          })
+          lined.keeps lined.more,
+      lined,
+    )
+
     span : (rows : List Row) (gs : List Group) → Spanned options bytes P names p row rows gs →
         Both_of (Span row rows ∷ gs)
     span rows gs spanned = (
@@ -219,10 +246,11 @@ onto-holds options bytes line P by names kept p q row gs begun ended first below
       spanned,
     )
 
-    -- where no leaf of several lines is open behind it, what stands below begins one
-    all : (gs : List Group) → EndsOnLine row.kind → FirstIs (IsBehind bytes q row) gs →
+    -- where none is open behind it that a line may go on, what stands below begins one
+    all : (gs : List Group) → EndsOnLine row.kind → row.kind ≢ TextRow → FirstIs (IsBehind bytes q row) gs →
         (FirstBegins gs → P kept (behind_row row) gs) → P kept (behind_row row) gs
-    all gs ends first h = h (begins-behind bytes q row gs first (shut-behind options bytes line row begun.is ends))
+    all gs ends other first h =
+        h (begins-behind bytes q row gs first (shut-behind options bytes line row begun.is ends other))
 
     alone : row.kind ≡ TextRow → (gs : List Group) → P kept (behind_row row) gs → Both_of (Lines row [] ∷ gs)
     alone e gs h =
@@ -287,6 +315,7 @@ onto-holds options bytes line P by names kept p q row gs begun ended first below
         go [] ended first below h = one [] (h tt)
         go (Single next ∷ gs) ended first below h = one (Single next ∷ gs) (h tt)
         go (Lines next rows ∷ gs) ended first below h = one (Lines next rows ∷ gs) (h tt)
+        go (Turned next rows under ∷ gs) ended first below h = one (Turned next rows under ∷ gs) (h tt)
         go (Span next rows ∷ gs) ended first below h = joins (is_further next.kind next.on) refl
           where
             joins : (x : Bool) → is_further next.kind next.on ≡ x →
@@ -313,25 +342,88 @@ onto-holds options bytes line P by names kept p q row gs begun ended first below
                   more = below.more;
                 })
 
-    lines : row.kind ≡ TextRow → (gs : List Group) → Ended bytes row gs →
-        Begun options bytes P kept (behind_row row) gs → P kept (behind_row row) gs →
+    -- a line of text that goes on the one above
+    longer : row.kind ≡ TextRow → (next : Row) (rows : List Row) (gs : List Group) →
+        Ended bytes row (Lines next rows ∷ gs) → next.change.opens ≡ [] →
+        LinePrefix bytes next.change.opens (behind_row row) next.first next.front →
+        AreLines options bytes next rows → AreLines options bytes row (next ∷ rows)
+    longer e next rows gs ended opens front are =
+        (line, begun.is, e, ended.0, ended.1, ended.2, prefixes next ended.0 ended.1 opens front, are)
+
+    -- the line that turns this one
+    underline : row.kind ≡ TextRow → (next : Row) (gs : List Group) → Ended bytes row (Span next [] ∷ gs) →
+        IsBehind bytes q row next → Spanned options bytes P kept (behind_row row) next [] gs →
+        is_further next.kind next.on ≡ true → Both_of (Turned row [] next ∷ gs)
+    underline e next gs ended first below f =
+        let met = first.met f in
+        let is : IsSpanLine options bytes next = below.are in
+        let behind : IsBehind bytes ended.0 row next = record {
+          front =
+              subst (λ (r : Point). LinePrefix bytes next.change.opens r next.first next.front)
+              (behind-is row ended.0 ended.1) below.front;
+          met = first.met;
+          begins = first.begins;
+        } in
+        turned [] next gs (record {
+          front = begun.front;
+          are = (line, begun.is, e);
+          is =
+              text-under options bytes line row ended.0 next ended.1 ended.2 behind f is
+              (further-quiet options bytes is.line next is.name is.is is.kind
+              (met.2 ∙ text-open options bytes row [] (line, begun.is, e)) f);
+          ends = below.ends;
+          kept = below.kept;
+          keeps = both next next below.kept met.0 met.1 below.keeps;
+          more = below.more;
+        })
+
+    lines : row.kind ≡ TextRow → (gs : List Group) → Ended bytes row gs → FirstIs (IsBehind bytes q row) gs →
+        Begun options bytes P kept (behind_row row) gs → (FirstBegins gs → P kept (behind_row row) gs) →
         Both_of (onto_groups row TextRow gs)
-    lines e [] ended below h = alone e [] h
-    lines e (Single next ∷ gs) ended below h = alone e (Single next ∷ gs) h
-    lines e (Span next rows ∷ gs) ended below h = alone e (Span next rows ∷ gs) h
-    lines e (Lines next rows ∷ gs) ended below h = joins (goes_on row next) refl
+    lines e [] ended first below h = alone e [] (h tt)
+    lines e (Single next ∷ gs) ended first below h = alone e (Single next ∷ gs) (h tt)
+    lines e (Turned next rows under ∷ gs) ended first below h = joins (goes_on row next) refl
       where
         joins : (x : Bool) → goes_on row next ≡ x →
-            Both_of (cond x (Lines row (next ∷ rows) ∷ gs) (Lines row [] ∷ Lines next rows ∷ gs))
-        joins false k = alone e (Lines next rows ∷ gs) h
+            Both_of (cond x (Turned row (next ∷ rows) under ∷ gs) (Lines row [] ∷ Turned next rows under ∷ gs))
+        joins false k = alone e (Turned next rows under ∷ gs) (h tt)
         joins true k =
             let parts = and_parts (is_none row.leaves) (is_none next.change.opens) k in
             let leaves : row.leaves ≡ [] = none-nil row.leaves parts.0 in
             let opens : next.change.opens ≡ [] = none-nil next.change.opens parts.1 in
-            let front = prefixes next ended.0 ended.1 opens below.front in
+            turned (next ∷ rows) under gs (record {
+              front = begun.front;
+              are = longer e next rows gs ended opens below.front below.are;
+              is = below.is;
+              ends = below.ends;
+              kept = below.kept;
+              keeps = both next under below.kept leaves opens below.keeps;
+              more = below.more;
+            })
+    lines e (Span next rows ∷ gs) ended first below h = joins rows (is_further next.kind next.on) refl below h
+      where
+        joins : (rows : List Row) (x : Bool) → is_further next.kind next.on ≡ x →
+            Spanned options bytes P kept (behind_row row) next rows gs →
+            (Begins next → P kept (behind_row row) (Span next rows ∷ gs)) →
+            Both_of (cond (x && is_last rows) (Turned row [] next ∷ gs) (Lines row [] ∷ Span next rows ∷ gs))
+        joins rows false f below h = alone e (Span next rows ∷ gs) (h f)
+        joins [] true f below h = underline e next gs ended first below f
+        joins (more ∷ rows) true f below h =
+            absurd
+            (turned-alone options bytes next more rows
+            ((first.met f).2 ∙ text-open options bytes row [] (line, begun.is, e)) f below.are)
+    lines e (Lines next rows ∷ gs) ended first below h = joins (goes_on row next) refl
+      where
+        joins : (x : Bool) → goes_on row next ≡ x →
+            Both_of (cond x (Lines row (next ∷ rows) ∷ gs) (Lines row [] ∷ Lines next rows ∷ gs))
+        joins false k = alone e (Lines next rows ∷ gs) (h tt)
+        joins true k =
+            let parts = and_parts (is_none row.leaves) (is_none next.change.opens) k in
+            let leaves : row.leaves ≡ [] = none-nil row.leaves parts.0 in
+            let opens : next.change.opens ≡ [] = none-nil next.change.opens parts.1 in
             text (next ∷ rows) gs (record {
               front = begun.front;
-              are = (line, begun.is, e, ended.0, ended.1, ended.2, front, below.are);
+              are = longer e next rows gs ended opens below.front below.are;
               ends = below.ends;
               kept = below.kept;
               keeps = both next (last_row next rows) below.kept leaves opens below.keeps;
@@ -344,16 +436,16 @@ onto-holds options bytes line P by names kept p q row gs begun ended first below
     leaves l e false k gs ended first below h = spans l e k gs ended first below h
     leaves l e true k gs ended first below h =
         let ends : EndsOnLine row.kind = leaf-row-ends row.kind l e k in
-        single (λ j. let bad : LeafRow l ≡ TextRow = sym e ∙ j in cc) ends gs (all gs ends first h)
+        let other : row.kind ≢ TextRow = leaf-other row.kind l e in single other ends gs (all gs ends other first h)
 
     go : (kind : RowKind) → row.kind ≡ kind → (gs : List Group) → Ended bytes row gs →
         FirstIs (IsBehind bytes q row) gs → Begun options bytes P kept (behind_row row) gs →
         (FirstBegins gs → P kept (behind_row row) gs) → Both_of (onto_groups row kind gs)
     go BlankRow e gs ended first below h =
         let ends : EndsOnLine row.kind = blank-ends row.kind e in
-        single (λ k. cc) ends gs (all gs ends first h)
+        let other : row.kind ≢ TextRow = λ k. cc in single other ends gs (all gs ends other first h)
     go (LeafRow l) e gs ended first below h = leaves l e (leaf l).ends refl gs ended first below h
-    go TextRow e gs ended first below h = lines e gs ended below (all gs (text-ends row.kind e) first h)
+    go TextRow e gs ended first below h = lines e gs ended first below h
 
 -- What is known of the lines of a text from a point on, where these containers are open: some of them end before the
 -- first line, and where the others are left, it holds of the groups of the lines.

@@ -1,16 +1,17 @@
--- What the frame asks of a leaf of several lines that is open between two lines, and of what a line begins.
-use Rattle.std.proofs.Common.{◌≡◌, true, false, cond, List, [], ◌∷◌}
+-- What the frame asks of a leaf of several lines that is open between two lines, of what a line begins, and of a line
+-- that goes on text.
+use Rattle.std.proofs.Common.{◌≡◌, ℕ, true, false, cond, List, [], ◌∷◌}
 use Rattle.std.specs.Prelude.{Some, None}
 use Rattle.md_engine.specs.declared.configuration.ParseOptions.{ParseOptions}
 use Rattle.md_engine.specs.declared.tokenizer.held_leaf.HeldLeaf.{HeldLeaf}
-use Rattle.md_definition.specs.Leaves.{Came, goes_on}
-use Rattle.md_definition.specs.Rest.{Rest}
-use Rattle.md_definition.specs.State.{Leaf, NoLeaf, then_leaf}
+use Rattle.md_definition.specs.Leaves.{Came, Finished, goes_on}
+use Rattle.md_definition.specs.Rest.{Rest, is_blank}
+use Rattle.md_definition.specs.State.{Kept, Leaf, NoLeaf, texts, then_leaf}
 use Rattle.md_definition.specs.Step.{came, is_concrete}
 use Rattle.md_definition.specs.Tree.{Blocks}
-use Rattle.md_outline.specs.HeadingDepths.{are_shallow}
+use Rattle.md_outline.specs.HeadingDepths.{are_shallow, is_shallow}
 use Rattle.markdown_blocks.specs.HeldLeaf.{IsBuiltLeaf, has_lines, kind_of_leaf, left_by}
-use Rattle.markdown_blocks.specs.Registry.{LeafName, further_of, insider, leaf, shuts_out}
+use Rattle.markdown_blocks.specs.Registry.{LeafName, further_of, insider, leaf, shuts_out, text_leaf, turn_leaf}
 
 -- an outline can show the block that this has come to, if it has
 abbrev pub ComesShallow : Came → Type 0
@@ -44,7 +45,18 @@ pub record Begun (l : LeafName) (options : ParseOptions) (on : HeldLeaf) (r : Re
   pub built : IsBuiltLeaf (left_by ((leaf l).comes options NoLeaf r))
   pub shallow : ComesShallow ((leaf l).comes options NoLeaf r)
 
--- these leaves go on none
+-- A line that goes on text: it turns all of the text into one block.
+pub record TurnsText (l : LeafName) : Type 0 where
+  pub ends : (leaf l).ends ≡ false
+  pub same : further_of l ≡ l
+  pub comes : (options : ParseOptions) (lines : List Kept) (r : Rest) →
+      (leaf l).comes options (text_leaf.held lines) r ≡ Finished (turn_leaf.block (texts lines) r)
+  -- something stands on it, and an outline can show the block
+  pub filled : (options : ParseOptions) (on : HeldLeaf) (r : Rest) → (leaf l).starts options on r ≡ true →
+      is_blank r.bytes ≡ false
+  pub shallow : (lines : List (List ℕ)) (r : Rest) → is_shallow (turn_leaf.block lines r) ≡ true
+
+-- these leaves go on none of several lines
 abbrev pub AllBegin : List LeafName → Type 0
 AllBegin [] = Unit {0}
-AllBegin (l ∷ ls) = ((on : HeldLeaf) → (leaf l).further on ≡ false) × AllBegin ls
+AllBegin (l ∷ ls) = ((on : HeldLeaf) → has_lines on ≡ true → (leaf l).further on ≡ false) × AllBegin ls

@@ -24,6 +24,7 @@ use Rattle.md_containers.proofs.ListedParts.{listed-parts}
 use Rattle.md_containers.proofs.ListedReads.{listed-spelled}
 use Rattle.md_content.specs.ContentReads.{content_readings, wants_content}
 use Rattle.md_definition.specs.Grouped.{grouped}
+use Rattle.md_leaves.specs.Turned.{turned}
 use Rattle.md_seam.specs.Events.Endings.{endings_stand}
 use Rattle.md_seam.specs.Events.Grammar.{keeps_grammar, plain_text}
 use Rattle.md_seam.specs.Events.Inline.{Part, Piece, pieces}
@@ -50,7 +51,8 @@ use Rattle.markdown_blocks.proofs.GrammarRows.{blocks-grammar, events-grammar}
 use Rattle.markdown_blocks.proofs.HeldRows.{blocks-held, events-held}
 use Rattle.markdown_blocks.proofs.StandRows.{events-stand}
 use Rattle.markdown_blocks.proofs.ContentFacts.{content-alone}
-use Rattle.markdown_blocks.proofs.GroupLemmas.{content-read, text-read}
+use Rattle.markdown_blocks.proofs.GroupLemmas.{content-read}
+use Rattle.markdown_blocks.proofs.GroupsBecome.{text-read}
 use Rattle.markdown_blocks.proofs.SpannedGroups.{lines-joined}
 use Rattle.markdown_blocks.proofs.JoinedLemmas.{EachNoContent, rows_at-no_content}
 use Rattle.markdown_blocks.proofs.ListedOutlined.{listed-outlined}
@@ -98,13 +100,15 @@ content-are options bytes built small found new flow =
     wants_content (content_readings bytes options) refl content-alone
     (content-reads options options bytes small) flow.content flow.content_read
 
--- Then the resolvers of leaves ran, the lines of each leaf of several were joined, and lists were put around items.
+-- Then the resolvers of leaves ran, setext headings were set, the lines of each leaf of several were joined, and lists
+-- were put around items.
 resolved-are : (options : ParseOptions) (bytes : List ℕ) → IsBuilt options → length bytes < 2 ^ 61 →
     (found : Found) (new : World) → (flow : FlowReads bytes options (body_point bytes) found new) →
     new.events ≡ listed bytes (listed_groups bytes (groups (rows_of options bytes)))
 resolved-are options bytes built small found new flow =
     flow.events_are
-    ∙ ap (λ (l : List Event). listed bytes (lines_joined options (resolved l))) (content-are options bytes built small found new flow)
+    ∙ ap (λ (l : List Event). listed bytes (lines_joined options (turned (resolved l))))
+    (content-are options bytes built small found new flow)
     ∙ ap (listed bytes)
     (lines-joined options bytes [] held_leaf.None (body_point bytes) (lines_of bytes) (rows_of options bytes)
     refl (text-are options bytes built small) (text-quiet options bytes (body_point bytes)))

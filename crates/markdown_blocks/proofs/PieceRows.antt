@@ -2,7 +2,7 @@
 use Rattle.md_engine.specs.declared.tokenizer.held_leaf.HeldLeaf.TheVariants as held_leaf
 use Rattle.md_engine.specs.declared.tokenizer.held_leaf.HeldLeaf.{HeldLeaf}
 use Rattle.std.proofs.Common.{◌≡◌, ℕ, Bool, true, false, cond, List, [], ◌∷◌, ◌++◌, slice_range, refl, ap, sym, subst}
-use Rattle.markdown_blocks.specs.Rows.{Span}
+use Rattle.markdown_blocks.specs.Rows.{Span, Turned}
 use Rattle.std.proofs.Common.{arith}
 use Rattle.std.specs.Prelude.{Option, Some, None}
 use Rattle.md_engine.specs.declared.configuration.ParseOptions.{ParseOptions}
@@ -103,6 +103,7 @@ rows-stand options bytes open_before still p lines rows are = absurd are
 final-stands : (bytes : List ℕ) (group : Group) → OfGroup (LineStands bytes) group → LineStands bytes (final_row group)
 final-stands bytes (Single row) h = h
 final-stands bytes (Lines row rows) h = last-each (LineStands bytes) row rows h.0 h.1
+final-stands bytes (Turned row rows under) h = h.2
 final-stands bytes (Span row rows) h = last-each (LineStands bytes) row rows h.0 h.1
 
 -- what stands in front of the first line of a group, in its place, and behind it

@@ -1,21 +1,20 @@
 -- Runs of one marker and of whitespace: how they nest and lie side by side, and what they are over.
-use Rattle.std.proofs.Common.{◌≡◌, ◌≢◌, ℕ, ◌<◌, Bool, true, false, cond, ◌&&◌, ◌||◌, List, [], ◌∷◌, ◌++◌, length, drop}
-use Rattle.std.proofs.Common.{refl, ap, sym, ◌∙◌, append_assoc, arith}
-use Rattle.std.specs.Prelude.{◌==◌, IsTrue, None}
+use Rattle.std.proofs.Common.{◌≡◌, ◌≢◌, ℕ, ◌<◌, Bool, true, false, ◌&&◌, ◌||◌, List, [], ◌∷◌, ◌++◌, length, drop}
+use Rattle.std.proofs.Common.{refl, ap, sym, subst, ◌∙◌, append_assoc, arith}
+use Rattle.std.specs.Prelude.{◌==◌, IsTrue, nat_le}
 use Rattle.std.specs.List.{list_all}
 use Rattle.std.proofs.lemmas.Bool.{and_from, eqb-true}
 use Rattle.std.proofs.lemmas.Bool.Decides.{nat_tests}
 use Rattle.std.proofs.lemmas.List.{length-append}
 use Rattle.std.proofs.lemmas.List.Folds.{list_all-append}
 use Rattle.md_engine.specs.declared.event.Event.{Event}
-use Rattle.md_engine.specs.declared.event.Kind.{Kind}
-use Rattle.md_engine.specs.declared.event.Kind.TheVariants.{Enter, Exit}
+use Rattle.md_engine.specs.declared.event.Kind.TheVariants.{Enter}
 use Rattle.md_engine.specs.declared.event.Name.{Name}
 use Rattle.md_engine.specs.declared.event.Name.TheVariants as n
 use Rattle.md_engine.specs.declared.event.Point.{Point}
 use Rattle.md_seam.specs.Events.Inline.{pieces, pieces_from}
 use Rattle.md_seam.specs.Events.Nested.{Matches, enter, exit, open_after}
-use Rattle.md_seam.specs.Events.Pieces.{piece_stands, pieces_stand, stands_over}
+use Rattle.md_seam.specs.Events.Pieces.{is_run, piece_stands, pieces_stand, stands_over}
 use Rattle.md_seam.specs.Events.Places.{at_or_before, past_byte, past_text}
 use Rattle.md_definition.specs.Rest.{is_white}
 use Rattle.md_seam.proofs.FeedLines.{before-byte, drop-past}
@@ -24,7 +23,8 @@ use Rattle.md_seam.proofs.NestedLemmas.{at_or_before-refl, at_or_before-trans}
 use Rattle.markdown_blocks.specs.MarkRuns.{Apart, Marks, Run, White, mark_runs}
 use Rattle.markdown_blocks.proofs.PiecesLemmas.{Shut, Tiled, shut-exit, tiled-enter, tiled-none}
 use Rattle.markdown_blocks.proofs.SpanLemmas.{Nested_in, Spans, either}
-use Rattle.markdown_blocks.proofs.PieceFacts.{CutsFirst, Over, begins-cut, begins-whole, over-front, over-stands, span}
+use Rattle.markdown_blocks.proofs.PieceFacts.{CutsFirst, Over, Starts, begins-cut, begins-whole, over-front}
+use Rattle.markdown_blocks.proofs.PieceFacts.{over-stands, span}
 
 -- what a run is called
 abbrev run_name : Name → Run → Name
@@ -32,29 +32,9 @@ run_name name Apart = name
 run_name name Marks = name
 run_name name White = n.SpaceOrTab
 
--- Each event.
-
--- the begin or the end of a run, of whitespace or of the marker
-abbrev pub run_event : Name → Kind → Bool → Point → Event
-run_event name kind white p = record { kind = kind; name = cond white n.SpaceOrTab name; point = p; link = None }
-
--- what holds of no events, and of one more such, holds of all runs
-pub runs-each : (P : List Event → Type 0) (name : Name) → P [] →
-    ((kind : Kind) (white : Bool) (p : Point) (es : List Event) → P es → P (run_event name kind white p ∷ es)) →
-    (run : Run) (m : ℕ) (bs : List ℕ) (p : Point) → P (mark_runs name run m bs p)
-runs-each P name none more Apart m [] p = none
-runs-each P name none more Marks m [] p = more Exit false p [] none
-runs-each P name none more White m [] p = more Exit true p [] none
-runs-each P name none more Apart m (b ∷ bs) p =
-    either P (b == m) _ _ (more Enter false p _ (runs-each P name none more Marks m bs (past_byte b p)))
-    (more Enter true p _ (runs-each P name none more White m bs (past_byte b p)))
-runs-each P name none more Marks m (b ∷ bs) p =
-    either P (b == m) _ _ (runs-each P name none more Marks m bs (past_byte b p))
-    (more Exit false p _ (more Enter true p _ (runs-each P name none more White m bs (past_byte b p))))
-runs-each P name none more White m (b ∷ bs) p =
-    either P (b == m) _ _
-    (more Exit true p _ (more Enter false p _ (runs-each P name none more Marks m bs (past_byte b p))))
-    (runs-each P name none more White m bs (past_byte b p))
+-- runs of some bytes begin with the begin of one
+pub runs-start : (name : Name) (m b : ℕ) (bs : List ℕ) (p : Point) → Starts (mark_runs name Apart m (b ∷ bs) p)
+runs-start name m b bs p = either Starts (b == m) _ _ refl refl
 
 -- How they nest.
 
@@ -163,6 +143,13 @@ AreMarks m (b ∷ bs) = (((b == m) || is_white b) ≡ true) × AreMarks m bs
 -- what a run may be over
 abbrev pub IsMarker : Name → ℕ → Type 0
 IsMarker name m = (ys : List ℕ) → 0 < length ys → list_all (λ b. b == m) ys ≡ true → stands_over name ys ≡ true
+
+-- such bytes are a run of it
+pub marker-run : (m c : ℕ) (ys : List ℕ) → 0 < length ys → list_all (λ b. b == m) ys ≡ true → (m == c) ≡ true →
+    is_run 1 c ys ≡ true
+marker-run m c ys some all e =
+    and_from (nat_le 1 (length ys)) (list_all (λ b. b == c) ys) (grind (arith, nat_tests, some))
+    (subst (λ (d : ℕ). list_all (λ b. b == d) ys ≡ true) (eqb-true m c e) all)
 
 -- a byte of a run
 abbrev goes_on : Run → ℕ → ℕ → Bool

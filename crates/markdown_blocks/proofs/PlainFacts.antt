@@ -11,14 +11,13 @@ use Rattle.md_seam.specs.declared.inline.Chunk.{Chunk}
 use Rattle.md_seam.specs.Events.Inline.{line_end, plain_chunk}
 use Rattle.md_seam.specs.Events.Nested.{around, enter, exit, pair}
 use Rattle.md_seam.specs.Events.Places.{past_byte, past_text, same_place}
-use Rattle.md_seam.specs.Events.Spelled.{AsInfo, AsLine, AsMeta, IsFence, IsQuiet, OfCode, OfFence, OfHtml, OfMath}
-use Rattle.md_seam.specs.Events.Spelled.{Opens, Role}
-use Rattle.md_seam.specs.Events.Spelled.{Tells, role}
+use Rattle.md_seam.specs.Events.Spelled.{AsHeading, AsInfo, AsLine, AsMeta, IsFence, IsQuiet, OfCode, OfFence}
+use Rattle.md_seam.specs.Events.Spelled.{OfHeadingSetext, OfHtml, OfMath, Opens, Role, Tells, role}
 use Rattle.md_seam.proofs.SpelledLemmas.{Quiet, Roles}
 use Rattle.md_outline.specs.LinesStand.{Outside, Site}
 use Rattle.md_outline.specs.Outlined.{has_unlisted_name}
 use Rattle.md_outline.specs.Roles.{is_plain, is_told, is_unlisted}
-use Rattle.md_outline.proofs.LinesPass.{Passes, keeps-plain, passes-append, passes-kept, passes-none}
+use Rattle.md_outline.proofs.LinesPass.{Passes, keeps-plain, passes-append, passes-kept, passes-none, passes-quiet}
 use Rattle.markdown_blocks.proofs.PartedFacts.{clear}
 
 -- whether a text begins or ends at such a point
@@ -92,10 +91,12 @@ unlisted-plain (Opens OfCode) h = refl
 unlisted-plain (Opens OfFence) h = refl
 unlisted-plain (Opens OfMath) h = refl
 unlisted-plain (Opens OfHtml) h = refl
+unlisted-plain (Opens OfHeadingSetext) h = refl
 unlisted-plain IsFence h = refl
 unlisted-plain (Tells AsLine) h = refl
 unlisted-plain (Tells AsInfo) h = refl
 unlisted-plain (Tells AsMeta) h = refl
+unlisted-plain (Tells AsHeading) h = refl
 unlisted-plain x h = h
 
 pub plain-cons : (bytes : List ℕ) (e : Event) (es : List Event) → is_plain (role e.name) ≡ true →
@@ -127,6 +128,10 @@ quiets-untold (e ∷ es) h = (quiet-untold (role e.name) h.0, quiets-untold es h
 -- what the tree does not show
 pub plain-quiet : (bytes : List ℕ) (es : List Event) → Roles Quiet es → ArePlain bytes es
 plain-quiet bytes es h = plain-untold bytes es (quiets-untold es h)
+
+-- wherever that stands
+pub quiet-from : (bytes : List ℕ) (site : Site) (es : List Event) → Roles Quiet es → ArePlainFrom bytes site site es
+quiet-from bytes site es h = record { known = (plain-quiet bytes es h).known; lines = passes-quiet bytes site es h }
 
 -- a part of such a name around such events, which begins and ends clear if the tree shows its text
 pub plain-around : (bytes : List ℕ) (name : Name) (p q : Point) (inside : List Event) → is_plain (role name) ≡ true →

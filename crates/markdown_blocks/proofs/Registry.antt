@@ -1,7 +1,8 @@
 -- The laws of the constructs that are built, and what the table has of them: the one place of the frame's proofs that
 -- names them.
 use Rattle.std.proofs.Common.{◌≡◌, ◌<◌, Bool, true, false, cond, ◌&&◌, ◌||◌, List, [], ◌∷◌, ◌++◌, refl, sym, ◌∙◌, ap}
-use Rattle.std.proofs.Common.{ap₂, ℕ, arith}
+use Rattle.std.proofs.Common.{ap₂, ℕ, subst, append-nil, arith}
+use Rattle.std.specs.Prelude.{◌==◌}
 use Rattle.std.specs.Option.{is_some}
 use Rattle.md_engine.specs.declared.tokenizer.held_leaf.HeldLeaf.TheVariants as held_leaf
 use Rattle.markdown_blocks.specs.Registry.{IsOpenSpan, insider, shuts_out}
@@ -43,6 +44,8 @@ use Rattle.md_leaves.proofs.BreakGoods.{BreakFits, break_does}
 use Rattle.md_leaves.proofs.BreakSteps.{break_steps}
 use Rattle.md_leaves.proofs.HeadingGoods.{HeadingFits, heading_does}
 use Rattle.md_leaves.proofs.HeadingSteps.{heading_steps}
+use Rattle.md_leaves.proofs.SetextGoods.{SetextFits, setext_does}
+use Rattle.md_leaves.proofs.SetextSteps.{setext_steps}
 use Rattle.md_seam.specs.Ahead.{HasWhite}
 use Rattle.md_seam.specs.Spaces.{rest_ready}
 use Rattle.md_definition.specs.Containers.{Taken, opens, opens_footnote, opens_item, opens_quote}
@@ -53,7 +56,13 @@ use Rattle.md_lines.specs.Code.{may_open}
 use Rattle.md_definition.specs.Rest.{Rest, has_small_indent, indent, is_blank, line_of, lose, trim_start}
 use Rattle.md_definition.specs.State.{Leaf, NoLeaf, OpenCode, OpenFence, OpenHtml, OpenParagraph, OpenTable, Opening}
 use Rattle.md_definition.specs.State.{fence_block, without_trailing_blank}
-use Rattle.md_definition.specs.Tree.{Break, Code, Html, Line}
+use Rattle.md_definition.specs.Ascii.{equals_sign}
+use Rattle.md_definition.specs.Texts.{first_byte}
+use Rattle.md_definition.specs.Tree.{Break, Code, Heading, Html, Line}
+use Rattle.md_leaves.specs.HeadingSetext.{is_text}
+use Rattle.md_leaves.specs.HeadingSetextRule.{is_underline}
+use Rattle.md_outline.specs.HeadingDepths.{is_shallow}
+use Rattle.md_outline.proofs.TextCuts.{trim-blank}
 use Rattle.md_lines.proofs.CodeGoods.{CodeFits, code_does}
 use Rattle.md_lines.proofs.CodeSteps.{code_steps}
 use Rattle.md_lines.proofs.FenceGoods.{FenceFits, fence_does}
@@ -61,15 +70,17 @@ use Rattle.md_lines.proofs.FenceSteps.{fence_steps}
 use Rattle.md_seam.proofs.SpacesGoods.{Does, WhiteFits}
 use Rattle.markdown_blocks.specs.FlowRule.{Rule}
 use Rattle.markdown_blocks.specs.Context.{context_of}
-use Rattle.markdown_blocks.specs.HeldLeaf.{IsBuiltLeaf, has_lines, kind_of_leaf, left_by}
+use Rattle.markdown_blocks.specs.HeldLeaf.{IsBuiltLeaf, has_lines, kind_of_leaf, left_by, takes_lazy}
 use Rattle.markdown_blocks.specs.LineLeaf.{LineLeaf}
 use Rattle.markdown_blocks.specs.Leaf.CodeIndented.{code_further, code_leaf, is_code}
 use Rattle.markdown_blocks.specs.Leaf.Fence.{fence_leaf, opening_at}
 use Rattle.markdown_blocks.specs.Leaf.FenceFurther.{fence_further, is_fence, opening_of}
 use Rattle.markdown_blocks.specs.Leaf.HeadingAtx.{heading_leaf}
+use Rattle.markdown_blocks.specs.Leaf.HeadingSetext.{setext_leaf}
 use Rattle.markdown_blocks.specs.Leaf.ThematicBreak.{break_leaf}
 use Rattle.markdown_blocks.specs.Parsed.{IsBuilt}
-use Rattle.markdown_blocks.specs.Registry.{CodeFurther, CodeIndented, Fence, FenceFurther, HeadingAtx, HtmlFlow}
+use Rattle.markdown_blocks.specs.Registry.{CodeFurther, CodeIndented, Fence, FenceFurther, HeadingAtx, HeadingSetext}
+use Rattle.markdown_blocks.specs.Registry.{HtmlFlow}
 use Rattle.markdown_blocks.specs.Registry.{HtmlFurther, LeafName}
 use Rattle.markdown_blocks.specs.Registry.{ThematicBreak, behind}
 use Rattle.markdown_blocks.specs.Registry.{construct_owner}
@@ -111,12 +122,17 @@ use Rattle.markdown_blocks.proofs.HeadingAtx.Found.{heading-found, heading-shall
 use Rattle.markdown_blocks.proofs.HeadingAtx.Laws.{heading-laws}
 use Rattle.markdown_blocks.proofs.HeadingAtx.Outside.{front-heading}
 use Rattle.markdown_blocks.proofs.HeadingAtx.Registers.{heading-registers}
+use Rattle.markdown_blocks.proofs.HeadingSetext.Found.{StartsNone, setext-first}
+use Rattle.markdown_blocks.proofs.HeadingSetext.Kinds.{setext-starts}
+use Rattle.markdown_blocks.proofs.HeadingSetext.Laws.{setext-laws}
+use Rattle.markdown_blocks.proofs.HeadingSetext.Registers.{setext-registers}
+use Rattle.markdown_blocks.proofs.HeadingSetext.Span.{setext-begins, setext-span}
 use Rattle.markdown_blocks.proofs.LeafLaws.{LeafLaws}
 use Rattle.markdown_blocks.proofs.ListItem.Laws.{item-laws}
 use Rattle.markdown_blocks.proofs.ListItem.Plain.{item-plain}
 use Rattle.markdown_blocks.proofs.ListItem.Registers.{item-registers}
 use Rattle.markdown_blocks.proofs.OutsideFacts.{AreOutside, resolved-outside}
-use Rattle.markdown_blocks.proofs.OpenSpan.{AllBegin, Begun, ComesShallow, OpenSpan}
+use Rattle.markdown_blocks.proofs.OpenSpan.{AllBegin, Begun, ComesShallow, OpenSpan, TurnsText}
 use Rattle.markdown_blocks.proofs.Paragraph.Laws.{paragraph-laws}
 use Rattle.markdown_blocks.proofs.PlainLaws.{PlainLaws}
 use Rattle.markdown_blocks.proofs.Registers.{Registers}
@@ -126,6 +142,7 @@ use Rattle.markdown_blocks.proofs.TextLaws.{TextLaws}
 use Rattle.markdown_blocks.proofs.ThematicBreak.Found.{break-found}
 use Rattle.markdown_blocks.proofs.ThematicBreak.Laws.{break-laws}
 use Rattle.markdown_blocks.proofs.ThematicBreak.Registers.{break-registers}
+use Rattle.markdown_blocks.proofs.UnderNames.{further-text}
 
 -- Leaves that take a line.
 
@@ -137,6 +154,7 @@ laws FenceFurther = fence_further-laws
 laws HtmlFlow = html-laws
 laws HtmlFurther = html_further-laws
 laws HeadingAtx = heading-laws
+laws HeadingSetext = setext-laws
 laws ThematicBreak = break-laws
 
 -- the leaf that takes the rest of a line, if one does
@@ -161,14 +179,67 @@ free-open held_leaf.Code = refl
 free-open (held_leaf.Fence m size indent) = refl
 free-open (held_leaf.Html kind) = refl
 
--- of the leaves of the line definition these alone are built, in this order
+-- The underline of a setext heading: something stands on it,
+setext-filled : (options : ParseOptions) (on : HeldLeaf) (r : Rest) → setext_leaf.starts options on r ≡ true →
+    is_blank r.bytes ≡ false
+setext-filled options on r starts = go (is_blank r.bytes) refl
+  where
+    go : (x : Bool) → is_blank r.bytes ≡ x → x ≡ false
+    go true blank =
+        let none : trim_start r.bytes ≡ [] = ap trim_start (sym (append-nil r.bytes)) ∙ trim-blank r.bytes [] blank in
+        let bad : true ≡ false = sym (setext-starts options on r starts).underline ∙ ap is_underline none in cc
+    go false blank = refl
+
+-- and it turns the text in front of it.
+setext-turns : TurnsText HeadingSetext
+setext-turns = record {
+  ends = refl;
+  same = refl;
+  comes = λ options lines r. refl;
+  filled = setext-filled;
+  shallow = λ lines r. shallow (first_byte (trim_start r.bytes) == equals_sign) lines;
+}
+  where
+    shallow : (x : Bool) (lines : List (List ℕ)) → is_shallow (Heading (cond x 1 2) lines) ≡ true
+    shallow true lines = refl
+    shallow false lines = refl
+
+pub text-turns : (l : LeafName) → (leaf l).further held_leaf.Text ≡ true → TurnsText l
+text-turns l e = subst TurnsText (sym (further-text l e)) setext-turns
+
+-- where one starts, no leaf does that is tried before it
+pub setext-taken : (options : ParseOptions) (r : Rest) → setext_leaf.starts options held_leaf.Text r ≡ true →
+    leaf_at options held_leaf.Text r ≡ Some HeadingSetext
+setext-taken options r starts =
+    ap₂
+    (λ (c x : Bool).
+    to c x (html_leaf.starts options on r) (heading_leaf.starts options on r) (setext_leaf.starts options on r))
+    none.code none.fence
+    ∙ ap₂ (λ (h y : Bool). to false false h y (setext_leaf.starts options on r)) none.html none.heading
+    ∙ ap (to false false false false) starts
+  where
+    on : HeldLeaf
+    on = held_leaf.Text
+
+    none : StartsNone options on r
+    none = setext-first options on r starts
+
+    to : Bool → Bool → Bool → Bool → Bool → Option LeafName
+    to c x h y s =
+        cond c (Some CodeIndented)
+        (cond x (Some Fence)
+        (cond h (Some HtmlFlow)
+        (cond y (Some HeadingAtx)
+        (cond s (Some HeadingSetext) (cond (break_leaf.starts options on r) (Some ThematicBreak) None)))))
+
+-- where none does, of the leaves of the line definition these alone are built, in this order
 pub leaves-found : (options : ParseOptions) (on : HeldLeaf) (against : ParagraphContext) (r : Rest) →
-    IsAgainst against on → is_blank r.bytes ≡ false →
+    IsAgainst against on → setext_leaf.starts options on r ≡ false → is_blank r.bytes ≡ false →
     option_or (code_at options against r)
     (option_or (fence_at options r)
     (option_or (html_at options against r) (option_or (heading_at options r) (break_at options r)))) ≡
     came_of options r (leaf_at options on r)
-leaves-found options on against r same dark =
+leaves-found options on against r same unturned dark =
     ap₂ (λ (x y : Option Came). option_or x y)
     (code-found options on against r (free-open on ∙ sym (ap is_free same)) dark)
     (ap₂ (λ (x y : Option Came). option_or x y) (fence-found options r)
@@ -176,18 +247,27 @@ leaves-found options on against r same dark =
     (ap₂ (λ (x y : Option Came). option_or x y) (heading-found options r) (break-found options r))))
     ∙ go (code_leaf.starts options on r) (fence_leaf.starts options on r) (html_leaf.starts options on r)
     (heading_leaf.starts options on r) (break_leaf.starts options on r)
+    ∙ ap
+    (λ (s : Bool).
+    came_of options r
+    (to (code_leaf.starts options on r) (fence_leaf.starts options on r) (html_leaf.starts options on r)
+    (heading_leaf.starts options on r) s (break_leaf.starts options on r))) (sym unturned)
   where
     -- a leaf, if it starts
     one : Bool → LeafName → Option Came
     one x l = cond x (Some ((leaf l).comes options NoLeaf r)) None
 
+    to : Bool → Bool → Bool → Bool → Bool → Bool → Option LeafName
+    to c x h y s z =
+        cond c (Some CodeIndented)
+        (cond x (Some Fence)
+        (cond h (Some HtmlFlow)
+        (cond y (Some HeadingAtx) (cond s (Some HeadingSetext) (cond z (Some ThematicBreak) None)))))
+
     go : (c x h y z : Bool) →
         option_or (one c CodeIndented)
         (option_or (one x Fence) (option_or (one h HtmlFlow) (option_or (one y HeadingAtx) (one z ThematicBreak)))) ≡
-        came_of options r
-        (cond c (Some CodeIndented)
-        (cond x (Some Fence)
-        (cond h (Some HtmlFlow) (cond y (Some HeadingAtx) (cond z (Some ThematicBreak) None)))))
+        came_of options r (to c x h y false z)
     go true x h y z = refl
     go false true h y z = refl
     go false false true y z = refl
@@ -318,12 +398,18 @@ leaf-begun HeadingAtx options on r h begins = record {
   built = tt;
   shallow = λ bs shallow. shallow-then bs (heading_leaf.block r) shallow (heading-shallow options r h);
 }
+leaf-begun HeadingSetext options on r h begins = absurd (setext-begins options on r h begins)
 leaf-begun ThematicBreak options on r h begins =
     record { holds = refl; built = tt; shallow = λ bs shallow. shallow-then bs Break shallow refl }
 
--- those that are tried go on none
+-- those that are tried go on none of several lines
 pub trials-begin : AllBegin trials
-trials-begin = (λ on. refl, (λ on. refl, (λ on. refl, (λ on. refl, (λ on. refl, tt)))))
+trials-begin =
+    (λ on h. refl, (λ on h. refl, (λ on h. refl, (λ on h. refl, (setext-lines, (λ on h. refl, tt))))))
+  where
+    setext-lines : (on : HeldLeaf) → has_lines on ≡ true → is_text on ≡ false
+    setext-lines held_leaf.Text h = cc
+    setext-lines _ h = refl
 
 -- behind a line of a fence no other leaf of several lines is open,
 fence-left : (t : HeldLeaf → Bool) (options : ParseOptions) (on : HeldLeaf) (r : Rest) → t held_leaf.None ≡ false →
@@ -369,6 +455,11 @@ code-not_html = (refl, λ kind. refl)
 fence-none_html : NotHtml is_fence
 fence-none_html = (refl, λ kind. refl)
 
+-- and text is open behind no line of a leaf: a line might go on it lazily
+text-lazy : (on : HeldLeaf) → is_text on ≡ true → takes_lazy on ≡ true
+text-lazy held_leaf.Text e = refl
+text-lazy _ e = cc
+
 -- a line that goes on what a line of one has left is one of the leaf that takes its further lines
 pub further-is : (l m : LeafName) (options : ParseOptions) (on : HeldLeaf) (r : Rest) →
     (leaf m).further ((leaf l).holds options on r) ≡ true → m ≡ further_of l
@@ -378,12 +469,14 @@ further-is Fence FenceFurther options on r e = refl
 further-is FenceFurther FenceFurther options on r e = refl
 further-is HeadingAtx FenceFurther options on r e = cc
 further-is ThematicBreak FenceFurther options on r e = cc
+further-is HeadingSetext FenceFurther options on r e = cc
 further-is CodeIndented FenceFurther options on r e = cc
 further-is CodeFurther FenceFurther options on r e = cc
 further-is Fence CodeFurther options on r e = cc
 further-is FenceFurther CodeFurther options on r e = absurd (fence-left is_code options on r refl (fence-not_code on) e)
 further-is HeadingAtx CodeFurther options on r e = cc
 further-is ThematicBreak CodeFurther options on r e = cc
+further-is HeadingSetext CodeFurther options on r e = cc
 further-is HtmlFlow CodeFurther options on r e =
     absurd (html-left is_code (kind_begun r) r.bytes code-not_html e)
 further-is HtmlFurther CodeFurther options on r e = absurd (further-left is_code on r.bytes code-not_html e)
@@ -398,11 +491,14 @@ further-is HtmlFlow HtmlFurther options on r e = refl
 further-is HtmlFurther HtmlFurther options on r e = refl
 further-is HeadingAtx HtmlFurther options on r e = cc
 further-is ThematicBreak HtmlFurther options on r e = cc
+further-is HeadingSetext HtmlFurther options on r e = cc
 further-is l CodeIndented options on r e = cc
 further-is l Fence options on r e = cc
 further-is l HtmlFlow options on r e = cc
 further-is l HeadingAtx options on r e = cc
 further-is l ThematicBreak options on r e = cc
+further-is l HeadingSetext options on r e =
+    let lazy = text-lazy ((leaf l).holds options on r) e in let none = ((laws l).not_lazy options on).1 r in cc
 
 -- which takes those behind its own lines too
 pub further-further : (l : LeafName) → further_of (further_of l) ≡ further_of l
@@ -413,6 +509,7 @@ further-further FenceFurther = refl
 further-further HtmlFlow = refl
 further-further HtmlFurther = refl
 further-further HeadingAtx = refl
+further-further HeadingSetext = refl
 further-further ThematicBreak = refl
 
 -- no further line begins a block, so of the lines of one that does there is nothing to say
@@ -448,6 +545,7 @@ span-laws FenceFurther e = further-span fence_leaf fence_further fence-span fenc
 span-laws HtmlFlow e = html-span
 span-laws HtmlFurther e = further-span html_leaf html_further html-span html-begins
 span-laws HeadingAtx e = absurd (cc)
+span-laws HeadingSetext e = setext-span
 span-laws ThematicBreak e = absurd (cc)
 
 -- Where a leaf is tried behind others, it is asked whichever leaf the line meets.
@@ -457,7 +555,7 @@ AreAsked [] = Unit {0}
 AreAsked (l ∷ ls) = ((on : HeldLeaf) → (leaf l).asked on ≡ true) × AreAsked ls
 
 pub trials-asked : AreAsked trials
-trials-asked = (λ on. refl, (λ on. refl, (λ on. refl, (λ on. refl, (λ on. refl, tt)))))
+trials-asked = (λ on. refl, (λ on. refl, (λ on. refl, (λ on. refl, (λ on. refl, (λ on. refl, tt))))))
 
 pub trial-asked : (state : FlowState) (l : LeafName) → tried_at state ≡ Some l → (on : HeldLeaf) →
     (leaf l).asked on ≡ true
@@ -465,6 +563,7 @@ trial-asked flow.BeforeCodeIndented CodeIndented e on = refl
 trial-asked flow.BeforeRaw Fence e on = refl
 trial-asked flow.BeforeHtml HtmlFlow e on = refl
 trial-asked flow.BeforeHeadingAtx HeadingAtx e on = refl
+trial-asked flow.BeforeHeadingSetext HeadingSetext e on = refl
 trial-asked flow.BeforeThematicBreak ThematicBreak e on = refl
 trial-asked _ _ e on = cc
 
@@ -499,6 +598,7 @@ lines-join HtmlFlow e options on r starts begins =
     last false false false = refl
 lines-join HtmlFurther e options on r starts begins = absurd (html-begins options on r starts begins)
 lines-join HeadingAtx e options on r starts begins = absurd (cc)
+lines-join HeadingSetext e options on r starts begins = absurd (setext-begins options on r starts begins)
 lines-join ThematicBreak e options on r starts begins = absurd (cc)
 
 -- In the table of flow.
@@ -509,6 +609,7 @@ tried-before flow.BeforeCodeIndented CodeIndented e = refl
 tried-before flow.BeforeRaw Fence e = refl
 tried-before flow.BeforeHtml HtmlFlow e = refl
 tried-before flow.BeforeHeadingAtx HeadingAtx e = refl
+tried-before flow.BeforeHeadingSetext HeadingSetext e = refl
 tried-before flow.BeforeThematicBreak ThematicBreak e = refl
 tried-before _ _ e = cc
 
@@ -532,6 +633,7 @@ leaf-next FenceFurther is = absurd (cc)
 leaf-next HtmlFlow is = (refl, refl)
 leaf-next HtmlFurther is = absurd (cc)
 leaf-next HeadingAtx is = (refl, refl)
+leaf-next HeadingSetext is = (refl, refl)
 leaf-next ThematicBreak is = tt
 
 -- what the table has of a leaf: that its first state is ready at rest, of a lower level than flow; and that its trial is
@@ -555,6 +657,8 @@ leaf-states HtmlFlow =
 leaf-states HtmlFurther =
     record { level = omega arith; ready = λ x K is. is; starts = λ bytes options next cells h. refl }
 leaf-states HeadingAtx =
+    record { level = omega arith; ready = λ x K is. is; starts = λ bytes options next cells h. refl }
+leaf-states HeadingSetext =
     record { level = omega arith; ready = λ x K is. is; starts = λ bytes options next cells h. refl }
 leaf-states ThematicBreak =
     record { level = omega arith; ready = λ x K is. is; starts = λ bytes options next cells h. refl }
@@ -796,6 +900,9 @@ break_fits = record { white = white_fits; each = λ state. fits flow_owner (n.Th
 heading_fits : HeadingFits flow_table_scheme
 heading_fits = record { white = white_fits; each = λ state. fits flow_owner (n.HeadingAtx state) }
 
+setext_fits : SetextFits flow_table_scheme
+setext_fits = record { white = white_fits; each = λ state. fits flow_owner (n.HeadingSetext state) }
+
 code_fits : CodeFits flow_table_scheme
 code_fits = record { white = white_fits; each = λ state. fits flow_owner (n.CodeIndented state) }
 
@@ -827,6 +934,7 @@ construct-does is_name (n.BlockQuote state) w c at = quote_does flow_table_schem
 construct-does is_name (n.CodeIndented state) w c at = code_does flow_table_scheme state w code_fits c at
 construct-does is_name (n.HeadingAtx state) w c at =
     heading_does flow_table_scheme (is_name r.HeadingAtx) state w heading_fits c at
+construct-does is_name (n.HeadingSetext state) w c at = setext_does flow_table_scheme state w setext_fits c at
 construct-does is_name (n.HtmlFlow state) w c at = html_does flow_table_scheme state w html_fits c at
 construct-does is_name (n.ListItem state) w c at = item_does flow_table_scheme state w item_fits c at
 construct-does is_name (n.RawFlow state) w c at = fence_does flow_table_scheme state w fence_fits c at
@@ -848,6 +956,9 @@ construct-steps is_name feed next (n.CodeIndented state) w s c at =
     (record { white = white_has w.setting.bytes w.setting.options next; each = λ _ _ _. refl }) s at.0
 construct-steps is_name feed next (n.HeadingAtx state) w s c at =
     heading_steps _ feed (is_name r.HeadingAtx) state w _
+    (record { white = white_has w.setting.bytes w.setting.options next; each = λ _ _ _. refl }) s at
+construct-steps is_name feed next (n.HeadingSetext state) w s c at =
+    setext_steps _ feed state w _
     (record { white = white_has w.setting.bytes w.setting.options next; each = λ _ _ _. refl }) s at
 construct-steps is_name feed next (n.HtmlFlow state) w s c at =
     html_steps _ feed state w _ (record { each = λ _ _ _. refl }) s c at
@@ -873,6 +984,7 @@ pub construct-registers : (name : StateName) (w : World) → Registers w →
 construct-registers (n.BlockQuote state) w h = quote-registers state w h
 construct-registers (n.CodeIndented state) w h = code-registers state w h
 construct-registers (n.HeadingAtx state) w h = heading-registers state w h
+construct-registers (n.HeadingSetext state) w h = setext-registers state w h
 construct-registers (n.HtmlFlow state) w h = html-registers state w h
 construct-registers (n.ListItem state) w h = item-registers state w h
 construct-registers (n.RawFlow state) w h = fence-registers state w h

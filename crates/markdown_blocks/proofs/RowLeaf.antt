@@ -11,9 +11,9 @@ use Rattle.md_definition.specs.Rest.{Rest, is_blank}
 use Rattle.md_definition.specs.Tree.{Block}
 use Rattle.md_seam.specs.Substituted.{Readings}
 use Rattle.markdown_blocks.specs.Fronted.{rest_line}
-use Rattle.markdown_blocks.specs.Registry.{LeafName, leaf}
+use Rattle.markdown_blocks.specs.Registry.{LeafName, insider, leaf}
 use Rattle.markdown_blocks.specs.Rows.{BlankRow, LeafRow, Row, RowKind, TextRow, blank_line, leaf_done, leaf_unread}
-use Rattle.markdown_blocks.specs.Rows.{is_blank_by, is_blank_row, is_empty_row, row_line, stays_blank}
+use Rattle.markdown_blocks.specs.Rows.{is_blank_by, is_blank_row, is_empty_row, line_behind, row_line, stays_blank}
 use Rattle.markdown_blocks.proofs.BlankLine.{blank-facts, blank-unlinked}
 use Rattle.markdown_blocks.proofs.KindLemmas.{kind-blank, kind-filled, kind-starts}
 use Rattle.markdown_blocks.proofs.Registry.{insider-open}
@@ -21,6 +21,7 @@ use Rattle.markdown_blocks.proofs.RestRows.{line-blank}
 use Rattle.markdown_blocks.proofs.LeafFacts.{LeafFacts, LineAt, ReadsText}
 use Rattle.markdown_blocks.proofs.Registry.{laws}
 use Rattle.markdown_blocks.proofs.RowFacts.{IsRow, line-at}
+use Rattle.markdown_blocks.proofs.SpanLaws.{IsLineOf}
 use Rattle.markdown_blocks.proofs.SubstitutedLemmas.{Becomes, becomes-same, no_links-unwanted}
 
 -- the block that a line of this kind shows; text is shown with the lines around it
@@ -43,10 +44,10 @@ pub leaf-at : (options : ParseOptions) (bytes line : List ℕ) (row : Row) → (
 leaf-at options bytes line row is =
     subst (λ (l : List ℕ). LineAt bytes is.rest l row.first row.end) is.line_is (line-at options bytes line row is)
 
--- a line on which a leaf always ends is not blank, so its ending is not that of a blank line
+-- a line of a leaf that is not asked first is not blank, so its ending is not that of a blank line
 pub leaf-filled : (options : ParseOptions) (bytes line : List ℕ) (row : Row) (l : LeafName) →
-    IsRow options bytes line row → row.kind ≡ LeafRow l → (leaf l).ends ≡ true → row.empty ≡ false
-leaf-filled options bytes line row l is e ends =
+    IsRow options bytes line row → row.kind ≡ LeafRow l → (insider row.on ≡ Some l → ⊥) → row.empty ≡ false
+leaf-filled options bytes line row l is e other =
     is.empty
     ∙ ap₂ (λ (blank ended : Bool). (stays_blank row.kind && blank) || (ended && (row.first.column == 1))) some
     (stands line (ap is_blank is.line_is ∙ line-blank is.rest ∙ some) is.size)
@@ -54,8 +55,7 @@ leaf-filled options bytes line row l is e ends =
   where
     some : is_blank is.rest.bytes ≡ false
     some =
-        kind-filled options row.on is.rest l (sym is.kind ∙ e)
-        (λ i. let bad : true ≡ false = sym ends ∙ insider-open row.on l i in cc)
+        kind-filled options row.on is.rest l (sym is.kind ∙ e) other
 
     stands : (line : List ℕ) → is_blank line ≡ false → row.end.index ≡ row.first.index + length line →
         is_empty_row row ≡ false
@@ -88,12 +88,14 @@ row-facts options bytes line row is other ends = go row.kind refl
     go (LeafRow l) e =
         let starts : (leaf l).starts options row.on is.rest ≡ true =
         kind-starts options row.on is.rest l (sym is.kind ∙ e) in
+        let empty : row.empty ≡ false = leaf-filled options bytes line row l is e
+        (λ i. let bad : true ≡ false = sym (ends l e) ∙ insider-open row.on l i in cc) in
         subst (Facts bytes row is.rest) (sym e)
         (subst₂
         (λ (own : List ℕ) (empty : Bool).
         LeafFacts bytes (Some ((leaf l).block is.rest)) (not empty) row.first row.end ((leaf l).unread own row.first)
         ((leaf l).done bytes own row.first))
-        (sym (row-text options bytes line row is)) (sym (leaf-filled options bytes line row l is e (ends l e)))
+        (sym (row-text options bytes line row is)) (sym empty)
         ((laws l).facts (ends l e) options row.on bytes is.rest row.first row.end starts
         (leaf-at options bytes line row is)))
     go TextRow e = absurd (other e)
@@ -134,3 +136,21 @@ row-becomes options bytes line row is other ends wants reads text read = go row.
         ((laws l).becomes (ends l e) options row.on bytes is.rest row.first row.end starts
         (leaf-at options bytes line row is) wants reads text read))
     go TextRow e = absurd (other e)
+
+-- a line of a leaf is one of this leaf
+abbrev pub row-as : (options : ParseOptions) (bytes line : List ℕ) (row : Row) → IsRow options bytes line row →
+    (l : LeafName) → row.kind ≡ LeafRow l → IsLineOf options bytes (leaf l) row
+row-as options bytes line row is l kind = record {
+  rest = is.rest;
+  at = leaf-at options bytes line row is;
+  column = is.column;
+  starts = kind-starts options row.on is.rest l (sym is.kind ∙ kind);
+  inside = is.leaf_is l kind ∙ ap (λ (own : List ℕ). (leaf l).added options row.on own row.first) is.line_is;
+  behind = is.behind ∙ ap (line_behind options row.on is.rest) kind;
+  empty =
+      is.empty
+      ∙ ap
+      (λ (k : RowKind). (stays_blank k && is_blank is.rest.bytes) || (is_empty_row row && (row.first.column == 1)))
+      kind;
+  ending = ap (λ (k : RowKind). is_blank_by k row) kind;
+}

@@ -14,27 +14,28 @@ use Rattle.md_engine.specs.declared.tokenizer.held_leaf.HeldLeaf.{HeldLeaf}
 use Rattle.md_leaves.specs.declared.spans.Place.TheVariants.{Between, Inside, Outside}
 use Rattle.md_leaves.specs.Spanned.{begins_further, goes_on, has_lines, links_back, name_at, renamed, spanned}
 use Rattle.md_leaves.specs.Spanned.{spanned_from}
+use Rattle.md_leaves.specs.Turned.{turned}
 use Rattle.md_leaves.proofs.SpannedLines.{IsBegin, IsEnd, NoBlocks, NoLines, goes_on-other, line-begins, line-joined}
 use Rattle.md_leaves.proofs.SpannedLines.{IsFurther, blocks-lines, line-last, lines-block, spanned-passes, spanned-stays}
 use Rattle.md_seam.specs.Events.Blocks.{is_block}
-use Rattle.md_seam.specs.Events.Nested.{exit, is_enter, pair}
+use Rattle.md_seam.specs.Events.Nested.{around, exit, is_enter, pair}
 use Rattle.md_seam.specs.Events.Prefix.{is_prefix}
 use Rattle.md_seam.specs.Events.Spelled.{role}
 use Rattle.md_definition.specs.State.{Container}
 use Rattle.markdown_blocks.specs.Change.{ends_of}
-use Rattle.markdown_blocks.specs.Registry.{LeafName, further_of, leaf, resolved, text_leaf}
-use Rattle.markdown_blocks.specs.Rows.{BlankRow, Group, LeafRow, Lines, Row, RowKind, Single, Span, TextRow, blank_line}
+use Rattle.markdown_blocks.specs.Registry.{LeafName, further_of, leaf, resolved, text_leaf, turn_leaf}
+use Rattle.markdown_blocks.specs.Rows.{BlankRow, Group, LeafRow, Lines, Row, RowKind, Single, Span, TextRow, Turned}
 use Rattle.markdown_blocks.specs.Rows.{but_end, but_ends, end_of, ending_events, ending_of, groups, last_row}
-use Rattle.markdown_blocks.specs.Rows.{any_framed, is_framed, leaf_events, span_behind}
+use Rattle.markdown_blocks.specs.Rows.{any_framed, blank_line, is_framed, leaf_events, span_behind, turned_by}
 use Rattle.markdown_blocks.specs.Rows.{leaf_unread, row_events, rows_events, span_by, span_rest, tail_events}
-use Rattle.markdown_blocks.specs.Unread.{linked_lines, listed_group, listed_groups, listed_row_by, set_groups}
-use Rattle.markdown_blocks.specs.Unread.{text_unread, unread_groups, unread_lines}
+use Rattle.markdown_blocks.specs.Unread.{linked_lines, listed_group, listed_groups, listed_row_by, text_unread}
+use Rattle.markdown_blocks.specs.Unread.{turned_groups, unread_groups, unread_lines}
 use Rattle.markdown_blocks.proofs.EachEvent.{each-append}
 use Rattle.markdown_blocks.proofs.FrontNames.{HasFront, ends-are, fronts-are, fronts-prefixes}
-use Rattle.markdown_blocks.proofs.GroupLemmas.{AreGroups, AreSpan, IsSingle, groups-are, leaves-set}
+use Rattle.markdown_blocks.proofs.GroupLemmas.{AreGroups, AreSpan, IsSingle, groups-are}
 use Rattle.markdown_blocks.proofs.GroupLemmas.{lines-prefixed}
-use Rattle.markdown_blocks.proofs.GroupsAre.{Begins, IsSpanLine, behind-first, line-further, line-of, span-begins}
-use Rattle.markdown_blocks.specs.HeldLeaf.{has_lines as still_lines}
+use Rattle.markdown_blocks.proofs.GroupsAre.{AreLines, Begins, IsSpanLine, IsUnder, behind-first, line-further}
+use Rattle.markdown_blocks.specs.HeldLeaf.{may_go_on}
 use Rattle.markdown_blocks.specs.LineFlags.{ending_name}
 use Rattle.markdown_blocks.specs.FlowReads.{lines_joined}
 use Rattle.markdown_blocks.specs.Registry.{joins_lines}
@@ -52,6 +53,8 @@ use Rattle.markdown_blocks.proofs.SpanLaws.{AreBehind, IsBare, IsLineOf, IsNone,
 use Rattle.markdown_blocks.proofs.SpannedFacts.{AreUnspanned, IsUnspanned, fronts-unspanned, unspanned-lines}
 use Rattle.markdown_blocks.proofs.SpannedFacts.{unspanned-pass}
 use Rattle.markdown_blocks.proofs.SubstitutedLemmas.{EachPrefixed}
+use Rattle.markdown_blocks.proofs.TurnedGroups.{headings-set}
+use Rattle.markdown_blocks.proofs.Underlines.{under-unspanned}
 
 -- Endings.
 
@@ -590,57 +593,103 @@ text-unspanned bytes row rows h front =
     ))
     (tail-unspanned TextRow last)
 
+-- the text that an underline turns, with it
+turned-unspanned : (options : ParseOptions) (bytes : List ℕ) (row : Row) (rows : List Row) (under : Row) →
+    AreLines options bytes row rows → IsUnder options bytes (last_row row rows) under → HasFront bytes row →
+    AreUnspanned (listed_group bytes (Turned row rows under))
+turned-unspanned options bytes row rows under are is front =
+    each-append IsUnspanned (row.front ++ turned_by (unread_lines row rows) row rows under)
+    (tail_events (ending_of under.kind under) under)
+    (each-append IsUnspanned row.front (turned_by (unread_lines row rows) row rows under)
+    (front-unspanned bytes row front) (
+      refl,
+      each-append IsUnspanned (begun ++ under.inside) (exit turn_leaf.name under.end ∷ [])
+          (each-append IsUnspanned begun under.inside
+          (each-append IsUnspanned (text ++ ending_events n.LineEnding last) under.front
+          (each-append IsUnspanned text (ending_events n.LineEnding last) (
+            refl,
+            each-append IsUnspanned (unread_lines row rows) (exit turn_leaf.text last.end ∷ [])
+                (linked-unspanned text_leaf.link row rows (lines-prefixed options bytes row rows are)) (refl, tt),
+          )
+          (ending-unspanned n.LineEnding last (ending-name TextRow last)))
+          (prefixes-unspanned under.front (fronts-prefixes bytes [] is.after under.first under.front refl is.front)))
+          (under-unspanned options bytes row rows under are is))
+          (refl, tt),
+    ))
+    (tail-unspanned under.kind under)
+  where
+    last : Row
+    last = last_row row rows
+
+    text : List Event
+    text = around turn_leaf.text row.first last.end (unread_lines row rows)
+
+    begun : List Event
+    begun = text ++ ending_events n.LineEnding last ++ under.front
+
 -- Groups.
 
 -- no group begins with a further line
 groups-ahead : (options : ParseOptions) (bytes : List ℕ) (gs : List Group) → AreGroups options bytes gs →
-    goes_on (set_groups bytes gs) ≡ false
+    goes_on (turned_groups bytes gs) ≡ false
 groups-ahead options bytes [] are = refl
 groups-ahead options bytes (Single row ∷ gs) are =
-    plain-ahead (listed_group bytes (Single row)) (set_groups bytes gs)
+    plain-ahead (listed_group bytes (Single row)) (turned_groups bytes gs)
     (unspanned-lines (listed_group bytes (Single row)) (single-unspanned options bytes row are.0 row.kind refl))
     (groups-ahead options bytes gs are.1)
 groups-ahead options bytes (Lines row rows ∷ gs) are =
-    plain-ahead (listed_group bytes (Lines row rows)) (set_groups bytes gs)
+    plain-ahead (listed_group bytes (Lines row rows)) (turned_groups bytes gs)
     (unspanned-lines (listed_group bytes (Lines row rows))
     (text-unspanned bytes row rows (lines-prefixed options bytes row rows are.0) are.2))
     (groups-ahead options bytes gs are.3)
+groups-ahead options bytes (Turned row rows under ∷ gs) are =
+    plain-ahead (listed_group bytes (Turned row rows under)) (turned_groups bytes gs)
+    (unspanned-lines (listed_group bytes (Turned row rows under))
+    (turned-unspanned options bytes row rows under are.0 are.1 are.3))
+    (groups-ahead options bytes gs are.4)
 groups-ahead options bytes (Span row rows ∷ gs) are =
     let of_leaf : AreOfLeaf options bytes row rows = span-leaf options bytes row rows are.0 are.4 in
     let kind = together-kind row rows (span-together options bytes row rows are.0) in
     let s : IsSpanned AreUnspanned IsBegin row.inside =
     (span-laws of_leaf.name of_leaf.open_leaf).first_spanned options bytes row of_leaf.is of_leaf.first in
     let more : List Event = s.inside ++
-    s.end ∷ (tail_events (ending_at row) row ++ (rows_events rows ++ set_groups bytes gs)) in
-    ap goes_on (row-laid AreUnspanned IsBegin row kind.0 (rows_events rows) (set_groups bytes gs) kind.1 s)
+    s.end ∷ (tail_events (ending_at row) row ++ (rows_events rows ++ turned_groups bytes gs)) in
+    ap goes_on (row-laid AreUnspanned IsBegin row kind.0 (rows_events rows) (turned_groups bytes gs) kind.1 s)
     ∙ plain-ahead row.front (s.lead ++ s.begin ∷ more)
     (unspanned-lines row.front (front-unspanned bytes row (span-front options bytes row rows are.0)))
     (plain-ahead s.lead (s.begin ∷ more) (unspanned-lines s.lead s.lead_plain) (begin-ahead s.begin more s.begins))
 
 -- so each leaf of several lines is joined by itself
 groups-joined : (options : ParseOptions) (bytes : List ℕ) (gs : List Group) → AreGroups options bytes gs →
-    spanned (set_groups bytes gs) ≡ listed_groups bytes gs
+    spanned (turned_groups bytes gs) ≡ listed_groups bytes gs
 groups-joined options bytes [] are = refl
 groups-joined options bytes (Single row ∷ gs) are =
-    passed (listed_group bytes (Single row)) (set_groups bytes gs)
+    passed (listed_group bytes (Single row)) (turned_groups bytes gs)
     (single-unspanned options bytes row are.0 row.kind refl)
     ∙ ap (λ (l : List Event). listed_group bytes (Single row) ++ l) (groups-joined options bytes gs are.1)
 groups-joined options bytes (Lines row rows ∷ gs) are =
-    passed (listed_group bytes (Lines row rows)) (set_groups bytes gs)
+    passed (listed_group bytes (Lines row rows)) (turned_groups bytes gs)
     (text-unspanned bytes row rows (lines-prefixed options bytes row rows are.0) are.2)
     ∙ ap (λ (l : List Event). listed_group bytes (Lines row rows) ++ l) (groups-joined options bytes gs are.3)
+groups-joined options bytes (Turned row rows under ∷ gs) are =
+    passed (listed_group bytes (Turned row rows under)) (turned_groups bytes gs)
+    (turned-unspanned options bytes row rows under are.0 are.1 are.3)
+    ∙ ap (λ (l : List Event). listed_group bytes (Turned row rows under) ++ l) (groups-joined options bytes gs are.4)
 groups-joined options bytes (Span row rows ∷ gs) are =
-    span-joined options bytes row rows (set_groups bytes gs) are.0 are.4 (groups-ahead options bytes gs are.2)
+    span-joined options bytes row rows (turned_groups bytes gs) are.0 are.4 (groups-ahead options bytes gs are.2)
     ∙ ap (λ (l : List Event). listed_group bytes (Span row rows) ++ l) (groups-joined options bytes gs are.2)
 
 -- where none is read there is nothing to join
 groups-apart : (options : ParseOptions) (bytes : List ℕ) (gs : List Group) → joins_lines options ≡ false →
-    AreGroups options bytes gs → set_groups bytes gs ≡ listed_groups bytes gs
+    AreGroups options bytes gs → turned_groups bytes gs ≡ listed_groups bytes gs
 groups-apart options bytes [] none are = refl
 groups-apart options bytes (Single row ∷ gs) none are =
     ap (λ (l : List Event). listed_group bytes (Single row) ++ l) (groups-apart options bytes gs none are.1)
 groups-apart options bytes (Lines row rows ∷ gs) none are =
     ap (λ (l : List Event). listed_group bytes (Lines row rows) ++ l) (groups-apart options bytes gs none are.3)
+groups-apart options bytes (Turned row rows under ∷ gs) none are =
+    ap (λ (l : List Event). listed_group bytes (Turned row rows under) ++ l)
+    (groups-apart options bytes gs none are.4)
 groups-apart options bytes (Span row rows ∷ gs) none are =
     let of_leaf : AreOfLeaf options bytes row rows = span-leaf options bytes row rows are.0 are.4 in
     let joins =
@@ -648,13 +697,13 @@ groups-apart options bytes (Span row rows ∷ gs) none are =
     let bad : true ≡ false = sym joins ∙ none in
     cc
 
--- The resolvers of leaves have run, and the lines of each leaf of several are joined.
+-- The resolvers of leaves have run, setext headings are set, and the lines of each leaf of several are joined.
 pub lines-joined : (options : ParseOptions) (bytes : List ℕ) (open_before : List Container) (still : HeldLeaf)
     (p : Point) (lines : List (List ℕ)) (rows : List Row) →
-    still_lines still ≡ false → AreRows options bytes open_before still p lines rows → EachNoContent rows →
-    lines_joined options (resolved (unread_groups (groups rows))) ≡ listed_groups bytes (groups rows)
+    may_go_on still ≡ false → AreRows options bytes open_before still p lines rows → EachNoContent rows →
+    lines_joined options (turned (resolved (unread_groups (groups rows)))) ≡ listed_groups bytes (groups rows)
 lines-joined options bytes open_before still p lines rows shut are quiet =
-    ap (lines_joined options) (leaves-set options bytes open_before still p lines rows shut are quiet)
+    ap (lines_joined options) (headings-set options bytes open_before still p lines rows shut are quiet)
     ∙ go (joins_lines options) refl
   where
     gs : List Group
@@ -664,6 +713,6 @@ lines-joined options bytes open_before still p lines rows shut are quiet =
     laid = groups-are options bytes open_before still p lines rows shut are quiet
 
     go : (x : Bool) → joins_lines options ≡ x →
-        cond x (spanned (set_groups bytes gs)) (set_groups bytes gs) ≡ listed_groups bytes gs
+        cond x (spanned (turned_groups bytes gs)) (turned_groups bytes gs) ≡ listed_groups bytes gs
     go true e = groups-joined options bytes gs laid
     go false e = groups-apart options bytes gs e laid

@@ -1,37 +1,39 @@
--- What the lines of a leaf are read as, with what follows them: a line that is no text, the lines of a text, and those
--- of a leaf of several.
+-- What the lines of a leaf are read as, with what follows them: a line that is no text, the lines of a text, with the
+-- one that turns it if one does, and those of a leaf of several.
 use Rattle.md_engine.specs.declared.tokenizer.held_leaf.HeldLeaf.{HeldLeaf}
-use Rattle.std.proofs.Common.{append_assoc}
-use Rattle.std.proofs.Common.{◌≡◌, ◌≢◌, ℕ, Bool, true, false, cond, ◌&&◌, List, [], ◌∷◌, ◌++◌}
+use Rattle.md_engine.specs.declared.tokenizer.held_leaf.HeldLeaf.TheVariants as held_leaf
+use Rattle.std.proofs.Common.{append_assoc, arith, map}
+use Rattle.std.proofs.Common.{◌≡◌, ◌≢◌, ℕ, ◌<◌, Bool, true, false, cond, ◌&&◌, List, [], ◌∷◌, ◌++◌}
+use Rattle.std.proofs.lemmas.Bool.Decides.{nat_tests}
 use Rattle.std.specs.Prelude.{nat_lt}
 use Rattle.md_definition.specs.Leaves.{Finished, Opened}
-use Rattle.markdown_blocks.specs.HeldLeaf.{has_lines, kind_of_leaf, left_by}
+use Rattle.markdown_blocks.specs.HeldLeaf.{kind_of_leaf, left_by, may_go_on}
 use Rattle.markdown_blocks.specs.Registry.{further_of}
 use Rattle.markdown_blocks.specs.LineFlags.{ending_name}
 use Rattle.markdown_blocks.specs.Rows.{is_blank_row}
 use Rattle.markdown_blocks.specs.Rows.{is_further, onto_span, span_done}
 use Rattle.markdown_blocks.proofs.GroupsAre.{shut-behind}
 use Rattle.markdown_blocks.proofs.LineSteps.{with_came}
-use Rattle.markdown_blocks.proofs.Registry.{further-is, span-laws}
+use Rattle.markdown_blocks.proofs.Registry.{further-is, span-laws, text-turns}
 use Rattle.markdown_blocks.proofs.RowLeaf.{EndsOnLine}
 use Rattle.markdown_blocks.proofs.SpanLaws.{AreBehind, IsLineOf, SpanLaws, come_behind}
-use Rattle.markdown_blocks.proofs.StepBehind.{came-spot}
+use Rattle.markdown_blocks.proofs.StepBehind.{came-spot, containers-longer}
 use Rattle.markdown_blocks.specs.Registry.{LeafName, leaf}
 use Rattle.md_definition.specs.Leaves.{Came}
 use Rattle.md_definition.specs.Step.{came}
-use Rattle.markdown_blocks.specs.Rows.{Span}
+use Rattle.markdown_blocks.specs.Rows.{Span, Turned}
 use Rattle.markdown_blocks.specs.Rows.{line_behind}
 use Rattle.std.proofs.Common.{length, refl, ap, ap₂, sym, ◌∙◌, subst, inl, inr, ◌⊎◌}
-use Rattle.std.specs.Prelude.{None, Some}
+use Rattle.std.specs.Prelude.{None, Option, Some}
 use Rattle.md_engine.specs.declared.configuration.ParseOptions.{ParseOptions}
 use Rattle.md_engine.specs.declared.event.Event.{Event}
 use Rattle.md_engine.specs.declared.event.Name.{Name}
 use Rattle.md_engine.specs.declared.event.Name.TheVariants as n
 use Rattle.md_engine.specs.declared.event.Point.{Point}
 use Rattle.md_seam.specs.Events.Nested.{enter, exit}
-use Rattle.md_definition.specs.Rest.{Rest}
+use Rattle.md_definition.specs.Rest.{Rest, is_blank}
 use Rattle.md_seam.specs.Events.Spelled.{Around, Reading, read, role}
-use Rattle.md_definition.specs.State.{At, Container, Kept, Leaf, NoLeaf, Path, Within, kept, shut, spot}
+use Rattle.md_definition.specs.State.{At, Container, Kept, Leaf, NoLeaf, Path, Spot, Within, kept, shut, spot}
 use Rattle.md_definition.specs.Step.{step}
 use Rattle.md_definition.specs.Tree.{Block, Blocks}
 use Rattle.md_seam.proofs.SpelledLemmas.{Between, QuietOrPrefix, read-between, read-from, read-prefixes}
@@ -42,11 +44,15 @@ use Rattle.markdown_blocks.specs.Fronted.{Contained, contained, rest_from}
 use Rattle.markdown_blocks.specs.Parsed.{IsBuilt}
 use Rattle.markdown_blocks.specs.Rows.{BlankRow, Group, LeafRow, Lines, Row, RowKind, TextRow}
 use Rattle.markdown_blocks.specs.Rows.{ending_events, ending_of, groups_events, is_text}
-use Rattle.markdown_blocks.specs.Rows.{last_row, line_kind, onto_groups, onto_lines, tail_events}
+use Rattle.markdown_blocks.specs.Rows.{last_row, line_kind, onto_groups, tail_events}
 use Rattle.markdown_blocks.specs.Stands.{IsPlain, around_of, containers_of, still_of}
 use Rattle.markdown_blocks.specs.Stands.{reading, reading_on}
 use Rattle.markdown_blocks.proofs.FrontFacts.{Behind, Begins, LinePrefix, Goes}
-use Rattle.markdown_blocks.proofs.LineSteps.{longer, renewed, spot_by}
+use Rattle.markdown_blocks.proofs.FrontPlaces.{fronts-grow}
+use Rattle.markdown_blocks.proofs.JoinedLemmas.{text-onto, text_group}
+use Rattle.markdown_blocks.proofs.LineSteps.{longer, renewed, renewed-spot, spot_by}
+use Rattle.markdown_blocks.proofs.LineTexts.{some-text, text-behind}
+use Rattle.markdown_blocks.proofs.UnderNames.{under-shuts}
 use Rattle.markdown_blocks.proofs.StepBehind.{still-step}
 use Rattle.markdown_blocks.proofs.Registry.{laws}
 use Rattle.markdown_blocks.proofs.RowFacts as f
@@ -59,7 +65,7 @@ use Rattle.markdown_blocks.proofs.PrefixNames.{prefixes-roles}
 use Rattle.markdown_blocks.proofs.ContainerNames.{container-facts}
 use Rattle.markdown_blocks.proofs.SpelledPaths.{AreShapes, around-same, close_containers-between}
 use Rattle.markdown_blocks.proofs.SpelledPaths.{close_containers-one, enters, longer-longer, open_path, reading-open}
-use Rattle.markdown_blocks.proofs.SpelledPaths.{reading-with, with_spot}
+use Rattle.markdown_blocks.proofs.SpelledPaths.{reading-renewed, reading-with, with_spot}
 
 -- Events.
 
@@ -107,22 +113,52 @@ abbrev pub Reads : ParseOptions → List ℕ → Path → List Container → Lis
 Reads options bytes p closes gs last =
     read bytes (close_containers (length closes) (reading options p)) (groups_events bytes gs) ≡ last
 
+-- the line that turns a text, behind its last line
+pub record IsTurn (options : ParseOptions) (bytes : List ℕ) (last under : Row) : Type 0 where
+  pub name : LeafName
+  pub is : IsLineOf options bytes (leaf name) under
+  pub further : (leaf name).further held_leaf.Text ≡ true
+  pub after : Point
+  pub after_is : last.after ≡ Some after
+  pub ending : f.IsEnding bytes last.end after
+  pub front : LinePrefix bytes [] after under.first under.front
+
+-- the one behind the lines of a text, if one turns them
+abbrev pub IsTurned : ParseOptions → List ℕ → Row → Option Row → Type 0
+IsTurned options bytes last None = Unit {0}
+IsTurned options bytes last (Some under) = IsTurn options bytes last under
+
+-- what is open behind them
+abbrev pub text_path : (options : ParseOptions) (bytes : List ℕ) (last : Row) (turn : Option Row) →
+    IsTurned options bytes last turn → Path → Path
+text_path options bytes last None is p = p
+text_path options bytes last (Some under) is p =
+    with_came p ((leaf is.name).comes options (spot p).leaf is.is.rest)
+
+-- and what stands there
+abbrev pub text_tail : Row → Option Row → List Event
+text_tail last None = tail_events n.LineEnding last
+text_tail last (Some under) = tail_events (ending_name (is_blank_row under)) under
+
 -- the lines of a text go on an open one or begin one, and with what follows are read as this
-pub record ReadsLines (options : ParseOptions) (bytes : List ℕ) (p : Path) (row : Row) (rows : List Row) (gs : List Group)
-    (last : Reading) : Type 0 where
+pub record ReadsLines (options : ParseOptions) (bytes : List ℕ) (p : Path) (row : Row) (rows : List Row)
+    (turn : Option Row) (gs : List Group) (last : Reading) : Type 0 where
   pub first : Kept
   pub lines : List Kept
   pub are : IsRead bytes row rows (first ∷ lines)
-  pub behind : read bytes (reading options (longer p (first ∷ lines)))
-      (tail_events n.LineEnding (last_row row rows) ++ groups_events bytes gs) ≡
+  pub turned : IsTurned options bytes (last_row row rows) turn
+  pub behind : read bytes
+      (reading options (text_path options bytes (last_row row rows) turn turned (longer p (first ∷ lines))))
+      (text_tail (last_row row rows) turn ++ groups_events bytes gs) ≡
       last
 
 pub record StartsLines (options : ParseOptions) (bytes : List ℕ) (p : Path) (row : Row) (gs : List Group)
     (last : Reading) : Type 0 where
   pub rows : List Row
+  pub turn : Option Row
   pub below : List Group
-  pub groups_are : gs ≡ Lines row rows ∷ below
-  pub reads : ReadsLines options bytes p row rows below last
+  pub groups_are : gs ≡ text_group turn row rows ∷ below
+  pub reads : ReadsLines options bytes p row rows turn below last
 
 -- What an open leaf of several lines comes to with a further line that begins at this point; one behind the last ending
 -- of the text is no line of the definition.
@@ -178,7 +214,7 @@ pub record Joins (options : ParseOptions) (bytes : List ℕ) (p : Path) (row : R
   pub ending : f.IsEnding bytes row.end after
   pub fronts : LinePrefix bytes [] after next.first next.front
 
--- or on a leaf of several lines
+-- or on a leaf of several lines, or it turns a text
 pub record JoinsSpan (options : ParseOptions) (bytes : List ℕ) (p : Path) (row : Row) (gs : List Group)
     (last : Reading) : Type 0 where
   pub name : LeafName
@@ -190,40 +226,179 @@ pub record JoinsSpan (options : ParseOptions) (bytes : List ℕ) (p : Path) (row
   pub on : next.on ≡ row.behind
   pub further : is_further next.kind next.on ≡ true
   pub still : still_of p ≡ row.behind
-  pub lines : has_lines row.behind ≡ true
+  pub may : may_go_on row.behind ≡ true
   pub starts : StartsSpan options bytes name p after next gs last
 
 abbrev pub Follows : ParseOptions → List ℕ → Path → Row → List Group → Reading → Type 0
 Follows options bytes p row gs last =
     Parts options bytes p row gs last ⊎ (Joins options bytes p row gs last ⊎ JoinsSpan options bytes p row gs last)
 
-pub onto-joined : (row next : Row) (rows : List Row) (gs : List Group) → row.leaves ≡ [] → next.change.opens ≡ [] →
-    onto_lines row next rows gs ≡ Lines row (next ∷ rows) ∷ gs
-onto-joined row next rows gs e h =
-    ap₂
+onto-joined : (row next : Row) (rows : List Row) (turn : Option Row) (gs : List Group) → row.leaves ≡ [] →
+    next.change.opens ≡ [] →
+    onto_groups row TextRow (text_group turn next rows ∷ gs) ≡ text_group turn row (next ∷ rows) ∷ gs
+onto-joined row next rows turn gs e h =
+    text-onto turn row next rows gs
+    ∙ ap₂
     (λ (xs ys : List Container).
-    cond (is_none xs && is_none ys) (Lines row (next ∷ rows) ∷ gs) (Lines row [] ∷ Lines next rows ∷ gs)) e h
+    cond (is_none xs && is_none ys) (text_group turn row (next ∷ rows) ∷ gs)
+    (Lines row [] ∷ text_group turn next rows ∷ gs)) e h
 
--- A line of text goes on a text as well where the path is another that is read alike.
-pub starts-alike : (options : ParseOptions) (bytes : List ℕ) (p q : Path) (row : Row) (gs : List Group) (last : Reading) →
-    ((lines : List Kept) → reading options (longer p lines) ≡ reading options (longer q lines)) →
-    StartsLines options bytes p row gs last → StartsLines options bytes q row gs last
-starts-alike options bytes p q row gs last alike starts =
+-- What a line changes of the containers that stay, the events do not tell: not behind what the innermost leaf came to,
+pub reading-came : (options : ParseOptions) (stays closes : List Container) (outer : List Around) (p : Path) (c : Came) →
+    AreShapes stays closes p →
+    reading_on options outer (with_came (renewed stays p) c) ≡ reading_on options outer (with_came p c)
+reading-came options [] closes outer p c e = refl
+reading-came options (d ∷ stays) closes outer (At s) c e = refl
+reading-came options (d ∷ stays) closes outer (Within before container p) c e =
+    let same : shape_of d ≡ shape_of container = cc in
+    let more : AreShapes stays closes p = cc in
+    ap (λ (around : Around). reading_on options (around ∷ outer) (with_came (renewed stays p) c))
+    (around-same d container before same)
+    ∙ reading-came options stays closes (around_of container before ∷ outer) p c more
+
+longer-renewed : (stays : List Container) (p : Path) (lines : List Kept) →
+    longer (renewed stays p) lines ≡ renewed stays (longer p lines)
+longer-renewed [] p lines = refl
+longer-renewed (c ∷ stays) (At s) lines = refl
+longer-renewed (c ∷ stays) (Within before container p) lines = ap (Within before c) (longer-renewed stays p lines)
+
+-- nor behind lines of text, whether one turns them or none,
+reading-text : (options : ParseOptions) (bytes : List ℕ) (stays closes : List Container) (p : Path) (lines : List Kept)
+    (last : Row) (turn : Option Row) (is : IsTurned options bytes last turn) →
+    AreShapes stays closes p →
+    reading options (text_path options bytes last turn is (longer (renewed stays p) lines)) ≡
+    reading options (text_path options bytes last turn is (longer p lines))
+reading-text options bytes stays closes p lines last None is shapes =
+    reading-renewed options stays closes [] p lines shapes
+reading-text options bytes stays closes p lines last (Some under) is shapes =
+    let q : Path = longer p lines in
+    let comes : Leaf → Came = λ open_leaf. (leaf is.name).comes options open_leaf is.is.rest in
+    ap (λ (x : Path). reading options (with_came x (comes (spot x).leaf))) (longer-renewed stays p lines)
+    ∙ ap (λ (s : Spot). reading options (with_came (renewed stays q) (comes s.leaf))) (renewed-spot stays q)
+    ∙ reading-came options stays closes [] q (comes (spot q).leaf)
+    (shapes ∙ ap (map shape_of) (sym (containers-longer p lines)))
+
+-- so a line of text goes on a text there as well.
+pub starts-alike : (options : ParseOptions) (bytes : List ℕ) (stays closes : List Container) (p : Path) (row : Row)
+    (gs : List Group) (last : Reading) →
+    AreShapes stays closes p → StartsLines options bytes (renewed stays p) row gs last →
+    StartsLines options bytes p row gs last
+starts-alike options bytes stays closes p row gs last shapes starts =
     let reads = starts.reads in
+    let final : Row = last_row row starts.rows in
     record {
       rows = starts.rows;
+      turn = starts.turn;
       below = starts.below;
       groups_are = starts.groups_are;
       reads = record {
         first = reads.first;
         lines = reads.lines;
         are = reads.are;
+        turned = reads.turned;
         behind =
             ap
             (λ (r : Reading).
-            read bytes r (tail_events n.LineEnding (last_row row starts.rows) ++ groups_events bytes starts.below))
-            (sym (alike (reads.first ∷ reads.lines)))
+            read bytes r (text_tail final starts.turn ++ groups_events bytes starts.below))
+            (sym
+            (reading-text options bytes stays closes p (reads.first ∷ reads.lines) final starts.turn reads.turned
+            shapes))
             ∙ reads.behind;
+      };
+    }
+
+-- behind what turns a text no leaf is open, so no line goes on it
+turn-alone : (options : ParseOptions) (bytes : List ℕ) (l : LeafName) (under : Row) (rows : List Row) →
+    (leaf l).further held_leaf.Text ≡ true → IsLineOf options bytes (leaf l) under →
+    AreBehind options bytes (leaf l) under rows → rows ≡ []
+turn-alone options bytes l under [] further is are = refl
+turn-alone options bytes l under (next ∷ rows) further is are =
+    let left : next.on ≡ held_leaf.None = are.4 ∙ is.behind ∙ under-shuts l further options under.on is.rest in
+    let may = (laws l).meets options next.on are.6.rest are.6.starts are.5 in
+    let bad : true ≡ false = sym may ∙ ap may_go_on left in
+    absurd (cc)
+
+-- it is a line of the text, not one behind its end
+turn-inside : (options : ParseOptions) (bytes : List ℕ) (l : LeafName) (p : Point) (under : Row) →
+    (leaf l).further held_leaf.Text ≡ true → IsLineOf options bytes (leaf l) under →
+    LinePrefix bytes [] p under.first under.front → nat_lt p.index (length bytes) ≡ true
+turn-inside options bytes l p under further is front =
+    let dark : is_blank is.rest.bytes ≡ false = (text-turns l further).filled options under.on is.rest is.starts in
+    let inside = text-behind bytes is.rest under.first under.end is.at (some-text is.rest dark) in
+    let grow = fronts-grow bytes [] p under.first under.front front in
+    let less : p.index < length bytes = omega (arith, inside, grow) in grind (arith, nat_tests)
+
+-- a line of text with the one that turns it
+turn-lines : (options : ParseOptions) (bytes line : List ℕ) (p : Path) (row : Row) (gs : List Group) (last : Reading) →
+    (is : f.IsRow options bytes line row) → row.kind ≡ TextRow →
+    JoinsSpan options bytes (longer p (kept is.rest ∷ [])) row gs last →
+    StartsLines options bytes p row (onto_groups row TextRow gs) last
+turn-lines options bytes line p row gs last is text joins =
+    go reads.rows (turn-alone options bytes joins.name under reads.rows further joins.starts.is reads.are)
+    reads.groups_are reads.are reads.behind
+  where
+    under : Row
+    under = joins.next
+
+    q : Path
+    q = longer p (kept is.rest ∷ [])
+
+    rest : Rest
+    rest = joins.starts.is.rest
+
+    first : Came
+    first = first_come options bytes joins.name q joins.after rest
+
+    reads : ReadsSpan options bytes joins.name q first under gs last
+    reads = joins.starts.reads
+
+    further : (leaf joins.name).further held_leaf.Text ≡ true
+    further =
+        ap (leaf joins.name).further
+        (sym (ap (line_behind options row.on is.rest) text) ∙ sym is.behind ∙ sym joins.on)
+        ∙ joins.starts.further
+
+    come : first ≡ (leaf joins.name).comes options (spot q).leaf rest
+    come =
+        ap (λ (x : Bool). cond x ((leaf joins.name).comes options (spot q).leaf rest) (Opened (spot q).leaf))
+        (turn-inside options bytes joins.name joins.after under further joins.starts.is joins.fronts)
+
+    go : (rows : List Row) → rows ≡ [] → gs ≡ Span under rows ∷ reads.below →
+        (are : AreBehind options bytes (leaf joins.name) under rows) →
+        read bytes (reading options (with_came q (come_behind options bytes (leaf joins.name) under rows are first)))
+        (span_tail under rows ++ groups_events bytes reads.below) ≡
+        last →
+        StartsLines options bytes p row (onto_groups row TextRow gs) last
+    go (next ∷ rows) none e are behind = absurd (cc)
+    go [] none e are behind = record {
+      rows = [];
+      turn = Some under;
+      below = reads.below;
+      groups_are =
+          ap (onto_groups row TextRow) e
+          ∙ ap
+          (λ (x : Bool).
+          cond (x && true) (Turned row [] under ∷ reads.below) (Lines row [] ∷ Span under [] ∷ reads.below))
+          joins.further;
+      reads = record {
+        first = kept is.rest;
+        lines = [];
+        are = read-one options bytes line row is text;
+        turned = record {
+          name = joins.name;
+          is = joins.starts.is;
+          further = further;
+          after = joins.after;
+          after_is = joins.after_is;
+          ending = joins.ending;
+          front = joins.fronts;
+        };
+        behind =
+            ap
+            (λ (c : Came).
+            read bytes (reading options (with_came q c)) (span_tail under [] ++ groups_events bytes reads.below))
+            (sym come)
+            ∙ behind;
       };
     }
 
@@ -235,12 +410,14 @@ pub starts-lines : (options : ParseOptions) (bytes line : List ℕ) (p : Path) (
     StartsLines options bytes p row (onto_groups row TextRow gs) last
 starts-lines options bytes line p row gs last is text (inl parts) = record {
   rows = [];
+  turn = None;
   below = gs;
   groups_are = parts.apart text;
   reads = record {
     first = kept is.rest;
     lines = [];
     are = read-one options bytes line row is text;
+    turned = tt;
     behind =
         let s : Reading = reading options (longer p (kept is.rest ∷ [])) in
         read-from bytes s (close_containers (length row.leaves) s) (tail_events n.LineEnding row)
@@ -249,30 +426,30 @@ starts-lines options bytes line p row gs last is text (inl parts) = record {
   };
 }
 starts-lines options bytes line p row gs last is text (inr (inr joins)) =
-    let lines = joins.lines in
-    let none = shut-behind options bytes line row is
-    (λ l e. let bad : TextRow ≡ LeafRow l = sym text ∙ e in cc) in
-    cc
+    turn-lines options bytes line p row gs last is text joins
 starts-lines options bytes line p row gs last is text (inr (inl joins)) =
     let below = joins.starts in
     let reads = below.reads in
+    let final : Row = last_row joins.next below.rows in
     record {
       rows = joins.next ∷ below.rows;
+      turn = below.turn;
       below = below.below;
       groups_are =
           ap (onto_groups row TextRow) below.groups_are
-          ∙ onto-joined row joins.next below.rows below.below joins.leaves joins.opens;
+          ∙ onto-joined row joins.next below.rows below.turn below.below joins.leaves joins.opens;
       reads = record {
         first = kept is.rest;
         lines = reads.first ∷ reads.lines;
         are =
             read-more options bytes line row joins.next below.rows joins.after
             (reads.first ∷ reads.lines) is text joins.ending joins.fronts reads.are;
+        turned = reads.turned;
         behind =
             subst
             (λ (x : Path).
-            read bytes (reading options x)
-            (tail_events n.LineEnding (last_row joins.next below.rows) ++ groups_events bytes below.below) ≡
+            read bytes (reading options (text_path options bytes final below.turn reads.turned x))
+            (text_tail final below.turn ++ groups_events bytes below.below) ≡
             last)
             (longer-longer p (kept is.rest ∷ []) (reads.first ∷ reads.lines)) reads.behind;
       };
@@ -371,7 +548,10 @@ pub no-joins : (options : ParseOptions) (bytes line : List ℕ) (p : Path) (row 
 no-joins options bytes line p row gs last is none ends (inl parts) = parts.reads
 no-joins options bytes line p row gs last is none ends (inr (inl joins)) = let text = joins.text in cc
 no-joins options bytes line p row gs last is none ends (inr (inr joins)) =
-    let lines = joins.lines in let shut = shut-behind options bytes line row is ends in cc
+    let may = joins.may in
+    let shut = shut-behind options bytes line row is ends
+    (λ (text : row.kind ≡ TextRow). let bad : true ≡ false = sym (ap is_text text) ∙ none in cc) in
+    cc
 
 -- Leaves of several lines.
 
@@ -387,23 +567,10 @@ pub came-came : (p : Path) (open_leaf : Leaf) (c : Came) → with_came (with_cam
 came-came (At s) open_leaf c = refl
 came-came (Within before container p) open_leaf c = ap (Within before container) (came-came p open_leaf c)
 
--- what has lines is open
-pub lines-opened : (c : Came) → has_lines (kind_of_leaf (left_by c)) ≡ true → c ≡ Opened (left_by c)
-lines-opened (Opened open_leaf) e = refl
-lines-opened (Finished block) e = cc
-
--- what a line changes of the containers, the events do not tell
-pub reading-came : (options : ParseOptions) (stays closes : List Container) (outer : List Around) (p : Path) (c : Came) →
-    AreShapes stays closes p →
-    reading_on options outer (with_came (renewed stays p) c) ≡ reading_on options outer (with_came p c)
-reading-came options [] closes outer p c e = refl
-reading-came options (d ∷ stays) closes outer (At s) c e = refl
-reading-came options (d ∷ stays) closes outer (Within before container p) c e =
-    let same : shape_of d ≡ shape_of container = cc in
-    let more : AreShapes stays closes p = cc in
-    ap (λ (around : Around). reading_on options (around ∷ outer) (with_came (renewed stays p) c))
-    (around-same d container before same)
-    ∙ reading-came options stays closes (around_of container before ∷ outer) p c more
+-- what may be gone on is open
+pub may-opened : (c : Came) → may_go_on (kind_of_leaf (left_by c)) ≡ true → c ≡ Opened (left_by c)
+may-opened (Opened open_leaf) e = refl
+may-opened (Finished block) e = cc
 
 pub span-alike : (options : ParseOptions) (bytes : List ℕ) (l : LeafName) (p q : Path) (come : Came) (row : Row)
     (gs : List Group) (last : Reading) →
@@ -501,8 +668,8 @@ span-rows options bytes l m p come row gs last other same is (inr (inr joins)) =
     span-joined options bytes l p come row gs last joins
     (subst (λ (k : LeafName). StartsSpan options bytes k (with_came p come) joins.after joins.next gs last) name
     joins.starts)
-    (lines-opened come
-    (ap (λ (x : Leaf). has_lines (kind_of_leaf x)) (sym (came-spot p come)) ∙ ap has_lines joins.still ∙ joins.lines))
+    (may-opened come
+    (ap (λ (x : Leaf). may_go_on (kind_of_leaf x)) (sym (came-spot p come)) ∙ ap may_go_on joins.still ∙ joins.may))
 
 -- a line that begins a leaf is read with those that go on it
 pub begun-reads : (options : ParseOptions) (bytes : List ℕ) (l : LeafName) (o : Path) (row : Row) (gs : List Group)

@@ -264,17 +264,25 @@ read-more options bytes line row next rows q lines is text ending fronts below =
           (fronts-between bytes [] q next.first next.front fronts refl)) below.between;
     }
 
+-- what is told of them is their lines
+pub lines-told : (bytes : List ℕ) (row : Row) (rows : List Row) (lines : List Kept) →
+    (is : IsRead bytes row rows lines) →
+    IsOfLines is.own
+    (text_to bytes (last_row row rows).end.index (text_after bytes (begun row.first) (read_lines bytes row rows)))
+lines-told bytes row rows lines is =
+    let text : text_to bytes (last_row row rows).end.index
+    (text_after bytes (begun row.first) (read_lines bytes row rows)) ≡
+    is.all =
+    is.collects (begun row.first) (omega arith)
+    ∙ ap (λ (l : List ℕ). l ++ is.all) (slice-none bytes (byte_at row.first)) in
+    subst (IsOfLines is.own) (sym text) is.are
+
 -- The events of a paragraph are read as its lines.
 pub read-lines : (bytes : List ℕ) (row : Row) (rows : List Row) (lines : List Kept) (r : Reading) →
     IsRead bytes row rows lines → r.text ≡ None →
     read bytes r (around n.Paragraph row.first (last_row row rows).end (read_lines bytes row rows)) ≡
     add_block (Paragraph (texts lines)) r
 read-lines bytes row rows lines r is none =
-    let text : text_to bytes (last_row row rows).end.index
-    (text_after bytes (begun row.first) (read_lines bytes row rows)) ≡
-    is.all =
-    is.collects (begun row.first) (omega arith)
-    ∙ ap (λ (l : List ℕ). l ++ is.all) (slice-none bytes (byte_at row.first)) in
     read-paragraph bytes r row.first (last_row row rows).end (read_lines bytes row rows) is.own none is.between
-    (subst (IsOfLines is.own) (sym text) is.are)
+    (lines-told bytes row rows lines is)
     ∙ ap (λ (l : List (List ℕ)). add_block (Paragraph l) r) (sym is.texts_are)

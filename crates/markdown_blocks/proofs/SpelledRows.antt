@@ -7,46 +7,45 @@ use Rattle.std.specs.Prelude.{nat_lt}
 use Rattle.std.proofs.Common.{◌≤◌, ◌<◌, not}
 use Rattle.std.proofs.lemmas.Bool.Decides.{nat_tests}
 use Rattle.md_definition.proofs.TextsLemmas.{Both, Ending, LineFeed, Return, ending_bytes}
-use Rattle.md_definition.specs.Leaves.{Opened}
-use Rattle.markdown_blocks.specs.HeldLeaf.{has_lines}
+use Rattle.md_definition.specs.Leaves.{Finished, Opened}
+use Rattle.markdown_blocks.specs.HeldLeaf.{may_go_on}
 use Rattle.markdown_blocks.specs.Registry.{further_of}
-use Rattle.markdown_blocks.specs.Rows.{is_further, onto_span}
+use Rattle.markdown_blocks.specs.Rows.{group_done, is_further, is_last, onto_span, turned_done}
 use Rattle.markdown_blocks.proofs.GroupsAre.{line-begins, line-of}
 use Rattle.markdown_blocks.proofs.LineSteps.{come_by, renewed-spot, with_came}
-use Rattle.markdown_blocks.proofs.Registry.{insider-open}
+use Rattle.markdown_blocks.proofs.OpenSpan.{TurnsText}
+use Rattle.markdown_blocks.proofs.Registry.{text-turns}
 use Rattle.markdown_blocks.proofs.RowLeaf.{EndsOnLine}
 use Rattle.markdown_blocks.proofs.SpanLaws.{IsLineOf}
 use Rattle.markdown_blocks.proofs.StepBehind.{GoesOn, further-unlazy}
 use Rattle.markdown_blocks.specs.Registry.{LeafName, leaf}
 use Rattle.md_definition.specs.Leaves.{Came}
-use Rattle.markdown_blocks.proofs.JoinedLemmas.{leaf-first}
-use Rattle.markdown_blocks.specs.Rows.{Span, onto_leaf}
+use Rattle.markdown_blocks.proofs.JoinedLemmas.{lines-first, text-onto, text_group}
+use Rattle.markdown_blocks.specs.Rows.{Span, Turned, onto_leaf}
 use Rattle.std.proofs.lemmas.Bool.{and_parts}
 use Rattle.markdown_blocks.specs.Rows.{line_behind}
 use Rattle.markdown_blocks.specs.HeldLeaf.{takes_lazy}
 use Rattle.std.proofs.Common.{length, map, take, refl, ap, ap₂, sym, ◌∙◌, subst, append_assoc, take_all, inl, inr}
 use Rattle.std.proofs.Common.{arith}
-use Rattle.std.specs.Prelude.{Some}
+use Rattle.std.specs.Prelude.{None, Option, Some}
 use Rattle.md_engine.specs.declared.configuration.ParseOptions.{ParseOptions}
 use Rattle.md_engine.specs.declared.event.Event.{Event}
-use Rattle.md_engine.specs.declared.event.Name.TheVariants as n
 use Rattle.md_engine.specs.declared.event.Point.{Point}
-use Rattle.md_seam.specs.Events.Nested.{around}
 use Rattle.md_definition.specs.Preamble.{rest_at}
 use Rattle.md_definition.specs.Rest.{Rest}
-use Rattle.md_seam.specs.Events.Spelled.{Reading, read, spelled, unread}
-use Rattle.md_definition.specs.State.{At, Container, NoLeaf, Path, Spot, closed, kept, spot}
-use Rattle.md_definition.specs.Step.{spot_of, step}
-use Rattle.md_definition.specs.Tree.{End}
+use Rattle.md_seam.specs.Events.Spelled.{Reading, add_block, read, spelled, unread}
+use Rattle.md_definition.specs.State.{At, Container, Kept, NoLeaf, Path, Spot, closed, kept, spot, texts}
+use Rattle.md_definition.specs.Step.{came, spot_of, step}
+use Rattle.md_definition.specs.Tree.{Block, End}
 use Rattle.md_seam.proofs.SpelledLemmas.{read-from}
-use Rattle.markdown_blocks.specs.Registry.{shape_of, text_leaf}
+use Rattle.markdown_blocks.specs.Registry.{shape_of, text_leaf, turn_leaf}
 use Rattle.markdown_blocks.specs.Change.{Change, is_none}
 use Rattle.markdown_blocks.specs.Fed.{last_leaves, close_containers, rests_from}
 use Rattle.markdown_blocks.specs.Fronted.{Contained, rest_from, rest_line}
 use Rattle.markdown_blocks.specs.Parsed.{IsBuilt}
 use Rattle.markdown_blocks.specs.Rows.{BlankRow, Group, LeafRow, Lines, Row, RowKind, Single, TextRow}
-use Rattle.markdown_blocks.specs.Rows.{ending_of, goes_on, groups, groups_events, is_lazy, is_text}
-use Rattle.markdown_blocks.specs.Rows.{last_row, leaf_done, line_kind, onto_groups, onto_lines, read_lines, tail_events}
+use Rattle.markdown_blocks.specs.Rows.{ending_of, groups, groups_events, is_lazy, is_text}
+use Rattle.markdown_blocks.specs.Rows.{last_row, leaf_done, line_kind, onto_groups}
 use Rattle.markdown_blocks.specs.Stands.{IsPlain, containers_of, final, still_of}
 use Rattle.markdown_blocks.specs.Stands.{reading}
 use Rattle.markdown_blocks.proofs.ContainedLemmas.{contained-shapes, lazy-opens}
@@ -60,17 +59,81 @@ use Rattle.markdown_blocks.proofs.Registry.{laws}
 use Rattle.markdown_blocks.proofs.RowFacts as f
 use Rattle.markdown_blocks.proofs.LeafFacts.{shown}
 use Rattle.markdown_blocks.proofs.RowLeaf.{block_of, row-facts}
-use Rattle.markdown_blocks.proofs.SpelledParagraphs.{read-lines}
+use Rattle.markdown_blocks.proofs.SpelledParagraphs.{IsRead, read-lines}
 use Rattle.markdown_blocks.proofs.PrefixFacts.{begins}
+use Rattle.markdown_blocks.proofs.Turned.Reads.{read-turned}
+use Rattle.markdown_blocks.proofs.UnderNames.{further-text}
 use Rattle.markdown_blocks.specs.Rows.{is_blank_row}
 use Rattle.markdown_blocks.proofs.SpelledPaths.{AreShapes, close_containers-all, close_containers-between, enters}
-use Rattle.markdown_blocks.proofs.SpelledPaths.{longer-with, new-path, open-none, open_path, reading-longer}
-use Rattle.markdown_blocks.proofs.SpelledPaths.{reading-renewed, reading-with, with_spot}
-use Rattle.markdown_blocks.proofs.SpelledGroups.{Follows, Means, Reads, ReadsSpan, StartsLines, StartsSpan}
+use Rattle.markdown_blocks.proofs.SpelledPaths.{behind-behind, longer-with, new-path, open-none, open_path}
+use Rattle.markdown_blocks.proofs.SpelledPaths.{reading-longer, reading-with, spot-with, with_spot}
+use Rattle.markdown_blocks.proofs.SpelledGroups.{Follows, IsTurn, IsTurned, Means, Reads, ReadsSpan, StartsLines}
+use Rattle.markdown_blocks.proofs.SpelledGroups.{StartsSpan, text_path, text_tail}
 use Rattle.markdown_blocks.proofs.SpelledGroups.{starts-read, came-open, came-with, ending-role, first_come}
 use Rattle.markdown_blocks.proofs.SpelledGroups.{kind-name, line-is, no-joins, other-kind, read-fronts, read-open}
 use Rattle.markdown_blocks.proofs.SpelledGroups.{reading-came, shown-leaf, single-reads, span-alike, span-rows}
 use Rattle.markdown_blocks.proofs.SpelledGroups.{starts-alike, starts-lines, still-line, text-kind}
+
+-- The lines of a text, with the one that turns it if one does.
+
+-- their events
+text-parts : (bytes : List ℕ) (row : Row) (rows : List Row) (turn : Option Row) (gs : List Group) →
+    groups_events bytes (text_group turn row rows ∷ gs) ≡
+    (row.front ++ group_done bytes (text_group turn row rows) ++ text_tail (last_row row rows) turn)
+    ++ groups_events bytes gs
+text-parts bytes row rows None gs = refl
+text-parts bytes row rows (Some under) gs = refl
+
+-- one that turns a text is read as what the text comes to with it
+turned-reads : (bytes : List ℕ) (options : ParseOptions) (row : Row) (rows : List Row) (under : Row) (lines : List Kept)
+    (r : Reading) → IsRead bytes row rows lines → (is : IsTurn options bytes (last_row row rows) under) →
+    r.text ≡ None → r.leaf ≡ None →
+    read bytes r (turned_done bytes row rows under) ≡ add_block (turn_leaf.block (texts lines) is.is.rest) r
+turned-reads bytes options row rows under lines r are is t l =
+    subst
+    (λ (k : LeafName).
+    (of : IsLineOf options bytes (leaf k) under) →
+    read bytes r (turned_done bytes row rows under) ≡ add_block (turn_leaf.block (texts lines) of.rest) r)
+    (sym (further-text is.name is.further))
+    (λ of.
+    read-turned options bytes row rows under lines r are
+    (record { after = is.after; after_is = is.after_is; ending = is.ending; front = is.front; is = of }) t l)
+    is.is
+
+-- where no leaf was open, that is a block behind the others
+reading-turned : (options : ParseOptions) (o : Path) (lines : List Kept) (r : Rest) (l : LeafName) → TurnsText l →
+    (spot o).leaf ≡ NoLeaf →
+    reading options (with_came (longer o lines) ((leaf l).comes options (spot (longer o lines)).leaf r)) ≡
+    add_block (turn_leaf.block (texts lines) r) (reading options o)
+reading-turned options o lines r l turns none =
+    ap (λ (x : Path). reading options (with_came x ((leaf l).comes options (spot x).leaf r))) (longer-with o lines none)
+    ∙ ap (λ (s : Spot). reading options (with_came held ((leaf l).comes options s.leaf r)))
+    (spot-with o (λ bs. record { here = bs; leaf = text_leaf.held lines }))
+    ∙ ap (λ (come : Came). reading options (with_came held come)) (turns.comes options lines r)
+    ∙ ap (reading options)
+    (came-with held (Finished block)
+    ∙ behind-behind o (λ bs. At (record { here = bs; leaf = text_leaf.held lines })) (λ bs. came bs (Finished block)))
+    ∙ reading-with options o (λ bs. came bs (Finished block)) none
+  where
+    held : Path
+    held = with_spot o (λ bs. record { here = bs; leaf = text_leaf.held lines })
+
+    block : Block
+    block = turn_leaf.block (texts lines) r
+
+-- so all of it is read as what it comes to
+text-whole : (options : ParseOptions) (bytes : List ℕ) (o : Path) (row : Row) (rows : List Row) (turn : Option Row)
+    (first : Kept) (lines : List Kept) → IsBuilt options → (spot o).leaf ≡ NoLeaf →
+    IsRead bytes row rows (first ∷ lines) → (turned : IsTurned options bytes (last_row row rows) turn) →
+    read bytes (reading options o) (group_done bytes (text_group turn row rows)) ≡
+    reading options (text_path options bytes (last_row row rows) turn turned (longer o (first ∷ lines)))
+text-whole options bytes o row rows None first lines built none are turned =
+    read-lines bytes row rows (first ∷ lines) (reading options o) are refl
+    ∙ sym (reading-longer options o first lines built none)
+text-whole options bytes o row rows (Some under) first lines built none are turned =
+    turned-reads bytes options row rows under (first ∷ lines) (reading options o) are turned refl refl
+    ∙ sym
+    (reading-turned options o (first ∷ lines) turned.is.rest turned.name (text-turns turned.name turned.further) none)
 
 -- One line, and what follows.
 
@@ -150,27 +213,29 @@ row-means options bytes p a line row gs last over built plain is in_text follows
         (ending-role (is_blank_row row)) (no-joins options bytes (rest_line c.rest) (to row.kind) row gs last is.is
         (other-kind row.kind other) ends further)
 
-    -- text is read with the lines that go on it
+    -- text is read with the lines that go on it, and with the one that turns it
     text-reads : StartsLines options bytes o row (onto_groups row TextRow gs) last →
         Reads options bytes p row.change.closes (onto_groups row TextRow gs) last
     text-reads starts =
         let start : Reading = close_containers (length row.change.closes) (reading options p) in
         let begin : Reading = enters row.change.opens start in
         let text = close_containers-between (length row.change.closes) (reading options p) refl refl in
-        let same : begin ≡ reading options o = read-open options p c row shapes is.change in
         let reads = starts.reads in
-        let whole : List Event = around text_leaf.name row.first (last_row row starts.rows).end
-        (read_lines bytes row starts.rows) in
-        let tail : List Event = tail_events n.LineEnding (last_row row starts.rows) in
-        let new : Reading = reading options (longer o (reads.first ∷ reads.lines)) in
+        let final : Row = last_row row starts.rows in
+        let whole : List Event = group_done bytes (text_group starts.turn row starts.rows) in
+        let tail : List Event = text_tail final starts.turn in
+        let new : Reading = reading options
+        (text_path options bytes final starts.turn reads.turned (longer o (reads.first ∷ reads.lines))) in
         ap (λ (l : List Group). read bytes start (groups_events bytes l)) starts.groups_are
-        ∙ ap (read bytes start) (append_assoc (row.front ++ whole) tail (groups_events bytes starts.below))
+        ∙ ap (read bytes start)
+        (text-parts bytes row starts.rows starts.turn starts.below
+        ∙ append_assoc (row.front ++ whole) tail (groups_events bytes starts.below))
         ∙ read-from bytes start new (row.front ++ whole) (tail ++ groups_events bytes starts.below)
         (read-from bytes start begin row.front whole
         (read-fronts bytes row.change.opens a row.first row.front start is.front text.0)
-        ∙ ap (λ (x : Reading). read bytes x whole) same
-        ∙ read-lines bytes row starts.rows (reads.first ∷ reads.lines) (reading options o) reads.are refl
-        ∙ sym (reading-longer options o reads.first reads.lines built none))
+        ∙ ap (λ (x : Reading). read bytes x whole) (read-open options p c row shapes is.change)
+        ∙ text-whole options bytes o row starts.rows starts.turn reads.first reads.lines built none reads.are
+        reads.turned)
         ∙ reads.behind
 
     -- a line of a leaf
@@ -227,7 +292,7 @@ row-means options bytes p a line row gs last over built plain is in_text follows
         let goes : GoesOn options p c = goes-on options p (rest_from a line) plain f in
         let l : LeafName = goes.is.name in
         let e : row.kind ≡ LeafRow l = kind-is ∙ goes.kind in
-        let ends : (leaf l).ends ≡ false = insider-open (still_of p) l goes.is.asked in
+        let ends : (leaf l).ends ≡ false = goes.is.ends in
         let of : IsLineOf options bytes (leaf l) row = line-is-of l e ends in
         let come : Came = first_come options bytes l p a of.rest in
         let base : Path = renewed c.change.stays p in
@@ -302,8 +367,7 @@ row-means options bytes p a line row gs last over built plain is in_text follows
         let begins : goes_further options c ≡ false = f ∙ begins-text e y f in
         means true y e f
         (subst (λ (k : RowKind). StartsLines options bytes p row (onto_groups row k gs) last) (sym is_row)
-        (starts-alike options bytes (renewed c.change.stays p) p row (onto_groups row TextRow gs) last
-        (λ lines. reading-renewed options c.change.stays c.change.closes [] p lines shapes)
+        (starts-alike options bytes c.change.stays c.change.closes p row (onto_groups row TextRow gs) last shapes
         (starts-lines options bytes (rest_line c.rest) (renewed c.change.stays p) row gs last is.is is_row
         (subst (λ (x : Path). Follows options bytes x row gs last)
         (step-same begins ∙ stepped true e (goes_further options c) refl
@@ -346,45 +410,62 @@ first-line options bytes cs still p (line ∷ []) (row ∷ []) are = are.0
 first-line options bytes cs still p (line ∷ next ∷ lines) (row ∷ below ∷ rows) are = are.0
 first-line options bytes cs still p lines rows are = absurd are
 
--- where a line of text follows that goes on no text, a new one begins
-not-joined : (row below : Row) (gs : List Group) → is_lazy held_leaf.Text below.change.opens below.kind ≡ false →
-    onto_groups row TextRow (onto_groups below below.kind gs) ≡ Lines row [] ∷ onto_groups below below.kind gs
-not-joined row below gs lazy = go below.kind lazy
-  where
-    by : (rows : List Row) (more : List Group) → is_none below.change.opens ≡ false →
-        onto_lines row below rows more ≡ Lines row [] ∷ Lines below rows ∷ more
-    by rows more e = go (is_none row.leaves)
-      where
-        go : (x : Bool) →
-            cond (x && is_none below.change.opens) (Lines row (below ∷ rows) ∷ more)
-            (Lines row [] ∷ Lines below rows ∷ more) ≡
-            Lines row [] ∷ Lines below rows ∷ more
-        go true = ap (λ (t : Bool). cond t (Lines row (below ∷ rows) ∷ more) (Lines row [] ∷ Lines below rows ∷ more)) e
-        go false = refl
+-- Where a line follows that goes on no text and turns none, a text ends. The lines that go on that line may be
 
+-- those of a text,
+text-begins : (turn : Option Row) (row below : Row) (rows : List Row) (gs : List Group) →
+    is_none below.change.opens ≡ false →
+    onto_groups row TextRow (text_group turn below rows ∷ gs) ≡ Lines row [] ∷ text_group turn below rows ∷ gs
+text-begins turn row below rows gs e =
+    text-onto turn row below rows gs
+    ∙ ap (λ (x : Bool). by (is_none row.leaves && x)) e ∙ go (is_none row.leaves)
+  where
+    by : Bool → List Group
+    by x = cond x (text_group turn row (below ∷ rows) ∷ gs) (Lines row [] ∷ text_group turn below rows ∷ gs)
+
+    go : (x : Bool) → by (x && false) ≡ Lines row [] ∷ text_group turn below rows ∷ gs
+    go true = refl
+    go false = refl
+
+-- or of another leaf
+span-begins : (row below : Row) (rows : List Row) (gs : List Group) → is_further below.kind below.on ≡ false →
+    onto_groups row TextRow (Span below rows ∷ gs) ≡ Lines row [] ∷ Span below rows ∷ gs
+span-begins row below rows gs e =
+    ap
+    (λ (x : Bool). cond (x && is_last rows) (Turned row [] below ∷ gs) (Lines row [] ∷ Span below rows ∷ gs)) e
+
+leaf-begins : (ends : Bool) (row below : Row) (gs : List Group) → is_further below.kind below.on ≡ false →
+    onto_groups row TextRow (onto_leaf ends below gs) ≡ Lines row [] ∷ onto_leaf ends below gs
+leaf-begins true row below gs e = refl
+leaf-begins false row below [] e = span-begins row below [] [] e
+leaf-begins false row below (Single next ∷ gs) e = span-begins row below [] (Single next ∷ gs) e
+leaf-begins false row below (Lines next rows ∷ gs) e = span-begins row below [] (Lines next rows ∷ gs) e
+leaf-begins false row below (Turned next rows under ∷ gs) e = span-begins row below [] (Turned next rows under ∷ gs) e
+leaf-begins false row below (Span next rows ∷ gs) e = go (is_further next.kind next.on)
+  where
+    go : (x : Bool) →
+        onto_groups row TextRow (cond x (Span below (next ∷ rows) ∷ gs) (Span below [] ∷ Span next rows ∷ gs)) ≡
+        Lines row [] ∷ cond x (Span below (next ∷ rows) ∷ gs) (Span below [] ∷ Span next rows ∷ gs)
+    go true = span-begins row below (next ∷ rows) gs e
+    go false = span-begins row below [] (Span next rows ∷ gs) e
+
+not-joined : (row below : Row) (gs : List Group) → is_lazy held_leaf.Text below.change.opens below.kind ≡ false →
+    is_further below.kind below.on ≡ false →
+    onto_groups row TextRow (onto_groups below below.kind gs) ≡ Lines row [] ∷ onto_groups below below.kind gs
+not-joined row below gs lazy begins = go below.kind lazy
+  where
     opens : (x : Bool) → (x && true) ≡ false → x ≡ false
     opens true e = cc
     opens false e = refl
 
-    onto : (gs : List Group) → is_none below.change.opens ≡ false →
-        onto_groups row TextRow (onto_groups below TextRow gs) ≡ Lines row [] ∷ onto_groups below TextRow gs
-    onto [] e = by [] [] e
-    onto (Single next ∷ more) e = by [] (Single next ∷ more) e
-    onto (Span next rows ∷ more) e = by [] (Span next rows ∷ more) e
-    onto (Lines next rows ∷ more) e = join (goes_on below next)
-      where
-        join : (x : Bool) →
-            onto_groups row TextRow
-            (cond x (Lines below (next ∷ rows) ∷ more) (Lines below [] ∷ Lines next rows ∷ more)) ≡
-            Lines row [] ∷ cond x (Lines below (next ∷ rows) ∷ more) (Lines below [] ∷ Lines next rows ∷ more)
-        join true = by (next ∷ rows) more e
-        join false = by [] (Lines next rows ∷ more) e
-
     go : (kind : RowKind) → is_lazy held_leaf.Text below.change.opens kind ≡ false →
         onto_groups row TextRow (onto_groups below kind gs) ≡ Lines row [] ∷ onto_groups below kind gs
     go BlankRow e = refl
-    go (LeafRow l) e = leaf-first (leaf l).ends row below gs
-    go TextRow e = onto gs (opens (is_none below.change.opens) e)
+    go (LeafRow l) e = leaf-begins (leaf l).ends row below gs begins
+    go TextRow e =
+        lines-first
+        (λ (more : List Group). onto_groups row TextRow more ≡ Lines row [] ∷ more) below gs
+        (λ turn more rest. text-begins turn row below more rest (opens (is_none below.change.opens) e))
 
 -- behind a line one may go on lazily if it is text
 behind-lazy : (options : ParseOptions) (bytes line : List ℕ) (row : Row) → f.IsRow options bytes line row →
@@ -410,6 +491,7 @@ not-spanned row below gs begins = go below.kind
     spans [] = apart [] []
     spans (Single next ∷ more) = apart [] (Single next ∷ more)
     spans (Lines next rows ∷ more) = apart [] (Lines next rows ∷ more)
+    spans (Turned next rows under ∷ more) = apart [] (Turned next rows under ∷ more)
     spans (Span next rows ∷ more) = join (is_further next.kind next.on)
       where
         join : (x : Bool) →
@@ -422,23 +504,16 @@ not-spanned row below gs begins = go below.kind
     leaves true = refl
     leaves false = spans gs
 
-    texts : (gs : List Group) →
-        onto_span row (onto_groups below TextRow gs) ≡ Span row [] ∷ onto_groups below TextRow gs
-    texts [] = refl
-    texts (Single next ∷ more) = refl
-    texts (Span next rows ∷ more) = refl
-    texts (Lines next rows ∷ more) = join (goes_on below next)
-      where
-        join : (x : Bool) →
-            onto_span row (cond x (Lines below (next ∷ rows) ∷ more) (Lines below [] ∷ Lines next rows ∷ more)) ≡
-            Span row [] ∷ cond x (Lines below (next ∷ rows) ∷ more) (Lines below [] ∷ Lines next rows ∷ more)
-        join true = refl
-        join false = refl
+    text : (turn : Option Row) (more : List Row) (rest : List Group) →
+        onto_span row (text_group turn below more ∷ rest) ≡ Span row [] ∷ text_group turn below more ∷ rest
+    text None more rest = refl
+    text (Some under) more rest = refl
 
     go : (kind : RowKind) → onto_span row (onto_groups below kind gs) ≡ Span row [] ∷ onto_groups below kind gs
     go BlankRow = refl
     go (LeafRow l) = leaves (leaf l).ends
-    go TextRow = texts gs
+    go TextRow =
+        lines-first (λ (more : List Group). onto_span row more ≡ Span row [] ∷ more) below gs text
 
 -- what follows a line, by what is read of the lines below
 follows-below : (options : ParseOptions) (bytes : List ℕ) (p : Path) (row below : Row) (gs : List Group) (q : Point)
@@ -491,7 +566,7 @@ follows-below options bytes p row below gs q line last built plain lazily still 
       on = is.on ∙ goes.on ∙ still;
       further = far;
       still = still;
-      lines = ap has_lines (sym still) ∙ goes.is.lines;
+      may = ap may_go_on (sym still) ∙ goes.is.may;
       starts = means.1;
     }))
 follows-below options bytes p row below gs q line last built plain lazily still leaves after ending is false false lazy
@@ -501,7 +576,8 @@ follows-below options bytes p row below gs q line last built plain lazily still 
           λ text. not-joined row below gs
           (ap (λ (x : Bool). x && is_none below.change.opens && is_text below.kind)
           (sym (ap takes_lazy still ∙ lazily ∙ ap is_text text))
-          ∙ lazy);
+          ∙ lazy)
+          far;
       alone = not-spanned row below gs far;
       reads =
           ap

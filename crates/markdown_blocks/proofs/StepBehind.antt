@@ -7,37 +7,50 @@ use Rattle.md_engine.specs.declared.tokenizer.held_leaf.HeldLeaf.{HeldLeaf}
 use Rattle.md_engine.specs.declared.tokenizer.held_leaf.HeldLeaf.TheVariants as held_leaf
 use Rattle.md_definition.specs.Leaves.{Came, Finished, Opened}
 use Rattle.md_definition.specs.Rest.{Rest}
-use Rattle.md_definition.specs.State.{At, Container, Kept, Leaf, NoLeaf, Path, Spot, Within, kept, spot}
+use Rattle.md_definition.specs.State.{At, Container, Kept, Leaf, NoLeaf, Path, Spot, Within, kept, spot, texts}
 use Rattle.md_definition.specs.Step.{came, step}
 use Rattle.md_definition.specs.Tree.{Blocks, End}
 use Rattle.markdown_blocks.specs.Change.{is_none, open_behind}
 use Rattle.markdown_blocks.specs.Fronted.{Contained}
-use Rattle.markdown_blocks.specs.HeldLeaf.{IsBuiltLeaf, has_lines, kind_of_leaf, left_by, takes_lazy}
+use Rattle.markdown_blocks.specs.HeldLeaf.{IsBuiltLeaf, has_lines, kind_of_leaf, left_by, may_go_on, takes_lazy}
 use Rattle.markdown_blocks.specs.Leaf.Paragraph.{held_of}
 use Rattle.markdown_blocks.specs.Parsed.{IsBuilt}
-use Rattle.markdown_blocks.specs.Registry.{LeafName, leaf, text_leaf}
+use Rattle.markdown_blocks.specs.Registry.{LeafName, further_of, leaf, text_leaf, turn_leaf}
 use Rattle.markdown_blocks.specs.Rows.{BlankRow, LeafRow, RowKind, TextRow, is_further, is_lazy, is_text, line_behind}
 use Rattle.markdown_blocks.specs.Rows.{line_kind}
 use Rattle.markdown_blocks.specs.Stands.{IsPlain, containers_of, still_of}
 use Rattle.markdown_blocks.proofs.ContainedLemmas.{contained-met, contained-size, contained-still, lazy-opens}
+use Rattle.markdown_blocks.proofs.ContainedLemmas.{lines-open}
 use Rattle.markdown_blocks.proofs.KindLemmas.{kind-starts}
 use Rattle.markdown_blocks.proofs.LineSteps.{asked-kind, behind_path, come_by, contained-lazy, contained_at}
 use Rattle.markdown_blocks.proofs.LineSteps.{further_path}
 use Rattle.markdown_blocks.proofs.LineSteps.{goes_further, goes_lazy, kept_to, longer, new_line, none-further}
 use Rattle.markdown_blocks.proofs.LineSteps.{path_by, plain-begins, plain_kind, renewed, renewed-spot, spot_by}
 use Rattle.markdown_blocks.proofs.LineSteps.{step-contained, with_came}
-use Rattle.markdown_blocks.proofs.OpenSpan.{Begun, OpenSpan}
-use Rattle.markdown_blocks.proofs.Registry.{laws, leaf-begun, open-span, text-laws}
+use Rattle.markdown_blocks.proofs.OpenSpan.{Begun, ComesShallow, OpenSpan, TurnsText}
+use Rattle.markdown_blocks.proofs.Registry.{insider-open, laws, leaf-begun, open-span, text-laws, text-turns}
+use Rattle.markdown_blocks.proofs.ShallowBlocks.{shallow-then}
 
--- Where a line goes on the leaf of several lines that is open.
+-- Where a line goes on the leaf that is open: it is one of several lines, or text that the line turns.
 
+-- the leaf that takes such a line, where it meets this one
+pub record Takes (options : ParseOptions) (open_leaf : Leaf) (r : Rest) : Type 0 where
+  pub name : LeafName
+  pub ends : (leaf name).ends ≡ false
+  pub same : further_of name ≡ name
+  pub may : may_go_on (kind_of_leaf open_leaf) ≡ true
+  pub further : (leaf name).further (kind_of_leaf open_leaf) ≡ true
+  pub kind : line_kind options (kind_of_leaf open_leaf) r ≡ LeafRow name
+  pub starts : (leaf name).starts options (kind_of_leaf open_leaf) r ≡ true
+  -- what the open leaf comes to with it may be open, and an outline can show it
+  pub built : IsBuiltLeaf (left_by ((leaf name).comes options open_leaf r))
+  pub shallow : ComesShallow ((leaf name).comes options open_leaf r)
+
+-- the line meets that leaf, and no container ends in front of it or opens on it
 pub record GoesOn (options : ParseOptions) (p : Path) (c : Contained) : Type 0 where
-  pub is : OpenSpan (spot p).leaf
-  -- it meets that leaf, which takes it,
+  pub is : Takes options (spot p).leaf c.rest
   pub on : c.on ≡ still_of p
   pub kind : line_kind options c.on c.rest ≡ LeafRow is.name
-  pub starts : (leaf is.name).starts options (still_of p) c.rest ≡ true
-  -- and no container ends in front of it or opens on it
   pub opens : c.change.opens ≡ []
   pub closes : c.change.closes ≡ []
 
@@ -48,22 +61,84 @@ span-open open_leaf plain =
     text-laws.cases (λ (l : Leaf). has_lines (kind_of_leaf l) ≡ true → OpenSpan l) (λ e. cc) (λ k ks e. cc)
     (λ l is e. open-span l is) open_leaf plain
 
+-- a line that goes on a leaf of several lines is one of the leaf that is asked first
+span-takes : (options : ParseOptions) (r : Rest) (open_leaf : Leaf) → OpenSpan open_leaf →
+    is_further (line_kind options (kind_of_leaf open_leaf) r) (kind_of_leaf open_leaf) ≡ true →
+    Takes options open_leaf r
+span-takes options r open_leaf is goes = record {
+  name = is.name;
+  ends = insider-open on is.name is.asked;
+  same = is.same;
+  may = lines-open on is.lines;
+  further = is.further;
+  kind = asked ∙ ap (λ (x : Bool). cond x (LeafRow is.name) (plain_kind options on r)) starts;
+  starts = starts;
+  built = is.built options r starts;
+  shallow = is.shallow options r;
+}
+  where
+    on : HeldLeaf
+    on = kind_of_leaf open_leaf
+
+    asked : line_kind options on r ≡
+        cond ((leaf is.name).starts options on r) (LeafRow is.name) (plain_kind options on r)
+    asked = asked-kind options on r is.name is.asked
+
+    by : (x : Bool) → is_further (cond x (LeafRow is.name) (plain_kind options on r)) on ≡ true → x ≡ true
+    by true e = refl
+    by false e = let begins = plain-begins options on r is.lines in cc
+
+    starts : (leaf is.name).starts options on r ≡ true
+    starts =
+        by ((leaf is.name).starts options on r) (ap (λ (kind : RowKind). is_further kind on) (sym asked) ∙ goes)
+
+-- one that goes on text turns it
+text-takes : (options : ParseOptions) (r : Rest) (lines : List Kept) →
+    is_further (line_kind options held_leaf.Text r) held_leaf.Text ≡ true →
+    Takes options (text_leaf.held lines) r
+text-takes options r lines goes = go (line_kind options held_leaf.Text r) refl goes
+  where
+    go : (kind : RowKind) → line_kind options held_leaf.Text r ≡ kind → is_further kind held_leaf.Text ≡ true →
+        Takes options (text_leaf.held lines) r
+    go BlankRow e f = absurd (cc)
+    go TextRow e f = absurd (cc)
+    go (LeafRow l) e f =
+        let turns : TurnsText l = text-turns l f in
+        let comes : (leaf l).comes options (text_leaf.held lines) r ≡
+        Finished (turn_leaf.block (texts lines) r) = turns.comes options lines r in
+        record {
+          name = l;
+          ends = turns.ends;
+          same = turns.same;
+          may = refl;
+          further = f;
+          kind = e;
+          starts = kind-starts options held_leaf.Text r l e;
+          built = subst (λ (c : Came). IsBuiltLeaf (left_by c)) (sym comes) tt;
+          shallow =
+              subst ComesShallow (sym comes)
+              (λ bs h. shallow-then bs (turn_leaf.block (texts lines) r) h (turns.shallow (texts lines) r));
+        }
+
+takes : (options : ParseOptions) (r : Rest) (open_leaf : Leaf) → IsBuiltLeaf open_leaf →
+    is_further (line_kind options (kind_of_leaf open_leaf) r) (kind_of_leaf open_leaf) ≡ true →
+    Takes options open_leaf r
+takes options r open_leaf plain =
+    text-laws.cases
+    (λ (l : Leaf). is_further (line_kind options (kind_of_leaf l) r) (kind_of_leaf l) ≡ true → Takes options l r)
+    (λ e. let none = none-further options held_leaf.None r refl in absurd (cc))
+    (λ k ks e. text-takes options r (k ∷ ks) e) (λ l is e. span-takes options r l (open-span l is) e) open_leaf plain
+
 pub goes-on : (options : ParseOptions) (p : Path) (r : Rest) → IsPlain p →
     goes_further options (contained_at options p r) ≡ true → GoesOn options p (contained_at options p r)
 goes-on options p r plain goes =
-    let met = contained-met options (containers_of p) (still_of p) r lines in
-    let starts : (leaf is.name).starts options (still_of p) c.rest ≡ true = goes_by
-    ((leaf is.name).starts options (still_of p) c.rest)
-    (sym (ap (λ (k : RowKind). is_further k (still_of p)) (asked-kind options (still_of p) c.rest is.name is.asked))
-    ∙ ap (λ (on : HeldLeaf). is_further (line_kind options on c.rest) on) (sym on) ∙ goes) in
+    let met = contained-met options (containers_of p) (still_of p) r may in
+    let is : Takes options (spot p).leaf c.rest = takes options c.rest (spot p).leaf plain
+    (ap (λ (on : HeldLeaf). is_further (line_kind options on c.rest) on) (sym on) ∙ goes) in
     record {
       is = is;
       on = on;
-      kind =
-          ap (λ (on : HeldLeaf). line_kind options on c.rest) on
-          ∙ asked-kind options (still_of p) c.rest is.name is.asked
-          ∙ ap (λ (x : Bool). cond x (LeafRow is.name) (plain_kind options (still_of p) c.rest)) starts;
-      starts = starts;
+      kind = ap (λ (on : HeldLeaf). line_kind options on c.rest) on ∙ is.kind;
       opens = met.0;
       closes = met.1;
     }
@@ -71,23 +146,15 @@ goes-on options p r plain goes =
     c : Contained
     c = contained_at options p r
 
-    some : (x : Bool) → has_lines c.on ≡ x → x ≡ true
+    some : (x : Bool) → may_go_on c.on ≡ x → x ≡ true
     some true e = refl
     some false e = let none = none-further options c.on c.rest e in cc
 
-    lines : has_lines c.on ≡ true
-    lines = some (has_lines c.on) refl
+    may : may_go_on c.on ≡ true
+    may = some (may_go_on c.on) refl
 
     on : c.on ≡ still_of p
-    on = contained-still options (containers_of p) (still_of p) r lines
-
-    is : OpenSpan (spot p).leaf
-    is = span-open (spot p).leaf plain (ap has_lines (sym on) ∙ lines)
-
-    goes_by : (x : Bool) →
-        is_further (cond x (LeafRow is.name) (plain_kind options (still_of p) c.rest)) (still_of p) ≡ true → x ≡ true
-    goes_by true e = refl
-    goes_by false e = let begins = plain-begins options (still_of p) c.rest in cc
+    on = contained-still options (containers_of p) (still_of p) r may
 
 -- Plain paths stay such.
 
@@ -145,7 +212,7 @@ plain-further options p c goes =
     (sym
     (came-spot (renewed c.change.stays p) (come_by options (spot p).leaf c.rest (line_kind options c.on c.rest))))
     (subst (λ (kind : RowKind). IsBuiltLeaf (left_by (come_by options (spot p).leaf c.rest kind))) (sym goes.kind)
-    (goes.is.built options c.rest goes.starts))
+    goes.is.built)
 
 pub plain-step : (options : ParseOptions) (p : Path) (r : Rest) → IsBuilt options → IsPlain p →
     IsPlain (step options p r)
@@ -168,7 +235,7 @@ pub lazy-text : (still : HeldLeaf) (opens : List Container) (kind : RowKind) →
     is_text kind ≡ true
 lazy-text still opens kind e = (and_parts (takes_lazy still && is_none opens) (is_text kind) e).1
 
--- a line that goes on a leaf of several lines goes on no text
+-- a line that goes on a leaf, or turns text, is no further line of text
 pub further-unlazy : (still on : HeldLeaf) (opens : List Container) (kind : RowKind) → is_further kind on ≡ true →
     is_lazy still opens kind ≡ false
 further-unlazy still on opens BlankRow e = cc
@@ -182,7 +249,7 @@ further-unlazy still on opens TextRow e = cc
 
 -- Which containers are open behind a line.
 
-containers-longer : (p : Path) (ks : List Kept) → containers_of (longer p ks) ≡ containers_of p
+pub containers-longer : (p : Path) (ks : List Kept) → containers_of (longer p ks) ≡ containers_of p
 containers-longer (At s) ks = refl
 containers-longer (Within before container p) ks = ap (λ (cs : List Container). container ∷ cs) (containers-longer p ks)
 
@@ -306,7 +373,7 @@ still-further options p c goes =
     ap kind_of_leaf
     (came-spot (renewed c.change.stays p) (come_by options (spot p).leaf c.rest (line_kind options c.on c.rest)))
     ∙ ap (λ (kind : RowKind). kind_of_leaf (left_by (come_by options (spot p).leaf c.rest kind))) goes.kind
-    ∙ (laws goes.is.name).holds_is options (spot p).leaf c.rest goes.starts
+    ∙ (laws goes.is.name).holds_is options (spot p).leaf c.rest goes.is.starts
     ∙ ap (λ (on : HeldLeaf). (leaf goes.is.name).holds options on c.rest) (sym goes.on)
     ∙ ap (line_behind options c.on c.rest) (sym goes.kind)
 

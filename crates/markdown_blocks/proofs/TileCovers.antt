@@ -2,8 +2,8 @@
 -- read.
 use Rattle.md_engine.specs.declared.tokenizer.held_leaf.HeldLeaf.TheVariants as held_leaf
 use Rattle.md_engine.specs.declared.tokenizer.held_leaf.HeldLeaf.{HeldLeaf}
-use Rattle.std.proofs.Common.{◌≡◌, ℕ, Bool, true, false, cond, List, [], ◌∷◌, ◌++◌, length, refl, subst, ◌∙◌, ap}
-use Rattle.std.proofs.Common.{append-nil}
+use Rattle.std.proofs.Common.{◌≡◌, ℕ, Bool, true, false, cond, ◌&&◌, List, [], ◌∷◌, ◌++◌, length, refl, subst}
+use Rattle.std.proofs.Common.{append-nil, ap, ◌∙◌}
 use Rattle.markdown_blocks.proofs.NestedRows.{ByGroups, rows-hold}
 use Rattle.std.specs.Prelude.{Option, Some, None}
 use Rattle.std.proofs.lemmas.Bool.{and_from, eq-eqb}
@@ -22,9 +22,10 @@ use Rattle.md_seam.proofs.InlineLemmas.{same-refl}
 use Rattle.markdown_blocks.specs.Registry.{leaf, container_name}
 use Rattle.markdown_blocks.specs.Change.{ends_of}
 use Rattle.markdown_blocks.specs.Document.{body_point, mark_end, mark_events}
-use Rattle.markdown_blocks.specs.Rows.{Span, final_row, first_row, group_ending, is_further, onto_leaf, LeafRow}
+use Rattle.markdown_blocks.specs.Rows.{Span, Turned, final_row, first_row, group_ending, is_further, onto_leaf, LeafRow}
 use Rattle.markdown_blocks.specs.Rows.{BlankRow, Group, Lines, Row, RowKind, Single, TextRow, behind_row}
-use Rattle.markdown_blocks.specs.Rows.{ending_events, goes_on as joins_on, groups, last_row, onto_groups, tail_events}
+use Rattle.markdown_blocks.specs.Rows.{ending_events, goes_on as joins_on, groups, is_last, last_row, onto_groups}
+use Rattle.markdown_blocks.specs.Rows.{tail_events}
 use Rattle.markdown_blocks.specs.Unread.{group_unread, listed_group, listed_groups}
 use Rattle.markdown_blocks.proofs.JoinedLemmas.{behind-is, behind-none}
 use Rattle.markdown_blocks.proofs.PiecesLemmas.{Follows, Tiled, follows-append, follows-tiled, tiled-append, tiled-none}
@@ -99,6 +100,7 @@ leaf-behind p row true gs = refl
 leaf-behind p row false [] = refl
 leaf-behind p row false (Single below ∷ gs) = refl
 leaf-behind p row false (Lines below rows ∷ gs) = refl
+leaf-behind p row false (Turned below rows under ∷ gs) = refl
 leaf-behind p row false (Span below rows ∷ gs) = go (is_further below.kind below.on)
   where
     go : (x : Bool) →
@@ -113,7 +115,21 @@ onto-behind p row BlankRow gs = refl
 onto-behind p row (LeafRow l) gs = leaf-behind p row (leaf l).ends gs
 onto-behind p row TextRow [] = refl
 onto-behind p row TextRow (Single below ∷ gs) = refl
-onto-behind p row TextRow (Span below rows ∷ gs) = refl
+onto-behind p row TextRow (Turned below rows under ∷ gs) = go (joins_on row below)
+  where
+    go : (x : Bool) →
+        behind_groups p (cond x (Turned row (below ∷ rows) under ∷ gs) (Lines row [] ∷ Turned below rows under ∷ gs)) ≡
+        behind_groups (behind_row under) gs
+    go true = refl
+    go false = refl
+onto-behind p row TextRow (Span below rows ∷ gs) = go (is_further below.kind below.on) rows
+  where
+    go : (x : Bool) (rows : List Row) →
+        behind_groups p (cond (x && is_last rows) (Turned row [] below ∷ gs) (Lines row [] ∷ Span below rows ∷ gs)) ≡
+        behind_groups (behind_row (last_row below rows)) gs
+    go true [] = refl
+    go true (next ∷ rows) = refl
+    go false rows = refl
 onto-behind p row TextRow (Lines below rows ∷ gs) = go (joins_on row below)
   where
     go : (x : Bool) →

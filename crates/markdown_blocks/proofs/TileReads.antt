@@ -22,7 +22,7 @@ use Rattle.markdown_blocks.specs.Change.{ends_of}
 use Rattle.markdown_blocks.specs.Document.{body_point, mark_end, mark_events}
 use Rattle.markdown_blocks.specs.FlowReads.{text_cells, text_rows}
 use Rattle.markdown_blocks.specs.Parsed.{reads_plain}
-use Rattle.markdown_blocks.specs.HeldLeaf.{has_lines}
+use Rattle.markdown_blocks.specs.HeldLeaf.{may_go_on}
 use Rattle.markdown_blocks.specs.Rows.{final_row, first_row, group_done, Group, Row}
 use Rattle.markdown_blocks.specs.Rows.{ending_events, group_events, groups, groups_events, held_at, tail_events}
 use Rattle.markdown_blocks.specs.Unread.{group_unread, listed_group, listed_groups}
@@ -108,7 +108,7 @@ fill-mark bytes = go (has_mark bytes)
 -- The same with a mark in front.
 pub blocks-filled : (options : ParseOptions) (bytes : List ℕ) (open_before : List Container) (still : HeldLeaf)
     (p : Point) (lines : List (List ℕ)) (rows : List Row) →
-    has_lines still ≡ false → AreRows options bytes open_before still p lines rows → EachNoContent rows →
+    may_go_on still ≡ false → AreRows options bytes open_before still p lines rows → EachNoContent rows →
     IsFilled bytes (mark_events bytes ++ listed_groups bytes (groups rows))
     (mark_events bytes ++ groups_events bytes (groups rows))
 blocks-filled options bytes open_before still p lines rows shut are quiet =

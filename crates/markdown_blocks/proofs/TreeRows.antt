@@ -52,7 +52,7 @@ use Rattle.markdown_blocks.proofs.OpenSpan.{ComesShallow, OpenSpan}
 use Rattle.markdown_blocks.proofs.LastLine.{no_bytes, no_rests, step_over, steps_over, told}
 use Rattle.markdown_blocks.proofs.LineSteps.{asked-kind, plain_kind}
 use Rattle.markdown_blocks.proofs.StepBehind.{GoesOn, begun-leaf, further-unlazy, goes-on, plain-step, span-open}
-use Rattle.markdown_blocks.proofs.ContainedLemmas.{contained-still}
+use Rattle.markdown_blocks.proofs.ContainedLemmas.{contained-still, lines-open}
 use Rattle.markdown_blocks.specs.HeldLeaf.{has_lines, takes_lazy}
 use Rattle.markdown_blocks.specs.Change.{Change}
 use Rattle.markdown_blocks.specs.Fronted.{contained_behind, contained_of}
@@ -191,7 +191,7 @@ shallow-further : (options : ParseOptions) (p : Path) (c : Contained) → GoesOn
 shallow-further options p c goes stay h =
     shallow-came (renewed c.change.stays p) (come_by options (spot p).leaf c.rest (line_kind options c.on c.rest))
     (subst (λ (kind : RowKind). ComesShallow (come_by options (spot p).leaf c.rest kind)) (sym goes.kind)
-    (goes.is.shallow options c.rest)) (shallow-renewed c.change.stays p stay h)
+    goes.is.shallow) (shallow-renewed c.change.stays p stay h)
 
 shallow-step : (options : ParseOptions) (p : Path) (r : Rest) → IsBuilt options → IsPlain p → HoldsShallow p →
     HoldsShallow (step options p r)
@@ -324,7 +324,7 @@ empty-blank options p column plain e = go (has_lines on) refl
 
     go : (x : Bool) → has_lines on ≡ x → line_kind options on r ≡ BlankRow
     go true lines =
-        let same : on ≡ still_of p = contained-still options (containers_of p) (still_of p) r lines in
+        let same : on ≡ still_of p = contained-still options (containers_of p) (still_of p) r (lines-open on lines) in
         let is : OpenSpan (spot p).leaf = span-open (spot p).leaf plain (ap has_lines (sym same) ∙ lines) in
         let asked = asked-kind options (still_of p) r is.name is.asked in
         ap (λ (x : HeldLeaf). line_kind options x r) same ∙ asked

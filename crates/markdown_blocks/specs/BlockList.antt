@@ -17,8 +17,8 @@ use Rattle.md_containers.specs.Listed.{listed}
 use Rattle.md_seam.specs.Events.Nested.{around, enter_link, exit}
 use Rattle.markdown_blocks.specs.Document.{body_point, mark_events}
 use Rattle.markdown_blocks.specs.Registry.{text_leaf}
-use Rattle.markdown_blocks.specs.Rows.{Group, Lines, Row, Span, final_row, first_row, RowKind, Single}
-use Rattle.markdown_blocks.specs.Rows.{behind_row, group_ending, span_by}
+use Rattle.markdown_blocks.specs.Rows.{Group, Lines, Row, Span, Turned, final_row, first_row, RowKind, Single}
+use Rattle.markdown_blocks.specs.Rows.{behind_row, group_ending, turned_by, span_by}
 use Rattle.markdown_blocks.specs.Rows.{ending_of, groups, last_row, leaf_unread, tail_events}
 use Rattle.markdown_blocks.specs.TextRows.{text_rows}
 
@@ -41,10 +41,11 @@ text_unread row rows = around text_leaf.name row.first (last_row row rows).end (
 abbrev pub listed_row_by : List ℕ → RowKind → Row → List Event
 listed_row_by bytes kind row = row.front ++ leaf_unread bytes kind row ++ tail_events (ending_of kind row) row
 
--- the leaf of such a line, or of the lines of a text
+-- the leaf of such a line, of the lines of a text, or of a text with its underline
 abbrev pub group_unread : List ℕ → Group → List Event
 group_unread bytes (Single row) = leaf_unread bytes row.kind row
 group_unread bytes (Lines row rows) = text_unread row rows
+group_unread bytes (Turned row rows under) = turned_by (unread_lines row rows) row rows under
 group_unread bytes (Span row rows) = span_by (λ (r : Row). r.inside) row rows
 
 -- with what stands in front of it, and behind it

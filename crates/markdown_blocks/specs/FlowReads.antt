@@ -12,6 +12,7 @@ use Rattle.md_content.specs.ContentReads.{content_readings, wants_content}
 use Rattle.md_content.specs.Joined.{joined}
 use Rattle.md_content.specs.Resolves.{found_in_content}
 use Rattle.md_leaves.specs.Spanned.{spanned}
+use Rattle.md_leaves.specs.Turned.{turned}
 use Rattle.md_seam.specs.Substituted.{Substituted}
 use Rattle.markdown_blocks.specs.Fed.{FlowRan}
 use Rattle.markdown_blocks.specs.Registry.{joins_lines, resolved}
@@ -38,8 +39,9 @@ pub record FlowReads (bytes : List ℕ) (options : ParseOptions) (p : Point) (fo
   pub content : List Event
   pub content_read : Substituted wants_content (content_readings bytes options) [] 0
       (joined (rows_events (text_rows options bytes p))) content
-  -- then the resolvers of leaves run, the lines of each leaf of several are joined, and lists are put around items
-  pub events_are : new.events ≡ listed bytes (lines_joined options (resolved content))
+  -- then the resolvers of leaves run, setext headings are set, the lines of each leaf of several are joined, and lists are
+  -- put around items
+  pub events_are : new.events ≡ listed bytes (lines_joined options (turned (resolved content)))
   -- all else stays, but that no resolver is left to run
   pub rest : new ≡ record ended { events = new.events; resolvers = [] }
   pub setting : new.setting ≡ text_setting bytes options p

@@ -25,6 +25,12 @@ has_lines held_leaf.Text = false
 has_lines held_leaf.LazyText = false
 has_lines leaf = true
 
+-- whether a line may go on it where all containers went on: a leaf of several lines, and text, which an underline turns
+abbrev pub may_go_on : HeldLeaf → Bool
+may_go_on held_leaf.None = false
+may_go_on held_leaf.LazyText = false
+may_go_on leaf = true
+
 -- what a line meets of a leaf, where no container opens: the leaf itself where all containers went on; else text that
 -- the line is lazy for, if the leaf takes lazy lines, and none if not, since it has ended with its containers
 abbrev pub met_by : Bool → HeldLeaf → HeldLeaf

@@ -3,6 +3,7 @@ pub mod CodeIndented
 pub mod Fence
 pub mod FenceFurther
 pub mod HeadingAtx
+pub mod HeadingSetext
 pub mod HtmlFlow
 pub mod Paragraph
 pub mod ThematicBreak

@@ -15,6 +15,7 @@ pub mod Containers
 pub mod Context
 pub mod LineLeaf
 pub mod TextLeaf
+pub mod TurnLeaf
 pub mod Leaf
 pub mod Registry
 pub mod Rows

@@ -34,8 +34,11 @@ use Rattle.md_leaves.specs.Break.{break_scheme, break_transition}
 use Rattle.md_leaves.specs.BreakRule.{break_behaves}
 use Rattle.md_leaves.specs.Heading.{heading_scheme, heading_transition}
 use Rattle.md_leaves.specs.HeadingRule.{heading_behaves}
+use Rattle.md_leaves.specs.HeadingSetext.{setext_scheme, setext_transition}
+use Rattle.md_leaves.specs.HeadingSetextRule.{setext_behaves}
 use Rattle.md_leaves.specs.HeadingText.{headings_resolved, is_heading}
 use Rattle.md_leaves.specs.Spanned.{passes}
+use Rattle.md_leaves.specs.Turned.{is_no_underline, turned}
 use Rattle.md_leaves.specs.declared.spans.Place.TheVariants.{Outside}
 use Rattle.md_seam.specs.Events.Spelled.{FootnoteShape, ItemShape, OrderedShape, QuoteShape, Shape, UnorderedShape}
 use Rattle.md_definition.specs.State.{Container, InFootnote, InItem, InQuote, Leaf, OpenCode, OpenFence, OpenHtml}
@@ -53,15 +56,17 @@ use Rattle.markdown_blocks.specs.Leaf.CodeIndented.{code_further, code_leaf, is_
 use Rattle.markdown_blocks.specs.Leaf.Fence.{fence_leaf}
 use Rattle.markdown_blocks.specs.Leaf.FenceFurther.{fence_further, is_fence}
 use Rattle.markdown_blocks.specs.Leaf.HeadingAtx.{heading_leaf}
+use Rattle.markdown_blocks.specs.Leaf.HeadingSetext.{setext_leaf, setext_turn}
 use Rattle.markdown_blocks.specs.Leaf.HtmlFlow.{html_further, html_leaf}
 use Rattle.markdown_blocks.specs.Leaf.Paragraph.{paragraph_leaf}
 use Rattle.markdown_blocks.specs.Leaf.ThematicBreak.{break_leaf}
 use Rattle.markdown_blocks.specs.LineLeaf.{LineLeaf}
 use Rattle.markdown_blocks.specs.Passed.{Passed}
 use Rattle.markdown_blocks.specs.TextLeaf.{TextLeaf}
+use Rattle.markdown_blocks.specs.TurnLeaf.{TurnLeaf}
 
 -- Leaves that take a line: of indented code, of fenced code and math, and of HTML, one takes the first line, and one each
--- further line.
+-- further line. The underline of a setext heading takes a line that turns the text in front of it.
 
 pub data LeafName : Type 0 where
   CodeIndented : LeafName
@@ -71,6 +76,7 @@ pub data LeafName : Type 0 where
   HtmlFlow : LeafName
   HtmlFurther : LeafName
   HeadingAtx : LeafName
+  HeadingSetext : LeafName
   ThematicBreak : LeafName
 
 abbrev pub leaf : LeafName → LineLeaf
@@ -81,11 +87,12 @@ leaf FenceFurther = fence_further
 leaf HtmlFlow = html_leaf
 leaf HtmlFurther = html_further
 leaf HeadingAtx = heading_leaf
+leaf HeadingSetext = setext_leaf
 leaf ThematicBreak = break_leaf
 
 -- the order in which they are tried, behind blank lines and in front of content
 abbrev pub trials : List LeafName
-trials = CodeIndented ∷ Fence ∷ HtmlFlow ∷ HeadingAtx ∷ ThematicBreak ∷ []
+trials = CodeIndented ∷ Fence ∷ HtmlFlow ∷ HeadingAtx ∷ HeadingSetext ∷ ThematicBreak ∷ []
 
 -- The leaf that is asked, in front of blank lines and all others, whether a line goes on the one that it meets.
 unfoldable pub insider : HeldLeaf → Option LeafName
@@ -105,9 +112,9 @@ joins_lines options =
     options.constructs.code_fenced || options.constructs.math_flow || options.constructs.code_indented
     || options.constructs.html_flow
 
--- whether an event stays as it is where lines are joined and lists are put around items
+-- whether an event stays as it is where headings are set, lines are joined and lists are put around items
 abbrev pub stays_alone : Event → Bool
-stays_alone e = passes Outside e && passes_lists e
+stays_alone e = passes Outside e && passes_lists e && is_no_underline e
 
 -- the one that takes the further lines of a leaf whose first line this takes
 abbrev pub further_of : LeafName → LeafName
@@ -135,6 +142,7 @@ tried_at flow.BeforeCodeIndented = Some CodeIndented
 tried_at flow.BeforeRaw = Some Fence
 tried_at flow.BeforeHtml = Some HtmlFlow
 tried_at flow.BeforeHeadingAtx = Some HeadingAtx
+tried_at flow.BeforeHeadingSetext = Some HeadingSetext
 tried_at flow.BeforeThematicBreak = Some ThematicBreak
 tried_at _ = None
 
@@ -147,7 +155,8 @@ number FenceFurther = 3
 number HtmlFlow = 4
 number HtmlFurther = 5
 number HeadingAtx = 6
-number ThematicBreak = 7
+number HeadingSetext = 7
+number ThematicBreak = 8
 
 -- the leaves that are tried behind one, where it has not taken the line
 abbrev pub behind_in : ℕ → List LeafName → List LeafName
@@ -177,6 +186,7 @@ low_weight FenceFurther = (refl, refl)
 low_weight HtmlFlow = (refl, refl)
 low_weight HtmlFurther = (refl, refl)
 low_weight HeadingAtx = (refl, refl)
+low_weight HeadingSetext = (refl, refl)
 low_weight ThematicBreak = (refl, refl)
 
 abbrev pub rank_of : LeafName → Rank
@@ -190,6 +200,10 @@ tries_of l = ranked (suc (weight l)) (low_weight l).1
 abbrev pub text_leaf : TextLeaf
 text_leaf = paragraph_leaf
 
+-- what an underline turns it into
+abbrev pub turn_leaf : TurnLeaf
+turn_leaf = setext_turn
+
 -- Resolvers, behind that of content. One is run if it was registered, and behind it always that of lists.
 
 abbrev pub resolver : ResolveName
@@ -202,6 +216,7 @@ is_own name = is_heading name
 -- what each makes of the events of a text: that of no construct that is built changes nothing
 abbrev pub resolved_by : List ℕ → ResolveName → List Event → List Event
 resolved_by bytes r.HeadingAtx events = headings_resolved events
+resolved_by bytes r.HeadingSetext events = turned events
 resolved_by bytes r.ListItem events = listed bytes events
 resolved_by bytes _ events = events
 
@@ -349,6 +364,7 @@ abbrev pub construct_owner : StateName → Scheme
 construct_owner (s.BlockQuote state) = quote_scheme
 construct_owner (s.CodeIndented state) = code_scheme
 construct_owner (s.HeadingAtx state) = heading_scheme
+construct_owner (s.HeadingSetext state) = setext_scheme
 construct_owner (s.HtmlFlow state) = html_scheme
 construct_owner (s.ListItem state) = item_scheme
 construct_owner (s.RawFlow state) = fence_scheme
@@ -359,6 +375,7 @@ abbrev pub construct_transition : (ResolveName → ResolveName → Bool) → Sta
 construct_transition is_name (s.BlockQuote state) w = quote_transition state w
 construct_transition is_name (s.CodeIndented state) w = code_transition state w
 construct_transition is_name (s.HeadingAtx state) w = heading_transition (is_name r.HeadingAtx) state w
+construct_transition is_name (s.HeadingSetext state) w = setext_transition state w
 construct_transition is_name (s.HtmlFlow state) w = html_transition state w
 construct_transition is_name (s.ListItem state) w = item_transition state w
 construct_transition is_name (s.RawFlow state) w = fence_transition state w
@@ -369,6 +386,7 @@ abbrev pub construct_behaves : List ℕ → ParseOptions → Behaviour
 construct_behaves bytes options (s.BlockQuote state) cells h = quote_behaves options state cells h
 construct_behaves bytes options (s.CodeIndented state) cells h = code_behaves options state cells h
 construct_behaves bytes options (s.HeadingAtx state) cells h = heading_behaves options state cells h
+construct_behaves bytes options (s.HeadingSetext state) cells h = setext_behaves options state cells h
 construct_behaves bytes options (s.HtmlFlow state) cells h = html_behaves bytes options state cells h
 construct_behaves bytes options (s.ListItem state) cells h = item_behaves options state cells h
 construct_behaves bytes options (s.RawFlow state) cells h = fence_behaves options state cells h

@@ -26,7 +26,7 @@ use Rattle.md_definition.specs.Rest.{Rest, is_blank}
 use Rattle.md_definition.specs.State.{Container}
 use Rattle.markdown_blocks.specs.LineFlags.{ending_name, nothing_stands}
 use Rattle.markdown_blocks.specs.Passed.{Passed}
-use Rattle.markdown_blocks.specs.Registry.{LeafName, first_of, goes_at, insider, leaf, opens_at, shuts_out, text_leaf}
+use Rattle.markdown_blocks.specs.Registry.{LeafName, first_of, goes_at, insider, leaf, opens_at, shuts_out, text_leaf, turn_leaf}
 use Rattle.markdown_blocks.specs.Registry.{trials}
 use Rattle.markdown_blocks.specs.Change.{Change, change_by, ends_of, interrupts, is_none, met, open_behind, others_of}
 
@@ -308,10 +308,12 @@ single_events_by bytes kind row = row.front ++ leaf_done bytes kind row ++ tail_
 
 -- Texts.
 
--- a line that is no text, the lines of a text, or those of a leaf of several
+-- a line that is no text, the lines of a text, those of a text and the underline that turns it, or those of a leaf of
+-- several
 pub data Group : Type 0 where
   Single : Row → Group
   Lines : Row → List Row → Group
+  Turned : Row → List Row → Row → Group
   Span : Row → List Row → Group
 
 -- whether a line of text goes on the text of the one before: no container ends or opens between them
@@ -322,10 +324,26 @@ abbrev pub onto_lines : Row → Row → List Row → List Group → List Group
 onto_lines row next rows groups =
     if goes_on row next then Lines row (next ∷ rows) ∷ groups else Lines row [] ∷ Lines next rows ∷ groups
 
+abbrev pub onto_turned : Row → Row → List Row → Row → List Group → List Group
+onto_turned row next rows under groups =
+    if goes_on row next then Turned row (next ∷ rows) under ∷ groups
+    else Lines row [] ∷ Turned next rows under ∷ groups
+
 -- whether a line of this kind goes on the leaf that it meets
 abbrev pub is_further : RowKind → HeldLeaf → Bool
 is_further (LeafRow l) on = (leaf l).further on
 is_further kind on = false
+
+-- whether no line stands behind another
+abbrev pub is_last : List Row → Bool
+is_last [] = true
+is_last (row ∷ rows) = false
+
+-- a line of text: one line behind it that goes on it is its underline
+abbrev pub onto_underline : Row → Row → List Row → List Group → List Group
+onto_underline row next rows groups =
+    if is_further next.kind next.on && is_last rows then Turned row [] next ∷ groups
+    else Lines row [] ∷ Span next rows ∷ groups
 
 -- a line of a leaf of several: a line that goes on it is one of the same
 abbrev pub onto_span : Row → List Group → List Group
@@ -339,11 +357,14 @@ onto_leaf false row groups = onto_span row groups
 
 abbrev pub onto_groups : Row → RowKind → List Group → List Group
 onto_groups row TextRow (Lines next rows ∷ groups) = onto_lines row next rows groups
+onto_groups row TextRow (Turned next rows under ∷ groups) = onto_turned row next rows under groups
+onto_groups row TextRow (Span next rows ∷ groups) = onto_underline row next rows groups
 onto_groups row TextRow groups = Lines row [] ∷ groups
 onto_groups row (LeafRow l) groups = onto_leaf (leaf l).ends row groups
 onto_groups row BlankRow groups = Single row ∷ groups
 
--- lines of text that follow one another are one text, unless containers end or open between them
+-- lines of text that follow one another are one text, unless containers end or open between them, with the underline
+-- that follows them
 abbrev pub groups : List Row → List Group
 groups [] = []
 groups (row ∷ rows) = onto_groups row row.kind (groups rows)
@@ -370,6 +391,18 @@ read_lines bytes row (next ∷ rows) =
 -- the leaf of these lines, once they are read
 abbrev pub text_done : List ℕ → Row → List Row → List Event
 text_done bytes row rows = around text_leaf.name row.first (last_row row rows).end (read_lines bytes row rows)
+
+-- What a line turns these lines into: their text, the ending of the last, and that line behind the prefixes of its
+-- containers.
+abbrev pub turned_by : List Event → Row → List Row → Row → List Event
+turned_by text row rows under =
+    around turn_leaf.name row.first under.end
+    (around turn_leaf.text row.first (last_row row rows).end text
+    ++ ending_events n.LineEnding (last_row row rows) ++ under.front ++ under.inside)
+
+-- once they are read
+abbrev pub turned_done : List ℕ → Row → List Row → Row → List Event
+turned_done bytes row rows under = turned_by (read_lines bytes row rows) row rows under
 
 -- The lines of a leaf of several, joined. A line is a pair of its own, from its begin to its end; but a blank line in
 -- indented code stands bare, without them, since it may stand behind the code. What the first line adds but its end, what
@@ -431,16 +464,19 @@ span_done bytes row rows = plain_read bytes (span_by (λ (r : Row). r.inside) ro
 abbrev pub first_row : Group → Row
 first_row (Single row) = row
 first_row (Lines row rows) = row
+first_row (Turned row rows under) = row
 first_row (Span row rows) = row
 
 abbrev pub final_row : Group → Row
 final_row (Single row) = row
 final_row (Lines row rows) = last_row row rows
+final_row (Turned row rows under) = under
 final_row (Span row rows) = last_row row rows
 
 abbrev pub group_kind : Group → RowKind
 group_kind (Single row) = row.kind
 group_kind (Lines row rows) = TextRow
+group_kind (Turned row rows under) = under.kind
 group_kind (Span row rows) = (last_row row rows).kind
 
 -- whether that line is blank to its ending, and the name of this
@@ -453,6 +489,7 @@ group_ending group = ending_name (is_blank_group group)
 abbrev pub group_done : List ℕ → Group → List Event
 group_done bytes (Single row) = leaf_done bytes row.kind row
 group_done bytes (Lines row rows) = text_done bytes row rows
+group_done bytes (Turned row rows under) = turned_done bytes row rows under
 group_done bytes (Span row rows) = span_done bytes row rows
 
 -- what stands in front of its first line, its leaf, and what stands behind its last line

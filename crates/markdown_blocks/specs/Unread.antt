@@ -10,7 +10,7 @@ use Rattle.md_seam.specs.declared.inline.Chunk.{Chunk}
 use Rattle.md_seam.specs.Events.Nested.{enter_link, exit}
 pub use Rattle.markdown_blocks.specs.BlockList.{group_unread, linked_lines, text_unread, listed_group, listed_groups}
 pub use Rattle.markdown_blocks.specs.BlockList.{listed_row_by, unread_lines}
-use Rattle.markdown_blocks.specs.Rows.{Group, Lines, Single, Span, last_row, row_events, rows_events, tail_events}
+use Rattle.markdown_blocks.specs.Rows.{Group, Lines, Single, Span, Turned, last_row, row_events, rows_events, tail_events}
 
 -- the chunks of a part that is not read yet
 abbrev pub linked : Name → Link → List Chunk → List Event
@@ -21,6 +21,9 @@ linked name link (chunk ∷ chunks) = enter_link name chunk.first link ∷ exit 
 abbrev pub joined_group : Group → List Event
 joined_group (Single row) = row_events row
 joined_group (Span row rows) = rows_events (row ∷ rows)
+joined_group (Turned row rows under) =
+    row.front ++ linked_lines n.Content content_link row rows ++ tail_events n.LineEnding (last_row row rows)
+    ++ row_events under
 joined_group (Lines row rows) =
     row.front ++ linked_lines n.Content content_link row rows ++ tail_events n.LineEnding (last_row row rows)
 
@@ -32,17 +35,29 @@ joined_groups (group ∷ groups) = joined_group group ++ joined_groups groups
 abbrev pub unread_group : Group → List Event
 unread_group (Single row) = row_events row
 unread_group (Span row rows) = rows_events (row ∷ rows)
+unread_group (Turned row rows under) =
+    row.front ++ text_unread row rows ++ tail_events n.LineEnding (last_row row rows) ++ row_events under
 unread_group (Lines row rows) = row.front ++ text_unread row rows ++ tail_events n.LineEnding (last_row row rows)
 
 abbrev pub unread_groups : List Group → List Event
 unread_groups [] = []
 unread_groups (group ∷ groups) = unread_group group ++ unread_groups groups
 
--- Leaves once their resolvers have run, before the lines of a leaf of several are joined.
+-- Leaves once their resolvers have run, before setext headings are set, and the lines of a leaf of several are joined.
 abbrev pub set_group : List ℕ → Group → List Event
 set_group bytes (Span row rows) = rows_events (row ∷ rows)
+set_group bytes (Turned row rows under) = unread_group (Turned row rows under)
 set_group bytes group = listed_group bytes group
 
 abbrev pub set_groups : List ℕ → List Group → List Event
 set_groups bytes [] = []
 set_groups bytes (group ∷ groups) = set_group bytes group ++ set_groups bytes groups
+
+-- Setext headings once they are set, before the lines of a leaf of several are joined.
+abbrev pub turned_group : List ℕ → Group → List Event
+turned_group bytes (Span row rows) = rows_events (row ∷ rows)
+turned_group bytes group = listed_group bytes group
+
+abbrev pub turned_groups : List ℕ → List Group → List Event
+turned_groups bytes [] = []
+turned_groups bytes (group ∷ groups) = turned_group bytes group ++ turned_groups bytes groups

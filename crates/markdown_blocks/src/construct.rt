@@ -7,7 +7,8 @@ pub mod registry;
 pub use md_containers::{block_quote, list_item};
 pub use md_content::{content, paragraph};
 pub use md_leaves::{
-    blank_line, heading_atx, partial_bom, partial_non_lazy_continuation, thematic_break,
+    blank_line, heading_atx, heading_setext, partial_bom, partial_non_lazy_continuation,
+    thematic_break,
 };
 pub use md_lines::{code_indented, raw_flow};
 pub use md_rich::html_flow;

@@ -6,6 +6,7 @@ ghost use Rattle.md_containers.specs.Listed.{listed};
 ghost use Rattle.md_engine.specs.Found.{found_in};
 ghost use Rattle.md_engine.specs.Place.{IsPlaced};
 ghost use Rattle.md_engine.specs.World.{fresh, world};
+ghost use Rattle.md_leaves.specs.Turned.{turned};
 ghost use Rattle.markdown_blocks.specs.Document.{ReadsMark};
 ghost use Rattle.markdown_blocks.specs.FlowReads.{FlowReads, lines_joined};
 ghost use Rattle.markdown_blocks.specs.Parsed.{IsBuilt, IsParsed, IsSmall};
@@ -153,8 +154,8 @@ fn join_lines(tokenizer: &mut Tokenizer, options: &ParseOptions) -> Result<(), M
     Ok(())
 }
 
-/// How many events stand in front of the first that may not stay as it is where lines are joined and lists are put
-/// around items.
+/// How many events stand in front of the first that may not stay as it is where setext headings are set, lines are joined
+/// and lists are put around items.
 fn until_grouped(events: &[Event]) -> usize
     ensures value { result ≡ prefix_len stays_alone events.now }
     ensures within { result ≤ length events.now }
@@ -167,8 +168,8 @@ fn until_grouped(events: &[Event]) -> usize
     events.len()
 }
 
-/// Joins the lines of each leaf of several, and puts lists around items. Where neither stands, one look at each event
-/// tells so.
+/// Sets setext headings, joins the lines of each leaf of several, and puts lists around items. Where none of these stands,
+/// one look at each event tells so.
 ///
 /// An `Err` says that memory ran out.
 fn group_blocks(tokenizer: &mut Tokenizer, options: &ParseOptions) -> Result<(), Message>
@@ -176,19 +177,20 @@ fn group_blocks(tokenizer: &mut Tokenizer, options: &ParseOptions) -> Result<(),
     ensures { OnOk result
         (world tokenizer.new ≡
         record (world tokenizer.old) {
-          events = listed (world tokenizer.old).setting.bytes (lines_joined options.now (world tokenizer.old).events);
+          events = listed (world tokenizer.old).setting.bytes (lines_joined options.now (turned (world tokenizer.old).events));
         }) }
 {
     if until_grouped(&tokenizer.events) == tokenizer.events.len() {
         return Ok(());
     }
+    resolve::call(tokenizer, ResolveName::HeadingSetext)?;
     join_lines(tokenizer, options)?;
     resolve::call(tokenizer, ResolveName::ListItem)?;
     Ok(())
 }
 
-/// Reads the lines of a text from a point on by flow, and then its content; joins the lines of each leaf of several, and
-/// puts lists around items.
+/// Reads the lines of a text from a point on by flow, and then its content; sets setext headings, joins the lines of each
+/// leaf of several, and puts lists around items.
 ///
 /// An `Err` says that memory ran out.
 fn read_flow<'a>(
@@ -228,7 +230,7 @@ fn behind_mark(mut mark: Vec<Event>, mut body: Vec<Event>) -> Result<Vec<Event>,
 /// Reads a text: its events, and what else is known of it.
 ///
 /// The text has at most `usize::MAX / 8` bytes, and of the constructs block quotes, list items, indented and fenced code,
-/// math, ATX headings and breaks alone may be on. A byte order mark in front of the text is taken as such. An `Err` says
+/// math, HTML, headings and breaks alone may be on. A byte order mark in front of the text is taken as such. An `Err` says
 /// that memory ran out; then nothing is handed out.
 pub fn parse<'a>(
     alloc: Global,

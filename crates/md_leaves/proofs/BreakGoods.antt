@@ -35,8 +35,15 @@ break-starts T has = record {
 }
 
 -- with a marker taken back a scratch at rest is at rest
-marked-rest : (s : Scratch) (b : ℕ) → IsRest s → IsRest (without_marker (record s { marker = b }))
+pub marked-rest : (s : Scratch) (b : ℕ) → IsRest s → IsRest (without_marker (record s { marker = b }))
 marked-rest s b e = ap (λ (t : Scratch). without_marker (record t { marker = b })) e
+
+-- a trial at rest ends at rest
+pub rest-marker : (s : Scratch) → IsRest s → without_marker s ≡ s
+rest-marker s e = ap without_marker e ∙ sym e
+
+pub rest-white : (s : Scratch) → IsRest s → without_marker (calmed s) ≡ s
+rest-white s e = ap (λ (t : Scratch). without_marker (calmed t)) e ∙ sym e
 
 -- behind a run the rank is low
 pub low-rank : (y : Bool) → (cond y (ranked 2 refl) (ranked 0 refl)).number < 3

@@ -61,7 +61,7 @@ pub marker-no_white : (m : ℕ) → is_marker m ≡ true → is_white m ≡ fals
 marker-no_white m h = grind (arith, nat_tests)
 
 -- whitespace is not what is no whitespace
-white-apart : (c m : ℕ) → is_white c ≡ true → is_white m ≡ false → nat_eq c m ≡ false
+pub white-apart : (c m : ℕ) → is_white c ≡ true → is_white m ≡ false → nat_eq c m ≡ false
 white-apart c m s k = go (nat_eq c m) refl
   where
     go : (x : Bool) → nat_eq c m ≡ x → x ≡ false

@@ -22,26 +22,14 @@ use Rattle.md_leaves.specs.BreakRule.{Apart, HasBreak, Marks, White, at_break, b
 use Rattle.md_leaves.proofs.BreakLemmas.{apart-mark, before-mark, before-other, in_break-mark, in_break-other}
 use Rattle.md_leaves.proofs.BreakLemmas.{marker-no_ending, marker-no_white, marks-at_none, marks-end, marks-none}
 use Rattle.md_leaves.proofs.BreakLemmas.{marks-white, takes-white}
-use Rattle.md_leaves.proofs.BreakGoods.{marked-calm}
+use Rattle.md_leaves.proofs.BreakGoods.{marked-calm, rest-marker}
 use Rattle.md_leaves.proofs.LeafStart.{HasStart, start-steps}
-use Rattle.md_leaves.proofs.LeafSteps.{sees-one, white_frame, behind-joined, white-run}
+use Rattle.md_leaves.proofs.LeafSteps.{sees-one, sees-other_white, white_frame, behind-joined, white-run}
 use Rattle.md_seam.specs.Ahead.{white_rest}
 use Rattle.md_seam.specs.Events.Nested.{enter, exit}
 use Rattle.md_definition.specs.Rest.{is_white}
 use Rattle.md_seam.specs.Spaces.{IsRest, any_size, ends_line, is_current, sees_white}
 use Rattle.md_seam.proofs.WhiteSteps.{begins-seen, white-tried}
-
-sees-other_white : (feed : Feed) (w : World) (m : ℕ) → Sees feed w → is_current m w.current ≡ false →
-    sees_white w.current ≡ true →
-    (b : ℕ) × (feed w.point ≡ cell_here feed w b ∷ feed (after w.setting w.point)) × (nat_eq b m ≡ false) ×
-    (is_white b ≡ true)
-sees-other_white feed w m s e f = go w.current e f s.next
-  where
-    go : (o : Option ℕ) → is_current m o ≡ false → sees_white o ≡ true → feed w.point ≡ ahead feed w o →
-        (b : ℕ) × (feed w.point ≡ cell_here feed w b ∷ feed (after w.setting w.point)) × (nat_eq b m ≡ false) ×
-        (is_white b ≡ true)
-    go None e f k = cc
-    go (Some b) e f k = (b, k, e, f)
 
 abbrev behind_marks : Here → Here
 behind_marks h = record h { events = h.events ++ exit parts.ThematicBreakSequence h.point ∷ [] }
@@ -184,13 +172,10 @@ before_steps : (B : Behaviour) (options : ParseOptions) (feed : Feed) (w : World
     Steps B feed (Next (n.ThematicBreak its.Before)) w (before_code w w.current).to (before_code w w.current).world
 before_steps B options feed w has s r = go w.current s.next
   where
-    rest : without_marker w.scratch ≡ w.scratch
-    rest = ap without_marker r ∙ sym r
-
     refused : before_marker (feed w.point) (here w) ≡ Refuses (without_marker w.scratch) w.flags →
         Steps B feed (Next (n.ThematicBreak its.Before)) w Nok w
     refused e =
-        passes B feed _ Nok w w refl refl (has.each its.Before _ _ ∙ e ∙ ap (λ (x : Scratch). Refuses x w.flags) rest)
+        passes B feed _ Nok w w refl refl (has.each its.Before _ _ ∙ e ∙ ap (λ (x : Scratch). Refuses x w.flags) (rest-marker w.scratch r))
 
     go : (o : Option ℕ) → feed w.point ≡ ahead feed w o →
         Steps B feed (Next (n.ThematicBreak its.Before)) w (before_code w o).to (before_code w o).world

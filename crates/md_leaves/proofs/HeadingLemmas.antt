@@ -82,13 +82,15 @@ pub apart-none : (cells : List Cell) (h : Here) → begins_white cells ≡ false
 unfolding at_break
 apart-none cells h e = rw e refl
 
--- `#` at the front
+-- A run at the front.
 
-pub hashes-one : (b : ℕ) (bs : List ℕ) → nat_eq b 35 ≡ true → run_len 35 (b ∷ bs) ≡ suc (run_len 35 bs)
-hashes-one b bs e = rw e (omega arith)
+-- its first byte counts,
+pub run_len-one : (m b : ℕ) (bs : List ℕ) → nat_eq b m ≡ true → run_len m (b ∷ bs) ≡ suc (run_len m bs)
+run_len-one m b bs e = rw e (omega arith)
 
-pub hashes-other : (b : ℕ) (bs : List ℕ) → nat_eq b 35 ≡ false → run_len 35 (b ∷ bs) ≡ 0
-hashes-other b bs e = rw e refl
+-- and another byte ends it
+pub run_len-other : (m b : ℕ) (bs : List ℕ) → nat_eq b m ≡ false → run_len m (b ∷ bs) ≡ 0
+run_len-other m b bs e = rw e refl
 
 -- one more is taken
 pub opening-more : (c : Cell) (cs : List Cell) (h : Here) → nat_eq c.byte 35 ≡ true → nat_eq c.byte 10 ≡ false →
@@ -100,7 +102,7 @@ opening-more c cs h is ending =
     let sum : h.scratch.size + suc n ≡ h.scratch.size + 1 + n = omega arith in
     rw (
       ending,
-      hashes-one c.byte (line_bytes cs) is,
+      run_len-one 35 c.byte (line_bytes cs) is,
       sum,
       run-more Hashes c cs (record h { scratch = without_size h.scratch }) is ending,
     ) refl
@@ -112,14 +114,14 @@ unfolding in_opening
 opening-full c cs h is ending le =
     let n = run_len 35 (line_bytes cs) in
     let over : nat_le (h.scratch.size + suc n) 6 ≡ false = grind (arith, nat_tests) in
-    rw (ending, hashes-one c.byte (line_bytes cs) is, over) refl
+    rw (ending, run_len-one 35 c.byte (line_bytes cs) is, over) refl
 
 -- text behind it makes it no heading
 pub opening-text : (c : Cell) (cs : List Cell) (h : Here) → nat_eq c.byte 35 ≡ false → nat_eq c.byte 10 ≡ false →
     is_white c.byte ≡ false → in_opening (c ∷ cs) h ≡ Refuses (without_size h.scratch) h.flags
 unfolding in_opening
 opening-text c cs h is ending white =
-    rw (ending, hashes-other c.byte (line_bytes cs) is, white) (go (nat_le (h.scratch.size + 0) 6))
+    rw (ending, run_len-other 35 c.byte (line_bytes cs) is, white) (go (nat_le (h.scratch.size + 0) 6))
   where
     go : (x : Bool) →
         cond (x && false) (in_heading Hashes (c ∷ cs) (record h { scratch = without_size h.scratch }))
@@ -145,7 +147,7 @@ unfolding in_opening
 opening-white c cs h white le =
     rw (
       white-no_ending c.byte white,
-      hashes-other c.byte (line_bytes cs) (white-no_hash c.byte white),
+      run_len-other 35 c.byte (line_bytes cs) (white-no_hash c.byte white),
       white,
       few h.scratch.size le,
     ) refl

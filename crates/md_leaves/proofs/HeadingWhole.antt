@@ -1,5 +1,5 @@
 -- A heading takes a whole line, or refuses it.
-use Rattle.std.proofs.Common.{◌≡◌, ℕ, Bool, true, false, cond, ◌&&◌, List, [], ◌++◌, refl, sym, ◌∙◌, ap, ap₂}
+use Rattle.std.proofs.Common.{◌≡◌, ℕ, Bool, true, false, ◌&&◌, List, ◌++◌, refl, sym, ◌∙◌, ap}
 use Rattle.std.proofs.Common.{append_assoc}
 use Rattle.std.proofs.lemmas.Bool.{and_parts}
 use Rattle.md_engine.specs.declared.configuration.ParseOptions.{ParseOptions}
@@ -12,11 +12,11 @@ use Rattle.md_leaves.specs.HeadingRule.{Apart, before_opening, heading_at, headi
 use Rattle.md_leaves.specs.HeadingRule.{is_heading_line, runs}
 use Rattle.md_leaves.proofs.HeadingLemmas.{before-is, before-no}
 use Rattle.md_leaves.specs.LeafStart.{entered_here}
-use Rattle.md_leaves.proofs.LeafStart.{at-none, at-off, at-white}
+use Rattle.md_leaves.proofs.LeafStart.{at-none, at-off, at-white, indented-none, indented-white}
 use Rattle.md_seam.specs.Ahead.{begins_white, from_ending, line_bytes, line_cells, line_end, white_end, white_rest}
 use Rattle.md_seam.specs.Events.Nested.{around, pair}
 use Rattle.md_seam.specs.Spaces.{calmed, small_indent}
-use Rattle.md_seam.proofs.AheadLemmas.{none-end, none-rest, white-ending, white-line_end}
+use Rattle.md_seam.proofs.AheadLemmas.{none-rest, white-ending, white-line_end}
 use Rattle.md_seam.proofs.WhiteSteps.{behind_white}
 
 -- a heading that was begun here
@@ -32,27 +32,9 @@ taken_line inside cells h =
     })
     (from_ending cells)
 
-inside-none : (options : ParseOptions) (cells : List Cell) (p : Point) → begins_white cells ≡ false →
-    heading_inside options cells p ≡ runs Apart (line_cells cells) p
-inside-none options cells p e =
-    let room = small_indent options in
-    ap
-    (λ (x : Bool).
-    cond x (pair SpaceOrTab p (white_end room cells p)) []
-    ++ runs Apart (line_cells (white_rest room cells)) (white_end room cells p)) e
-    ∙ ap₂ (λ (r : List Cell) (q : Point). runs Apart (line_cells r) q) (none-rest room cells e)
-    (none-end room cells p e)
-
-inside-white : (options : ParseOptions) (cells : List Cell) (p : Point) → begins_white cells ≡ true →
-    heading_inside options cells p ≡
-    pair SpaceOrTab p (white_end (small_indent options) cells p)
-    ++ runs Apart (line_cells (white_rest (small_indent options) cells)) (white_end (small_indent options) cells p)
-inside-white options cells p e =
-    let room = small_indent options in
-    ap
-    (λ (x : Bool).
-    cond x (pair SpaceOrTab p (white_end room cells p)) []
-    ++ runs Apart (line_cells (white_rest room cells)) (white_end room cells p)) e
+-- what stands in it behind its indent
+abbrev behind_indent : List Cell → Point → List Event
+behind_indent cells p = runs Apart (line_cells cells) p
 
 taken-none : (cells : List Cell) (h : Here) →
     in_heading Apart cells (entered_here HeadingAtx h) ≡ taken_line (runs Apart (line_cells cells) h.point) cells h
@@ -86,14 +68,14 @@ heading-taken options cells h calm e = go (begins_white cells) refl
         ∙ before-is (white_rest (small_indent options) cells)
         (behind_white (small_indent options) cells (entered_here HeadingAtx h)) parts.1
         ∙ taken-white (small_indent options) cells h calm
-        ∙ ap (λ (es : List Event). taken_line es cells h) (sym (inside-white options cells h.point s))
+        ∙ ap (λ (es : List Event). taken_line es cells h) (sym (indented-white behind_indent (small_indent options) cells h.point s))
     go false s =
         at-none HeadingAtx _ before_opening options cells h parts.0 s
         ∙ before-is cells (entered_here HeadingAtx h)
         (sym (ap (λ (r : List Cell). is_heading (line_bytes r)) (none-rest (small_indent options) cells s))
         ∙ parts.1)
         ∙ taken-none cells h
-        ∙ ap (λ (es : List Event). taken_line es cells h) (sym (inside-none options cells h.point s))
+        ∙ ap (λ (es : List Event). taken_line es cells h) (sym (indented-none behind_indent (small_indent options) cells h.point s))
 
 -- any other line is refused
 pub heading-refused : (options : ParseOptions) (cells : List Cell) (h : Here) → calmed h.scratch ≡ h.scratch →

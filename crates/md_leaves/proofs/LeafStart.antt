@@ -1,8 +1,11 @@
 -- The start of a leaf behind a small indent takes one step of its rule, and stands in any table that has its states.
 use Rattle.std.proofs.Common.{◌≡◌, ℕ, ◌<◌, ◌≤◌, ◌&&◌, ◌==◌, Bool, true, false, cond, List, [], ◌∷◌, map, Some}
-use Rattle.std.proofs.Common.{refl, sym, ◌∙◌, arith, ◌⊎◌, inl, inr}
+use Rattle.std.proofs.Common.{◌++◌, refl, sym, ◌∙◌, ap, ap₂, arith, ◌⊎◌, inl, inr}
 use Rattle.md_engine.specs.declared.configuration.ParseOptions.{ParseOptions}
+use Rattle.md_engine.specs.declared.event.Event.{Event}
 use Rattle.md_engine.specs.declared.event.Name.{Name}
+use Rattle.md_engine.specs.declared.event.Name.TheVariants.{SpaceOrTab}
+use Rattle.md_engine.specs.declared.event.Point.{Point}
 use Rattle.md_engine.specs.declared.state.Name.{Name as StateName}
 use Rattle.md_engine.specs.declared.state.State.TheVariants.{Next}
 use Rattle.md_engine.specs.declared.tokenizer.Frame.{Frame}
@@ -15,12 +18,12 @@ use Rattle.md_engine.proofs.StepOf.{Sees, begins, moves, passes}
 use Rattle.md_leaves.specs.LeafStart.{entered_here, start_at, start_code}
 use Rattle.md_leaves.proofs.LeafSteps.{white_frame}
 use Rattle.md_definition.specs.Rest.{is_white}
-use Rattle.md_seam.specs.Ahead.{HasWhite, begins_white, line_bytes, line_cells, white_rest}
-use Rattle.md_seam.specs.Events.Nested.{enter}
+use Rattle.md_seam.specs.Ahead.{HasWhite, begins_white, line_bytes, line_cells, white_end, white_rest}
+use Rattle.md_seam.specs.Events.Nested.{enter, pair}
 use Rattle.md_seam.specs.Look.{first_seen, seen_behind}
 use Rattle.md_seam.specs.Spaces.{IsRest, rest_ready, sees_white, small_indent}
 use Rattle.md_seam.specs.Transition.{entered}
-use Rattle.md_seam.proofs.AheadLemmas.{small-some}
+use Rattle.md_seam.proofs.AheadLemmas.{none-end, none-rest, small-some}
 use Rattle.md_seam.proofs.LookLemmas.{rest-begins}
 use Rattle.md_seam.proofs.SpacesGoods.{Does, WhiteFits, rest-calm, rest-none, white_try}
 use Rattle.md_seam.proofs.WhiteSteps.{begins-seen, behind_white, white-tried}
@@ -48,6 +51,31 @@ pub at-none : (name : Name) (on : Bool) (behind : List Cell → Here → Outcome
     start_at name on behind options cells h ≡ behind cells (entered_here name h)
 unfolding start_at
 at-none name on behind options cells h is s = rw (is, s) refl
+
+-- What stands in one that takes its line: with no indent,
+pub indented-none : (inside : List Cell → Point → List Event) (room : ℕ) (cells : List Cell) (p : Point) →
+    begins_white cells ≡ false →
+    cond (begins_white cells) (pair SpaceOrTab p (white_end room cells p)) []
+    ++ inside (white_rest room cells) (white_end room cells p) ≡
+    inside cells p
+indented-none inside room cells p e =
+    ap
+    (λ (x : Bool).
+    cond x (pair SpaceOrTab p (white_end room cells p)) []
+    ++ inside (white_rest room cells) (white_end room cells p)) e
+    ∙ ap₂ inside (none-rest room cells e) (none-end room cells p e)
+
+-- and with one.
+pub indented-white : (inside : List Cell → Point → List Event) (room : ℕ) (cells : List Cell) (p : Point) →
+    begins_white cells ≡ true →
+    cond (begins_white cells) (pair SpaceOrTab p (white_end room cells p)) []
+    ++ inside (white_rest room cells) (white_end room cells p) ≡
+    pair SpaceOrTab p (white_end room cells p) ++ inside (white_rest room cells) (white_end room cells p)
+indented-white inside room cells p e =
+    ap
+    (λ (x : Bool).
+    cond x (pair SpaceOrTab p (white_end room cells p)) []
+    ++ inside (white_rest room cells) (white_end room cells p)) e
 
 -- Where another byte than it may begin with stands first behind whitespace, no line is taken: such a rule holds of no
 -- line that begins with such a byte, or with whitespace.
@@ -83,24 +111,34 @@ pub record HasStart (B : Behaviour) (options : ParseOptions) (name : Name) (on :
   pub start_is : (cells : List Cell) (h : Here) → B start cells h ≡ start_at name on behind options cells h
   pub next_is : (cells : List Cell) (h : Here) → B next cells h ≡ behind cells h
 
-pub start-steps : (B : Behaviour) (feed : Feed) (name : Name) (on : Bool) (behind : List Cell → Here → Outcome)
+-- Its first state takes one step of it, if it has it there.
+pub start-steps_here : (B : Behaviour) (feed : Feed) (name : Name) (on : Bool) (behind : List Cell → Here → Outcome)
     (start next : StateName) (w : World) (x y : Bool) →
-    HasStart B w.setting.options name on behind start next → Sees feed w → on ≡ x → sees_white w.current ≡ y →
+    HasWhite B → B start (feed w.point) (here w) ≡ start_at name on behind w.setting.options (feed w.point) (here w) →
+    ((cells : List Cell) (h : Here) → B next cells h ≡ behind cells h) →
+    Sees feed w → on ≡ x → sees_white w.current ≡ y →
     Steps B feed (Next start) w (start_code name next w x y).to (start_code name next w x y).world
-start-steps B feed name on behind start next w false y has s e f =
-    passes B feed _ _ w w refl refl (has.start_is _ _ ∙ at-off name on behind _ (feed w.point) (here w) e)
-start-steps B feed name on behind start next w true true has s e f =
+start-steps_here B feed name on behind start next w false y has_white start_is next_is s e f =
+    passes B feed _ _ w w refl refl (start_is ∙ at-off name on behind _ (feed w.point) (here w) e)
+start-steps_here B feed name on behind start next w true true has_white start_is next_is s e f =
     let h : Here = entered_here name (here w) in
     let frame : Frame = white_frame (Next next) w h.events in
     let white : begins_white (feed w.point) ≡ true = begins-seen feed w s ∙ f in
     begins B feed _ _ w (start_code name next w true true).world (enter name w.point ∷ []) frame refl refl
-    (has.start_is _ _ ∙ at-white name on behind _ (feed w.point) (here w) e white ∙ sym (has.next_is _ _)
-    ∙ white-tried B feed frame h.events (feed w.point) h 0 (small_indent w.setting.options) has.white white
+    (start_is ∙ at-white name on behind _ (feed w.point) (here w) e white ∙ sym (next_is _ _)
+    ∙ white-tried B feed frame h.events (feed w.point) h 0 (small_indent w.setting.options) has_white white
     (small-some w.setting.options) (omega arith) refl)
-start-steps B feed name on behind start next w true false has s e f =
+start-steps_here B feed name on behind start next w true false has_white start_is next_is s e f =
     moves B feed _ _ w (start_code name next w true false).world (enter name w.point ∷ []) refl refl
-    (has.start_is _ _ ∙ at-none name on behind _ (feed w.point) (here w) e (begins-seen feed w s ∙ f)
-    ∙ sym (has.next_is _ _))
+    (start_is ∙ at-none name on behind _ (feed w.point) (here w) e (begins-seen feed w s ∙ f) ∙ sym (next_is _ _))
+
+-- The same of one that has it everywhere.
+pub start-steps : (B : Behaviour) (feed : Feed) (name : Name) (on : Bool) (behind : List Cell → Here → Outcome)
+    (start next : StateName) (w : World) (x y : Bool) →
+    HasStart B w.setting.options name on behind start next → Sees feed w → on ≡ x → sees_white w.current ≡ y →
+    Steps B feed (Next start) w (start_code name next w x y).to (start_code name next w x y).world
+start-steps B feed name on behind start next w x y has s e f =
+    start-steps_here B feed name on behind start next w x y has.white (has.start_is _ _) has.next_is s e f
 
 -- A table has both states: the next one asks no more than the first, and ranks below it.
 pub record FitsStart (T own : Scheme) (start next : StateName) : Type 1 where

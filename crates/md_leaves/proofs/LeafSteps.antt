@@ -14,7 +14,7 @@ use Rattle.md_definition.specs.Bytes.{is_end}
 use Rattle.md_seam.specs.Ahead.{from_ending, line_bytes, line_cells, white_end, white_rest}
 use Rattle.md_seam.specs.Events.Nested.{enter, exit}
 use Rattle.md_definition.specs.Rest.{is_white}
-use Rattle.md_seam.specs.Spaces.{calmed, ends_line}
+use Rattle.md_seam.specs.Spaces.{calmed, ends_line, is_current, sees_white}
 use Rattle.md_seam.proofs.WhiteSteps.{behind_white}
 
 -- what is seen of a byte that passes a test
@@ -26,6 +26,19 @@ sees-one feed w t none s e = go w.current e s.next
         (b : ℕ) × (feed w.point ≡ cell_here feed w b ∷ feed (after w.setting w.point)) × (t (Some b) ≡ true)
     go None e k = let bad : true ≡ false = sym e ∙ none in cc
     go (Some b) e k = (b, k, e)
+
+-- of whitespace that is not this byte
+pub sees-other_white : (feed : Feed) (w : World) (m : ℕ) → Sees feed w → is_current m w.current ≡ false →
+    sees_white w.current ≡ true →
+    (b : ℕ) × (feed w.point ≡ cell_here feed w b ∷ feed (after w.setting w.point)) × (nat_eq b m ≡ false) ×
+    (is_white b ≡ true)
+sees-other_white feed w m s e f = go w.current e f s.next
+  where
+    go : (o : Option ℕ) → is_current m o ≡ false → sees_white o ≡ true → feed w.point ≡ ahead feed w o →
+        (b : ℕ) × (feed w.point ≡ cell_here feed w b ∷ feed (after w.setting w.point)) × (nat_eq b m ≡ false) ×
+        (is_white b ≡ true)
+    go None e f k = cc
+    go (Some b) e f k = (b, k, e, f)
 
 -- Where the line ends.
 

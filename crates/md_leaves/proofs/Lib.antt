@@ -4,6 +4,10 @@ pub mod BreakLemmas
 pub mod BlankSteps
 pub mod BlankLook
 pub mod BreakSteps
+pub mod SetextGoods
+pub mod SetextLemmas
+pub mod SetextSteps
+pub mod SetextWhole
 pub mod HeadingGoods
 pub mod BomGoods
 pub mod HeadingLemmas
@@ -25,3 +29,5 @@ pub mod TitleLemmas
 pub mod HeadingGrammar
 pub mod LeafStart
 pub mod LeafSteps
+pub mod TurnedLemmas
+pub mod TurnedNests

@@ -103,10 +103,11 @@ walk-done place given left all none so_far =
 -- Points.
 
 -- Events are left out and renamed, so what holds of the points of events still does.
-abbrev AtPoint : (Point → Type 0) → Event → Type 0
+abbrev pub AtPoint : (Point → Type 0) → Event → Type 0
 AtPoint P e = P e.point
 
-one-point : (P : Point → Type 0) (e : Event) → P e.point → All (AtPoint P) (e ∷ [])
+-- of one event
+pub one-point : (P : Point → Type 0) (e : Event) → P e.point → All (AtPoint P) (e ∷ [])
 one-point P e h = All-cons (AtPoint P) e [] h (All-nil (AtPoint P))
 
 given-points : (P : Point → Type 0) (t : Turn) (place : Place) (further : Bool) (e : Event) → P e.point →

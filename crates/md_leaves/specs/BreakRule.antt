@@ -4,7 +4,7 @@ use Rattle.std.specs.Prelude.{count_by}
 use Rattle.std.specs.List.{list_all}
 use Rattle.md_engine.specs.declared.configuration.ParseOptions.{ParseOptions}
 use Rattle.md_engine.specs.declared.event.Event.{Event}
-use Rattle.md_engine.specs.declared.event.Name.TheVariants.{SpaceOrTab, ThematicBreak, ThematicBreakSequence}
+use Rattle.md_engine.specs.declared.event.Name.TheVariants.{ThematicBreak, ThematicBreakSequence}
 use Rattle.md_engine.specs.declared.event.Point.{Point}
 use Rattle.md_engine.specs.declared.state.Name.TheVariants as n
 use Rattle.md_engine.specs.declared.state.thematic_break.State.{State as BreakState}
@@ -12,32 +12,16 @@ use Rattle.md_engine.specs.declared.state.thematic_break.State.TheVariants as it
 use Rattle.md_engine.specs.Meaning.{Accepts, Behaviour, Cell, Here, Outcome, Refuses}
 use Rattle.md_leaves.specs.LeafStart.{start_at}
 use Rattle.md_leaves.specs.Break.{without_marker}
+pub use Rattle.md_leaves.specs.MarkRuns.{Apart, Marks, Run, White}
+use Rattle.md_leaves.specs.MarkRuns.{mark_runs}
 use Rattle.md_seam.specs.Ahead.{HasWhite, begins_white, from_ending, line_bytes, line_cells, line_end}
 use Rattle.md_definition.specs.Leaves.{is_rule}
-use Rattle.md_seam.specs.Events.Nested.{enter, exit}
+use Rattle.md_seam.specs.Events.Nested.{exit}
 use Rattle.md_definition.specs.Rest.{is_white}
 
--- in which run of a line a place lies
-pub data Run : Type 0 where
-  -- between two runs
-  Apart : Run
-  Marks : Run
-  White : Run
-
--- the runs of markers and of whitespace that are left of a line: each is one part, as long as it can be
+-- the runs of markers and of whitespace that are left of a line
 abbrev pub runs : Run → ℕ → List Cell → Point → List Event
-runs Apart m [] p = []
-runs Marks m [] p = exit ThematicBreakSequence p ∷ []
-runs White m [] p = exit SpaceOrTab p ∷ []
-runs Apart m (c ∷ cs) p =
-    if c.byte == m then enter ThematicBreakSequence p ∷ runs Marks m cs c.after
-    else enter SpaceOrTab p ∷ runs White m cs c.after
-runs Marks m (c ∷ cs) p =
-    if c.byte == m then runs Marks m cs c.after
-    else exit ThematicBreakSequence p ∷ enter SpaceOrTab p ∷ runs White m cs c.after
-runs White m (c ∷ cs) p =
-    if c.byte == m then exit SpaceOrTab p ∷ enter ThematicBreakSequence p ∷ runs Marks m cs c.after
-    else runs White m cs c.after
+runs run m cells p = mark_runs ThematicBreakSequence run m cells p
 
 -- a break to the end of the line
 abbrev pub broken : Run → ℕ → List Cell → Here → Outcome

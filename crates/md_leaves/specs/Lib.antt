@@ -7,7 +7,12 @@ pub mod HeadingHeld
 pub mod HeadingText
 pub mod HeadingWords
 pub mod HeadingWalk
+pub mod HeadingSetext
+pub mod HeadingSetextRule
+pub mod Turned
+pub mod TextsHeld
 pub mod LeafStart
+pub mod MarkRuns
 pub mod Rewritten
 pub mod Spanned
 pub mod SpannedWalk

@@ -4,6 +4,7 @@
 pub mod blank_line;
 pub mod further;
 pub mod heading_atx;
+pub mod heading_setext;
 pub mod heading_text;
 mod leaf_start;
 pub mod partial_bom;
@@ -11,3 +12,4 @@ pub mod partial_non_lazy_continuation;
 mod rewriting;
 pub mod spans;
 pub mod thematic_break;
+pub mod underlines;

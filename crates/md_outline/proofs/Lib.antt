@@ -9,6 +9,8 @@ pub mod ListLemmas
 pub mod OutlineAgrees
 pub mod OutlineDepths
 pub mod OutlineLemmas
-pub mod ParagraphPieces
 pub mod RoleLemmas
+pub mod SiteTexts
 pub mod TextCuts
+pub mod TextPieces
+pub mod TitledLemmas

@@ -1,5 +1,5 @@
--- Leaf blocks of several lines: an outline shows their lines as they come.
-use Rattle.std.proofs.Common.{◌≡◌, ℕ, ◌+◌, Bool, true, false, cond, ◌==◌, not, ◌&&◌, List, [], ◌∷◌, ◌++◌, length}
+-- Leaf blocks of several lines: an outline shows their lines as they come. Of setext headings `TitledLemmas` has it.
+use Rattle.std.proofs.Common.{◌≡◌, ℕ, ◌+◌, Bool, true, false, cond, ◌==◌, List, [], ◌∷◌, ◌++◌, length}
 use Rattle.std.proofs.Common.{slice_range, refl, sym, ◌∙◌, ap, subst, append_assoc, arith}
 use Rattle.std.specs.Prelude.{Option, Some, None, nat_lt, option_map}
 use Rattle.std.proofs.lemmas.Bool.{eqb-true, true≢false}
@@ -14,33 +14,41 @@ use Rattle.md_definition.specs.Outline.{part_entry}
 use Rattle.md_definition.specs.State.{then_block}
 use Rattle.md_definition.specs.Texts.{first_byte}
 use Rattle.md_definition.specs.Tree.{Line}
-use Rattle.md_seam.specs.Events.Spelled.{AsInfo, AsLine, AsMarkers, AsMeta, CodeLeaf, FenceLeaf, Holds, HtmlLeaf}
-use Rattle.md_seam.specs.Events.Spelled.{IsEnding, IsFence, IsPrefix, IsQuiet, LeafKind, MathLeaf, OfCode, OfFence}
-use Rattle.md_seam.specs.Events.Spelled.{OfHtml, OfMath, OpenLeaf, Opens, OrderedShape, Reading, Tells, Text}
+use Rattle.md_seam.specs.Events.Spelled.{AsHeading, AsInfo, AsLine, AsMarkers, AsMeta, CodeLeaf, FenceLeaf, Holds}
+use Rattle.md_seam.specs.Events.Spelled.{HtmlLeaf, IsEnding, IsFence, IsPrefix, IsQuiet, LeafKind, MathLeaf, OfCode}
+use Rattle.md_seam.specs.Events.Spelled.{OfFence, OfHeadingSetext, OfHtml, OfMath, OpenLeaf, Opens, OrderedShape}
+use Rattle.md_seam.specs.Events.Spelled.{Reading, Tells, Text, no_heading}
 use Rattle.md_seam.specs.Events.Spelled.{UnorderedShape, after_prefix, at_ending, at_fence, before_prefix, begun}
 use Rattle.md_seam.specs.Events.Spelled.{block_of, byte_at, columns_left, empty_line, finished, fresh, joined}
 use Rattle.md_seam.specs.Events.Spelled.{next_line, on_last, on_leaf, read_by, read_enter, read_exit, without_last}
 use Rattle.md_seam.specs.Events.Spelled as spelled
 use Rattle.md_outline.specs.HeadingDepths.{are_shallow}
-use Rattle.md_outline.specs.LinedState.{begin_lines, closed_word, filled_line, marked_word, with_head, without_end}
+use Rattle.md_outline.specs.LinedState.{begin_lines, closed_word, filled_line, is_heading, marked_word, with_head}
+use Rattle.md_outline.specs.LinedState.{without_end}
 use Rattle.md_outline.specs.LinesStand.{AtEnd, AtEnding, AtInfo, AtLine, AtMarkers, AtMeta, HasFences, HasInfo, HasLines}
-use Rattle.md_outline.specs.LinesStand.{InEnd, InMarkers, InText, LinesStand, MayStand, Outside, SameText, Site}
+use Rattle.md_outline.specs.LinesStand.{AtTitle, BehindTitle, BehindUnderline, InAtxText, InEnd, InMarkers, InText}
+use Rattle.md_outline.specs.LinesStand.{InTitle, InUnderline, LinesStand, MayStand, Outside, SameText, Site}
 use Rattle.md_outline.specs.LinesStand.{site_by, text_site}
 use Rattle.md_outline.specs.ListsBegin.{AllTold, MayFollow, Stage, stage_by}
 use Rattle.md_outline.specs.Outlined.{is_unparted, parts_by}
-use Rattle.md_outline.specs.OutlineSteps.{OutlineState, fence_begun, head_marked, line_ended, parted_at, state_by}
-use Rattle.md_outline.specs.OutlineSteps.{state_enter, state_exit, told, told_at, told_leaf}
-use Rattle.md_outline.specs.Roles.{has_lines, is_shown, shown_as}
+use Rattle.md_outline.specs.OutlineSteps.{OutlineState, fence_begun, head_marked, line_ended, state_by}
+use Rattle.md_outline.specs.OutlineSteps.{state_enter, state_exit, told, told_leaf}
+use Rattle.md_outline.specs.Roles.{is_shown, shown_as}
 use Rattle.md_outline.specs.declared.outline.Span.{Span}
 use Rattle.md_outline.specs.declared.outline.lined.Lined.{Lined}
 use Rattle.md_outline.specs.declared.outline.role.Note.TheVariants as note
-use Rattle.md_outline.specs.declared.outline.role.Purpose.{Purpose}
 use Rattle.md_outline.specs.declared.outline.role.Purpose.TheVariants as purpose
 use Rattle.md_outline.specs.declared.outline.role.Role.TheVariants as role
 use Rattle.md_outline.proofs.ClosedTrees.{HaveWords, depth_of, shown, shown-then, words-then}
 use Rattle.md_outline.proofs.LinedLines.{end-taken, head-told}
 use Rattle.md_outline.proofs.ListLemmas.{AgreesAt, agrees-stage, lines-closed}
-use Rattle.md_outline.proofs.OutlineAgrees.{Agrees, TextIs, text-lines}
+use Rattle.md_outline.proofs.OutlineAgrees.{Agrees, TextIs, agrees-begun, agrees-ending, agrees-title, apart}
+use Rattle.md_outline.proofs.OutlineAgrees.{text-lines}
+use Rattle.md_outline.proofs.SiteTexts.{Keeps, NoText, TextFrom, begins-texts, from-here, no-span, prefix-enter}
+use Rattle.md_outline.proofs.SiteTexts.{prefix-exit, text-ends}
+use Rattle.md_outline.proofs.TitledLemmas as titled
+use Rattle.md_outline.proofs.TitledLemmas.{gap-line, heading-begins, heading-ends, title-begins, title-ends, title-line}
+use Rattle.md_outline.proofs.TitledLemmas.{title-on, title-prefix, underline-ends, unmarked-keeps}
 
 -- Such a leaf block, and its lines.
 
@@ -85,7 +93,7 @@ pub record Lining (kind : LeafKind) (markers : List ℕ) (info meta : Option (Li
   words : HaveWords r.outer r.here
   untold : s.untold ≡ None
   leaf : s.leaf ≡ None
-  lined : s.lined ≡ Some (record { place = length (shown r.outer r.here); is_fenced = fenced })
+  lined : s.lined ≡ Some (record { place = length (shown r.outer r.here); is_fenced = fenced; is_heading = false })
   all : s.lines ≡ shown r.outer r.here ++ lined_entries kind s.depth markers info meta lines closed
 
 -- whatever text is read
@@ -103,15 +111,6 @@ texted kind markers info meta lines closed fenced s r span spaces text is = reco
   lined = is.lined;
   all = is.all;
 }
-
--- no text is read, or one that began here
-abbrev pub NoText : OutlineState → Reading → Type 0
-NoText s r = (s.text ≡ None) × (r.text ≡ None)
-
-pub record TextFrom (q : Point) (s : OutlineState) (r : Reading) : Type 0 where
-  span : s.text ≡ Some (record { from = byte_at q; is_parted = false })
-  text : r.text ≡ Some (begun q)
-  spaces : s.spaces ≡ columns_left q
 
 -- a leaf block with fences has told its markers, if it is said to
 abbrev pub IsMarked : LeafKind → List ℕ → Bool → Type 0
@@ -165,27 +164,20 @@ AgreesIn (AtEnding kind) s r = Ended kind false s r × NoText s r
 AgreesIn (AtLine kind) s r = OnLine kind s r × NoText s r
 AgreesIn (AtEnd kind) s r = HasFences kind × Ended kind true s r × NoText s r
 AgreesIn (InEnd kind) s r = HasFences kind × Ended kind true s r × ((q : Point) × TextFrom q s r)
+AgreesIn AtTitle s r = titled.Headed 0 no_heading false s r × NoText s r
+AgreesIn InTitle s r = titled.InText s r
+AgreesIn BehindTitle s r = titled.Unmarked s r × NoText s r
+AgreesIn InUnderline s r = titled.Unmarked s r × ((q : Point) × TextFrom q s r)
+AgreesIn BehindUnderline s r = titled.IsMarked s r × NoText s r
+AgreesIn InAtxText s r = Agrees s r × (is_unparted s.text ≡ true)
 
 -- It begins.
 
-text-none : (before : List Entry) (depth : ℕ) (lines : List Entry) (text : Option Text) →
-    TextIs before depth lines None text → text ≡ None
-text-none before depth lines None h = refl
-text-none before depth lines (Some text) h = absurd h
-
-abbrev NoSpan : Option Span → Type 0
-NoSpan None = Unit {0}
-NoSpan (Some span) = ⊥
-
-none-span : (span : Option Span) → NoSpan span → span ≡ None
-none-span None h = refl
-none-span (Some span) h = absurd h
-
 lining-begins : (bytes : List ℕ) (kind : LeafKind) (w : Word) (lines : List Line) (p : Point) (s : OutlineState)
-    (r : Reading) → fresh kind ≡ lined_leaf kind [] None None lines false →
+    (r : Reading) → is_heading w ≡ false → fresh kind ≡ lined_leaf kind [] None None lines false →
     begin_lines s.depth w ≡ lined_entries kind s.depth [] None None lines false → s.text ≡ None → Agrees s r →
     Lining kind [] None None lines false false (state_enter bytes (role.Lined w) p s) (read_enter bytes (Opens kind) p r)
-lining-begins bytes kind w lines p s r leaf begins none is =
+lining-begins bytes kind w lines p s r other leaf begins none is =
     let same : s.lines ≡ shown r.outer r.here =
     text-lines (shown r.outer r.here) s.depth s.lines s.text r.text (ap is_unparted none) is.text in
     record {
@@ -194,15 +186,18 @@ lining-begins bytes kind w lines p s r leaf begins none is =
       words = is.words;
       untold = is.untold;
       leaf = refl;
-      lined = ap (λ (es : List Entry). Some (record { place = length es; is_fenced = false })) same;
+      lined =
+          ap
+          (λ (es : List Entry).
+          Some (record { place = length es; is_fenced = false; is_heading = is_heading w }))
+          same
+          ∙ ap
+          (λ x.
+          Some (record { place = length (shown r.outer r.here); is_fenced = false; is_heading = x }))
+          other;
       all =
           ap (λ es. es ++ begin_lines s.depth w) same ∙ ap (λ es. shown r.outer r.here ++ es) begins;
     }
-
-begins-texts : (s : OutlineState) (r : Reading) → s.text ≡ None → Agrees s r → r.text ≡ None
-begins-texts s r none is =
-    text-none (shown r.outer r.here) s.depth s.lines r.text
-    (subst (λ span. TextIs (shown r.outer r.here) s.depth s.lines span r.text) none is.text)
 
 -- Its lines grow.
 
@@ -255,7 +250,8 @@ ending-agrees : (P : Bool → OutlineState → Reading → Type 0) (bytes : List
     P (nat_lt p.index (length bytes)) (line_ended bytes p.index s.lined s.text s) (at_ending bytes p r.text r)
 ending-agrees P bytes p kind s r e none opens stays =
     let further : Bool = nat_lt p.index (length bytes) in
-    let lined : Lined = record { place = length (shown r.outer r.here); is_fenced = e.3.fenced } in
+    let lined : Lined =
+    record { place = length (shown r.outer r.here); is_fenced = e.3.fenced; is_heading = false } in
     subst (λ l. P further (line_ended bytes p.index l s.text s) (at_ending bytes p r.text r)) (sym e.3.is.lined)
     (subst (λ span. P further (line_ended bytes p.index (Some lined) span s) (at_ending bytes p r.text r)) (sym none.0)
     (subst (λ text. P further (line_ended bytes p.index (Some lined) None s) (at_ending bytes p text r)) (sym none.1)
@@ -272,21 +268,6 @@ line-opens : (kind : LeafKind) (s : OutlineState) (r : Reading) → Ended kind f
 line-opens kind s r e = (e.0, e.1, e.2, line-begins kind e.0 e.1 e.2 s r e.3)
 
 -- Texts.
-
--- a text ends
-text-ends : (P : OutlineState → Reading → Type 0) (bytes : List ℕ) (q p : Point) (x : spelled.Purpose) (y : Purpose)
-    (s : OutlineState) (r : Reading) → TextFrom q s r →
-    P (told y false (slice_range bytes (byte_at q) p.index) (record s { text = None }))
-    (spelled.told x (record { spaces = columns_left q; text = slice_range bytes (byte_at q) p.index })
-    (record r { text = None })) →
-    P (told_at bytes y p.index s.text s) (spelled.told_at bytes x p r.text r)
-text-ends P bytes q p x y s r from h =
-    subst (λ span. P (told_at bytes y p.index span s) (spelled.told_at bytes x p r.text r)) (sym from.span)
-    (subst
-    (λ text.
-    P (told_at bytes y p.index (Some (record { from = byte_at q; is_parted = false })) s)
-    (spelled.told_at bytes x p text r))
-    (sym from.text) h)
 
 -- the markers of its first fence
 marks-leaf : (kind : LeafKind) (line : Line) → HasFences kind →
@@ -498,7 +479,8 @@ fence-closes : (kind : LeafKind) (info meta : Option (List ℕ)) (lines : List L
 fence-closes kind info meta lines s r h m =
     let before : List Entry = shown r.outer r.here in
     let front : List Entry = before ++ lined_entries kind s.depth m.markers info meta lines false in
-    let lined : Bool → Lined = λ x. record { place = length before; is_fenced = x } in
+    let lined : Bool → Lined = λ x.
+    record { place = length before; is_fenced = x; is_heading = false } in
     let fenced : m.fenced ≡ true = is-fenced kind m.markers m.fenced h m.marked in
     subst (λ l. Marked kind info meta lines true (fence_begun l s) (on_leaf at_fence r))
     (sym (m.is.lined ∙ ap (λ x. Some (lined x)) fenced))
@@ -547,7 +529,8 @@ markers-stand : (kind : LeafKind) (info meta : Option (List ℕ)) (lines : List 
     Marked kind info meta lines true (told purpose.Markers false line.text (record s { text = None }))
     (spelled.told AsMarkers line (record r { text = None }))
 markers-stand kind info meta lines line s r h m =
-    let lined : Bool → Lined = λ x. record { place = length (shown r.outer r.here); is_fenced = x } in
+    let lined : Bool → Lined = λ x.
+    record { place = length (shown r.outer r.here); is_fenced = x; is_heading = false } in
     subst
     (λ l.
     Marked kind info meta lines true
@@ -609,37 +592,6 @@ leaf-ends bytes _ p s r h is = absurd h
 
 -- Prefixes between its lines.
 
-unparted : (bytes : List ℕ) (i : ℕ) (s : OutlineState) → s.text ≡ None → parted_at bytes i s.text s ≡ s
-unparted bytes i s none = ap (λ span. parted_at bytes i span s) none
-
-abbrev Keeps : (OutlineState → Reading → Type 0) → Type 0
-Keeps P =
-    (s : OutlineState) (r : Reading) (span : Option Span) (spaces : ℕ) (text : Option Text) → P s r →
-    P (record s { text = span; spaces = spaces }) (record r { text = text })
-
-prefix-enter : (P : OutlineState → Reading → Type 0) (bytes : List ℕ) (p : Point) (s : OutlineState) (r : Reading) →
-    Keeps P → P s r × NoText s r →
-    P (state_enter bytes role.Prefix p s) (read_enter bytes IsPrefix p r)
-    × NoText (state_enter bytes role.Prefix p s) (read_enter bytes IsPrefix p r)
-prefix-enter P bytes p s r keeps is =
-    subst
-    (λ (now : OutlineState).
-    P now (read_enter bytes IsPrefix p r) × NoText now (read_enter bytes IsPrefix p r))
-    (sym (unparted bytes p.index s is.1.0)) (
-      keeps s r s.text s.spaces (option_map (before_prefix bytes p) r.text) is.0,
-      (is.1.0, ap (option_map (before_prefix bytes p)) is.1.1),
-    )
-
-prefix-exit : (P : OutlineState → Reading → Type 0) (bytes : List ℕ) (p : Point) (s : OutlineState) (r : Reading) →
-    Keeps P → P s r × NoText s r →
-    P (state_exit bytes role.Prefix p s) (read_exit bytes IsPrefix p r)
-    × NoText (state_exit bytes role.Prefix p s) (read_exit bytes IsPrefix p r)
-prefix-exit P bytes p s r keeps is = (
-  keeps s r (option_map (λ (t : Span). record t { from = byte_at p }) s.text) s.spaces
-      (option_map (after_prefix p) r.text) is.0,
-  (ap (option_map (λ (t : Span). record t { from = byte_at p })) is.1.0, ap (option_map (after_prefix p)) is.1.1),
-)
-
 ended-keeps : (kind : LeafKind) (closed : Bool) → Keeps (Ended kind closed)
 ended-keeps kind closed s r span spaces text is =
     (is.0, is.1, is.2, again kind is.0 is.1 is.2 closed s r span spaces text is.3)
@@ -678,12 +630,13 @@ pub span-line : (bytes : List ℕ) (end : ℕ) (lined : Option Lined) (text : Op
     (line_ended bytes end lined text s).text ≡ s.text
 span-line bytes end None text s = refl
 span-line bytes end (Some lined) (Some text) s = refl
-span-line bytes end (Some lined) None s = go (nat_lt end (length bytes))
+span-line bytes end (Some lined) None s = go lined.is_heading (nat_lt end (length bytes))
   where
-    go : (x : Bool) →
-        (cond x (record s { lines = s.lines ++ entry (s.depth + 1) word.Line ∷ [] }) s).text ≡ s.text
-    go true = refl
-    go false = refl
+    go : (y x : Bool) →
+        (cond y s (cond x (record s { lines = s.lines ++ entry (s.depth + 1) word.Line ∷ [] }) s)).text ≡ s.text
+    go true x = refl
+    go false true = refl
+    go false false = refl
 
 -- One event.
 
@@ -716,11 +669,6 @@ fence-begins kind s r is =
 has-fences : (kind : LeafKind) → HasInfo kind → HasFences kind
 has-fences OfFence h = tt
 has-fences _ h = absurd h
-
-from-here : (p : Point) (s : OutlineState) (r : Reading) →
-    TextFrom p (record s { text = Some (record { from = byte_at p; is_parted = false }); spaces = columns_left p })
-    (record r { text = Some (begun p) })
-from-here p s r = record { span = refl; text = refl; spaces = refl }
 
 -- a text of it ends
 text-agrees : (bytes : List ℕ) (kind : LeafKind) (y x : spelled.Purpose) (p : Point) (s : OutlineState)
@@ -758,43 +706,55 @@ text-agrees bytes kind _ _ p s r same is = absurd same
 
 -- an event in it
 agrees-in : (bytes : List ℕ) (site : Site) (kind : Kind) (x : spelled.Role) (p : Point) (s : OutlineState)
-    (r : Reading) → MayStand bytes site kind x p → AgreesIn site s r →
+    (r : Reading) → parts_by bytes kind x p s.text ≡ true → MayStand bytes site kind x p → AgreesIn site s r →
     AgreesWithin (site_by bytes site kind x p) AllTold (state_by bytes kind (shown_as x) p s) (read_by bytes kind x p r)
-agrees-in bytes Outside kind x p s r may is = absurd is
-agrees-in bytes (AtMarkers k) Enter IsQuiet p s r may is = is
-agrees-in bytes (AtMarkers k) Exit IsQuiet p s r may is = is
-agrees-in bytes (InMarkers k q) Enter IsQuiet p s r may is = is
-agrees-in bytes (InMarkers k q) Exit IsQuiet p s r may is = is
-agrees-in bytes (AtInfo k) Enter IsQuiet p s r may is = is
-agrees-in bytes (AtInfo k) Exit IsQuiet p s r may is = is
-agrees-in bytes (AtMeta k) Enter IsQuiet p s r may is = is
-agrees-in bytes (AtMeta k) Exit IsQuiet p s r may is = is
-agrees-in bytes (InText k y) Enter IsQuiet p s r may is = is
-agrees-in bytes (InText k y) Exit IsQuiet p s r may is = is
-agrees-in bytes (AtEnding k) Enter IsQuiet p s r may is = is
-agrees-in bytes (AtEnding k) Exit IsQuiet p s r may is = is
-agrees-in bytes (AtLine k) Enter IsQuiet p s r may is = is
-agrees-in bytes (AtLine k) Exit IsQuiet p s r may is = is
-agrees-in bytes (AtEnd k) Enter IsQuiet p s r may is = is
-agrees-in bytes (AtEnd k) Exit IsQuiet p s r may is = is
-agrees-in bytes (InEnd k) Enter IsQuiet p s r may is = is
-agrees-in bytes (InEnd k) Exit IsQuiet p s r may is = is
-agrees-in bytes (AtMarkers k) Enter IsFence p s r may is =
+agrees-in bytes Outside kind x p s r parts may is = absurd is
+agrees-in bytes (AtMarkers k) Enter IsQuiet p s r parts may is = is
+agrees-in bytes (AtMarkers k) Exit IsQuiet p s r parts may is = is
+agrees-in bytes (InMarkers k q) Enter IsQuiet p s r parts may is = is
+agrees-in bytes (InMarkers k q) Exit IsQuiet p s r parts may is = is
+agrees-in bytes (AtInfo k) Enter IsQuiet p s r parts may is = is
+agrees-in bytes (AtInfo k) Exit IsQuiet p s r parts may is = is
+agrees-in bytes (AtMeta k) Enter IsQuiet p s r parts may is = is
+agrees-in bytes (AtMeta k) Exit IsQuiet p s r parts may is = is
+agrees-in bytes (InText k y) Enter IsQuiet p s r parts may is = is
+agrees-in bytes (InText k y) Exit IsQuiet p s r parts may is = is
+agrees-in bytes (AtEnding k) Enter IsQuiet p s r parts may is = is
+agrees-in bytes (AtEnding k) Exit IsQuiet p s r parts may is = is
+agrees-in bytes (AtLine k) Enter IsQuiet p s r parts may is = is
+agrees-in bytes (AtLine k) Exit IsQuiet p s r parts may is = is
+agrees-in bytes (AtEnd k) Enter IsQuiet p s r parts may is = is
+agrees-in bytes (AtEnd k) Exit IsQuiet p s r parts may is = is
+agrees-in bytes (InEnd k) Enter IsQuiet p s r parts may is = is
+agrees-in bytes (InEnd k) Exit IsQuiet p s r parts may is = is
+agrees-in bytes AtTitle Enter IsQuiet p s r parts may is = is
+agrees-in bytes AtTitle Exit IsQuiet p s r parts may is = is
+agrees-in bytes InTitle Enter IsQuiet p s r parts may is = is
+agrees-in bytes InTitle Exit IsQuiet p s r parts may is = is
+agrees-in bytes BehindTitle Enter IsQuiet p s r parts may is = is
+agrees-in bytes BehindTitle Exit IsQuiet p s r parts may is = is
+agrees-in bytes InUnderline Enter IsQuiet p s r parts may is = is
+agrees-in bytes InUnderline Exit IsQuiet p s r parts may is = is
+agrees-in bytes BehindUnderline Enter IsQuiet p s r parts may is = is
+agrees-in bytes BehindUnderline Exit IsQuiet p s r parts may is = is
+agrees-in bytes InAtxText Enter IsQuiet p s r parts may is = is
+agrees-in bytes InAtxText Exit IsQuiet p s r parts may is = is
+agrees-in bytes (AtMarkers k) Enter IsFence p s r parts may is =
     (is.0, fence-begins k s r is.1, (span-fenced s.lined s ∙ is.2.0, is.2.1))
-agrees-in bytes (AtMarkers k) Enter (Tells AsMarkers) p s r may is = (
+agrees-in bytes (AtMarkers k) Enter (Tells AsMarkers) p s r parts may is = (
   is.0,
   texted k [] None None [] false false s r (Some (record { from = byte_at p; is_parted = false })) (columns_left p)
       (Some (begun p)) is.1,
   from-here p s r,
 )
-agrees-in bytes (InMarkers k q) Exit (Tells AsMarkers) p s r may is =
+agrees-in bytes (InMarkers k q) Exit (Tells AsMarkers) p s r parts may is =
     let line : Line = record { spaces = columns_left q; text = slice_range bytes (byte_at q) p.index } in
     text-ends (AgreesIn (AtInfo k)) bytes q p AsMarkers purpose.Markers s r is.2 (
       is.0,
       markers-told k line s r is.0 may is.1,
       (span-headed s.lined line.text (told_leaf note.Markers line.text (record s { text = None })), refl),
     )
-agrees-in bytes (AtInfo k) Enter (Tells AsInfo) p s r may is = (
+agrees-in bytes (AtInfo k) Enter (Tells AsInfo) p s r parts may is = (
   (
     may,
     again k None None [] false s r (Some (record { from = byte_at p; is_parted = false })) (columns_left p)
@@ -802,7 +762,7 @@ agrees-in bytes (AtInfo k) Enter (Tells AsInfo) p s r may is = (
   ),
   (p, from-here p s r),
 )
-agrees-in bytes (AtInfo k) Enter (Tells AsMeta) p s r may is = (
+agrees-in bytes (AtInfo k) Enter (Tells AsMeta) p s r parts may is = (
   (
     is.0,
     (
@@ -813,8 +773,8 @@ agrees-in bytes (AtInfo k) Enter (Tells AsMeta) p s r may is = (
   ),
   (p, from-here p s r),
 )
-agrees-in bytes (AtInfo k) Exit IsFence p s r may is = ((None, None, [], is.1), is.2)
-agrees-in bytes (AtMeta k) Enter (Tells AsMeta) p s r may is = (
+agrees-in bytes (AtInfo k) Exit IsFence p s r parts may is = ((None, None, [], is.1), is.2)
+agrees-in bytes (AtMeta k) Enter (Tells AsMeta) p s r parts may is = (
   (
     is.0,
     (
@@ -825,45 +785,45 @@ agrees-in bytes (AtMeta k) Enter (Tells AsMeta) p s r may is = (
   ),
   (p, from-here p s r),
 )
-agrees-in bytes (AtMeta k) Exit IsFence p s r may is = ((is.1.0, None, [], is.1.1), is.2)
-agrees-in bytes (InText k y) Exit (Tells x) p s r may is = text-agrees bytes k y x p s r may is
-agrees-in bytes (AtEnding k) Enter IsPrefix p s r may is =
+agrees-in bytes (AtMeta k) Exit IsFence p s r parts may is = ((is.1.0, None, [], is.1.1), is.2)
+agrees-in bytes (InText k y) Exit (Tells x) p s r parts may is = text-agrees bytes k y x p s r may is
+agrees-in bytes (AtEnding k) Enter IsPrefix p s r parts may is =
     prefix-enter (Ended k false) bytes p s r (ended-keeps k false) is
-agrees-in bytes (AtEnding k) Exit IsPrefix p s r may is =
+agrees-in bytes (AtEnding k) Exit IsPrefix p s r parts may is =
     prefix-exit (Ended k false) bytes p s r (ended-keeps k false) is
-agrees-in bytes (AtEnding k) Enter IsEnding p s r may is = is
-agrees-in bytes (AtEnding k) Exit IsEnding p s r may is =
+agrees-in bytes (AtEnding k) Enter IsEnding p s r parts may is = is
+agrees-in bytes (AtEnding k) Exit IsEnding p s r parts may is =
     ending-agrees (λ x s r. AgreesWithin (cond x (AtLine k) (AtEnding k)) AllTold s r) bytes p k s r is.0 is.1
     (line-opens k s r is.0, is.1) is
-agrees-in bytes (AtEnding k) Exit IsFence p s r may is = is
-agrees-in bytes (AtEnding k) Exit (Opens x) p s r may is =
+agrees-in bytes (AtEnding k) Exit IsFence p s r parts may is = is
+agrees-in bytes (AtEnding k) Exit (Opens x) p s r parts may is =
     leaf-ends bytes x p s r may (lining-ends k is.0.0 is.0.1 is.0.2 false s r is.0.3 is.1)
-agrees-in bytes (AtLine k) Enter IsPrefix p s r may is = prefix-enter (OnLine k) bytes p s r (line-keeps k) is
-agrees-in bytes (AtLine k) Exit IsPrefix p s r may is = prefix-exit (OnLine k) bytes p s r (line-keeps k) is
-agrees-in bytes (AtLine k) Enter IsEnding p s r may is = is
-agrees-in bytes (AtLine k) Exit IsEnding p s r may is =
+agrees-in bytes (AtLine k) Enter IsPrefix p s r parts may is = prefix-enter (OnLine k) bytes p s r (line-keeps k) is
+agrees-in bytes (AtLine k) Exit IsPrefix p s r parts may is = prefix-exit (OnLine k) bytes p s r (line-keeps k) is
+agrees-in bytes (AtLine k) Enter IsEnding p s r parts may is = is
+agrees-in bytes (AtLine k) Exit IsEnding p s r parts may is =
     ending-agrees (λ x s r. OnLine k s r × NoText s r) bytes p k s r (line-ended k s r is.0) is.1
     (line-opens k s r (line-ended k s r is.0), is.1) is
-agrees-in bytes (AtLine k) Enter (Tells AsLine) p s r may is = (
+agrees-in bytes (AtLine k) Enter (Tells AsLine) p s r parts may is = (
   line-keeps k s r (Some (record { from = byte_at p; is_parted = false })) (columns_left p) (Some (begun p)) is.0,
   (p, from-here p s r),
 )
-agrees-in bytes (AtLine k) Enter IsFence p s r may is = (
+agrees-in bytes (AtLine k) Enter IsFence p s r parts may is = (
   may,
   (is.0.0, is.0.1, is.0.2, fence-closes k is.0.0 is.0.1 is.0.2 s r may is.0.3),
   (span-fenced s.lined s ∙ is.1.0, is.1.1),
 )
-agrees-in bytes (AtLine k) Exit (Opens x) p s r may is =
+agrees-in bytes (AtLine k) Exit (Opens x) p s r parts may is =
     leaf-ends bytes x p s r may (lining-ends k is.0.0 is.0.1 (is.0.2 ++ empty_line ∷ []) false s r is.0.3 is.1)
-agrees-in bytes (AtEnd k) Enter (Tells AsMarkers) p s r may is = (
+agrees-in bytes (AtEnd k) Enter (Tells AsMarkers) p s r parts may is = (
   is.0,
   ended-keeps k true s r (Some (record { from = byte_at p; is_parted = false })) (columns_left p) (Some (begun p)) is.1,
   (p, from-here p s r),
 )
-agrees-in bytes (AtEnd k) Exit IsFence p s r may is = is
-agrees-in bytes (AtEnd k) Exit (Opens x) p s r may is =
+agrees-in bytes (AtEnd k) Exit IsFence p s r parts may is = is
+agrees-in bytes (AtEnd k) Exit (Opens x) p s r parts may is =
     leaf-ends bytes x p s r may (lining-ends k is.1.0 is.1.1 is.1.2 true s r is.1.3 is.2)
-agrees-in bytes (InEnd k) Exit (Tells AsMarkers) p s r may is =
+agrees-in bytes (InEnd k) Exit (Tells AsMarkers) p s r parts may is =
     let line : Line = record {
       spaces = columns_left is.2.0;
       text = slice_range bytes (byte_at is.2.0) p.index;
@@ -873,7 +833,31 @@ agrees-in bytes (InEnd k) Exit (Tells AsMarkers) p s r may is =
       (is.1.0, is.1.1, is.1.2, markers-stand k is.1.0 is.1.1 is.1.2 line s r is.0 is.1.3),
       (span-headed s.lined line.text (told_leaf note.Markers line.text (record s { text = None })), refl),
     )
-agrees-in bytes _ _ _ p s r may is = absurd may
+agrees-in bytes AtTitle Enter (Tells AsHeading) p s r parts may is = title-begins p s r is.0
+agrees-in bytes InTitle Enter IsPrefix p s r parts may is = title-prefix bytes p s r parts is
+agrees-in bytes InTitle Exit IsPrefix p s r parts may is = title-on p s r is
+agrees-in bytes InTitle Enter IsEnding p s r parts may is = is
+agrees-in bytes InTitle Exit IsEnding p s r parts may is = title-line bytes p s r is
+agrees-in bytes InTitle Exit (Tells AsHeading) p s r parts may is = title-ends bytes p s r parts is
+agrees-in bytes BehindTitle Enter IsPrefix p s r parts may is =
+    prefix-enter titled.Unmarked bytes p s r unmarked-keeps is
+agrees-in bytes BehindTitle Exit IsPrefix p s r parts may is =
+    prefix-exit titled.Unmarked bytes p s r unmarked-keeps is
+agrees-in bytes BehindTitle Enter IsEnding p s r parts may is = is
+agrees-in bytes BehindTitle Exit IsEnding p s r parts may is = gap-line bytes p s r is
+agrees-in bytes BehindTitle Enter (Tells AsMarkers) p s r parts may is = (
+  unmarked-keeps s r (Some (record { from = byte_at p; is_parted = false })) (columns_left p) (Some (begun p)) is.0,
+  (p, from-here p s r),
+)
+agrees-in bytes InUnderline Exit (Tells AsMarkers) p s r parts may is =
+    underline-ends bytes is.1.0 p s r is.0 is.1.1
+agrees-in bytes BehindUnderline Exit (Opens OfHeadingSetext) p s r parts may is = heading-ends s r is.0 is.1
+agrees-in bytes InAtxText Enter IsEnding p s r parts may is = is
+agrees-in bytes InAtxText Exit IsEnding p s r parts may is =
+    (agrees-ending bytes p s r is.0, ap is_unparted (span-line bytes p.index s.lined s.text s) ∙ is.1)
+agrees-in bytes InAtxText Exit (Tells AsHeading) p s r parts may is =
+    agrees-title bytes p s r s.text r.text is.0.text is.1 is.0
+agrees-in bytes _ _ _ p s r parts may is = absurd may
 
 -- no list begins there
 stage-stays : (bytes : List ℕ) (site : Site) (kind : Kind) (x : spelled.Role) (p : Point) (s : OutlineState)
@@ -884,20 +868,13 @@ stage-stays bytes site Enter (Holds UnorderedShape) p s r may is = absurd may
 stage-stays bytes site Enter x p s r may is = refl
 stage-stays bytes site Exit x p s r may is = refl
 
--- it begins in no text
-no-span : (bytes : List ℕ) (kind : LeafKind) (p : Point) (span : Option Span) → has_lines kind ≡ true →
-    parts_by bytes Enter (Opens kind) p span ≡ true → span ≡ None
-no-span bytes kind p None e k = refl
-no-span bytes kind p (Some span) e k =
-    absurd (true≢false (sym k ∙ ap (λ (x : Bool). not x && not span.is_parted) e))
-
 -- it begins with a line, and without fences
 line-first : (bytes : List ℕ) (kind : LeafKind) (w : Word) (p : Point) (s : OutlineState) (r : Reading) →
-    IsMarked kind [] false → fresh kind ≡ lined_leaf kind [] None None (empty_line ∷ []) false →
+    is_heading w ≡ false → IsMarked kind [] false → fresh kind ≡ lined_leaf kind [] None None (empty_line ∷ []) false →
     begin_lines s.depth w ≡ lined_entries kind s.depth [] None None (empty_line ∷ []) false → s.text ≡ None →
     Agrees s r →
     AgreesIn (AtLine kind) (state_enter bytes (role.Lined w) p s) (read_enter bytes (Opens kind) p r)
-line-first bytes kind w p s r marked leaf begins none is = (
+line-first bytes kind w p s r other marked leaf begins none is = (
   (
     None,
     None,
@@ -906,7 +883,7 @@ line-first bytes kind w p s r marked leaf begins none is = (
       markers = [];
       fenced = false;
       marked = marked;
-      is = lining-begins bytes kind w (empty_line ∷ []) p s r leaf begins none is;
+      is = lining-begins bytes kind w (empty_line ∷ []) p s r other leaf begins none is;
     },
   ),
   (none, begins-texts s r none is),
@@ -919,23 +896,34 @@ pub agrees-site : (bytes : List ℕ) (site : Site) (stage : Stage) (kind : Kind)
     AgreesWithin (site_by bytes site kind x p) (stage_by stage kind x p) (state_by bytes kind (shown_as x) p s)
     (read_by bytes kind x p r)
 agrees-site bytes Outside AllTold Enter (Opens OfCode) p s r h k d may stands is =
-    line-first bytes OfCode word.Code p s r tt refl refl (no-span bytes OfCode p s.text refl k) is
+    line-first bytes OfCode word.Code p s r refl tt refl refl (no-span bytes OfCode p s.text refl k) is
 agrees-site bytes Outside AllTold Enter (Opens OfHtml) p s r h k d may stands is =
-    line-first bytes OfHtml word.Html p s r tt refl refl (no-span bytes OfHtml p s.text refl k) is
+    line-first bytes OfHtml word.Html p s r refl tt refl refl (no-span bytes OfHtml p s.text refl k) is
 agrees-site bytes Outside AllTold Enter (Opens OfFence) p s r h k d may stands is =
-    let none : s.text ≡ None = no-span bytes OfFence p s.text refl k in
-    (tt, lining-begins bytes OfFence (word.Fence 0 false) [] p s r refl refl none is, (none, begins-texts s r none is))
+    let none : s.text ≡ None = no-span bytes OfFence p s.text refl k in (
+      tt,
+      lining-begins bytes OfFence (word.Fence 0 false) [] p s r refl refl refl none is,
+      (none, begins-texts s r none is),
+    )
 agrees-site bytes Outside AllTold Enter (Opens OfMath) p s r h k d may stands is =
     let none : s.text ≡ None = no-span bytes OfMath p s.text refl k in
-    (tt, lining-begins bytes OfMath (word.Math false) [] p s r refl refl none is, (none, begins-texts s r none is))
+    (tt, lining-begins bytes OfMath (word.Math false) [] p s r refl refl refl none is, (none, begins-texts s r none is))
+agrees-site bytes Outside AllTold Enter (Opens OfHeadingSetext) p s r h k d may stands is =
+    heading-begins bytes p s r (no-span bytes OfHeadingSetext p s.text refl k) is
+agrees-site bytes Outside AllTold Enter (Tells AsHeading) p s r h k d may stands is =
+    (agrees-begun p s r (apart bytes Enter (Tells AsHeading) p s.text (λ t. refl) k) is, refl)
 agrees-site bytes Outside stage Enter (Opens OfCode) p s r h k d may stands is = absurd may
 agrees-site bytes Outside stage Enter (Opens OfFence) p s r h k d may stands is = absurd may
 agrees-site bytes Outside stage Enter (Opens OfMath) p s r h k d may stands is = absurd may
 agrees-site bytes Outside stage Enter (Opens OfHtml) p s r h k d may stands is = absurd may
+agrees-site bytes Outside stage Enter (Opens OfHeadingSetext) p s r h k d may stands is = absurd may
+agrees-site bytes Outside stage Enter (Tells AsHeading) p s r h k d may stands is = absurd may
 agrees-site bytes Outside stage Exit (Opens OfCode) p s r h k d may stands is = absurd stands
 agrees-site bytes Outside stage Exit (Opens OfFence) p s r h k d may stands is = absurd stands
 agrees-site bytes Outside stage Exit (Opens OfMath) p s r h k d may stands is = absurd stands
 agrees-site bytes Outside stage Exit (Opens OfHtml) p s r h k d may stands is = absurd stands
+agrees-site bytes Outside stage Exit (Opens OfHeadingSetext) p s r h k d may stands is = absurd stands
+agrees-site bytes Outside stage Exit (Tells AsHeading) p s r h k d may stands is = absurd stands
 agrees-site bytes Outside stage kind IsFence p s r h k d may stands is = absurd stands
 agrees-site bytes Outside stage kind (Tells AsLine) p s r h k d may stands is = absurd stands
 agrees-site bytes Outside stage kind (Tells AsInfo) p s r h k d may stands is = absurd stands
@@ -945,7 +933,7 @@ agrees-site bytes site AllTold kind x p s r h k d may stands is =
     subst
     (λ stage.
     AgreesWithin (site_by bytes site kind x p) stage (state_by bytes kind (shown_as x) p s) (read_by bytes kind x p r))
-    (sym (stage-stays bytes site kind x p s r stands is)) (agrees-in bytes site kind x p s r stands is)
+    (sym (stage-stays bytes site kind x p s r stands is)) (agrees-in bytes site kind x p s r k stands is)
 agrees-site bytes site stage kind x p s r h k d may stands is = absurd is
 
 -- all events

@@ -10,11 +10,13 @@ use Rattle.md_engine.specs.declared.event.Kind.TheVariants.{Enter, Exit}
 use Rattle.md_engine.specs.declared.event.Name.{Name}
 use Rattle.md_engine.specs.declared.event.Name.TheVariants as n
 use Rattle.md_engine.specs.declared.event.Point.{Point}
-use Rattle.md_seam.specs.Events.Nested.{around, exit, pair}
-use Rattle.md_seam.specs.Events.Spelled.{AsInfo, AsLine, AsMeta, IsEnding, IsFence, IsPrefix, IsQuiet, LeafKind, OfCode}
-use Rattle.md_seam.specs.Events.Spelled.{OfFence, OfHtml, OfMath, Opens, Role, Tells, role}
-use Rattle.md_seam.proofs.SpelledLemmas.{Quiet, QuietOrPrefix, Roles}
-use Rattle.md_outline.specs.LinesStand.{AtEnd, AtEnding, AtLine, HasLines, LinesStand, MayStand, Outside, Site}
+use Rattle.md_seam.specs.Events.Nested.{around, enter, exit, pair}
+use Rattle.md_seam.specs.Events.Spelled.{AsHeading, AsInfo, AsLine, AsMarkers, AsMeta, IsEnding, IsFence, IsPrefix}
+use Rattle.md_seam.specs.Events.Spelled.{IsQuiet, LeafKind, OfCode, OfFence, OfHeadingSetext, OfHtml, OfMath, Opens}
+use Rattle.md_seam.specs.Events.Spelled.{Role, Tells, role}
+use Rattle.md_seam.proofs.SpelledLemmas.{Between, Quiet, QuietOrEnding, QuietOrPrefix, Roles}
+use Rattle.md_outline.specs.LinesStand.{AtEnd, AtEnding, AtLine, AtTitle, BehindTitle, BehindUnderline, HasLines}
+use Rattle.md_outline.specs.LinesStand.{InAtxText, InTitle, InUnderline, LinesStand, MayStand, Outside, Site}
 use Rattle.md_outline.specs.LinesStand.{begun_site, site_by}
 use Rattle.md_outline.specs.Roles.{is_plain}
 
@@ -44,14 +46,18 @@ abbrev pub Keeps : List ℕ → Site → Role → Type 0
 Keeps bytes site x =
     (kind : Kind) (p : Point) → MayStand bytes site kind x p × (site_by bytes site kind x p ≡ site)
 
+pub passes-by : (bytes : List ℕ) (P : Role → Type 0) (site : Site) (es : List Event) →
+    ((x : Role) → P x → Keeps bytes site x) → Roles P es → Passes bytes site site es
+passes-by bytes P site [] keeps h ys more = more
+passes-by bytes P site (e ∷ es) keeps h ys more =
+    let here = keeps (role e.name) h.0 e.kind e.point in (
+      here.0,
+      subst (λ (s : Site). LinesStand bytes s (es ++ ys)) (sym here.1) (passes-by bytes P site es keeps h.1 ys more),
+    )
+
 pub passes-kept : (bytes : List ℕ) (site : Site) (es : List Event) → Roles (Keeps bytes site) es →
     Passes bytes site site es
-passes-kept bytes site [] h ys more = more
-passes-kept bytes site (e ∷ es) h ys more =
-    let here = h.0 e.kind e.point in (
-      here.0,
-      subst (λ (s : Site). LinesStand bytes s (es ++ ys)) (sym here.1) (passes-kept bytes site es h.1 ys more),
-    )
+passes-kept bytes site es h = passes-by bytes (Keeps bytes site) site es (λ x k. k) h
 
 -- those of no such leaf block leave one outside,
 pub keeps-plain : (bytes : List ℕ) (x : Role) → is_plain x ≡ true → Keeps bytes Outside x
@@ -59,6 +65,8 @@ keeps-plain bytes (Opens OfCode) h kind p = absurd (true≢false (sym h))
 keeps-plain bytes (Opens OfFence) h kind p = absurd (true≢false (sym h))
 keeps-plain bytes (Opens OfMath) h kind p = absurd (true≢false (sym h))
 keeps-plain bytes (Opens OfHtml) h kind p = absurd (true≢false (sym h))
+keeps-plain bytes (Opens OfHeadingSetext) h kind p = absurd (true≢false (sym h))
+keeps-plain bytes (Tells AsHeading) h kind p = absurd (true≢false (sym h))
 keeps-plain bytes IsFence h kind p = absurd (true≢false (sym h))
 keeps-plain bytes (Tells AsLine) h kind p = absurd (true≢false (sym h))
 keeps-plain bytes (Tells AsInfo) h kind p = absurd (true≢false (sym h))
@@ -74,15 +82,11 @@ keeps-quiet bytes _ Enter p = (tt, refl)
 keeps-quiet bytes _ Exit p = (tt, refl)
 
 pub passes-quiet : (bytes : List ℕ) (site : Site) (es : List Event) → Roles Quiet es → Passes bytes site site es
-passes-quiet bytes site es h = passes-kept bytes site es (all es h)
+passes-quiet bytes site es h = passes-by bytes Quiet site es one h
   where
     one : (x : Role) → Quiet x → Keeps bytes site x
     one IsQuiet h = keeps-quiet bytes site
     one _ h = absurd h
-
-    all : (es : List Event) → Roles Quiet es → Roles (Keeps bytes site) es
-    all [] h = tt
-    all (e ∷ es) h = (one (role e.name) h.0, all es h.1)
 
 -- Between the lines of such a leaf block.
 
@@ -95,7 +99,7 @@ IsOnLine _ = ⊥
 -- prefixes of containers may stand there,
 pub passes-prefixes : (bytes : List ℕ) (site : Site) (es : List Event) → IsOnLine site → Roles QuietOrPrefix es →
     Passes bytes site site es
-passes-prefixes bytes site es on h = passes-kept bytes site es (all es h)
+passes-prefixes bytes site es on h = passes-by bytes QuietOrPrefix site es one h
   where
     prefix : (site : Site) → IsOnLine site → Keeps bytes site IsPrefix
     prefix (AtEnding kind) on Enter p = (tt, refl)
@@ -108,10 +112,6 @@ passes-prefixes bytes site es on h = passes-kept bytes site es (all es h)
     one IsQuiet h = keeps-quiet bytes site
     one IsPrefix h = prefix site on
     one _ h = absurd h
-
-    all : (es : List Event) → Roles QuietOrPrefix es → Roles (Keeps bytes site) es
-    all [] h = tt
-    all (e ∷ es) h = (one (role e.name) h.0, all es h.1)
 
 -- and an ending, behind which one is here
 abbrev pub ended_site : List ℕ → Point → Site → Site
@@ -132,6 +132,28 @@ passes-ending bytes p q (AtEnding kind) on ys more = (tt, (tt, more))
 passes-ending bytes p q (AtLine kind) on ys more = (tt, (tt, more))
 passes-ending bytes p q _ on ys more = absurd on
 
+-- A part around events.
+
+-- an event of such a role goes from a site to a site
+abbrev pub Steps : List ℕ → Site → Site → Kind → Role → Point → Type 0
+Steps bytes from to kind x p = MayStand bytes from kind x p × (site_by bytes from kind x p ≡ to)
+
+passes-event : (bytes : List ℕ) (from to : Site) (x : Role) (e : Event) → role e.name ≡ x →
+    Steps bytes from to e.kind x e.point → Passes bytes from to (e ∷ [])
+passes-event bytes from to x e is step ys more =
+    subst
+    (λ (y : Role).
+    MayStand bytes from e.kind y e.point × LinesStand bytes (site_by bytes from e.kind y e.point) ys)
+    (sym is) (step.0, subst (λ (s : Site). LinesStand bytes s ys) (sym step.1) more)
+
+passes-around : (bytes : List ℕ) (from first last to : Site) (x : Role) (name : Name) (p q : Point)
+    (es : List Event) → role name ≡ x → Steps bytes from first Enter x p → Passes bytes first last es →
+    Steps bytes last to Exit x q → Passes bytes from to (around name p q es)
+passes-around bytes from first last to x name p q es is begins h ends =
+    passes-append bytes from first to (enter name p ∷ []) (es ++ exit name q ∷ [])
+    (passes-event bytes from first x (enter name p) is begins)
+    (passes-append bytes first last to es (exit name q ∷ []) h (passes-event bytes last to x (exit name q) is ends))
+
 -- The leaf block.
 
 -- where it may end
@@ -144,22 +166,86 @@ MayLeave _ = ⊥
 pub passes-leaf : (bytes : List ℕ) (name : Name) (kind : LeafKind) (p q : Point) (site : Site) (es : List Event) →
     role name ≡ Opens kind → HasLines kind → MayLeave site → Passes bytes (begun_site kind) site es →
     Passes bytes Outside Outside (around name p q es)
-passes-leaf bytes name kind p q site es is lined leave h ys more =
-    subst
-    (λ (x : Role).
-    MayStand bytes Outside Enter x p
-    × LinesStand bytes (site_by bytes Outside Enter x p) ((es ++ exit name q ∷ []) ++ ys))
-    (sym is) (
-      tt,
-      stand-both bytes (begun_site kind) es (exit name q ∷ []) ys
-          (h (exit name q ∷ ys)
-          (subst (λ (x : Role). MayStand bytes site Exit x q × LinesStand bytes (site_by bytes site Exit x q) ys)
-          (sym is) (ends site leave))),
-    )
+passes-leaf bytes name kind p q site es is lined leave h =
+    passes-around bytes Outside (begun_site kind) site Outside (Opens kind) name p q es is (tt, refl) h
+    (ends site leave)
   where
-    ends : (site : Site) → MayLeave site →
-        MayStand bytes site Exit (Opens kind) q × LinesStand bytes (site_by bytes site Exit (Opens kind) q) ys
-    ends (AtEnding k) leave = (lined, more)
-    ends (AtLine k) leave = (lined, more)
-    ends (AtEnd k) leave = (lined, more)
+    ends : (site : Site) → MayLeave site → Steps bytes site Outside Exit (Opens kind) q
+    ends (AtEnding k) leave = (lined, refl)
+    ends (AtLine k) leave = (lined, refl)
+    ends (AtEnd k) leave = (lined, refl)
     ends _ leave = absurd leave
+
+-- Headings.
+
+-- the text of an ATX heading, in which no prefix stands
+pub passes-atx_text : (bytes : List ℕ) (name : Name) (p q : Point) (es : List Event) → role name ≡ Tells AsHeading →
+    Roles QuietOrEnding es → Passes bytes Outside Outside (around name p q es)
+passes-atx_text bytes name p q es is h =
+    passes-around bytes Outside InAtxText InAtxText Outside (Tells AsHeading) name p q es is (tt, refl)
+    (passes-by bytes QuietOrEnding InAtxText es one h) (tt, refl)
+  where
+    ending : Keeps bytes InAtxText IsEnding
+    ending Enter p = (tt, refl)
+    ending Exit p = (tt, refl)
+
+    one : (x : Role) → QuietOrEnding x → Keeps bytes InAtxText x
+    one IsQuiet h = keeps-quiet bytes InAtxText
+    one IsEnding h = ending
+    one _ h = absurd h
+
+-- in the text of a setext heading, and behind it, endings and prefixes may stand
+abbrev TakesLines : Site → Type 0
+TakesLines InTitle = Unit {0}
+TakesLines BehindTitle = Unit {0}
+TakesLines _ = ⊥
+
+passes-lines : (bytes : List ℕ) (site : Site) (es : List Event) → TakesLines site → Roles Between es →
+    Passes bytes site site es
+passes-lines bytes site es takes h = passes-by bytes Between site es one h
+  where
+    prefix : (site : Site) → TakesLines site → Keeps bytes site IsPrefix
+    prefix InTitle takes Enter p = (tt, refl)
+    prefix InTitle takes Exit p = (tt, refl)
+    prefix BehindTitle takes Enter p = (tt, refl)
+    prefix BehindTitle takes Exit p = (tt, refl)
+    prefix _ takes kind p = absurd takes
+
+    ending : (site : Site) → TakesLines site → Keeps bytes site IsEnding
+    ending InTitle takes Enter p = (tt, refl)
+    ending InTitle takes Exit p = (tt, refl)
+    ending BehindTitle takes Enter p = (tt, refl)
+    ending BehindTitle takes Exit p = (tt, refl)
+    ending _ takes kind p = absurd takes
+
+    one : (x : Role) → Between x → Keeps bytes site x
+    one IsQuiet h = keeps-quiet bytes site
+    one IsPrefix h = prefix site takes
+    one IsEnding h = ending site takes
+    one _ h = absurd h
+
+-- its text
+pub passes-title : (bytes : List ℕ) (name : Name) (p q : Point) (es : List Event) → role name ≡ Tells AsHeading →
+    Roles Between es → Passes bytes AtTitle BehindTitle (around name p q es)
+passes-title bytes name p q es is h =
+    passes-around bytes AtTitle InTitle InTitle BehindTitle (Tells AsHeading) name p q es is (tt, refl)
+    (passes-lines bytes InTitle es tt h) (tt, refl)
+
+-- what stands between that and its underline
+pub passes-gap : (bytes : List ℕ) (es : List Event) → Roles Between es → Passes bytes BehindTitle BehindTitle es
+passes-gap bytes es h = passes-lines bytes BehindTitle es tt h
+
+-- the markers of its underline
+pub passes-underline : (bytes : List ℕ) (name : Name) (p q : Point) (es : List Event) →
+    role name ≡ Tells AsMarkers → Roles Quiet es → Passes bytes BehindTitle BehindUnderline (around name p q es)
+passes-underline bytes name p q es is h =
+    passes-around bytes BehindTitle InUnderline InUnderline BehindUnderline (Tells AsMarkers) name p q es is (tt, refl)
+    (passes-quiet bytes InUnderline es h) (tt, refl)
+
+-- all of it
+pub passes-heading : (bytes : List ℕ) (name : Name) (p q : Point) (es : List Event) →
+    role name ≡ Opens OfHeadingSetext → Passes bytes AtTitle BehindUnderline es →
+    Passes bytes Outside Outside (around name p q es)
+passes-heading bytes name p q es is h =
+    passes-around bytes Outside AtTitle BehindUnderline Outside (Opens OfHeadingSetext) name p q es is (tt, refl) h
+    (tt, refl)

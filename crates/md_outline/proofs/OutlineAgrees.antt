@@ -1,5 +1,5 @@
 -- What an outline has read of some events agrees with what was read of the tree that they spell out.
-use Rattle.std.proofs.Common.{◌≡◌, ℕ, ◌+◌, ◌-◌, true, false, not, List, [], ◌∷◌, ◌++◌}
+use Rattle.std.proofs.Common.{◌≡◌, ℕ, ◌+◌, ◌-◌, Bool, true, false, ◌||◌, not, List, [], ◌∷◌, ◌++◌, append_assoc}
 use Rattle.std.proofs.Common.{slice_range, refl, sym, ◌∙◌, ap, subst}
 use Rattle.std.proofs.Common.{arith}
 use Rattle.std.specs.Prelude.{Option, Some, None, option_map}
@@ -11,7 +11,8 @@ use Rattle.md_definition.specs.declared.outline.Word.{Word}
 use Rattle.md_definition.specs.Outline.{Entry, block_entries, entry}
 use Rattle.md_seam.specs.Events.Places.{last_line}
 use Rattle.md_definition.specs.Rest.{is_blank}
-use Rattle.md_seam.specs.Events.Spelled.{Around, AsDigits, AsItemMarker, AsMarkers, Holds, IsPrefix, OpenLeaf, Opens, Reading}
+use Rattle.md_seam.specs.Events.Spelled.{Around, AsDigits, AsHeading, AsItemMarker, AsMarkers, Holds, IsPrefix}
+use Rattle.md_seam.specs.Events.Spelled.{OpenLeaf, Opens, Reading}
 use Rattle.md_seam.specs.Events.Spelled.{Shape, Tells, Text}
 use Rattle.md_seam.specs.Events.Spelled.{after_prefix, at_ending, before_prefix, begun, block_around, block_of, byte_at}
 use Rattle.md_seam.specs.Events.Spelled.{columns_left}
@@ -24,13 +25,13 @@ use Rattle.md_definition.specs.Tree.{Block, End, Line}
 use Rattle.md_seam.proofs.ThroughoutLemmas.{all-then}
 use Rattle.md_outline.specs.HeadingDepths.{are_shallow, fits}
 use Rattle.md_outline.specs.Outlined.{begins_line, is_unparted, parts_by}
-use Rattle.md_outline.specs.OutlineSteps.{OutlineState, head_marked, leaf_ended, line_ended, parted_at}
-use Rattle.md_outline.specs.OutlineSteps.{state_by, state_enter, state_exit, told_at, told_leaf}
+use Rattle.md_outline.specs.OutlineSteps.{OutlineState, head_marked, is_titled, leaf_ended, line_ended, parted_at}
+use Rattle.md_outline.specs.OutlineSteps.{state_by, state_enter, state_exit, title_told, told_at, told_leaf}
 use Rattle.md_outline.specs.OutlineSteps.{marked_at}
 use Rattle.md_outline.specs.ParagraphState.{begin_entries}
 use Rattle.md_seam.specs.Events.Told.{block_told}
-use Rattle.md_outline.specs.Roles.{is_plain, leaf_entries, noted, shown_as}
-use Rattle.md_outline.specs.TextLines.{full_entries}
+use Rattle.md_outline.specs.Roles.{is_plain, leaf_entries, noted, shown_as, told_as}
+use Rattle.md_outline.specs.TextLines.{full_entries, text_entries}
 use Rattle.md_outline.specs.declared.outline.role.Note.{Note}
 use Rattle.md_outline.specs.declared.outline.role.Note.TheVariants as note
 use Rattle.md_outline.specs.declared.outline.role.Purpose.TheVariants as purpose
@@ -40,9 +41,9 @@ use Rattle.md_outline.specs.declared.outline.Span.{Span}
 use Rattle.md_outline.proofs.HeadingLemmas.{fitted-same}
 use Rattle.md_outline.proofs.ClosedTrees.{HaveWords, StaysShown, depth_of, digits-stay, marker-stays, shown}
 use Rattle.md_outline.proofs.ClosedTrees.{shown-then, words-then}
-use Rattle.md_outline.proofs.ParagraphPieces.{Pieces, pieces-from, pieces-last, pieces-next, pieces-none}
-use Rattle.md_outline.proofs.RoleLemmas.{ByRole, IsBlock, IsNote, IsShownBy, Knows, by-ending, by-role, knows-line}
-use Rattle.md_outline.proofs.RoleLemmas.{knows-noted}
+use Rattle.md_outline.proofs.RoleLemmas.{ByRole, IsBlock, IsShownBy, Knows, by-ending, by-role, knows-line}
+use Rattle.md_outline.proofs.RoleLemmas.{knows-noted, note-told}
+use Rattle.md_outline.proofs.TextPieces.{Pieces, pieces-from, pieces-last, pieces-next, pieces-none}
 
 -- The leaf and the text.
 
@@ -50,11 +51,12 @@ abbrev pub KnowsOpen : Option OpenLeaf → Type 0
 KnowsOpen None = Unit {0}
 KnowsOpen (Some leaf) = Knows leaf
 
--- the text that is read, by where it begins or goes on
+-- the text that is read, by where it begins or goes on, where it is a block of its own if it is parted
 abbrev pub TextIs : List Entry → ℕ → List Entry → Option Span → Option Text → Type 0
 TextIs before depth lines None None = lines ≡ before
 TextIs before depth lines (Some span) (Some text) =
-    (text.from ≡ span.from) × Pieces before depth lines span.is_parted text.front
+    (text.from ≡ span.from)
+    × Pieces before (begin_entries depth false) (depth + 1) lines span.is_parted text.front
 TextIs before depth lines None (Some text) = ⊥
 TextIs before depth lines (Some span) None = ⊥
 
@@ -73,7 +75,7 @@ pub text-lines : (before : List Entry) (depth : ℕ) (lines : List Entry) (span 
     is_unparted span ≡ true → TextIs before depth lines span text → lines ≡ before
 text-lines before depth lines None None h k = k
 text-lines before depth lines (Some span) (Some text) h k =
-    (pieces-none before depth lines span.is_parted text.front h k.1).0
+    (pieces-none before (begin_entries depth false) (depth + 1) lines span.is_parted text.front h k.1).0
 text-lines before depth lines None (Some text) h k = absurd k
 text-lines before depth lines (Some span) None h k = absurd k
 
@@ -84,8 +86,11 @@ pub text-stays : (before before' : List Entry) (depth depth' : ℕ) (lines lines
     TextIs before' depth' lines' span text
 text-stays before before' depth depth' lines lines' None None h f k = f k
 text-stays before before' depth depth' lines lines' (Some span) (Some text) h f k =
-    let pieces = pieces-none before depth lines span.is_parted text.front h k.1 in
-    (k.0, pieces-from before' depth' lines' span.is_parted text.front h (f pieces.0, pieces.1))
+    let pieces = pieces-none before (begin_entries depth false) (depth + 1) lines span.is_parted text.front h k.1 in (
+      k.0,
+      pieces-from before' (begin_entries depth' false) (depth' + 1) lines' span.is_parted text.front h
+          (f pieces.0, pieces.1),
+    )
 text-stays before before' depth depth' lines lines' None (Some text) h f k = absurd k
 text-stays before before' depth depth' lines lines' (Some span) None h f k = absurd k
 
@@ -131,7 +136,7 @@ pub whole-piece : (bytes : List ℕ) (p : Point) (before : List Entry) (depth : 
     text_to bytes p.index text ≡ slice_range bytes span.from p.index
 whole-piece bytes p before depth lines span text h k =
     ap (λ f. f ++ slice_range bytes text.from p.index)
-    (pieces-none before depth lines span.is_parted text.front h k.1).1
+    (pieces-none before (begin_entries depth false) (depth + 1) lines span.is_parted text.front h k.1).1
     ∙ ap (λ i. slice_range bytes i p.index) k.0
 
 -- a text that is a block of its own
@@ -154,8 +159,10 @@ agrees-block bytes x p s r (Some span) (Some text) by h k is =
       lined = is.lined;
       known = is.known;
       text =
-          pieces-last (shown r.outer r.here) s.depth s.lines span.is_parted text.front piece
-          (sym (by.parted bytes p span) ∙ k) h.1
+          pieces-last (shown r.outer r.here) (begin_entries s.depth false) (s.depth + 1) s.lines span.is_parted
+          text.front piece (sym (by.parted bytes p span) ∙ k) h.1
+          ∙ append_assoc (shown r.outer r.here) (begin_entries s.depth false)
+          (text_entries (s.depth + 1) (text.front ++ piece))
           ∙ ap
           (λ i. shown r.outer r.here ++ block_entries s.depth (block_told (text.front ++ slice_range bytes i p.index)))
           (sym h.0)
@@ -164,18 +171,21 @@ agrees-block bytes x p s r (Some span) (Some text) by h k is =
     })
 
 -- a text that says something of a leaf
-agrees-note : (bytes : List ℕ) (x : spelled.Purpose) (y : Note) (p : Point) (s : OutlineState) (r : Reading)
-    (span : Option Span) (text : Option Text) → IsNote x y →
-    TextIs (shown r.outer r.here) s.depth s.lines span text → is_unparted span ≡ true →
-    Agrees s r → Agrees (told_at bytes (purpose.Note y) p.index span s) (spelled.told_at bytes x p text r)
-agrees-note bytes x y p s r None None by h k is = is
-agrees-note bytes x y p s r None (Some text) by h k is = absurd h
-agrees-note bytes x y p s r (Some span) None by h k is = absurd h
-agrees-note bytes x y p s r (Some span) (Some text) by h k is =
+abbrev noted_at : List ℕ → Note → ℕ → Option Span → OutlineState → OutlineState
+noted_at bytes y end None s = s
+noted_at bytes y end (Some span) s = told_leaf y (slice_range bytes span.from end) (record s { text = None })
+
+agrees-note : (bytes : List ℕ) (y : Note) (p : Point) (s : OutlineState) (r : Reading) (span : Option Span)
+    (text : Option Text) → TextIs (shown r.outer r.here) s.depth s.lines span text → is_unparted span ≡ true →
+    Agrees s r → Agrees (noted_at bytes y p.index span s) (spelled.told_at bytes (told_as y) p text r)
+agrees-note bytes y p s r None None h k is = is
+agrees-note bytes y p s r None (Some text) h k is = absurd h
+agrees-note bytes y p s r (Some span) None h k is = absurd h
+agrees-note bytes y p s r (Some span) (Some text) h k is =
     let piece : List ℕ = slice_range bytes span.from p.index in
     let line : Line = record { spaces = text.spaces; text = text_to bytes p.index text } in
     let whole : line.text ≡ piece = whole-piece bytes p (shown r.outer r.here) s.depth s.lines span text k h in
-    subst (Agrees (told_leaf y piece (record s { text = None }))) (sym (by.tree line (record r { text = None })))
+    subst (Agrees (told_leaf y piece (record s { text = None }))) (sym (note-told y line (record r { text = None })))
     (record {
       depth = is.depth;
       words = is.words;
@@ -187,18 +197,29 @@ agrees-note bytes x y p s r (Some span) (Some text) by h k is =
     })
 
 -- as the markers of a heading
-agrees-markers : (bytes : List ℕ) (x : spelled.Purpose) (p : Point) (s : OutlineState) (r : Reading)
-    (span : Option Span) (text : Option Text) → IsNote x note.Markers →
-    TextIs (shown r.outer r.here) s.depth s.lines span text → is_unparted span ≡ true →
-    Agrees s r → Agrees (told_at bytes purpose.Markers p.index span s) (spelled.told_at bytes x p text r)
-agrees-markers bytes x p s r None text by h k is = agrees-note bytes x note.Markers p s r None text by h k is
-agrees-markers bytes x p s r (Some span) text by h k is =
+agrees-markers : (bytes : List ℕ) (p : Point) (s : OutlineState) (r : Reading) (span : Option Span)
+    (text : Option Text) → TextIs (shown r.outer r.here) s.depth s.lines span text → is_unparted span ≡ true →
+    Agrees s r → Agrees (told_at bytes purpose.Markers p.index span s) (spelled.told_at bytes AsMarkers p text r)
+agrees-markers bytes p s r None text h k is = agrees-note bytes note.Markers p s r None text h k is
+agrees-markers bytes p s r (Some span) text h k is =
     let piece : List ℕ = slice_range bytes span.from p.index in
     subst
     (λ lined.
     Agrees (head_marked lined piece (told_leaf note.Markers piece (record s { text = None })))
-    (spelled.told_at bytes x p text r))
-    (sym is.lined) (agrees-note bytes x note.Markers p s r (Some span) text by h k is)
+    (spelled.told_at bytes AsMarkers p text r))
+    (sym is.lined) (agrees-note bytes note.Markers p s r (Some span) text h k is)
+
+-- and as its text, if it is an ATX heading
+pub agrees-title : (bytes : List ℕ) (p : Point) (s : OutlineState) (r : Reading) (span : Option Span)
+    (text : Option Text) → TextIs (shown r.outer r.here) s.depth s.lines span text → is_unparted span ≡ true →
+    Agrees s r → Agrees (told_at bytes purpose.Title p.index span s) (spelled.told_at bytes AsHeading p text r)
+agrees-title bytes p s r None text h k is = agrees-note bytes note.Title p s r None text h k is
+agrees-title bytes p s r (Some span) text h k is =
+    let piece : List ℕ = slice_range bytes span.from p.index in
+    subst
+    (λ lined.
+    Agrees (title_told (is_titled lined) piece (record s { text = None })) (spelled.told_at bytes AsHeading p text r))
+    (sym is.lined) (agrees-note bytes note.Title p s r (Some span) text h k is)
 
 -- a text that says something of a container
 agrees-named : (f : Shape → Shape) (s : OutlineState) (r : Reading) (span : Span) (text : Text) →
@@ -262,8 +283,10 @@ agrees-prefix bytes p s r None (Some text) e h k is = absurd h
 agrees-prefix bytes p s r (Some span) None e h k is = absurd h
 agrees-prefix bytes p s r (Some span) (Some text) e h k is =
     let piece : List ℕ = slice_range bytes span.from p.index in
+    let before : List Entry = shown r.outer r.here in
     let parts = and_parts (begins_line span piece) (is_blank (last_line (split_lines piece))) k in
-    let lines : List Entry = (s.lines ++ begin_entries s.depth span.is_parted) ++ full_entries (s.depth + 1) piece in
+    let begun : Bool → List Entry =
+    λ x. (s.lines ++ begin_entries s.depth x) ++ full_entries (s.depth + 1) piece in
     record {
       depth = is.depth;
       words = is.words;
@@ -273,9 +296,18 @@ agrees-prefix bytes p s r (Some span) (Some text) e h k is =
       known = is.known;
       text = (
         h.0,
-        subst (λ i. Pieces (shown r.outer r.here) s.depth lines true (text.front ++ slice_range bytes i p.index))
+        subst
+            (λ i.
+            Pieces before (begin_entries s.depth false) (s.depth + 1) (begun (is_titled s.lined || span.is_parted)) true
+            (text.front ++ slice_range bytes i p.index))
             (sym h.0)
-            (pieces-next (shown r.outer r.here) s.depth s.lines span.is_parted text.front piece parts.0 parts.1 h.1),
+            (subst
+            (λ lined.
+            Pieces before (begin_entries s.depth false) (s.depth + 1) (begun (is_titled lined || span.is_parted)) true
+            (text.front ++ piece))
+            (sym is.lined)
+            (pieces-next before (begin_entries s.depth false) (s.depth + 1) s.lines span.is_parted text.front piece
+            parts.0 parts.1 h.1)),
       );
     }
 
@@ -337,6 +369,12 @@ agrees-line s r is =
       text = is.text;
     }
 
+pub agrees-ending : (bytes : List ℕ) (p : Point) (s : OutlineState) (r : Reading) → Agrees s r →
+    Agrees (line_ended bytes p.index s.lined s.text s) (at_ending bytes p r.text r)
+agrees-ending bytes p s r is =
+    subst (λ lined. Agrees (line_ended bytes p.index lined s.text s) (at_ending bytes p r.text r)) (sym is.lined)
+    (by-ending (Agrees s) bytes p r.text r is (agrees-line s r is))
+
 -- What stands in no text that is parted.
 pub apart : (bytes : List ℕ) (kind : Kind) (x : spelled.Role) (p : Point) (span : Option Span) →
     ((t : Span) → parts_by bytes kind x p (Some t) ≡ not t.is_parted) → parts_by bytes kind x p span ≡ true →
@@ -345,7 +383,7 @@ apart bytes kind x p None by h = refl
 apart bytes kind x p (Some span) by h = sym (by span) ∙ h
 
 -- the step of one event, by what it means
-agrees-begun : (p : Point) (s : OutlineState) (r : Reading) → is_unparted s.text ≡ true → Agrees s r →
+pub agrees-begun : (p : Point) (s : OutlineState) (r : Reading) → is_unparted s.text ≡ true → Agrees s r →
     Agrees (record s { text = Some (record { from = byte_at p; is_parted = false }); spaces = columns_left p })
     (record r { text = Some (begun p) })
 agrees-begun p s r k is = record {
@@ -403,8 +441,7 @@ agrees-enter bytes p = record {
         text = is.text;
       };
   block = λ x by s r k is. agrees-begun p s r (apart bytes Enter (Tells x) p s.text (λ t. refl) k) is;
-  note = λ x y by s r k is. agrees-begun p s r (apart bytes Enter (Tells x) p s.text (λ t. refl) k) is;
-  markers = λ by s r k is. agrees-begun p s r (apart bytes Enter (Tells AsMarkers) p s.text (λ t. refl) k) is;
+  markers = λ s r k is. agrees-begun p s r (apart bytes Enter (Tells AsMarkers) p s.text (λ t. refl) k) is;
   digits = λ s r k is. agrees-begun p s r (apart bytes Enter (Tells AsDigits) p s.text (λ t. refl) k) is;
   marker = λ s r k is. agrees-begun p s r (apart bytes Enter (Tells AsItemMarker) p s.text (λ t. refl) k) is;
   ending = λ s r k is. is;
@@ -434,19 +471,13 @@ agrees-exit bytes p = record {
       subst (λ leaf. Agrees (leaf_ended leaf s) (finished r.leaf r)) (sym is.leaf)
       (agrees-leaf s r r.leaf (apart bytes Exit (Opens kind) p s.text (λ t. refl) k) d is);
   block = λ x by s r k d is. agrees-block bytes x p s r s.text r.text by is.text k is;
-  note = λ x y by s r k d is.
-      agrees-note bytes x y p s r s.text r.text by is.text (apart bytes Exit (Tells x) p s.text (by.whole bytes p) k)
-      is;
-  markers = λ by s r k d is.
-      agrees-markers bytes AsMarkers p s r s.text r.text by is.text
-      (apart bytes Exit (Tells AsMarkers) p s.text (by.whole bytes p) k) is;
+  markers = λ s r k d is.
+      agrees-markers bytes p s r s.text r.text is.text (apart bytes Exit (Tells AsMarkers) p s.text (λ t. refl) k) is;
   digits = λ s r k d is.
       agrees-digits bytes p s r s.text r.text is.text (apart bytes Exit (Tells AsDigits) p s.text (λ t. refl) k) is;
   marker = λ s r k d is.
       agrees-marker bytes p s r s.text r.text is.text (apart bytes Exit (Tells AsItemMarker) p s.text (λ t. refl) k) is;
-  ending = λ s r k d is.
-      subst (λ lined. Agrees (line_ended bytes p.index lined s.text s) (at_ending bytes p r.text r)) (sym is.lined)
-      (by-ending (Agrees s) bytes p r.text r is (agrees-line s r is));
+  ending = λ s r k d is. agrees-ending bytes p s r is;
   quiet = λ s r k d is. is;
 }
 

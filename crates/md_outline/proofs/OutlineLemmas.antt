@@ -1,5 +1,5 @@
 -- What an outline has read of some events is what the events spell out.
-use Rattle.std.proofs.Common.{◌≡◌, ℕ, ◌+◌, ◌<◌, ◌≤◌, Bool, true, ◌||◌, not, List, [], ◌∷◌, ◌++◌, length}
+use Rattle.std.proofs.Common.{◌≡◌, ℕ, ◌+◌, ◌<◌, ◌≤◌, Bool, true, false, ◌||◌, not, List, [], ◌∷◌, ◌++◌, length}
 use Rattle.std.proofs.Common.{drop, get_or, slice_range, Result, Ok, Err, refl, sym, ◌∙◌, ap, subst}
 use Rattle.std.specs.Prelude.{Option, Some, None, option_map, OnOk}
 use Rattle.std.specs.List.{list_all}
@@ -15,7 +15,8 @@ use Rattle.md_engine.specs.declared.event.Point.{Point}
 use Rattle.md_definition.specs.declared.outline.Word.TheVariants as word
 use Rattle.md_definition.specs.Outline.{Entry, outline}
 use Rattle.md_seam.specs.Events.Nested.{Balanced}
-use Rattle.md_seam.specs.Events.Spelled.{AsInfo, AsLine, AsMeta, Holds, IsFence, IsPrefix, OfCode, OfFence, OfHtml}
+use Rattle.md_seam.specs.Events.Spelled.{AsHeading, AsInfo, AsLine, AsMeta, Holds, IsFence, IsPrefix, OfCode, OfFence}
+use Rattle.md_seam.specs.Events.Spelled.{OfHeadingSetext, OfHtml}
 use Rattle.md_seam.specs.Events.Spelled.{OfMath, OpenLeaf, Opens, OrderedShape, Reading, Shape, Tells, Text}
 use Rattle.md_seam.specs.Events.Spelled.{UnorderedShape, after_prefix, at_ending, before_prefix, begun, block_around}
 use Rattle.md_seam.specs.Events.Spelled.{block_of, byte_at, finished, left, next_line, on_leaf, read, read_by}
@@ -29,11 +30,10 @@ use Rattle.md_outline.specs.Outlined.{has_unlisted_name, parts_by, span_by, tell
 use Rattle.md_outline.specs.OutlineSteps.{BeginsBetween, IsCutAt, OutlineState, before_all, leaf_ended, parted_at}
 use Rattle.md_outline.specs.OutlineSteps.{state_after, state_by, told_at, told_leaf}
 use Rattle.md_outline.specs.LinesStand.{LinesStand, Outside, Site, site_by}
-use Rattle.md_outline.specs.OutlineSteps.{head_marked, marked_at, told}
+use Rattle.md_outline.specs.OutlineSteps.{head_marked, is_titled, marked_at, title_told, told}
 use Rattle.md_outline.specs.ParagraphState.{begin_entries}
 use Rattle.md_outline.specs.Roles.{is_shown, is_told, is_unlisted, shown_as}
 use Rattle.md_outline.specs.TextLines.{full_entries, text_entries}
-use Rattle.md_outline.specs.declared.outline.role.Note.{Note}
 use Rattle.md_outline.specs.declared.outline.role.Note.TheVariants as note
 use Rattle.md_outline.specs.declared.outline.role.Purpose.{Purpose}
 use Rattle.md_outline.specs.declared.outline.role.Purpose.TheVariants as purpose
@@ -61,7 +61,12 @@ span-told : (bytes : List ℕ) (y : Purpose) (i : ℕ) (span : Option Span) (s :
     (told_at bytes y i span s).text ≡ None
 span-told bytes y i None s e = e
 span-told bytes purpose.Block i (Some span) s e = refl
-span-told bytes (purpose.Note y) i (Some span) s e = refl
+span-told bytes purpose.Title i (Some span) s e = go (is_titled s.lined)
+  where
+    go : (x : Bool) →
+        (title_told x (slice_range bytes span.from i) (record s { text = None })).text ≡ None
+    go true = refl
+    go false = refl
 span-told bytes purpose.Digits i (Some span) s e = refl
 span-told bytes purpose.Markers i (Some span) s e =
     span-headed s.lined (slice_range bytes span.from i)
@@ -84,8 +89,7 @@ span-enter bytes p s = record {
   prefix = span-parted bytes p.index s.text s refl;
   begins = λ kind l by. refl;
   block = λ x by. refl;
-  markers = λ by. refl;
-  note = λ x y by. refl;
+  markers = refl;
   digits = refl;
   marker = refl;
   ending = refl;
@@ -98,8 +102,7 @@ span-exit bytes p s = record {
   prefix = refl;
   begins = λ kind l by. span-leaf s.leaf s;
   block = λ x by. span-told bytes purpose.Block p.index s.text s refl;
-  note = λ x y by. span-told bytes (purpose.Note y) p.index s.text s refl;
-  markers = λ by. span-told bytes purpose.Markers p.index s.text s refl;
+  markers = span-told bytes purpose.Markers p.index s.text s refl;
   digits = span-told bytes purpose.Digits p.index s.text s refl;
   marker = span-told bytes purpose.Marker p.index s.text s refl;
   ending = span-line bytes p.index s.lined s.text s;
@@ -116,6 +119,8 @@ span-step bytes Enter (Opens OfCode) p s h = refl
 span-step bytes Enter (Opens OfFence) p s h = refl
 span-step bytes Enter (Opens OfMath) p s h = refl
 span-step bytes Enter (Opens OfHtml) p s h = refl
+span-step bytes Enter (Opens OfHeadingSetext) p s h = refl
+span-step bytes Enter (Tells AsHeading) p s h = refl
 span-step bytes Enter IsFence p s h = span-fenced s.lined s
 span-step bytes Enter (Tells AsLine) p s h = refl
 span-step bytes Enter (Tells AsInfo) p s h = refl
@@ -124,6 +129,8 @@ span-step bytes Exit (Opens OfCode) p s h = refl
 span-step bytes Exit (Opens OfFence) p s h = refl
 span-step bytes Exit (Opens OfMath) p s h = refl
 span-step bytes Exit (Opens OfHtml) p s h = refl
+span-step bytes Exit (Opens OfHeadingSetext) p s h = refl
+span-step bytes Exit (Tells AsHeading) p s h = span-told bytes purpose.Title p.index s.text s refl
 span-step bytes Exit IsFence p s h = refl
 span-step bytes Exit (Tells AsLine) p s h = span-told bytes purpose.Line p.index s.text s refl
 span-step bytes Exit (Tells AsInfo) p s h = span-told bytes (purpose.Part word.Info) p.index s.text s refl
@@ -230,13 +237,13 @@ part-is_text bytes part span end text is cut epart =
 
 -- its lines, or those that have an ending, are shown behind the begin of the block
 part-shown : (bytes part : List ℕ) (span : Span) (end : ℕ) (text : Option Span) (s : OutlineState) (lines : List Entry)
-    (shows : ℕ → List ℕ → List Entry) → text ≡ Some span → IsCutAt bytes text end →
+    (is_shown : Bool) (shows : ℕ → List ℕ → List Entry) → text ≡ Some span → IsCutAt bytes text end →
     part ≡ slice_range bytes span.from end →
-    (IsUtf8 part → lines ≡ s.lines ++ begin_entries s.depth span.is_parted ++ shows (s.depth + 1) part) →
-    lines ≡ s.lines ++ begin_entries s.depth span.is_parted ++ shows (s.depth + 1) (slice_range bytes span.from end)
-part-shown bytes part span end text s lines shows is cut epart elines =
+    (IsUtf8 part → lines ≡ s.lines ++ begin_entries s.depth is_shown ++ shows (s.depth + 1) part) →
+    lines ≡ s.lines ++ begin_entries s.depth is_shown ++ shows (s.depth + 1) (slice_range bytes span.from end)
+part-shown bytes part span end text s lines is_shown shows is cut epart elines =
     elines (part-is_text bytes part span end text is cut epart)
-    ∙ ap (λ t. s.lines ++ begin_entries s.depth span.is_parted ++ shows (s.depth + 1) t) epart
+    ∙ ap (λ t. s.lines ++ begin_entries s.depth is_shown ++ shows (s.depth + 1) t) epart
 
 -- a block of its own ends
 pub block-end : (bytes part : List ℕ) (span : Span) (end : ℕ) (text : Option Span) (x : Purpose) (s : OutlineState)
@@ -246,17 +253,18 @@ pub block-end : (bytes part : List ℕ) (span : Span) (end : ℕ) (text : Option
     record s { text = None; lines = lines } ≡ told_at bytes x end text s
 block-end bytes part span end text x s lines is same cut epart elines =
     let with_lines : List Entry → OutlineState = λ es. record s { text = None; lines = es } in
-    ap with_lines (part-shown bytes part span end text s lines text_entries is cut epart elines)
+    ap with_lines (part-shown bytes part span end text s lines span.is_parted text_entries is cut epart elines)
     ∙ sym (ap (λ t. told_at bytes x end t s) is ∙ ap (λ y. told_at bytes y end (Some span) s) same)
 
--- a note for a leaf ends
-pub note-end : (bytes part : List ℕ) (span : Span) (end : ℕ) (text : Option Span) (x : Purpose) (y : Note)
-    (s next : OutlineState) → text ≡ Some span → x ≡ purpose.Note y → IsCutAt bytes text end →
-    part ≡ slice_range bytes span.from end → (IsUtf8 part → next ≡ told_leaf y part (record s { text = None })) →
+-- the text of a heading ends
+pub title-end : (bytes part : List ℕ) (span : Span) (end : ℕ) (text : Option Span) (x : Purpose)
+    (s next : OutlineState) → text ≡ Some span → x ≡ purpose.Title → IsCutAt bytes text end →
+    part ≡ slice_range bytes span.from end →
+    (IsUtf8 part → next ≡ title_told (is_titled s.lined) part (record s { text = None })) →
     next ≡ told_at bytes x end text s
-note-end bytes part span end text x y s next is same cut epart reads =
+title-end bytes part span end text x s next is same cut epart reads =
     reads (part-is_text bytes part span end text is cut epart)
-    ∙ ap (λ t. told_leaf y t (record s { text = None })) epart
+    ∙ ap (λ t. title_told (is_titled s.lined) t (record s { text = None })) epart
     ∙ sym (ap (λ t. told_at bytes x end t s) is ∙ ap (λ z. told_at bytes z end (Some span) s) same)
 
 -- a run of markers ends
@@ -286,13 +294,17 @@ part-end bytes part span end text x y s lines shows is same cut epart elines tol
 
 -- a prefix has begun in a text
 pub piece-end : (bytes part : List ℕ) (span : Span) (end : ℕ) (text : Option Span) (s : OutlineState)
-    (lines : List Entry) → text ≡ Some span → IsCutAt bytes text end → part ≡ slice_range bytes span.from end →
-    (IsUtf8 part → lines ≡ s.lines ++ begin_entries s.depth span.is_parted ++ full_entries (s.depth + 1) part) →
+    (lines : List Entry) (is_shown : Bool) → text ≡ Some span → is_shown ≡ is_titled s.lined || span.is_parted →
+    IsCutAt bytes text end → part ≡ slice_range bytes span.from end →
+    (IsUtf8 part → lines ≡ s.lines ++ begin_entries s.depth is_shown ++ full_entries (s.depth + 1) part) →
     record s { text = Some (record span { is_parted = true }); lines = lines } ≡ parted_at bytes end text s
-piece-end bytes part span end text s lines is cut epart elines =
+piece-end bytes part span end text s lines is_shown is begun cut epart elines =
     let with_lines : List Entry →
     OutlineState = λ es. record s { text = Some (record span { is_parted = true }); lines = es } in
-    ap with_lines (part-shown bytes part span end text s lines full_entries is cut epart elines)
+    ap with_lines
+    (part-shown bytes part span end text s lines is_shown full_entries is cut epart elines
+    ∙ ap (λ x. s.lines ++ begin_entries s.depth x ++ full_entries (s.depth + 1) (slice_range bytes span.from end))
+    begun)
     ∙ sym (ap (λ t. parted_at bytes end t s) is)
 
 -- The loop over the events.

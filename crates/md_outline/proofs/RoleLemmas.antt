@@ -1,14 +1,15 @@
 -- What is needed of the blocks that an outline shows, by the kinds of their roles.
 --
 -- What is proved by these names no block.
-use Rattle.std.proofs.Common.{◌≡◌, ℕ, Bool, true, not, List, [], ◌∷◌, refl, sym, subst, false, cond, length}
+use Rattle.std.proofs.Common.{◌≡◌, ℕ, Bool, true, List, [], ◌∷◌, refl, sym, subst, false, cond, length}
 use Rattle.std.specs.Prelude.{Option, Some, None, nat_lt}
 use Rattle.std.proofs.lemmas.Bool.{true≢false}
 use Rattle.md_engine.specs.declared.event.Point.{Point}
 use Rattle.md_definition.specs.declared.outline.Word.{Word}
 use Rattle.md_definition.specs.Outline.{block_entries, entry}
-use Rattle.md_seam.specs.Events.Spelled.{AsDigits, AsItemMarker, AsMarkers, CodeLeaf, Holds, IsEnding, IsPrefix}
-use Rattle.md_seam.specs.Events.Spelled.{IsQuiet, LeafKind, OfCode, OfHtml, OpenLeaf, Opens, OrderedShape, Reading}
+use Rattle.md_seam.specs.Events.Spelled.{AsDigits, AsHeading, AsItemMarker, AsMarkers, CodeLeaf, Holds, IsEnding}
+use Rattle.md_seam.specs.Events.Spelled.{IsPrefix, IsQuiet, LeafKind, OfCode, OfHeadingSetext, OfHtml, OpenLeaf}
+use Rattle.md_seam.specs.Events.Spelled.{Opens, OrderedShape, Reading}
 use Rattle.md_seam.specs.Events.Spelled.{Shape, Tells, Text, UnorderedShape, add_block, at_ending, block_around, fresh}
 use Rattle.md_seam.specs.Events.Spelled.{named, next_line, on_leaf, on_shape, spelled, text_to}
 use Rattle.md_seam.specs.Events.Spelled as spelled
@@ -16,7 +17,7 @@ use Rattle.md_seam.specs.Events.Told.{OfContainer, OfItself, OfLeaf, Told, block
 use Rattle.md_seam.proofs.ToldLemmas.{told-block, told-named, told-noted}
 use Rattle.md_definition.specs.Tree.{Block, End, Line}
 use Rattle.md_outline.specs.Outlined.{begins_line, parts_exit, piece_to}
-use Rattle.md_outline.specs.Roles.{is_known, is_plain, leaf_of, noted, shown_as}
+use Rattle.md_outline.specs.Roles.{is_known, is_plain, leaf_of, noted, shown_as, told_as}
 use Rattle.md_outline.specs.declared.outline.role.Leaf.{Leaf}
 use Rattle.md_outline.specs.declared.outline.role.Note.{Note}
 use Rattle.md_outline.specs.declared.outline.role.Note.TheVariants as note
@@ -62,19 +63,14 @@ pub record IsBlock (x : spelled.Purpose) : Type 0 where
   pub parted : (bytes : List ℕ) (p : Point) (text : Span) →
       parts_exit bytes (Tells x) p text ≡ begins_line text (piece_to bytes p text)
 
--- A text that tells a leaf block something, and is never parted.
-pub record IsNote (x : spelled.Purpose) (y : Note) : Type 0 where
-  pub tree : (line : Line) (r : Reading) → spelled.told x line r ≡ on_leaf (noted y line.text) r
-  pub whole : (bytes : List ℕ) (p : Point) (text : Span) → parts_exit bytes (Tells x) p text ≡ not text.is_parted
-
--- What is known of each role that an outline shows, but of lists and of leaf blocks of several lines.
+-- What is known of each role that an outline shows, but of lists, of leaf blocks of several lines and of the texts of
+-- headings.
 pub record ByRole (P : spelled.Role → Role → Type 0) : Type 0 where
   pub container : (shape : Shape) (w : Word) → IsShownBy shape w → P (Holds shape) (role.Container w)
   pub prefix : P IsPrefix role.Prefix
   pub begins : (kind : LeafKind) (l : Leaf) → IsBegun kind l → P (Opens kind) (role.Leaf l)
   pub block : (x : spelled.Purpose) → IsBlock x → P (Tells x) (role.Text purpose.Block)
-  pub markers : IsNote AsMarkers note.Markers → P (Tells AsMarkers) (role.Text purpose.Markers)
-  pub note : (x : spelled.Purpose) (y : Note) → IsNote x y → P (Tells x) (role.Text (purpose.Note y))
+  pub markers : P (Tells AsMarkers) (role.Text purpose.Markers)
   pub digits : P (Tells AsDigits) (role.Text purpose.Digits)
   pub marker : P (Tells AsItemMarker) (role.Text purpose.Marker)
   pub ending : P IsEnding role.Ending
@@ -88,17 +84,24 @@ by-role P (Holds _) by h = first_of (cc, search (by.container))
 by-role P IsPrefix by h = by.prefix
 by-role P (Opens OfCode) by h = absurd (cc)
 by-role P (Opens OfHtml) by h = absurd (cc)
+by-role P (Opens OfHeadingSetext) by h = absurd (cc)
 by-role P (Opens _) by h = first_of (cc, search (by.begins))
-by-role P (Tells AsMarkers) by h =
-    by.markers (record { tree = λ line r. refl; whole = λ bytes p text. refl })
+by-role P (Tells AsHeading) by h = absurd (cc)
+by-role P (Tells AsMarkers) by h = by.markers
 by-role P (Tells AsDigits) by h = by.digits
 by-role P (Tells AsItemMarker) by h = by.marker
-by-role P (Tells _) by h = first_of (cc, search (by.block), search (by.note))
+by-role P (Tells _) by h = first_of (cc, search (by.block))
 by-role P IsEnding by h = by.ending
 by-role P IsQuiet by h = by.quiet
 by-role P _ by h = absurd (true≢false (sym h))
 
 -- Texts and line endings, of all roles.
+
+-- what a text tells a leaf block is noted there
+pub note-told : (x : Note) (line : Line) (r : Reading) →
+    spelled.told (told_as x) line r ≡ on_leaf (noted x line.text) r
+note-told note.Markers line r = refl
+note-told note.Title line r = refl
 
 -- What is known of a half-read tree when it has one block more, when its innermost container is named, and when its
 -- leaf block is told something: so it is behind each text.

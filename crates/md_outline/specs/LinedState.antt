@@ -1,8 +1,14 @@
 -- What an outline shows of a leaf block of several lines that is open.
-use Rattle.std.specs.Prelude.{ℕ, ◌+◌, ◌-◌, true, List, [], ◌∷◌, length, take, set, get_or}
+use Rattle.std.specs.Prelude.{ℕ, ◌+◌, ◌-◌, Bool, true, false, List, [], ◌∷◌, length, take, set, get_or}
 use Rattle.md_definition.specs.declared.outline.Word.{Word}
 use Rattle.md_definition.specs.declared.outline.Word.TheVariants as word
 use Rattle.md_definition.specs.Outline.{Entry, entry}
+use Rattle.md_seam.specs.Events.Spelled.{underline_depth}
+
+-- the word of a heading
+abbrev pub is_heading : Word → Bool
+is_heading (word.Heading n) = true
+is_heading _ = false
 
 -- it begins: indented code and HTML with their first line, which is empty yet
 abbrev pub first_lines : ℕ → Word → List Entry
@@ -13,9 +19,10 @@ first_lines depth _ = []
 abbrev pub begin_lines : ℕ → Word → List Entry
 begin_lines depth w = entry depth w ∷ first_lines (depth + 1) w
 
--- its first fence has this marker
+-- its first fence, or its underline, has this marker
 abbrev pub marked_word : ℕ → Word → Word
 marked_word b (word.Fence marker closed) = word.Fence b closed
+marked_word b (word.Heading n) = word.Heading (underline_depth b)
 marked_word b w = w
 
 -- a further fence closes it

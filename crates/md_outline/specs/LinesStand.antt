@@ -1,5 +1,6 @@
 -- Leaf blocks of several lines as an outline can show them: each has its parts in the order of the grammar, and one
--- piece of text a line at the most.
+-- piece of text a line at the most. Setext headings are such leaf blocks; what is asked of an ATX heading is that
+-- container prefixes stand in front of its text or behind it.
 --
 -- A walk over the events by their roles, which knows where in such a leaf block it is.
 use Rattle.std.specs.Prelude.{◌≡◌, ◌==◌, ℕ, false, if◌then◌else◌, nat_lt, List, [], ◌∷◌, length, slice_range}
@@ -8,9 +9,9 @@ use Rattle.md_engine.specs.declared.event.Kind.{Kind}
 use Rattle.md_engine.specs.declared.event.Kind.TheVariants.{Enter, Exit}
 use Rattle.md_engine.specs.declared.event.Point.{Point}
 use Rattle.md_definition.specs.Texts.{first_byte}
-use Rattle.md_seam.specs.Events.Spelled.{AsInfo, AsLine, AsMarkers, AsMeta, IsEnding, IsFence, IsPrefix, IsQuiet}
-use Rattle.md_seam.specs.Events.Spelled.{LeafKind, OfCode, OfFence, OfHtml, OfMath, Opens, Purpose, Role, Tells}
-use Rattle.md_seam.specs.Events.Spelled.{byte_at, role}
+use Rattle.md_seam.specs.Events.Spelled.{AsHeading, AsInfo, AsLine, AsMarkers, AsMeta, IsEnding, IsFence, IsPrefix}
+use Rattle.md_seam.specs.Events.Spelled.{IsQuiet, LeafKind, OfCode, OfFence, OfHeadingSetext, OfHtml, OfMath, Opens}
+use Rattle.md_seam.specs.Events.Spelled.{Purpose, Role, Tells, byte_at, role}
 
 -- Where in a leaf block of several lines one is, with its kind.
 pub data Site : Type 0 where
@@ -31,6 +32,15 @@ pub data Site : Type 0 where
   -- in a further fence, or behind it, and in its markers
   AtEnd : LeafKind → Site
   InEnd : LeafKind → Site
+  -- in a setext heading: in front of its text, in it, and behind it
+  AtTitle : Site
+  InTitle : Site
+  BehindTitle : Site
+  -- in the markers of its underline, and behind them
+  InUnderline : Site
+  BehindUnderline : Site
+  -- in the text of an ATX heading
+  InAtxText : Site
 
 -- where a leaf block begins: indented code and HTML with a line
 abbrev pub begun_site : LeafKind → Site
@@ -38,6 +48,7 @@ begun_site OfCode = AtLine OfCode
 begun_site OfFence = AtMarkers OfFence
 begun_site OfMath = AtMarkers OfMath
 begun_site OfHtml = AtLine OfHtml
+begun_site OfHeadingSetext = AtTitle
 begun_site kind = Outside
 
 -- behind a line ending, which opens a line if the text goes on
@@ -51,6 +62,7 @@ text_site kind _ = AtEnding kind
 -- where one is behind an event
 abbrev pub site_by : List ℕ → Site → Kind → Role → Point → Site
 site_by bytes Outside Enter (Opens kind) p = begun_site kind
+site_by bytes Outside Enter (Tells AsHeading) p = InAtxText
 site_by bytes (AtMarkers kind) Enter (Tells AsMarkers) p = InMarkers kind p
 site_by bytes (InMarkers kind q) Exit (Tells AsMarkers) p = AtInfo kind
 site_by bytes (AtInfo kind) Enter (Tells purpose) p = InText kind purpose
@@ -66,6 +78,12 @@ site_by bytes (AtLine kind) Exit (Opens x) p = Outside
 site_by bytes (AtEnd kind) Enter (Tells AsMarkers) p = InEnd kind
 site_by bytes (AtEnd kind) Exit (Opens x) p = Outside
 site_by bytes (InEnd kind) Exit (Tells AsMarkers) p = AtEnd kind
+site_by bytes AtTitle Enter (Tells x) p = InTitle
+site_by bytes InTitle Exit (Tells x) p = BehindTitle
+site_by bytes BehindTitle Enter (Tells x) p = InUnderline
+site_by bytes InUnderline Exit (Tells x) p = BehindUnderline
+site_by bytes BehindUnderline Exit (Opens x) p = Outside
+site_by bytes InAtxText Exit (Tells x) p = Outside
 site_by bytes site kind x p = site
 
 -- which leaf blocks have fences, and which an `info`
@@ -100,6 +118,8 @@ MayStand bytes Outside Exit (Opens OfCode) p = ⊥
 MayStand bytes Outside Exit (Opens OfFence) p = ⊥
 MayStand bytes Outside Exit (Opens OfMath) p = ⊥
 MayStand bytes Outside Exit (Opens OfHtml) p = ⊥
+MayStand bytes Outside Exit (Opens OfHeadingSetext) p = ⊥
+MayStand bytes Outside Exit (Tells AsHeading) p = ⊥
 MayStand bytes Outside kind IsFence p = ⊥
 MayStand bytes Outside kind (Tells AsLine) p = ⊥
 MayStand bytes Outside kind (Tells AsInfo) p = ⊥
@@ -129,6 +149,17 @@ MayStand bytes (AtEnd kind) Enter (Tells AsMarkers) p = Unit {0}
 MayStand bytes (AtEnd kind) Exit IsFence p = Unit {0}
 MayStand bytes (AtEnd kind) Exit (Opens x) p = HasLines x
 MayStand bytes (InEnd kind) Exit (Tells AsMarkers) p = Unit {0}
+MayStand bytes AtTitle Enter (Tells AsHeading) p = Unit {0}
+MayStand bytes InTitle x IsPrefix p = Unit {0}
+MayStand bytes InTitle x IsEnding p = Unit {0}
+MayStand bytes InTitle Exit (Tells AsHeading) p = Unit {0}
+MayStand bytes BehindTitle x IsPrefix p = Unit {0}
+MayStand bytes BehindTitle x IsEnding p = Unit {0}
+MayStand bytes BehindTitle Enter (Tells AsMarkers) p = Unit {0}
+MayStand bytes InUnderline Exit (Tells AsMarkers) p = Unit {0}
+MayStand bytes BehindUnderline Exit (Opens OfHeadingSetext) p = Unit {0}
+MayStand bytes InAtxText x IsEnding p = Unit {0}
+MayStand bytes InAtxText Exit (Tells AsHeading) p = Unit {0}
 MayStand bytes site kind x p = ⊥
 
 -- whether leaf blocks of several lines have their parts so from here on, and end

@@ -1,6 +1,6 @@
 -- What an outline has read between two events.
 use Rattle.std.specs.Prelude.{◌≡◌, ℕ, ◌+◌, ◌-◌, ◌++◌, Bool, true, false, List, [], ◌∷◌, slice_range, Option, Some, None}
-use Rattle.std.specs.Prelude.{get_or, if◌then◌else◌, length, nat_lt, option_map, set}
+use Rattle.std.specs.Prelude.{◌||◌, get_or, if◌then◌else◌, length, nat_lt, option_map, set}
 use Rattle.std.specs.Str.{IsUtf8}
 use Rattle.md_engine.specs.declared.event.Event.{Event}
 use Rattle.md_engine.specs.declared.event.Kind.{Kind}
@@ -12,7 +12,8 @@ use Rattle.md_definition.specs.declared.outline.Word.TheVariants as word
 use Rattle.md_seam.specs.Events.Spelled.{OpenLeaf}
 use Rattle.md_seam.specs.Events.Spelled as spelled
 use Rattle.md_outline.specs.Between.{is_between}
-use Rattle.md_outline.specs.LinedState.{begin_lines, closed_word, filled_line, marked_word, with_head, without_end}
+use Rattle.md_outline.specs.LinedState.{begin_lines, closed_word, filled_line, is_heading, marked_word, with_head}
+use Rattle.md_outline.specs.LinedState.{without_end}
 use Rattle.md_outline.specs.ParagraphState.{begin_entries}
 use Rattle.md_outline.specs.Roles.{leaf_entries, leaf_of, noted, shown_as}
 use Rattle.md_outline.specs.TextLines.{full_entries, text_entries}
@@ -76,7 +77,17 @@ marked_at (Some place) text s = record s { untold = None; lines = with_marker pl
 abbrev pub told_marker : List ℕ → OutlineState → OutlineState
 told_marker text s = marked_at s.untold text s
 
--- a leaf block of several lines is told the markers of its first fence
+-- a heading is open whose lines are shown as they come
+abbrev pub is_titled : Option Lined → Bool
+is_titled None = false
+is_titled (Some lined) = lined.is_heading
+
+-- the text of a heading ends: its last lines are shown, or all of it is told
+abbrev pub title_told : Bool → List ℕ → OutlineState → OutlineState
+title_told true text s = record s { lines = s.lines ++ text_entries (s.depth + 1) text }
+title_told false text s = told_leaf note.Title text s
+
+-- a leaf block of several lines is told the markers of its first fence, or of its underline
 abbrev pub head_marked : Option Lined → List ℕ → OutlineState → OutlineState
 head_marked None text s = s
 head_marked (Some lined) text s = if lined.is_fenced then s else record s {
@@ -90,18 +101,19 @@ fence_begun None s = s
 fence_begun (Some lined) s =
     if lined.is_fenced then record s { lines = with_head closed_word lined.place (without_end s.lines) } else s
 
--- a line ending opens a line of it, if the text goes on behind that, and no text is read
+-- a line ending opens a line of it unless it is a heading, if the text goes on behind that, and no text is read
 abbrev pub line_ended : List ℕ → ℕ → Option Lined → Option Span → OutlineState → OutlineState
 line_ended bytes end None text s = s
 line_ended bytes end (Some lined) (Some text) s = s
 line_ended bytes end (Some lined) None s =
-    if nat_lt end (length bytes) then record s { lines = s.lines ++ entry (s.depth + 1) word.Line ∷ [] } else s
+    if lined.is_heading then s
+    else if nat_lt end (length bytes) then record s { lines = s.lines ++ entry (s.depth + 1) word.Line ∷ [] } else s
 
 -- a text has ended, with this piece
 abbrev pub told : Purpose → Bool → List ℕ → OutlineState → OutlineState
 told purpose.Block is_shown text s =
     record s { lines = s.lines ++ begin_entries s.depth is_shown ++ text_entries (s.depth + 1) text }
-told (purpose.Note x) is_shown text s = told_leaf x text s
+told purpose.Title is_shown text s = title_told (is_titled s.lined) text s
 told purpose.Markers is_shown text s = head_marked s.lined text (told_leaf note.Markers text s)
 told (purpose.Part w) is_shown text s = record s { lines = s.lines ++ entry_with (s.depth + 1) w text ∷ [] }
 told purpose.Line is_shown text s =
@@ -120,7 +132,8 @@ parted_at bytes end None s = s
 parted_at bytes end (Some text) s = record s {
   text = Some (record text { is_parted = true });
   lines =
-      s.lines ++ begin_entries s.depth text.is_parted ++ full_entries (s.depth + 1) (slice_range bytes text.from end);
+      s.lines ++ begin_entries s.depth (is_titled s.lined || text.is_parted)
+      ++ full_entries (s.depth + 1) (slice_range bytes text.from end);
 }
 
 abbrev pub state_enter : List ℕ → Role → Point → OutlineState → OutlineState
@@ -137,7 +150,7 @@ state_enter bytes role.Prefix p s = parted_at bytes p.index s.text s
 state_enter bytes (role.Leaf leaf) p s = record s { leaf = Some (leaf_of leaf) }
 state_enter bytes (role.Lined w) p s = record s {
   leaf = None;
-  lined = Some (record { place = length s.lines; is_fenced = false });
+  lined = Some (record { place = length s.lines; is_fenced = false; is_heading = is_heading w });
   lines = s.lines ++ begin_lines s.depth w;
 }
 state_enter bytes role.Fence p s = fence_begun s.lined s

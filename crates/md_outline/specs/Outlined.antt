@@ -19,7 +19,7 @@ use Rattle.md_outline.specs.Between.{is_between}
 use Rattle.md_outline.specs.HeadingDepths.{are_shallow}
 use Rattle.md_outline.specs.ListsBegin.{AllTold, ListsBegin}
 use Rattle.md_outline.specs.LinesStand.{LinesStand, Outside}
-use Rattle.md_outline.specs.Roles.{has_lines, is_block, is_shown, is_told, is_unlisted}
+use Rattle.md_outline.specs.Roles.{has_lines, is_shown, is_told, is_unlisted, may_part}
 use Rattle.md_outline.specs.declared.outline.Span.{Span}
 
 -- whether an event is of such a block, or of what the tree does not show
@@ -71,8 +71,9 @@ is_unparted None = true
 is_unparted (Some text) = not text.is_parted
 
 -- whether an event may stand in a text: a prefix begins where a line does, with nothing but spaces and tabs in front of
--- it, and ends between characters; no text is parted but one that is a block, and from its first prefix to its end
--- nothing else begins or ends that the tree shows; and no leaf block of several lines begins in a text
+-- it, and ends between characters; no text is parted but one that is a block or the text of a heading, and from its
+-- first prefix to its end nothing else begins or ends that the tree shows; and no leaf block of several lines begins in
+-- a text
 abbrev pub parts_enter : List ℕ → Role → Point → Span → Bool
 parts_enter bytes IsPrefix p text =
     begins_line text (piece_to bytes p text) && is_blank (last_line (split_lines (piece_to bytes p text)))
@@ -83,7 +84,7 @@ parts_enter bytes _ p text = not text.is_parted
 
 abbrev pub parts_exit : List ℕ → Role → Point → Span → Bool
 parts_exit bytes IsPrefix p text = is_between bytes (byte_at p)
-parts_exit bytes (Tells x) p text = if is_block x then begins_line text (piece_to bytes p text) else not text.is_parted
+parts_exit bytes (Tells x) p text = if may_part x then begins_line text (piece_to bytes p text) else not text.is_parted
 parts_exit bytes IsEnding p text = true
 parts_exit bytes IsQuiet p text = true
 parts_exit bytes _ p text = not text.is_parted

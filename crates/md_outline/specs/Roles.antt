@@ -9,7 +9,8 @@
 -- - A leaf block: the same, and what is known of it: `leaf_of` and `is_known` here, `Leaf` with `noted` and `push_leaf`
 --   in code.
 -- - A leaf block of several lines (`has_lines`): `is_unlisted` and `shown_as` here, `role_of` in code; its lines are
---   shown as they come (`LinedState`), where they may (`LinesStand`), and `LinedLemmas` has what is proved of it.
+--   shown as they come (`LinedState`), where they may (`LinesStand`), and `LinedLemmas` has what is proved of it. A
+--   setext heading is one, whose lines are those of its text, shown as those of a paragraph (`TitledLemmas`).
 -- - A text that tells a leaf block something: the same, and `told_as` here, `Note` in code.
 use Rattle.std.specs.Prelude.{ℕ, Bool, true, false, List, None}
 use Rattle.md_definition.specs.declared.outline.Word.TheVariants as word
@@ -17,8 +18,8 @@ use Rattle.md_definition.specs.Outline.{Entry, block_entries}
 use Rattle.md_seam.specs.Events.Spelled.{AsDigits, AsHeading, AsInfo, AsItemMarker, AsLine, AsMarkers, AsMeta}
 use Rattle.md_seam.specs.Events.Spelled.{AsParagraph, BreakLeaf, IsFence, LeafKind, OfCode, OfFence, OfHtml, OfMath}
 use Rattle.md_seam.specs.Events.Spelled.{HeadingAtxLeaf, Holds, IsEnding, IsPrefix, IsQuiet, ItemShape, OfBreak}
-use Rattle.md_seam.specs.Events.Spelled.{OfHeadingAtx, OpenLeaf, Opens, OrderedShape, QuoteShape, Tells}
-use Rattle.md_seam.specs.Events.Spelled.{UnorderedShape, block_of}
+use Rattle.md_seam.specs.Events.Spelled.{OfHeadingAtx, OfHeadingSetext, OpenLeaf, Opens, OrderedShape, QuoteShape}
+use Rattle.md_seam.specs.Events.Spelled.{Tells, UnorderedShape, block_of}
 use Rattle.md_seam.specs.Events.Spelled as spelled
 use Rattle.md_seam.specs.Events.Told.{OfItself, told_of}
 pub use Rattle.md_seam.specs.Events.Told.{is_told}
@@ -32,7 +33,8 @@ use Rattle.md_outline.specs.declared.outline.role.Purpose.TheVariants as purpose
 use Rattle.md_outline.specs.declared.outline.role.Role.{Role}
 use Rattle.md_outline.specs.declared.outline.role.Role.TheVariants as role
 
--- the roles of breaks, headings, paragraphs, block quotes and items, and of what the tree does not show
+-- the roles of breaks, ATX headings without their texts, paragraphs, block quotes and items, and of what the tree does
+-- not show
 abbrev pub is_plain : spelled.Role → Bool
 is_plain (Holds QuoteShape) = true
 is_plain (Holds (ItemShape marker digits)) = true
@@ -40,7 +42,6 @@ is_plain IsPrefix = true
 is_plain (Opens OfBreak) = true
 is_plain (Opens OfHeadingAtx) = true
 is_plain (Tells AsParagraph) = true
-is_plain (Tells AsHeading) = true
 is_plain (Tells AsMarkers) = true
 is_plain (Tells AsDigits) = true
 is_plain (Tells AsItemMarker) = true
@@ -60,15 +61,19 @@ has_lines OfCode = true
 has_lines OfFence = true
 has_lines OfMath = true
 has_lines OfHtml = true
+has_lines OfHeadingSetext = true
 has_lines _ = false
 
--- the plain ones, and those of such leaf blocks and their parts: all that are shown, but those of lists
+-- the plain ones, and those of such leaf blocks, their parts and the texts of headings: all that are shown, but those
+-- of lists
 abbrev pub is_unlisted : spelled.Role → Bool
 is_unlisted (Opens OfCode) = true
 is_unlisted (Opens OfFence) = true
 is_unlisted (Opens OfMath) = true
 is_unlisted (Opens OfHtml) = true
+is_unlisted (Opens OfHeadingSetext) = true
 is_unlisted IsFence = true
+is_unlisted (Tells AsHeading) = true
 is_unlisted (Tells AsLine) = true
 is_unlisted (Tells AsInfo) = true
 is_unlisted (Tells AsMeta) = true
@@ -84,6 +89,11 @@ is_shown x = is_unlisted x
 abbrev pub is_block : spelled.Purpose → Bool
 is_block purpose = elim (told_of purpose) [ OfItself ↦ true | _ ↦ false ]
 
+-- the texts that prefixes may part: these, and those of headings
+abbrev pub may_part : spelled.Purpose → Bool
+may_part AsHeading = true
+may_part purpose = is_block purpose
+
 -- what the events of a name mean to an outline
 abbrev pub shown_as : spelled.Role → Role
 shown_as (Holds QuoteShape) = role.Container word.Quote
@@ -95,13 +105,14 @@ shown_as (Opens OfBreak) = role.Leaf leaf.Break
 shown_as (Opens OfHeadingAtx) = role.Leaf (leaf.Heading (record { markers = None; text = None }))
 shown_as (Tells AsParagraph) = role.Text purpose.Block
 shown_as (Tells AsMarkers) = role.Text purpose.Markers
-shown_as (Tells AsHeading) = role.Text (purpose.Note note.Title)
+shown_as (Tells AsHeading) = role.Text purpose.Title
 shown_as (Tells AsDigits) = role.Text purpose.Digits
 shown_as (Tells AsItemMarker) = role.Text purpose.Marker
 shown_as (Opens OfCode) = role.Lined word.Code
 shown_as (Opens OfFence) = role.Lined (word.Fence 0 false)
 shown_as (Opens OfMath) = role.Lined (word.Math false)
 shown_as (Opens OfHtml) = role.Lined word.Html
+shown_as (Opens OfHeadingSetext) = role.Lined (word.Heading 0)
 shown_as IsFence = role.Fence
 shown_as (Tells AsInfo) = role.Text (purpose.Part word.Info)
 shown_as (Tells AsMeta) = role.Text (purpose.Part word.Meta)

@@ -1,11 +1,11 @@
 // The outline of a text: its blocks and their lines, from the first to the last.
 
-ghost use Rattle.std.specs.Prelude.{◌≡◌, true, Option, option_map, IfOk, OnOk};
+ghost use Rattle.std.specs.Prelude.{◌≡◌, ◌||◌, true, Option, option_map, IfOk, OnOk};
 ghost use Rattle.std.specs.Str.{IsUtf8};
 ghost use Rattle.md_seam.specs.Events.Spelled as spelled;
 ghost use Rattle.md_outline.specs.Outlined.{Outlines};
 ghost use Rattle.md_outline.specs.OutlineSteps.{IsCutAt, fence_begun, head_marked, leaf_ended, line_ended, parted_at};
-ghost use Rattle.md_outline.specs.OutlineSteps.{state_by, state_enter, state_exit};
+ghost use Rattle.md_outline.specs.OutlineSteps.{is_titled, state_by, state_enter, state_exit, title_told};
 ghost use Rattle.md_outline.specs.OutlineSteps.{state_of, told_at, told_leaf, told_marker};
 ghost use Rattle.md_outline.specs.Roles.{shown_as};
 ghost use Rattle.md_outline.specs.declared.outline.Span.{Span};
@@ -17,9 +17,10 @@ mod paragraph;
 mod role;
 
 use crate::outline::lined::{
-    Lined, close_head, fill_line, mark_head, push_begun, push_line, push_part, spaces_at,
+    Lined, close_head, fill_line, is_heading, mark_head, push_begun, push_line, push_part,
+    spaces_at,
 };
-use crate::outline::lines::{first_of, next, part, push};
+use crate::outline::lines::{first_of, next, part, push, push_lines};
 use crate::outline::paragraph::{push_block, push_piece};
 use crate::outline::role::{Leaf, Note, Purpose, Role, push_leaf, role_of};
 pub use md_definition::outline::{OutlineLine, Word};
@@ -90,22 +91,53 @@ impl<'a> Reading<'a> {
         }
     }
 
-    /// Tells a leaf block of several lines the markers of its first fence.
+    /// Whether a heading is open whose lines are shown as they come.
+    fn is_titled(&self) -> bool
+        ensures { result ≡ is_titled self.now.lined }
+    {
+        match self.lined {
+            Some(lined) => lined.is_heading,
+            None => false,
+        }
+    }
+
+    /// Whether the begin of its block is shown in front of a text.
+    fn is_begun(&self, span: Span) -> bool
+        ensures { result ≡ is_titled self.now.lined || span.is_parted }
+    {
+        self.is_titled() || span.is_parted
+    }
+
+    /// Reads the text of a heading: its last lines, or all of it.
+    fn title(&mut self, text: &'a [u8]) -> Result<(), Message>
+        ensures bytes { self.new.bytes ≡ self.old.bytes }
+        ensures read { OnOk result (IsUtf8 text.now →
+            state_of self.new ≡ title_told (is_titled (state_of self.old).lined) text.now (state_of self.old)) }
+    {
+        if self.is_titled() {
+            push_lines(&mut self.lines, next(self.depth)?, text)
+        } else {
+            self.note(Note::Title, text);
+            Ok(())
+        }
+    }
+
+    /// Tells a leaf block of several lines the markers of its first fence, or of its underline.
     fn mark_lined(&mut self, text: &[u8])
         ensures bytes { self.new.bytes ≡ self.old.bytes }
         ensures read { state_of self.new ≡ head_marked (state_of self.old).lined text.now (state_of self.old) }
     {
-        let Some(Lined { place, is_fenced }) = self.lined else {
+        let Some(lined) = self.lined else {
             return;
         };
-        if is_fenced {
+        if lined.is_fenced {
             return;
         }
         self.lined = Some(Lined {
-            place,
             is_fenced: true,
+            ..lined
         });
-        mark_head(&mut self.lines, place, first_of(text));
+        mark_head(&mut self.lines, lined.place, first_of(text));
     }
 
     /// Reads the begin of a fence, which may close a leaf block.
@@ -113,11 +145,11 @@ impl<'a> Reading<'a> {
         ensures bytes { self.new.bytes ≡ self.old.bytes }
         ensures read { state_of self.new ≡ fence_begun (state_of self.old).lined (state_of self.old) }
     {
-        let Some(Lined { place, is_fenced }) = self.lined else {
+        let Some(lined) = self.lined else {
             return;
         };
-        if is_fenced {
-            close_head(&mut self.lines, place);
+        if lined.is_fenced {
+            close_head(&mut self.lines, lined.place);
         }
     }
 
@@ -128,7 +160,9 @@ impl<'a> Reading<'a> {
             line_ended self.old.bytes.now end (state_of self.old).lined self.old.text (state_of self.old)) }
     {
         match (self.lined, self.text) {
-            (Some(_), None) if end < self.bytes.len() => push_line(&mut self.lines, self.depth),
+            (Some(lined), None) if !lined.is_heading && end < self.bytes.len() => {
+                push_line(&mut self.lines, self.depth)
+            }
             _ => Ok(()),
         }
     }
@@ -158,10 +192,7 @@ impl<'a> Reading<'a> {
         let text = part(self.bytes, span.from, end);
         match purpose {
             Purpose::Block => push_block(&mut self.lines, self.depth, span.is_parted, text),
-            Purpose::Note(note) => {
-                self.note(note, text);
-                Ok(())
-            }
+            Purpose::Title => self.title(text),
             Purpose::Markers => {
                 self.note(Note::Markers, text);
                 self.mark_lined(text);
@@ -191,7 +222,8 @@ impl<'a> Reading<'a> {
             from: span.from,
             is_parted: true,
         });
-        push_piece(&mut self.lines, self.depth, span.is_parted, text)
+        let is_shown = self.is_begun(span);
+        push_piece(&mut self.lines, self.depth, is_shown, text)
     }
 
     /// Reads on behind a prefix.
@@ -231,6 +263,7 @@ impl<'a> Reading<'a> {
                 self.lined = Some(Lined {
                     place: self.lines.len(),
                     is_fenced: false,
+                    is_heading: is_heading(word),
                 });
                 push_begun(&mut self.lines, self.depth, word)?;
             }

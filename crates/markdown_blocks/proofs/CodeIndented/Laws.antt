@@ -2,14 +2,14 @@
 use Rattle.std.proofs.Common.{◌≡◌, true, refl}
 use Rattle.md_engine.specs.declared.tokenizer.held_leaf.HeldLeaf.{HeldLeaf}
 use Rattle.md_engine.specs.declared.tokenizer.held_leaf.HeldLeaf.TheVariants as held_leaf
-use Rattle.markdown_blocks.specs.HeldLeaf.{has_lines}
+use Rattle.markdown_blocks.specs.HeldLeaf.{may_go_on}
 use Rattle.markdown_blocks.specs.Fronted.{rest_line}
 use Rattle.markdown_blocks.specs.Leaf.CodeIndented.{code_further, code_leaf, is_code}
 use Rattle.markdown_blocks.proofs.CodeIndented.Cells.{code-adds, code-fits, code_further-adds, code_further-fits}
 use Rattle.markdown_blocks.proofs.CodeIndented.Look.{code-looked, code_further-looked}
-use Rattle.markdown_blocks.proofs.CodeIndented.Outside.{code-no_content, code-outside, code-own}
+use Rattle.markdown_blocks.proofs.CodeIndented.Outside.{code-no_content, code-outside, code-own, code-unturned}
 use Rattle.markdown_blocks.proofs.CodeIndented.Outside.{code_further-no_content, code_further-outside}
-use Rattle.markdown_blocks.proofs.CodeIndented.Outside.{code_further-own}
+use Rattle.markdown_blocks.proofs.CodeIndented.Outside.{code_further-own, code_further-unturned}
 use Rattle.markdown_blocks.proofs.CodeIndented.Trial.{code-refused, code-shrinks, code-took}
 use Rattle.markdown_blocks.proofs.CodeIndented.Trial.{code_further-refused, code_further-shrinks, code_further-took}
 use Rattle.markdown_blocks.proofs.LeafLaws.{LeafLaws}
@@ -32,14 +32,16 @@ code-laws = record {
   no_content = λ wants only. code-no_content wants;
   own = λ options on cells p none. code-own options on cells p;
   outside = λ stays options on r p starts. code-outside options on (rest_line r) p;
+  unturned_line = λ stays options on r p starts lines. code-unturned options on (rest_line r) p;
+  unturned = λ ends options on r p starts. absurd (cc);
   set = λ ends options on r p es starts. cc;
   unspanned = λ ends options on r p starts. absurd (cc);
   facts = λ ends options on bytes r p q starts is. absurd (cc);
   becomes = λ ends options on bytes r p q starts is wants reads w rt. absurd (cc);
 }
 
--- open code is a leaf of several lines
-code-lines : (on : HeldLeaf) → is_code on ≡ true → has_lines on ≡ true
+-- a line may go on open code
+code-lines : (on : HeldLeaf) → is_code on ≡ true → may_go_on on ≡ true
 code-lines held_leaf.Code e = refl
 code-lines _ e = cc
 
@@ -61,6 +63,8 @@ code_further-laws = record {
   no_content = λ wants only. code_further-no_content wants only.flow;
   own = λ options on cells p none. code_further-own options on cells p;
   outside = λ stays options on r p starts. code_further-outside options on (rest_line r) p;
+  unturned_line = λ stays options on r p starts lines. code_further-unturned options on (rest_line r) p;
+  unturned = λ ends options on r p starts. absurd (cc);
   set = λ ends options on r p es starts. cc;
   unspanned = λ ends options on r p starts. absurd (cc);
   facts = λ ends options on bytes r p q starts is. absurd (cc);

@@ -23,8 +23,11 @@ use Rattle.markdown_blocks.specs.Leaf.CodeIndented.{code_further, code_leaf, cod
 use Rattle.markdown_blocks.specs.LineColumns.{rest_of}
 use Rattle.markdown_blocks.proofs.CodeIndented.Parts.{code-inside}
 use Rattle.markdown_blocks.proofs.ContentFacts.{NoContent}
+use Rattle.markdown_blocks.proofs.EachEvent.{each-append}
 use Rattle.markdown_blocks.proofs.LostLine.Names.{AreInside, More, either-part, inside-no_content, inside-outside}
+use Rattle.markdown_blocks.proofs.LostLine.Names.{inside-unturned}
 use Rattle.markdown_blocks.proofs.OutsideFacts.{AreOutside, IsOutside, outside-append}
+use Rattle.markdown_blocks.proofs.UnturnedFacts.{AreUnturned, IsUnturned}
 
 -- On a blank line whitespace stands, and a part of a leaf.
 blank-inside : (cells : List Cell) (p : Point) → AreInside (blank_adds cells p)
@@ -79,6 +82,28 @@ code_further-outside options on line p =
     let begin : Event = enter_link n.CodeIndented p further_link in
     either AreOutside (is_blank r.bytes) (code_parts r p q) (line_parts begin r p q) (parts-outside r p q)
     (line-outside begin r p q refl)
+
+-- No part of it is a text or an underline.
+
+line-unturned : (begin : Event) (r : Rest) (p q : Point) → IsUnturned begin → AreUnturned (line_parts begin r p q)
+line-unturned begin r p q is = (
+  is,
+  each-append IsUnturned (code_parts r p q) (exit n.CodeIndented q ∷ [])
+      (inside-unturned (code_parts r p q) (code-inside r p q)) (refl, tt),
+)
+
+pub code-unturned : (options : ParseOptions) (on : HeldLeaf) (line : List ℕ) (p : Point) →
+    AreUnturned (code_leaf.added options on line p)
+code-unturned options on line p = line-unturned (enter n.CodeIndented p) (rest_of p line) p (past_text line p) refl
+
+pub code_further-unturned : (options : ParseOptions) (on : HeldLeaf) (line : List ℕ) (p : Point) →
+    AreUnturned (code_further.added options on line p)
+code_further-unturned options on line p =
+    let r : Rest = rest_of p line in
+    let q : Point = past_text line p in
+    let begin : Event = enter_link n.CodeIndented p further_link in
+    either AreUnturned (is_blank r.bytes) (code_parts r p q) (line_parts begin r p q)
+    (inside-unturned (code_parts r p q) (code-inside r p q)) (line-unturned begin r p q refl)
 
 -- No content stands in it, and its link is to none that is read later.
 

@@ -3,23 +3,21 @@
 -- A blank line stands bare, as it may stand behind the code. Between two lines of code it is one of them, so it is taken
 -- for a further line: with a begin and an end, which go when the lines are joined. Behind the last line of code it is
 -- whitespace.
-use Rattle.std.proofs.Common.{◌≡◌, ℕ, zero, suc, ◌<◌, ◌≤◌, Bool, true, false, cond, ◌||◌, not, List, [], ◌∷◌}
+use Rattle.std.proofs.Common.{◌≡◌, ℕ, ◌<◌, Bool, true, false, cond, ◌||◌, not, List, [], ◌∷◌}
 use Rattle.std.proofs.Common.{◌++◌, length, drop, map, refl, sym, ◌∙◌, ap, subst₂, subst, arith}
-use Rattle.std.specs.Prelude.{◌==◌, ◌&&◌, nat_lt, None, Some}
+use Rattle.std.specs.Prelude.{◌==◌, ◌&&◌, None, Some}
 use Rattle.std.proofs.lemmas.Bool.Decides.{nat_tests}
-use Rattle.std.proofs.lemmas.List.{drop_all}
 use Rattle.md_engine.specs.declared.configuration.ParseOptions.{ParseOptions}
 use Rattle.md_engine.specs.declared.event.Event.{Event}
 use Rattle.md_engine.specs.declared.event.Name.TheVariants as n
 use Rattle.md_engine.specs.declared.event.Point.{Point}
 use Rattle.md_definition.specs.Leaves.{code_line}
-use Rattle.md_definition.specs.Rest.{Rest, cut_tab, is_blank}
+use Rattle.md_definition.specs.Rest.{Rest, is_blank}
 use Rattle.md_definition.specs.Tree.{Line}
 use Rattle.md_leaves.specs.Spanned.{renamed}
 use Rattle.md_leaves.specs.declared.spans.Place.TheVariants.{Outside}
 use Rattle.md_leaves.specs.Further.{further_link}
 use Rattle.md_seam.specs.Events.Nested.{enter_link, exit}
-use Rattle.markdown_blocks.specs.Fronted.{rest_line}
 use Rattle.markdown_blocks.specs.Leaf.CodeIndented.{code_further, code_parts, further_parts, line_parts}
 use Rattle.markdown_blocks.specs.Rows.{Row, is_blank_row, is_empty_row, is_framed, last_row}
 use Rattle.markdown_blocks.proofs.CodeIndented.Blank.{behind-facts, blank-placed, blank_behind}
@@ -27,8 +25,8 @@ use Rattle.markdown_blocks.proofs.CodeIndented.Parts.{code-inside, further-is}
 use Rattle.markdown_blocks.proofs.Span.Rest.{row_unread}
 use Rattle.markdown_blocks.proofs.FrontFacts.{LinePrefix}
 use Rattle.markdown_blocks.proofs.FrontPlaces.{fronts-grow}
-use Rattle.markdown_blocks.proofs.LeafFacts.{LeafFacts, LineAt}
-use Rattle.markdown_blocks.proofs.LineTexts.{line-stands}
+use Rattle.markdown_blocks.proofs.LeafFacts.{LeafFacts}
+use Rattle.markdown_blocks.proofs.LineTexts.{some-text, text-behind}
 use Rattle.markdown_blocks.proofs.LostLine.Names.{lost-inside}
 use Rattle.markdown_blocks.proofs.LostLine.Parts.{inside-lines, inside-unlinked}
 use Rattle.markdown_blocks.proofs.LostLine.Places.{FurtherAt, further-at, further-rest}
@@ -113,30 +111,6 @@ lines_behind bytes r row (next ∷ rows) are =
     code_line are.4.rest ∷ lines_behind bytes are.4.rest next rows are.5
 
 -- The text goes on with them: behind a line with text stands no end of it, nor in front of one.
-some-text : (r : Rest) → is_blank r.bytes ≡ false → 0 < length (rest_line r)
-some-text r dark = go r.spaces r.bytes dark
-  where
-    go : (spaces : ℕ) (bytes : List ℕ) → is_blank bytes ≡ false → 0 < length (cut_tab spaces ++ bytes)
-    go zero [] h = cc
-    go zero (b ∷ bs) h = omega arith
-    go (suc k) bytes h = omega arith
-
-text-behind : (bytes : List ℕ) (r : Rest) (p q : Point) → LineAt bytes r (rest_line r) p q →
-    0 < length (rest_line r) → p.index < length bytes
-text-behind bytes r p q at some = go (nat_lt p.index (length bytes)) refl
-  where
-    over : (line left : List ℕ) → 0 < length line → line ++ left ≡ [] → ⊥
-    over [] left some e = absurd (omega (arith, some))
-    over (b ∷ line) left some e = cc
-
-    go : (x : Bool) → nat_lt p.index (length bytes) ≡ x → p.index < length bytes
-    go true e = grind (arith, nat_tests)
-    go false e =
-        let le : length bytes ≤ p.index = grind (arith, nat_tests) in
-        absurd
-        (over (rest_line r) (drop q.index bytes) some
-        (sym (line-stands bytes r (rest_line r) p q at) ∙ drop_all p.index bytes le))
-
 pub goes-on : (bytes : List ℕ) (r : Rest) (row : Row) (rows : List Row) → FurtherAt bytes r row.first row.end →
     AreInCode bytes r row rows → row.first.index < length bytes
 goes-on bytes r row [] is dark = text-behind bytes r row.first row.end is.at (some-text r dark)

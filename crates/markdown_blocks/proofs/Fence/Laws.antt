@@ -4,7 +4,7 @@ use Rattle.markdown_blocks.specs.Fronted.{rest_line}
 use Rattle.markdown_blocks.specs.Leaf.Fence.{fence_keeps, fence_leaf}
 use Rattle.markdown_blocks.proofs.Fence.Adds.{fence-adds}
 use Rattle.markdown_blocks.proofs.Fence.Cells.{fence-fits, fence-keeps}
-use Rattle.markdown_blocks.proofs.Fence.Outside.{fence-lazy, fence-no_content, fence-outside, fence-own}
+use Rattle.markdown_blocks.proofs.Fence.Outside.{fence-lazy, fence-no_content, fence-outside, fence-own, fence-unturned}
 use Rattle.markdown_blocks.proofs.Fence.Trial.{fence-looked, fence-took, trial-refused, trial-shrinks}
 use Rattle.markdown_blocks.proofs.LeafLaws.{LeafLaws}
 
@@ -27,6 +27,8 @@ fence-laws = record {
       fence-no_content wants only.string options (fence_keeps options cells p) cells p;
   own = λ options on cells p none. fence-own options (fence_keeps options cells p) cells p;
   outside = λ open_leaf options on r p starts. fence-outside (rest_line r) p;
+  unturned_line = λ open_leaf options on r p starts lines. fence-unturned (rest_line r) p;
+  unturned = λ ends options on r p starts. absurd (cc);
   set = λ ends options on r p es starts. cc;
   unspanned = λ ends options on r p starts. absurd (cc);
   facts = λ ends options on bytes r p q starts at. absurd (cc);

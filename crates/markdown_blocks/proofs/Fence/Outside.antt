@@ -12,6 +12,7 @@ use Rattle.md_engine.specs.declared.tokenizer.held_leaf.HeldLeaf.{HeldLeaf}
 use Rattle.md_engine.specs.declared.tokenizer.held_leaf.HeldLeaf.TheVariants as held_leaf
 use Rattle.md_engine.specs.Meaning.{Cell}
 use Rattle.md_content.specs.Joined.{is_content}
+use Rattle.md_leaves.specs.Turned.{is_paragraph, is_underline}
 use Rattle.md_lines.specs.FenceLine.{fence_adds, fence_opened, is_opening, marker_at}
 use Rattle.md_lines.specs.FenceRule.{run_size}
 use Rattle.md_lines.specs.Fence.{is_on}
@@ -25,6 +26,7 @@ use Rattle.markdown_blocks.proofs.ContentFacts.{NoContent}
 use Rattle.markdown_blocks.proofs.EachEvent.{Each}
 use Rattle.markdown_blocks.proofs.Fence.Each.{adds-each, is_block_name, is_fence_name, line-each}
 use Rattle.markdown_blocks.proofs.OutsideFacts.{AreOutside, IsOutside}
+use Rattle.markdown_blocks.proofs.UnturnedFacts.{AreUnturned, IsUnturned}
 
 -- Its names.
 
@@ -56,6 +58,25 @@ pub fence-outside : (line : List ℕ) (p : Point) → AreOutside (fence_line lin
 fence-outside line p =
     line-each IsOutside (λ name is q. (name-own name is, refl)) (λ name is q. (block-own name is, refl)) linked
     (λ p q. (refl, (refl, tt))) line p
+
+-- No part of it is a text or an underline.
+
+name-unturned : (name : Name) → is_fence_name name ≡ true →
+    cond (is_paragraph name) false (cond (is_underline name) false true) ≡ true
+name-unturned n.Paragraph e = cc
+name-unturned n.HeadingSetextUnderline e = cc
+name-unturned _ e = refl
+
+block-unturned : (name : Name) → is_block_name name ≡ true →
+    cond (is_paragraph name) false (cond (is_underline name) false true) ≡ true
+block-unturned n.Paragraph e = cc
+block-unturned n.HeadingSetextUnderline e = cc
+block-unturned _ e = refl
+
+pub fence-unturned : (line : List ℕ) (p : Point) → AreUnturned (fence_line linked line p)
+fence-unturned line p =
+    line-each IsUnturned (λ name is q. (name-unturned name is, name-unturned name is))
+    (λ name is q. (block-unturned name is, block-unturned name is)) linked (λ p q. (refl, (refl, tt))) line p
 
 -- No content stands in it.
 

@@ -3,17 +3,18 @@ use Rattle.std.proofs.Common.{◌≡◌, true, refl}
 use Rattle.md_engine.specs.declared.tokenizer.held_leaf.HeldLeaf.{HeldLeaf}
 use Rattle.md_engine.specs.declared.tokenizer.held_leaf.HeldLeaf.TheVariants as held_leaf
 use Rattle.markdown_blocks.specs.Fronted.{rest_line}
-use Rattle.markdown_blocks.specs.HeldLeaf.{has_lines}
+use Rattle.markdown_blocks.specs.HeldLeaf.{may_go_on}
 use Rattle.markdown_blocks.specs.Leaf.FenceFurther.{fence_further, is_fence}
 use Rattle.markdown_blocks.proofs.FenceFurther.Cells.{further-adds, further-fits, further-keeps}
 use Rattle.markdown_blocks.proofs.FenceFurther.Definition.{further-held}
 use Rattle.markdown_blocks.proofs.FenceFurther.Names.{further-no_content, further-outside, further-own}
+use Rattle.markdown_blocks.proofs.FenceFurther.Names.{further-unturned}
 use Rattle.markdown_blocks.proofs.FenceFurther.Trial.{further-looked, further-not_lazy, further-refused}
 use Rattle.markdown_blocks.proofs.FenceFurther.Trial.{further-shrinks, further-shut, further-took}
 use Rattle.markdown_blocks.proofs.LeafLaws.{LeafLaws}
 
--- a block with a fence is a leaf of several lines
-fence-lines : (on : HeldLeaf) → is_fence on ≡ true → has_lines on ≡ true
+-- a line may go on a block with a fence
+fence-lines : (on : HeldLeaf) → is_fence on ≡ true → may_go_on on ≡ true
 fence-lines held_leaf.None e = absurd (cc)
 fence-lines held_leaf.Text e = absurd (cc)
 fence-lines held_leaf.LazyText e = absurd (cc)
@@ -39,6 +40,8 @@ fence_further-laws = record {
   no_content = λ wants only. further-no_content wants only.flow;
   own = further-own;
   outside = λ open_leaf options on r p starts. further-outside options on (rest_line r) p;
+  unturned_line = λ open_leaf options on r p starts lines. further-unturned options on (rest_line r) p;
+  unturned = λ ends options on r p starts. absurd (cc);
   set = λ ends options on r p es starts. cc;
   unspanned = λ ends options on r p starts. absurd (cc);
   facts = λ ends options on bytes r p q starts at. absurd (cc);

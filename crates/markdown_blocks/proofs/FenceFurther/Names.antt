@@ -14,6 +14,7 @@ use Rattle.md_engine.specs.Meaning.{Cell}
 use Rattle.md_content.specs.Joined.{is_content}
 use Rattle.md_definition.specs.Leaves.{closes}
 use Rattle.md_definition.specs.Rest.{Rest, indent, run_len, trim_start}
+use Rattle.md_leaves.specs.Turned.{is_paragraph, is_underline}
 use Rattle.md_lines.specs.Fence.{block_name, chunk_name, fence_name, held_indent, held_marker, sequence_name}
 use Rattle.md_lines.specs.FenceLine.{chunk_events, closes_here, closing_end, closing_events, further_inside, spaces}
 use Rattle.md_lines.specs.FenceRule.{is_end, is_line, run_end, run_rest}
@@ -27,9 +28,11 @@ use Rattle.markdown_blocks.specs.Leaf.FenceFurther.{rest_of}
 use Rattle.markdown_blocks.specs.Registry.{is_own}
 use Rattle.markdown_blocks.proofs.ContentFacts.{NoContent}
 pub use Rattle.markdown_blocks.proofs.LostLine.Names.{inside-name, is_inside}
-use Rattle.markdown_blocks.proofs.LostLine.Names.{AreInside, More, either-part, inside-outside, lost-each}
-use Rattle.markdown_blocks.proofs.LostLine.Names.{more-no_content, more-outside, over-each}
+use Rattle.markdown_blocks.proofs.EachEvent.{each-append}
+use Rattle.markdown_blocks.proofs.LostLine.Names.{AreInside, More, either-part, inside-outside, inside-unturned}
+use Rattle.markdown_blocks.proofs.LostLine.Names.{lost-each, more-no_content, more-outside, over-each}
 use Rattle.markdown_blocks.proofs.OutsideFacts.{AreOutside, NoEnds, outside-append}
+use Rattle.markdown_blocks.proofs.UnturnedFacts.{AreUnturned, IsUnturned}
 
 pub either-name : (P : Name → Type 0) (x : Bool) (a b : Name) → P a → P b → P (cond x a b)
 either-name P true a b h k = h
@@ -155,6 +158,23 @@ further-outside options on line p =
       block-own (held_marker on),
       outside-append parts (exit (block_name (held_marker on)) q ∷ [])
           (inside-outside parts (parts-inside options on (rest_of p line) p q)) (refl, tt),
+    )
+
+-- No part of it is a text or an underline.
+
+block-unturned : (m : ℕ) →
+    cond (is_paragraph (block_name m)) false (cond (is_underline (block_name m)) false true) ≡ true
+block-unturned m =
+    either-name (λ a. cond (is_paragraph a) false (cond (is_underline a) false true) ≡ true) (m == 36) _ _ refl refl
+
+pub further-unturned : (options : ParseOptions) (on : HeldLeaf) (line : List ℕ) (p : Point) →
+    AreUnturned (fence_further.added options on line p)
+further-unturned options on line p =
+    let q : Point = past_text line p in
+    let parts : List Event = further_parts options on (rest_of p line) p q in (
+      block-unturned (held_marker on),
+      each-append IsUnturned parts (exit (block_name (held_marker on)) q ∷ [])
+          (inside-unturned parts (parts-inside options on (rest_of p line) p q)) (block-unturned (held_marker on), tt),
     )
 
 -- It holds no content, and its link is to none that is read later.

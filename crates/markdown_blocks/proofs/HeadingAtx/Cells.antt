@@ -1,7 +1,7 @@
 -- A heading by the cells of its line: it stands where the line definition says, and adds what its bytes say.
 use Rattle.md_engine.specs.declared.tokenizer.held_leaf.HeldLeaf.TheVariants as held_leaf
 use Rattle.std.proofs.Common.{◌≡◌, ℕ, zero, suc, ◌^◌, ◌<◌, ◌≤◌, Bool, true, false, cond, List, [], ◌∷◌, ◌++◌, length}
-use Rattle.std.proofs.Common.{map, refl, sym, ap, ap₂, ◌∙◌, subst, arith, ◌+◌, ◌&&◌}
+use Rattle.std.proofs.Common.{refl, sym, ap, ap₂, ◌∙◌, subst, arith, ◌+◌, ◌&&◌}
 use Rattle.std.specs.Prelude.{◌==◌, nat_le}
 use Rattle.std.proofs.lemmas.Bool.{and_parts, eqb-true}
 use Rattle.std.proofs.lemmas.Bool.Decides.{nat_tests}
@@ -14,7 +14,7 @@ use Rattle.md_engine.specs.Meaning.{Cell}
 use Rattle.md_leaves.specs.HeadingRule.{Apart, Hashes, Run, Text, White, begun, closes, goes_on, heading_inside}
 use Rattle.md_leaves.specs.HeadingRule.{is_heading, is_heading_line, is_opening, opens, runs}
 use Rattle.md_leaves.specs.HeadingTitle.{line_runs}
-use Rattle.md_seam.specs.Ahead.{begins_white, line_bytes, line_cells, white_end, white_rest}
+use Rattle.md_seam.specs.Ahead.{begins_white, line_cells, white_end, white_rest}
 use Rattle.md_seam.specs.Events.Nested.{around, enter, pair}
 use Rattle.md_seam.specs.Events.Places.{past_byte, past_text}
 use Rattle.md_seam.specs.Spaces.{small_indent}
@@ -26,7 +26,8 @@ use Rattle.md_seam.proofs.RestCells.{RestAt, rest_cells}
 use Rattle.md_definition.proofs.TextsLemmas.{NoEnding}
 use Rattle.markdown_blocks.specs.Fronted.{rest_line}
 use Rattle.markdown_blocks.specs.Leaf.HeadingAtx.{heading_leaf}
-use Rattle.markdown_blocks.proofs.RestFacts.{Indented, large-white, rest-line_end, rest-no_ending, rest-same}
+use Rattle.markdown_blocks.proofs.MarkRuns.Fits.{Tells, line-fits}
+use Rattle.markdown_blocks.proofs.RestFacts.{Indented, rest-line_end, rest-no_ending, rest-same}
 use Rattle.markdown_blocks.proofs.RestFacts.{small-indented}
 use Rattle.md_seam.proofs.RestLines.{spread-line}
 
@@ -55,7 +56,7 @@ heading-hash b bs e =
     let some : nat_le 1 (run_len 35 (b ∷ bs)) ≡ true = rw (hash-one b bs e) (grind (arith, nat_tests)) in
     ap (λ (t : Bool). t && is_opening 0 (b ∷ bs)) some ∙ opening-hash 0 b bs e
 
-heading-other : (b : ℕ) (bs : List ℕ) → (b == 35) ≡ false → is_heading (b ∷ bs) ≡ false
+pub heading-other : (b : ℕ) (bs : List ℕ) → (b == 35) ≡ false → is_heading (b ∷ bs) ≡ false
 heading-other b bs e = rw (hash-none b bs e) refl
 
 -- the first column of a tab ends an opening run, and begins no heading
@@ -118,52 +119,23 @@ heading-spread line (b ∷ bs) p = go (b == 9) refl (b == 35) refl
         ap is_heading (no_tab line b bs p e) ∙ heading-other b (bytes_of (spread line bs (past_byte b p))) k
         ∙ sym (heading-other b bs k)
 
--- whitespace is no heading
-white-none : (cells : List Cell) → begins_white cells ≡ true → is_heading (line_bytes cells) ≡ false
-white-none [] e = cc
-white-none (c ∷ cs) e = go (c.byte == 10)
+-- whitespace begins none
+heading-tells : Tells is_heading
+heading-tells = record {
+  spread_same = heading-spread;
+  dark = λ b bs white. heading-other b bs (other b white);
+}
   where
     other : (b : ℕ) → is_white b ≡ true → (b == 35) ≡ false
     other b e = grind (arith, nat_tests)
-
-    go : (t : Bool) → is_heading (map (λ (c : Cell). c.byte) (cond t [] (c ∷ line_cells cs))) ≡ false
-    go true = refl
-    go false = heading-other c.byte (line_bytes cs) (other c.byte e)
 
 -- A heading stands on the cells of the rest of a line where the line definition has one.
 pub heading-fits : (options : ParseOptions) (said : Line) (text behind : List ℕ) (r : Rest) (p : Point)
     (stop : List Cell) →
     RestAt text behind r p → NoEnding r.bytes → Stops stop → length (rest_cells said r p ++ stop) < 2 ^ 63 →
     is_heading_line options (rest_cells said r p ++ stop) ≡ heading_leaf.starts options held_leaf.None r
-heading-fits options said text behind r p stop is h k short = go (has_small_indent options r) refl
-  where
-    on : Bool
-    on = options.constructs.heading_atx
-
-    cells : List Cell
-    cells = rest_cells said r p ++ stop
-
-    no : (on x : Bool) → (on && false) ≡ (on && false && x)
-    no true x = refl
-    no false x = refl
-
-    yes : (on x : Bool) → (on && x) ≡ (on && true && x)
-    yes true x = refl
-    yes false x = refl
-
-    go : (t : Bool) → has_small_indent options r ≡ t → is_heading_line options cells ≡ heading_leaf.starts options held_leaf.None r
-    go true e =
-        let small : Indented options said r p stop = small-indented options said text behind r p stop is h k short e in
-        ap (λ (x : Bool). on && x)
-        (ap is_heading small.bytes
-        ∙ heading-spread said (trim_start r.bytes) (white_end (small_indent options) cells p))
-        ∙ yes on (is_heading (trim_start r.bytes))
-        ∙ ap (λ (t : Bool). on && t && is_heading (trim_start r.bytes)) (sym e)
-    go false e =
-        ap (λ (x : Bool). on && x)
-        (white-none (white_rest (small_indent options) cells) (large-white options said text behind r p stop is e))
-        ∙ no on (is_heading (trim_start r.bytes))
-        ∙ ap (λ (t : Bool). on && t && is_heading (trim_start r.bytes)) (sym e)
+heading-fits options said text behind r p stop is h k short =
+    line-fits is_heading heading-tells options.constructs.heading_atx options said text behind r p stop is h k short
 
 -- What it adds.
 
@@ -299,7 +271,8 @@ pub heading-adds : (options : ParseOptions) (said : Line) (text behind : List �
     (stop : List Cell) →
     RestAt text behind r p → NoEnding r.bytes → Stops stop → length (rest_cells said r p ++ stop) < 2 ^ 63 →
     heading_leaf.starts options held_leaf.None r ≡ true →
-    heading_leaf.adds options held_leaf.None (rest_cells said r p ++ stop) p ≡ heading_leaf.added options held_leaf.None (rest_line r) p
+    heading_leaf.adds options held_leaf.None (rest_cells said r p ++ stop) p ≡
+    heading_leaf.added options held_leaf.None (rest_line r) p
 heading-adds options said text behind r p stop is h k short starts =
     ap (λ (q : Point). around HeadingAtx p q (heading_inside options cells p))
     (rest-line_end said r p stop h k one is.cut)

@@ -28,7 +28,7 @@ use Rattle.markdown_blocks.proofs.HeadingAtx.Stands.{read-parts, unread-parts}
 use Rattle.markdown_blocks.proofs.HeadingAtx.Texts.{fill-title, heading-resolved, stands-title, title-becomes}
 use Rattle.markdown_blocks.proofs.HeadingAtx.Tiled.{heading-tiled}
 use Rattle.markdown_blocks.proofs.HeadingAtx.Trial.{trial-looked, trial-refused, trial-shrinks, trial-took}
-use Rattle.markdown_blocks.proofs.HeadingAtx.Unspanned.{heading-unspanned}
+use Rattle.markdown_blocks.proofs.HeadingAtx.Names.{heading-unspanned, heading-unturned}
 use Rattle.markdown_blocks.proofs.HeadingAtx.Words.{read-word, unread-word}
 use Rattle.markdown_blocks.proofs.LeafFacts.{LeafFacts, LineAt}
 use Rattle.markdown_blocks.proofs.LeafLaws.{LeafLaws}
@@ -117,6 +117,8 @@ heading-laws = record {
       (line-begins options r starts);
   own = λ options on. heading-own options;
   outside = λ open_leaf options on r p starts. cc;
+  unturned_line = λ open_leaf options on r p starts lines. absurd (cc);
+  unturned = λ ends options on r p starts. heading-unturned (rest_line r) p;
   unspanned = λ ends options on r p starts. heading-unspanned (rest_line r) p;
   facts = λ ends options on. heading-facts options;
   becomes = λ ends options on bytes r p q starts is wants reads w rt.

@@ -1,6 +1,7 @@
 -- A heading may be outlined.
 use Rattle.std.proofs.Common.{◌≡◌, ℕ, ◌+◌, Bool, true, false, cond, ◌==◌, List, [], ◌++◌, length, take, drop, refl}
 use Rattle.std.specs.Prelude.{Some, None}
+use Rattle.md_engine.specs.declared.event.Event.{Event}
 use Rattle.md_engine.specs.declared.event.Name.TheVariants as n
 use Rattle.md_engine.specs.declared.event.Point.{Point}
 use Rattle.md_leaves.specs.HeadingRule.{Apart, Hashes, Run, Text as TextRun, White, closes, opens}
@@ -9,12 +10,15 @@ use Rattle.md_seam.specs.declared.inline.Chunk.{Chunk}
 use Rattle.md_seam.specs.Events.Inline.{plain_chunk}
 use Rattle.md_seam.specs.Events.Nested.{enter, exit}
 use Rattle.md_seam.specs.Events.Places.{past_text}
+use Rattle.md_seam.proofs.SpelledLemmas.{QuietOrEnding, roles-append}
+use Rattle.md_outline.proofs.LinesPass.{passes-atx_text}
 use Rattle.markdown_blocks.specs.Leaf.HeadingAtx.{heading_around, read_text, read_title}
 use Rattle.markdown_blocks.proofs.HeadingAtx.Places.{text_begin, text_end}
 use Rattle.markdown_blocks.proofs.HeadingAtx.Runs.{runs-each}
 use Rattle.markdown_blocks.proofs.PartedFacts.{clear}
-use Rattle.markdown_blocks.proofs.PlainFacts.{ArePlain, chunk-plain, past-clear, plain-append, plain-around, plain-cons}
-use Rattle.markdown_blocks.proofs.PlainFacts.{plain-nil, plain-quiet}
+use Rattle.markdown_blocks.proofs.PlainFacts.{ArePlain, chunk-plain, known-around, past-clear, plain-append}
+use Rattle.markdown_blocks.proofs.PlainFacts.{plain-around, plain-cons, plain-nil, plain-quiet}
+use Rattle.markdown_blocks.proofs.PlainRoles.{chunk-roles}
 
 -- the begin and the end of a run
 plain-closes : (bytes : List ℕ) (run : Run) (p : Point) → clear bytes p ≡ true → ArePlain bytes (closes run p)
@@ -50,8 +54,16 @@ plain-text bytes size p q hp hq = go (size == 0)
     go true = plain-nil bytes
     go false =
         let chunk : Chunk = record { first = p; after = q } in
-        plain-around bytes n.HeadingAtxText p q (plain_chunk bytes chunk ++ []) refl hp hq
-        (plain-append bytes (plain_chunk bytes chunk) [] (chunk-plain bytes chunk) (plain-nil bytes))
+        let text : List Event = plain_chunk bytes chunk ++ [] in
+        record {
+          known =
+              known-around bytes n.HeadingAtxText p q text refl hp hq
+              (plain-append bytes (plain_chunk bytes chunk) [] (chunk-plain bytes chunk) (plain-nil bytes)).known;
+          lines =
+              passes-atx_text bytes n.HeadingAtxText p q text refl
+              (roles-append QuietOrEnding (plain_chunk bytes chunk) []
+              (chunk-roles QuietOrEnding bytes chunk tt tt) tt);
+        }
 
 -- what stands in it
 plain-title : (bytes line : List ℕ) (p : Point) → clear bytes p ≡ true →

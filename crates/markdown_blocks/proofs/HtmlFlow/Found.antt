@@ -20,7 +20,7 @@ use Rattle.md_rich.specs.Html.{is_html}
 use Rattle.md_rich.specs.HtmlLine as rule
 use Rattle.md_rich.specs.HtmlRule.{left}
 use Rattle.markdown_blocks.specs.Context.{context_of}
-use Rattle.markdown_blocks.specs.HeldLeaf.{has_lines, kind_of_leaf, left_by, takes_lazy}
+use Rattle.markdown_blocks.specs.HeldLeaf.{kind_of_leaf, left_by, may_go_on, takes_lazy}
 use Rattle.markdown_blocks.specs.Leaf.HtmlFlow.{begins_as, html_further, html_leaf, kind_begun}
 
 -- It begins where its leaf says, and comes to what that says: where this leaf is open, by what the line stands against.
@@ -117,8 +117,8 @@ html-first options on r e =
     go true [] e = cc
     go true (b ∷ bytes) e = by b bytes (b == 60) refl e
 
--- open HTML is a leaf of several lines
-pub html-lines : (on : HeldLeaf) → is_html on ≡ true → has_lines on ≡ true
+-- a line may go on open HTML
+pub html-lines : (on : HeldLeaf) → is_html on ≡ true → may_go_on on ≡ true
 html-lines (held_leaf.Html kind) e = refl
 html-lines _ e = cc
 

@@ -5,8 +5,8 @@ use Rattle.markdown_blocks.specs.Leaf.HtmlFlow.{html_further, html_leaf}
 use Rattle.markdown_blocks.proofs.HtmlFlow.Cells.{further-adds, further-fits, further-keeps, html-adds, html-fits}
 use Rattle.markdown_blocks.proofs.HtmlFlow.Cells.{html-keeps}
 use Rattle.markdown_blocks.proofs.HtmlFlow.Found.{further-held, further-not_lazy, html-held, html-lines, html-not_lazy}
-use Rattle.markdown_blocks.proofs.HtmlFlow.Outside.{further-no_content, further-outside, further-own}
-use Rattle.markdown_blocks.proofs.HtmlFlow.Outside.{html-no_content, html-outside, html-own}
+use Rattle.markdown_blocks.proofs.HtmlFlow.Outside.{further-no_content, further-outside, further-own, further-unturned}
+use Rattle.markdown_blocks.proofs.HtmlFlow.Outside.{html-no_content, html-outside, html-own, html-unturned}
 use Rattle.markdown_blocks.proofs.HtmlFlow.Trial.{further-looked, further-refused, further-shrinks, further-took}
 use Rattle.markdown_blocks.proofs.HtmlFlow.Trial.{html-looked, html-refused, html-shrinks, html-took}
 use Rattle.markdown_blocks.proofs.LeafLaws.{LeafLaws}
@@ -29,6 +29,8 @@ html-laws = record {
   no_content = λ wants only. html-no_content wants;
   own = λ options on cells p none. html-own options on cells p;
   outside = λ stays options on r p starts. html-outside options on (rest_line r) p;
+  unturned_line = λ stays options on r p starts lines. html-unturned options on (rest_line r) p;
+  unturned = λ ends options on r p starts. absurd (cc);
   set = λ ends options on r p es starts. cc;
   unspanned = λ ends options on r p starts. absurd (cc);
   facts = λ ends options on bytes r p q starts is. absurd (cc);
@@ -53,6 +55,8 @@ html_further-laws = record {
   no_content = λ wants only. further-no_content wants only.flow;
   own = λ options on cells p none. further-own options on cells p;
   outside = λ stays options on r p starts. further-outside options on (rest_line r) p;
+  unturned_line = λ stays options on r p starts lines. further-unturned options on (rest_line r) p;
+  unturned = λ ends options on r p starts. absurd (cc);
   set = λ ends options on r p es starts. cc;
   unspanned = λ ends options on r p starts. absurd (cc);
   facts = λ ends options on bytes r p q starts is. absurd (cc);

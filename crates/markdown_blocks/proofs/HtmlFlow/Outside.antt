@@ -17,6 +17,7 @@ use Rattle.md_seam.specs.Events.Places.{past_text}
 use Rattle.markdown_blocks.specs.Leaf.HtmlFlow.{html_further, html_leaf}
 use Rattle.markdown_blocks.proofs.ContentFacts.{NoContent}
 use Rattle.markdown_blocks.proofs.OutsideFacts.{AreOutside}
+use Rattle.markdown_blocks.proofs.UnturnedFacts.{AreUnturned}
 
 -- A first line between two points, and a further one, by whether it is empty.
 
@@ -51,6 +52,20 @@ html-outside options on line p = first-outside p (past_text line p)
 pub further-outside : (options : ParseOptions) (on : HeldLeaf) (line : List ℕ) (p : Point) →
     AreOutside (html_further.added options on line p)
 further-outside options on line p = line-outside (is_end line) p (past_text line p)
+
+-- No part of them is a text or an underline.
+
+pub html-unturned : (options : ParseOptions) (on : HeldLeaf) (line : List ℕ) (p : Point) →
+    AreUnturned (html_leaf.added options on line p)
+html-unturned options on line p = (refl, (refl, (refl, (refl, tt))))
+
+line-unturned : (empty : Bool) (p q : Point) → AreUnturned (further_line empty p q)
+line-unturned true p q = (refl, (refl, tt))
+line-unturned false p q = (refl, (refl, (refl, (refl, tt))))
+
+pub further-unturned : (options : ParseOptions) (on : HeldLeaf) (line : List ℕ) (p : Point) →
+    AreUnturned (html_further.added options on line p)
+further-unturned options on line p = line-unturned (is_end line) p (past_text line p)
 
 -- No content stands in them, and the link is to none that is read later.
 

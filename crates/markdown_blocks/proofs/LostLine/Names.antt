@@ -10,6 +10,7 @@ use Rattle.md_engine.specs.declared.event.Name.TheVariants as n
 use Rattle.md_engine.specs.declared.event.Point.{Point}
 use Rattle.md_content.specs.Joined.{is_content}
 use Rattle.md_definition.specs.Rest.{Rest, indent, lose}
+use Rattle.md_leaves.specs.Turned.{is_paragraph, is_underline}
 use Rattle.md_seam.specs.Events.Nested.{is_enter, pair}
 use Rattle.md_seam.specs.Substituted.{wanted}
 use Rattle.markdown_blocks.specs.Fronted.{rest_line}
@@ -17,6 +18,7 @@ use Rattle.markdown_blocks.specs.LineColumns.{lost_line, part_over, past_columns
 use Rattle.markdown_blocks.specs.Registry.{is_own}
 use Rattle.markdown_blocks.proofs.ContentFacts.{NoContent}
 use Rattle.markdown_blocks.proofs.OutsideFacts.{AreOutside}
+use Rattle.markdown_blocks.proofs.UnturnedFacts.{AreUnturned}
 
 -- An event of a part.
 
@@ -101,6 +103,17 @@ more-outside kind name x es e k = (rw (inside-own name e) (and-false (is_enter k
 
 pub inside-outside : (es : List Event) → AreInside es → AreOutside es
 inside-outside es all = all AreOutside tt more-outside
+
+-- None is of a text or an underline.
+
+inside-passes : (name : Name) → is_inside name ≡ true →
+    cond (is_paragraph name) false (cond (is_underline name) false true) ≡ true
+inside-passes n.Paragraph e = absurd (cc)
+inside-passes n.HeadingSetextUnderline e = absurd (cc)
+inside-passes _ e = refl
+
+pub inside-unturned : (es : List Event) → AreInside es → AreUnturned es
+inside-unturned es all = all AreUnturned tt (λ kind name x es e k. (inside-passes name e, k))
 
 -- No content stands among them.
 

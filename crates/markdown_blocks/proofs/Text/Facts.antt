@@ -7,7 +7,7 @@ use Rattle.md_engine.specs.declared.event.Point.{Point}
 use Rattle.md_seam.specs.declared.inline.Chunk.{Chunk}
 use Rattle.md_seam.specs.declared.inline.PartKind.TheVariants.{Text}
 use Rattle.md_seam.specs.Events.Grammar.{blocks, plain_text, unread_text}
-use Rattle.md_seam.specs.Events.Spelled.{byte_at}
+use Rattle.md_seam.specs.Events.Spelled.{AsParagraph, byte_at}
 use Rattle.md_definition.specs.State.{Kept, kept, texts}
 use Rattle.md_seam.proofs.EndingsLemmas.{leaf-leads}
 use Rattle.md_seam.proofs.GrammarLemmas.{leads-around}
@@ -45,7 +45,7 @@ kept-of options bytes row [] h = kept h.1.rest ∷ []
 kept-of options bytes row (next ∷ rows) h = kept h.1.rest ∷ kept-of options bytes next rows h.7
 
 -- they are read as these
-lines-read : (options : ParseOptions) (bytes : List ℕ) (row : Row) (rows : List Row) →
+pub lines-read : (options : ParseOptions) (bytes : List ℕ) (row : Row) (rows : List Row) →
     (h : AreLines options bytes row rows) →
     IsRead bytes row rows (kept-of options bytes row rows h)
 lines-read options bytes row [] h = read-one options bytes h.0 row h.1 h.2
@@ -54,7 +54,7 @@ lines-read options bytes row (next ∷ rows) h =
     (lines-read options bytes next rows h.7)
 
 -- before that, it is chunks of text, with what stands in front of further lines
-unread-between : (options : ParseOptions) (bytes : List ℕ) (row : Row) (rows : List Row) →
+pub unread-between : (options : ParseOptions) (bytes : List ℕ) (row : Row) (rows : List Row) →
     AreLines options bytes row rows → Roles Between (unread_lines row rows)
 unread-between options bytes row [] h = (tt, (tt, tt))
 unread-between options bytes row (next ∷ rows) h = (
@@ -67,8 +67,8 @@ unread-between options bytes row (next ∷ rows) h = (
 )
 
 -- the last one ends in no tab
-end-clear : (options : ParseOptions) (bytes : List ℕ) (row : Row) (rows : List Row) → AreLines options bytes row rows →
-    clear bytes (last_row row rows).end ≡ true
+pub end-clear : (options : ParseOptions) (bytes : List ℕ) (row : Row) (rows : List Row) →
+    AreLines options bytes row rows → clear bytes (last_row row rows).end ≡ true
 end-clear options bytes row [] h = ap (λ (v : ℕ). (v == 0) || is_between bytes (byte_at row.end)) h.1.end_whole
 end-clear options bytes row (next ∷ rows) h = end-clear options bytes next rows h.7
 
@@ -109,7 +109,7 @@ text-facts options bytes row rows h = record {
   between =
       λ first last. around-between bytes text_leaf.name row.first end done first last
       (read-between options bytes row rows h first last);
-  parted = text-sits options bytes row rows h;
+  parted = text-sits options bytes text_leaf.name AsParagraph row rows refl (λ p span. refl) h;
   plain =
       λ first. plain-around bytes text_leaf.name row.first end done refl first (end-clear options bytes row rows h)
       (read-plain options bytes row rows h);

@@ -2,7 +2,7 @@
 use Rattle.markdown_blocks.proofs.FrontStands.{fronts-parted}
 use Rattle.markdown_blocks.proofs.Reached.{Fine, Reaches, begins-fine, cut-white, reaches-ended, reaches-fine}
 use Rattle.markdown_blocks.proofs.Text.Order.{first-text}
-use Rattle.std.proofs.Common.{◌≡◌, ℕ, zero, suc, ◌+◌, ◌-◌, ◌<◌, ◌≤◌, Bool, true, false, cond, List}
+use Rattle.std.proofs.Common.{◌≡◌, ℕ, zero, suc, ◌+◌, ◌-◌, ◌<◌, ◌≤◌, Bool, true, false, cond, ◌&&◌, List}
 use Rattle.markdown_blocks.proofs.KindLemmas.{kind-text}
 use Rattle.md_engine.specs.declared.tokenizer.held_leaf.HeldLeaf.{HeldLeaf}
 use Rattle.std.proofs.Common.{[], ◌∷◌, ◌++◌, length, get_or, drop, slice_range, refl, ap, sym, ◌∙◌, subst, append_assoc}
@@ -13,20 +13,21 @@ use Rattle.std.proofs.lemmas.Bool.Decides.{nat_tests}
 use Rattle.std.proofs.lemmas.List.{get_or-drop, get_or-take}
 use Rattle.md_engine.specs.declared.configuration.ParseOptions.{ParseOptions}
 use Rattle.md_engine.specs.declared.event.Event.{Event}
+use Rattle.md_engine.specs.declared.event.Kind.TheVariants.{Enter, Exit}
+use Rattle.md_engine.specs.declared.event.Name.{Name}
 use Rattle.md_engine.specs.declared.event.Point.{Point}
 use Rattle.md_seam.specs.declared.inline.Chunk.{Chunk}
 use Rattle.md_seam.specs.Events.Inline.{plain_chunk}
 use Rattle.md_definition.specs.Lines.{is_ending}
-use Rattle.md_seam.specs.Events.Nested.{enter, exit}
+use Rattle.md_seam.specs.Events.Nested.{around, enter, exit}
 use Rattle.md_definition.specs.Rest.{Rest, is_blank, is_white}
-use Rattle.md_seam.specs.Events.Spelled.{byte_at}
+use Rattle.md_seam.specs.Events.Spelled.{Purpose, Role, Tells, byte_at, role}
 use Rattle.md_seam.proofs.RestCells.{Cut}
 use Rattle.md_definition.proofs.TextsLemmas.{NoEnding}
-use Rattle.md_outline.specs.Outlined.{TextSpan as Span, are_parted, begins_line}
+use Rattle.md_outline.specs.Outlined.{TextSpan as Span, are_parted, begins_line, parts_by, parts_exit, span_by}
 use Rattle.markdown_blocks.specs.Fronted.{cut_tab}
 use Rattle.markdown_blocks.specs.Rows.{BlankRow, Row, TextRow, behind_row, last_row, line_kind, read_lines, kind_of}
-use Rattle.markdown_blocks.specs.Rows.{text_done}
-use Rattle.markdown_blocks.specs.Registry.{first_of, leaf, trials, text_leaf}
+use Rattle.markdown_blocks.specs.Registry.{first_of, leaf, trials}
 use Rattle.markdown_blocks.proofs.RowFacts.{IsRow}
 use Rattle.markdown_blocks.proofs.PartedFacts.{Sits, clear, low-clear, passes-chunk}
 use Rattle.markdown_blocks.proofs.BetweenFacts.{ending-behind, is_low}
@@ -41,6 +42,12 @@ pub record BeginsText (bytes : List ℕ) (row : Row) : Type 0 where
 -- it stands in a text that goes on with a line
 abbrev pub Core : List ℕ → Row → List Event → Type 0
 Core bytes row es = (span : Span) → Fine bytes span → span.from ≤ row.end.index → are_parted bytes (Some span) es ≡ true
+
+-- a text of this purpose may be parted where lines begin
+abbrev pub MayPart : List ℕ → Purpose → Type 0
+MayPart bytes purpose =
+    (p : Point) (span : Span) →
+    parts_exit bytes (Tells purpose) p span ≡ begins_line span (slice_range bytes span.from p.index)
 
 -- a byte of a line
 pub line-at : (bytes line : List ℕ) (a e k b : ℕ) → slice_range bytes a e ≡ line → e ≡ a + length line →
@@ -134,19 +141,26 @@ text-begins options bytes line row is e =
     (text-nonblank options row.on is.rest (sym is.kind ∙ e)) (subst NoEnding is.line_is is.no_ending)
 
 -- the last line of a text
-core-alone : (bytes : List ℕ) (row : Row) (ys : List Event) → are_parted bytes None ys ≡ true →
-    Core bytes row (read_lines bytes row [] ++ exit text_leaf.name row.end ∷ ys)
-core-alone bytes row ys h span fine within =
-    passes-chunk bytes (Some span) (record { first = row.first; after = row.end }) (exit text_leaf.name row.end ∷ ys)
-    ∙ and_from (begins_line span (slice_range bytes span.from row.end.index)) (are_parted bytes None ys)
-    (begins-fine bytes span row.end.index fine) h
+core-alone : (bytes : List ℕ) (name : Name) (purpose : Purpose) (row : Row) (ys : List Event) →
+    role name ≡ Tells purpose → MayPart bytes purpose → are_parted bytes None ys ≡ true →
+    Core bytes row (read_lines bytes row [] ++ exit name row.end ∷ ys)
+core-alone bytes name purpose row ys tells may h span fine within =
+    passes-chunk bytes (Some span) (record { first = row.first; after = row.end }) (exit name row.end ∷ ys)
+    ∙ ap
+    (λ (x : Role).
+    parts_by bytes Exit x row.end (Some span) && are_parted bytes (span_by Exit x row.end (Some span)) ys) tells
+    ∙ and_from (parts_exit bytes (Tells purpose) row.end span) (are_parted bytes None ys)
+    (may row.end span ∙ begins-fine bytes span row.end.index fine) h
 
 -- so it is behind the first line, and what stands in front of the next
-pub read-parted : (options : ParseOptions) (bytes : List ℕ) (row : Row) (rows : List Row) (ys : List Event) →
-    AreLines options bytes row rows → are_parted bytes None ys ≡ true →
-    Core bytes row (read_lines bytes row rows ++ exit text_leaf.name (last_row row rows).end ∷ ys)
-read-parted options bytes row [] ys h more span fine within = core-alone bytes row ys more span fine within
-read-parted options bytes row (next ∷ rows) ys h more span fine within =
+pub read-parted : (options : ParseOptions) (bytes : List ℕ) (name : Name) (purpose : Purpose) (row : Row)
+    (rows : List Row) (ys : List Event) →
+    role name ≡ Tells purpose → MayPart bytes purpose → AreLines options bytes row rows →
+    are_parted bytes None ys ≡ true →
+    Core bytes row (read_lines bytes row rows ++ exit name (last_row row rows).end ∷ ys)
+read-parted options bytes name purpose row [] ys tells may h more span fine within =
+    core-alone bytes name purpose row ys tells may more span fine within
+read-parted options bytes name purpose row (next ∷ rows) ys tells may h more span fine within =
     let q : Point = h.3 in
     let chunk : Chunk = record { first = row.first; after = behind_row row } in
     let events : List Event = plain_chunk bytes chunk in
@@ -156,7 +170,7 @@ read-parted options bytes row (next ∷ rows) ys h more span fine within =
     ∙ passes-chunk bytes (Some span) chunk (next.front ++ (text ++ rest))
     ∙ fronts-parted bytes [] q next.first next.front span (text ++ rest) h.6 refl (ending-behind bytes row.end q h.5)
     (rest-clear options bytes line.0 next line.1) (reaches-ended bytes row.end q span h.5 fine within)
-    (further (read-parted options bytes next rows ys h.7 more))
+    (further (read-parted options bytes name purpose next rows ys tells may h.7 more))
   where
     line : (line : List ℕ) × IsRow options bytes line next × (next.kind ≡ TextRow)
     line = first-text options bytes next rows h.7
@@ -168,7 +182,7 @@ read-parted options bytes row (next ∷ rows) ys h more span fine within =
     text = read_lines bytes next rows
 
     rest : List Event
-    rest = exit text_leaf.name (last_row next rows).end ∷ ys
+    rest = exit name (last_row next rows).end ∷ ys
 
     further : Core bytes next (text ++ rest) → (after : Span) → Reaches bytes next.first after →
         are_parted bytes (Some after) (text ++ rest) ≡ true
@@ -177,15 +191,18 @@ read-parted options bytes row (next ∷ rows) ys h more span fine within =
         (let from = reaches.from in let within = begins.within in omega (arith, from, within))
 
 -- A text that begins ends.
-pub text-sits : (options : ParseOptions) (bytes : List ℕ) (row : Row) (rows : List Row) →
-    AreLines options bytes row rows →
-    Sits bytes (text_done bytes row rows)
-text-sits options bytes row rows h ys more =
+pub text-sits : (options : ParseOptions) (bytes : List ℕ) (name : Name) (purpose : Purpose) (row : Row)
+    (rows : List Row) →
+    role name ≡ Tells purpose → MayPart bytes purpose → AreLines options bytes row rows →
+    Sits bytes (around name row.first (last_row row rows).end (read_lines bytes row rows))
+text-sits options bytes name purpose row rows tells may h ys more =
     let line : (line : List ℕ) × IsRow options bytes line row ×
     (row.kind ≡ TextRow) = first-text options bytes row rows h in
     let begins : BeginsText bytes row = text-begins options bytes line.0 row line.1 line.2 in
     let events : List Event = read_lines bytes row rows in
+    let rest : List Event = events ++ exit name (last_row row rows).end ∷ ys in
     let span : Span = record { from = byte_at row.first; is_parted = false } in
-    ap (λ (es : List Event). are_parted bytes None (enter text_leaf.name row.first ∷ es))
-    (append_assoc events (exit text_leaf.name (last_row row rows).end ∷ []) ys)
-    ∙ read-parted options bytes row rows ys h more span refl begins.within
+    ap (λ (es : List Event). are_parted bytes None (enter name row.first ∷ es))
+    (append_assoc events (exit name (last_row row rows).end ∷ []) ys)
+    ∙ ap (λ (x : Role). are_parted bytes (span_by Enter x row.first None) rest) tells
+    ∙ read-parted options bytes name purpose row rows ys tells may h more span refl begins.within

@@ -1,32 +1,30 @@
 -- What is known of the events of a thematic break, by the bytes of its line.
 use Rattle.md_engine.specs.declared.tokenizer.held_leaf.HeldLeaf.TheVariants as held_leaf
-use Rattle.std.proofs.Common.{◌≡◌, ℕ, suc, ◌+◌, Bool, true, false, cond, ◌&&◌, ◌||◌, List, [], ◌∷◌, ◌++◌, length, drop}
-use Rattle.std.proofs.Common.{refl, ap, sym, ◌∙◌, subst, append_assoc, arith}
+use Rattle.std.proofs.Common.{◌≡◌, ℕ, suc, ◌+◌, Bool, true, false, cond, ◌&&◌, ◌||◌, List, [], ◌∷◌, ◌++◌, drop}
+use Rattle.std.proofs.Common.{refl, ap, sym, ◌∙◌, subst, arith}
 use Rattle.std.specs.Prelude.{◌==◌, nat_le, count_by, Some}
 use Rattle.std.specs.List.{list_all, prefix_len}
 use Rattle.std.proofs.lemmas.Bool.{and_from, and_parts, eq-eqb, eqb-true, or_left, or_right}
 use Rattle.std.proofs.lemmas.Bool.Decides.{nat_tests}
 use Rattle.md_engine.specs.declared.configuration.ParseOptions.{ParseOptions}
 use Rattle.md_engine.specs.declared.event.Event.{Event}
-use Rattle.md_engine.specs.declared.event.Kind.{Kind}
-use Rattle.md_engine.specs.declared.event.Kind.TheVariants.{Enter, Exit}
 use Rattle.md_engine.specs.declared.event.Name.TheVariants as n
 use Rattle.md_engine.specs.declared.event.Point.{Point}
 use Rattle.md_containers.proofs.UnlistedLemmas.{NoListing}
-use Rattle.md_seam.specs.Events.Endings.{line_start}
+use Rattle.md_seam.specs.Events.Endings.{line_start, on_line}
 use Rattle.md_seam.specs.Events.Grammar.{Expression, Nothing, behind, blocks, inside, plain_text, unread_text}
-use Rattle.md_seam.specs.Events.Nested.{around, enter, exit}
+use Rattle.md_seam.specs.Events.Nested.{around}
 use Rattle.md_seam.specs.Events.Pieces.{is_run, stands_over}
 use Rattle.md_seam.specs.Events.Places.{past_byte, past_text}
-use Rattle.md_seam.specs.Events.Spelled.{OfBreak}
+use Rattle.md_seam.specs.Events.Spelled.{OfBreak, role}
 use Rattle.md_definition.specs.Leaves.{is_rule, is_rule_marker}
 use Rattle.md_definition.specs.Rest.{Rest, is_white, trim_start}
 use Rattle.md_definition.specs.Tree.{Break}
 use Rattle.md_seam.proofs.EndingsLemmas as ending
-use Rattle.md_seam.proofs.EndingsLemmas.{AreOthers, behind_leaf, in_leaf, leaf-leads, others-lead}
+use Rattle.md_seam.proofs.EndingsLemmas.{AreOthers, behind_leaf, in_leaf, is_other, leaf-leads, others-lead}
 use Rattle.md_seam.proofs.GrammarLemmas.{IsWord, leads-around}
 use Rattle.md_seam.proofs.SpelledLemmas.{Quiet, Roles}
-use Rattle.markdown_blocks.proofs.EachEvent.{each-append}
+use Rattle.markdown_blocks.proofs.EachEvent.{Each}
 use Rattle.markdown_blocks.specs.Fronted.{rest_line}
 use Rattle.markdown_blocks.specs.Leaf.ThematicBreak.{break_leaf, break_line, first_byte}
 use Rattle.markdown_blocks.specs.MarkRuns.{Apart, Marks, Run, White, mark_runs}
@@ -36,100 +34,72 @@ use Rattle.markdown_blocks.proofs.FillFacts.{fill-around, fill-same}
 use Rattle.markdown_blocks.proofs.LeafFacts.{LeafFacts, LineAt}
 use Rattle.markdown_blocks.proofs.LeafStands.{around-unlisted, leaf-stands, quiets-parts}
 use Rattle.markdown_blocks.proofs.LineTexts.{line-stands}
+use Rattle.markdown_blocks.proofs.MarkRuns.Each.{Holds, each-others, each-roles, line-holds, runs-hold}
+use Rattle.markdown_blocks.proofs.OutsideFacts.{IsOutside, resolved-outside}
 use Rattle.markdown_blocks.proofs.PartFacts.{NoLinks, NoParts, quiet-no_parts, IsUnlinked}
 use Rattle.markdown_blocks.proofs.PartedFacts.{around-sits, quiets-still, sits-still}
 use Rattle.markdown_blocks.proofs.PartsStand.{stands-around, stands-outside}
 use Rattle.markdown_blocks.proofs.PieceFacts.{Starts, Stood, stood-around}
-use Rattle.markdown_blocks.proofs.PieceRuns.{AreMarks, IsMarker, run_event, runs-each, runs-nested, runs-stand}
+use Rattle.markdown_blocks.proofs.PieceRuns.{AreMarks, IsMarker, marker-run, runs-nested, runs-stand, runs-start}
 use Rattle.markdown_blocks.proofs.PieceRuns.{runs-tiled}
 use Rattle.markdown_blocks.proofs.PiecesLemmas.{Tiled, tiled-around}
 use Rattle.markdown_blocks.proofs.PlainFacts.{plain-around, plain-quiet}
 use Rattle.markdown_blocks.proofs.RestFacts.{rest-trim}
 use Rattle.markdown_blocks.proofs.SpanLemmas.{Nested_in, around-nested, either}
 use Rattle.markdown_blocks.proofs.SpannedFacts.{AreUnspanned, IsUnspanned}
-use Rattle.markdown_blocks.proofs.ThematicBreak.Kinds.{first-behind, marker-black, rule-first}
+use Rattle.markdown_blocks.proofs.ThematicBreak.Kinds.{break-mark, first-behind, rule-first}
 use Rattle.md_seam.proofs.BreakReads.{read-break}
 
 -- its runs
 abbrev marks_of : Run → ℕ → List ℕ → Point → List Event
 marks_of run m bs p = mark_runs n.ThematicBreakSequence run m bs p
 
--- Each event in it.
+-- Each event.
 
--- the tree shows none
-runs-quiet : (run : Run) (m : ℕ) (bs : List ℕ) (p : Point) → Roles Quiet (marks_of run m bs p)
-runs-quiet run m bs p = runs-each (Roles Quiet) n.ThematicBreakSequence tt more run m bs p
-  where
-    more : (kind : Kind) (white : Bool) (p : Point) (es : List Event) → Roles Quiet es →
-        Roles Quiet (run_event n.ThematicBreakSequence kind white p ∷ es)
-    more kind true p es h = (tt, h)
-    more kind false p es h = (tt, h)
+-- what holds of its names holds of each event in it
+parts-hold : (P : Event → Type 0) → Holds P n.SpaceOrTab → Holds P n.ThematicBreakSequence → (m : ℕ) (bs : List ℕ)
+    (p : Point) → Each P (marks_of Apart m bs p)
+parts-hold P space mark m bs p = runs-hold P n.ThematicBreakSequence space mark Apart m bs p
+
+-- of each event of the whole break
+break-holds : (P : Event → Type 0) → Holds P n.ThematicBreak → Holds P n.SpaceOrTab → Holds P n.ThematicBreakSequence →
+    (line : List ℕ) (p : Point) → Each P (break_line line p)
+break-holds P around_it space mark line p =
+    line-holds P n.ThematicBreak n.ThematicBreakSequence around_it space mark (first_byte (trim_start line)) line p
+    (past_text line p)
+
+-- the tree shows none in it
+runs-quiet : (m : ℕ) (bs : List ℕ) (p : Point) → Roles Quiet (marks_of Apart m bs p)
+runs-quiet m bs p =
+    each-roles Quiet (marks_of Apart m bs p)
+    (parts-hold (λ (e : Event). Quiet (role e.name)) (λ q. tt, λ q. tt) (λ q. tt, λ q. tt) m bs p)
 
 -- none has a link
-runs-unlinked : (run : Run) (m : ℕ) (bs : List ℕ) (p : Point) → NoLinks (marks_of run m bs p)
-runs-unlinked run m bs p = runs-each NoLinks n.ThematicBreakSequence tt (λ kind white p es h. (refl, h)) run m bs p
+runs-unlinked : (m : ℕ) (bs : List ℕ) (p : Point) → NoLinks (marks_of Apart m bs p)
+runs-unlinked m bs p = parts-hold IsUnlinked (λ q. refl, λ q. refl) (λ q. refl, λ q. refl) m bs p
 
 -- none ends a line
-runs-others : (run : Run) (m : ℕ) (bs : List ℕ) (p : Point) → AreOthers (marks_of run m bs p)
-runs-others run m bs p = runs-each AreOthers n.ThematicBreakSequence refl more run m bs p
-  where
-    more : (kind : Kind) (white : Bool) (p : Point) (es : List Event) → AreOthers es →
-        AreOthers (run_event n.ThematicBreakSequence kind white p ∷ es)
-    more kind true p es h = h
-    more kind false p es h = h
+runs-others : (m : ℕ) (bs : List ℕ) (p : Point) → AreOthers (marks_of Apart m bs p)
+runs-others m bs p =
+    each-others (marks_of Apart m bs p)
+    (parts-hold (λ (e : Event). is_other (on_line e.name) ≡ true) (λ q. refl, λ q. refl) (λ q. refl, λ q. refl) m bs p)
 
--- none is a resolver's
-abbrev Set : List Event → Type 0
-Set es = (ys : List Event) → resolved (es ++ ys) ≡ es ++ resolved ys
-
--- so resolvers pass its runs
-runs-set : (run : Run) (m : ℕ) (bs : List ℕ) (p : Point) → Set (marks_of run m bs p)
-runs-set run m bs p = runs-each Set n.ThematicBreakSequence (λ ys. refl) more run m bs p
-  where
-    more : (kind : Kind) (white : Bool) (p : Point) (es : List Event) → Set es →
-        Set (run_event n.ThematicBreakSequence kind white p ∷ es)
-    more Enter true p es h ys = ap (λ (l : List Event). enter n.SpaceOrTab p ∷ l) (h ys)
-    more Enter false p es h ys = ap (λ (l : List Event). enter n.ThematicBreakSequence p ∷ l) (h ys)
-    more Exit true p es h ys = ap (λ (l : List Event). exit n.SpaceOrTab p ∷ l) (h ys)
-    more Exit false p es h ys = ap (λ (l : List Event). exit n.ThematicBreakSequence p ∷ l) (h ys)
-
--- and the whole break
+-- none is a resolver's, so resolvers pass the break,
 pub break-set : (line : List ℕ) (p : Point) (es : List Event) →
     resolved (break_line line p ++ es) ≡ break_line line p ++ resolved es
 break-set line p es =
-    let m : ℕ = first_byte (trim_start line) in
-    let q : Point = past_text line p in
-    ap (λ (l : List Event). resolved (enter n.ThematicBreak p ∷ l))
-    (append_assoc (marks_of Apart m line p) (exit n.ThematicBreak q ∷ []) es)
-    ∙ ap (λ (l : List Event). enter n.ThematicBreak p ∷ l) (runs-set Apart m line p (exit n.ThematicBreak q ∷ es))
-    ∙ ap (λ (l : List Event). enter n.ThematicBreak p ∷ l)
-    (sym (append_assoc (marks_of Apart m line p) (exit n.ThematicBreak q ∷ []) (resolved es)))
+    resolved-outside (break_line line p) es
+    (break-holds IsOutside (λ q. refl, λ q. refl) (λ q. refl, λ q. refl) (λ q. refl, λ q. refl) line p)
 
 -- and so does the walk that joins the lines of leaves of several
-runs-unspanned : (run : Run) (m : ℕ) (bs : List ℕ) (p : Point) → AreUnspanned (marks_of run m bs p)
-runs-unspanned run m bs p = runs-each AreUnspanned n.ThematicBreakSequence tt more run m bs p
-  where
-    more : (kind : Kind) (white : Bool) (p : Point) (es : List Event) → AreUnspanned es →
-        AreUnspanned (run_event n.ThematicBreakSequence kind white p ∷ es)
-    more kind true p es h = (refl, h)
-    more kind false p es h = (refl, h)
-
 pub break-unspanned : (line : List ℕ) (p : Point) → AreUnspanned (break_line line p)
 break-unspanned line p =
-    let m : ℕ = first_byte (trim_start line) in (
-      refl,
-      each-append IsUnspanned (marks_of Apart m line p) (exit n.ThematicBreak (past_text line p) ∷ [])
-          (runs-unspanned Apart m line p) (refl, tt),
-    )
+    break-holds IsUnspanned (λ q. refl, λ q. refl) (λ q. refl, λ q. refl) (λ q. refl, λ q. refl) line p
 
 -- nothing is read of it later
 pub break-unlinked : (line : List ℕ) (p : Point) → NoLinks (break_line line p)
 break-unlinked line p =
-    let m : ℕ = first_byte (trim_start line) in (
-      refl,
-      each-append IsUnlinked (marks_of Apart m line p) (exit n.ThematicBreak (past_text line p) ∷ [])
-          (runs-unlinked Apart m line p) (refl, tt),
-    )
+    break-holds IsUnlinked (λ q. refl, λ q. refl) (λ q. refl, λ q. refl) (λ q. refl, λ q. refl) line p
 
 -- What it is over.
 
@@ -137,13 +107,8 @@ break-unlinked line p =
 rule-marker : (m : ℕ) → is_rule_marker m ≡ true → IsMarker n.ThematicBreakSequence m
 rule-marker m e ys some all = go (m == 42) refl (m == 45) refl (m == 95) refl e
   where
-    least : nat_le 1 (length ys) ≡ true
-    least = grind (arith, nat_tests, some)
-
     run : (c : ℕ) → (m == c) ≡ true → is_run 1 c ys ≡ true
-    run c f =
-        and_from (nat_le 1 (length ys)) (list_all (λ b. b == c) ys) least
-        (subst (λ (d : ℕ). list_all (λ b. b == d) ys ≡ true) (eqb-true m c f) all)
+    run c f = marker-run m c ys some all f
 
     go : (x : Bool) → (m == 42) ≡ x → (y : Bool) → (m == 45) ≡ y → (z : Bool) → (m == 95) ≡ z → (x || y || z) ≡ true →
         stands_over n.ThematicBreakSequence ys ≡ true
@@ -208,10 +173,6 @@ rule-low (m ∷ bytes) h =
         go : (x : Bool) → (b == m) ≡ x → (x || is_white b) ≡ true → is_low b ≡ true
         go true e h = subst (λ (c : ℕ). is_low c ≡ true) (sym (eqb-true b m e)) low
         go false e h = white-low b h
-
--- its runs begin with one
-runs-start : (m b : ℕ) (bs : List ℕ) (p : Point) → Starts (marks_of Apart m (b ∷ bs) p)
-runs-start m b bs p = either Starts (b == m) _ _ refl refl
 
 -- The grammar.
 
@@ -307,7 +268,7 @@ break-facts options bytes r p q starts at =
     tiled = subst (λ (x : Point). Tiled p x inside_of) (sym at.end) (runs-tiled n.ThematicBreakSequence m line p)
 
     quiet : Roles Quiet inside_of
-    quiet = runs-quiet Apart m line p
+    quiet = runs-quiet m line p
 
     unlisted : NoListing (around n.ThematicBreak p q inside_of)
     unlisted = around-unlisted n.ThematicBreak p q inside_of refl (quiets-parts inside_of quiet)
@@ -316,14 +277,14 @@ break-facts options bytes r p q starts at =
     outside = quiet-no_parts inside_of quiet
 
     unlinked : NoLinks inside_of
-    unlinked = runs-unlinked Apart m line p
+    unlinked = runs-unlinked m line p
 
     text : drop p.index bytes ≡ line ++ drop q.index bytes
     text = line-stands bytes r line p q at
 
     first : (line : List ℕ) → is_rule (trim_start line) ≡ true → (m : ℕ) → Starts (marks_of Apart m line p)
     first [] e m = cc
-    first (b ∷ bs) e m = runs-start m b bs p
+    first (b ∷ bs) e m = runs-start n.ThematicBreakSequence m b bs p
 
     stood : Stood bytes (around n.ThematicBreak p q inside_of)
     stood =
@@ -331,7 +292,7 @@ break-facts options bytes r p q starts at =
           ends = tiled.ends;
           stand =
               runs-stand bytes n.ThematicBreakSequence m line (drop q.index bytes) p (rule-marker m mark)
-              (marker-black m mark) (indent-marks m line (rule-marks (trim_start line) rule)) text at.cut_first;
+              (break-mark m mark).dark (indent-marks m line (rule-marks (trim_start line) rule)) text at.cut_first;
         })
 
     word : (text : Expression) → IsWord text (inside text n.ThematicBreak ∷ []) inside_of
@@ -340,10 +301,11 @@ break-facts options bytes r p q starts at =
     ends : ending.Leads line_start behind_leaf (around n.ThematicBreak p q inside_of)
     ends =
         leaf-leads n.ThematicBreak p q inside_of refl
-        (others-lead (in_leaf true) inside_of refl (runs-others Apart m line p))
+        (others-lead (in_leaf true) inside_of refl (runs-others m line p))
 
     facts :
-        LeafFacts bytes (Some Break) true p q (around n.ThematicBreak p q inside_of) (around n.ThematicBreak p q inside_of)
+        LeafFacts bytes (Some Break) true p q (around n.ThematicBreak p q inside_of)
+        (around n.ThematicBreak p q inside_of)
     facts = record {
       unread_nested = around-nested n.ThematicBreak p q inside_of nested;
       nested = around-nested n.ThematicBreak p q inside_of nested;

@@ -11,22 +11,24 @@ use Rattle.md_engine.specs.declared.tokenizer.Line.{Line}
 use Rattle.md_engine.specs.Meaning.{Cell}
 use Rattle.md_definition.specs.Leaves.{is_rule, is_rule_marker}
 use Rattle.md_seam.specs.Events.Places.{past_byte}
-use Rattle.md_definition.specs.Rest.{Rest, has_small_indent, is_white, trim_start}
+use Rattle.md_definition.specs.Rest.{Rest, is_white, trim_start}
 use Rattle.md_seam.proofs.FeedLines.{Stops, all-spread, bytes_of, cell, columns_more, count-spread, spread, tab_cells}
-use Rattle.md_seam.proofs.AheadLemmas.{white-no_ending}
 use Rattle.md_seam.proofs.RestCells.{RestAt, rest_cells}
 use Rattle.md_definition.proofs.TextsLemmas.{NoEnding}
-use Rattle.md_seam.specs.Ahead.{begins_white, line_bytes, white_end, white_rest}
-use Rattle.md_seam.specs.Spaces.{small_indent}
 use Rattle.md_engine.specs.declared.configuration.ParseOptions.{ParseOptions}
 use Rattle.markdown_blocks.specs.Leaf.ThematicBreak.{break_leaf, first_byte, is_break}
-use Rattle.markdown_blocks.proofs.RestFacts.{large-white, small-indented}
+use Rattle.markdown_blocks.proofs.MarkRuns.Cells.{IsMark}
+use Rattle.markdown_blocks.proofs.MarkRuns.Fits.{Tells, line-fits}
 
 -- The marker.
 
--- it is no whitespace
-pub marker-black : (m : ℕ) → is_rule_marker m ≡ true → is_white m ≡ false
-marker-black m e = grind (arith, nat_tests)
+-- it may mark runs
+pub break-mark : (m : ℕ) → is_rule_marker m ≡ true → IsMark m
+break-mark m e = record {
+  dark = grind (arith, nat_tests);
+  no_ending = grind (arith, nat_tests);
+  some = grind (arith, nat_tests);
+}
 
 -- a rule begins with it
 pub rule-first : (bytes : List ℕ) → is_rule bytes ≡ true → is_rule_marker (first_byte bytes) ≡ true
@@ -71,7 +73,7 @@ rule-none : (b : ℕ) (bs : List ℕ) → is_rule_marker b ≡ false → is_rule
 rule-none b bs e = rw e refl
 
 -- a line is a rule by its cells if it is by its bytes
-pub rule-spread : (line : Line) (bytes : List ℕ) (p : Point) → is_rule (bytes_of (spread line bytes p)) ≡ is_rule bytes
+rule-spread : (line : Line) (bytes : List ℕ) (p : Point) → is_rule (bytes_of (spread line bytes p)) ≡ is_rule bytes
 rule-spread line [] p = refl
 rule-spread line (b ∷ bs) p = go (b == 9) refl (is_rule_marker b) refl
   where
@@ -104,50 +106,20 @@ rule-spread line (b ∷ bs) p = go (b == 9) refl (is_rule_marker b) refl
         ∙ ap (λ (n : ℕ). is_rule_marker b && list_all (λ c. (c == b) || is_white c) bs && nat_le 2 n)
         (count-spread (λ c. c == b) (marker-apart b k) line bs (past_byte b p))
 
--- Whether a break stands on a line.
-
--- whitespace is no rule
-white-no_rule : (cells : List Cell) → begins_white cells ≡ true → is_rule (line_bytes cells) ≡ false
-white-no_rule [] e = cc
-white-no_rule (c ∷ cs) e = rw (white-no_ending c.byte e) (rule-none c.byte (line_bytes cs) (unmarked c.byte e))
+-- whitespace begins none
+pub rule-tells : Tells is_rule
+rule-tells = record {
+  spread_same = rule-spread;
+  dark = λ b bs white. rule-none b bs (unmarked b white);
+}
   where
     unmarked : (b : ℕ) → is_white b ≡ true → is_rule_marker b ≡ false
     unmarked b e = grind (arith, nat_tests)
 
--- it does by its cells if it does by its rest
+-- A break stands on a line by its cells if it does by its rest.
 pub break-fits :
     (options : ParseOptions) (said : Line) (text behind : List ℕ) (r : Rest) (p : Point) (stop : List Cell) →
     RestAt text behind r p → NoEnding r.bytes → Stops stop → length (rest_cells said r p ++ stop) < 2 ^ 63 →
     is_break options (rest_cells said r p ++ stop) ≡ break_leaf.starts options held_leaf.None r
-break-fits options said text behind r p stop is h k short = go (has_small_indent options r) refl
-  where
-    left : List Cell
-    left = white_rest (small_indent options) (rest_cells said r p ++ stop)
-
-    By : Bool → Type 0
-    By small =
-        is_break options (rest_cells said r p ++ stop) ≡
-        (options.constructs.thematic_break && small && is_rule (trim_start r.bytes))
-
-    with-small : (on x y : Bool) → x ≡ y → (on && x) ≡ (on && true && y)
-    with-small true x y e = e
-    with-small false x y e = refl
-
-    with-large : (on x y : Bool) → x ≡ false → (on && x) ≡ (on && false && y)
-    with-large true x y e = e
-    with-large false x y e = refl
-
-    go : (small : Bool) → has_small_indent options r ≡ small → By (has_small_indent options r)
-    go true e =
-        let q : Point = white_end (small_indent options) (rest_cells said r p ++ stop) p in
-        let same : is_rule (line_bytes left) ≡
-        is_rule (trim_start r.bytes) = ap is_rule
-        (small-indented options said text behind r p stop is h k short e).bytes
-        ∙ rule-spread said (trim_start r.bytes) q in
-        subst By (sym e)
-        (with-small options.constructs.thematic_break (is_rule (line_bytes left))
-        (is_rule (trim_start r.bytes)) same)
-    go false e =
-        subst By (sym e)
-        (with-large options.constructs.thematic_break (is_rule (line_bytes left)) (is_rule (trim_start r.bytes))
-        (white-no_rule left (large-white options said text behind r p stop is e)))
+break-fits options said text behind r p stop is h k short =
+    line-fits is_rule rule-tells options.constructs.thematic_break options said text behind r p stop is h k short

@@ -6,9 +6,9 @@ use Rattle.markdown_blocks.proofs.LeafLaws.{LeafLaws}
 use Rattle.markdown_blocks.proofs.SubstitutedLemmas.{becomes-same, no_links-unwanted}
 use Rattle.markdown_blocks.proofs.ThematicBreak.Facts.{break-facts, break-set, break-unlinked, break-unspanned}
 use Rattle.markdown_blocks.proofs.ThematicBreak.Kinds.{break-fits}
-use Rattle.markdown_blocks.proofs.ThematicBreak.Runs.{break-adds, break-no_content}
+use Rattle.markdown_blocks.proofs.ThematicBreak.Runs.{break-adds, break-no_content, break-own}
 use Rattle.markdown_blocks.proofs.ThematicBreak.Trial.{break-looked, break-refused, break-shrinks, break-took}
-use Rattle.markdown_blocks.proofs.ThematicBreak.Outside.{break-own}
+use Rattle.markdown_blocks.proofs.ThematicBreak.Unturned.{break-unturned}
 
 pub break-laws : LeafLaws break_leaf
 break-laws = record {
@@ -25,8 +25,10 @@ break-laws = record {
   holds_is = λ options leaf r starts. refl;
   not_lazy = λ options on. (λ cells p. refl, λ r. refl);
   no_content = λ wants only options on. break-no_content wants options;
-  own = λ options on. break-own options;
+  own = λ options on cells p none. break-own options cells p;
   outside = λ open_leaf options on r p starts. cc;
+  unturned_line = λ open_leaf options on r p starts lines. absurd (cc);
+  unturned = λ ends options on r p starts. break-unturned (rest_line r) p;
   unspanned = λ ends options on r p starts. break-unspanned (rest_line r) p;
   set = λ ends options on r p es starts. break-set (rest_line r) p es;
   facts = λ ends options on. break-facts options;

@@ -12,42 +12,22 @@ use Rattle.md_engine.specs.Meaning.{Accepts, Cell, Here, Outcome, Refuses}
 use Rattle.md_leaves.specs.Break.{may_begin, without_marker}
 use Rattle.md_leaves.specs.BreakRule.{Apart, before_marker, break_at, broken, runs}
 use Rattle.md_leaves.specs.LeafStart.{entered_here}
-use Rattle.md_leaves.proofs.LeafStart.{at-none, at-off, at-white, rule-refused}
+use Rattle.md_leaves.proofs.LeafStart.{at-none, at-off, at-white, indented-none, indented-white, rule-refused}
 use Rattle.md_seam.specs.Ahead.{begins_white, from_ending, line_bytes, line_cells, line_end, white_end, white_rest}
 use Rattle.md_seam.specs.Look.{seen_behind}
 use Rattle.md_definition.specs.Leaves.{is_rule}
-use Rattle.md_seam.specs.Events.Nested.{around, enter, exit, pair}
+use Rattle.md_seam.specs.Events.Nested.{around, enter, exit}
 use Rattle.md_seam.specs.Spaces.{IsRest, calmed, small_indent}
-use Rattle.md_seam.proofs.AheadLemmas.{none-end, none-rest, white-ending, white-line_end}
+use Rattle.md_seam.proofs.AheadLemmas.{none-rest, white-ending, white-line_end}
 use Rattle.md_seam.proofs.WhiteSteps.{behind_white}
 use Rattle.markdown_blocks.specs.Leaf.ThematicBreak.{break_inside, first_cell, is_break}
 use Rattle.markdown_blocks.proofs.FromEnding.{from_ending-again, from_ending-shrinks}
 use Rattle.markdown_blocks.proofs.LeafStarts.{start-shrinks}
 use Rattle.markdown_blocks.proofs.LeafLaws.{Shrinks, cond-shrinks, whole_line}
 
--- what stands in a break with no indent, and with one
-inside-none : (options : ParseOptions) (cells : List Cell) (p : Point) → begins_white cells ≡ false →
-    break_inside options cells p ≡ runs Apart (first_cell cells) (line_cells cells) p
-inside-none options cells p e =
-    let room = small_indent options in
-    ap
-    (λ (x : Bool).
-    cond x (pair n.SpaceOrTab p (white_end room cells p)) []
-    ++ runs Apart (first_cell (white_rest room cells)) (line_cells (white_rest room cells)) (white_end room cells p)) e
-    ∙ ap₂ (λ (r : List Cell) (q : Point). runs Apart (first_cell r) (line_cells r) q) (none-rest room cells e)
-    (none-end room cells p e)
-
-inside-white : (options : ParseOptions) (cells : List Cell) (p : Point) → begins_white cells ≡ true →
-    break_inside options cells p ≡
-    pair n.SpaceOrTab p (white_end (small_indent options) cells p)
-    ++ runs Apart (first_cell (white_rest (small_indent options) cells))
-    (line_cells (white_rest (small_indent options) cells)) (white_end (small_indent options) cells p)
-inside-white options cells p e =
-    let room = small_indent options in
-    ap
-    (λ (x : Bool).
-    cond x (pair n.SpaceOrTab p (white_end room cells p)) []
-    ++ runs Apart (first_cell (white_rest room cells)) (line_cells (white_rest room cells)) (white_end room cells p)) e
+-- what stands in it behind its indent
+abbrev behind_indent : List Cell → Point → List Event
+behind_indent cells p = runs Apart (first_cell cells) (line_cells cells) p
 
 -- at the marker a rule is taken to the end of the line, and else nothing is
 marked : (cells : List Cell) (h : Here) → is_rule (line_bytes cells) ≡ true →
@@ -137,7 +117,7 @@ break-took options cells h is e = go (begins_white cells) refl
         ∙ ap₂
         (λ (x : Point) (es : List Event).
         h.events ++ (enter n.ThematicBreak h.point ∷ es ++ exit n.ThematicBreak x ∷ [])) end
-        (sym (inside-white options cells h.point s)) in
+        (sym (indented-white behind_indent room cells h.point s)) in
         at-white n.ThematicBreak _ before_marker options cells h on s ∙ marked left at rule
         ∙ ap₂ (λ (x : Point) (t : Scratch). new es x t (from_ending left)) end (rest-white h.scratch is)
         ∙ ap₂ (λ (xs : List Event) (rest : List Cell). new xs p h.scratch rest) same (white-ending room cells)
@@ -152,7 +132,7 @@ break-took options cells h is e = go (begins_white cells) refl
         regroup h.events (runs Apart (first_cell cells) (line_cells cells) h.point) (enter n.ThematicBreak h.point)
         (exit n.ThematicBreak p)
         ∙ ap (λ (es : List Event). h.events ++ (enter n.ThematicBreak h.point ∷ es ++ exit n.ThematicBreak p ∷ []))
-        (sym (inside-none options cells h.point s)) in
+        (sym (indented-none behind_indent room cells h.point s)) in
         at-none n.ThematicBreak _ before_marker options cells h on s ∙ marked cells at here'
         ∙ ap₂ (λ (xs : List Event) (t : Scratch). new xs p t (from_ending cells)) same (rest-marker h.scratch is)
 

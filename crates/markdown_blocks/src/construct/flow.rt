@@ -24,7 +24,8 @@ ghost use Rattle.markdown_blocks.specs.Registry.{front_of, opener_front, openers
 ghost use Rattle.md_seam.specs.Transition.{IsAt, NeedsNothing};
 
 pub use crate::construct::registry::{
-    before_code_indented, before_heading_atx, before_html, before_raw, before_thematic_break,
+    before_code_indented, before_heading_atx, before_heading_setext, before_html, before_raw,
+    before_thematic_break,
 };
 use crate::construct::{document, registry};
 use crate::resolve;

@@ -1,7 +1,8 @@
 // The constructs that are built: the one place of the frame's code that names them.
 //
 //     container ::= block_quote | list_item
-//     leaf      ::= code_indented | raw_flow | html_flow | heading_atx | thematic_break
+//     leaf      ::= code_indented | raw_flow | html_flow | heading_atx | heading_setext
+//                 | thematic_break
 //
 // What flow itself is made of (blank lines, content, whitespace) stands in its own table.
 
@@ -47,6 +48,7 @@ use md_engine::state::code_indented::State as CodeState;
 use md_engine::state::document::State as DocumentState;
 use md_engine::state::flow::State as FlowState;
 use md_engine::state::heading_atx::State as HeadingState;
+use md_engine::state::heading_setext::State as SetextState;
 use md_engine::state::html_flow::State as HtmlState;
 use md_engine::state::list_item::State as ItemState;
 use md_engine::state::raw_flow::State as RawState;
@@ -56,7 +58,7 @@ use md_engine::stay::Stay;
 use md_engine::subtokenize::Subresult;
 use md_engine::tokenizer::{Container, ContainerKind, HeldLeaf, Tokenizer};
 use md_leaves::spans::{self, Place};
-use md_leaves::{heading_atx, thematic_break};
+use md_leaves::{heading_atx, heading_setext, thematic_break, underlines};
 use md_lines::{code_indented, raw_flow};
 use md_rich::html_flow;
 use md_seam::space_or_tab::look_behind;
@@ -173,6 +175,8 @@ pub fn begins_at(current: Option<u8>) -> FlowState
                 FlowState::BeforeHtml
             } else if heading_atx::may_begin(current) {
                 FlowState::BeforeHeadingAtx
+            } else if heading_setext::may_begin(current) {
+                FlowState::BeforeHeadingSetext
             } else if thematic_break::may_begin(current) {
                 FlowState::BeforeThematicBreak
             } else {
@@ -303,13 +307,36 @@ pub fn before_heading_atx(tokenizer: &mut Tokenizer) -> State
         world tokenizer.new ≡ (before_transition LeafName.HeadingAtx (world tokenizer.old)).world }
 {
     if !heading_atx::may_begin(look_behind(tokenizer)) {
-        return State::Retry(StateName::Flow(FlowState::BeforeThematicBreak));
+        return State::Retry(StateName::Flow(FlowState::BeforeHeadingSetext));
     }
     or_error!(tokenizer.attempt(
         State::Next(StateName::Flow(FlowState::LeafAfter)),
-        State::Next(StateName::Flow(FlowState::BeforeThematicBreak))
+        State::Next(StateName::Flow(FlowState::BeforeHeadingSetext))
     ));
     State::Retry(StateName::HeadingAtx(HeadingState::Start))
+}
+
+/// Before the underline of a setext heading.
+///
+/// ```markdown
+///   | a
+/// > | =
+///     ^
+/// ```
+pub fn before_heading_setext(tokenizer: &mut Tokenizer) -> State
+    requires { IsAt NeedsNothing (StateName.Flow FlowState.BeforeHeadingSetext) (world tokenizer.old) }
+    ensures to { result ≢ State.Error → result ≡ (before_transition LeafName.HeadingSetext (world tokenizer.old)).to }
+    ensures world { result ≢ State.Error →
+        world tokenizer.new ≡ (before_transition LeafName.HeadingSetext (world tokenizer.old)).world }
+{
+    if !heading_setext::may_begin(look_behind(tokenizer)) {
+        return State::Retry(StateName::Flow(FlowState::BeforeThematicBreak));
+    }
+    or_error!(tokenizer.attempt(
+        State::Next(StateName::Flow(FlowState::After)),
+        State::Next(StateName::Flow(FlowState::BeforeThematicBreak))
+    ));
+    State::Retry(StateName::HeadingSetext(SetextState::Start))
 }
 
 /// Before a thematic break.
@@ -347,6 +374,7 @@ pub fn before_leaf(tokenizer: &mut Tokenizer, state: FlowState) -> State
         FlowState::BeforeRaw => before_raw(tokenizer),
         FlowState::BeforeHtml => before_html(tokenizer),
         FlowState::BeforeHeadingAtx => before_heading_atx(tokenizer),
+        FlowState::BeforeHeadingSetext => before_heading_setext(tokenizer),
         FlowState::BeforeThematicBreak => before_thematic_break(tokenizer),
         _ => State::Nok,
     }
@@ -546,6 +574,7 @@ pub fn call(tokenizer: &mut Tokenizer, name: StateName) -> State
         StateName::BlockQuote(state) => block_quote::call(tokenizer, state),
         StateName::CodeIndented(state) => code_indented::call(tokenizer, state),
         StateName::HeadingAtx(state) => heading_atx::call(tokenizer, state),
+        StateName::HeadingSetext(state) => heading_setext::call(tokenizer, state),
         StateName::HtmlFlow(state) => html_flow::call(tokenizer, state),
         StateName::ListItem(state) => list_item::call(tokenizer, state),
         StateName::RawFlow(state) => raw_flow::call(tokenizer, state),
@@ -596,6 +625,7 @@ pub fn stays(name: StateName) -> Option<Stay>
     match name {
         StateName::CodeIndented(state) => code_indented::stays(state),
         StateName::HeadingAtx(state) => heading_atx::stays(state),
+        StateName::HeadingSetext(state) => heading_setext::stays(state),
         StateName::HtmlFlow(state) => html_flow::stays(state),
         StateName::ListItem(state) => list_item::stays(state),
         StateName::RawFlow(state) => raw_flow::stays(state),
@@ -616,13 +646,15 @@ pub fn joins_lines(options: &ParseOptions) -> bool
         || options.constructs.html_flow
 }
 
-/// Whether an event stays as it is where lines are joined and lists are put around items: it is of no leaf of several
-/// lines, and of no item.
+/// Whether an event stays as it is where setext headings are set, lines are joined and lists are put around items: it is of
+/// no underline, of no leaf of several lines, and of no item.
 #[inline(always)]
 pub fn stays_alone(event: &Event) -> bool
     ensures { result ≡ stays_alone event.now }
 {
-    spans::passes(Place::Outside, event) && !lists::is_item(event.name)
+    spans::passes(Place::Outside, event)
+        && !lists::is_item(event.name)
+        && !underlines::is_underline(event.name)
 }
 
 /// Runs the resolver of a construct; one that has none changes nothing.
@@ -640,6 +672,7 @@ pub fn resolve(tokenizer: &mut Tokenizer, name: ResolveName) -> Result<Option<Su
 {
     match name {
         ResolveName::HeadingAtx => heading_atx::resolve(tokenizer),
+        ResolveName::HeadingSetext => heading_setext::resolve(tokenizer),
         ResolveName::ListItem => lists::resolve(tokenizer),
         _ => Ok(None),
     }

@@ -1,13 +1,14 @@
 // What an outline knows of a leaf block of several lines that is open, and what it shows of it: indented code, fenced
-// code, math and HTML. Its lines are shown as they come, and the line of its word is told later what its fences say.
+// code, math, HTML and setext headings. Its lines are shown as they come, and the line of its word is told later what
+// its fences or its underline say.
 
 ghost use Rattle.std.specs.Prelude.{◌≡◌, ◌+◌, ◌∷◌, [], ◌++◌, if◌then◌else◌, OnOk};
 ghost use Rattle.std.specs.Str.{IsUtf8};
 ghost use Rattle.md_definition.specs.Outline.{entries_of, entry, entry_with};
 ghost use Rattle.md_definition.specs.declared.outline.Word.TheVariants as word;
 ghost use Rattle.md_seam.specs.Events.Spelled as spelled;
-ghost use Rattle.md_outline.specs.LinedState.{begin_lines, closed_word, filled_line, marked_word, with_head};
-ghost use Rattle.md_outline.specs.LinedState.{without_end};
+ghost use Rattle.md_outline.specs.LinedState.{begin_lines, closed_word, filled_line, is_heading, marked_word};
+ghost use Rattle.md_outline.specs.LinedState.{with_head, without_end};
 
 use crate::outline::lines::{next, push, text_of};
 use md_definition::outline::{OutlineLine, Word};
@@ -19,8 +20,24 @@ use md_engine::message::Message;
 pub struct Lined {
     /// The line of the outline that has its word.
     pub place: usize,
-    /// Whether it has a fence that told its markers: a further one closes it.
+    /// Whether it has told its markers: a further fence closes it.
     pub is_fenced: bool,
+    /// Whether it is a heading: its lines are those of one text.
+    pub is_heading: bool,
+}
+
+/// Whether this is the word of a heading.
+pub fn is_heading(word: Word) -> bool
+    ensures { result ≡ is_heading word }
+{
+    matches!(word, Word::Heading(_))
+}
+
+/// The depth of a setext heading, by the marker of its underline: `=` or `-`.
+fn underline_depth(marker: u8) -> u8
+    ensures { result ≡ spelled.underline_depth marker }
+{
+    if marker == b'=' { 1 } else { 2 }
 }
 
 /// The virtual spaces of a text that begins at a point: what is left of a tab that is cut.
@@ -34,12 +51,13 @@ pub fn spaces_at(point: Point) -> usize
     }
 }
 
-/// The word of a leaf block whose first fence has this marker.
+/// The word of a leaf block whose first fence or whose underline has this marker.
 fn marked(word: Word, marker: u8) -> Word
     ensures { result ≡ marked_word marker word }
 {
     match word {
         Word::Fence { closed, .. } => Word::Fence { marker, closed },
+        Word::Heading(_) => Word::Heading(underline_depth(marker)),
         _ => word,
     }
 }
@@ -73,7 +91,7 @@ pub fn push_begun<'a>(
     }
 }
 
-/// Tells it the marker of its first fence.
+/// Tells it the marker of its first fence, or of its underline.
 pub fn mark_head(lines: &mut Vec<OutlineLine>, place: usize, marker: u8)
     ensures { entries_of lines.new.items ≡ with_head (marked_word marker) place (entries_of lines.old.items) }
 {

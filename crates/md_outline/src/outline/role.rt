@@ -26,7 +26,8 @@ pub enum Note {
 pub enum Purpose {
     /// A block of its own, shown with its lines as they come.
     Block,
-    Note(Note),
+    /// The text of a heading.
+    Title,
     /// A run of markers of a heading or of a fence.
     Markers,
     /// What the first fence of a leaf block says, shown with this word.
@@ -89,7 +90,8 @@ pub fn role_of<'a>(name: Name) -> Role<'a>
         | Name::HeadingSetextUnderlineSequence
         | Name::CodeFencedFenceSequence
         | Name::MathFlowFenceSequence => Role::Text(Purpose::Markers),
-        Name::HeadingAtxText | Name::HeadingSetextText => Role::Text(Purpose::Note(Note::Title)),
+        Name::HeadingAtxText | Name::HeadingSetextText => Role::Text(Purpose::Title),
+        Name::HeadingSetext => Role::Lined(Word::Heading(0)),
         Name::CodeIndented => Role::Lined(Word::Code),
         Name::CodeFenced => Role::Lined(Word::Fence {
             marker: 0,

@@ -2,7 +2,7 @@ use Rattle.std.proofs.Common.{◌+◌, ◌∷◌, [], ◌++◌, refl}
 use Rattle.md_definition.specs.Outline.{entries_of, entry_with}
 use Rattle.md_outline.specs.LinedState.{filled_line, without_end}
 use Rattle.md_outline.specs.OutlineSteps.{state_of}
-use Rattle.md_outline.proofs.OutlineLemmas.{block-end, markers-end, note-end, on_ok-map, part-end}
+use Rattle.md_outline.proofs.OutlineLemmas.{block-end, markers-end, on_ok-map, part-end, title-end}
 use Rattle.md_outline.specs.declared.outline.role.Purpose.TheVariants as purpose
 use Rattle.md_outline.proofs.outline.Reading.end_text.Goals as goal
 
@@ -16,18 +16,21 @@ returns-in-Block-clause-read c =
     c.in-Some.is c.in-Block.is cut c.part-text.ensures reads)
     c.push_block.ensures
 
-pub returns-in-Note-clause-read : goal.returns-in-Note-clause-read
-returns-in-Note-clause-read c = λ cut.
-    note-end c.args.self.now.bytes.now c.part-text.result.now c.in-Some.span c.args.end
-    c.args.self.now.text c.args.purpose c.in-Note.note (state_of c.args.self.now) (state_of c.note.new.self)
-    c.in-Some.is c.in-Note.is cut c.part-text.ensures c.note.ensures.read
+pub returns-in-Title-clause-read : goal.returns-in-Title-clause-read
+returns-in-Title-clause-read c =
+    on_ok-map c.title.result
+    (λ reads cut.
+    title-end c.args.self.now.bytes.now c.part-text.result.now c.in-Some.span c.args.end
+    c.args.self.now.text c.args.purpose (state_of c.args.self.now) (state_of c.title.new.self)
+    c.in-Some.is c.in-Title.is cut c.part-text.ensures reads)
+    c.title.ensures.read
 
 pub returns-in-Markers-clause-read : goal.returns-in-Markers-clause-read
 returns-in-Markers-clause-read c = λ cut.
     markers-end c.args.self.now.bytes.now c.part-text.result.now c.in-Some.span c.args.end
-    c.args.self.now.text c.args.purpose (state_of c.args.self.now) (state_of c.note-in-Markers.new.self)
+    c.args.self.now.text c.args.purpose (state_of c.args.self.now) (state_of c.note.new.self)
     (state_of c.mark_lined.new.self)
-    c.in-Some.is c.in-Markers.is cut c.part-text.ensures c.note-in-Markers.ensures.read c.mark_lined.ensures.read
+    c.in-Some.is c.in-Markers.is cut c.part-text.ensures c.note.ensures.read c.mark_lined.ensures.read
 
 pub returns-in-Part-clause-read : goal.returns-in-Part-clause-read
 returns-in-Part-clause-read c =

@@ -8,6 +8,6 @@ returns-clause-read c =
     on_ok-map c.push_piece.result
     (λ reads cut.
     piece-end c.args.self.now.bytes.now c.part-text.result.now c.in-Some.span c.args.end c.args.self.now.text
-    (state_of c.args.self.now) (entries_of c.push_piece.new.lines.items)
-    c.in-Some.is cut c.part-text.ensures reads)
+    (state_of c.args.self.now) (entries_of c.push_piece.new.lines.items) c.is_begun-is_shown.result
+    c.in-Some.is c.is_begun-is_shown.ensures cut c.part-text.ensures reads)
     c.push_piece.ensures

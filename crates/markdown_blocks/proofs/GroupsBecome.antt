@@ -1,0 +1,127 @@
+-- The text of leaves, and texts, is read in the places of their chunks.
+use Rattle.std.proofs.Common.{◌≡◌, ℕ, Bool, true, false, List, [], ◌∷◌, ◌++◌, sym, ◌∙◌, ap, subst, append-nil, refl}
+use Rattle.md_engine.specs.declared.configuration.ParseOptions.{ParseOptions}
+use Rattle.md_engine.specs.declared.event.Content.{Content}
+use Rattle.md_engine.specs.declared.event.Content.TheVariants as content
+use Rattle.md_engine.specs.declared.event.Event.{Event}
+use Rattle.md_engine.specs.declared.event.Name.TheVariants as n
+use Rattle.md_engine.specs.declared.event.Point.{Point}
+use Rattle.md_engine.specs.declared.tokenizer.held_leaf.HeldLeaf.{HeldLeaf}
+use Rattle.md_definition.specs.State.{Container}
+use Rattle.md_seam.specs.Substituted.{Readings, Substituted}
+use Rattle.markdown_blocks.specs.HeldLeaf.{may_go_on}
+use Rattle.markdown_blocks.specs.Registry.{text_leaf}
+use Rattle.markdown_blocks.specs.Rows.{Group, Lines, Row, RowKind, Single, Span, TextRow, Turned, ending_of}
+use Rattle.markdown_blocks.specs.Rows.{group_events, group_kind, groups, groups_events, is_further, last_row, leaf_done, leaf_unread}
+use Rattle.markdown_blocks.specs.Rows.{single_events_by, span_by, span_done, tail_events, text_done, turned_by}
+use Rattle.markdown_blocks.specs.Rows.{turned_done}
+use Rattle.markdown_blocks.specs.Unread.{listed_group, listed_groups, listed_row_by, text_unread, unread_lines}
+use Rattle.markdown_blocks.proofs.GroupLemmas.{front-unwanted, tail-unwanted}
+use Rattle.markdown_blocks.proofs.GroupsAre.{AreGroups, AreLines, AreSpan, HasFront, IsSingle, IsSpanLine, IsUnder}
+use Rattle.markdown_blocks.proofs.GroupsAre.{behind-first, groups-are, line-further, line-of, span-begins}
+use Rattle.markdown_blocks.proofs.JoinedLemmas.{EachNoContent}
+use Rattle.markdown_blocks.proofs.LeafFacts.{ReadsString, ReadsText}
+use Rattle.markdown_blocks.proofs.Registry.{span-laws}
+use Rattle.markdown_blocks.proofs.RowFacts.{AreRows}
+use Rattle.markdown_blocks.proofs.RowLeaf.{row-becomes}
+use Rattle.markdown_blocks.proofs.SubstitutedLemmas.{Becomes, Rest, Unwanted, becomes-append, becomes-same}
+use Rattle.markdown_blocks.proofs.Text.Becomes.{text-becomes}
+use Rattle.markdown_blocks.proofs.Turned.Becomes.{turned-becomes}
+
+-- what stands between the front of a line and its tail
+leaf-becomes : (wants : Content → Bool) (reads : Readings) (front leaf read tail : List Event) → Unwanted wants front →
+    Unwanted wants tail → Becomes wants reads leaf read →
+    Becomes wants reads ((front ++ leaf) ++ tail) ((front ++ read) ++ tail)
+leaf-becomes wants reads front leaf read tail h k becomes =
+    becomes-append wants reads (front ++ leaf) (front ++ read) tail tail
+    (becomes-append wants reads front front leaf read (becomes-same wants reads front h) becomes)
+    (becomes-same wants reads tail k)
+
+single-becomes : (options : ParseOptions) (bytes : List ℕ) (row : Row) (wants : Content → Bool) (reads : Readings) →
+    wants content.Text ≡ true → ReadsText bytes reads → IsSingle options bytes row →
+    Becomes wants reads (listed_row_by bytes row.kind row) (single_events_by bytes row.kind row)
+single-becomes options bytes row wants reads w rt is =
+    leaf-becomes wants reads row.front (leaf_unread bytes row.kind row) (leaf_done bytes row.kind row)
+    (tail_events (ending_of row.kind row) row) (front-unwanted wants bytes row is.front)
+    (tail-unwanted wants row.kind row)
+    (row-becomes options bytes is.line row is.is is.other is.ends wants reads w rt)
+
+lines-become : (options : ParseOptions) (bytes : List ℕ) (row : Row) (rows : List Row) (wants : Content → Bool)
+    (reads : Readings) →
+    wants content.Text ≡ true → ReadsText bytes reads → AreLines options bytes row rows → HasFront bytes row →
+    Becomes wants reads (listed_group bytes (Lines row rows)) (group_events bytes (Lines row rows))
+lines-become options bytes row rows wants reads w rt is front =
+    let last : Row = last_row row rows in
+    leaf-becomes wants reads row.front (text_unread row rows) (text_done bytes row rows) (tail_events n.LineEnding last)
+    (front-unwanted wants bytes row front) (tail-unwanted wants TextRow last)
+    (text-becomes options bytes text_leaf.name row rows wants reads w rt refl is)
+
+-- and the line that turns them
+turned-become : (options : ParseOptions) (bytes : List ℕ) (row : Row) (rows : List Row) (under : Row)
+    (wants : Content → Bool) (reads : Readings) →
+    wants content.Text ≡ true → ReadsText bytes reads → AreLines options bytes row rows →
+    IsUnder options bytes (last_row row rows) under → HasFront bytes row →
+    Becomes wants reads (listed_group bytes (Turned row rows under)) (group_events bytes (Turned row rows under))
+turned-become options bytes row rows under wants reads w rt is turns front =
+    leaf-becomes wants reads row.front (turned_by (unread_lines row rows) row rows under)
+    (turned_done bytes row rows under) (tail_events (ending_of under.kind under) under)
+    (front-unwanted wants bytes row front) (tail-unwanted wants under.kind under)
+    (turned-becomes options bytes row rows under is turns wants reads w rt)
+
+-- the lines of a leaf of several
+span-becomes : (options : ParseOptions) (bytes : List ℕ) (row : Row) (rows : List Row) (wants : Content → Bool)
+    (reads : Readings) →
+    wants content.Text ≡ true → wants content.String ≡ true → ReadsText bytes reads → ReadsString bytes reads →
+    AreSpan options bytes row rows → is_further row.kind row.on ≡ false →
+    Becomes wants reads (listed_group bytes (Span row rows)) (group_events bytes (Span row rows))
+span-becomes options bytes row rows wants reads w ws rt rs are begins =
+    let is : IsSpanLine options bytes row = span-begins options bytes row rows are in
+    let kind : RowKind = group_kind (Span row rows) in
+    leaf-becomes wants reads row.front (span_by (λ (r : Row). r.inside) row rows) (span_done bytes row rows)
+    (tail_events (ending_of kind (last_row row rows)) (last_row row rows)) (front-unwanted wants bytes row is.front)
+    (tail-unwanted wants kind (last_row row rows))
+    ((span-laws is.name is.open_leaf).becomes options bytes row rows (line-of options bytes row is)
+    (line-further options bytes row is false begins) (behind-first options bytes row rows are) wants reads w ws rt rs)
+
+groups-become : (options : ParseOptions) (bytes : List ℕ) (wants : Content → Bool) (reads : Readings) →
+    wants content.Text ≡ true → wants content.String ≡ true → ReadsText bytes reads → ReadsString bytes reads →
+    (gs : List Group) → AreGroups options bytes gs →
+    Becomes wants reads (listed_groups bytes gs) (groups_events bytes gs)
+groups-become options bytes wants reads w ws rt rs [] are = becomes-same wants reads [] tt
+groups-become options bytes wants reads w ws rt rs (Single row ∷ gs) are =
+    becomes-append wants reads (listed_group bytes (Single row)) (group_events bytes (Single row))
+    (listed_groups bytes gs) (groups_events bytes gs)
+    (single-becomes options bytes row wants reads w rt are.0)
+    (groups-become options bytes wants reads w ws rt rs gs are.1)
+groups-become options bytes wants reads w ws rt rs (Turned row rows under ∷ gs) are =
+    becomes-append wants reads (listed_group bytes (Turned row rows under))
+    (group_events bytes (Turned row rows under)) (listed_groups bytes gs) (groups_events bytes gs)
+    (turned-become options bytes row rows under wants reads w rt are.0 are.1 are.3)
+    (groups-become options bytes wants reads w ws rt rs gs are.4)
+groups-become options bytes wants reads w ws rt rs (Span row rows ∷ gs) are =
+    becomes-append wants reads (listed_group bytes (Span row rows)) (group_events bytes (Span row rows))
+    (listed_groups bytes gs) (groups_events bytes gs)
+    (span-becomes options bytes row rows wants reads w ws rt rs are.0 are.4)
+    (groups-become options bytes wants reads w ws rt rs gs are.2)
+groups-become options bytes wants reads w ws rt rs (Lines row rows ∷ gs) are =
+    becomes-append wants reads (listed_group bytes (Lines row rows)) (group_events bytes (Lines row rows))
+    (listed_groups bytes gs) (groups_events bytes gs)
+    (lines-become options bytes row rows wants reads w rt are.0 are.2)
+    (groups-become options bytes wants reads w ws rt rs gs are.3)
+
+-- The text of leaves, and texts, read: the events of a text.
+pub text-read : (options : ParseOptions) (bytes : List ℕ) (open_before : List Container) (still : HeldLeaf) (p : Point)
+    (lines : List (List ℕ)) (rows : List Row) →
+    may_go_on still ≡ false → AreRows options bytes open_before still p lines rows → EachNoContent rows →
+    (wants : Content → Bool) (reads : Readings) → wants content.Text ≡ true → wants content.String ≡ true →
+    ReadsText bytes reads → ReadsString bytes reads →
+    (events : List Event) → Substituted wants reads [] 0 (listed_groups bytes (groups rows)) events →
+    events ≡ groups_events bytes (groups rows)
+text-read options bytes open_before still p lines rows shut are quiet wants reads w ws rt rs events s =
+    let unread : List Event = listed_groups bytes (groups rows) in
+    let rest : Rest wants reads (groups_events bytes (groups rows)) [] events =
+    groups-become options bytes wants reads w ws rt rs (groups rows)
+    (groups-are options bytes open_before still p lines rows shut are quiet) [] [] events
+    (subst (λ (l : List Event). Substituted wants reads [] 0 l events) (sym (append-nil unread)) s) in
+    rest.2 ∙ ap (λ (l : List Event). groups_events bytes (groups rows) ++ l) rest.3
+    ∙ append-nil (groups_events bytes (groups rows))

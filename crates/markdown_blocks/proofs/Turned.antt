@@ -1,0 +1,9 @@
+-- The room of a text that an underline turns into a heading.
+pub mod Becomes
+pub mod Events
+pub mod Facts
+pub mod Gap
+pub mod Line
+pub mod Reads
+pub mod Text
+pub mod Under

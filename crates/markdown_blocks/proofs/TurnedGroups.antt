@@ -1,0 +1,362 @@
+-- Setext headings are set: the lines of each text that an underline turns are one heading with it, and all else stays.
+use Rattle.std.proofs.Common.{◌≡◌, ℕ, Bool, true, false, cond, ◌&&◌, List, [], ◌∷◌, ◌++◌, refl, ap, sym, ◌∙◌, subst}
+use Rattle.std.proofs.Common.{ap₂, append_assoc}
+use Rattle.std.specs.Prelude.{Option, Some, None}
+use Rattle.md_engine.specs.declared.configuration.ParseOptions.{ParseOptions}
+use Rattle.md_engine.specs.declared.event.Event.{Event}
+use Rattle.md_engine.specs.declared.event.Link.{Link}
+use Rattle.md_engine.specs.declared.event.Name.TheVariants as n
+use Rattle.md_engine.specs.declared.event.Point.{Point}
+use Rattle.md_engine.specs.declared.tokenizer.held_leaf.HeldLeaf.{HeldLeaf}
+use Rattle.md_engine.specs.declared.tokenizer.held_leaf.HeldLeaf.TheVariants as held_leaf
+use Rattle.md_leaves.specs.Turned.{has_underline, is_underline, turned, underline_behind}
+use Rattle.md_leaves.proofs.TurnedLemmas as turns
+use Rattle.md_leaves.proofs.TurnedLemmas.{Unlined, no-ending, passes-parts, turned-passes, turned-text}
+use Rattle.md_leaves.proofs.TurnedLemmas.{turned-underlined}
+use Rattle.md_seam.specs.Events.Nested.{around, enter, exit, is_enter, pair}
+use Rattle.md_seam.specs.Events.Places.{past_text}
+use Rattle.md_seam.specs.Events.Prefix.{is_prefix}
+use Rattle.md_definition.specs.State.{Container}
+use Rattle.markdown_blocks.specs.Change.{ends_of}
+use Rattle.markdown_blocks.specs.HeldLeaf.{has_lines, may_go_on, takes_lazy}
+use Rattle.markdown_blocks.specs.LineFlags.{ending_name}
+use Rattle.markdown_blocks.specs.Registry.{LeafName, container_name, leaf, resolved, text_leaf, turn_leaf}
+use Rattle.markdown_blocks.specs.Rows.{BlankRow, Group, LeafRow, Lines, Row, RowKind, Single, Span, TextRow, Turned}
+use Rattle.markdown_blocks.specs.Rows.{blank_line, ending_events, ending_of, groups, is_blank_by, is_further, last_row}
+use Rattle.markdown_blocks.specs.Rows.{leaf_events, leaf_unread, row_events, rows_events}
+use Rattle.markdown_blocks.specs.Rows.{tail_events}
+use Rattle.markdown_blocks.specs.Unread.{linked_lines, listed_group, listed_row_by, set_groups, text_unread}
+use Rattle.markdown_blocks.specs.Unread.{turned_groups, unread_group, unread_groups, unread_lines}
+use Rattle.markdown_blocks.proofs.ContainerNames.{container-facts}
+use Rattle.markdown_blocks.proofs.EachEvent.{each-append}
+use Rattle.markdown_blocks.proofs.FrontNames.{HasFront, ends-are, ends-first, fronts-are}
+use Rattle.markdown_blocks.proofs.HeadingSetext.Line.{underline-unturned, underline_parts}
+use Rattle.markdown_blocks.proofs.GroupLemmas.{leaves-set, lines-prefixed, under-prefixed}
+use Rattle.markdown_blocks.proofs.GroupsAre.{AreGroups, AreLines, AreSpan, EndsBeforeGroups, IsSingle}
+use Rattle.markdown_blocks.proofs.GroupsAre.{IsSpanLine, IsUnder, further-may, groups-are, line-of, span-begins}
+use Rattle.markdown_blocks.proofs.JoinedLemmas.{EachNoContent}
+use Rattle.markdown_blocks.proofs.KindLemmas.{kind-starts}
+use Rattle.markdown_blocks.proofs.PrefixNames.{ArePrefixes, prefixes-front}
+use Rattle.markdown_blocks.proofs.Registry.{laws}
+use Rattle.markdown_blocks.proofs.RowFacts.{AreRows}
+use Rattle.markdown_blocks.proofs.Span.Cuts.{ending-is}
+use Rattle.markdown_blocks.proofs.SpanLaws.{IsLineOf}
+use Rattle.markdown_blocks.proofs.SubstitutedLemmas.{EachPrefixed}
+use Rattle.markdown_blocks.proofs.Turned.Under.{under-is}
+use Rattle.markdown_blocks.proofs.UnturnedFacts.{AreUnturned, IsUnturned, fronts-unturned}
+
+-- Events that pass.
+
+each-unturned : (es : List Event) → AreUnturned es → turns.AreUnturned es
+each-unturned [] h = tt
+each-unturned (e ∷ es) h = (h.0, each-unturned es h.1)
+
+-- they are given as they are
+passed : (xs ys : List Event) → AreUnturned xs → turned (xs ++ ys) ≡ xs ++ turned ys
+passed xs ys h = turned-passes false xs ys (each-unturned xs h)
+
+-- and no underline begins among them
+unlined-passed : (xs ys : List Event) → AreUnturned xs → Unlined ys → Unlined (xs ++ ys)
+unlined-passed [] ys h k = k
+unlined-passed (e ∷ xs) ys h k = go (is_prefix e.name) (is_enter e.kind) (unlined-passed xs ys h.1 k)
+  where
+    go : (x y : Bool) → underline_behind (xs ++ ys) ≡ false →
+        cond x (underline_behind (xs ++ ys)) (y && is_underline e.name) ≡ false
+    go true y more = more
+    go false true more = (passes-parts e h.0).1
+    go false false more = refl
+
+prefixes-are : (es : List Event) → ArePrefixes es → turns.ArePrefixes es
+prefixes-are [] h = tt
+prefixes-are (e ∷ es) h = (h.0.0, prefixes-are es h.1)
+
+-- Around the leaf of a line.
+
+front-unturned : (bytes : List ℕ) (row : Row) → HasFront bytes row → AreUnturned row.front
+front-unturned bytes row h =
+    fronts-unturned row.front (fronts-are bytes row.change.opens h.0 row.first row.front h.1)
+
+prefixes-unturned : (es : List Event) → ArePrefixes es → AreUnturned es
+prefixes-unturned es h = fronts-unturned es (prefixes-front es h)
+
+tail-unturned : (blank : Bool) (row : Row) → AreUnturned (tail_events (ending_name blank) row)
+tail-unturned blank row =
+    each-append IsUnturned (ends_of row.leaves row.end) (ending_events (ending_name blank) row)
+    (fronts-unturned (ends_of row.leaves row.end) (ends-are row.leaves row.end)) (ending blank row.after)
+  where
+    ending : (blank : Bool) (after : Option Point) →
+        AreUnturned (elim after [ None ↦ [] | Some q ↦ pair (ending_name blank) row.end q ])
+    ending blank None = tt
+    ending true (Some q) = (refl, (refl, tt))
+    ending false (Some q) = (refl, (refl, tt))
+
+-- Lines that are no text.
+
+blank-unturned : (line : List ℕ) (p : Point) → AreUnturned (blank_line line p)
+blank-unturned [] p = tt
+blank-unturned (b ∷ line) p = (refl, (refl, tt))
+
+single-unturned : (options : ParseOptions) (bytes : List ℕ) (row : Row) → IsSingle options bytes row →
+    (kind : RowKind) → row.kind ≡ kind → AreUnturned (listed_row_by bytes kind row)
+single-unturned options bytes row is kind e =
+    each-append IsUnturned (row.front ++ leaf_unread bytes kind row) (tail_events (ending_of kind row) row)
+    (each-append IsUnturned row.front (leaf_unread bytes kind row) (front-unturned bytes row is.front)
+    (unread kind e))
+    (tail-unturned (is_blank_by kind row) row)
+  where
+    unread : (kind : RowKind) → row.kind ≡ kind → AreUnturned (leaf_unread bytes kind row)
+    unread BlankRow e = subst AreUnturned (sym (is.is.blank e)) (blank-unturned is.line row.first)
+    unread (LeafRow l) e =
+        subst (λ (line : List ℕ). AreUnturned ((leaf l).unread line row.first)) (sym (is.is.text ∙ is.is.line_is))
+        ((laws l).unturned (is.ends l e) options row.on is.is.rest row.first
+        (kind-starts options row.on is.is.rest l (sym is.is.kind ∙ e)))
+    unread TextRow e = absurd (is.other e)
+
+-- a line of a leaf of several, which goes on no text
+span_line-unturned : (options : ParseOptions) (bytes : List ℕ) (row : Row) (is : IsSpanLine options bytes row) →
+    (is_further row.kind row.on ≡ true → has_lines row.on ≡ true) → AreUnturned (row_events row)
+span_line-unturned options bytes row is lines =
+    each-append IsUnturned (row.front ++ leaf_events row.kind row) (tail_events (ending_of row.kind row) row)
+    (each-append IsUnturned row.front (leaf_events row.kind row) (front-unturned bytes row is.front)
+    (subst (λ (kind : RowKind). AreUnturned (leaf_events kind row)) (sym is.kind)
+    (subst AreUnturned (sym of_leaf.inside)
+    ((laws is.name).unturned_line is.open_leaf options row.on of_leaf.rest row.first of_leaf.starts
+    (λ further. lines (ap (λ (kind : RowKind). is_further kind row.on) is.kind ∙ further))))))
+    (tail-unturned (is_blank_by row.kind row) row)
+  where
+    of_leaf : IsLineOf options bytes (leaf is.name) row
+    of_leaf = line-of options bytes row is
+
+-- a leaf that a line may go on, and that takes no lazy lines, has several
+lines-of : (on : HeldLeaf) → may_go_on on ≡ true → takes_lazy on ≡ false → has_lines on ≡ true
+lines-of held_leaf.None may lazy = cc
+lines-of held_leaf.Text may lazy = cc
+lines-of held_leaf.LazyText may lazy = cc
+lines-of _ may lazy = refl
+
+span-unturned : (options : ParseOptions) (bytes : List ℕ) (row : Row) (rows : List Row) →
+    AreSpan options bytes row rows → (is_further row.kind row.on ≡ true → has_lines row.on ≡ true) →
+    AreUnturned (rows_events (row ∷ rows))
+span-unturned options bytes row [] are lines =
+    each-append IsUnturned (row_events row) [] (span_line-unturned options bytes row are lines) tt
+span-unturned options bytes row (next ∷ rows) are lines =
+    let below : IsSpanLine options bytes next = span-begins options bytes next rows are.8 in
+    let above : IsLineOf options bytes (leaf are.0.name) row = line-of options bytes row are.0 in
+    let unlazy : takes_lazy next.on ≡ false =
+    ap takes_lazy (are.6 ∙ above.behind) ∙ ((laws are.0.name).not_lazy options row.on).1 above.rest in
+    each-append IsUnturned (row_events row) (rows_events (next ∷ rows))
+    (span_line-unturned options bytes row are.0 lines)
+    (span-unturned options bytes next rows are.8
+    (λ f. lines-of next.on (further-may options bytes below.line next below.is f) unlazy))
+
+-- Texts.
+
+linked-unturned : (link : Link) (row : Row) (rows : List Row) → EachPrefixed rows →
+    AreUnturned (linked_lines n.Data link row rows)
+linked-unturned link row [] h = (refl, (refl, tt))
+linked-unturned link row (next ∷ rows) h = (
+  refl,
+  (
+    refl,
+    each-append IsUnturned next.front (linked_lines n.Data link next rows) (prefixes-unturned next.front h.0)
+        (linked-unturned link next rows h.1),
+  ),
+)
+
+-- the line that turns one is an underline
+record IsUnderline (under : Row) : Type 0 where
+  end : Point
+  marks : List Event
+  leaf_is : leaf_events under.kind under ≡ under.inside
+  is : under.inside ≡ around n.HeadingSetextUnderline under.first end marks
+  end_is : end ≡ under.end
+  marks_unturned : AreUnturned marks
+
+under-line : (options : ParseOptions) (bytes : List ℕ) (row : Row) (rows : List Row) (under : Row) →
+    AreLines options bytes row rows → IsUnder options bytes (last_row row rows) under → IsUnderline under
+under-line options bytes row rows under are is = record {
+  end = past_text is.line under.first;
+  marks = underline_parts is.line under.first;
+  leaf_is = ap (λ (kind : RowKind). leaf_events kind under) is.kind;
+  is =
+      is.is.leaf_is is.name is.kind
+      ∙ ap (λ (l : LeafName). (leaf l).added options under.on is.line under.first)
+      (under-is options bytes row rows under are is);
+  end_is = sym is.is.end;
+  marks_unturned = underline-unturned is.line under.first;
+}
+
+-- What follows a text.
+
+-- no group begins with an underline
+text-unlined : (bytes : List ℕ) (row : Row) (rows : List Row) (es : List Event) → HasFront bytes row →
+    Unlined (unread_group (Lines row rows) ++ es)
+text-unlined bytes row rows es front =
+    let text : List Event = text_unread row rows in
+    let tail : List Event = tail_events n.LineEnding (last_row row rows) in
+    subst Unlined
+    (sym (append_assoc (row.front ++ text) tail es ∙ append_assoc row.front text (tail ++ es)))
+    (unlined-passed row.front (text ++ (tail ++ es)) (front-unturned bytes row front) refl)
+
+groups-unlined : (options : ParseOptions) (bytes : List ℕ) (gs : List Group) → AreGroups options bytes gs →
+    Unlined (set_groups bytes gs)
+groups-unlined options bytes [] are = refl
+groups-unlined options bytes (Single row ∷ gs) are =
+    unlined-passed (listed_group bytes (Single row)) (set_groups bytes gs)
+    (single-unturned options bytes row are.0 row.kind refl) (groups-unlined options bytes gs are.1)
+groups-unlined options bytes (Lines row rows ∷ gs) are = text-unlined bytes row rows (set_groups bytes gs) are.2
+groups-unlined options bytes (Turned row rows under ∷ gs) are =
+    subst Unlined
+    (sym (append_assoc (unread_group (Lines row rows)) (row_events under) (set_groups bytes gs)))
+    (text-unlined bytes row rows (row_events under ++ set_groups bytes gs) are.3)
+groups-unlined options bytes (Span row rows ∷ gs) are =
+    unlined-passed (rows_events (row ∷ rows)) (set_groups bytes gs)
+    (span-unturned options bytes row rows are.0 (λ f. let bad : true ≡ false = sym f ∙ are.4 in cc))
+    (groups-unlined options bytes gs are.2)
+
+-- so no underline follows lines of text
+no-underline : (bytes : List ℕ) (row : Row) (gs : List Group) → EndsBeforeGroups row gs →
+    Unlined (set_groups bytes gs) →
+    has_underline (tail_events n.LineEnding row ++ set_groups bytes gs) ≡ false
+no-underline bytes row gs ends none = go row.leaves
+  where
+    es : List Event
+    es = set_groups bytes gs
+
+    ending : (gs : List Group) → EndsBeforeGroups row gs → Unlined (set_groups bytes gs) →
+        has_underline (ending_events n.LineEnding row ++ set_groups bytes gs) ≡ false
+    ending [] ends none = last row.after
+      where
+        last : (after : Option Point) →
+            has_underline (elim after [ None ↦ [] | Some q ↦ pair n.LineEnding row.end q ] ++ []) ≡ false
+        last None = refl
+        last (Some q) = refl
+    ending (group ∷ gs) ends none =
+        ap (λ (l : List Event). has_underline (l ++ set_groups bytes (group ∷ gs)))
+        (ending-is n.LineEnding row ends.0 ends.1)
+        ∙ none
+
+    go : (leaves : List Container) →
+        has_underline ((ends_of leaves row.end ++ ending_events n.LineEnding row) ++ es) ≡ false
+    go [] = ending gs ends none
+    go (c ∷ leaves) =
+        ap has_underline (append_assoc (ends_of (c ∷ leaves) row.end) (ending_events n.LineEnding row) es)
+        ∙ ends-first (λ (l : List Event). has_underline l ≡ false) c leaves row.end
+        (ending_events n.LineEnding row ++ es)
+        (λ d fs. no-ending (exit (container_name d) row.end) fs (container-facts d).no_ending)
+
+-- Groups.
+
+-- a text that nothing turns
+text-turned : (options : ParseOptions) (bytes : List ℕ) (row : Row) (rows : List Row) (es : List Event) →
+    AreLines options bytes row rows → HasFront bytes row →
+    has_underline (tail_events n.LineEnding (last_row row rows) ++ es) ≡ false →
+    turned (listed_group bytes (Lines row rows) ++ es) ≡ listed_group bytes (Lines row rows) ++ turned es
+text-turned options bytes row rows es are front none =
+    let text : List Event = text_unread row rows in
+    let tail : List Event = tail_events n.LineEnding (last_row row rows) in
+    ap turned (append_assoc (row.front ++ text) tail es ∙ append_assoc row.front text (tail ++ es))
+    ∙ passed row.front (text ++ (tail ++ es)) (front-unturned bytes row front)
+    ∙ ap (λ (l : List Event). row.front ++ l)
+    (turned-text row.first (last_row row rows).end (unread_lines row rows) (tail ++ es)
+    (each-unturned (unread_lines row rows)
+    (linked-unturned text_leaf.link row rows (lines-prefixed options bytes row rows are))) none
+    ∙ ap (λ (l : List Event). text ++ l) (passed tail es (tail-unturned false (last_row row rows))))
+    ∙ sym (append_assoc row.front text (tail ++ turned es))
+    ∙ sym (append_assoc (row.front ++ text) tail (turned es))
+
+-- what stands in front of a text, the text, its ending, what stands in front of its underline, the underline, and
+-- what stands behind it
+laid : (front text ending between under tail es : List Event) →
+    (((front ++ text) ++ ending) ++ ((between ++ under) ++ tail)) ++ es ≡
+    front ++ (text ++ ((ending ++ between) ++ (under ++ (tail ++ es))))
+laid front text ending between under tail es = simp append_assoc
+
+laid-turned : (front text ending between under tail es : List Event) (b e : Event) →
+    front ++ ((b ∷ ((text ++ ((ending ++ between) ++ under)) ++ e ∷ [])) ++ (tail ++ es)) ≡
+    ((front ++ (b ∷ ((((text ++ ending) ++ between) ++ under) ++ e ∷ []))) ++ tail) ++ es
+laid-turned front text ending between under tail es b e = simp append_assoc
+
+-- a text with its underline
+heading-turned : (options : ParseOptions) (bytes : List ℕ) (row : Row) (rows : List Row) (under : Row)
+    (es : List Event) →
+    AreLines options bytes row rows → IsUnder options bytes (last_row row rows) under → HasFront bytes row →
+    turned (unread_group (Turned row rows under) ++ es) ≡ listed_group bytes (Turned row rows under) ++ turned es
+heading-turned options bytes row rows under es are is front =
+    let u : IsUnderline under = under-line options bytes row rows under are is in
+    let U : List Event = around n.HeadingSetextUnderline under.first u.end u.marks in
+    let heading : List Event → List Event → Point → List Event =
+    λ e line q.
+    (row.front
+    ++ around turn_leaf.name row.first q
+    (around turn_leaf.text row.first last.end (unread_lines row rows) ++ e ++ under.front ++ line))
+    ++ tail in
+    ap₂
+    (λ (e line : List Event).
+    turned ((((row.front ++ text_unread row rows) ++ e) ++ ((under.front ++ line) ++ tail)) ++ es))
+    tail-is (u.leaf_is ∙ u.is)
+    ∙ ap turned (laid row.front (text_unread row rows) E under.front U tail es)
+    ∙ passed row.front (text_unread row rows ++ ((E ++ under.front) ++ (U ++ (tail ++ es))))
+    (front-unturned bytes row front)
+    ∙ ap (λ (l : List Event). row.front ++ l)
+    (turned-underlined row.first last.end last.end is.after under.first u.end (unread_lines row rows) under.front
+    u.marks (tail ++ es)
+    (each-unturned (unread_lines row rows)
+    (linked-unturned text_leaf.link row rows (lines-prefixed options bytes row rows are)))
+    (prefixes-are under.front (under-prefixed options bytes last under is))
+    (each-unturned u.marks u.marks_unturned)
+    ∙ ap
+    (λ (l : List Event).
+    around n.HeadingSetext row.first u.end
+    (around n.HeadingSetextText row.first last.end (unread_lines row rows) ++ ((E ++ under.front) ++ U))
+    ++ l) (passed tail es (tail-unturned (is_blank_by under.kind under) under)))
+    ∙ laid-turned row.front (around n.HeadingSetextText row.first last.end (unread_lines row rows)) E under.front U tail
+    (turned es) (enter n.HeadingSetext row.first) (exit n.HeadingSetext u.end)
+    ∙ ap (λ (q : Point). heading E U q ++ turned es) u.end_is
+    ∙ ap₂ (λ (e line : List Event). heading e line under.end ++ turned es) (sym ending-last) (sym u.is)
+  where
+    last : Row
+    last = last_row row rows
+
+    E : List Event
+    E = pair n.LineEnding last.end is.after
+
+    tail : List Event
+    tail = tail_events (ending_of under.kind under) under
+
+    ending-last : ending_events n.LineEnding last ≡ E
+    ending-last = ending-is n.LineEnding last is.after is.after_is
+
+    tail-is : tail_events n.LineEnding last ≡ E
+    tail-is =
+        ap (λ (leaves : List Container). ends_of leaves last.end ++ ending_events n.LineEnding last) is.leaves
+        ∙ ending-last
+
+groups-turned : (options : ParseOptions) (bytes : List ℕ) (gs : List Group) → AreGroups options bytes gs →
+    turned (set_groups bytes gs) ≡ turned_groups bytes gs
+groups-turned options bytes [] are = refl
+groups-turned options bytes (Single row ∷ gs) are =
+    passed (listed_group bytes (Single row)) (set_groups bytes gs)
+    (single-unturned options bytes row are.0 row.kind refl)
+    ∙ ap (λ (l : List Event). listed_group bytes (Single row) ++ l) (groups-turned options bytes gs are.1)
+groups-turned options bytes (Lines row rows ∷ gs) are =
+    text-turned options bytes row rows (set_groups bytes gs) are.0 are.2
+    (no-underline bytes (last_row row rows) gs are.1 (groups-unlined options bytes gs are.3))
+    ∙ ap (λ (l : List Event). listed_group bytes (Lines row rows) ++ l) (groups-turned options bytes gs are.3)
+groups-turned options bytes (Turned row rows under ∷ gs) are =
+    heading-turned options bytes row rows under (set_groups bytes gs) are.0 are.1 are.3
+    ∙ ap (λ (l : List Event). listed_group bytes (Turned row rows under) ++ l) (groups-turned options bytes gs are.4)
+groups-turned options bytes (Span row rows ∷ gs) are =
+    passed (rows_events (row ∷ rows)) (set_groups bytes gs)
+    (span-unturned options bytes row rows are.0 (λ f. let bad : true ≡ false = sym f ∙ are.4 in cc))
+    ∙ ap (λ (l : List Event). rows_events (row ∷ rows) ++ l) (groups-turned options bytes gs are.2)
+
+-- The resolvers of leaves have run, and setext headings are set.
+pub headings-set : (options : ParseOptions) (bytes : List ℕ) (open_before : List Container) (still : HeldLeaf)
+    (p : Point) (lines : List (List ℕ)) (rows : List Row) →
+    may_go_on still ≡ false → AreRows options bytes open_before still p lines rows → EachNoContent rows →
+    turned (resolved (unread_groups (groups rows))) ≡ turned_groups bytes (groups rows)
+headings-set options bytes open_before still p lines rows shut are quiet =
+    ap turned (leaves-set options bytes open_before still p lines rows shut are quiet)
+    ∙ groups-turned options bytes (groups rows)
+    (groups-are options bytes open_before still p lines rows shut are quiet)

@@ -1,0 +1,58 @@
+-- A line that goes on text is an underline: no content stands in it, and something stands on it.
+use Rattle.std.proofs.Common.{◌≡◌, ℕ, Bool, true, false, List, refl, ap, sym, ◌∙◌, subst}
+use Rattle.std.specs.Prelude.{Some, None}
+use Rattle.md_engine.specs.declared.configuration.ParseOptions.{ParseOptions}
+use Rattle.md_engine.specs.declared.event.Content.{Content}
+use Rattle.md_engine.specs.declared.event.Point.{Point}
+use Rattle.md_engine.specs.declared.tokenizer.held_leaf.HeldLeaf.TheVariants as held_leaf
+use Rattle.markdown_blocks.specs.Fronted.{rest_line}
+use Rattle.markdown_blocks.specs.HeldLeaf.{has_lines}
+use Rattle.markdown_blocks.specs.Leaf.HeadingSetext.{setext_leaf, underline_line}
+use Rattle.markdown_blocks.specs.Registry.{HeadingSetext, LeafName, leaf}
+use Rattle.markdown_blocks.specs.Rows.{LeafRow, Row, RowKind, is_blank_by, is_further, last_row}
+use Rattle.markdown_blocks.proofs.ContentFacts.{NoContent}
+use Rattle.markdown_blocks.proofs.GroupsAre.{AreLines, IsUnder}
+use Rattle.markdown_blocks.proofs.HeadingSetext.Line.{underline-each, underline-unspanned}
+use Rattle.markdown_blocks.proofs.JoinedLemmas.{HasNoContent}
+use Rattle.markdown_blocks.proofs.MarkRuns.Each.{IsNoContent, each-no_content}
+use Rattle.markdown_blocks.proofs.Registry.{insider-none}
+use Rattle.markdown_blocks.proofs.RowFacts.{IsRow}
+use Rattle.markdown_blocks.proofs.RowLeaf.{leaf-filled}
+use Rattle.markdown_blocks.proofs.SpannedFacts.{AreUnspanned}
+use Rattle.markdown_blocks.proofs.SpanLaws.{IsLineOf}
+use Rattle.markdown_blocks.proofs.Turned.Under.{text-open, under-turns}
+use Rattle.markdown_blocks.proofs.UnderNames.{further-text}
+
+-- no content stands in an underline
+underline-no_content : (wants : Content → Bool) (line : List ℕ) (p : Point) → NoContent wants (underline_line line p)
+underline-no_content wants line p =
+    each-no_content wants (underline_line line p)
+    (underline-each (IsNoContent wants) (λ q. (refl, refl), λ q. (refl, refl)) (λ q. (refl, refl), λ q. (refl, refl))
+    (λ q. (refl, refl), λ q. (refl, refl)) line p)
+
+-- so none stands in a line that goes on text
+pub further-quiet : (options : ParseOptions) (bytes line : List ℕ) (row : Row) (l : LeafName) →
+    IsRow options bytes line row → row.kind ≡ LeafRow l → row.on ≡ held_leaf.Text → is_further row.kind row.on ≡ true →
+    HasNoContent row
+further-quiet options bytes line row l is kind on further wants w =
+    let name : l ≡ HeadingSetext = further-text l
+    (ap (leaf l).further (sym on) ∙ ap (λ (k : RowKind). is_further k row.on) (sym kind) ∙ further) in
+    subst (NoContent wants) (sym (is.leaf_is HeadingSetext (kind ∙ ap LeafRow name)))
+    (underline-no_content wants line row.first)
+
+-- the walk that joins the lines of leaves of several passes it
+pub under-unspanned : (options : ParseOptions) (bytes : List ℕ) (row : Row) (rows : List Row) (under : Row) →
+    AreLines options bytes row rows → IsUnder options bytes (last_row row rows) under → AreUnspanned under.inside
+under-unspanned options bytes row rows under are is =
+    let line : IsLineOf options bytes setext_leaf under = (under-turns options bytes row rows under are is).is in
+    subst AreUnspanned (sym line.inside) (underline-unspanned (rest_line line.rest) under.first)
+
+-- something stands on it: no leaf is asked first where text is met
+pub under-filled : (options : ParseOptions) (bytes : List ℕ) (row : Row) (rows : List Row) (under : Row) →
+    AreLines options bytes row rows → IsUnder options bytes (last_row row rows) under →
+    is_blank_by under.kind under ≡ false
+under-filled options bytes row rows under are is =
+    let text : under.on ≡ held_leaf.Text = is.on ∙ text-open options bytes row rows are in
+    ap (λ (kind : RowKind). is_blank_by kind under) is.kind
+    ∙ leaf-filled options bytes is.line under is.name is.is is.kind
+    (λ i. let bad : None ≡ Some is.name = sym (insider-none under.on (ap has_lines text)) ∙ i in cc)

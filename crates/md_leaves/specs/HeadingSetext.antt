@@ -1,0 +1,112 @@
+-- The underline of a setext heading (CommonMark 4.3): it stands where text is open.
+use Rattle.std.specs.Prelude.{◌≡◌, refl, ℕ, ◌+◌, ◌≤◌, Bool, true, false, ◌&&◌, ◌||◌, ◌==◌, if◌then◌else◌, Option, Some, None}
+use Rattle.md_engine.specs.declared.event.Name.TheVariants.{HeadingSetextUnderline, HeadingSetextUnderlineSequence}
+use Rattle.md_engine.specs.declared.state.Name.{Name as StateName}
+use Rattle.md_engine.specs.declared.state.Name.TheVariants as n
+use Rattle.md_engine.specs.declared.state.heading_setext.State.{State as SetextState}
+use Rattle.md_engine.specs.declared.state.heading_setext.State.TheVariants as its
+use Rattle.md_engine.specs.declared.state.State.TheVariants.{Ok, Nok, Next, Retry}
+use Rattle.md_engine.specs.declared.tokenizer.Scratch.{Scratch}
+use Rattle.md_engine.specs.declared.tokenizer.held_leaf.HeldLeaf.{HeldLeaf}
+use Rattle.md_engine.specs.declared.tokenizer.held_leaf.HeldLeaf.TheVariants as held_leaf
+use Rattle.md_engine.specs.Scheme.{After, Ends, Rank, Scheme, Spot, cells_before, ranked, seen}
+use Rattle.md_engine.specs.World.{World}
+use Rattle.md_leaves.specs.LeafStart as leaf
+use Rattle.md_seam.specs.Spaces.{any_size, ends_line, IsRest, is_current, rest_ready, sees_white, white_then}
+use Rattle.md_seam.specs.Transition.{Transition, entered, exited, taken}
+
+-- a marker of an underline
+abbrev pub is_marker : ℕ → Bool
+is_marker b = (b == 61) || (b == 45)
+
+-- what may stand first behind the indent of an underline
+abbrev pub may_begin : ℕ → Bool
+may_begin b = is_marker b
+
+-- whether a line that meets this leaf may be an underline: it is text for which the line is not lazy
+abbrev pub is_text : HeldLeaf → Bool
+is_text held_leaf.Text = true
+is_text _ = false
+
+abbrev pub without_marker : Scratch → Scratch
+without_marker s = record s { marker = 0; size = 0 }
+
+-- by what stands here
+abbrev pub before_code : World → Option ℕ → Transition
+before_code w None = record { to = Nok; world = w }
+before_code w (Some b) =
+    if is_marker b
+    then record {
+      to = Retry (n.HeadingSetext its.Inside);
+      world = record (entered w HeadingSetextUnderlineSequence) { scratch = record w.scratch { marker = b } };
+    }
+    else record { to = Nok; world = w }
+
+-- by whether the marker stands here, and whether whitespace does
+abbrev pub inside_code : World → Bool → Bool → Transition
+inside_code w true white = record {
+  to = Next (n.HeadingSetext its.Inside);
+  world = record (taken w) { scratch = record w.scratch { size = w.scratch.size + 1 } };
+}
+inside_code w false true =
+    white_then (record (exited w HeadingSetextUnderlineSequence) { scratch = without_marker w.scratch }) 0 any_size
+    (Next (n.HeadingSetext its.After)) Nok
+inside_code w false false = record {
+  to = Retry (n.HeadingSetext its.After);
+  world = record (exited w HeadingSetextUnderlineSequence) { scratch = without_marker w.scratch };
+}
+
+-- by whether the line ends here: no leaf is open behind it
+abbrev pub after_code : World → Bool → Transition
+after_code w true =
+    record { to = Ok; world = record (exited w HeadingSetextUnderline) { flags = record w.flags { leaf = held_leaf.None } } }
+after_code w false = record { to = Nok; world = w }
+
+-- each state with what it does, where there is memory
+abbrev pub start_transition : World → Transition
+start_transition w =
+    leaf.start_transition HeadingSetextUnderline (n.HeadingSetext its.Before)
+    (w.setting.options.constructs.heading_setext && is_text w.flags.leaf) w
+
+abbrev pub before_transition : World → Transition
+before_transition w = before_code w w.current
+
+abbrev pub inside_transition : World → Transition
+inside_transition w = inside_code w (is_current w.scratch.marker w.current) (sees_white w.current)
+
+abbrev pub after_transition : World → Transition
+after_transition w = after_code w (ends_line w.current)
+
+-- all of them
+abbrev pub setext_transition : SetextState → World → Transition
+setext_transition its.Start w = start_transition w
+setext_transition its.Before w = before_transition w
+setext_transition its.Inside w = inside_transition w
+setext_transition its.After w = after_transition w
+
+-- In the run the marker is known, and those that were taken lie before the point.
+pub record IsMarked (x : Spot) : Type 0 where
+  pub marker : is_marker x.scratch.marker ≡ true
+  pub size : x.scratch.size ≤ cells_before x.point
+  pub rest : IsRest (without_marker x.scratch)
+
+abbrev pub SetextNeeds : StateName → World → Type 0
+SetextNeeds (n.HeadingSetext its.Inside) w = w.scratch.size ≤ cells_before w.point
+SetextNeeds _ w = Unit {0}
+
+abbrev pub setext_ready : StateName → Spot → After → Type 0
+setext_ready (n.HeadingSetext its.Inside) x K = IsMarked x × Ends IsRest IsRest x K
+setext_ready _ x K = rest_ready x K
+
+abbrev pub setext_rank : StateName → Spot → Rank
+setext_rank (n.HeadingSetext its.Start) x = ranked 5 refl
+setext_rank (n.HeadingSetext its.Before) x = ranked 3 refl
+setext_rank (n.HeadingSetext its.Inside) x = if is_current x.scratch.marker (seen x) then ranked 1 refl else ranked 2 refl
+setext_rank _ x = ranked 0 refl
+
+abbrev pub setext_tries : StateName → Rank
+setext_tries (n.HeadingSetext its.Before) = ranked 4 refl
+setext_tries _ = ranked 1 refl
+
+abbrev pub setext_scheme : Scheme
+setext_scheme = record { ready = setext_ready; level = λ n. 1; rank = setext_rank; tries = setext_tries }

@@ -1,0 +1,202 @@
+// Setext headings (CommonMark 4.3).
+//
+//     heading_setext ::= paragraph eol underline
+//     underline      ::= small_indent ( 1*'=' | 1*'-' ) *space_or_tab
+//
+// A line that is an underline turns the text that is open before it into a heading. The states add
+// `HeadingSetextUnderline` around the run, `HeadingSetextUnderlineSequence`, and `SpaceOrTab`. When all of the text is
+// read, `resolve` puts `HeadingSetext` around that and the paragraph in front, which becomes `HeadingSetextText`.
+
+ghost use Rattle.std.specs.Prelude.{◌≡◌, ◌≢◌, ◌&&◌, [], IfOk, IfSome, None};
+ghost use Rattle.std.specs.Option.{option_map};
+ghost use Rattle.md_engine.specs.Found.{found_in};
+ghost use Rattle.md_engine.specs.World.{world};
+ghost use Rattle.md_engine.specs.declared.state.Name.{Name as StateName};
+ghost use Rattle.md_engine.specs.declared.state.State.{State};
+ghost use Rattle.md_engine.specs.declared.state.heading_setext.State.{State as SetextState};
+ghost use Rattle.md_leaves.specs.HeadingSetext.{SetextNeeds, after_transition, before_transition, inside_transition};
+ghost use Rattle.md_leaves.specs.HeadingSetext.{is_marker, is_text, may_begin, setext_transition, start_transition};
+ghost use Rattle.md_leaves.specs.Turned.{turned};
+ghost use Rattle.md_seam.specs.Look.{may_with};
+ghost use Rattle.md_seam.specs.Stays.{TakesEach};
+ghost use Rattle.md_seam.specs.Transition.{IsAt};
+
+use crate::leaf_start::start_leaf;
+use crate::underlines::{put_headings, until_underline};
+use md_engine::event::Name;
+use md_engine::message::Message;
+use md_engine::or_error;
+use md_engine::state::heading_setext::State as SetextState;
+use md_engine::state::{Name as StateName, State};
+use md_engine::stay::Stay;
+use md_engine::subtokenize::Subresult;
+use md_engine::tokenizer::{HeldLeaf, Tokenizer};
+use md_seam::space_or_tab::{is_space_or_tab, space_or_tab_min_max};
+
+/// Whether this is a marker of an underline.
+fn is_marker(byte: u8) -> bool
+    ensures { result ≡ is_marker byte }
+{
+    byte == b'=' || byte == b'-'
+}
+
+/// Whether a line that meets this leaf may be an underline: it is text for which the line is not lazy.
+fn is_text(leaf: HeldLeaf) -> bool
+    ensures { result ≡ is_text leaf }
+{
+    matches!(leaf, HeldLeaf::Text)
+}
+
+/// Whether an underline may begin here, by what stands first behind whitespace: a marker, if that is known.
+pub fn may_begin(first: Option<u8>) -> bool
+    ensures { result ≡ may_with may_begin first }
+{
+    match first {
+        Some(byte) => is_marker(byte),
+        None => true,
+    }
+}
+
+/// Before an underline.
+///
+/// ```markdown
+///   | aa
+/// > | ==
+///     ^
+/// ```
+pub fn start(tokenizer: &mut Tokenizer) -> State
+    requires { IsAt SetextNeeds (StateName.HeadingSetext SetextState.Start) (world tokenizer.old) }
+    ensures to { result ≢ State.Error → result ≡ (start_transition (world tokenizer.old)).to }
+    ensures world { result ≢ State.Error → world tokenizer.new ≡ (start_transition (world tokenizer.old)).world }
+{
+    let is_on = tokenizer.options.constructs.heading_setext && is_text(tokenizer.flags.leaf);
+    start_leaf(
+        tokenizer,
+        is_on,
+        Name::HeadingSetextUnderline,
+        StateName::HeadingSetext(SetextState::Before),
+    )
+}
+
+/// Behind the indent, at a marker.
+///
+/// ```markdown
+///   | aa
+/// > | ==
+///     ^
+/// ```
+pub fn before(tokenizer: &mut Tokenizer) -> State
+    requires { IsAt SetextNeeds (StateName.HeadingSetext SetextState.Before) (world tokenizer.old) }
+    ensures to { result ≢ State.Error → result ≡ (before_transition (world tokenizer.old)).to }
+    ensures world { result ≢ State.Error → world tokenizer.new ≡ (before_transition (world tokenizer.old)).world }
+{
+    match tokenizer.current {
+        Some(byte) if is_marker(byte) => {
+            or_error!(tokenizer.enter(Name::HeadingSetextUnderlineSequence));
+            tokenizer.scratch.marker = byte;
+            State::Retry(StateName::HeadingSetext(SetextState::Inside))
+        }
+        _ => State::Nok,
+    }
+}
+
+/// In the run of markers.
+///
+/// ```markdown
+///   | aa
+/// > | ==
+///     ^^
+/// ```
+pub fn inside(tokenizer: &mut Tokenizer) -> State
+    requires { IsAt SetextNeeds (StateName.HeadingSetext SetextState.Inside) (world tokenizer.old) }
+    ensures to { result ≢ State.Error → result ≡ (inside_transition (world tokenizer.old)).to }
+    ensures world { result ≢ State.Error → world tokenizer.new ≡ (inside_transition (world tokenizer.old)).world }
+{
+    if tokenizer.current == Some(tokenizer.scratch.marker) {
+        tokenizer.consume();
+        tokenizer.scratch.size += 1;
+        return State::Next(StateName::HeadingSetext(SetextState::Inside));
+    }
+    tokenizer.scratch.marker = 0;
+    tokenizer.scratch.size = 0;
+    or_error!(tokenizer.exit(Name::HeadingSetextUnderlineSequence));
+    if is_space_or_tab(tokenizer.current) {
+        space_or_tab_min_max(
+            tokenizer,
+            0,
+            usize::MAX,
+            State::Next(StateName::HeadingSetext(SetextState::After)),
+            State::Nok,
+        )
+    } else {
+        State::Retry(StateName::HeadingSetext(SetextState::After))
+    }
+}
+
+/// Behind the run and whitespace, at the end of the line.
+///
+/// ```markdown
+///   | aa
+/// > | ==
+///       ^
+/// ```
+pub fn after(tokenizer: &mut Tokenizer) -> State
+    requires { IsAt SetextNeeds (StateName.HeadingSetext SetextState.After) (world tokenizer.old) }
+    ensures to { result ≢ State.Error → result ≡ (after_transition (world tokenizer.old)).to }
+    ensures world { result ≢ State.Error → world tokenizer.new ≡ (after_transition (world tokenizer.old)).world }
+{
+    match tokenizer.current {
+        None | Some(b'\n') => {
+            or_error!(tokenizer.exit(Name::HeadingSetextUnderline));
+            tokenizer.flags.leaf = HeldLeaf::None;
+            State::Ok
+        }
+        _ => State::Nok,
+    }
+}
+
+/// What a state of an underline only takes and counts.
+pub fn stays(state: SetextState) -> Option<Stay>
+    ensures { IfSome result (λ stay. TakesEach stay (StateName.HeadingSetext state) (setext_transition state)) }
+{
+    match state {
+        SetextState::Inside => Some(Stay::Markers),
+        _ => None,
+    }
+}
+
+/// Calls a state of an underline.
+pub fn call(tokenizer: &mut Tokenizer, state: SetextState) -> State
+    requires { IsAt SetextNeeds (StateName.HeadingSetext state) (world tokenizer.old) }
+    ensures to { result ≢ State.Error → result ≡ (setext_transition state (world tokenizer.old)).to }
+    ensures world { result ≢ State.Error → world tokenizer.new ≡ (setext_transition state (world tokenizer.old)).world }
+{
+    match state {
+        SetextState::Start => start(tokenizer),
+        SetextState::Before => before(tokenizer),
+        SetextState::Inside => inside(tokenizer),
+        SetextState::After => after(tokenizer),
+    }
+}
+
+/// Makes a heading of each paragraph that has an underline and that underline. Where no event of an underline stands
+/// nothing is copied.
+///
+/// After an `Err` the parse has failed, and the tokenizer is only dropped.
+pub fn resolve(tokenizer: &mut Tokenizer) -> Result<Option<Subresult>, Message>
+    requires { (world tokenizer.old).frames ≡ [] }
+    ensures world { IfOk result
+        (λ found.
+        world tokenizer.new ≡
+        record (world tokenizer.old) { events = turned (world tokenizer.old).events }) }
+    ensures found { IfOk result (λ found. option_map found_in found ≡ None) }
+{
+    if until_underline(&tokenizer.events) == tokenizer.events.len() {
+        return Ok(None);
+    }
+    let events = tokenizer.take_events();
+    let spare = tokenizer.take_spare();
+    let with_headings = put_headings(&events, spare)?;
+    tokenizer.set_events(with_headings, events);
+    Ok(None)
+}

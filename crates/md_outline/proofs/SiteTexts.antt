@@ -1,0 +1,98 @@
+-- The text that is read in a leaf block whose lines an outline shows as they come: none, or one that has begun there.
+use Rattle.std.proofs.Common.{◌≡◌, ℕ, Bool, true, false, not, ◌&&◌, List, slice_range, refl, sym, ◌∙◌, ap, subst}
+use Rattle.std.specs.Prelude.{Option, Some, None, option_map}
+use Rattle.std.proofs.lemmas.Bool.{true≢false}
+use Rattle.md_engine.specs.declared.event.Kind.TheVariants.{Enter}
+use Rattle.md_engine.specs.declared.event.Point.{Point}
+use Rattle.md_definition.specs.Outline.{Entry}
+use Rattle.md_seam.specs.Events.Spelled.{IsPrefix, LeafKind, Opens, Reading, Text, after_prefix, before_prefix, begun}
+use Rattle.md_seam.specs.Events.Spelled.{byte_at, columns_left, read_enter, read_exit}
+use Rattle.md_seam.specs.Events.Spelled as spelled
+use Rattle.md_outline.specs.Outlined.{parts_by}
+use Rattle.md_outline.specs.OutlineSteps.{OutlineState, parted_at, state_enter, state_exit, told, told_at}
+use Rattle.md_outline.specs.Roles.{has_lines}
+use Rattle.md_outline.specs.declared.outline.Span.{Span}
+use Rattle.md_outline.specs.declared.outline.role.Purpose.{Purpose}
+use Rattle.md_outline.specs.declared.outline.role.Role.TheVariants as role
+use Rattle.md_outline.proofs.ClosedTrees.{shown}
+use Rattle.md_outline.proofs.OutlineAgrees.{Agrees, TextIs}
+
+-- no text is read, or one that began here
+abbrev pub NoText : OutlineState → Reading → Type 0
+NoText s r = (s.text ≡ None) × (r.text ≡ None)
+
+pub record TextFrom (q : Point) (s : OutlineState) (r : Reading) : Type 0 where
+  pub span : s.text ≡ Some (record { from = byte_at q; is_parted = false })
+  pub text : r.text ≡ Some (begun q)
+  pub spaces : s.spaces ≡ columns_left q
+
+pub from-here : (p : Point) (s : OutlineState) (r : Reading) →
+    TextFrom p (record s { text = Some (record { from = byte_at p; is_parted = false }); spaces = columns_left p })
+    (record r { text = Some (begun p) })
+from-here p s r = record { span = refl; text = refl; spaces = refl }
+
+-- such a leaf block begins in no text
+pub no-span : (bytes : List ℕ) (kind : LeafKind) (p : Point) (span : Option Span) → has_lines kind ≡ true →
+    parts_by bytes Enter (Opens kind) p span ≡ true → span ≡ None
+no-span bytes kind p None e k = refl
+no-span bytes kind p (Some span) e k =
+    absurd (true≢false (sym k ∙ ap (λ (x : Bool). not x && not span.is_parted) e))
+
+text-none : (before : List Entry) (depth : ℕ) (lines : List Entry) (text : Option Text) →
+    TextIs before depth lines None text → text ≡ None
+text-none before depth lines None h = refl
+text-none before depth lines (Some text) h = absurd h
+
+pub begins-texts : (s : OutlineState) (r : Reading) → s.text ≡ None → Agrees s r → r.text ≡ None
+begins-texts s r none is =
+    text-none (shown r.outer r.here) s.depth s.lines r.text
+    (subst (λ span. TextIs (shown r.outer r.here) s.depth s.lines span r.text) none is.text)
+
+-- a text ends
+pub text-ends : (P : OutlineState → Reading → Type 0) (bytes : List ℕ) (q p : Point) (x : spelled.Purpose)
+    (y : Purpose) (s : OutlineState) (r : Reading) → TextFrom q s r →
+    P (told y false (slice_range bytes (byte_at q) p.index) (record s { text = None }))
+    (spelled.told x (record { spaces = columns_left q; text = slice_range bytes (byte_at q) p.index })
+    (record r { text = None })) →
+    P (told_at bytes y p.index s.text s) (spelled.told_at bytes x p r.text r)
+text-ends P bytes q p x y s r from h =
+    subst (λ span. P (told_at bytes y p.index span s) (spelled.told_at bytes x p r.text r)) (sym from.span)
+    (subst
+    (λ text.
+    P (told_at bytes y p.index (Some (record { from = byte_at q; is_parted = false })) s)
+    (spelled.told_at bytes x p text r))
+    (sym from.text) h)
+
+-- Prefixes where no text is read.
+
+unparted : (bytes : List ℕ) (i : ℕ) (s : OutlineState) → s.text ≡ None → parted_at bytes i s.text s ≡ s
+unparted bytes i s none = ap (λ span. parted_at bytes i span s) none
+
+-- whatever text is read
+abbrev pub Keeps : (OutlineState → Reading → Type 0) → Type 0
+Keeps P =
+    (s : OutlineState) (r : Reading) (span : Option Span) (spaces : ℕ) (text : Option Text) → P s r →
+    P (record s { text = span; spaces = spaces }) (record r { text = text })
+
+pub prefix-enter : (P : OutlineState → Reading → Type 0) (bytes : List ℕ) (p : Point) (s : OutlineState)
+    (r : Reading) → Keeps P → P s r × NoText s r →
+    P (state_enter bytes role.Prefix p s) (read_enter bytes IsPrefix p r)
+    × NoText (state_enter bytes role.Prefix p s) (read_enter bytes IsPrefix p r)
+prefix-enter P bytes p s r keeps is =
+    subst
+    (λ (now : OutlineState).
+    P now (read_enter bytes IsPrefix p r) × NoText now (read_enter bytes IsPrefix p r))
+    (sym (unparted bytes p.index s is.1.0)) (
+      keeps s r s.text s.spaces (option_map (before_prefix bytes p) r.text) is.0,
+      (is.1.0, ap (option_map (before_prefix bytes p)) is.1.1),
+    )
+
+pub prefix-exit : (P : OutlineState → Reading → Type 0) (bytes : List ℕ) (p : Point) (s : OutlineState)
+    (r : Reading) → Keeps P → P s r × NoText s r →
+    P (state_exit bytes role.Prefix p s) (read_exit bytes IsPrefix p r)
+    × NoText (state_exit bytes role.Prefix p s) (read_exit bytes IsPrefix p r)
+prefix-exit P bytes p s r keeps is = (
+  keeps s r (option_map (λ (t : Span). record t { from = byte_at p }) s.text) s.spaces
+      (option_map (after_prefix p) r.text) is.0,
+  (ap (option_map (λ (t : Span). record t { from = byte_at p })) is.1.0, ap (option_map (after_prefix p)) is.1.1),
+)

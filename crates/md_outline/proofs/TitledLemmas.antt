@@ -1,0 +1,371 @@
+-- Setext headings: an outline shows the lines of their text as they come, and their depth once their underline is read.
+use Rattle.std.proofs.Common.{◌≡◌, ℕ, ◌+◌, Bool, true, false, ◌||◌, List, [], ◌∷◌, ◌++◌, length, slice_range, refl, sym}
+use Rattle.std.proofs.Common.{◌∙◌, ap, subst, append_assoc, append-nil}
+use Rattle.std.specs.Prelude.{Option, Some, None, option_map}
+use Rattle.std.proofs.lemmas.Bool.{and_parts}
+use Rattle.md_engine.specs.declared.event.Kind.TheVariants.{Enter, Exit}
+use Rattle.md_engine.specs.declared.event.Point.{Point}
+use Rattle.md_definition.specs.declared.outline.Word.TheVariants as word
+use Rattle.md_definition.specs.Outline.{Entry, block_entries, entries, entry}
+use Rattle.md_definition.specs.Rest.{is_blank}
+use Rattle.md_definition.specs.State.{then_block}
+use Rattle.md_definition.specs.Texts.{first_byte, split_lines, trim_each}
+use Rattle.md_definition.specs.Tree.{Block, Heading, Line}
+use Rattle.md_seam.specs.Events.Places.{last_line}
+use Rattle.md_seam.specs.Events.Spelled.{AsHeading, AsMarkers, HeadingSetextLeaf, HeadingSoFar, IsEnding, IsPrefix}
+use Rattle.md_seam.specs.Events.Spelled.{OfHeadingSetext, OpenLeaf, Opens, Reading, Tells, Text, after_prefix}
+use Rattle.md_seam.specs.Events.Spelled.{at_ending, before_prefix, begun, byte_at, columns_left, finished, next_line}
+use Rattle.md_seam.specs.Events.Spelled.{no_heading, on_leaf, read_enter, text_to, underline_depth}
+use Rattle.md_seam.specs.Events.Spelled as spelled
+use Rattle.md_outline.specs.LinedState.{marked_word, with_head}
+use Rattle.md_outline.specs.Outlined.{begins_line, parts_by}
+use Rattle.md_outline.specs.OutlineSteps.{OutlineState, head_marked, is_titled, line_ended, parted_at, state_enter}
+use Rattle.md_outline.specs.OutlineSteps.{title_told, told, told_at, told_leaf}
+use Rattle.md_outline.specs.ParagraphState.{begin_entries}
+use Rattle.md_outline.specs.TextLines.{full_entries, text_entries}
+use Rattle.md_outline.specs.declared.outline.Span.{Span}
+use Rattle.md_outline.specs.declared.outline.lined.Lined.{Lined}
+use Rattle.md_outline.specs.declared.outline.role.Note.TheVariants as note
+use Rattle.md_outline.specs.declared.outline.role.Purpose.TheVariants as purpose
+use Rattle.md_outline.specs.declared.outline.role.Role.TheVariants as role
+use Rattle.md_outline.proofs.ClosedTrees.{HaveWords, depth_of, shown, shown-then, words-then}
+use Rattle.md_outline.proofs.LinedLines.{head-told}
+use Rattle.md_outline.proofs.OutlineAgrees.{Agrees, TextIs, text-lines}
+use Rattle.md_outline.proofs.RoleLemmas.{by-ending}
+use Rattle.md_outline.proofs.SiteTexts.{Keeps, NoText, TextFrom, begins-texts, text-ends}
+use Rattle.md_outline.proofs.TextPieces.{Pieces, begun_by, pieces-last, pieces-next}
+
+-- What is known of one that is open, which has told its markers or not.
+pub record Titled (heading : HeadingSoFar) (marked : Bool) (s : OutlineState) (r : Reading) : Type 0 where
+  opened : r.leaf ≡ Some (HeadingSetextLeaf heading)
+  depth : s.depth ≡ depth_of r.outer
+  words : HaveWords r.outer r.here
+  untold : s.untold ≡ None
+  leaf : s.leaf ≡ None
+  lined : s.lined ≡ Some (record { place = length (shown r.outer r.here); is_fenced = marked; is_heading = true })
+
+-- and of what was shown of it: its lines, as if it ended here, with this depth
+pub record Headed (level : ℕ) (heading : HeadingSoFar) (marked : Bool) (s : OutlineState) (r : Reading) : Type 0 where
+  is : Titled heading marked s r
+  all : s.lines ≡ shown r.outer r.here ++ block_entries s.depth (Heading level heading.text)
+
+-- whatever text is read
+titled-keeps : (heading : HeadingSoFar) (marked : Bool) → Keeps (Titled heading marked)
+titled-keeps heading marked s r span spaces text is = record {
+  opened = is.opened;
+  depth = is.depth;
+  words = is.words;
+  untold = is.untold;
+  leaf = is.leaf;
+  lined = is.lined;
+}
+
+pub headed-keeps : (level : ℕ) (heading : HeadingSoFar) (marked : Bool) → Keeps (Headed level heading marked)
+headed-keeps level heading marked s r span spaces text h =
+    record { is = titled-keeps heading marked s r span spaces text h.is; all = h.all }
+
+-- with these lines, in front of its markers
+abbrev pub some_lines : List (List ℕ) → HeadingSoFar
+some_lines text = record { markers = []; text = text }
+
+abbrev pub Unmarked : OutlineState → Reading → Type 0
+Unmarked s r = (text : List (List ℕ)) × Headed 0 (some_lines text) false s r
+
+pub unmarked-keeps : Keeps Unmarked
+unmarked-keeps s r span spaces text h = (h.0, headed-keeps 0 (some_lines h.0) false s r span spaces text h.1)
+
+-- and with its markers
+abbrev pub IsMarked : OutlineState → Reading → Type 0
+IsMarked s r =
+    (heading : HeadingSoFar) × Headed (underline_depth (first_byte heading.markers)) heading true s r
+
+-- It begins.
+
+pub heading-begins : (bytes : List ℕ) (p : Point) (s : OutlineState) (r : Reading) → s.text ≡ None → Agrees s r →
+    Headed 0 no_heading false (state_enter bytes (role.Lined (word.Heading 0)) p s)
+    (read_enter bytes (Opens OfHeadingSetext) p r)
+    × NoText (state_enter bytes (role.Lined (word.Heading 0)) p s) (read_enter bytes (Opens OfHeadingSetext) p r)
+heading-begins bytes p s r none is =
+    let text : r.text ≡ None = begins-texts s r none is in
+    let same : s.lines ≡ shown r.outer r.here =
+    text-lines (shown r.outer r.here) s.depth s.lines None None refl
+    (subst (λ span. TextIs (shown r.outer r.here) s.depth s.lines span None) none
+    (subst (λ t. TextIs (shown r.outer r.here) s.depth s.lines s.text t) text is.text)) in (
+      record {
+        is = record {
+          opened = refl;
+          depth = is.depth;
+          words = is.words;
+          untold = is.untold;
+          leaf = refl;
+          lined =
+              ap
+              (λ (es : List Entry).
+              Some (record { place = length es; is_fenced = false; is_heading = true })) same;
+        };
+        all = ap (λ es. es ++ entry s.depth (word.Heading 0) ∷ []) same;
+      },
+      (none, text),
+    )
+
+-- Its text.
+
+-- where it began, or goes on behind a prefix
+abbrev pub TitleIs : List Entry → ℕ → List Entry → Option Span → Option Text → Type 0
+TitleIs before depth lines (Some span) (Some text) =
+    (text.from ≡ span.from) × Pieces before [] (depth + 1) lines span.is_parted text.front
+TitleIs before depth lines _ _ = ⊥
+
+-- the lines in front of it
+abbrev head_lines : OutlineState → Reading → List Entry
+head_lines s r = shown r.outer r.here ++ entry s.depth (word.Heading 0) ∷ []
+
+abbrev pub InText : OutlineState → Reading → Type 0
+InText s r = Titled no_heading false s r × TitleIs (head_lines s r) s.depth s.lines s.text r.text
+
+pub title-begins : (p : Point) (s : OutlineState) (r : Reading) → Headed 0 no_heading false s r →
+    InText (record s { text = Some (record { from = byte_at p; is_parted = false }); spaces = columns_left p })
+    (record r { text = Some (begun p) })
+title-begins p s r h = (
+  titled-keeps no_heading false s r (Some (record { from = byte_at p; is_parted = false })) (columns_left p)
+      (Some (begun p)) h.is,
+  (refl, (h.all, refl)),
+)
+
+none-begun : (x : Bool) → begun_by [] x ≡ []
+none-begun true = refl
+none-begun false = refl
+
+-- a prefix begins in it
+prefix-begins : (bytes : List ℕ) (p : Point) (s : OutlineState) (r : Reading) (span : Option Span)
+    (text : Option Text) → parts_by bytes Enter IsPrefix p span ≡ true → Titled no_heading false s r →
+    TitleIs (head_lines s r) s.depth s.lines span text →
+    InText (parted_at bytes p.index span s) (record r { text = option_map (before_prefix bytes p) text })
+prefix-begins bytes p s r (Some span) (Some text) k is h =
+    let before : List Entry = head_lines s r in
+    let piece : List ℕ = slice_range bytes span.from p.index in
+    let full : List Entry = full_entries (s.depth + 1) piece in
+    let lines : List Entry =
+    (s.lines ++ begin_entries s.depth (is_titled s.lined || span.is_parted)) ++ full in
+    let parts = and_parts (begins_line span piece) (is_blank (last_line (split_lines piece))) k in
+    let begun : begun_by [] span.is_parted ≡ begin_entries s.depth (is_titled s.lined || span.is_parted) =
+    none-begun span.is_parted
+    ∙ sym (ap (λ (l : Option Lined). begin_entries s.depth (is_titled l || span.is_parted)) is.lined) in (
+      record {
+        opened = is.opened;
+        depth = is.depth;
+        words = is.words;
+        untold = is.untold;
+        leaf = is.leaf;
+        lined = is.lined;
+      },
+      (
+        h.0,
+        subst (λ i. Pieces before [] (s.depth + 1) lines true (text.front ++ slice_range bytes i p.index)) (sym h.0)
+            (subst
+            (λ es. Pieces before [] (s.depth + 1) ((s.lines ++ es) ++ full) true (text.front ++ piece)) begun
+            (pieces-next before [] (s.depth + 1) s.lines span.is_parted text.front piece parts.0 parts.1 h.1)),
+      ),
+    )
+prefix-begins bytes p s r _ _ k is h = absurd h
+
+pub title-prefix : (bytes : List ℕ) (p : Point) (s : OutlineState) (r : Reading) →
+    parts_by bytes Enter IsPrefix p s.text ≡ true → InText s r →
+    InText (parted_at bytes p.index s.text s) (record r { text = option_map (before_prefix bytes p) r.text })
+title-prefix bytes p s r k h = prefix-begins bytes p s r s.text r.text k h.0 h.1
+
+-- and ends
+title-from : (p : Point) (before : List Entry) (depth : ℕ) (lines : List Entry) (span : Option Span)
+    (text : Option Text) → TitleIs before depth lines span text →
+    TitleIs before depth lines (option_map (λ (t : Span). record t { from = byte_at p }) span)
+    (option_map (after_prefix p) text)
+title-from p before depth lines (Some span) (Some text) h = (refl, h.1)
+title-from p before depth lines _ _ h = absurd h
+
+pub title-on : (p : Point) (s : OutlineState) (r : Reading) → InText s r →
+    InText (record s { text = option_map (λ (t : Span). record t { from = byte_at p }) s.text })
+    (record r { text = option_map (after_prefix p) r.text })
+title-on p s r h = (
+  titled-keeps no_heading false s r (option_map (λ (t : Span). record t { from = byte_at p }) s.text) s.spaces
+      (option_map (after_prefix p) r.text) h.0,
+  title-from p (head_lines s r) s.depth s.lines s.text r.text h.1,
+)
+
+-- a line ending is a part of it
+line-stays : (bytes : List ℕ) (p : Point) (s : OutlineState) (r : Reading) (before : List Entry) (span : Option Span)
+    (text : Option Text) → TitleIs before s.depth s.lines span text → InText s r →
+    InText (line_ended bytes p.index s.lined span s) (at_ending bytes p text r)
+line-stays bytes p s r before (Some span) (Some text) h is =
+    subst (λ (l : Option Lined). InText (line_ended bytes p.index l (Some span) s) r) (sym is.0.lined) is
+line-stays bytes p s r before _ _ h is = absurd h
+
+pub title-line : (bytes : List ℕ) (p : Point) (s : OutlineState) (r : Reading) → InText s r →
+    InText (line_ended bytes p.index s.lined s.text s) (at_ending bytes p r.text r)
+title-line bytes p s r is = line-stays bytes p s r (head_lines s r) s.text r.text is.1 is
+
+-- it ends
+all-shown : (bytes : List ℕ) (p : Point) (s : OutlineState) (r : Reading) (span : Span) (text : Text) →
+    begins_line span (slice_range bytes span.from p.index) ≡ true →
+    TitleIs (head_lines s r) s.depth s.lines (Some span) (Some text) →
+    s.lines ++ text_entries (s.depth + 1) (slice_range bytes span.from p.index)
+    ≡ shown r.outer r.here
+    ++ block_entries s.depth (Heading 0 (trim_each (split_lines (text_to bytes p.index text))))
+all-shown bytes p s r span text k h =
+    let before : List Entry = head_lines s r in
+    let piece : List ℕ = slice_range bytes span.from p.index in
+    let last : List Entry = text_entries (s.depth + 1) piece in
+    let whole : List Entry = text_entries (s.depth + 1) (text.front ++ piece) in
+    ap (λ es. es ++ last)
+    (sym (ap (λ es. s.lines ++ es) (none-begun span.is_parted) ∙ append-nil s.lines))
+    ∙ pieces-last before [] (s.depth + 1) s.lines span.is_parted text.front piece k h.1
+    ∙ ap (λ es. es ++ whole) (append-nil before)
+    ∙ append_assoc (shown r.outer r.here) (entry s.depth (word.Heading 0) ∷ []) whole
+    ∙ ap
+    (λ i.
+    shown r.outer r.here
+    ++ block_entries s.depth (Heading 0 (trim_each (split_lines (text.front ++ slice_range bytes i p.index)))))
+    (sym h.0)
+
+text-told : (bytes : List ℕ) (p : Point) (s : OutlineState) (r : Reading) (span : Option Span) (text : Option Text) →
+    parts_by bytes Exit (Tells AsHeading) p span ≡ true → Titled no_heading false s r →
+    TitleIs (head_lines s r) s.depth s.lines span text →
+    Unmarked (told_at bytes purpose.Title p.index span s) (spelled.told_at bytes AsHeading p text r)
+    × NoText (told_at bytes purpose.Title p.index span s) (spelled.told_at bytes AsHeading p text r)
+text-told bytes p s r (Some span) (Some text) k is h =
+    let piece : List ℕ = slice_range bytes span.from p.index in
+    let line : Line = record { spaces = text.spaces; text = text_to bytes p.index text } in
+    subst
+    (λ (l : Option Lined).
+    Unmarked (title_told (is_titled l) piece (record s { text = None }))
+    (spelled.told_at bytes AsHeading p (Some text) r)
+    × NoText (title_told (is_titled l) piece (record s { text = None }))
+    (spelled.told_at bytes AsHeading p (Some text) r))
+    (sym is.lined) (
+      (
+        trim_each (split_lines line.text),
+        record {
+          is = record {
+            opened = ap (option_map (spelled.noted AsHeading line)) is.opened;
+            depth = is.depth;
+            words = is.words;
+            untold = is.untold;
+            leaf = is.leaf;
+            lined = is.lined;
+          };
+          all = all-shown bytes p s r span text k h;
+        },
+      ),
+      (refl, refl),
+    )
+text-told bytes p s r _ _ k is h = absurd h
+
+pub title-ends : (bytes : List ℕ) (p : Point) (s : OutlineState) (r : Reading) →
+    parts_by bytes Exit (Tells AsHeading) p s.text ≡ true → InText s r →
+    Unmarked (told_at bytes purpose.Title p.index s.text s) (spelled.told_at bytes AsHeading p r.text r)
+    × NoText (told_at bytes purpose.Title p.index s.text s) (spelled.told_at bytes AsHeading p r.text r)
+title-ends bytes p s r k h = text-told bytes p s r s.text r.text k h.0 h.1
+
+-- Behind its text.
+
+-- a line ending opens no line of it
+headed-line : (level : ℕ) (heading : HeadingSoFar) (marked : Bool) (s : OutlineState) (r : Reading) →
+    Headed level heading marked s r → Headed level heading marked s (on_leaf next_line r)
+headed-line level heading marked s r h = record {
+  is = record {
+    opened = ap (option_map next_line) h.is.opened;
+    depth = h.is.depth;
+    words = h.is.words;
+    untold = h.is.untold;
+    leaf = h.is.leaf;
+    lined = h.is.lined;
+  };
+  all = h.all;
+}
+
+pub gap-line : (bytes : List ℕ) (p : Point) (s : OutlineState) (r : Reading) → Unmarked s r × NoText s r →
+    Unmarked (line_ended bytes p.index s.lined s.text s) (at_ending bytes p r.text r)
+    × NoText (line_ended bytes p.index s.lined s.text s) (at_ending bytes p r.text r)
+gap-line bytes p s r is =
+    subst
+    (λ (l : Option Lined).
+    Unmarked (line_ended bytes p.index l s.text s) (at_ending bytes p r.text r)
+    × NoText (line_ended bytes p.index l s.text s) (at_ending bytes p r.text r))
+    (sym is.0.1.is.lined)
+    (subst
+    (λ (span : Option Span).
+    Unmarked (line_ended bytes p.index (Some head) span s) (at_ending bytes p r.text r)
+    × NoText (line_ended bytes p.index (Some head) span s) (at_ending bytes p r.text r))
+    (sym is.1.0)
+    (by-ending (λ now. Unmarked s now × NoText s now) bytes p r.text r is
+    ((is.0.0, headed-line 0 (some_lines is.0.0) false s r is.0.1), is.1)))
+  where
+    head : Lined
+    head = record { place = length (shown r.outer r.here); is_fenced = false; is_heading = true }
+
+-- its underline tells its depth
+marks-told : (text : List (List ℕ)) (line : Line) (s : OutlineState) (r : Reading) →
+    Headed 0 (some_lines text) false s r →
+    IsMarked (told purpose.Markers false line.text (record s { text = None }))
+    (spelled.told AsMarkers line (record r { text = None }))
+    × NoText (told purpose.Markers false line.text (record s { text = None }))
+    (spelled.told AsMarkers line (record r { text = None }))
+marks-told text line s r h =
+    let before : List Entry = shown r.outer r.here in
+    let b : ℕ = first_byte line.text in
+    subst
+    (λ (l : Option Lined).
+    IsMarked (head_marked l line.text (told_leaf note.Markers line.text (record s { text = None })))
+    (spelled.told AsMarkers line (record r { text = None }))
+    × NoText (head_marked l line.text (told_leaf note.Markers line.text (record s { text = None })))
+    (spelled.told AsMarkers line (record r { text = None })))
+    (sym h.is.lined) (
+      (
+        record { markers = line.text; text = text },
+        record {
+          is = record {
+            opened = ap (option_map (spelled.noted AsMarkers line)) h.is.opened;
+            depth = h.is.depth;
+            words = h.is.words;
+            untold = h.is.untold;
+            leaf = ap (option_map (spelled.noted AsMarkers (record { spaces = 0; text = line.text }))) h.is.leaf;
+            lined = refl;
+          };
+          all =
+              ap (with_head (marked_word b) (length before)) h.all
+              ∙ head-told (marked_word b) before (entries (s.depth + 1) word.Line text)
+              (entry s.depth (word.Heading 0));
+        },
+      ),
+      (refl, refl),
+    )
+
+pub underline-ends : (bytes : List ℕ) (q p : Point) (s : OutlineState) (r : Reading) → Unmarked s r →
+    TextFrom q s r →
+    IsMarked (told_at bytes purpose.Markers p.index s.text s) (spelled.told_at bytes AsMarkers p r.text r)
+    × NoText (told_at bytes purpose.Markers p.index s.text s) (spelled.told_at bytes AsMarkers p r.text r)
+underline-ends bytes q p s r h from =
+    text-ends (λ s r. IsMarked s r × NoText s r) bytes q p AsMarkers purpose.Markers s r from
+    (marks-told h.0 (record { spaces = columns_left q; text = slice_range bytes (byte_at q) p.index }) s r h.1)
+
+-- It ends.
+
+pub heading-ends : (s : OutlineState) (r : Reading) → IsMarked s r → NoText s r →
+    Agrees (record s { lined = None }) (finished r.leaf r)
+heading-ends s r h none =
+    let heading : HeadingSoFar = h.0 in
+    let block : Block = Heading (underline_depth (first_byte heading.markers)) heading.text in
+    subst (λ (l : Option OpenLeaf). Agrees (record s { lined = None }) (finished l r)) (sym h.1.is.opened)
+    (record {
+      depth = h.1.is.depth;
+      words = words-then r.outer r.here block h.1.is.words;
+      untold = h.1.is.untold;
+      lined = refl;
+      leaf = h.1.is.leaf;
+      known = tt;
+      text =
+          subst (λ span. TextIs (shown r.outer (then_block r.here block)) s.depth s.lines span r.text) (sym none.0)
+          (subst (λ text. TextIs (shown r.outer (then_block r.here block)) s.depth s.lines None text) (sym none.1)
+          (h.1.all
+          ∙ ap (λ d. shown r.outer r.here ++ block_entries d block) h.1.is.depth
+          ∙ sym (shown-then r.outer r.here block h.1.is.words)));
+    })
