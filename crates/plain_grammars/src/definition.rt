@@ -39,7 +39,7 @@ struct Ahead<'a> {
 
 /// A text on one line up to its closing mark.
 #[derive(Clone, Copy)]
-enum Enclosed<'a> {
+pub enum Enclosed<'a> {
     /// The text, and what follows the mark.
     Closed(&'a [u8], &'a [u8]),
     /// The line ends first.
@@ -64,9 +64,9 @@ struct Title<'a> {
 
 /// A destination, and what follows it on its line.
 #[derive(Clone, Copy)]
-struct Destination<'a> {
-    text: &'a [u8],
-    rest: &'a [u8],
+pub struct Destination<'a> {
+    pub text: &'a [u8],
+    pub rest: &'a [u8],
 }
 
 /// A definition, and the index of the line behind it.
@@ -84,7 +84,7 @@ fn is_bare(escaped: bool, byte: u8, mark: u8) -> bool
 }
 
 /// The text up to the closing mark. A backslash takes the byte that is next.
-fn up_to_mark<'a>(opener: u8, closer: u8, line: &'a [u8]) -> Enclosed<'a>
+pub fn up_to_mark<'a>(opener: u8, closer: u8, line: &'a [u8]) -> Enclosed<'a>
     ensures { m.enclosed_meaning result ≡ text.enclosed opener closer false line.now }
 {
     let mut rest = line;
@@ -294,7 +294,7 @@ fn is_raw(text: &[u8]) -> bool
 
 /// The destination that comes first (CommonMark 6.3).
 #[tactic(auto, unfolding(md_definition::specs::Definition::destination_at))]
-fn destination_at(line: &[u8]) -> Option<Destination<'_>>
+pub fn destination_at(line: &[u8]) -> Option<Destination<'_>>
     ensures { option_map m.destination_meaning result ≡ definition.destination_at line.now }
 {
     if begins_with(b'<', line) {
@@ -312,7 +312,7 @@ fn destination_at(line: &[u8]) -> Option<Destination<'_>>
 }
 
 /// The mark that closes a title which begins with this byte.
-fn title_closer(b: u8) -> Option<u8>
+pub fn title_closer(b: u8) -> Option<u8>
     ensures { result ≡ definition.title_closer b }
 {
     match b {

@@ -1,0 +1,14 @@
+pub mod CellLines
+pub mod Chunks
+pub mod Definition
+pub mod DefinitionRule
+pub mod Destination
+pub mod DestinationRule
+pub mod Gap
+pub mod GapRule
+pub mod Label
+pub mod LabelRule
+pub mod Title
+pub mod TitleRule
+pub mod WholeCells
+pub mod Progress

@@ -1,0 +1,18 @@
+-- Cells as a text has them: a tab reaches over columns, and each other byte is one cell.
+use Rattle.std.specs.Prelude.{◌≡◌, ◌⊎◌, true, ◌==◌, if◌then◌else◌, List, [], ◌∷◌}
+use Rattle.md_definition.specs.Rest.{is_white}
+use Rattle.md_engine.specs.declared.event.Point.{Point}
+use Rattle.md_engine.specs.Meaning.{Cell}
+
+-- the cells at which a byte begins, from a point on: not the further columns of a tab
+abbrev pub whole_cells : Point → List Cell → List Cell
+whole_cells p [] = []
+whole_cells p (c ∷ cs) = if p.vs == 0 then c ∷ whole_cells c.after cs else whole_cells c.after cs
+
+-- only within whitespace a point lies within a byte; the begin of a line may
+abbrev pub IsWhole : Point → Cell → Type 0
+IsWhole p c = (is_white c.byte ≡ true) ⊎ ((p.vs ≡ 0) × ((c.byte ≡ 10) ⊎ (c.after.vs ≡ 0)))
+
+abbrev pub AreWhole : Point → List Cell → Type 0
+AreWhole p [] = Unit {0}
+AreWhole p (c ∷ cs) = IsWhole p c × AreWhole c.after cs
