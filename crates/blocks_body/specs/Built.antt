@@ -1,19 +1,20 @@
 -- What the program makes of options and of texts.
-use Rattle.std.specs.Prelude.{◌≡◌, ℕ, false, List, []}
+use Rattle.std.specs.Prelude.{◌≡◌, ℕ, ◌&&◌, false, not, List, []}
 use Rattle.md_engine.specs.declared.configuration.ParseOptions.{ParseOptions}
 use Rattle.md_program.specs.Listing.{Listing}
+use Rattle.md_definition.specs.Label.{labels}
 use Rattle.md_definition.specs.Meaning.{tree}
 use Rattle.md_definition.specs.Outline.{outline}
 
 -- what is asked for, as far as it is there: block quotes, list items, indented and fenced code, math, HTML,
--- headings and breaks alone
+-- headings, breaks, and definitions where no underlines are asked for, alone
 abbrev pub built_from : ParseOptions → ParseOptions
 built_from options = record {
   constructs = record {
     block_quote = options.constructs.block_quote;
     code_fenced = options.constructs.code_fenced;
     code_indented = options.constructs.code_indented;
-    definition = false;
+    definition = options.constructs.definition && not options.constructs.heading_setext;
     frontmatter = false;
     gfm_footnote_definition = false;
     gfm_table = false;
@@ -31,8 +32,9 @@ built_from options = record {
   };
 }
 
--- The listing of a text: the outline of its tree; there are no definitions, so no labels.
+-- The listing of a text: the outline of its tree, and the labels of its definitions, in source order, repeats kept; there
+-- are no footnotes, so no labels of them.
 pub record Outlines (text : List ℕ) (options : ParseOptions) (listing : Listing) : Type 0 where
   pub lines : listing.lines ≡ outline 0 (tree options text)
-  pub definitions : listing.definitions ≡ []
+  pub definitions : listing.definitions ≡ (labels (tree options text)).definitions
   pub footnotes : listing.footnotes ≡ []

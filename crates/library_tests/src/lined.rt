@@ -32,6 +32,11 @@ fn name(letter: u8) -> Name {
         b'U' => Name::HeadingSetext,
         b'T' => Name::HeadingSetextText,
         b'V' => Name::HeadingSetextUnderlineSequence,
+        b'D' => Name::Definition,
+        b'A' => Name::DefinitionLabelString,
+        b'E' => Name::DefinitionDestinationString,
+        b'N' => Name::DefinitionTitle,
+        b'Z' => Name::DefinitionTitleString,
         _ => Name::SpaceOrTab,
     }
 }
@@ -90,8 +95,8 @@ fn all(alloc: Global, text: &[u8], list: &str) -> Result<Vec<Event>, AllocError>
     Ok(events)
 }
 
-// The outline of such events: a leaf block as a word, what its fence says behind `i` and `m`, and each line of text
-// between bars, behind a dot for each virtual space.
+// The outline of such events: a leaf block as a word, what its fence says behind `i` and `m`, the parts of a definition
+// behind `l`, `u` and `t`, and each line of text between bars, behind a dot for each virtual space.
 fn shown(alloc: Global, text: &str, list: &str) -> Result<String, Message> {
     let Ok(events) = all(alloc, text.as_bytes(), list) else {
         return Err(Message);
@@ -126,10 +131,14 @@ fn add(shown: &mut String, word: Word, spaces: usize, text: &str) -> Result<(), 
         }
         Word::Quote => shown.push_str("q"),
         Word::Paragraph => shown.push_str("p"),
+        Word::Definition => shown.push_str("d"),
         _ => {
             shown.push_str(match word {
                 Word::Info => "i",
                 Word::Meta => "m",
+                Word::Label => "l",
+                Word::Destination => "u",
+                Word::Title => "t",
                 _ => "",
             })?;
             shown.push_str("|")?;
@@ -176,6 +185,46 @@ fn shows_setext_headings(rt: HostRuntime) {
             ">>a\n>>b\n>>-",
             "Qa Oa ob Qb Ob oc Uc Tc Ld le Oe of Of og th Lh li Oi oj Oj ok Vk vl ul ql ql",
             "qqh2|a||b|",
+        ),
+    ] {
+        check(&rt, rt.alloc(), text, list, want);
+    }
+}
+
+// CommonMark 4.7
+#[test]
+fn shows_definitions(rt: HostRuntime) {
+    for (text, list, want) in [
+        (
+            "[a]: b\nc",
+            "Da Ab ac Ef eg dg Lg lh Ph pi",
+            "dl|a|u|b|p|c|",
+        ),
+        (
+            "[a]: b \"c\"",
+            "Da Ab ac Ef eg Nh Zi zj nk dk",
+            "dl|a|u|b|t|c|",
+        ),
+        // An empty destination, and an empty title
+        ("[a]: <> ''", "Da Ab ac Ni nk dk", "dl|a|u||t||"),
+        // Several lines: the first as it stands
+        ("[ a\n b]: c", "Da Ab Ld le ag Ej ek dk", "dl| a|l|b|u|c|"),
+        (
+            "[a\n  b]:\nc\n'd\n e\n'",
+            "Da Ab Lc ld ag Li lj Ej ek Lk ll Nl Zm Ln lo Lq lr zr ns ds",
+            "dl|a|l|b|u|c|t|d|t|e|t||",
+        ),
+        // The prefixes of a quote in its texts, and between its parts
+        (
+            "> [a\n> b]: c\n> 'd\n> e'",
+            "Qa Oa oc Dc Ad Le lf Of oh ai El em Lm ln On op Np Zq Lr ls Os ou zv nw dw qw",
+            "qdl|a|l|b|u|c|t|d|t|e|",
+        ),
+        // A first line that is empty, and a last one that is a prefix alone
+        (
+            "> [\n> a\n> ]: b",
+            "Qa Oa oc Dc Ad Ld le Oe og Lh li Oi ok ak En eo do qo",
+            "qdl||l|a|l||u|b|",
         ),
     ] {
         check(&rt, rt.alloc(), text, list, want);

@@ -79,21 +79,22 @@ final-between bytes (Turned row rows under) h = h.2
 final-between bytes (Span row rows) h = last-each (RowBetween bytes) row rows h.0 h.1
 
 -- groups of such lines, the first of which begins between characters
-abbrev BetweenGroups : List ℕ → List Name → Point → List Group → Type 0
-BetweenGroups bytes names p gs =
-    is_between bytes p.index ≡ true → EachGroup (RowBetween bytes) gs → AreBetween bytes (groups_events bytes gs)
+abbrev BetweenGroups : ParseOptions → List ℕ → List Name → Point → List Group → Type 0
+BetweenGroups options bytes names p gs =
+    is_between bytes p.index ≡ true → EachGroup (RowBetween bytes) gs →
+    AreBetween bytes (groups_events options bytes gs)
 
-between-by_groups : (bytes : List ℕ) → ByGroups bytes (BetweenGroups bytes)
-between-by_groups bytes = record {
+between-by_groups : (options : ParseOptions) (bytes : List ℕ) → ByGroups options bytes (BetweenGroups options bytes)
+between-by_groups options bytes = record {
   none = λ p from h. refl;
   group = λ names kept p group gs o keeps on from h.
       let row : Row = first_row group in
       let first : RowBetween bytes row = first-between bytes group h.0 in
       let last : RowBetween bytes (final_row group) = final-between bytes group h.0 in
-      between-append bytes (group_events bytes group) (groups_events bytes gs)
-      (line-between bytes (group_ending group) row.front (group_done bytes group) (final_row group) last
+      between-append bytes (group_events options bytes group) (groups_events options bytes gs)
+      (line-between bytes (group_ending group) row.front (group_done options bytes group) (final_row group) last
       (fronts-between bytes row.change.opens p row.first row.front from o.front).0
-      (o.leaf.2.between first.first last.end))
+      (o.leaf.1.between first.first last.end))
       (on last.behind h.1);
 }
 
@@ -137,7 +138,7 @@ rows-stand options bytes open_before still p lines rows from are = absurd are
 -- The groups of the lines of a text stand between its characters.
 pub rows-between : (options : ParseOptions) (bytes : List ℕ) (p : Point) (lines : List (List ℕ)) (rows : List Row) →
     is_between bytes p.index ≡ true → AreRows options bytes [] held_leaf.None p lines rows →
-    AreBetween bytes (groups_events bytes (groups rows))
+    AreBetween bytes (groups_events options bytes (groups rows))
 rows-between options bytes p lines rows from are =
-    rows-hold bytes (BetweenGroups bytes) (between-by_groups bytes) options p lines rows are from
+    rows-hold options bytes (BetweenGroups options bytes) (between-by_groups options bytes) p lines rows are from
     (groups-each (RowBetween bytes) rows (rows-stand options bytes [] held_leaf.None p lines rows from are))

@@ -1,8 +1,9 @@
 -- What holds of each of some events.
+use Rattle.std.specs.Prelude.{nat_le}
 use Rattle.std.proofs.Common.{ℕ, zero, suc, Bool, true, false, cond, ◌&&◌, List, [], ◌∷◌, ◌++◌, take, drop}
 use Rattle.md_engine.specs.declared.event.Event.{Event}
 use Rattle.md_engine.specs.declared.event.Point.{Point}
-use Rattle.md_content.specs.ContentReads.{is_data_end, settled}
+use Rattle.md_content.specs.ContentReads.{is_piece_end, settled}
 use Rattle.md_content.specs.Joined.{goes_on, is_content, joined}
 use Rattle.md_seam.specs.declared.inline.Chunk.{Chunk}
 use Rattle.md_seam.specs.Events.Nested.{is_exit}
@@ -67,7 +68,7 @@ pub settled-each : (P : Event → Type 0) → ((e : Event) (q : Point) → P e �
 settled-each P moves chunks [] h = tt
 settled-each P moves [] (e ∷ es) h = h
 settled-each P moves (chunk ∷ chunks) (e ∷ es) h =
-    go (is_data_end e) (settled-each P moves chunks es h.1) (settled-each P moves (chunk ∷ chunks) es h.1)
+    go (is_piece_end e && nat_le chunk.after.index e.point.index) (settled-each P moves chunks es h.1) (settled-each P moves (chunk ∷ chunks) es h.1)
   where
     go : (x : Bool) → Each P (settled chunks es) → Each P (settled (chunk ∷ chunks) es) →
         Each P (cond x (record e { point = chunk.after } ∷ settled chunks es) (e ∷ settled (chunk ∷ chunks) es))

@@ -16,9 +16,8 @@ use Rattle.md_seam.specs.Events.Nested.{exit, pair}
 use Rattle.md_seam.specs.Events.Places.{first_point}
 use Rattle.md_definition.specs.Preamble.{has_mark}
 use Rattle.md_definition.specs.State.{Container}
-use Rattle.md_definition.specs.Tree.{Block}
 use Rattle.md_seam.proofs.EndingsLemmas.{AreOthers, Leads, leads-append, others-append, others-lead}
-use Rattle.markdown_blocks.specs.Registry.{container_name, text_leaf}
+use Rattle.markdown_blocks.specs.Registry.{container_name}
 use Rattle.markdown_blocks.specs.Change.{ends_of}
 use Rattle.markdown_blocks.specs.Document.{body_point, mark_end, mark_events}
 use Rattle.markdown_blocks.specs.Rows.{final_row, first_row, group_done, BlankRow, Group, Lines, Row}
@@ -30,13 +29,10 @@ use Rattle.markdown_blocks.proofs.EndingFacts.{ending-leads}
 use Rattle.markdown_blocks.proofs.GroupLemmas.{AreGroups, EndsBeforeGroups, HasFront, IsSingle, groups-are, rows-end}
 use Rattle.markdown_blocks.proofs.JoinedLemmas.{EachEnds, EachNoContent, ending-is}
 use Rattle.markdown_blocks.proofs.RowFacts.{AreRows}
-use Rattle.markdown_blocks.proofs.RowLeaf.{block_of, row-facts}
 use Rattle.markdown_blocks.proofs.FrontStands.{container-others, fronts-others}
-use Rattle.markdown_blocks.proofs.GroupFacts.{group-front, more-groups, span-block, span-leaf}
-use Rattle.markdown_blocks.proofs.Text.Facts.{kept-of, text-facts}
-use Rattle.md_definition.specs.State.{texts}
-use Rattle.markdown_blocks.proofs.LeafFacts.{LeafFacts, spot_behind}
-use Rattle.markdown_blocks.proofs.Turned.Facts.{turned-block, turned-facts}
+use Rattle.markdown_blocks.proofs.GroupFacts.{group-front, more-groups, single-stands, span-stands, turned-stands}
+use Rattle.markdown_blocks.proofs.LeafFacts.{StandFacts, spot_behind}
+use Rattle.markdown_blocks.proofs.Text.Stands.{text-stands}
 use Rattle.markdown_blocks.proofs.Underlines.{under-filled}
 
 -- Events that are no ending, and no begin or end of a leaf.
@@ -115,27 +111,32 @@ groups_with leaf [] = []
 groups_with leaf (group ∷ gs) = group_with leaf group ++ groups_with leaf gs
 
 -- before text parts are read, and once they are
-unread-with : (bytes : List ℕ) (gs : List Group) → groups_with (group_unread bytes) gs ≡ listed_groups bytes gs
-unread-with bytes [] = refl
-unread-with bytes (group ∷ gs) = ap (λ (l : List Event). listed_group bytes group ++ l) (unread-with bytes gs)
+unread-with : (options : ParseOptions) (bytes : List ℕ) (gs : List Group) →
+    groups_with (group_unread options bytes) gs ≡ listed_groups options bytes gs
+unread-with options bytes [] = refl
+unread-with options bytes (group ∷ gs) =
+    ap (λ (l : List Event). listed_group options bytes group ++ l) (unread-with options bytes gs)
 
-read-with : (bytes : List ℕ) (gs : List Group) → groups_with (group_done bytes) gs ≡ groups_events bytes gs
-read-with bytes [] = refl
-read-with bytes (group ∷ gs) = ap (λ (l : List Event). group_events bytes group ++ l) (read-with bytes gs)
+read-with : (options : ParseOptions) (bytes : List ℕ) (gs : List Group) →
+    groups_with (group_done options bytes) gs ≡ groups_events options bytes gs
+read-with options bytes [] = refl
+read-with options bytes (group ∷ gs) =
+    ap (λ (l : List Event). group_events options bytes group ++ l) (read-with options bytes gs)
 
--- What is known of the leaf of a group: the block that it shows, if it shows one.
-record LeafEnds (bytes : List ℕ) (group : Group) : Type 0 where
-  block : Option Block
-  facts : LeafFacts bytes block (not (is_blank_group group)) (first_row group).first (final_row group).end
-      (group_unread bytes group) (group_done bytes group)
+-- What is known of the leaf of a group: where it stands, and whether something stands on its last line.
+abbrev LeafEnds : ParseOptions → List ℕ → Group → Type 0
+LeafEnds options bytes group =
+    StandFacts bytes (not (is_blank_group group)) (first_row group).first (final_row group).end
+    (group_unread options bytes group) (group_done options bytes group)
 
 -- where the line stands behind it
 abbrev behind_group : Group → Spot
 behind_group group = spot_behind (not (is_blank_group group))
 
 -- What stands in the place of a group.
-abbrev Within : List ℕ → (Group → List Event) → Type 0
-Within bytes leaf = (group : Group) → LeafEnds bytes group → Leads line_start (behind_group group) (leaf group)
+abbrev Within : ParseOptions → List ℕ → (Group → List Event) → Type 0
+Within options bytes leaf =
+    (group : Group) → LeafEnds options bytes group → Leads line_start (behind_group group) (leaf group)
 
 -- groups whose endings stand
 abbrev Stand : (Group → List Event) → List Group → Type 0
@@ -191,47 +192,30 @@ span-blank options bytes row (next ∷ rows) are = span-blank options bytes next
 
 -- the leaf of each group is such
 group-ends : (options : ParseOptions) (bytes : List ℕ) (group : Group) (gs : List Group) →
-    AreGroups options bytes (group ∷ gs) → LeafEnds bytes group
+    AreGroups options bytes (group ∷ gs) → LeafEnds options bytes group
 group-ends options bytes (Single row) gs are =
     let is : IsSingle options bytes row = are.0 in
-    record {
-      block = block_of row.kind is.is.rest;
-      facts = row-facts options bytes is.line row is.is is.other is.ends;
-    }
+    single-stands options bytes is.line row is.is is.other is.ends
 group-ends options bytes (Turned row rows under) gs are =
-    let block : Block = turned-block options bytes row rows under are.0 are.1 in
-    record {
-      block = Some block;
-      facts =
-          subst
-          (λ (blank : Bool).
-          LeafFacts bytes (Some block) (not blank) row.first under.end (group_unread bytes (Turned row rows under))
-          (group_done bytes (Turned row rows under)))
-          (sym (under-filled options bytes row rows under are.0 are.1))
-          (turned-facts options bytes row rows under are.0 are.1);
-    }
+    subst
+    (λ (blank : Bool).
+    StandFacts bytes (not blank) row.first under.end (group_unread options bytes (Turned row rows under))
+    (group_done options bytes (Turned row rows under)))
+    (sym (under-filled options bytes row rows under are.0 are.1))
+    (turned-stands options bytes row rows under are.0 are.1)
 group-ends options bytes (Span row rows) gs are =
-    let block : Block = span-block options bytes row rows are.0 in
-    record {
-      block = Some block;
-      facts =
-          subst
-          (λ (blank : Bool).
-          LeafFacts bytes (Some block) (not blank) row.first (last_row row rows).end
-          (group_unread bytes (Span row rows)) (group_done bytes (Span row rows)))
-          (sym (span-blank options bytes row rows are.0)) (span-leaf options bytes row rows are.0 are.4);
-    }
-group-ends options bytes (Lines row rows) gs are =
-    record {
-      block = Some (text_leaf.block (texts (kept-of options bytes row rows are.0)));
-      facts = text-facts options bytes row rows are.0;
-    }
+    subst
+    (λ (blank : Bool).
+    StandFacts bytes (not blank) row.first (last_row row rows).end (group_unread options bytes (Span row rows))
+    (group_done options bytes (Span row rows)))
+    (sym (span-blank options bytes row rows are.0)) (span-stands options bytes row rows are.0 are.4)
+group-ends options bytes (Lines row rows) gs are = text-stands options bytes row rows are.0
 
 groups-stand : (options : ParseOptions) (bytes : List ℕ) (leaf : Group → List Event) (gs : List Group) →
-    Within bytes leaf → AreGroups options bytes gs → EachEnded gs → Stand leaf gs
+    Within options bytes leaf → AreGroups options bytes gs → EachEnded gs → Stand leaf gs
 groups-stand options bytes leaf [] within are ended = refl
 groups-stand options bytes leaf (group ∷ gs) within are ended =
-    let is : LeafEnds bytes group = group-ends options bytes group gs are in
+    let is : LeafEnds options bytes group = group-ends options bytes group gs are in
     line-stands bytes leaf (behind_group group) (group_ending group) (first_row group) (final_row group)
     (leaf group) gs (group-front options bytes group gs are) (within group is)
     (spot-filled (not (is_blank_group group))) (ending-leads (is_blank_group group)) ended.0
@@ -249,7 +233,7 @@ mark-leads bytes = go (has_mark bytes)
 
 endings-with : (options : ParseOptions) (bytes : List ℕ) (lines : List (List ℕ)) (rows : List Row)
     (leaf : Group → List Event) (events : List Event) →
-    Within bytes leaf →
+    Within options bytes leaf →
     groups_with leaf (groups rows) ≡ events → AreRows options bytes [] held_leaf.None (body_point bytes) lines rows →
     EachNoContent rows → endings_stand (mark_events bytes ++ events) ≡ true
 endings-with options bytes lines rows leaf events within same are quiet =
@@ -263,15 +247,15 @@ endings-with options bytes lines rows leaf events within same are quiet =
 -- The endings of a text stand before its text parts are read,
 pub blocks-endings : (options : ParseOptions) (bytes : List ℕ) (lines : List (List ℕ)) (rows : List Row) →
     AreRows options bytes [] held_leaf.None (body_point bytes) lines rows → EachNoContent rows →
-    endings_stand (mark_events bytes ++ listed_groups bytes (groups rows)) ≡ true
+    endings_stand (mark_events bytes ++ listed_groups options bytes (groups rows)) ≡ true
 blocks-endings options bytes lines rows are quiet =
-    endings-with options bytes lines rows (group_unread bytes) (listed_groups bytes (groups rows))
-    (λ group is. is.facts.unread_ending) (unread-with bytes (groups rows)) are quiet
+    endings-with options bytes lines rows (group_unread options bytes) (listed_groups options bytes (groups rows))
+    (λ group is. is.unread_ending) (unread-with options bytes (groups rows)) are quiet
 
 -- and once they are.
 pub events-endings : (options : ParseOptions) (bytes : List ℕ) (lines : List (List ℕ)) (rows : List Row) →
     AreRows options bytes [] held_leaf.None (body_point bytes) lines rows → EachNoContent rows →
-    endings_stand (mark_events bytes ++ groups_events bytes (groups rows)) ≡ true
+    endings_stand (mark_events bytes ++ groups_events options bytes (groups rows)) ≡ true
 events-endings options bytes lines rows are quiet =
-    endings-with options bytes lines rows (group_done bytes) (groups_events bytes (groups rows))
-    (λ group is. is.facts.ending) (read-with bytes (groups rows)) are quiet
+    endings-with options bytes lines rows (group_done options bytes) (groups_events options bytes (groups rows))
+    (λ group is. is.ending) (read-with options bytes (groups rows)) are quiet

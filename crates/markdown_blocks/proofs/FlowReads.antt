@@ -28,6 +28,8 @@ use Rattle.md_engine.proofs.Keeps.{runs-append, runs-at_end, runs-setting}
 use Rattle.md_containers.specs.Listed.{listed}
 use Rattle.md_content.specs.ContentReads.{content_readings, wants_content}
 use Rattle.md_content.specs.Joined.{is_content, joined}
+use Rattle.md_content.specs.Labels.{labels_in}
+use Rattle.md_content.proofs.LabelsLemmas.{labels-none}
 use Rattle.md_content.specs.Resolves.{Resolves, found_in_content}
 use Rattle.md_leaves.specs.Turned.{turned}
 use Rattle.markdown_blocks.specs.FlowReads.{lines_joined}
@@ -45,7 +47,9 @@ use Rattle.markdown_blocks.proofs.EachRow.{EachRow}
 use Rattle.markdown_blocks.proofs.FlowLemmas.{flow_by_line}
 use Rattle.markdown_blocks.proofs.FlowRows.{flow_at-rows}
 use Rattle.markdown_blocks.proofs.FlowRuns.{flow_flush, flow_outcome, flow_push}
-use Rattle.markdown_blocks.proofs.FlowSteps.{IsFramed, content-same, reading-outside, rows-outside, rows_at-framed}
+use Rattle.markdown_blocks.proofs.ContentFacts.{content-alone, no_content-label}
+use Rattle.markdown_blocks.proofs.FlowSteps.{IsFramed, content-same, reading-outside, rows-no_content, rows-outside}
+use Rattle.markdown_blocks.proofs.FlowSteps.{rows_at-framed}
 use Rattle.markdown_blocks.proofs.JoinedLemmas.{EachNoContent, rows_at-no_content}
 use Rattle.markdown_blocks.proofs.OutsideFacts.{AreOutside, IsNoEnd, NoEnds}
 use Rattle.markdown_blocks.proofs.OutsideLemmas.{outside-same}
@@ -197,7 +201,9 @@ record ContentRead (bytes : List ℕ) (options : ParseOptions) (rows : List Row)
     (new : World) : Type 0 where
   rest : new ≡ record at { events = new.events }
   read : Substituted wants_content (content_readings bytes options) [] 0 (joined (rows_events rows)) new.events
-  found_is : ((has_text rows ≡ false) × (found ≡ nothing)) ⊎ (found ≡ found_in_content new.events)
+  found_is : ((has_text rows ≡ false) × (found ≡ nothing)) ⊎ (found ≡ found_in_content bytes new.events)
+  definitions : found.definitions ≡ labels_in bytes new.events
+  footnotes : found.footnotes ≡ []
 
 content-step : (bytes : List ℕ) (options : ParseOptions) (rows : List Row) (b : Bool) (at : World) (found : Found)
     (new : World) →
@@ -214,10 +220,15 @@ content-step bytes options rows true at found new framed quiet events text set o
     Type 0 = λ o. Substituted wants_content (content_readings bytes o) [] 0 (joined at.events) new.events in
     let C : List Event →
     Type 0 = λ l. Substituted wants_content (content_readings bytes options) [] 0 (joined l) new.events in
+    let found_so : found ≡ found_in_content bytes new.events =
+    h.found_is ∙ ap (with_found nothing) resolves.found_is
+    ∙ ap (λ (l : List ℕ). found_in_content l new.events) text in
     record {
       rest = resolves.rest;
       read = subst C events (subst B set (subst A text resolves.events));
-      found_is = inr (h.found_is ∙ ap (with_found nothing) resolves.found_is);
+      found_is = inr found_so;
+      definitions = ap (λ (x : Found). x.definitions) found_so;
+      footnotes = ap (λ (x : Found). x.footnotes) found_so;
     }
 content-step bytes options rows false at found new framed quiet events text set others h =
     let none : has_text rows ≡ false = no-text rows (others refl) in
@@ -228,6 +239,14 @@ content-step bytes options rows false at found new framed quiet events text set 
       rest = h.1 ∙ ap (λ (l : List Event). record at { events = l }) (sym (ap (λ (w : World). w.events) h.1));
       read = subst P (sym same) (content-same (content_readings bytes options) rows framed quiet none);
       found_is = inl (none, h.0);
+      definitions =
+          ap (λ (x : Found). x.definitions) h.0
+          ∙ sym
+          (labels-none bytes (rows_events rows)
+          (no_content-label wants_content (rows_events rows)
+          (rows-no_content wants_content content-alone rows framed quiet none)))
+          ∙ ap (labels_in bytes) (sym same);
+      footnotes = ap (λ (x : Found). x.footnotes) h.0;
     }
 
 -- and what is the registry's own is set
@@ -395,7 +414,7 @@ flow-reads bytes options p end at found items lines more new small run f joining
         let is : new.events ≡ listed bytes (lines_joined options (turned (resolved ran.mid.events))) =
         ap (λ (x : World). x.events) all in
         let F : Found →
-        Type 0 = λ x. ((has_text rows ≡ false) × (x ≡ nothing)) ⊎ (x ≡ found_in_content ran.mid.events) in
+        Type 0 = λ x. ((has_text rows ≡ false) × (x ≡ nothing)) ⊎ (x ≡ found_in_content bytes ran.mid.events) in
         record {
           end = f.end;
           ended = f.at;
@@ -408,6 +427,8 @@ flow-reads bytes options p end at found items lines more new small run f joining
           setting = ap (λ (x : World). x.setting) all ∙ setting;
           frames = ap (λ (x : World). x.frames) all ∙ f.none_left;
           found_is = subst F (sym set.0) read.found_is;
+          definitions = ap (λ (x : Found). x.definitions) set.0 ∙ read.definitions;
+          footnotes = ap (λ (x : Found). x.footnotes) set.0 ∙ read.footnotes;
         }
 
 -- the same for a tokenizer that is known to be fresh, whose test of names is known to be that one
@@ -440,22 +461,7 @@ flow-reads-from is_name bytes options p start to end at found items lines more n
 
 -- What is known behind the resolvers of flow.
 
--- nothing that is found is a label
-pub record NoLabels (found : Found) : Type 0 where
-  pub definitions : found.definitions ≡ []
-  pub footnotes : found.footnotes ≡ []
-
 -- a list is empty that is mapped to the empty one
 pub map-nil : {A B : Type 0} (f : A → B) (xs : List A) → map f xs ≡ [] → xs ≡ []
 map-nil f [] e = refl
 map-nil f (x ∷ xs) e = cc
-
--- what flow finds is no label
-pub reads-labels : (bytes : List ℕ) (options : ParseOptions) (p : Point) (found : Found) (new : World) →
-    FlowReads bytes options p found new → NoLabels found
-reads-labels bytes options p found new h = go h.found_is
-  where
-    go : ((has_text (text_rows options bytes p) ≡ false) × (found ≡ nothing)) ⊎ (found ≡ found_in_content h.content) →
-        NoLabels found
-    go (inl none) = rw none.1 (record { definitions = refl; footnotes = refl })
-    go (inr some) = rw some (record { definitions = refl; footnotes = refl })

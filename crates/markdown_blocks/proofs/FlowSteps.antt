@@ -148,7 +148,7 @@ text-kind BlankRow e k = cc
 text-kind (LeafRow l) e k = cc
 
 -- where no line is text there is no content
-rows-no_content : (wants : Content → Bool) → WantsContent wants → (rows : List Row) → EachRow IsFramed rows →
+pub rows-no_content : (wants : Content → Bool) → WantsContent wants → (rows : List Row) → EachRow IsFramed rows →
     EachNoContent rows → has_text rows ≡ false → NoContent wants (rows_events rows)
 rows-no_content wants w [] framed quiet none = tt
 rows-no_content wants w (row ∷ rows) framed quiet none =

@@ -1,5 +1,6 @@
 -- What holds of the events in front of a line: they are prefixes and begins of containers, and nothing of it is read
 -- later. So it is with the ends of containers.
+use Rattle.markdown_blocks.proofs.ContentFacts.{is_told}
 use Rattle.std.proofs.Common.{◌≡◌, ℕ, Bool, true, false, cond, ◌&&◌, List, [], ◌∷◌, ◌++◌, refl, ap, sym, ◌∙◌, subst}
 use Rattle.std.proofs.Common.{append_assoc}
 use Rattle.md_engine.specs.declared.event.Event.{Event}
@@ -61,8 +62,9 @@ ends-first P c (d ∷ cs) p es h =
     (ends-first P d cs p (exit (container_name c) p ∷ es) h)
 
 -- none of them is content
-pub front-content : (name : Name) → is_front name ≡ true → is_content name ≡ false
+pub front-content : (name : Name) → is_front name ≡ true → is_told name ≡ false
 front-content n.Content h = cc
+front-content n.DefinitionLabelString h = cc
 front-content _ h = refl
 
 -- What goes on behind them.

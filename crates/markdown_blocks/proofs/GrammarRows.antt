@@ -49,22 +49,22 @@ all_of each [] = []
 all_of each (group ∷ gs) = each group ++ all_of each gs
 
 -- so it is in each group, in these text parts
-abbrev Reads : List ℕ → Expression → (Group → List Event) → Type 0
-Reads bytes text each =
-    (group : Group) → IsGroupLeaf bytes group → (block : Bool) × Stands text block group (each group)
+abbrev Reads : ParseOptions → List ℕ → Expression → (Group → List Event) → Type 0
+Reads options bytes text each =
+    (group : Group) → IsGroupLeaf options bytes group → (block : Bool) × Stands text block group (each group)
 
 -- the text is whole behind events
 abbrev Whole : Expression → List Expression → List Event → Type 0
 Whole text stack events = is_whole (unlisted_left text stack events) ≡ true
 
 -- what is left behind the leaf of lines
-leaf-left : (text : Expression) (bytes : List ℕ) (block : Bool) (names : List Name) (p : Point) (group : Group)
-    (events more : List Event) →
-    Ordered bytes p group → Stands text block group events →
+leaf-left : (options : ParseOptions) (text : Expression) (bytes : List ℕ) (block : Bool) (names : List Name)
+    (p : Point) (group : Group) (events more : List Event) →
+    Ordered options bytes p group → Stands text block group events →
     unlisted_left text (blocks ∷ behinds names) (events ++ more) ≡
     unlisted_left text (blocks_behind block ∷ behinds (open_names (first_row group).change.opens ++ names))
     (tail_events (group_ending group) (final_row group) ++ more)
-leaf-left text bytes block names p group events more o s =
+leaf-left options text bytes block names p group events more o s =
     let row : Row = first_row group in
     let opens : List Expression = behinds (open_names row.change.opens) in
     let tail : List Event = tail_events (group_ending group) (final_row group) in
@@ -142,13 +142,13 @@ abbrev WholeUnder : Expression → (Group → List Event) → List Name → Poin
 WholeUnder text each names p gs = EachEnded gs → Whole text (blocks ∷ behinds names) (all_of each gs)
 
 -- group by group
-whole-by_groups : (bytes : List ℕ) (text : Expression) (each : Group → List Event) → Reads bytes text each →
-    ByGroups bytes (WholeUnder text each)
-whole-by_groups bytes text each reads = record {
+whole-by_groups : (options : ParseOptions) (bytes : List ℕ) (text : Expression) (each : Group → List Event) →
+    Reads options bytes text each → ByGroups options bytes (WholeUnder text each)
+whole-by_groups options bytes text each reads = record {
   none = λ p ended. refl;
   group = λ names kept p group gs o keeps on ended.
       let s : (block : Bool) × Stands text block group (each group) = reads group o.leaf in
-      ap is_whole (leaf-left text bytes s.0 names p group (each group) (all_of each gs) o s.1)
+      ap is_whole (leaf-left options text bytes s.0 names p group (each group) (all_of each gs) o s.1)
       ∙ tail-whole text each s.0 (open_names (first_row group).change.opens ++ names) kept (final_row group)
       (is_blank_group group) gs keeps ended.0 (on ended.1);
 }
@@ -173,7 +173,8 @@ keeps-marked text p q es h =
 
 rows-keep : (options : ParseOptions) (bytes : List ℕ) (text : Expression) (each : Group → List Event)
     (lines : List (List ℕ)) (rows : List Row) →
-    Reads bytes text each → AreRows options bytes [] held_leaf.None (body_point bytes) lines rows → EachNoContent rows →
+    Reads options bytes text each → AreRows options bytes [] held_leaf.None (body_point bytes) lines rows →
+    EachNoContent rows →
     keeps_unlisted text (mark_events bytes ++ all_of each (groups rows)) ≡ true
 rows-keep options bytes text each lines rows reads are quiet = go (has_mark bytes)
   where
@@ -182,7 +183,7 @@ rows-keep options bytes text each lines rows reads are quiet = go (has_mark byte
 
     whole : Whole text (blocks ∷ []) (all_of each (groups rows))
     whole =
-        rows-hold bytes (WholeUnder text each) (whole-by_groups bytes text each reads) options p lines rows are
+        rows-hold options bytes (WholeUnder text each) (whole-by_groups options bytes text each reads) p lines rows are
         (groups-ended rows (rows-end options bytes [] held_leaf.None p lines rows are))
 
     go : (mark : Bool) →
@@ -194,55 +195,61 @@ rows-keep options bytes text each lines rows reads are quiet = go (has_mark byte
 -- Before text parts are read.
 
 -- each group
-unread-reads : (bytes : List ℕ) → Reads bytes unread_text (listed_group bytes)
-unread-reads bytes group is =
-    let leaf : List Event = group_unread bytes group in (
-      is.2.behind,
+unread-reads : (options : ParseOptions) (bytes : List ℕ) → Reads options bytes unread_text (listed_group options bytes)
+unread-reads options bytes group is =
+    let leaf : List Event = group_unread options bytes group in (
+      is.1.behind,
       record {
         leaf = leaf;
         leads =
-            unlists-same unread_text (blocks ∷ []) (blocks_behind is.2.behind ∷ []) leaf is.2.unread_unlisted
-            is.2.unread_word;
+            unlists-same unread_text (blocks ∷ []) (blocks_behind is.1.behind ∷ []) leaf is.1.unread_unlisted
+            is.1.unread_word;
         is = refl;
       },
     )
 
 -- all of them
-unread-all : (bytes : List ℕ) (gs : List Group) → listed_groups bytes gs ≡ all_of (listed_group bytes) gs
-unread-all bytes [] = refl
-unread-all bytes (g ∷ gs) = ap (λ (es : List Event). listed_group bytes g ++ es) (unread-all bytes gs)
+unread-all : (options : ParseOptions) (bytes : List ℕ) (gs : List Group) →
+    listed_groups options bytes gs ≡ all_of (listed_group options bytes) gs
+unread-all options bytes [] = refl
+unread-all options bytes (g ∷ gs) =
+    ap (λ (es : List Event). listed_group options bytes g ++ es) (unread-all options bytes gs)
 
 -- The events of a text keep the grammar before its text parts are read.
 pub blocks-grammar : (options : ParseOptions) (bytes : List ℕ) (lines : List (List ℕ)) (rows : List Row) →
     AreRows options bytes [] held_leaf.None (body_point bytes) lines rows → EachNoContent rows →
-    keeps_unlisted unread_text (mark_events bytes ++ listed_groups bytes (groups rows)) ≡ true
+    keeps_unlisted unread_text (mark_events bytes ++ listed_groups options bytes (groups rows)) ≡ true
 blocks-grammar options bytes lines rows are quiet =
-    ap (λ (es : List Event). keeps_unlisted unread_text (mark_events bytes ++ es)) (unread-all bytes (groups rows))
-    ∙ rows-keep options bytes unread_text (listed_group bytes) lines rows (unread-reads bytes) are quiet
+    ap (λ (es : List Event). keeps_unlisted unread_text (mark_events bytes ++ es))
+    (unread-all options bytes (groups rows))
+    ∙ rows-keep options bytes unread_text (listed_group options bytes) lines rows (unread-reads options bytes) are quiet
 
 -- Once they are read.
 
 -- each group
-group-reads : (bytes : List ℕ) → Reads bytes plain_text (group_events bytes)
-group-reads bytes group is =
-    let leaf : List Event = group_done bytes group in (
-      is.2.behind,
+group-reads : (options : ParseOptions) (bytes : List ℕ) → Reads options bytes plain_text (group_events options bytes)
+group-reads options bytes group is =
+    let leaf : List Event = group_done options bytes group in (
+      is.1.behind,
       record {
         leaf = leaf;
-        leads = unlists-same plain_text (blocks ∷ []) (blocks_behind is.2.behind ∷ []) leaf is.2.unlisted is.2.word;
+        leads = unlists-same plain_text (blocks ∷ []) (blocks_behind is.1.behind ∷ []) leaf is.1.unlisted is.1.word;
         is = refl;
       },
     )
 
 -- all of them
-groups-all : (bytes : List ℕ) (gs : List Group) → groups_events bytes gs ≡ all_of (group_events bytes) gs
-groups-all bytes [] = refl
-groups-all bytes (g ∷ gs) = ap (λ (es : List Event). group_events bytes g ++ es) (groups-all bytes gs)
+groups-all : (options : ParseOptions) (bytes : List ℕ) (gs : List Group) →
+    groups_events options bytes gs ≡ all_of (group_events options bytes) gs
+groups-all options bytes [] = refl
+groups-all options bytes (g ∷ gs) =
+    ap (λ (es : List Event). group_events options bytes g ++ es) (groups-all options bytes gs)
 
 -- The events of a text keep the grammar, as the plain layer reads its text parts.
 pub events-grammar : (options : ParseOptions) (bytes : List ℕ) (lines : List (List ℕ)) (rows : List Row) →
     AreRows options bytes [] held_leaf.None (body_point bytes) lines rows → EachNoContent rows →
-    keeps_unlisted plain_text (mark_events bytes ++ groups_events bytes (groups rows)) ≡ true
+    keeps_unlisted plain_text (mark_events bytes ++ groups_events options bytes (groups rows)) ≡ true
 events-grammar options bytes lines rows are quiet =
-    ap (λ (es : List Event). keeps_unlisted plain_text (mark_events bytes ++ es)) (groups-all bytes (groups rows))
-    ∙ rows-keep options bytes plain_text (group_events bytes) lines rows (group-reads bytes) are quiet
+    ap (λ (es : List Event). keeps_unlisted plain_text (mark_events bytes ++ es))
+    (groups-all options bytes (groups rows))
+    ∙ rows-keep options bytes plain_text (group_events options bytes) lines rows (group-reads options bytes) are quiet

@@ -1,38 +1,58 @@
 -- What is known of the leaf of a group, be it one line, the lines of a text, or those of a leaf of several.
-use Rattle.std.proofs.Common.{ℕ, List, ◌∷◌, Bool, true, false}
+use Rattle.std.proofs.Common.{◌≢◌, ℕ, List, ◌∷◌, Bool, true, false}
 use Rattle.markdown_blocks.proofs.GroupsAre.{AreSpan, Begins, IsUnder, behind-first, line-further, line-of, span-begins}
 use Rattle.markdown_blocks.proofs.Registry.{span-laws}
-use Rattle.std.specs.Prelude.{not, Option, Some}
+use Rattle.std.specs.Prelude.{not, Some}
 use Rattle.md_engine.specs.declared.configuration.ParseOptions.{ParseOptions}
-use Rattle.md_definition.specs.State.{texts}
 use Rattle.md_definition.specs.Tree.{Block}
-use Rattle.markdown_blocks.specs.Registry.{text_leaf}
 use Rattle.markdown_blocks.specs.Rows.{Span, Turned, last_row, Group, Lines, Row, Single, final_row, first_row}
-use Rattle.markdown_blocks.specs.Rows.{group_done}
+use Rattle.markdown_blocks.specs.Rows.{TextRow, group_done, is_blank_row, leaf_done, leaf_unread}
 use Rattle.markdown_blocks.specs.Unread.{group_unread}
 use Rattle.markdown_blocks.proofs.GroupLemmas.{AreGroups, AreLines, HasFront}
-use Rattle.markdown_blocks.proofs.LeafFacts.{LeafFacts}
-use Rattle.markdown_blocks.proofs.RowLeaf.{row-leaf}
-use Rattle.markdown_blocks.proofs.Text.Facts.{kept-of, text-facts}
+use Rattle.markdown_blocks.proofs.LeafFacts.{StandFacts, stand-of}
+use Rattle.markdown_blocks.proofs.RowFacts.{IsRow}
+use Rattle.markdown_blocks.proofs.RowLeaf.{EndsOnLine, block_of, row-facts}
+use Rattle.markdown_blocks.proofs.Text.Stands.{text-stands}
 use Rattle.markdown_blocks.proofs.Turned.Facts.{turned-block, turned-facts}
 
--- whichever block it shows
-abbrev pub IsGroupLeaf : List ℕ → Group → Type 0
-IsGroupLeaf bytes group =
-    (block : Option Block) × (filled : Bool) ×
-    LeafFacts bytes block filled (first_row group).first (final_row group).end (group_unread bytes group)
-    (group_done bytes group)
+-- it stands from the begin of its first line to the end of its last, whatever it is read as
+abbrev pub IsGroupLeaf : ParseOptions → List ℕ → Group → Type 0
+IsGroupLeaf options bytes group =
+    (full : Bool) ×
+    StandFacts bytes full (first_row group).first (final_row group).end (group_unread options bytes group)
+    (group_done options bytes group)
+
+pub single-stands : (options : ParseOptions) (bytes line : List ℕ) (row : Row) → IsRow options bytes line row →
+    row.kind ≢ TextRow → EndsOnLine row.kind →
+    StandFacts bytes (not (is_blank_row row)) row.first row.end (leaf_unread bytes row.kind row)
+    (leaf_done bytes row.kind row)
+single-stands options bytes line row is other ends =
+    stand-of bytes (block_of row.kind is.rest) (not (is_blank_row row)) row.first row.end
+    (leaf_unread bytes row.kind row) (leaf_done bytes row.kind row)
+    (row-facts options bytes line row is other ends)
+
+pub single-leaf : (options : ParseOptions) (bytes line : List ℕ) (row : Row) → IsRow options bytes line row →
+    row.kind ≢ TextRow → EndsOnLine row.kind → IsGroupLeaf options bytes (Single row)
+single-leaf options bytes line row is other ends =
+    (not (is_blank_row row), single-stands options bytes line row is other ends)
 
 pub text-leaf : (options : ParseOptions) (bytes : List ℕ) (row : Row) (rows : List Row) →
-    AreLines options bytes row rows → IsGroupLeaf bytes (Lines row rows)
-text-leaf options bytes row rows h =
-    (Some (text_leaf.block (texts (kept-of options bytes row rows h))), true, text-facts options bytes row rows h)
+    AreLines options bytes row rows → IsGroupLeaf options bytes (Lines row rows)
+text-leaf options bytes row rows h = (true, text-stands options bytes row rows h)
+
+pub turned-stands : (options : ParseOptions) (bytes : List ℕ) (row : Row) (rows : List Row) (under : Row) →
+    AreLines options bytes row rows → IsUnder options bytes (last_row row rows) under →
+    StandFacts bytes true row.first under.end (group_unread options bytes (Turned row rows under))
+    (group_done options bytes (Turned row rows under))
+turned-stands options bytes row rows under h is =
+    stand-of bytes (Some (turned-block options bytes row rows under h is)) true row.first under.end
+    (group_unread options bytes (Turned row rows under)) (group_done options bytes (Turned row rows under))
+    (turned-facts options bytes row rows under h is)
 
 pub turned-leaf : (options : ParseOptions) (bytes : List ℕ) (row : Row) (rows : List Row) (under : Row) →
     AreLines options bytes row rows → IsUnder options bytes (last_row row rows) under →
-    IsGroupLeaf bytes (Turned row rows under)
-turned-leaf options bytes row rows under h is =
-    (Some (turned-block options bytes row rows under h is), true, turned-facts options bytes row rows under h is)
+    IsGroupLeaf options bytes (Turned row rows under)
+turned-leaf options bytes row rows under h is = (true, turned-stands options bytes row rows under h is)
 
 -- the block that the lines of a leaf of several show, and what is known of their events
 abbrev pub span-block : (options : ParseOptions) (bytes : List ℕ) (row : Row) (rows : List Row) →
@@ -42,28 +62,27 @@ span-block options bytes row rows are =
     (span-laws is.name is.open_leaf).block options bytes row rows (line-of options bytes row is)
     (behind-first options bytes row rows are)
 
-pub span-leaf : (options : ParseOptions) (bytes : List ℕ) (row : Row) (rows : List Row) →
-    (are : AreSpan options bytes row rows) → Begins row →
-    LeafFacts bytes (Some (span-block options bytes row rows are)) (not (last_row row rows).empty) row.first
-    (last_row row rows).end (group_unread bytes (Span row rows)) (group_done bytes (Span row rows))
-span-leaf options bytes row rows are begins =
+pub span-stands : (options : ParseOptions) (bytes : List ℕ) (row : Row) (rows : List Row) →
+    AreSpan options bytes row rows → Begins row →
+    StandFacts bytes (not (last_row row rows).empty) row.first (last_row row rows).end
+    (group_unread options bytes (Span row rows)) (group_done options bytes (Span row rows))
+span-stands options bytes row rows are begins =
     let is = span-begins options bytes row rows are in
-    (span-laws is.name is.open_leaf).facts options bytes row rows (line-of options bytes row is)
-    (line-further options bytes row is false begins) (behind-first options bytes row rows are)
+    stand-of bytes (Some (span-block options bytes row rows are)) (not (last_row row rows).empty) row.first
+    (last_row row rows).end (group_unread options bytes (Span row rows)) (group_done options bytes (Span row rows))
+    ((span-laws is.name is.open_leaf).facts options bytes row rows (line-of options bytes row is)
+    (line-further options bytes row is false begins) (behind-first options bytes row rows are))
 
 pub span-group : (options : ParseOptions) (bytes : List ℕ) (row : Row) (rows : List Row) →
-    AreSpan options bytes row rows → Begins row → IsGroupLeaf bytes (Span row rows)
-span-group options bytes row rows are begins = (
-  Some (span-block options bytes row rows are),
-  not (last_row row rows).empty,
-  span-leaf options bytes row rows are begins,
-)
+    AreSpan options bytes row rows → Begins row → IsGroupLeaf options bytes (Span row rows)
+span-group options bytes row rows are begins =
+    (not (last_row row rows).empty, span-stands options bytes row rows are begins)
 
 -- that of the first of groups, what stands in front of it, and the others
 pub group-leaf : (options : ParseOptions) (bytes : List ℕ) (group : Group) (gs : List Group) →
-    AreGroups options bytes (group ∷ gs) → IsGroupLeaf bytes group
+    AreGroups options bytes (group ∷ gs) → IsGroupLeaf options bytes group
 group-leaf options bytes (Single row) gs are =
-    row-leaf options bytes are.0.line row are.0.is are.0.other are.0.ends
+    single-leaf options bytes are.0.line row are.0.is are.0.other are.0.ends
 group-leaf options bytes (Lines row rows) gs are = text-leaf options bytes row rows are.0
 group-leaf options bytes (Turned row rows under) gs are =
     turned-leaf options bytes row rows under are.0 are.1

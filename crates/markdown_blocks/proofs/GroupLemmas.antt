@@ -1,7 +1,8 @@
--- The events of the lines of a text, joined, with their content read and their leaves set, are those of its groups.
+-- The events of the lines of a text, joined, with their content read, are those of its groups.
 use Rattle.md_engine.specs.declared.tokenizer.held_leaf.HeldLeaf.{HeldLeaf}
 use Rattle.std.proofs.Common.{◌≡◌, ◌≢◌, ℕ, ◌<◌, ◌≤◌, Bool, true, false, cond, ◌&&◌, List, [], ◌∷◌, ◌++◌, length, drop}
 use Rattle.markdown_blocks.specs.HeldLeaf.{may_go_on}
+use Rattle.markdown_blocks.specs.BlockList.{lines_unread}
 use Rattle.markdown_blocks.specs.Rows.{Span, Turned}
 use Rattle.std.proofs.Common.{slice_range, refl, ap, sym, ◌∙◌, subst, append_assoc, append-nil, arith, length-append}
 use Rattle.std.specs.Prelude.{◌==◌, Option, Some, None}
@@ -30,16 +31,16 @@ use Rattle.md_definition.specs.State.{Container}
 use Rattle.md_seam.specs.Substituted.{Readings, Substituted, belongs, chunks_behind}
 use Rattle.md_definition.specs.Texts.{split_lines}
 use Rattle.markdown_blocks.specs.Change.{ends_of}
-use Rattle.markdown_blocks.specs.Registry.{container_name, first_of, leaf as line_leaf, LeafName, resolved, text_leaf}
+use Rattle.markdown_blocks.specs.Registry.{container_name, first_of, leaf as line_leaf, LeafName, text_leaf}
 use Rattle.markdown_blocks.specs.Registry.{trials}
 use Rattle.markdown_blocks.specs.Rows.{BlankRow, Group, LeafRow, Lines, Row, RowKind, Single, TextRow}
-use Rattle.markdown_blocks.specs.Rows.{behind_row, blank_line, chunks_of, ending_events, ending_of}
+use Rattle.markdown_blocks.specs.Rows.{behind_row, chunks_of, ending_events, ending_of}
 use Rattle.markdown_blocks.specs.Rows.{groups, kind_of, last_row}
-use Rattle.markdown_blocks.specs.Rows.{leaf_events, leaf_unread, line_kind, read_lines, row_events}
-use Rattle.markdown_blocks.specs.Rows.{row_events_by, rows_events, tail_events}
+use Rattle.markdown_blocks.specs.Rows.{line_kind, read_lines, row_events}
+use Rattle.markdown_blocks.specs.Rows.{rows_events, tail_events}
 use Rattle.markdown_blocks.specs.Fronted.{cut_tab}
 use Rattle.markdown_blocks.specs.Unread.{joined_groups, linked, linked_lines}
-use Rattle.markdown_blocks.specs.Unread.{listed_row_by, set_groups, text_unread, unread_group, unread_groups}
+use Rattle.markdown_blocks.specs.Unread.{text_unread, unread_group, unread_groups}
 use Rattle.markdown_blocks.specs.Unread.{unread_lines}
 use Rattle.md_seam.proofs.FeedLines.{ending-some}
 pub use Rattle.markdown_blocks.proofs.GroupsAre.{AreGroups, AreLines, AreSpan, EndsBeforeGroups, HasFront, IsSingle}
@@ -58,12 +59,8 @@ use Rattle.markdown_blocks.proofs.ContentFacts.{NoContent, WantsContent, no_cont
 use Rattle.markdown_blocks.proofs.ContainerNames.{container-facts}
 use Rattle.md_definition.specs.Rest.{Rest as LineRest, is_blank}
 use Rattle.markdown_blocks.proofs.LineTexts.{one-last, one-next, piece, without-none, without-one}
-use Rattle.markdown_blocks.proofs.OutsideFacts.{AreOutside, outside-append}
-use Rattle.markdown_blocks.proofs.OutsideLemmas.{around-outside, ending-own, front-outside, has_front-outside, leaf-set}
-use Rattle.markdown_blocks.proofs.OutsideLemmas.{linked-outside, tail-outside}
 use Rattle.markdown_blocks.proofs.PrefixNames.{ArePrefixes, prefixes-front}
-use Rattle.markdown_blocks.proofs.Registry.{laws, outside-passes}
-use Rattle.markdown_blocks.proofs.KindLemmas.{kind-starts, kind-text}
+use Rattle.markdown_blocks.proofs.KindLemmas.{kind-text}
 use Rattle.markdown_blocks.specs.Rows.{is_blank_by}
 
 -- each line of a text but the last has an ending
@@ -212,7 +209,7 @@ span-quiet options bytes wants row is quiet w =
     events-no_content wants row row.kind refl (λ h. let bad : LeafRow is.name ≡ TextRow = sym is.kind ∙ h in cc)
     (has_front-no_content wants bytes row is.front) (quiet wants w)
 
-spans-quiet : (options : ParseOptions) (bytes : List ℕ) (wants : Content → Bool) (row : Row) (rows : List Row) →
+pub spans-quiet : (options : ParseOptions) (bytes : List ℕ) (wants : Content → Bool) (row : Row) (rows : List Row) →
     AreSpan options bytes row rows → EachNoContent (row ∷ rows) → WantsContent wants →
     NoContent wants (rows_events (row ∷ rows))
 spans-quiet options bytes wants row [] are quiet w =
@@ -238,13 +235,17 @@ pub under-prefixed : (options : ParseOptions) (bytes : List ℕ) (last under : R
 under-prefixed options bytes last under is =
     fronts-prefixes bytes [] is.after under.first under.front refl is.front
 
+pub under-quiet : (options : ParseOptions) (bytes : List ℕ) (wants : Content → Bool) (last under : Row) →
+    IsUnder options bytes last under → WantsContent wants → NoContent wants (row_events under)
+under-quiet options bytes wants last under is w =
+    events-no_content wants under under.kind refl (under-other options bytes last under is)
+    (front-no_content wants under.front (prefixes-front under.front (under-prefixed options bytes last under is)))
+    (is.quiet wants w)
+
 under-unwanted : (options : ParseOptions) (bytes : List ℕ) (wants : Content → Bool) (last under : Row) →
     IsUnder options bytes last under → WantsContent wants → Unwanted wants (row_events under)
 under-unwanted options bytes wants last under is w =
-    no_content-unwanted wants (row_events under)
-    (events-no_content wants under under.kind refl (under-other options bytes last under is)
-    (front-no_content wants under.front (prefixes-front under.front (under-prefixed options bytes last under is)))
-    (is.quiet wants w))
+    no_content-unwanted wants (row_events under) (under-quiet options bytes wants last under is w)
 
 -- in front of the further lines of a text stand prefixes alone
 pub lines-prefixed : (options : ParseOptions) (bytes : List ℕ) (row : Row) (rows : List Row) →
@@ -342,18 +343,18 @@ linked-cut options bytes name link row (next ∷ rows) zs h =
       linked-cut options bytes name link next rows zs h.7,
     )
 
--- a reader of content gives for lines of text the leaf of these lines, which are not read yet
+-- A reader of content gives for lines of text what stands in the place of these lines, once that is cut at their ends.
 abbrev pub ReadsContent : ParseOptions → List ℕ → Readings → Type 0
 ReadsContent options bytes reads =
     (row : Row) (rows : List Row) → AreLines options bytes row rows → (answer : List Event) →
-    reads content.Content (chunks_of row rows) answer →
-    answer ≡ around text_leaf.name row.first (last_row row rows).end (linked n.Data text_link (chunks_of row rows))
+    reads content.Content (chunks_of row rows) answer → CutAt row rows answer (text_unread options bytes row rows)
 
--- a text that is not read yet, cut so too
-unread-cut : (options : ParseOptions) (bytes : List ℕ) (row : Row) (rows : List Row) → AreLines options bytes row rows →
+-- the leaf of lines that are not read yet, cut so
+pub unread-cut : (options : ParseOptions) (bytes : List ℕ) (row : Row) (rows : List Row) →
+    AreLines options bytes row rows →
     CutAt row rows
     (around text_leaf.name row.first (last_row row rows).end (linked n.Data text_link (chunks_of row rows)))
-    (text_unread row rows)
+    (lines_unread row rows)
 unread-cut options bytes row rows h =
     let end = exit text_leaf.name (last_row row rows).end ∷ [] in
     cut-front row rows (enter text_leaf.name row.first ∷ []) (linked n.Data text_link (chunks_of row rows) ++ end)
@@ -378,12 +379,12 @@ text-content : (options : ParseOptions) (bytes : List ℕ) (wants : Content → 
     Substituted wants reads left 0
     (((row.front ++ linked_lines n.Content content_link row rows) ++ tail_events n.LineEnding (last_row row rows))
     ++ es) out →
-    Rest wants reads (unread_group (Lines row rows)) es out
+    Rest wants reads (unread_group options bytes (Lines row rows)) es out
 text-content options bytes wants reads w unique row rows are front es left out none s =
     let tail : List Event = tail_events n.LineEnding (last_row row rows) in
     let inside : List Event = linked_lines n.Content content_link row rows in
     let ys : List Event = tail ++ es in
-    let given : List Event = text_unread row rows in
+    let given : List Event = text_unread options bytes row rows in
     let begun : (rest : List Event) × (is : out ≡ row.front ++ rest) ×
     Substituted wants reads left 0 (inside ++ ys) rest =
     passes wants reads left 0 row.front (inside ++ ys) out (front-unwanted wants bytes row front)
@@ -392,9 +393,7 @@ text-content options bytes wants reads w unique row rows are front es left out n
     let rest : Rest wants reads given ys begun.0 =
     places wants reads left n.Content content_link row rows ys given begun.0 w none
     (lines-prefixed options bytes row rows are)
-    (λ answer read.
-    subst (λ (l : List Event). CutAt row rows l given) (sym (unique row rows are answer read))
-    (unread-cut options bytes row rows are)) begun.2 in
+    (unique row rows are) begun.2 in
     let two : (more : List Event) × (is : rest.0 ≡ tail ++ more) ×
     Substituted wants reads rest.1 0 es more = passes wants reads rest.1 0 tail es rest.0
     (tail-unwanted wants TextRow (last_row row rows)) rest.3 in (
@@ -408,7 +407,7 @@ text-content options bytes wants reads w unique row rows are front es left out n
 groups-content : (options : ParseOptions) (bytes : List ℕ) (wants : Content → Bool) (reads : Readings) →
     wants content.Content ≡ true → WantsContent wants → ReadsContent options bytes reads →
     (gs : List Group) → AreGroups options bytes gs → (left out : List Event) →
-    Substituted wants reads left 0 (joined_groups gs) out → out ≡ unread_groups gs
+    Substituted wants reads left 0 (joined_groups gs) out → out ≡ unread_groups options bytes gs
 groups-content options bytes wants reads w other unique [] are left out s = s
 groups-content options bytes wants reads w other unique (Single row ∷ gs) are left out s =
     let one : (rest : List Event) × (is : out ≡ row_events row ++ rest) ×
@@ -419,7 +418,7 @@ groups-content options bytes wants reads w other unique (Single row ∷ gs) are 
     ∙ ap (λ (l : List Event). row_events row ++ l)
     (groups-content options bytes wants reads w other unique gs are.1 left one.0 one.2)
 groups-content options bytes wants reads w other unique (Turned row rows under ∷ gs) are left out s =
-    let text : List Event = unread_group (Lines row rows) in
+    let text : List Event = unread_group options bytes (Lines row rows) in
     let behind : List Event = row_events under ++ joined_groups gs in
     let one : Rest wants reads text behind out =
     text-content options bytes wants reads w unique row rows are.0 are.3 behind left out
@@ -437,7 +436,7 @@ groups-content options bytes wants reads w other unique (Turned row rows under �
     (two.1
     ∙ ap (λ (l : List Event). row_events under ++ l)
     (groups-content options bytes wants reads w other unique gs are.4 one.1 two.0 two.2))
-    ∙ sym (append_assoc text (row_events under) (unread_groups gs))
+    ∙ sym (append_assoc text (row_events under) (unread_groups options bytes gs))
 groups-content options bytes wants reads w other unique (Span row rows ∷ gs) are left out s =
     let one : (rest : List Event) × (is : out ≡ rows_events (row ∷ rows) ++ rest) ×
     Substituted wants reads left 0 (joined_groups gs) rest =
@@ -447,7 +446,7 @@ groups-content options bytes wants reads w other unique (Span row rows ∷ gs) a
     ∙ ap (λ (l : List Event). rows_events (row ∷ rows) ++ l)
     (groups-content options bytes wants reads w other unique gs are.2 left one.0 one.2)
 groups-content options bytes wants reads w other unique (Lines row rows ∷ gs) are left out s =
-    let text : List Event = unread_group (Lines row rows) in
+    let text : List Event = unread_group options bytes (Lines row rows) in
     let one : Rest wants reads text (joined_groups gs) out =
     text-content options bytes wants reads w unique row rows are.0 are.2 (joined_groups gs) left out
     (behind-lines wants (last_row row rows) gs are.1) s in
@@ -462,7 +461,7 @@ pub content-read : (options : ParseOptions) (bytes : List ℕ) (open_before : Li
     (wants : Content → Bool) (reads : Readings) → wants content.Content ≡ true → WantsContent wants →
     ReadsContent options bytes reads →
     (unread : List Event) → Substituted wants reads [] 0 (joined (rows_events rows)) unread →
-    unread ≡ unread_groups (groups rows)
+    unread ≡ unread_groups options bytes (groups rows)
 content-read options bytes open_before still p lines rows shut are quiet wants reads w other unique unread s =
     groups-content options bytes wants reads w other unique (groups rows)
     (groups-are options bytes open_before still p lines rows shut are quiet) [] unread
@@ -470,114 +469,10 @@ content-read options bytes open_before still p lines rows shut are quiet wants r
     (joined-rows bytes rows (rows-front options bytes open_before still p lines rows are)
     (rows-end options bytes open_before still p lines rows are) quiet) s)
 
--- Resolvers.
-
--- the whitespace of a blank line stays
-blank-outside : (line : List ℕ) (p : Point) → AreOutside (blank_line line p)
-blank-outside [] p = tt
-blank-outside (b ∷ line) p = (refl, (refl, tt))
-
--- a line that is no text is set
-single-set : (options : ParseOptions) (bytes : List ℕ) (row : Row) (es : List Event) → IsSingle options bytes row →
-    (kind : RowKind) → row.kind ≡ kind →
-    resolved (row_events_by kind row ++ es) ≡ listed_row_by bytes kind row ++ resolved es
-single-set options bytes row es is kind e =
-    leaf-set row.front (leaf_events kind row) (leaf_unread bytes kind row) (tail_events (ending_of kind row) row) es
-    (has_front-outside bytes row is.front)
-    (tail-outside (ending_of kind row) row (ending-own (is_blank_by kind row))) (leaf kind e)
-  where
-    leaf : (kind : RowKind) → row.kind ≡ kind → (es : List Event) →
-        resolved (leaf_events kind row ++ es) ≡ leaf_unread bytes kind row ++ resolved es
-    leaf BlankRow e es =
-        outside-passes row.inside es (subst AreOutside (sym (is.is.blank e)) (blank-outside is.line row.first))
-    leaf (LeafRow l) e es =
-        ap (λ (added : List Event). resolved (added ++ es))
-        (is.is.leaf_is l e ∙ ap (λ (line : List ℕ). (line_leaf l).added options row.on line row.first) is.is.line_is)
-        ∙ (laws l).set (is.ends l e) options row.on is.is.rest row.first es
-        (kind-starts options row.on is.is.rest l (sym is.is.kind ∙ e))
-        ∙ ap (λ (line : List ℕ). (line_leaf l).unread line row.first ++ resolved es)
-        (sym is.is.line_is ∙ sym is.is.text)
-    leaf TextRow e es = absurd (is.other e)
-
--- a line of a leaf that may go on is left to the resolvers that join such lines, and that set headings
-line-outside : (options : ParseOptions) (bytes line : List ℕ) (row : Row) (name : LeafName) →
-    IsRow options bytes line row → row.kind ≡ LeafRow name → (line_leaf name).ends ≡ false → AreOutside row.front →
-    AreOutside (row_events row)
-line-outside options bytes line row name is named open_leaf front =
-    outside-append (row.front ++ leaf_events row.kind row) (tail_events (ending_of row.kind row) row)
-    (outside-append row.front (leaf_events row.kind row) front
-    (subst (λ (kind : RowKind). AreOutside (leaf_events kind row)) (sym named) inside))
-    (tail-outside (ending_of row.kind row) row (ending-own (is_blank_by row.kind row)))
-  where
-    inside : AreOutside row.inside
-    inside =
-        subst AreOutside (sym (is.leaf_is name named))
-        (subst (λ (line : List ℕ). AreOutside ((line_leaf name).added options row.on line row.first)) (sym is.line_is)
-        ((laws name).outside open_leaf options row.on is.rest row.first
-        (kind-starts options row.on is.rest name (sym is.kind ∙ named))))
-
-span_line-outside : (options : ParseOptions) (bytes : List ℕ) (row : Row) → IsSpanLine options bytes row →
-    AreOutside (row_events row)
-span_line-outside options bytes row is =
-    line-outside options bytes is.line row is.name is.is is.kind is.open_leaf (has_front-outside bytes row is.front)
-
-under-outside : (options : ParseOptions) (bytes : List ℕ) (last under : Row) → IsUnder options bytes last under →
-    AreOutside (row_events under)
-under-outside options bytes last under is =
-    line-outside options bytes is.line under is.name is.is is.kind is.open_leaf
-    (front-outside under.front (prefixes-front under.front (under-prefixed options bytes last under is)))
-
-span-outside : (options : ParseOptions) (bytes : List ℕ) (row : Row) (rows : List Row) →
-    AreSpan options bytes row rows → AreOutside (rows_events (row ∷ rows))
-span-outside options bytes row [] are =
-    outside-append (row_events row) [] (span_line-outside options bytes row are) tt
-span-outside options bytes row (next ∷ rows) are =
-    outside-append (row_events row) (rows_events (next ∷ rows))
-    (span_line-outside options bytes row are.0) (span-outside options bytes next rows are.8)
-
--- the lines of a text
-text-outside : (options : ParseOptions) (bytes : List ℕ) (row : Row) (rows : List Row) →
-    AreLines options bytes row rows → HasFront bytes row → AreOutside (unread_group (Lines row rows))
-text-outside options bytes row rows are front =
-    let last : Row = last_row row rows in
-    outside-append (row.front ++ text_unread row rows) (tail_events n.LineEnding last)
-    (outside-append row.front (text_unread row rows) (has_front-outside bytes row front)
-    (around-outside text_leaf.name row.first last.end (unread_lines row rows) refl
-    (linked-outside text_link row rows (lines-prefixed options bytes row rows are))))
-    (tail-outside n.LineEnding last refl)
-
-groups-set : (options : ParseOptions) (bytes : List ℕ) (gs : List Group) → AreGroups options bytes gs →
-    resolved (unread_groups gs) ≡ set_groups bytes gs
-groups-set options bytes [] are = refl
-groups-set options bytes (Single row ∷ gs) are =
-    single-set options bytes row (unread_groups gs) are.0 row.kind refl
-    ∙ ap (λ (l : List Event). listed_row_by bytes row.kind row ++ l) (groups-set options bytes gs are.1)
-groups-set options bytes (Lines row rows ∷ gs) are =
-    outside-passes (unread_group (Lines row rows)) (unread_groups gs)
-    (text-outside options bytes row rows are.0 are.2)
-    ∙ ap (λ (l : List Event). unread_group (Lines row rows) ++ l) (groups-set options bytes gs are.3)
-groups-set options bytes (Turned row rows under ∷ gs) are =
-    outside-passes (unread_group (Turned row rows under)) (unread_groups gs)
-    (outside-append (unread_group (Lines row rows)) (row_events under)
-    (text-outside options bytes row rows are.0 are.3)
-    (under-outside options bytes (last_row row rows) under are.1))
-    ∙ ap (λ (l : List Event). unread_group (Turned row rows under) ++ l) (groups-set options bytes gs are.4)
-groups-set options bytes (Span row rows ∷ gs) are =
-    outside-passes (rows_events (row ∷ rows)) (unread_groups gs) (span-outside options bytes row rows are.0)
-    ∙ ap (λ (l : List Event). rows_events (row ∷ rows) ++ l) (groups-set options bytes gs are.2)
-
--- Each leaf on one line is set, and all else stays.
-pub leaves-set : (options : ParseOptions) (bytes : List ℕ) (open_before : List Container) (still : HeldLeaf) (p : Point)
-    (lines : List (List ℕ)) (rows : List Row) →
-    may_go_on still ≡ false → AreRows options bytes open_before still p lines rows → EachNoContent rows →
-    resolved (unread_groups (groups rows)) ≡ set_groups bytes (groups rows)
-leaves-set options bytes open_before still p lines rows shut are quiet =
-    groups-set options bytes (groups rows) (groups-are options bytes open_before still p lines rows shut are quiet)
-
 -- The lines of a text, cut at the ends of its lines.
 
 -- what the plain layer gives for a line belongs to its chunk
-plain-belongs : (p e q : Point) → p.index < q.index → e.index < q.index →
+pub plain-belongs : (p e q : Point) → p.index < q.index → e.index < q.index →
     AllBelong q.index (pair_unless_empty n.Data p e ++ pair_unless_empty n.LineEnding e q)
 plain-belongs p e q h k = go (same_place p e) (same_place e q)
   where
@@ -590,7 +485,7 @@ plain-belongs p e q h k = go (same_place p e) (same_place e q)
     go false y = (begins-before n.Data p q.index h, (ends-before n.Data e q.index (omega arith), ending y))
 
 -- and what it gives for the next one does not
-plain-next : (p e : Point) (ys zs : List Event) (end : ℕ) → p.index < e.index → end ≤ p.index →
+pub plain-next : (p e : Point) (ys zs : List Event) (end : ℕ) → p.index < e.index → end ≤ p.index →
     NextBelongs end ((pair_unless_empty n.Data p e ++ ys) ++ zs)
 plain-next p e ys zs end h k =
     let apart : same_place p e ≡ false = grind (arith, nat_tests) in

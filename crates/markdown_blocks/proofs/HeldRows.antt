@@ -139,13 +139,14 @@ ending-opens name row names = go row.after
 -- Groups.
 
 -- a group in front of such events, with what stands in its place
-group-held : (bytes : List ℕ) (names kept : List Name) (p : Point) (group : Group) (inside events : List Event) →
-    Ordered bytes p group → Keeps names group kept → AreBlocks names →
+group-held : (options : ParseOptions) (bytes : List ℕ) (names kept : List Name) (p : Point) (group : Group)
+    (inside events : List Event) →
+    Ordered options bytes p group → Keeps names group kept → AreBlocks names →
     Nested_in (first_row group).first (final_row group).end inside → NoListing inside →
     (AreBlocks kept → ItemsHeld kept events) →
     ItemsHeld names
     (((first_row group).front ++ inside ++ tail_events (group_ending group) (final_row group)) ++ events)
-group-held bytes names kept p group inside events o keeps blocks nested none on =
+group-held options bytes names kept p group inside events o keeps blocks nested none on =
     subst (ItemsHeld names) (sym apart)
     (held-through names all row.front (inside ++ (ends ++ (ending ++ events)))
     (fronts-held bytes row.change.opens names p row.first row.front blocks o.front)
@@ -185,27 +186,27 @@ group-held bytes names kept p group inside events o keeps blocks nested none on 
     apart = simp append_assoc
 
 -- before text parts are read
-abbrev UnreadHeld : List ℕ → List Name → Point → List Group → Type 0
-UnreadHeld bytes names p gs = AreBlocks names → ItemsHeld names (listed_groups bytes gs)
+abbrev UnreadHeld : ParseOptions → List ℕ → List Name → Point → List Group → Type 0
+UnreadHeld options bytes names p gs = AreBlocks names → ItemsHeld names (listed_groups options bytes gs)
 
-unread-by_groups : (bytes : List ℕ) → ByGroups bytes (UnreadHeld bytes)
-unread-by_groups bytes = record {
+unread-by_groups : (options : ParseOptions) (bytes : List ℕ) → ByGroups options bytes (UnreadHeld options bytes)
+unread-by_groups options bytes = record {
   none = λ p blocks. tt;
   group = λ names kept p group gs o keeps on blocks.
-      group-held bytes names kept p group (group_unread bytes group) (listed_groups bytes gs) o keeps blocks
-      o.leaf.2.unread_nested o.leaf.2.unread_unlisted on;
+      group-held options bytes names kept p group (group_unread options bytes group) (listed_groups options bytes gs)
+      o keeps blocks o.leaf.1.unread_nested o.leaf.1.unread_unlisted on;
 }
 
 -- and once they are
-abbrev ReadHeld : List ℕ → List Name → Point → List Group → Type 0
-ReadHeld bytes names p gs = AreBlocks names → ItemsHeld names (groups_events bytes gs)
+abbrev ReadHeld : ParseOptions → List ℕ → List Name → Point → List Group → Type 0
+ReadHeld options bytes names p gs = AreBlocks names → ItemsHeld names (groups_events options bytes gs)
 
-read-by_groups : (bytes : List ℕ) → ByGroups bytes (ReadHeld bytes)
-read-by_groups bytes = record {
+read-by_groups : (options : ParseOptions) (bytes : List ℕ) → ByGroups options bytes (ReadHeld options bytes)
+read-by_groups options bytes = record {
   none = λ p blocks. tt;
   group = λ names kept p group gs o keeps on blocks.
-      group-held bytes names kept p group (group_done bytes group) (groups_events bytes gs) o keeps blocks
-      o.leaf.2.nested o.leaf.2.unlisted on;
+      group-held options bytes names kept p group (group_done options bytes group) (groups_events options bytes gs)
+      o keeps blocks o.leaf.1.nested o.leaf.1.unlisted on;
 }
 
 -- The events of a text, with its mark.
@@ -225,14 +226,16 @@ mark-held bytes es h =
 
 pub blocks-held : (options : ParseOptions) (bytes : List ℕ) (lines : List (List ℕ)) (rows : List Row) →
     AreRows options bytes [] held_leaf.None (body_point bytes) lines rows →
-    ItemsHeld [] (mark_events bytes ++ listed_groups bytes (groups rows))
+    ItemsHeld [] (mark_events bytes ++ listed_groups options bytes (groups rows))
 blocks-held options bytes lines rows are =
-    mark-held bytes (listed_groups bytes (groups rows))
-    (rows-hold bytes (UnreadHeld bytes) (unread-by_groups bytes) options (body_point bytes) lines rows are tt)
+    mark-held bytes (listed_groups options bytes (groups rows))
+    (rows-hold options bytes (UnreadHeld options bytes) (unread-by_groups options bytes) (body_point bytes)
+    lines rows are tt)
 
 pub events-held : (options : ParseOptions) (bytes : List ℕ) (lines : List (List ℕ)) (rows : List Row) →
     AreRows options bytes [] held_leaf.None (body_point bytes) lines rows →
-    ItemsHeld [] (mark_events bytes ++ groups_events bytes (groups rows))
+    ItemsHeld [] (mark_events bytes ++ groups_events options bytes (groups rows))
 events-held options bytes lines rows are =
-    mark-held bytes (groups_events bytes (groups rows))
-    (rows-hold bytes (ReadHeld bytes) (read-by_groups bytes) options (body_point bytes) lines rows are tt)
+    mark-held bytes (groups_events options bytes (groups rows))
+    (rows-hold options bytes (ReadHeld options bytes) (read-by_groups options bytes) (body_point bytes)
+    lines rows are tt)

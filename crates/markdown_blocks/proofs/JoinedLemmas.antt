@@ -35,7 +35,7 @@ use Rattle.markdown_blocks.proofs.FrontNames.{fronts-prefixes, fronts-stop, pref
 pub use Rattle.markdown_blocks.proofs.Span.Cuts.{ending-is}
 use Rattle.markdown_blocks.proofs.SubstitutedLemmas.{no_link-unwanted}
 use Rattle.markdown_blocks.proofs.Registry.{laws}
-use Rattle.markdown_blocks.proofs.ContentFacts.{NoContent, WantsContent, no_content-append, nothing, nothing-wanted}
+use Rattle.markdown_blocks.proofs.ContentFacts.{NoContent, WantsContent, is_told, no_content-append, nothing, nothing-wanted, told-content}
 use Rattle.markdown_blocks.proofs.PrefixNames.{AreFront}
 use Rattle.markdown_blocks.proofs.ContainerNames.{container-facts, end-stops}
 use Rattle.markdown_blocks.specs.Registry.{container_name}
@@ -91,7 +91,7 @@ rows_at-no_content options (suc size) open_before still cells p =
 
 -- Their events.
 
-pub ending-no_content : (wants : Content → Bool) (name : Name) (row : Row) → is_content name ≡ false →
+pub ending-no_content : (wants : Content → Bool) (name : Name) (row : Row) → is_told name ≡ false →
     NoContent wants (ending_events name row)
 ending-no_content wants name row h = go row.after
   where
@@ -114,14 +114,14 @@ pub ends-no_content : (wants : Content → Bool) (cs : List Container) (p : Poin
 ends-no_content wants cs p = front-no_content wants (ends_of cs p) (ends-are cs p)
 
 -- and behind it
-pub tail-no_content : (wants : Content → Bool) (name : Name) (row : Row) → is_content name ≡ false →
+pub tail-no_content : (wants : Content → Bool) (name : Name) (row : Row) → is_told name ≡ false →
     NoContent wants (tail_events name row)
 tail-no_content wants name row h =
     no_content-append wants (ends_of row.leaves row.end) (ending_events name row)
     (ends-no_content wants row.leaves row.end) (ending-no_content wants name row h)
 
 -- the name of an ending is not that of content
-pub ending-other : (blank : Bool) → is_content (ending_name blank) ≡ false
+pub ending-other : (blank : Bool) → is_told (ending_name blank) ≡ false
 ending-other true = refl
 ending-other false = refl
 
@@ -154,7 +154,7 @@ joined-one e (f ∷ g ∷ es) h =
 pub joined-passes : (xs ys : List Event) → NoContent nothing xs → joined (xs ++ ys) ≡ xs ++ joined ys
 joined-passes [] ys h = refl
 joined-passes (e ∷ xs) ys h =
-    joined-one e (xs ++ ys) (and_right (is_exit e.kind) (is_content e.name) h.1)
+    joined-one e (xs ++ ys) (and_right (is_exit e.kind) (is_content e.name) (told-content e.name h.1))
     ∙ ap (λ (l : List Event). e ∷ l) (joined-passes xs ys h.2)
 
 -- and no line of content goes on over it
@@ -166,7 +166,7 @@ behind-passes (e ∷ xs) ys h k = go (is_prefix e.name) (behind-passes xs ys h.2
     go : (x : Bool) → content_behind (xs ++ ys) ≡ false →
         cond x (content_behind (xs ++ ys)) (is_enter e.kind && is_content e.name) ≡ false
     go true k = k
-    go false k = and_right (is_enter e.kind) (is_content e.name) h.1
+    go false k = and_right (is_enter e.kind) (is_content e.name) (told-content e.name h.1)
 
 -- each line but the last has an ending
 abbrev pub EachEnds : List Row → Type 0

@@ -105,3 +105,84 @@ pub record LeafFacts (bytes : List ℕ) (block : Option Block) (full : Bool) (p 
   pub plain : clear bytes p ≡ true → ArePlain bytes done
   -- they are read as their block
   pub reads : (r : Reading) → r.text ≡ None → r.leaf ≡ None → read bytes r done ≡ shown block r
+
+-- The same, whatever they are read as.
+pub record StandFacts (bytes : List ℕ) (full : Bool) (p q : Point) (unread done : List Event) : Type 0 where
+  -- they nest, and go forward
+  pub unread_nested : Nested_in p q unread
+  pub nested : Nested_in p q done
+  -- they cover what stands there
+  pub tiled : Tiled p q unread
+  -- their pieces are over what their names say
+  pub unread_stood : Stood bytes unread
+  pub stood : Stood bytes done
+  -- whether the grammar stands behind a block there, or where blocks may begin as at first
+  pub behind : Bool
+  -- they keep the grammar
+  pub unread_word : grammar.Leads unread_text (blocks ∷ []) (blocks_behind behind ∷ []) unread
+  pub word : grammar.Leads plain_text (blocks ∷ []) (blocks_behind behind ∷ []) done
+  -- and where their line ends
+  pub unread_ending : ending.Leads line_start (spot_behind full) unread
+  pub ending : ending.Leads line_start (spot_behind full) done
+  -- no item and no list is among them, and they stand where blocks may
+  pub unread_unlisted : NoListing unread
+  pub unlisted : NoListing done
+  pub stands : (held : List Bool) → StandsTo bytes (among held) (among held) done
+  -- their text parts are whole, and are read in the places of their chunks
+  pub parts : Stands bytes unread
+  pub filled : Fill bytes unread done
+  -- they stand between characters, and may be outlined
+  pub between : is_between bytes p.index ≡ true → is_between bytes q.index ≡ true → AreBetween bytes done
+  pub parted : Sits bytes done
+  pub plain : clear bytes p ≡ true → ArePlain bytes done
+
+-- so it is for each leaf
+pub stand-of : (bytes : List ℕ) (block : Option Block) (full : Bool) (p q : Point) (unread done : List Event) →
+    LeafFacts bytes block full p q unread done → StandFacts bytes full p q unread done
+stand-of bytes block full p q unread done is = record {
+  unread_nested = is.unread_nested;
+  nested = is.nested;
+  tiled = is.tiled;
+  unread_stood = is.unread_stood;
+  stood = is.stood;
+  behind = is.behind;
+  unread_word = is.unread_word;
+  word = is.word;
+  unread_ending = is.unread_ending;
+  ending = is.ending;
+  unread_unlisted = is.unread_unlisted;
+  unlisted = is.unlisted;
+  stands = is.stands;
+  parts = is.parts;
+  filled = is.filled;
+  between = is.between;
+  parted = is.parted;
+  plain = is.plain;
+}
+
+-- and with what it is read as
+pub leaf-of : (bytes : List ℕ) (block : Option Block) (full : Bool) (p q : Point) (unread done : List Event) →
+    StandFacts bytes full p q unread done →
+    ((r : Reading) → r.text ≡ None → r.leaf ≡ None → read bytes r done ≡ shown block r) →
+    LeafFacts bytes block full p q unread done
+leaf-of bytes block full p q unread done is reads = record {
+  unread_nested = is.unread_nested;
+  nested = is.nested;
+  tiled = is.tiled;
+  unread_stood = is.unread_stood;
+  stood = is.stood;
+  behind = is.behind;
+  unread_word = is.unread_word;
+  word = is.word;
+  unread_ending = is.unread_ending;
+  ending = is.ending;
+  unread_unlisted = is.unread_unlisted;
+  unlisted = is.unlisted;
+  stands = is.stands;
+  parts = is.parts;
+  filled = is.filled;
+  between = is.between;
+  parted = is.parted;
+  plain = is.plain;
+  reads = reads;
+}

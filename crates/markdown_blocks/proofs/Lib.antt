@@ -13,6 +13,7 @@ pub mod PiecesLemmas
 pub mod PieceFacts
 pub mod SpanLaws
 pub mod SpanLemmas
+pub mod ContentCut
 pub mod ContentFacts
 pub mod LineTexts
 pub mod RowKinds
@@ -74,6 +75,7 @@ pub mod Registers
 pub mod StatesRegister
 pub mod JoinedLemmas
 pub mod GroupLemmas
+pub mod GroupsSet
 pub mod GroupsBecome
 pub mod UnderNames
 pub mod GroupsAre
@@ -138,3 +140,5 @@ pub mod HeadingSetext
 pub mod MarkRuns
 pub mod ThematicBreak
 pub mod Registry
+pub mod Defined
+pub mod Labels

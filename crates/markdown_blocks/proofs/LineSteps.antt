@@ -99,10 +99,15 @@ text-interrupted _ = refl
 
 -- Lines, one after another.
 
+-- blocks, with what an open text comes to behind them, if one is open
+abbrev behind_text : ParseOptions → Blocks → List Kept → Blocks
+behind_text options bs [] = bs
+behind_text options bs (k ∷ ks) = text_leaf.behind options bs (texts (k ∷ ks))
+
 -- what is open behind a line of this kind, where nothing was but this text
 abbrev pub spot_by : ParseOptions → Blocks → List Kept → Rest → RowKind → Spot
-spot_by options bs held r BlankRow = spot_of (text_leaf.behind bs (texts held))
-spot_by options bs held r (LeafRow l) = came (text_leaf.behind bs (texts held)) ((leaf l).comes options NoLeaf r)
+spot_by options bs held r BlankRow = spot_of (behind_text options bs held)
+spot_by options bs held r (LeafRow l) = came (behind_text options bs held) ((leaf l).comes options NoLeaf r)
 spot_by options bs held r TextRow = with_line bs held r
 
 -- the kind of a line that does not go on the leaf that it meets
@@ -188,7 +193,7 @@ text-found options bs k ks r built =
         cond x (spot_of (then_leaf options bs (text_leaf.held (k ∷ ks))))
         (underline_or_text options bs (k ∷ ks) r (underline_depth options r)) ≡
         text_spot options bs (k ∷ ks) r (cond x BlankRow (kind_of (leaf_at options held_leaf.Text r)))
-    go true e = ap spot_of (text-laws.shut options bs (k ∷ ks) built.definition)
+    go true e = ap spot_of (text-laws.shut options bs (k ∷ ks))
     go false e = text-comes options bs k ks r e built ∙ by (leaf_at options held_leaf.Text r)
 
 -- The containers that open.
@@ -361,7 +366,7 @@ text-stepped : (options : ParseOptions) (bs : Blocks) (r : Rest) → IsBuilt opt
 text-stepped options bs r built k ks =
     ap At (text-found options bs k ks r built) ∙ go (line_kind options held_leaf.Text r)
     ∙ ap (λ (x : Blocks). by (line_kind options held_leaf.Text r) x)
-    (sym (text-laws.shut options bs (k ∷ ks) built.definition))
+    (sym (text-laws.shut options bs (k ∷ ks)))
   where
     -- where the text is shut with these blocks
     by : RowKind → Blocks → Path
@@ -371,7 +376,7 @@ text-stepped options bs r built k ks =
         (At (spot_by options shut_to [] r kind)))
 
     go : (kind : RowKind) →
-        At (text_spot options bs (k ∷ ks) r kind) ≡ by kind (text_leaf.behind bs (texts (k ∷ ks)))
+        At (text_spot options bs (k ∷ ks) r kind) ≡ by kind (text_leaf.behind options bs (texts (k ∷ ks)))
     go BlankRow = refl
     go TextRow = refl
     go (LeafRow l) = to ((leaf l).further held_leaf.Text)
@@ -380,7 +385,7 @@ text-stepped options bs r built k ks =
         turned = came bs ((leaf l).comes options (text_leaf.held (k ∷ ks)) r)
 
         behind : Spot
-        behind = came (text_leaf.behind bs (texts (k ∷ ks))) ((leaf l).comes options NoLeaf r)
+        behind = came (text_leaf.behind options bs (texts (k ∷ ks))) ((leaf l).comes options NoLeaf r)
 
         to : (x : Bool) → At (cond x turned behind) ≡ cond x (At turned) (At behind)
         to true = refl

@@ -29,9 +29,9 @@ use Rattle.markdown_blocks.proofs.FrontFacts.{LinePrefix}
 use Rattle.markdown_blocks.proofs.FrontLemmas.{Turns, ends-spans, ends-turn, fronts-spans, fronts-turn, names-append}
 use Rattle.markdown_blocks.proofs.FrontLemmas.{shapes-names, turns-balanced}
 use Rattle.markdown_blocks.proofs.JoinedLemmas.{behind-is, behind-none}
-use Rattle.markdown_blocks.proofs.GroupFacts.{span-group, IsGroupLeaf, text-leaf, turned-leaf}
+use Rattle.markdown_blocks.proofs.GroupFacts.{IsGroupLeaf, single-leaf, span-group, text-leaf, turned-leaf}
 use Rattle.markdown_blocks.proofs.GroupLemmas.{AreLines}
-use Rattle.markdown_blocks.proofs.RowLeaf.{EndsOnLine, row-leaf}
+use Rattle.markdown_blocks.proofs.RowLeaf.{EndsOnLine}
 use Rattle.markdown_blocks.proofs.Text.Order.{ending-order}
 use Rattle.markdown_blocks.proofs.RowFacts.{AreRows, IsEnding, IsLine, IsRow, behind_line}
 use Rattle.markdown_blocks.proofs.SpanLemmas.{Nested_in, Spans}
@@ -43,9 +43,9 @@ use Rattle.markdown_blocks.proofs.Underlines.{further-quiet}
 -- Lines.
 
 -- What stands in a group whose first line begins at a point, and its ending: the points never go back.
-pub record Ordered (bytes : List ℕ) (p : Point) (group : Group) : Type 0 where
+pub record Ordered (options : ParseOptions) (bytes : List ℕ) (p : Point) (group : Group) : Type 0 where
   pub front : LinePrefix bytes (first_row group).change.opens p (first_row group).first (first_row group).front
-  pub leaf : IsGroupLeaf bytes group
+  pub leaf : IsGroupLeaf options bytes group
   pub ends : IsTrue (at_or_before (final_row group).end (behind_row (final_row group)))
 
 ending-nested : (name : Name) (row : Row) → IsTrue (at_or_before row.end (behind_row row)) →
@@ -98,13 +98,14 @@ Keeps names group kept =
     open_names (first_row group).change.opens ++ names ≡ open_names (final_row group).leaves ++ kept
 
 -- a group in front of such events, with what stands in its place
-pub under-group : (bytes : List ℕ) (names kept : List Name) (p : Point) (group : Group) (inside events : List Event) →
-    Ordered bytes p group →
+pub under-group : (options : ParseOptions) (bytes : List ℕ) (names kept : List Name) (p : Point) (group : Group)
+    (inside events : List Event) →
+    Ordered options bytes p group →
     Keeps names group kept → Nested_in (first_row group).first (final_row group).end inside →
     Under kept (behind_row (final_row group)) events →
     Under names p
     (((first_row group).front ++ inside ++ tail_events (group_ending group) (final_row group)) ++ events)
-under-group bytes names kept p group inside events o keeps h on =
+under-group options bytes names kept p group inside events o keeps h on =
     let row : Row = first_row group in
     let last : Row = final_row group in
     let all : List Name = open_names row.change.opens ++ names in
@@ -125,11 +126,12 @@ under-group bytes names kept p group inside events o keeps h on =
 
 -- What holds of no groups where nothing is open, and group by group, of the names that are open where they begin
 -- (behind the ends of the containers that end before the line), and of the point where they begin.
-pub record ByGroups (bytes : List ℕ) (P : List Name → Point → List Group → Type 0) : Type 0 where
-  pub none : (p : Point) → P [] p []
-  pub group : (names kept : List Name) (p : Point) (group : Group) (gs : List Group) → Ordered bytes p group →
-      Keeps names group kept →
-      P kept (behind_row (final_row group)) gs → P names p (group ∷ gs)
+pub record ByGroups (options : ParseOptions) (bytes : List ℕ) (P : List Name → Point → List Group → Type 0) : Type 0
+  where
+    pub none : (p : Point) → P [] p []
+    pub group : (names kept : List Name) (p : Point) (group : Group) (gs : List Group) → Ordered options bytes p group →
+        Keeps names group kept →
+        P kept (behind_row (final_row group)) gs → P names p (group ∷ gs)
 
 -- lines of text in front of groups, as far as they are known
 record Lined (options : ParseOptions) (bytes : List ℕ) (P : List Name → Point → List Group → Type 0) (names : List Name)
@@ -186,7 +188,7 @@ record IsBegun (options : ParseOptions) (bytes line : List ℕ) (names kept : Li
 
 -- a line in front of others, of which it holds where they begin a leaf
 onto-holds : (options : ParseOptions) (bytes line : List ℕ) (P : List Name → Point → List Group → Type 0) →
-    ByGroups bytes P → (names kept : List Name) (p q : Point) (row : Row) (gs : List Group) →
+    ByGroups options bytes P → (names kept : List Name) (p q : Point) (row : Row) (gs : List Group) →
     IsBegun options bytes line names kept p row → Ended bytes row gs → FirstIs (IsBehind bytes q row) gs →
     Begun options bytes P kept (behind_row row) gs → (FirstBegins gs → P kept (behind_row row) gs) → (kind : RowKind) →
     row.kind ≡ kind →
@@ -204,7 +206,7 @@ onto-holds options bytes line P by names kept p q row gs begun ended first below
       λ begins. by.group names kept p (Single row) gs
           (record {
             front = begun.front;
-            leaf = row-leaf options bytes line row begun.is other ends;
+            leaf = single-leaf options bytes line row begun.is other ends;
             ends = begun.ends;
           })
           begun.keeps h,
@@ -480,7 +482,7 @@ change-keeps options bytes line cs still p row kept is h =
     ∙ ap (λ (change : Change). open_names (open_behind change)) is.change ∙ h
 
 line-holds : (options : ParseOptions) (bytes : List ℕ) (P : List Name → Point → List Group → Type 0) →
-    ByGroups bytes P →
+    ByGroups options bytes P →
     (cs : List Container) (still : HeldLeaf) (p q : Point) (line : List ℕ) (row : Row) (rows : List Row)
     (kept : List Name) →
     IsLine options bytes cs still p line row →
@@ -509,7 +511,8 @@ line-holds options bytes P by cs still p q line row rows kept is ends left ended
 
 -- It holds of the groups of a text.
 lines-hold : (options : ParseOptions) (bytes : List ℕ) (P : List Name → Point → List Group → Type 0) →
-    ByGroups bytes P → (cs : List Container) (still : HeldLeaf) (p : Point) (lines : List (List ℕ)) (rows : List Row) →
+    ByGroups options bytes P → (cs : List Container) (still : HeldLeaf) (p : Point) (lines : List (List ℕ))
+    (rows : List Row) →
     AreRows options bytes cs still p lines rows → Hold options bytes P cs p rows
 lines-hold options bytes P by cs still p (line ∷ []) (row ∷ []) are =
     let behind : List Container = behind_line options cs still p line in
@@ -544,10 +547,10 @@ none-left [] names e = sym e
 none-left (name ∷ ended) names e = cc
 
 -- It holds of those of a whole text.
-pub rows-hold : (bytes : List ℕ) (P : List Name → Point → List Group → Type 0) → ByGroups bytes P →
-    (options : ParseOptions) (p : Point) (lines : List (List ℕ)) (rows : List Row) →
+pub rows-hold : (options : ParseOptions) (bytes : List ℕ) (P : List Name → Point → List Group → Type 0) →
+    ByGroups options bytes P → (p : Point) (lines : List (List ℕ)) (rows : List Row) →
     AreRows options bytes [] held_leaf.None p lines rows → P [] p (groups rows)
-rows-hold bytes P by options p lines rows are =
+rows-hold options bytes P by p lines rows are =
     let hold : Hold options bytes P [] p rows = lines-hold options bytes P by [] held_leaf.None p lines rows are in
     subst (λ (l : List Name). P l p (groups rows))
     (none-left (open_names (closes_before [] rows)) hold.names hold.left)
@@ -556,23 +559,23 @@ rows-hold bytes P by options p lines rows are =
 -- The events of a text.
 
 -- the events of groups nest, and go forward from a point
-abbrev pub Nests : List ℕ → Point → List Group → Type 0
-Nests bytes p gs = Onward p (groups_events bytes gs)
+abbrev pub Nests : ParseOptions → List ℕ → Point → List Group → Type 0
+Nests options bytes p gs = Onward p (groups_events options bytes gs)
 
-abbrev NestsUnder : List ℕ → List Name → Point → List Group → Type 0
-NestsUnder bytes names p gs = Under names p (groups_events bytes gs)
+abbrev NestsUnder : ParseOptions → List ℕ → List Name → Point → List Group → Type 0
+NestsUnder options bytes names p gs = Under names p (groups_events options bytes gs)
 
-nests-by_groups : (bytes : List ℕ) → ByGroups bytes (NestsUnder bytes)
-nests-by_groups bytes = record {
+nests-by_groups : (options : ParseOptions) (bytes : List ℕ) → ByGroups options bytes (NestsUnder options bytes)
+nests-by_groups options bytes = record {
   none = λ p. record { matches = tt; closed = refl; forward = tt };
   group =
-      λ names kept p group gs o keeps on. under-group bytes names kept p group (group_done bytes group)
-      (groups_events bytes gs) o keeps o.leaf.2.nested on;
+      λ names kept p group gs o keeps on. under-group options bytes names kept p group (group_done options bytes group)
+      (groups_events options bytes gs) o keeps o.leaf.1.nested on;
 }
 
 -- The groups of the lines of a text nest.
 pub rows-nest : (options : ParseOptions) (bytes : List ℕ) (p : Point) (lines : List (List ℕ)) (rows : List Row) →
-    AreRows options bytes [] held_leaf.None p lines rows → Nests bytes p (groups rows)
+    AreRows options bytes [] held_leaf.None p lines rows → Nests options bytes p (groups rows)
 rows-nest options bytes p lines rows are =
-    under-none p (groups_events bytes (groups rows))
-    (rows-hold bytes (NestsUnder bytes) (nests-by_groups bytes) options p lines rows are)
+    under-none p (groups_events options bytes (groups rows))
+    (rows-hold options bytes (NestsUnder options bytes) (nests-by_groups options bytes) p lines rows are)

@@ -1,6 +1,6 @@
 -- A paragraph over the cells of its lines is these lines, whose text is not read yet. Each ends behind its ending, and
 -- the next begins behind the prefixes of its containers.
-use Rattle.std.proofs.Common.{◌≡◌, ℕ, zero, suc, ◌+◌, ◌-◌, ◌^◌, ◌<◌, ◌≤◌, Bool, true, false, cond, List, [], ◌∷◌, ◌++◌}
+use Rattle.std.proofs.Common.{◌≡◌, inl, inr, ℕ, zero, suc, ◌+◌, ◌-◌, ◌^◌, ◌<◌, ◌≤◌, Bool, true, false, cond, List, [], ◌∷◌, ◌++◌}
 use Rattle.std.proofs.Common.{length, drop, refl, ap, sym, ◌∙◌, subst, append_assoc, append-nil, drop-drop}
 use Rattle.std.proofs.Common.{length-append, length-drop, arith}
 use Rattle.std.specs.Prelude.{◌==◌, ◌&&◌, Option, Some, nat_le, nat_lt, slice_get, slice_index}
@@ -15,12 +15,10 @@ use Rattle.md_engine.specs.Meaning.{Cell}
 use Rattle.md_engine.specs.Place.{begun_at, is_ending, next_point, seen_at}
 use Rattle.md_engine.specs.TextFeed.{text_feed}
 use Rattle.md_engine.specs.World.{Setting, World, after, fresh, line_begun, skipping}
-use Rattle.md_content.specs.ContentReads.{content_events, end_of, first_of, part_world, settled}
-use Rattle.md_content.specs.ContentReads.{skipping_all}
+use Rattle.md_content.specs.ContentReads.{end_of, first_of, part_world, skipping_all}
 use Rattle.md_content.specs.Paragraph.{text_link}
 use Rattle.md_content.specs.ParagraphRule.{line_events, paragraph_over}
 use Rattle.md_content.proofs.ContentReadsLemmas.{skipping-same}
-use Rattle.md_content.proofs.SettledLemmas.{settled-none, settled-other}
 use Rattle.md_seam.specs.declared.inline.Chunk.{Chunk}
 use Rattle.md_seam.specs.Ahead.{point_after}
 use Rattle.md_seam.specs.Events.Places.{past_byte, past_text}
@@ -30,17 +28,20 @@ use Rattle.md_seam.proofs.FeedLines.{feed-none, next_column, past-next, past_end
 use Rattle.md_seam.proofs.FeedLines.{tab-feed, tab_cells, tab_end, tab_end-last, tab_end-next, tab_end-stop}
 use Rattle.md_seam.proofs.PlacesLemmas.{at-next}
 use Rattle.md_definition.proofs.TextsLemmas.{Ending, EndsBefore, NoEnding, ending_bytes}
-use Rattle.markdown_blocks.specs.Rows.{Row, TextRow, behind_row, chunks_of, last_row}
+use Rattle.markdown_blocks.specs.Laid.{Break, laid}
+use Rattle.markdown_blocks.specs.Rows.{Row, TextRow, behind_row, breaks_of, chunks_of, last_row, lines_cells}
 use Rattle.markdown_blocks.specs.Unread.{linked}
+use Rattle.markdown_blocks.proofs.Defined.Placed.{bared}
+use Rattle.markdown_blocks.proofs.Defined.Takes.{EndIn}
 use Rattle.markdown_blocks.proofs.FrontPlaces.{fronts-grow, fronts-line}
-use Rattle.markdown_blocks.proofs.GroupLemmas.{AreLines, ReadsContent, row-line, text-some}
+use Rattle.markdown_blocks.proofs.GroupLemmas.{AreLines, are-apart, line-grows, row-line, text-some}
 use Rattle.markdown_blocks.proofs.LineTexts.{past_text-line, piece}
 use Rattle.markdown_blocks.proofs.RowFacts.{IsRow}
 
 -- Where the lines stand.
 
 -- a line lies within the text
-row-within : (options : ParseOptions) (bytes line : List ℕ) (row : Row) → IsRow options bytes line row →
+pub row-within : (options : ParseOptions) (bytes line : List ℕ) (row : Row) → IsRow options bytes line row →
     row.kind ≡ TextRow → row.end.index ≤ length bytes
 row-within options bytes line row is text =
     let some = text-some options bytes line row is text in
@@ -51,13 +52,13 @@ row-within options bytes line row is text =
     let more = length-drop row.end.index bytes in
     omega (arith, is.size)
 
-first-row : (options : ParseOptions) (bytes : List ℕ) (row : Row) (rows : List Row) → AreLines options bytes row rows →
+pub first-row : (options : ParseOptions) (bytes : List ℕ) (row : Row) (rows : List Row) → AreLines options bytes row rows →
     (line : List ℕ) × IsRow options bytes line row
 first-row options bytes row [] h = (h.0, h.1)
 first-row options bytes row (next ∷ rows) h = (h.0, h.1)
 
 -- the first line ends where the last does, or before
-ends-grow : (options : ParseOptions) (bytes : List ℕ) (row : Row) (rows : List Row) → AreLines options bytes row rows →
+pub ends-grow : (options : ParseOptions) (bytes : List ℕ) (row : Row) (rows : List Row) → AreLines options bytes row rows →
     row.end.index ≤ (last_row row rows).end.index
 ends-grow options bytes row [] h = omega arith
 ends-grow options bytes row (next ∷ rows) h =
@@ -66,7 +67,7 @@ ends-grow options bytes row (next ∷ rows) h =
     let front = fronts-grow bytes [] h.3 next.first next.front h.6 in
     omega (arith, h.5.size, line.size)
 
-last-within : (options : ParseOptions) (bytes : List ℕ) (row : Row) (rows : List Row) →
+pub last-within : (options : ParseOptions) (bytes : List ℕ) (row : Row) (rows : List Row) →
     AreLines options bytes row rows → (last_row row rows).end.index ≤ length bytes
 last-within options bytes row [] h = row-within options bytes h.0 row h.1 h.2
 last-within options bytes row (next ∷ rows) h = last-within options bytes next rows h.7
@@ -152,7 +153,7 @@ line-read options bytes line x row is small same within =
     (omega (arith, is.size)) is.first_column)
 
 -- an ending is fed as one line feed, which leads to where the next line begins
-ending-leads : (x : Setting) (ending : Ending) (rest : List ℕ) (p q : Point) → x.limit < 2 ^ 61 →
+pub ending-leads : (x : Setting) (ending : Ending) (rest : List ℕ) (p q : Point) → x.limit < 2 ^ 61 →
     drop p.index x.bytes ≡ ending_bytes ending ++ rest → EndsBefore ending rest → p.index < x.limit →
     line_begun x (past_ending ending p) ≡ q →
     text_feed x p ≡ cell 10 q x.line ∷ text_feed x q
@@ -193,29 +194,29 @@ ending-leads x ending rest p q small text before lt begun =
         go false false e f = let ten : b ≡ 10 = rw (e, f) at h in ap is_ending ten
 
 -- where lines begin
-abbrev firsts : List Row → List Point
+abbrev pub firsts : List Row → List Point
 firsts [] = []
 firsts (row ∷ rows) = row.first ∷ firsts rows
 
 -- lines are read as far as the last of them, and each begins where it stands
-record AreRead (x : Setting) (bytes : List ℕ) (k : ℕ) (row : Row) (rows : List Row) : Type 0 where
-  small : x.limit < 2 ^ 61
-  bytes_are : x.bytes ≡ bytes
-  limit : x.limit ≡ (last_row row rows).end.index
-  skips : drop k x.skips ≡ row.first ∷ firsts rows
-  line : row.first.line ≡ x.first_line + k
+pub record AreRead (x : Setting) (bytes : List ℕ) (k : ℕ) (row : Row) (rows : List Row) : Type 0 where
+  pub small : x.limit < 2 ^ 61
+  pub bytes_are : x.bytes ≡ bytes
+  pub limit : x.limit ≡ (last_row row rows).end.index
+  pub skips : drop k x.skips ≡ row.first ∷ firsts rows
+  pub line : row.first.line ≡ x.first_line + k
 
-get-at : (k : ℕ) (l : List Point) (p : Point) (rest : List Point) → drop k l ≡ p ∷ rest → slice_get l k ≡ Some p
+pub get-at : (k : ℕ) (l : List Point) (p : Point) (rest : List Point) → drop k l ≡ p ∷ rest → slice_get l k ≡ Some p
 get-at zero [] p rest e = cc
 get-at zero (q ∷ l) p rest e = cc
 get-at (suc k) [] p rest e = cc
 get-at (suc k) (q ∷ l) p rest e = get-at k l p rest e
 
-drop-next : (k : ℕ) (l : List Point) (p : Point) (rest : List Point) → drop k l ≡ p ∷ rest → drop (k + 1) l ≡ rest
+pub drop-next : (k : ℕ) (l : List Point) (p : Point) (rest : List Point) → drop k l ≡ p ∷ rest → drop (k + 1) l ≡ rest
 drop-next k l p rest e = sym (drop-drop 1 k l) ∙ ap (drop 1) e
 
 -- the next line is the one behind it
-next-line : (options : ParseOptions) (bytes : List ℕ) (row next : Row) (rows : List Row) →
+pub next-line : (options : ParseOptions) (bytes : List ℕ) (row next : Row) (rows : List Row) →
     AreLines options bytes row (next ∷ rows) → next.first.line ≡ row.first.line + 1
 next-line options bytes row next rows h =
     let front = fronts-line bytes [] h.3 next.first next.front h.6 in
@@ -223,7 +224,7 @@ next-line options bytes row next rows h =
     omega (arith, h.5.line)
 
 -- behind the ending of a line the next one begins, behind the prefixes in front of it
-begun-next : (x : Setting) (p s : Point) → slice_get x.skips (s.line - x.first_line) ≡ Some s → p.line ≡ s.line →
+pub begun-next : (x : Setting) (p s : Point) → slice_get x.skips (s.line - x.first_line) ≡ Some s → p.line ≡ s.line →
     p.index ≤ s.index → line_begun x p ≡ s
 begun-next x p s at line le =
     let some : slice_get x.skips (p.line - x.first_line) ≡
@@ -232,24 +233,34 @@ begun-next x p s at line le =
     let further : nat_le p.index s.index ≡ true = grind (arith, nat_tests) in
     ap (λ (o : Option Point). begun_at o p) some ∙ ap (λ (t : Bool). cond t s p) further
 
--- each line is one part, which ends where its chunk does
+-- what is read of lines, and of more behind them
+pub record LinesRead (x : Setting) (row : Row) (rows : List Row) (es behind : List Event) : Type 0 where
+  -- each line is one part, which ends where its chunk does
+  pub laid_are : laid (bared (breaks_of row rows)) es ≡ linked n.Data text_link (chunks_of row rows) ++ behind
+  pub end : point_after (text_feed x row.first) row.first ≡ (last_row row rows).end
+  pub ends : EndIn (last_row row rows).end es
+
+-- the events of the text of lines
+abbrev text_events : Setting → Point → List Event → List Event
+text_events x p behind = enter_link n.Data p text_link ∷ line_events (text_feed x p) p ++ behind
+
 lines-read : (options : ParseOptions) (bytes : List ℕ) (x : Setting) (k : ℕ) (row : Row) (rows : List Row)
     (behind : List Event) →
-    AreLines options bytes row rows → AreRead x bytes k row rows →
-    (settled (chunks_of row rows)
-    (enter_link n.Data row.first text_link ∷ line_events (text_feed x row.first) row.first ++ behind) ≡
-    linked n.Data text_link (chunks_of row rows) ++ behind)
-    × (point_after (text_feed x row.first) row.first ≡ (last_row row rows).end)
-lines-read options bytes x k row [] behind h r =
+    AreLines options bytes row rows → AreRead x bytes k row rows → EndIn (last_row row rows).end behind →
+    LinesRead x row rows (text_events x row.first behind) behind
+lines-read options bytes x k row [] behind h r ends =
     let read = line-read options bytes h.0 x row h.1 r.small r.bytes_are (omega (arith, r.limit)) in
-    let none : text_feed x row.end ≡ [] = feed-none x row.end r.small (omega (arith, r.limit)) in (
-      ap (λ (l : List Event). settled (chunks_of row []) (enter_link n.Data row.first text_link ∷ l ++ behind))
-          (read.lines ∙ ap (λ (l : List Cell). line_events l row.end) none)
-          ∙ ap (λ (l : List Event). enter_link n.Data row.first text_link ∷ exit n.Data row.end ∷ l)
-          (settled-none behind),
-      read.end ∙ ap (λ (l : List Cell). point_after l row.end) none,
-    )
-lines-read options bytes x k row (next ∷ rows) behind h r =
+    let none : text_feed x row.end ≡ [] = feed-none x row.end r.small (omega (arith, r.limit)) in
+    let are : line_events (text_feed x row.first) row.first ≡ exit n.Data row.end ∷ [] =
+    read.lines ∙ ap (λ (l : List Cell). line_events l row.end) none in
+    record {
+      laid_are = ap (λ (l : List Event). enter_link n.Data row.first text_link ∷ l ++ behind) are;
+      end = read.end ∙ ap (λ (l : List Cell). point_after l row.end) none;
+      ends =
+          subst (λ (l : List Event). EndIn row.end (enter_link n.Data row.first text_link ∷ l ++ behind)) (sym are)
+          (λ no. cc, (λ yes. inl refl, ends));
+    }
+lines-read options bytes x k row (next ∷ rows) behind h r ends =
     let grow = ends-grow options bytes next rows h.7 in
     let line = (first-row options bytes next rows h.7).1 in
     let front = fronts-grow bytes [] h.3 next.first next.front h.6 in
@@ -281,14 +292,42 @@ lines-read options bytes x k row (next ∷ rows) behind h r =
       skips = skips;
       line = omega (arith, r.line);
     } in
-    let more = lines-read options bytes x (k + 1) next rows behind h.7 below in (
-      ap
+    let more = lines-read options bytes x (k + 1) next rows behind h.7 below ends in
+    let apart = are-apart options bytes row next rows h in
+    let last = (last_row next rows).end in
+    let before : next.first.index < last.index = next-before next rows h.7 in
+    let le = apart.front in
+    let met : nat_le (behind_row row).index next.first.index ≡ true = grind (arith, nat_tests) in
+    let are : line_events (text_feed x row.first) row.first ≡
+    exit n.Data next.first ∷ enter_link n.Data next.first text_link ∷ line_events (text_feed x next.first) next.first =
+    read.lines ∙ ap (λ (l : List Cell). line_events l row.end) feed in
+    let all : List Event = text_events x next.first behind in
+    let bs : List Break = bared (breaks_of next rows) in
+    let b : Break = record { after = behind_row row; front = [] } in
+    record {
+      laid_are =
+          ap
           (λ (l : List Event).
-          settled (chunks_of row (next ∷ rows)) (enter_link n.Data row.first text_link ∷ l ++ behind))
-          (read.lines ∙ ap (λ (l : List Cell). line_events l row.end) feed)
-          ∙ ap (λ (l : List Event). enter_link n.Data row.first text_link ∷ exit n.Data (behind_row row) ∷ l) more.0,
-      read.end ∙ ap (λ (l : List Cell). point_after l row.end) feed ∙ more.1,
-    )
+          laid (bared (breaks_of row (next ∷ rows))) (enter_link n.Data row.first text_link ∷ l ++ behind)) are
+          ∙ ap
+          (λ (t : Bool).
+          enter_link n.Data row.first text_link
+          ∷ cond t (exit n.Data (behind_row row) ∷ laid bs all) (exit n.Data next.first ∷ laid (b ∷ bs) all)) met
+          ∙ ap (λ (l : List Event). enter_link n.Data row.first text_link ∷ exit n.Data (behind_row row) ∷ l)
+          more.laid_are;
+      end = read.end ∙ ap (λ (l : List Cell). point_after l row.end) feed ∙ more.end;
+      ends =
+          subst (λ (l : List Event). EndIn last (enter_link n.Data row.first text_link ∷ l ++ behind)) (sym are)
+          (λ no. cc, (λ yes. inr before, more.ends));
+    }
+  where
+    next-before : (row : Row) (rows : List Row) → AreLines options bytes row rows →
+        row.first.index < (last_row row rows).end.index
+    next-before row [] h = line-grows options bytes h.0 row h.1 h.2
+    next-before row (next ∷ rows) h =
+        let first = line-grows options bytes h.0 row h.1 h.2 in
+        let grow = ends-grow options bytes row (next ∷ rows) h in
+        omega (arith, first, grow)
 
 -- Where they are read.
 
@@ -318,7 +357,7 @@ skips-first options bytes w row (next ∷ rows) h le =
     next.first.line = subst (λ (p : Point). p.line ≤ next.first.line) (sym stays) (omega (arith, le, number)) in
     skips-first options bytes v next rows h.7 lines ∙ stays
 
-skips-here : (options : ParseOptions) (bytes : List ℕ) (w : World) (row : Row) (rows : List Row) →
+pub skips-here : (options : ParseOptions) (bytes : List ℕ) (w : World) (row : Row) (rows : List Row) →
     AreLines options bytes row rows → w.point ≡ row.first →
     (skipping_all w (chunks_of row rows)).point ≡ row.first
 skips-here options bytes w row rows h e =
@@ -339,7 +378,7 @@ begins-are : (row : Row) (rows : List Row) → begins (chunks_of row rows) ≡ r
 begins-are row [] = refl
 begins-are row (next ∷ rows) = ap (λ (l : List Point). row.first ∷ l) (begins-are next rows)
 
-first-is : (row : Row) (rows : List Row) → first_of (chunks_of row rows) ≡ row.first
+pub first-is : (row : Row) (rows : List Row) → first_of (chunks_of row rows) ≡ row.first
 first-is row [] = refl
 first-is row (next ∷ rows) = refl
 
@@ -348,7 +387,7 @@ end-is row [] = refl
 end-is row (next ∷ []) = refl
 end-is row (next ∷ below ∷ rows) = end-is next (below ∷ rows)
 
-part-read : (options under : ParseOptions) (bytes : List ℕ) → length bytes < 2 ^ 61 → (row : Row) (rows : List Row) →
+pub part-read : (options under : ParseOptions) (bytes : List ℕ) → length bytes < 2 ^ 61 → (row : Row) (rows : List Row) →
     AreLines options bytes row rows → AreRead (part_world bytes under (chunks_of row rows)).setting bytes 0 row rows
 part-read options under bytes small row rows h =
     let chunks = chunks_of row rows in
@@ -366,26 +405,33 @@ part-read options under bytes small row rows h =
       line = omega arith;
     }
 
--- A part of content that is lines of a text is read as a paragraph of these lines.
-pub paragraph-reads : (options under : ParseOptions) (bytes : List ℕ) → length bytes < 2 ^ 61 →
-    (row : Row) (rows : List Row) → AreLines options bytes row rows →
-    content_events bytes under (chunks_of row rows) ≡
-    around n.Paragraph row.first (last_row row rows).end (linked n.Data text_link (chunks_of row rows))
-unfolding content_events
-paragraph-reads options under bytes small row rows h =
-    let chunks = chunks_of row rows in
-    let x = (part_world bytes under chunks).setting in
-    let end : List Event = exit n.Paragraph (point_after (text_feed x row.first) row.first) ∷ [] in
-    let at : (part_world bytes under chunks).point ≡
-    row.first = skips-here options bytes (fresh bytes under (first_of chunks)) row rows h (first-is row rows) in
-    let read = lines-read options bytes x 0 row rows end h (part-read options under bytes small row rows h) in
-    ap (λ (p : Point). settled chunks (paragraph_over (text_feed x p) p)) at
-    ∙ settled-other chunks (enter n.Paragraph row.first)
-    (enter_link n.Data row.first text_link ∷ line_events (text_feed x row.first) row.first ++ end) refl
-    ∙ ap (λ (l : List Event). enter n.Paragraph row.first ∷ l) read.0
-    ∙ ap (λ (p : Point). around n.Paragraph row.first p (linked n.Data text_link chunks)) read.1
+-- A paragraph over the cells of its lines.
+pub record ParagraphRead (row : Row) (rows : List Row) (es : List Event) : Type 0 where
+  pub laid_are : laid (bared (breaks_of row rows)) es ≡
+      around n.Paragraph row.first (last_row row rows).end (linked n.Data text_link (chunks_of row rows))
+  pub ends : EndIn (last_row row rows).end es
 
--- what the reader of content gives for the paragraphs of a text
-pub content-reads : (options under : ParseOptions) (bytes : List ℕ) → length bytes < 2 ^ 61 →
-    ReadsContent options bytes (λ content chunks events. events ≡ content_events bytes under chunks)
-content-reads options under bytes small row rows h answer is = is ∙ paragraph-reads options under bytes small row rows h
+pub paragraph-reads : (options : ParseOptions) (bytes : List ℕ) → length bytes < 2 ^ 61 →
+    (row : Row) (rows : List Row) → AreLines options bytes row rows →
+    ParagraphRead row rows (paragraph_over (lines_cells options bytes row rows) row.first)
+paragraph-reads options bytes small row rows h =
+    let x = (part_world bytes options (chunks_of row rows)).setting in
+    let q = point_after (text_feed x row.first) row.first in
+    let end : List Event = exit n.Paragraph q ∷ [] in
+    let at : (part_world bytes options (chunks_of row rows)).point ≡ row.first =
+    skips-here options bytes (fresh bytes options (first_of (chunks_of row rows))) row rows h (first-is row rows) in
+    let read = lines-read options bytes x 0 row rows end h (part-read options options bytes small row rows h)
+    (λ no. cc, tt) in
+    subst (λ (p : Point). ParagraphRead row rows (paragraph_over (text_feed x p) row.first)) (sym at)
+    (record {
+      laid_are =
+          front (bared (breaks_of row rows)) (text_events x row.first end)
+          ∙ ap (λ (l : List Event). enter n.Paragraph row.first ∷ l) read.laid_are
+          ∙ ap (λ (p : Point). around n.Paragraph row.first p (linked n.Data text_link (chunks_of row rows))) read.end;
+      ends = (λ no. cc, read.ends);
+    })
+  where
+    front : (bs : List Break) (es : List Event) → laid bs (enter n.Paragraph row.first ∷ es) ≡
+        enter n.Paragraph row.first ∷ laid bs es
+    front [] es = refl
+    front (b ∷ bs) es = refl

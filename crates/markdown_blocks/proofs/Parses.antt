@@ -23,7 +23,9 @@ use Rattle.md_containers.proofs.ListedNests.{listed-nested}
 use Rattle.md_containers.proofs.ListedParts.{listed-parts}
 use Rattle.md_containers.proofs.ListedReads.{listed-spelled}
 use Rattle.md_content.specs.ContentReads.{content_readings, wants_content}
+use Rattle.md_content.specs.Labels.{labels_in}
 use Rattle.md_definition.specs.Grouped.{grouped}
+use Rattle.md_definition.specs.Label.{labels}
 use Rattle.md_leaves.specs.Turned.{turned}
 use Rattle.md_seam.specs.Events.Endings.{endings_stand}
 use Rattle.md_seam.specs.Events.Grammar.{keeps_grammar, plain_text}
@@ -51,15 +53,19 @@ use Rattle.markdown_blocks.proofs.GrammarRows.{blocks-grammar, events-grammar}
 use Rattle.markdown_blocks.proofs.HeldRows.{blocks-held, events-held}
 use Rattle.markdown_blocks.proofs.StandRows.{events-stand}
 use Rattle.markdown_blocks.proofs.ContentFacts.{content-alone}
+use Rattle.markdown_blocks.proofs.ContentCut.{content-reads}
 use Rattle.markdown_blocks.proofs.GroupLemmas.{content-read}
+use Rattle.markdown_blocks.proofs.GroupsAre.{groups-are}
 use Rattle.markdown_blocks.proofs.GroupsBecome.{text-read}
+use Rattle.markdown_blocks.proofs.Labels.Rows.{rows-labels}
+use Rattle.markdown_blocks.proofs.Labels.Trees.{defined_in, grouped-defined}
 use Rattle.markdown_blocks.proofs.SpannedGroups.{lines-joined}
+use Rattle.markdown_blocks.proofs.SpelledRows.{rows-outer}
 use Rattle.markdown_blocks.proofs.JoinedLemmas.{EachNoContent, rows_at-no_content}
 use Rattle.markdown_blocks.proofs.ListedOutlined.{listed-outlined}
 use Rattle.markdown_blocks.proofs.MarkLemmas.{body-between, body-column, body-index, body-vs, mark-nested}
 use Rattle.markdown_blocks.proofs.MarkLemmas.{mark-spelled, mark-unlisted}
 use Rattle.markdown_blocks.proofs.NestedRows.{Nests, rows-nest}
-use Rattle.markdown_blocks.proofs.ParagraphReads.{content-reads}
 use Rattle.markdown_blocks.proofs.PieceRows.{blocks-pieces, events-pieces}
 use Rattle.markdown_blocks.proofs.PlainEvents.{groups-unlisted}
 use Rattle.markdown_blocks.proofs.RowFacts.{AreRows}
@@ -93,25 +99,43 @@ text-are options bytes built small =
 -- The events of a text, once flow and content were read.
 content-are : (options : ParseOptions) (bytes : List ℕ) → IsBuilt options → length bytes < 2 ^ 61 →
     (found : Found) (new : World) → (flow : FlowReads bytes options (body_point bytes) found new) →
-    flow.content ≡ unread_groups (groups (rows_of options bytes))
+    flow.content ≡ unread_groups options bytes (groups (rows_of options bytes))
 content-are options bytes built small found new flow =
     content-read options bytes [] held_leaf.None (body_point bytes) (lines_of bytes) (rows_of options bytes)
     refl (text-are options bytes built small) (text-quiet options bytes (body_point bytes))
     wants_content (content_readings bytes options) refl content-alone
-    (content-reads options options bytes small) flow.content flow.content_read
+    (content-reads options bytes) flow.content flow.content_read
 
 -- Then the resolvers of leaves ran, setext headings were set, the lines of each leaf of several were joined, and lists
 -- were put around items.
 resolved-are : (options : ParseOptions) (bytes : List ℕ) → IsBuilt options → length bytes < 2 ^ 61 →
     (found : Found) (new : World) → (flow : FlowReads bytes options (body_point bytes) found new) →
-    new.events ≡ listed bytes (listed_groups bytes (groups (rows_of options bytes)))
+    new.events ≡ listed bytes (listed_groups options bytes (groups (rows_of options bytes)))
 resolved-are options bytes built small found new flow =
     flow.events_are
     ∙ ap (λ (l : List Event). listed bytes (lines_joined options (turned (resolved l))))
     (content-are options bytes built small found new flow)
     ∙ ap (listed bytes)
     (lines-joined options bytes [] held_leaf.None (body_point bytes) (lines_of bytes) (rows_of options bytes)
-    refl (text-are options bytes built small) (text-quiet options bytes (body_point bytes)))
+    refl (text-are options bytes built small) (text-quiet options bytes (body_point bytes)) built.apart)
+
+-- The labels that content found are those of the tree.
+labels-are : (options : ParseOptions) (bytes : List ℕ) → IsBuilt options → length bytes < 2 ^ 61 →
+    (found : Found) (new : World) → FlowReads bytes options (body_point bytes) found new →
+    found.definitions ≡ (labels (tree options bytes)).definitions
+labels-are options bytes built small found new flow =
+    let p : Point = body_point bytes in
+    let lines : List (List ℕ) = lines_of bytes in
+    let rows : List Row = rows_of options bytes in
+    let are : AreRows options bytes [] held_leaf.None p lines rows = text-are options bytes built small in
+    flow.definitions
+    ∙ ap (labels_in bytes) (content-are options bytes built small found new flow)
+    ∙ rows-labels options bytes (groups rows) built.apart
+    (groups-are options bytes [] held_leaf.None p lines rows refl are (text-quiet options bytes p))
+    (rows-outer options bytes p lines rows built are)
+    ∙ ap defined_in (body-rows options built bytes rows are)
+    ∙ sym (grouped-defined (body_of options bytes))
+    ∙ ap defined_in (sym (tree-body options bytes built))
 
 -- And then texts were read.
 pub events-are : (options : ParseOptions) (bytes : List ℕ) → IsBuilt options → length bytes < 2 ^ 61 →
@@ -119,15 +143,15 @@ pub events-are : (options : ParseOptions) (bytes : List ℕ) → IsBuilt options
     (wants : Content → Bool) (reads : Readings) → wants content.Text ≡ true → wants content.String ≡ true →
     ReadsText bytes reads → ReadsString bytes reads →
     (events : List Event) → Substituted wants reads [] 0 new.events events →
-    events ≡ listed bytes (groups_events bytes (groups (text_rows options bytes (body_point bytes))))
+    events ≡ listed bytes (groups_events options bytes (groups (text_rows options bytes (body_point bytes))))
 events-are options bytes built small found new flow wants reads wanted strings text string events substituted =
     let p : Point = body_point bytes in
     let lines : List (List ℕ) = lines_of bytes in
     let rows : List Row = rows_of options bytes in
     let are : AreRows options bytes [] held_leaf.None p lines rows = text-are options bytes built small in
     let quiet : EachNoContent rows = text-quiet options bytes p in
-    listed-read wants reads bytes (mark_events bytes) (listed_groups bytes (groups rows))
-    (groups_events bytes (groups rows)) events
+    listed-read wants reads bytes (mark_events bytes) (listed_groups options bytes (groups rows))
+    (groups_events options bytes (groups rows)) events
     (blocks-chunks options bytes [] held_leaf.None p lines rows refl are quiet)
     (text-filled options bytes p lines are).read
     (λ read s.
@@ -137,10 +161,10 @@ events-are options bytes built small found new flow wants reads wanted strings t
 
 -- What stands in a text before lists are put around its items: its blocks, and its events.
 abbrev blocks_of : ParseOptions → List ℕ → List Event
-blocks_of options bytes = mark_events bytes ++ listed_groups bytes (groups (rows_of options bytes))
+blocks_of options bytes = mark_events bytes ++ listed_groups options bytes (groups (rows_of options bytes))
 
 abbrev read_of : ParseOptions → List ℕ → List Event
-read_of options bytes = mark_events bytes ++ groups_events bytes (groups (rows_of options bytes))
+read_of options bytes = mark_events bytes ++ groups_events options bytes (groups (rows_of options bytes))
 
 -- the lists may be put around items before texts are read or behind
 read-listed : (options : ParseOptions) (bytes : List ℕ) → IsBuilt options → length bytes < 2 ^ 61 →
@@ -225,10 +249,10 @@ listed-reads options bytes built utf8 small =
     let p : Point = body_point bytes in
     let lines : List (List ℕ) = lines_of bytes in
     let rows : List Row = rows_of options bytes in
-    let body : List Event = groups_events bytes (groups rows) in
+    let body : List Event = groups_events options bytes (groups rows) in
     let events : List Event = read_of options bytes in
     let are : AreRows options bytes [] held_leaf.None p lines rows = text-are options bytes built small in
-    let nests : Nests bytes p (groups rows) = rows-nest options bytes p lines rows are in
+    let nests : Nests options bytes p (groups rows) = rows-nest options bytes p lines rows are in
     let nested : Nested events = mark-nested bytes body nests.balanced nests.forward in
     let stand : ItemsStand bytes root events = events-stand options bytes lines rows are in
     let held : ItemsHeld [] events = events-held options bytes lines rows are in
@@ -257,16 +281,16 @@ listed-reads options bytes built utf8 small =
 
 -- The lists stand behind the mark.
 pub text-reads : (options : ParseOptions) (bytes : List ℕ) → IsBuilt options → IsUtf8 bytes → length bytes < 2 ^ 61 →
-    (items events : List Event) → items ≡ listed bytes (listed_groups bytes (groups (rows_of options bytes))) →
-    events ≡ listed bytes (groups_events bytes (groups (rows_of options bytes))) →
+    (items events : List Event) → items ≡ listed bytes (listed_groups options bytes (groups (rows_of options bytes))) →
+    events ≡ listed bytes (groups_events options bytes (groups (rows_of options bytes))) →
     Reads options bytes (mark_events bytes ++ items) (mark_events bytes ++ events)
 text-reads options bytes built utf8 small items events before is =
     let mark : List Event = mark_events bytes in
     let rows : List Row = rows_of options bytes in
     let blocks : listed bytes (blocks_of options bytes) ≡ mark ++ items =
-    listed-mark bytes (listed_groups bytes (groups rows)) ∙ ap (λ (l : List Event). mark ++ l) (sym before) in
+    listed-mark bytes (listed_groups options bytes (groups rows)) ∙ ap (λ (l : List Event). mark ++ l) (sym before) in
     let read : listed bytes (read_of options bytes) ≡ mark ++ events =
-    listed-mark bytes (groups_events bytes (groups rows)) ∙ ap (λ (l : List Event). mark ++ l) (sym is) in
+    listed-mark bytes (groups_events options bytes (groups rows)) ∙ ap (λ (l : List Event). mark ++ l) (sym is) in
     subst (λ (l : List Event). Reads options bytes l (mark ++ events)) blocks
     (subst (Reads options bytes (listed bytes (blocks_of options bytes))) read
     (listed-reads options bytes built utf8 small))
@@ -286,14 +310,23 @@ parsed-reads options bytes text start found new mark items body events same buil
     let here : length bytes < 2 ^ 61 = subst (λ (l : List ℕ). length l < 2 ^ 61) (sym same) small in
     let from : FlowReads bytes options (body_point bytes) found new = subst
     (λ (p : Point). FlowReads bytes options p found new) starts flow in
-    let before : items ≡ listed bytes (listed_groups bytes (groups (rows_of options bytes))) = are
+    let before : items ≡ listed bytes (listed_groups options bytes (groups (rows_of options bytes))) = are
     ∙ resolved-are options bytes built here found new from in
-    let body-is : body ≡ listed bytes (groups_events bytes (groups (rows_of options bytes))) =
+    let body-is : body ≡ listed bytes (groups_events options bytes (groups (rows_of options bytes))) =
     events-are options bytes built here found new from wants reads wanted strings plain string body
     (subst (λ (l : List Event). Substituted wants reads [] 0 l body) are substituted) in
     let front : mark ≡ mark_events text = marks ∙ ap mark_events same in
     subst (Reads options text (mark ++ items)) (sym is)
     (subst (λ (l : List Event). Reads options text (l ++ items) (l ++ body)) (sym front)
     (text-reads options text built utf8 small items body
-    (before ∙ ap (λ (l : List ℕ). listed l (listed_groups l (groups (rows_of options l)))) same)
-    (body-is ∙ ap (λ (l : List ℕ). listed l (groups_events l (groups (rows_of options l)))) same)))
+    (before ∙ ap (λ (l : List ℕ). listed l (listed_groups options l (groups (rows_of options l)))) same)
+    (body-is ∙ ap (λ (l : List ℕ). listed l (groups_events options l (groups (rows_of options l)))) same)))
+
+pub parsed-labels : (options : ParseOptions) (bytes text : List ℕ) (start : Point) (found : Found) (new : World) →
+    bytes ≡ text → IsBuilt options → IsSmall text → start ≡ body_point bytes → FlowReads bytes options start found new →
+    found.definitions ≡ (labels (tree options text)).definitions
+parsed-labels options bytes text start found new same built most starts flow =
+    let small : length text < 2 ^ 61 = omega (arith, most) in
+    labels-are options bytes built (subst (λ (l : List ℕ). length l < 2 ^ 61) (sym same) small) found new
+    (subst (λ (p : Point). FlowReads bytes options p found new) starts flow)
+    ∙ ap (λ (l : List ℕ). (labels (tree options l)).definitions) same

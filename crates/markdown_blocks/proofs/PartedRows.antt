@@ -52,22 +52,22 @@ line-sits bytes name front inside row u h k =
 
 -- Groups.
 
-abbrev Parted : List ℕ → List Name → Point → List Group → Type 0
-Parted bytes names p gs = are_parted bytes None (groups_events bytes gs) ≡ true
+abbrev Parted : ParseOptions → List ℕ → List Name → Point → List Group → Type 0
+Parted options bytes names p gs = are_parted bytes None (groups_events options bytes gs) ≡ true
 
-parted-by_groups : (bytes : List ℕ) → ByGroups bytes (Parted bytes)
-parted-by_groups bytes = record {
+parted-by_groups : (options : ParseOptions) (bytes : List ℕ) → ByGroups options bytes (Parted options bytes)
+parted-by_groups options bytes = record {
   none = λ p. refl;
   group = λ names kept p group gs o keeps on.
       let row : Row = first_row group in
       let front : Sits bytes row.front = fronts-sit bytes row.change.opens p row.first row.front o.front in
-      line-sits bytes (group_ending group) row.front (group_done bytes group) (final_row group)
-      (ending-still (is_blank_group group)) front o.leaf.2.parted (groups_events bytes gs) on;
+      line-sits bytes (group_ending group) row.front (group_done options bytes group) (final_row group)
+      (ending-still (is_blank_group group)) front o.leaf.1.parted (groups_events options bytes gs) on;
 }
 
 -- no text of a whole text is parted but those of lines, where these begin
 pub rows-parted : (options : ParseOptions) (bytes : List ℕ) (p : Point) (lines : List (List ℕ)) (rows : List Row) →
     AreRows options bytes [] held_leaf.None p lines rows →
-    are_parted bytes None (groups_events bytes (groups rows)) ≡ true
+    are_parted bytes None (groups_events options bytes (groups rows)) ≡ true
 rows-parted options bytes p lines rows are =
-    rows-hold bytes (Parted bytes) (parted-by_groups bytes) options p lines rows are
+    rows-hold options bytes (Parted options bytes) (parted-by_groups options bytes) p lines rows are

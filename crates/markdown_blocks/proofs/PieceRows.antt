@@ -107,37 +107,38 @@ final-stands bytes (Turned row rows under) h = h.2
 final-stands bytes (Span row rows) h = last-each (LineStands bytes) row rows h.0 h.1
 
 -- what stands in front of the first line of a group, in its place, and behind it
-group-stood : (bytes : List ℕ) (p : Point) (group : Group) (es : List Event) → Ordered bytes p group →
+group-stood : (options : ParseOptions) (bytes : List ℕ) (p : Point) (group : Group) (es : List Event) →
+    Ordered options bytes p group →
     OfGroup (LineStands bytes) group → Stood bytes es →
     Stood bytes ((first_row group).front ++ es ++ tail_events (group_ending group) (final_row group))
-group-stood bytes p group es o h stood =
+group-stood options bytes p group es o h stood =
     let row : Row = first_row group in
     stood-append bytes (row.front ++ es) (tail_events (group_ending group) (final_row group))
     (stood-append bytes row.front es (fronts-stood bytes row.change.opens p row.first row.front o.front) stood)
     ((final-stands bytes group h).tail (group_ending group) (ending-named (is_blank_group group)))
 
 -- groups of such lines, before texts are read
-abbrev UnreadStood : List ℕ → List Name → Point → List Group → Type 0
-UnreadStood bytes names p gs = EachGroup (LineStands bytes) gs → Stood bytes (listed_groups bytes gs)
+abbrev UnreadStood : ParseOptions → List ℕ → List Name → Point → List Group → Type 0
+UnreadStood options bytes names p gs = EachGroup (LineStands bytes) gs → Stood bytes (listed_groups options bytes gs)
 
-unread-by_groups : (bytes : List ℕ) → ByGroups bytes (UnreadStood bytes)
-unread-by_groups bytes = record {
+unread-by_groups : (options : ParseOptions) (bytes : List ℕ) → ByGroups options bytes (UnreadStood options bytes)
+unread-by_groups options bytes = record {
   none = λ p h. stood-none bytes;
   group = λ names kept p group gs o keeps on h.
-      stood-append bytes (listed_group bytes group) (listed_groups bytes gs)
-      (group-stood bytes p group (group_unread bytes group) o h.0 o.leaf.2.unread_stood) (on h.1);
+      stood-append bytes (listed_group options bytes group) (listed_groups options bytes gs)
+      (group-stood options bytes p group (group_unread options bytes group) o h.0 o.leaf.1.unread_stood) (on h.1);
 }
 
 -- and once they are
-abbrev GroupsStood : List ℕ → List Name → Point → List Group → Type 0
-GroupsStood bytes names p gs = EachGroup (LineStands bytes) gs → Stood bytes (groups_events bytes gs)
+abbrev GroupsStood : ParseOptions → List ℕ → List Name → Point → List Group → Type 0
+GroupsStood options bytes names p gs = EachGroup (LineStands bytes) gs → Stood bytes (groups_events options bytes gs)
 
-stood-by_groups : (bytes : List ℕ) → ByGroups bytes (GroupsStood bytes)
-stood-by_groups bytes = record {
+stood-by_groups : (options : ParseOptions) (bytes : List ℕ) → ByGroups options bytes (GroupsStood options bytes)
+stood-by_groups options bytes = record {
   none = λ p h. stood-none bytes;
   group = λ names kept p group gs o keeps on h.
-      stood-append bytes (group_events bytes group) (groups_events bytes gs)
-      (group-stood bytes p group (group_done bytes group) o h.0 o.leaf.2.stood) (on h.1);
+      stood-append bytes (group_events options bytes group) (groups_events options bytes gs)
+      (group-stood options bytes p group (group_done options bytes group) o h.0 o.leaf.1.stood) (on h.1);
 }
 
 -- With a mark in front.
@@ -159,19 +160,21 @@ mark-stood bytes = go (has_mark bytes) refl
 -- The pieces of a text stand, before its texts are read,
 pub blocks-pieces : (options : ParseOptions) (bytes : List ℕ) (lines : List (List ℕ)) (rows : List Row) →
     AreRows options bytes [] held_leaf.None (body_point bytes) lines rows →
-    pieces_stand bytes (pieces (mark_events bytes ++ listed_groups bytes (groups rows))) ≡ true
+    pieces_stand bytes (pieces (mark_events bytes ++ listed_groups options bytes (groups rows))) ≡ true
 blocks-pieces options bytes lines rows are =
-    (stood-append bytes (mark_events bytes) (listed_groups bytes (groups rows)) (mark-stood bytes)
-    (rows-hold bytes (UnreadStood bytes) (unread-by_groups bytes) options (body_point bytes) lines rows are
+    (stood-append bytes (mark_events bytes) (listed_groups options bytes (groups rows)) (mark-stood bytes)
+    (rows-hold options bytes (UnreadStood options bytes) (unread-by_groups options bytes) (body_point bytes)
+    lines rows are
     (groups-each (LineStands bytes) rows
     (rows-stand options bytes [] held_leaf.None (body_point bytes) lines rows are)))).stand
 
 -- and once they are.
 pub events-pieces : (options : ParseOptions) (bytes : List ℕ) (lines : List (List ℕ)) (rows : List Row) →
     AreRows options bytes [] held_leaf.None (body_point bytes) lines rows →
-    pieces_stand bytes (pieces (mark_events bytes ++ groups_events bytes (groups rows))) ≡ true
+    pieces_stand bytes (pieces (mark_events bytes ++ groups_events options bytes (groups rows))) ≡ true
 events-pieces options bytes lines rows are =
-    (stood-append bytes (mark_events bytes) (groups_events bytes (groups rows)) (mark-stood bytes)
-    (rows-hold bytes (GroupsStood bytes) (stood-by_groups bytes) options (body_point bytes) lines rows are
+    (stood-append bytes (mark_events bytes) (groups_events options bytes (groups rows)) (mark-stood bytes)
+    (rows-hold options bytes (GroupsStood options bytes) (stood-by_groups options bytes) (body_point bytes)
+    lines rows are
     (groups-each (LineStands bytes) rows
     (rows-stand options bytes [] held_leaf.None (body_point bytes) lines rows are)))).stand

@@ -116,19 +116,19 @@ final-plain bytes (Turned row rows under) h = h.2
 final-plain bytes (Span row rows) h = last-each (IsPlainRow bytes) row rows h.0 h.1
 
 -- groups of such rows
-abbrev PlainGroups : List ℕ → List Name → Point → List Group → Type 0
-PlainGroups bytes names p gs = EachGroup (IsPlainRow bytes) gs → ArePlain bytes (groups_events bytes gs)
+abbrev PlainGroups : ParseOptions → List ℕ → List Name → Point → List Group → Type 0
+PlainGroups options bytes names p gs = EachGroup (IsPlainRow bytes) gs → ArePlain bytes (groups_events options bytes gs)
 
-plain-by_groups : (bytes : List ℕ) → ByGroups bytes (PlainGroups bytes)
-plain-by_groups bytes = record {
+plain-by_groups : (options : ParseOptions) (bytes : List ℕ) → ByGroups options bytes (PlainGroups options bytes)
+plain-by_groups options bytes = record {
   none = λ p h. plain-nil bytes;
   group = λ names kept p group gs o keeps on h.
       let row : Row = first_row group in
-      plain-append bytes (group_events bytes group) (groups_events bytes gs)
-      (plain-line bytes (group_ending group) row.front (group_done bytes group) (final_row group)
+      plain-append bytes (group_events options bytes group) (groups_events options bytes gs)
+      (plain-line bytes (group_ending group) row.front (group_done options bytes group) (final_row group)
       (ending-untold (is_blank_group group))
       (final-plain bytes group h.0).leaves (plain-front bytes row.change.opens p row.first row.front o.front)
-      (o.leaf.2.plain (first-plain bytes group h.0).first))
+      (o.leaf.1.plain (first-plain bytes group h.0).first))
       (on h.1);
 }
 
@@ -202,17 +202,17 @@ all-tell bytes (e ∷ events) h k =
 -- an outline can show the events of a text, if they stand between its characters
 pub groups-unlisted : (options : ParseOptions) (bytes : List ℕ) (p : Point) (lines : List (List ℕ)) (rows : List Row) →
     AreRows options bytes [] held_leaf.None p lines rows → IsUtf8 bytes →
-    list_all (λ (e : Event). is_between bytes e.point.index) (groups_events bytes (groups rows)) ≡ true →
-    IsUnlisted (groups_events bytes (groups rows)) bytes
+    list_all (λ (e : Event). is_between bytes e.point.index) (groups_events options bytes (groups rows)) ≡ true →
+    IsUnlisted (groups_events options bytes (groups rows)) bytes
 groups-unlisted options bytes p lines rows are utf8 between =
-    let plain : ArePlain bytes (groups_events bytes (groups rows)) = rows-hold bytes (PlainGroups bytes)
-    (plain-by_groups bytes) options p lines rows are
+    let plain : ArePlain bytes (groups_events options bytes (groups rows)) = rows-hold options bytes
+    (PlainGroups options bytes) (plain-by_groups options bytes) p lines rows are
     (groups-each (IsPlainRow bytes) rows (plain-rows options bytes [] held_leaf.None p lines rows are tt)) in
     record {
       names = plain.known.names;
       text = utf8;
       between = between;
-      texts = all-tell bytes (groups_events bytes (groups rows)) plain.known.texts between;
+      texts = all-tell bytes (groups_events options bytes (groups rows)) plain.known.texts between;
       parted = rows-parted options bytes p lines rows are;
-      lines = passes-all bytes (groups_events bytes (groups rows)) plain.lines;
+      lines = passes-all bytes (groups_events options bytes (groups rows)) plain.lines;
     }

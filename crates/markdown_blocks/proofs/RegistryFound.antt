@@ -2,7 +2,7 @@
 use Rattle.std.proofs.Common.{◌≡◌, Bool, true, false, cond, List, ◌∷◌, refl, ap, sym, ◌∙◌}
 use Rattle.md_engine.specs.declared.tokenizer.held_leaf.HeldLeaf.{HeldLeaf}
 use Rattle.md_engine.specs.declared.tokenizer.held_leaf.HeldLeaf.TheVariants as held_leaf
-use Rattle.std.specs.Prelude.{ℕ, if◌then◌else◌, Option, None, Some}
+use Rattle.std.specs.Prelude.{ℕ, ◌&&◌, if◌then◌else◌, Option, None, Some}
 use Rattle.md_engine.specs.declared.configuration.ParseOptions.{ParseOptions}
 use Rattle.md_definition.specs.Leaves.{ParagraphContext, Text, is_text, starts, table_at, underline_depth, underlined}
 use Rattle.md_definition.specs.Leaves.{with_line}
@@ -15,6 +15,7 @@ use Rattle.markdown_blocks.specs.Leaf.HeadingSetext.{depth_of, setext_leaf}
 use Rattle.markdown_blocks.specs.Parsed.{IsBuilt}
 use Rattle.markdown_blocks.specs.Registry.{HeadingSetext, LeafName, leaf, text_leaf, trials}
 use Rattle.markdown_blocks.proofs.HeadingSetext.Found.{setext-found}
+use Rattle.markdown_blocks.proofs.HeadingSetext.Kinds.{setext-starts}
 use Rattle.markdown_blocks.proofs.KindLemmas.{first-passes}
 use Rattle.markdown_blocks.proofs.Registry.{IsAgainst, came_of, leaf_at, leaves-found, setext-taken}
 use Rattle.markdown_blocks.proofs.Registry.{text-laws}
@@ -50,18 +51,28 @@ starts-found options on against r same free dark built =
 
 -- Where text is open.
 
+-- where underlines are on, definitions are off
+pub definitions-off : (options : ParseOptions) → IsBuilt options → options.constructs.heading_setext ≡ true →
+    options.constructs.definition ≡ false
+definitions-off options built on =
+    go options.constructs.definition options.constructs.heading_setext built.apart on
+  where
+    go : (x y : Bool) → (x && y) ≡ false → y ≡ true → x ≡ false
+    go false y h k = refl
+    go true y h k = cc
+
 -- where no underline stands, so it is there
 unturned-starts : (options : ParseOptions) (r : Rest) → setext_leaf.starts options held_leaf.Text r ≡ false →
     is_blank r.bytes ≡ false → starts options Text r ≡ came_of options r (leaf_at options held_leaf.Text r)
 unfolding starts
 unturned-starts options r unturned dark = leaves-found options held_leaf.Text Text r refl unturned dark
 
--- where definitions are off, an underline turns all of the text
+-- where underlines are on, definitions are off, and an underline turns all of the text
 turned-all : (options : ParseOptions) (bs : Blocks) (k : Kept) (ks : List Kept) (r : Rest) (depth : ℕ) →
-    IsBuilt options →
+    IsBuilt options → options.constructs.heading_setext ≡ true →
     underlined options bs (k ∷ ks) r depth ≡ spot_of (then_block bs (Heading depth (texts (k ∷ ks))))
 unfolding underlined
-turned-all options bs k ks r depth built = rw built.definition refl
+turned-all options bs k ks r depth built on = rw (definitions-off options built on) refl
 
 -- what a line that is not blank comes to there, by the leaf that takes it: it turns the text, or begins a leaf behind
 -- it
@@ -69,7 +80,7 @@ abbrev pub text_came : ParseOptions → Blocks → List Kept → Rest → Option
 text_came options bs lines r None = with_line bs lines r
 text_came options bs lines r (Some l) =
     if (leaf l).further held_leaf.Text then came bs ((leaf l).comes options (text_leaf.held lines) r)
-    else came (text_leaf.behind bs (texts lines)) ((leaf l).comes options NoLeaf r)
+    else came (text_leaf.behind options bs (texts lines)) ((leaf l).comes options NoLeaf r)
 
 pub text-comes : (options : ParseOptions) (bs : Blocks) (k : Kept) (ks : List Kept) (r : Rest) →
     is_blank r.bytes ≡ false → IsBuilt options →
@@ -103,19 +114,20 @@ text-comes options bs k ks r dark built = go (setext_leaf.starts options held_le
         text_by options bs lines r (came_of options r o) ≡ text_came options bs lines r o
     by e None found = rw (table-off options bs lines r built) refl
     by e (Some l) found =
-        ap (λ (x : Blocks). came x ((leaf l).comes options NoLeaf r)) (text-laws.shut options bs lines built.definition)
+        ap (λ (x : Blocks). came x ((leaf l).comes options NoLeaf r)) (text-laws.shut options bs lines)
         ∙ sym
         (ap
         (λ (x : Bool).
         cond x (came bs ((leaf l).comes options (text_leaf.held lines) r))
-        (came (text_leaf.behind bs (texts lines)) ((leaf l).comes options NoLeaf r)))
+        (came (text_leaf.behind options bs (texts lines)) ((leaf l).comes options NoLeaf r)))
         (behind l e found ((leaf l).further held_leaf.Text) refl))
 
     go : (x : Bool) → setext_leaf.starts options held_leaf.Text r ≡ x →
         underline_or_text options bs lines r (underline_depth options r) ≡
         text_came options bs lines r (leaf_at options held_leaf.Text r)
     go true e =
-        depth true e ∙ turned-all options bs k ks r (depth_of r) built
+        depth true e
+        ∙ turned-all options bs k ks r (depth_of r) built (setext-starts options held_leaf.Text r e).enabled
         ∙ ap (text_came options bs lines r) (sym (setext-taken options r e))
     go false e =
         depth false e ∙ ap (text_by options bs lines r) (unturned-starts options r e dark)

@@ -46,11 +46,11 @@ IsRowOf options bytes r row = (is : IsRow options bytes (rest_line r) row) × (i
 
 -- The row of what is left of a line behind its prefixes, also where it begins within a tab.
 held-row : (options : ParseOptions) (bytes behind : List ℕ) (said : Line) (r : Rest) (stop : List Cell) (h : Held)
-    (below : List Row) →
+    (below : List Row) → length bytes < 2 ^ 61 →
     h.cells ≡ rest_cells said r h.point ++ stop → length h.cells < 2 ^ 63 → RestAt bytes behind r h.point →
     NoEnding r.bytes → Stops stop →
     IsRowOf options bytes r (row_of options h below)
-held-row options bytes behind said r stop h below fed short is none k =
+held-row options bytes behind said r stop h below small fed short is none k =
     let p = h.point in
     let one : 1 ≤ p.column = let column = is.column in omega (arith, column) in
     let size = ap length fed in
@@ -66,6 +66,7 @@ held-row options bytes behind said r stop h below fed short is none k =
     ∙ past-index (rest_line r) p in
     let row : IsRow options bytes (rest_line r) (row_of options h below) = record {
       rest = r;
+      small = small;
       line_is = refl;
       kind = kind;
       behind =
@@ -208,11 +209,11 @@ record HasRow (options : ParseOptions) (bytes : List ℕ) (open_before : List Co
 
 has-row : (options : ParseOptions) (bytes behind : List ℕ) (said : Line) (open_before : List Container)
     (still : HeldLeaf) (line : List ℕ) (p : Point) (stop : List Cell) →
-    IsBuilt options → AreRead open_before → length (spread said line p ++ stop) < 2 ^ 63 →
+    IsBuilt options → length bytes < 2 ^ 61 → AreRead open_before → length (spread said line p ++ stop) < 2 ^ 63 →
     NoEnding line → Stops stop → p.vs ≡ 0 → 1 ≤ p.column → drop p.index bytes ≡ line ++ behind →
     HasRow options bytes open_before still p line stop
     (held_at options open_before still (spread said line p ++ stop) p)
-has-row options bytes behind said open_before still line p stop built read short none k whole one text =
+has-row options bytes behind said open_before still line p stop built room read short none k whole one text =
     let r : Rest = rest_from p line in
     let h : Held = held_at options open_before still (spread said line p ++ stop) p in
     let c : Contained = contained options open_before still r in
@@ -225,7 +226,7 @@ has-row options bytes behind said open_before still line p stop built read short
     let row : (below : List Row) →
     IsRowOf options bytes c.rest
     (row_of options h below) =
-    λ below. held-row options bytes behind said c.rest stop h below held.fed few held.stands held.no_ending k in
+    λ below. held-row options bytes behind said c.rest stop h below room held.fed few held.stands held.no_ending k in
     let first : 1 ≤ h.point.column = let column = held.stands.column in omega (arith, column) in
     record {
       is =
@@ -266,18 +267,18 @@ rows-onto options bytes line open_before still row p q (next ∷ lines) (below �
 -- the last line
 last-rows : (options : ParseOptions) (n : ℕ) (bytes : List ℕ) (said : Line) (open_before : List Container)
     (still : HeldLeaf) (line : List ℕ) (p : Point) (cells : List Cell) →
-    IsBuilt options → AreRead open_before → length cells < 2 ^ 63 →
+    IsBuilt options → length bytes < 2 ^ 61 → AreRead open_before → length cells < 2 ^ 63 →
     NoEnding line → p.index ≤ length bytes → p.vs ≡ 0 → 1 ≤ p.column → drop p.index bytes ≡ line →
     cells ≡ spread said line p ++ [] →
     AreRows options bytes open_before still p (split_lines (drop p.index bytes))
     (rows_at options (suc n) open_before still cells p)
-last-rows options n bytes said open_before still line p cells built read short none index vs one text fed =
+last-rows options n bytes said open_before still line p cells built room read short none index vs one text fed =
     let whole = spread said line p ++ [] in
     let joined : drop p.index bytes ≡ line ++ [] = text ∙ sym (append-nil line) in
     let small : length whole < 2 ^ 63 = let same = ap length fed in omega arith in
     let h : Held = held_at options open_before still whole p in
     let has : HasRow options bytes open_before still p line [] h = has-row options bytes [] said open_before still line
-    p [] built read small none tt vs one joined in
+    p [] built room read small none tt vs one joined in
     let size = front-within bytes p.index line [] joined index in
     let end = ap (λ (q : Point). q.index) has.end in
     let past = past-index line p in
@@ -298,7 +299,7 @@ last-rows options n bytes said open_before still line p cells built read short n
 -- a line with its ending, before others
 next-rows : (options : ParseOptions) (n : ℕ) (bytes : List ℕ) (said : Line) (open_before : List Container)
     (still : HeldLeaf) (line : List ℕ) (ending : Ending) (rest : List ℕ) (p q : Point) (cells more : List Cell) →
-    IsBuilt options → AreRead open_before → length cells < 2 ^ 63 →
+    IsBuilt options → length bytes < 2 ^ 61 → AreRead open_before → length cells < 2 ^ 63 →
     NoEnding line → EndsBefore ending rest → p.vs ≡ 0 → 1 ≤ p.column →
     drop p.index bytes ≡ line ++ ending_bytes ending ++ rest → drop q.index bytes ≡ rest →
     IsEnding bytes (past_text line p) q →
@@ -307,14 +308,14 @@ next-rows : (options : ParseOptions) (n : ℕ) (bytes : List ℕ) (said : Line) 
     AreRows options bytes cs still q (split_lines (drop q.index bytes)) (rows_at options n cs still more q)) →
     AreRows options bytes open_before still p (split_lines (drop p.index bytes))
     (rows_at options (suc n) open_before still cells p)
-next-rows options n bytes said open_before still line ending rest p q cells more built read short none before vs one
+next-rows options n bytes said open_before still line ending rest p q cells more built room read short none before vs one
     text left is_ending fed further =
     let stop = cell 10 q said ∷ more in
     let whole = spread said line p ++ stop in
     let small : length whole < 2 ^ 63 = let same = ap length fed in omega arith in
     let h : Held = held_at options open_before still whole p in
     let has : HasRow options bytes open_before still p line stop h = has-row options bytes
-    (ending_bytes ending ++ rest) said open_before still line p stop built read small none refl vs one
+    (ending_bytes ending ++ rest) said open_before still line p stop built room read small none refl vs one
     (text ∙ append_assoc line (ending_bytes ending) rest) in
     let below : List Row = rows_at options n (open_behind h.change) (behind_held options h) more q in
     let row : Row = row_of options h below in
@@ -379,7 +380,7 @@ rows-are options (suc n) x open_before still p built read h short =
           column = h.column;
         } in
         last-rows options n x.bytes x.line open_before still line p
-        (text_feed x p) built read few none h.index h.whole h.column refl
+        (text_feed x p) built h.small read few none h.index h.whole h.column refl
         (line-feed x line [] p has
         ∙ ap (λ (l : List Cell). spread x.line line p ++ l) (feed-none x (past_text line p) small (omega arith)))
     go (inr h') more =
@@ -427,7 +428,7 @@ rows-are options (suc n) x open_before still p built read h short =
           column = omega arith;
         } in
         next-rows options n x.bytes x.line open_before still line h'.ending h'.rest p q (text_feed x p)
-        (text_feed x q) built read few h'.no_ending h'.before h.whole h.column h'.joined left
+        (text_feed x q) built h.small read few h'.no_ending h'.before h.whole h.column h'.joined left
         (is-ending x.bytes h'.ending h'.rest end behind h'.before) fed (more q lines (omega arith))
 
 -- So are those that a new tokenizer reads to the end of a text.

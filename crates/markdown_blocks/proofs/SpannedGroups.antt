@@ -1,9 +1,9 @@
 -- The lines of each leaf of several are joined, and all else stays.
 use Rattle.std.proofs.Common.{◌≡◌, ℕ, Bool, true, false, cond, ◌&&◌, map, List, [], ◌∷◌, ◌++◌, refl, ap, ap₂, sym, ◌∙◌}
 use Rattle.std.proofs.Common.{◌⊎◌, inl, inr, ◌||◌, append_assoc, subst}
-use Rattle.std.specs.Prelude.{Option, Some, None}
 use Rattle.std.proofs.lemmas.Bool.{and_right, or_parts, true≢false}
 use Rattle.std.proofs.lemmas.List.{map-append}
+use Rattle.std.specs.Prelude.{Option, Some, None}
 use Rattle.md_engine.specs.declared.configuration.ParseOptions.{ParseOptions}
 use Rattle.md_engine.specs.declared.event.Event.{Event}
 use Rattle.md_engine.specs.declared.event.Link.{Link}
@@ -11,41 +11,40 @@ use Rattle.md_engine.specs.declared.event.Name.{Name}
 use Rattle.md_engine.specs.declared.event.Name.TheVariants as n
 use Rattle.md_engine.specs.declared.event.Point.{Point}
 use Rattle.md_engine.specs.declared.tokenizer.held_leaf.HeldLeaf.{HeldLeaf}
-use Rattle.md_leaves.specs.declared.spans.Place.TheVariants.{Between, Inside, Outside}
+use Rattle.md_definition.specs.State.{Container}
 use Rattle.md_leaves.specs.Spanned.{begins_further, goes_on, has_lines, links_back, name_at, renamed, spanned}
 use Rattle.md_leaves.specs.Spanned.{spanned_from}
 use Rattle.md_leaves.specs.Turned.{turned}
+use Rattle.md_leaves.specs.declared.spans.Place.TheVariants.{Between, Inside, Outside}
 use Rattle.md_leaves.proofs.SpannedLines.{IsBegin, IsEnd, NoBlocks, NoLines, goes_on-other, line-begins, line-joined}
-use Rattle.md_leaves.proofs.SpannedLines.{IsFurther, blocks-lines, line-last, lines-block, spanned-passes, spanned-stays}
+use Rattle.md_leaves.proofs.SpannedLines.{IsFurther, blocks-lines, line-last, lines-block, spanned-passes}
+use Rattle.md_leaves.proofs.SpannedLines.{spanned-stays}
 use Rattle.md_seam.specs.Events.Blocks.{is_block}
 use Rattle.md_seam.specs.Events.Nested.{around, exit, is_enter, pair}
 use Rattle.md_seam.specs.Events.Prefix.{is_prefix}
 use Rattle.md_seam.specs.Events.Spelled.{role}
-use Rattle.md_definition.specs.State.{Container}
+use Rattle.markdown_blocks.specs.BlockList.{lines_unread}
 use Rattle.markdown_blocks.specs.Change.{ends_of}
-use Rattle.markdown_blocks.specs.Registry.{LeafName, further_of, leaf, resolved, text_leaf, turn_leaf}
+use Rattle.markdown_blocks.specs.FlowReads.{lines_joined}
+use Rattle.markdown_blocks.specs.HeldLeaf.{may_go_on}
+use Rattle.markdown_blocks.specs.LineFlags.{ending_name}
+use Rattle.markdown_blocks.specs.Registry.{LeafName, further_of, leaf, resolved, text_leaf, turn_leaf, joins_lines}
 use Rattle.markdown_blocks.specs.Rows.{BlankRow, Group, LeafRow, Lines, Row, RowKind, Single, Span, TextRow, Turned}
 use Rattle.markdown_blocks.specs.Rows.{but_end, but_ends, end_of, ending_events, ending_of, groups, last_row}
 use Rattle.markdown_blocks.specs.Rows.{any_framed, blank_line, is_framed, leaf_events, span_behind, turned_by}
 use Rattle.markdown_blocks.specs.Rows.{leaf_unread, row_events, rows_events, span_by, span_rest, tail_events}
+use Rattle.markdown_blocks.specs.Rows.{is_blank_by, text_done}
 use Rattle.markdown_blocks.specs.Unread.{linked_lines, listed_group, listed_groups, listed_row_by, text_unread}
 use Rattle.markdown_blocks.specs.Unread.{turned_groups, unread_groups, unread_lines}
 use Rattle.markdown_blocks.proofs.EachEvent.{each-append}
 use Rattle.markdown_blocks.proofs.FrontNames.{HasFront, ends-are, fronts-are, fronts-prefixes}
-use Rattle.markdown_blocks.proofs.GroupLemmas.{AreGroups, AreSpan, IsSingle, groups-are}
-use Rattle.markdown_blocks.proofs.GroupLemmas.{lines-prefixed}
-use Rattle.markdown_blocks.proofs.GroupsAre.{AreLines, Begins, IsSpanLine, IsUnder, behind-first, line-further}
-use Rattle.markdown_blocks.specs.HeldLeaf.{may_go_on}
-use Rattle.markdown_blocks.specs.LineFlags.{ending_name}
-use Rattle.markdown_blocks.specs.FlowReads.{lines_joined}
-use Rattle.markdown_blocks.specs.Registry.{joins_lines}
-use Rattle.markdown_blocks.specs.Rows.{is_blank_by}
-use Rattle.markdown_blocks.proofs.GroupsAre.{line-of, span-begins}
-use Rattle.markdown_blocks.proofs.Registry.{lines-join}
+use Rattle.markdown_blocks.proofs.GroupLemmas.{AreGroups, AreSpan, IsSingle, groups-are, lines-prefixed}
+use Rattle.markdown_blocks.proofs.GroupsAre.{AreLines, Begins, IsSpanLine, IsUnder, behind-first, line-further, line-of}
+use Rattle.markdown_blocks.proofs.GroupsAre.{span-begins}
 use Rattle.markdown_blocks.proofs.JoinedLemmas.{EachNoContent}
 use Rattle.markdown_blocks.proofs.KindLemmas.{kind-starts}
 use Rattle.markdown_blocks.proofs.PrefixNames.{ArePrefixes, prefixes-front}
-use Rattle.markdown_blocks.proofs.Registry.{laws, span-laws}
+use Rattle.markdown_blocks.proofs.Registry.{lines-join, laws, span-laws}
 use Rattle.markdown_blocks.proofs.RowFacts.{AreRows}
 use Rattle.markdown_blocks.proofs.Span.Cuts.{but_end-is, but_ends-is, end-is}
 use Rattle.markdown_blocks.proofs.Span.Framed.{plain-unframed, rest-bare, rest-behind, rest-framed, spanned-framed}
@@ -53,6 +52,8 @@ use Rattle.markdown_blocks.proofs.SpanLaws.{AreBehind, IsBare, IsLineOf, IsNone,
 use Rattle.markdown_blocks.proofs.SpannedFacts.{AreUnspanned, IsUnspanned, fronts-unspanned, unspanned-lines}
 use Rattle.markdown_blocks.proofs.SpannedFacts.{unspanned-pass}
 use Rattle.markdown_blocks.proofs.SubstitutedLemmas.{EachPrefixed}
+use Rattle.markdown_blocks.proofs.Text.Cuts.{cut-is}
+use Rattle.markdown_blocks.proofs.Text.Names.{cut-each, unspanned-of}
 use Rattle.markdown_blocks.proofs.TurnedGroups.{headings-set}
 use Rattle.markdown_blocks.proofs.Underlines.{under-unspanned}
 
@@ -475,10 +476,12 @@ gaps-joined : (options : ParseOptions) (bytes : List ℕ) (name : LeafName) (row
     Joins row rows inside e gap given rest
 gaps-joined options bytes name row [] inside e gap given rest open_leaf together are more plain end free ahead =
     absurd (let bad : false ≡ true = more in cc)
-gaps-joined options bytes name row (next ∷ rows) inside e gap given rest open_leaf together are more plain end free ahead =
+gaps-joined options bytes name row (next ∷ rows) inside e gap given rest open_leaf together are more plain end free
+    ahead =
     go ((span-laws name open_leaf).further_spanned options bytes next are.6 are.5)
     (λ inside e gap given more plain end free.
-    gaps-joined options bytes name next rows inside e gap given rest open_leaf together.3 are.7 more plain end free ahead)
+    gaps-joined options bytes name next rows inside e gap given rest open_leaf together.3 are.7 more plain end free
+    ahead)
   where
     Behind : Type 0
     Behind =
@@ -518,7 +521,7 @@ lines-from options bytes name row rows inside e rest open_leaf together are plai
 -- they are joined, from the first to the last
 span-joined : (options : ParseOptions) (bytes : List ℕ) (row : Row) (rows : List Row) (rest : List Event) →
     AreSpan options bytes row rows → Begins row → goes_on rest ≡ false →
-    spanned (rows_events (row ∷ rows) ++ rest) ≡ listed_group bytes (Span row rows) ++ spanned rest
+    spanned (rows_events (row ∷ rows) ++ rest) ≡ listed_group options bytes (Span row rows) ++ spanned rest
 span-joined options bytes row rows rest are begins ahead =
     let of_leaf : AreOfLeaf options bytes row rows = span-leaf options bytes row rows are begins in
     let together : AreTogether row rows = span-together options bytes row rows are in
@@ -581,22 +584,30 @@ linked-unspanned link row (next ∷ rows) h = (
   ),
 )
 
-text-unspanned : (bytes : List ℕ) (row : Row) (rows : List Row) → EachPrefixed rows → HasFront bytes row →
-    AreUnspanned (listed_group bytes (Lines row rows))
-text-unspanned bytes row rows h front =
+-- lines of a text that is not read yet, and a text from which definitions are cut
+lines-unspanned : (options : ParseOptions) (bytes : List ℕ) (row : Row) (rows : List Row) →
+    AreLines options bytes row rows → AreUnspanned (lines_unread row rows)
+lines-unspanned options bytes row rows are = (
+  refl,
+  each-append IsUnspanned (unread_lines row rows) (exit text_leaf.name (last_row row rows).end ∷ [])
+      (linked-unspanned text_leaf.link row rows (lines-prefixed options bytes row rows are)) (refl, tt),
+)
+
+text-unspanned : (options : ParseOptions) (bytes : List ℕ) (row : Row) (rows : List Row) →
+    AreLines options bytes row rows → HasFront bytes row → AreUnspanned (listed_group options bytes (Lines row rows))
+text-unspanned options bytes row rows are front =
     let last : Row = last_row row rows in
-    each-append IsUnspanned (row.front ++ text_unread row rows) (tail_events (ending_of TextRow last) last)
-    (each-append IsUnspanned row.front (text_unread row rows) (front-unspanned bytes row front) (
-      refl,
-      each-append IsUnspanned (unread_lines row rows) (exit text_leaf.name last.end ∷ [])
-          (linked-unspanned text_leaf.link row rows h) (refl, tt),
-    ))
+    each-append IsUnspanned (row.front ++ text_unread options bytes row rows)
+    (tail_events (ending_of TextRow last) last)
+    (each-append IsUnspanned row.front (text_unread options bytes row rows) (front-unspanned bytes row front)
+    (cut-each IsUnspanned unspanned-of options bytes (lines-unspanned options bytes) row rows
+    (text_unread options bytes row rows) (text_done options bytes row rows) (cut-is options bytes row rows are)))
     (tail-unspanned TextRow last)
 
 -- the text that an underline turns, with it
 turned-unspanned : (options : ParseOptions) (bytes : List ℕ) (row : Row) (rows : List Row) (under : Row) →
     AreLines options bytes row rows → IsUnder options bytes (last_row row rows) under → HasFront bytes row →
-    AreUnspanned (listed_group bytes (Turned row rows under))
+    AreUnspanned (listed_group options bytes (Turned row rows under))
 turned-unspanned options bytes row rows under are is front =
     each-append IsUnspanned (row.front ++ turned_by (unread_lines row rows) row rows under)
     (tail_events (ending_of under.kind under) under)
@@ -631,20 +642,20 @@ turned-unspanned options bytes row rows under are is front =
 
 -- no group begins with a further line
 groups-ahead : (options : ParseOptions) (bytes : List ℕ) (gs : List Group) → AreGroups options bytes gs →
-    goes_on (turned_groups bytes gs) ≡ false
+    goes_on (turned_groups options bytes gs) ≡ false
 groups-ahead options bytes [] are = refl
 groups-ahead options bytes (Single row ∷ gs) are =
-    plain-ahead (listed_group bytes (Single row)) (turned_groups bytes gs)
-    (unspanned-lines (listed_group bytes (Single row)) (single-unspanned options bytes row are.0 row.kind refl))
+    plain-ahead (listed_group options bytes (Single row)) (turned_groups options bytes gs)
+    (unspanned-lines (listed_group options bytes (Single row)) (single-unspanned options bytes row are.0 row.kind refl))
     (groups-ahead options bytes gs are.1)
 groups-ahead options bytes (Lines row rows ∷ gs) are =
-    plain-ahead (listed_group bytes (Lines row rows)) (turned_groups bytes gs)
-    (unspanned-lines (listed_group bytes (Lines row rows))
-    (text-unspanned bytes row rows (lines-prefixed options bytes row rows are.0) are.2))
+    plain-ahead (listed_group options bytes (Lines row rows)) (turned_groups options bytes gs)
+    (unspanned-lines (listed_group options bytes (Lines row rows))
+    (text-unspanned options bytes row rows are.0 are.2))
     (groups-ahead options bytes gs are.3)
 groups-ahead options bytes (Turned row rows under ∷ gs) are =
-    plain-ahead (listed_group bytes (Turned row rows under)) (turned_groups bytes gs)
-    (unspanned-lines (listed_group bytes (Turned row rows under))
+    plain-ahead (listed_group options bytes (Turned row rows under)) (turned_groups options bytes gs)
+    (unspanned-lines (listed_group options bytes (Turned row rows under))
     (turned-unspanned options bytes row rows under are.0 are.1 are.3))
     (groups-ahead options bytes gs are.4)
 groups-ahead options bytes (Span row rows ∷ gs) are =
@@ -653,42 +664,44 @@ groups-ahead options bytes (Span row rows ∷ gs) are =
     let s : IsSpanned AreUnspanned IsBegin row.inside =
     (span-laws of_leaf.name of_leaf.open_leaf).first_spanned options bytes row of_leaf.is of_leaf.first in
     let more : List Event = s.inside ++
-    s.end ∷ (tail_events (ending_at row) row ++ (rows_events rows ++ turned_groups bytes gs)) in
-    ap goes_on (row-laid AreUnspanned IsBegin row kind.0 (rows_events rows) (turned_groups bytes gs) kind.1 s)
+    s.end ∷ (tail_events (ending_at row) row ++ (rows_events rows ++ turned_groups options bytes gs)) in
+    ap goes_on (row-laid AreUnspanned IsBegin row kind.0 (rows_events rows) (turned_groups options bytes gs) kind.1 s)
     ∙ plain-ahead row.front (s.lead ++ s.begin ∷ more)
     (unspanned-lines row.front (front-unspanned bytes row (span-front options bytes row rows are.0)))
     (plain-ahead s.lead (s.begin ∷ more) (unspanned-lines s.lead s.lead_plain) (begin-ahead s.begin more s.begins))
 
 -- so each leaf of several lines is joined by itself
 groups-joined : (options : ParseOptions) (bytes : List ℕ) (gs : List Group) → AreGroups options bytes gs →
-    spanned (turned_groups bytes gs) ≡ listed_groups bytes gs
+    spanned (turned_groups options bytes gs) ≡ listed_groups options bytes gs
 groups-joined options bytes [] are = refl
 groups-joined options bytes (Single row ∷ gs) are =
-    passed (listed_group bytes (Single row)) (turned_groups bytes gs)
+    passed (listed_group options bytes (Single row)) (turned_groups options bytes gs)
     (single-unspanned options bytes row are.0 row.kind refl)
-    ∙ ap (λ (l : List Event). listed_group bytes (Single row) ++ l) (groups-joined options bytes gs are.1)
+    ∙ ap (λ (l : List Event). listed_group options bytes (Single row) ++ l) (groups-joined options bytes gs are.1)
 groups-joined options bytes (Lines row rows ∷ gs) are =
-    passed (listed_group bytes (Lines row rows)) (turned_groups bytes gs)
-    (text-unspanned bytes row rows (lines-prefixed options bytes row rows are.0) are.2)
-    ∙ ap (λ (l : List Event). listed_group bytes (Lines row rows) ++ l) (groups-joined options bytes gs are.3)
+    passed (listed_group options bytes (Lines row rows)) (turned_groups options bytes gs)
+    (text-unspanned options bytes row rows are.0 are.2)
+    ∙ ap (λ (l : List Event). listed_group options bytes (Lines row rows) ++ l) (groups-joined options bytes gs are.3)
 groups-joined options bytes (Turned row rows under ∷ gs) are =
-    passed (listed_group bytes (Turned row rows under)) (turned_groups bytes gs)
+    passed (listed_group options bytes (Turned row rows under)) (turned_groups options bytes gs)
     (turned-unspanned options bytes row rows under are.0 are.1 are.3)
-    ∙ ap (λ (l : List Event). listed_group bytes (Turned row rows under) ++ l) (groups-joined options bytes gs are.4)
+    ∙ ap (λ (l : List Event). listed_group options bytes (Turned row rows under) ++ l)
+    (groups-joined options bytes gs are.4)
 groups-joined options bytes (Span row rows ∷ gs) are =
-    span-joined options bytes row rows (turned_groups bytes gs) are.0 are.4 (groups-ahead options bytes gs are.2)
-    ∙ ap (λ (l : List Event). listed_group bytes (Span row rows) ++ l) (groups-joined options bytes gs are.2)
+    span-joined options bytes row rows (turned_groups options bytes gs) are.0 are.4
+    (groups-ahead options bytes gs are.2)
+    ∙ ap (λ (l : List Event). listed_group options bytes (Span row rows) ++ l) (groups-joined options bytes gs are.2)
 
 -- where none is read there is nothing to join
 groups-apart : (options : ParseOptions) (bytes : List ℕ) (gs : List Group) → joins_lines options ≡ false →
-    AreGroups options bytes gs → turned_groups bytes gs ≡ listed_groups bytes gs
+    AreGroups options bytes gs → turned_groups options bytes gs ≡ listed_groups options bytes gs
 groups-apart options bytes [] none are = refl
 groups-apart options bytes (Single row ∷ gs) none are =
-    ap (λ (l : List Event). listed_group bytes (Single row) ++ l) (groups-apart options bytes gs none are.1)
+    ap (λ (l : List Event). listed_group options bytes (Single row) ++ l) (groups-apart options bytes gs none are.1)
 groups-apart options bytes (Lines row rows ∷ gs) none are =
-    ap (λ (l : List Event). listed_group bytes (Lines row rows) ++ l) (groups-apart options bytes gs none are.3)
+    ap (λ (l : List Event). listed_group options bytes (Lines row rows) ++ l) (groups-apart options bytes gs none are.3)
 groups-apart options bytes (Turned row rows under ∷ gs) none are =
-    ap (λ (l : List Event). listed_group bytes (Turned row rows under) ++ l)
+    ap (λ (l : List Event). listed_group options bytes (Turned row rows under) ++ l)
     (groups-apart options bytes gs none are.4)
 groups-apart options bytes (Span row rows ∷ gs) none are =
     let of_leaf : AreOfLeaf options bytes row rows = span-leaf options bytes row rows are.0 are.4 in
@@ -701,9 +714,11 @@ groups-apart options bytes (Span row rows ∷ gs) none are =
 pub lines-joined : (options : ParseOptions) (bytes : List ℕ) (open_before : List Container) (still : HeldLeaf)
     (p : Point) (lines : List (List ℕ)) (rows : List Row) →
     may_go_on still ≡ false → AreRows options bytes open_before still p lines rows → EachNoContent rows →
-    lines_joined options (turned (resolved (unread_groups (groups rows)))) ≡ listed_groups bytes (groups rows)
-lines-joined options bytes open_before still p lines rows shut are quiet =
-    ap (lines_joined options) (headings-set options bytes open_before still p lines rows shut are quiet)
+    (options.constructs.definition && options.constructs.heading_setext) ≡ false →
+    lines_joined options (turned (resolved (unread_groups options bytes (groups rows)))) ≡
+    listed_groups options bytes (groups rows)
+lines-joined options bytes open_before still p lines rows shut are quiet apart =
+    ap (lines_joined options) (headings-set options bytes open_before still p lines rows shut are quiet apart)
     ∙ go (joins_lines options) refl
   where
     gs : List Group
@@ -713,6 +728,7 @@ lines-joined options bytes open_before still p lines rows shut are quiet =
     laid = groups-are options bytes open_before still p lines rows shut are quiet
 
     go : (x : Bool) → joins_lines options ≡ x →
-        cond x (spanned (turned_groups bytes gs)) (turned_groups bytes gs) ≡ listed_groups bytes gs
+        cond x (spanned (turned_groups options bytes gs)) (turned_groups options bytes gs) ≡
+        listed_groups options bytes gs
     go true e = groups-joined options bytes gs laid
     go false e = groups-apart options bytes gs e laid

@@ -12,7 +12,8 @@ use Rattle.markdown_blocks.specs.Registry.{further_of}
 use Rattle.markdown_blocks.specs.LineFlags.{ending_name}
 use Rattle.markdown_blocks.specs.Rows.{is_blank_row}
 use Rattle.markdown_blocks.specs.Rows.{is_further, onto_span, span_done}
-use Rattle.markdown_blocks.proofs.GroupsAre.{shut-behind}
+use Rattle.markdown_blocks.proofs.GroupsAre.{AreLines, shut-behind}
+use Rattle.markdown_blocks.proofs.Text.Facts.{kept-of}
 use Rattle.markdown_blocks.proofs.LineSteps.{with_came}
 use Rattle.markdown_blocks.proofs.Registry.{further-is, span-laws, text-turns}
 use Rattle.markdown_blocks.proofs.RowLeaf.{EndsOnLine}
@@ -59,7 +60,6 @@ use Rattle.markdown_blocks.proofs.RowFacts as f
 use Rattle.markdown_blocks.proofs.LeafFacts.{shown}
 use Rattle.markdown_blocks.proofs.LeafStands.{ending-roles}
 use Rattle.markdown_blocks.proofs.RowLeaf.{block_of}
-use Rattle.markdown_blocks.proofs.SpelledParagraphs.{IsRead, read-more, read-one}
 use Rattle.markdown_blocks.proofs.PrefixFacts.{begins}
 use Rattle.markdown_blocks.proofs.PrefixNames.{prefixes-roles}
 use Rattle.markdown_blocks.proofs.ContainerNames.{container-facts}
@@ -111,7 +111,7 @@ read-parts bytes r a b c d xs ys zs more e f g h =
 -- these groups, where a path is open of whose containers so many end first, are read as this
 abbrev pub Reads : ParseOptions → List ℕ → Path → List Container → List Group → Reading → Type 0
 Reads options bytes p closes gs last =
-    read bytes (close_containers (length closes) (reading options p)) (groups_events bytes gs) ≡ last
+    read bytes (close_containers (length closes) (reading options p)) (groups_events options bytes gs) ≡ last
 
 -- the line that turns a text, behind its last line
 pub record IsTurn (options : ParseOptions) (bytes : List ℕ) (last under : Row) : Type 0 where
@@ -143,13 +143,12 @@ text_tail last (Some under) = tail_events (ending_name (is_blank_row under)) und
 -- the lines of a text go on an open one or begin one, and with what follows are read as this
 pub record ReadsLines (options : ParseOptions) (bytes : List ℕ) (p : Path) (row : Row) (rows : List Row)
     (turn : Option Row) (gs : List Group) (last : Reading) : Type 0 where
-  pub first : Kept
-  pub lines : List Kept
-  pub are : IsRead bytes row rows (first ∷ lines)
+  pub are : AreLines options bytes row rows
   pub turned : IsTurned options bytes (last_row row rows) turn
   pub behind : read bytes
-      (reading options (text_path options bytes (last_row row rows) turn turned (longer p (first ∷ lines))))
-      (text_tail (last_row row rows) turn ++ groups_events bytes gs) ≡
+      (reading options
+      (text_path options bytes (last_row row rows) turn turned (longer p (kept-of options bytes row rows are))))
+      (text_tail (last_row row rows) turn ++ groups_events options bytes gs) ≡
       last
 
 pub record StartsLines (options : ParseOptions) (bytes : List ℕ) (p : Path) (row : Row) (gs : List Group)
@@ -179,7 +178,7 @@ pub record ReadsSpan (options : ParseOptions) (bytes : List ℕ) (l : LeafName) 
   pub groups_are : gs ≡ Span row rows ∷ below
   pub are : AreBehind options bytes (leaf l) row rows
   pub behind : read bytes (reading options (with_came p (come_behind options bytes (leaf l) row rows are come)))
-      (span_tail row rows ++ groups_events bytes below) ≡
+      (span_tail row rows ++ groups_events options bytes below) ≡
       last
 
 -- the lines from this point on go on the leaf that is open on a path
@@ -211,6 +210,7 @@ pub record Joins (options : ParseOptions) (bytes : List ℕ) (p : Path) (row : R
   pub leaves : row.leaves ≡ []
   pub opens : next.change.opens ≡ []
   pub after : Point
+  pub after_is : row.after ≡ Some after
   pub ending : f.IsEnding bytes row.end after
   pub fronts : LinePrefix bytes [] after next.first next.front
 
@@ -292,17 +292,15 @@ starts-alike options bytes stays closes p row gs last shapes starts =
       below = starts.below;
       groups_are = starts.groups_are;
       reads = record {
-        first = reads.first;
-        lines = reads.lines;
         are = reads.are;
         turned = reads.turned;
         behind =
             ap
             (λ (r : Reading).
-            read bytes r (text_tail final starts.turn ++ groups_events bytes starts.below))
+            read bytes r (text_tail final starts.turn ++ groups_events options bytes starts.below))
             (sym
-            (reading-text options bytes stays closes p (reads.first ∷ reads.lines) final starts.turn reads.turned
-            shapes))
+            (reading-text options bytes stays closes p (kept-of options bytes row starts.rows reads.are) final
+            starts.turn reads.turned shapes))
             ∙ reads.behind;
       };
     }
@@ -366,7 +364,7 @@ turn-lines options bytes line p row gs last is text joins =
     go : (rows : List Row) → rows ≡ [] → gs ≡ Span under rows ∷ reads.below →
         (are : AreBehind options bytes (leaf joins.name) under rows) →
         read bytes (reading options (with_came q (come_behind options bytes (leaf joins.name) under rows are first)))
-        (span_tail under rows ++ groups_events bytes reads.below) ≡
+        (span_tail under rows ++ groups_events options bytes reads.below) ≡
         last →
         StartsLines options bytes p row (onto_groups row TextRow gs) last
     go (next ∷ rows) none e are behind = absurd (cc)
@@ -381,9 +379,7 @@ turn-lines options bytes line p row gs last is text joins =
           cond (x && true) (Turned row [] under ∷ reads.below) (Lines row [] ∷ Span under [] ∷ reads.below))
           joins.further;
       reads = record {
-        first = kept is.rest;
-        lines = [];
-        are = read-one options bytes line row is text;
+        are = (line, is, text);
         turned = record {
           name = joins.name;
           is = joins.starts.is;
@@ -396,7 +392,7 @@ turn-lines options bytes line p row gs last is text joins =
         behind =
             ap
             (λ (c : Came).
-            read bytes (reading options (with_came q c)) (span_tail under [] ++ groups_events bytes reads.below))
+            read bytes (reading options (with_came q c)) (span_tail under [] ++ groups_events options bytes reads.below))
             (sym come)
             ∙ behind;
       };
@@ -414,14 +410,12 @@ starts-lines options bytes line p row gs last is text (inl parts) = record {
   below = gs;
   groups_are = parts.apart text;
   reads = record {
-    first = kept is.rest;
-    lines = [];
-    are = read-one options bytes line row is text;
+    are = (line, is, text);
     turned = tt;
     behind =
         let s : Reading = reading options (longer p (kept is.rest ∷ [])) in
         read-from bytes s (close_containers (length row.leaves) s) (tail_events n.LineEnding row)
-        (groups_events bytes gs) (read-tail bytes n.LineEnding row s tt refl refl)
+        (groups_events options bytes gs) (read-tail bytes n.LineEnding row s tt refl refl)
         ∙ parts.reads;
   };
 }
@@ -439,19 +433,16 @@ starts-lines options bytes line p row gs last is text (inr (inl joins)) =
           ap (onto_groups row TextRow) below.groups_are
           ∙ onto-joined row joins.next below.rows below.turn below.below joins.leaves joins.opens;
       reads = record {
-        first = kept is.rest;
-        lines = reads.first ∷ reads.lines;
-        are =
-            read-more options bytes line row joins.next below.rows joins.after
-            (reads.first ∷ reads.lines) is text joins.ending joins.fronts reads.are;
+        are = (line, is, text, joins.after, joins.after_is, joins.ending, joins.fronts, reads.are);
         turned = reads.turned;
         behind =
             subst
             (λ (x : Path).
             read bytes (reading options (text_path options bytes final below.turn reads.turned x))
-            (text_tail final below.turn ++ groups_events bytes below.below) ≡
+            (text_tail final below.turn ++ groups_events options bytes below.below) ≡
             last)
-            (longer-longer p (kept is.rest ∷ []) (reads.first ∷ reads.lines)) reads.behind;
+            (longer-longer p (kept is.rest ∷ []) (kept-of options bytes joins.next below.rows reads.are))
+            reads.behind;
       };
     }
 
@@ -474,7 +465,7 @@ pub single-reads : (options : ParseOptions) (bytes : List ℕ) (p : Path) (c : C
     ((e : Reading) → e ≡ reading options (open_path options p c) → read bytes e leaf ≡ reading options new) →
     Between (role name) → Reads options bytes new row.leaves gs last →
     read bytes (close_containers (length row.change.closes) (reading options p))
-    ((row.front ++ leaf ++ tail_events name row) ++ groups_events bytes gs) ≡
+    ((row.front ++ leaf ++ tail_events name row) ++ groups_events options bytes gs) ≡
     last
 single-reads options bytes p c row gs last new name leaf shapes change a fronts found between reads =
     let start : Reading = close_containers (length row.change.closes) (reading options p) in
@@ -482,7 +473,7 @@ single-reads options bytes p c row gs last new name leaf shapes change a fronts 
     let text = close_containers-between (length row.change.closes) (reading options p) refl refl in
     read-parts bytes start begin (reading options new)
     (close_containers (length row.leaves) (reading options new)) last row.front leaf (tail_events name row)
-    (groups_events bytes gs)
+    (groups_events options bytes gs)
     (read-fronts bytes row.change.opens a row.first row.front start fronts text.0)
     (found begin (read-open options p c row shapes change))
     (read-tail bytes name row (reading options new) between refl refl) reads
@@ -582,7 +573,7 @@ span-alike options bytes l p q come row gs last alike is = record {
   groups_are = is.groups_are;
   are = is.are;
   behind =
-      ap (λ (r : Reading). read bytes r (span_tail row is.rows ++ groups_events bytes is.below))
+      ap (λ (r : Reading). read bytes r (span_tail row is.rows ++ groups_events options bytes is.below))
       (sym (alike (come_behind options bytes (leaf l) row is.rows is.are come)))
       ∙ is.behind;
 }
@@ -613,7 +604,7 @@ span-joined options bytes l p come row gs last joins next opened = record {
     next.reads.are,
   );
   behind =
-      ap (λ (r : Reading). read bytes r (span_tail joins.next rows ++ groups_events bytes below))
+      ap (λ (r : Reading). read bytes r (span_tail joins.next rows ++ groups_events options bytes below))
       (sym (ap (to (with_came p come)) first ∙ ap (reading options) (twice (come_to other)))) ∙ next.reads.behind;
 }
   where
@@ -656,7 +647,7 @@ span-rows options bytes l m p come row gs last other same is (inl parts) = recor
   are = tt;
   behind =
       let s : Reading = reading options (with_came p come) in
-      read-from bytes s (close_containers (length row.leaves) s) (span_tail row []) (groups_events bytes gs)
+      read-from bytes s (close_containers (length row.leaves) s) (span_tail row []) (groups_events options bytes gs)
       (read-tail bytes (ending_of row.kind row) row s (ending-role (is_blank_row row)) refl refl)
       ∙ parts.reads;
 }
@@ -678,7 +669,7 @@ pub begun-reads : (options : ParseOptions) (bytes : List ℕ) (l : LeafName) (o 
     (spot o).leaf ≡ NoLeaf → (begin : Reading) → begin ≡ reading options o →
     (spans : ReadsSpan options bytes (further_of l) o ((leaf l).comes options NoLeaf is.rest) row gs last) →
     read bytes begin
-    (span_done bytes row spans.rows ++ (span_tail row spans.rows ++ groups_events bytes spans.below)) ≡
+    (span_done bytes row spans.rows ++ (span_tail row spans.rows ++ groups_events options bytes spans.below)) ≡
     last
 begun-reads options bytes l o row gs last ends is begins none begin same spans =
     let laws : SpanLaws (leaf l) (leaf (further_of l)) = span-laws l ends in
@@ -687,7 +678,7 @@ begun-reads options bytes l o row gs last ends is begins none begin same spans =
     let block : Block = laws.block options bytes row spans.rows is spans.are in
     let whole : List Event = span_done bytes row spans.rows in
     let new : Reading = reading options (with_came o come) in
-    read-from bytes begin new whole (span_tail row spans.rows ++ groups_events bytes spans.below)
+    read-from bytes begin new whole (span_tail row spans.rows ++ groups_events options bytes spans.below)
     (ap (λ (x : Reading). read bytes x whole) same
     ∙ (laws.facts options bytes row spans.rows is begins spans.are).reads (reading options o) refl refl
     ∙ ap (λ (bs : Blocks). record (reading options o) { here = bs })
@@ -703,15 +694,15 @@ pub starts-read : (options : ParseOptions) (bytes : List ℕ) (l : LeafName) (o 
     (spot o).leaf ≡ NoLeaf → (a : Point) → LinePrefix bytes row.change.opens a row.first row.front →
     (start : Reading) → start.text ≡ None → enters row.change.opens start ≡ reading options o →
     ReadsSpan options bytes (further_of l) o ((leaf l).comes options NoLeaf is.rest) row gs last →
-    read bytes start (groups_events bytes gs) ≡ last
+    read bytes start (groups_events options bytes gs) ≡ last
 starts-read options bytes l o row gs last ends is begins none a front start text same spans =
     let whole : List Event = span_done bytes row spans.rows in
     let tail : List Event = span_tail row spans.rows in
-    ap (λ (gs : List Group). read bytes start (groups_events bytes gs)) spans.groups_are
+    ap (λ (gs : List Group). read bytes start (groups_events options bytes gs)) spans.groups_are
     ∙ ap (read bytes start)
-    (append_assoc (row.front ++ whole) tail (groups_events bytes spans.below)
-    ∙ append_assoc row.front whole (tail ++ groups_events bytes spans.below))
+    (append_assoc (row.front ++ whole) tail (groups_events options bytes spans.below)
+    ∙ append_assoc row.front whole (tail ++ groups_events options bytes spans.below))
     ∙ read-from bytes start (enters row.change.opens start) row.front
-    (whole ++ (tail ++ groups_events bytes spans.below))
+    (whole ++ (tail ++ groups_events options bytes spans.below))
     (read-fronts bytes row.change.opens a row.first row.front start front text)
     ∙ begun-reads options bytes l o row gs last ends is begins none (enters row.change.opens start) same spans

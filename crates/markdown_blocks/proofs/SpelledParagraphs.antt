@@ -52,7 +52,7 @@ fronts-between bytes opens p q es (Begins c many a b d xs ys opening more) none 
 -- Texts.
 
 -- what stands in front of a line that goes on leaves whitespace alone
-collects-fronts : (bytes : List ℕ) (opens : List Container) (p q : Point) (es ys : List Event) (end : ℕ)
+pub collects-fronts : (bytes : List ℕ) (opens : List Container) (p q : Point) (es ys : List Event) (end : ℕ)
     (all : List ℕ) →
     LinePrefix bytes opens p q es → opens ≡ [] → Collects bytes ys (byte_at q) end all →
     (white : List ℕ) × (is_blank white ≡ true) × Collects bytes (es ++ ys) (byte_at p) end (white ++ all)
@@ -71,9 +71,9 @@ collects-fronts bytes opens p q es ys end all (Begins container many a b d xs zs
 -- Lines.
 
 -- a line is filled, and has no ending
-record IsFilled (line : List ℕ) : Type 0 where
-  no_ending : NoEnding line
-  filled : is_blank line ≡ false
+pub record IsFilled (line : List ℕ) : Type 0 where
+  pub no_ending : NoEnding line
+  pub filled : is_blank line ≡ false
 
 -- the bytes of a line of text stand behind the byte at which it begins
 line-bytes : (options : ParseOptions) (bytes line : List ℕ) (row : Row) → (is : f.IsRow options bytes line row) →
@@ -104,7 +104,7 @@ line-bytes options bytes line row is =
           omega arith,
         )
 
-text-filled : (options : ParseOptions) (bytes line : List ℕ) (row : Row) → (is : f.IsRow options bytes line row) →
+pub text-filled : (options : ParseOptions) (bytes line : List ℕ) (row : Row) → (is : f.IsRow options bytes line row) →
     row.kind ≡ TextRow → IsFilled is.rest.bytes
 text-filled options bytes line row is text = record {
   no_ending = go is.rest.spaces (subst NoEnding is.line_is is.no_ending);
@@ -121,7 +121,7 @@ text-filled options bytes line row is text = record {
     by false o h = refl
 
 -- bytes in front of the first line
-abbrev onto_line : List ℕ → List (List ℕ) → List (List ℕ)
+abbrev pub onto_line : List ℕ → List (List ℕ) → List (List ℕ)
 onto_line white [] = []
 onto_line white (line ∷ lines) = (white ++ line) ∷ lines
 
@@ -132,7 +132,7 @@ white-no_ending (b ∷ white) line h none =
     let here = parts.0 in
     (grind (arith, nat_tests), white-no_ending white line parts.1 none)
 
-of-white : (white : List ℕ) (own : List (List ℕ)) (all : List ℕ) → is_blank white ≡ true → IsOfLines own all →
+pub of-white : (white : List ℕ) (own : List (List ℕ)) (all : List ℕ) → is_blank white ≡ true → IsOfLines own all →
     IsOfLines (onto_line white own) (white ++ all)
 of-white white [] all blank is = is
 of-white white (line ∷ []) all blank is = (white-no_ending white line blank is.0, ap (λ (l : List ℕ). white ++ l) is.1)
@@ -148,7 +148,7 @@ of-white white (line ∷ next ∷ lines) all blank is = (
   ),
 )
 
-trim-onto : (white : List ℕ) (own : List (List ℕ)) → is_blank white ≡ true →
+pub trim-onto : (white : List ℕ) (own : List (List ℕ)) → is_blank white ≡ true →
     trim_each (onto_line white own) ≡ trim_each own
 trim-onto white [] blank = refl
 trim-onto white (line ∷ lines) blank = ap (λ (l : List ℕ). l ∷ trim_each lines) (trim-blank white line blank)
@@ -158,19 +158,19 @@ begins-line : (line more : List ℕ) → IsFilled line → begins_with 10 (line 
 begins-line [] more is = let bad = is.filled in cc
 begins-line (b ∷ line) more is = let none = is.no_ending.0 in grind (arith, nat_tests)
 
-begins-white : (white all : List ℕ) → is_blank white ≡ true → begins_with 10 all ≡ false →
+pub begins-white : (white all : List ℕ) → is_blank white ≡ true → begins_with 10 all ≡ false →
     begins_with 10 (white ++ all) ≡ false
 begins-white [] all blank h = h
 begins-white (b ∷ white) all blank h =
     let here = (and_parts (is_white b) (is_blank white) blank).0 in grind (arith, nat_tests)
 
-ends-before : (ending : Ending) (rest : List ℕ) → begins_with 10 rest ≡ false → EndsBefore ending rest
+pub ends-before : (ending : Ending) (rest : List ℕ) → begins_with 10 rest ≡ false → EndsBefore ending rest
 ends-before LineFeed rest h = tt
 ends-before Return rest h = h
 ends-before Both rest h = tt
 
 -- a line, its ending, and further lines
-lines-more : (line : List ℕ) (own : List (List ℕ)) (text : List ℕ) (ending : Ending) (rest : List ℕ) → NoEnding line →
+pub lines-more : (line : List ℕ) (own : List (List ℕ)) (text : List ℕ) (ending : Ending) (rest : List ℕ) → NoEnding line →
     EndsBefore ending rest → text ≡ line ++ ending_bytes ending ++ rest → IsOfLines own rest →
     IsOfLines (line ∷ own) text
 lines-more line [] text ending rest none before is own = absurd own

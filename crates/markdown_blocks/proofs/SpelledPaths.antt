@@ -5,7 +5,7 @@ use Rattle.std.proofs.Common.{length, map, refl, ap, sym, ◌∙◌, append_asso
 use Rattle.std.specs.Prelude.{None}
 use Rattle.md_engine.specs.declared.configuration.ParseOptions.{ParseOptions}
 use Rattle.md_definition.specs.Rest.{Rest}
-use Rattle.md_seam.specs.Events.Spelled.{Around, Reading, Shape, add_block, left}
+use Rattle.md_seam.specs.Events.Spelled.{Around, Reading, Shape, left}
 use Rattle.md_definition.specs.State.{At, Container, Kept, Leaf, NoLeaf, Path, Spot, Within, closed, shut, spot}
 use Rattle.md_definition.specs.State.{texts, then_block, then_leaf}
 use Rattle.md_definition.specs.Step.{spot_of}
@@ -13,7 +13,6 @@ use Rattle.md_definition.specs.Tree.{Block, Blocks, End}
 use Rattle.markdown_blocks.specs.Registry.{shape_of, text_leaf}
 use Rattle.markdown_blocks.specs.Fed.{close_containers}
 use Rattle.markdown_blocks.specs.Fronted.{Contained}
-use Rattle.markdown_blocks.specs.Parsed.{IsBuilt}
 use Rattle.markdown_blocks.specs.Rows.{RowKind}
 use Rattle.markdown_blocks.specs.Rows.{line_kind}
 use Rattle.markdown_blocks.specs.Stands.{around_of, containers_of, final_on, outer_on}
@@ -224,11 +223,11 @@ longer-longer (At s) xs ys =
     ap (λ (l : List Kept). At (record { here = s.here; leaf = text_leaf.held l })) (append_assoc (held_of s.leaf) xs ys)
 longer-longer (Within before container p) xs ys = ap (Within before container) (longer-longer p xs ys)
 
-pub reading-longer : (options : ParseOptions) (p : Path) (k : Kept) (ks : List Kept) → IsBuilt options →
-    (spot p).leaf ≡ NoLeaf →
-    reading options (longer p (k ∷ ks)) ≡ add_block (text_leaf.block (texts (k ∷ ks))) (reading options p)
-reading-longer options p k ks built none =
-    ap (reading options) (longer-with p (k ∷ ks) none)
-    ∙ reading-with options p (λ bs. record { here = bs; leaf = text_leaf.held (k ∷ ks) }) none
+pub reading-longer : (options : ParseOptions) (p : Path) (lines : List Kept) → (spot p).leaf ≡ NoLeaf →
+    reading options (longer p lines) ≡
+    record (reading options p) { here = text_leaf.behind options (reading options p).here (texts lines) }
+reading-longer options p lines none =
+    ap (reading options) (longer-with p lines none)
+    ∙ reading-with options p (λ bs. record { here = bs; leaf = text_leaf.held lines }) none
     ∙ ap (λ (bs : Blocks). record (reading options p) { here = bs })
-    (text-laws.shut options (reading options p).here (k ∷ ks) built.definition)
+    (text-laws.shut options (reading options p).here lines)

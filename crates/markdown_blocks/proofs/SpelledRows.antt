@@ -11,7 +11,7 @@ use Rattle.md_definition.specs.Leaves.{Finished, Opened}
 use Rattle.markdown_blocks.specs.HeldLeaf.{may_go_on}
 use Rattle.markdown_blocks.specs.Registry.{further_of}
 use Rattle.markdown_blocks.specs.Rows.{group_done, is_further, is_last, onto_span, turned_done}
-use Rattle.markdown_blocks.proofs.GroupsAre.{line-begins, line-of}
+use Rattle.markdown_blocks.proofs.GroupsAre.{AreLines, line-begins, line-of}
 use Rattle.markdown_blocks.proofs.LineSteps.{come_by, renewed-spot, with_came}
 use Rattle.markdown_blocks.proofs.OpenSpan.{TurnsText}
 use Rattle.markdown_blocks.proofs.Registry.{text-turns}
@@ -59,7 +59,10 @@ use Rattle.markdown_blocks.proofs.Registry.{laws}
 use Rattle.markdown_blocks.proofs.RowFacts as f
 use Rattle.markdown_blocks.proofs.LeafFacts.{shown}
 use Rattle.markdown_blocks.proofs.RowLeaf.{block_of, row-facts}
-use Rattle.markdown_blocks.proofs.SpelledParagraphs.{IsRead, read-lines}
+use Rattle.markdown_blocks.proofs.SpelledParagraphs.{IsRead}
+use Rattle.markdown_blocks.proofs.Text.Facts as own
+use Rattle.markdown_blocks.proofs.Text.Facts.{kept-of}
+use Rattle.markdown_blocks.proofs.Text.Reads.{text-read}
 use Rattle.markdown_blocks.proofs.PrefixFacts.{begins}
 use Rattle.markdown_blocks.proofs.Turned.Reads.{read-turned}
 use Rattle.markdown_blocks.proofs.UnderNames.{further-text}
@@ -77,12 +80,13 @@ use Rattle.markdown_blocks.proofs.SpelledGroups.{starts-alike, starts-lines, sti
 -- The lines of a text, with the one that turns it if one does.
 
 -- their events
-text-parts : (bytes : List ℕ) (row : Row) (rows : List Row) (turn : Option Row) (gs : List Group) →
-    groups_events bytes (text_group turn row rows ∷ gs) ≡
-    (row.front ++ group_done bytes (text_group turn row rows) ++ text_tail (last_row row rows) turn)
-    ++ groups_events bytes gs
-text-parts bytes row rows None gs = refl
-text-parts bytes row rows (Some under) gs = refl
+text-parts : (options : ParseOptions) (bytes : List ℕ) (row : Row) (rows : List Row) (turn : Option Row)
+    (gs : List Group) →
+    groups_events options bytes (text_group turn row rows ∷ gs) ≡
+    (row.front ++ group_done options bytes (text_group turn row rows) ++ text_tail (last_row row rows) turn)
+    ++ groups_events options bytes gs
+text-parts options bytes row rows None gs = refl
+text-parts options bytes row rows (Some under) gs = refl
 
 -- one that turns a text is read as what the text comes to with it
 turned-reads : (bytes : List ℕ) (options : ParseOptions) (row : Row) (rows : List Row) (under : Row) (lines : List Kept)
@@ -122,18 +126,20 @@ reading-turned options o lines r l turns none =
     block = turn_leaf.block (texts lines) r
 
 -- so all of it is read as what it comes to
-text-whole : (options : ParseOptions) (bytes : List ℕ) (o : Path) (row : Row) (rows : List Row) (turn : Option Row)
-    (first : Kept) (lines : List Kept) → IsBuilt options → (spot o).leaf ≡ NoLeaf →
-    IsRead bytes row rows (first ∷ lines) → (turned : IsTurned options bytes (last_row row rows) turn) →
-    read bytes (reading options o) (group_done bytes (text_group turn row rows)) ≡
-    reading options (text_path options bytes (last_row row rows) turn turned (longer o (first ∷ lines)))
-text-whole options bytes o row rows None first lines built none are turned =
-    read-lines bytes row rows (first ∷ lines) (reading options o) are refl
-    ∙ sym (reading-longer options o first lines built none)
-text-whole options bytes o row rows (Some under) first lines built none are turned =
-    turned-reads bytes options row rows under (first ∷ lines) (reading options o) are turned refl refl
-    ∙ sym
-    (reading-turned options o (first ∷ lines) turned.is.rest turned.name (text-turns turned.name turned.further) none)
+text-whole : (options : ParseOptions) (bytes : List ℕ) (o : Path) (row : Row) (rows : List Row) (turn : Option Row) →
+    (spot o).leaf ≡ NoLeaf → (are : AreLines options bytes row rows) →
+    (turned : IsTurned options bytes (last_row row rows) turn) →
+    read bytes (reading options o) (group_done options bytes (text_group turn row rows)) ≡
+    reading options
+    (text_path options bytes (last_row row rows) turn turned (longer o (kept-of options bytes row rows are)))
+text-whole options bytes o row rows None none are turned =
+    text-read options bytes row rows are (reading options o) refl refl
+    ∙ sym (reading-longer options o (kept-of options bytes row rows are) none)
+text-whole options bytes o row rows (Some under) none are turned =
+    let lines : List Kept = kept-of options bytes row rows are in
+    turned-reads bytes options row rows under lines (reading options o) (own.lines-read options bytes row rows are)
+    turned refl refl
+    ∙ sym (reading-turned options o lines turned.is.rest turned.name (text-turns turned.name turned.further) none)
 
 -- One line, and what follows.
 
@@ -222,20 +228,20 @@ row-means options bytes p a line row gs last over built plain is in_text follows
         let text = close_containers-between (length row.change.closes) (reading options p) refl refl in
         let reads = starts.reads in
         let final : Row = last_row row starts.rows in
-        let whole : List Event = group_done bytes (text_group starts.turn row starts.rows) in
+        let whole : List Event = group_done options bytes (text_group starts.turn row starts.rows) in
         let tail : List Event = text_tail final starts.turn in
         let new : Reading = reading options
-        (text_path options bytes final starts.turn reads.turned (longer o (reads.first ∷ reads.lines))) in
-        ap (λ (l : List Group). read bytes start (groups_events bytes l)) starts.groups_are
+        (text_path options bytes final starts.turn reads.turned
+        (longer o (kept-of options bytes row starts.rows reads.are))) in
+        ap (λ (l : List Group). read bytes start (groups_events options bytes l)) starts.groups_are
         ∙ ap (read bytes start)
-        (text-parts bytes row starts.rows starts.turn starts.below
-        ∙ append_assoc (row.front ++ whole) tail (groups_events bytes starts.below))
-        ∙ read-from bytes start new (row.front ++ whole) (tail ++ groups_events bytes starts.below)
+        (text-parts options bytes row starts.rows starts.turn starts.below
+        ∙ append_assoc (row.front ++ whole) tail (groups_events options bytes starts.below))
+        ∙ read-from bytes start new (row.front ++ whole) (tail ++ groups_events options bytes starts.below)
         (read-from bytes start begin row.front whole
         (read-fronts bytes row.change.opens a row.first row.front start is.front text.0)
         ∙ ap (λ (x : Reading). read bytes x whole) (read-open options p c row shapes is.change)
-        ∙ text-whole options bytes o row starts.rows starts.turn reads.first reads.lines built none reads.are
-        reads.turned)
+        ∙ text-whole options bytes o row starts.rows starts.turn none reads.are reads.turned)
         ∙ reads.behind
 
     -- a line of a leaf
@@ -544,6 +550,7 @@ follows-below options bytes p row below gs q line last built plain lazily still 
       leaves = leaves ∙ ap (λ (x : Change). x.closes) is.change ∙ contained-lazy options p (rest_from q line) goes;
       opens = none;
       after = q;
+      after_is = after;
       ending = ending;
       fronts = subst (λ (cs : List Container). LinePrefix bytes cs q below.first below.front) none is.front;
     }))
@@ -583,7 +590,7 @@ follows-below options bytes p row below gs q line last built plain lazily still 
           ap
           (λ (cs : List Container).
           read bytes (close_containers (length cs) (reading options p))
-          (groups_events bytes (onto_groups below below.kind gs))) leaves
+          (groups_events options bytes (onto_groups below below.kind gs))) leaves
           ∙ means;
     })
 
@@ -709,7 +716,7 @@ all-leave options bytes a p lines rows built plain are = absurd are
 pub lines-read : (options : ParseOptions) (bytes : List ℕ) (p : Point) (n : ℕ) (lines : List (List ℕ))
     (rows : List Row) →
     IsBuilt options → f.AreRows options bytes [] held_leaf.None p lines rows →
-    read bytes unread (groups_events bytes (groups (take n rows))) ≡
+    read bytes unread (groups_events options bytes (groups (take n rows))) ≡
     close_containers (length (last_leaves (take n rows)))
     (reading options (steps_over options (At (spot_of End)) (take n (told (rests_from p lines)))))
 lines-read options bytes p zero lines rows built are = refl
@@ -725,7 +732,7 @@ lines-read options bytes p (suc n) lines rows built are =
 
     go : (ls : List (List ℕ)) (rs : List Row) → First options bytes [] held_leaf.None p ls rs →
         LinesMean options bytes (At (spot_of End)) p n (rests_from p lines) rs →
-        read bytes unread (groups_events bytes (groups (take (suc n) rs))) ≡
+        read bytes unread (groups_events options bytes (groups (take (suc n) rs))) ≡
         close_containers (length (last_leaves (take (suc n) rs)))
         (reading options (steps_over options (At (spot_of End)) (take (suc n) (told (rests_from p lines)))))
     go (line ∷ ls) (row ∷ rs) is means =
@@ -734,7 +741,7 @@ lines-read options bytes p (suc n) lines rows built are =
         ∙ none c.change.stays c.change.closes (contained-shapes options [] held_leaf.None (rest_from p line)) in
         ap
         (λ (cs : List Container).
-        read bytes (close_containers (length cs) unread) (groups_events bytes (groups (row ∷ take n rs))))
+        read bytes (close_containers (length cs) unread) (groups_events options bytes (groups (row ∷ take n rs))))
         (sym first)
         ∙ subst (λ (x : Bool). Means options bytes (At (spot_of End)) p false x row (groups (row ∷ take n rs))
         (close_containers (length (last_leaves (row ∷ take n rs)))
@@ -746,13 +753,13 @@ lines-read options bytes p (suc n) lines rows built are =
 -- The events of a text are read as what its lines come to, with all of it closed.
 rows-final : (options : ParseOptions) (bytes : List ℕ) (p : Point) (lines : List (List ℕ)) (rows : List Row) →
     IsBuilt options → f.AreRows options bytes [] held_leaf.None p lines rows →
-    read bytes unread (groups_events bytes (groups rows)) ≡
+    read bytes unread (groups_events options bytes (groups rows)) ≡
     final options (steps_over options (At (spot_of End)) (told (rests_from p lines)))
 rows-final options bytes p lines rows built are =
     let rests : List Told = told (rests_from p lines) in
     let start : Path = At (spot_of End) in
     let n : ℕ = length rows + length rests in
-    ap (λ (rs : List Row). read bytes unread (groups_events bytes (groups rs))) (sym (take_all n rows (omega arith)))
+    ap (λ (rs : List Row). read bytes unread (groups_events options bytes (groups rs))) (sym (take_all n rows (omega arith)))
     ∙ lines-read options bytes p n lines rows built are
     ∙ ap₂
     (λ (rs : List Row) (xs : List Told).
@@ -765,8 +772,15 @@ rows-final options bytes p lines rows built are =
 -- So they spell it.
 pub spelled-rows : (options : ParseOptions) (bytes : List ℕ) (p : Point) (lines : List (List ℕ)) (rows : List Row) →
     IsBuilt options → f.AreRows options bytes [] held_leaf.None p lines rows →
-    spelled (groups_events bytes (groups rows)) bytes ≡
+    spelled (groups_events options bytes (groups rows)) bytes ≡
     closed options (steps_over options (At (spot_of End)) (told (rests_from p lines)))
 unfolding spelled
 spelled-rows options bytes p lines rows built are =
     ap (λ (r : Reading). r.here) (rows-final options bytes p lines rows built are)
+
+-- with nothing left open around it
+pub rows-outer : (options : ParseOptions) (bytes : List ℕ) (p : Point) (lines : List (List ℕ)) (rows : List Row) →
+    IsBuilt options → f.AreRows options bytes [] held_leaf.None p lines rows →
+    (read bytes unread (groups_events options bytes (groups rows))).outer ≡ []
+rows-outer options bytes p lines rows built are =
+    ap (λ (r : Reading). r.outer) (rows-final options bytes p lines rows built are)

@@ -85,18 +85,19 @@ stand-through bytes from to xs ys h k =
     stand-append bytes from xs ys h.stand (subst (λ (site : Site). ItemsStand bytes site ys) (sym h.behind) k)
 
 -- those of groups
-abbrev GroupsStand : List ℕ → List Name → Point → List Group → Type 0
-GroupsStand bytes names p gs = ItemsStand bytes (under names) (groups_events bytes gs)
+abbrev GroupsStand : ParseOptions → List ℕ → List Name → Point → List Group → Type 0
+GroupsStand options bytes names p gs = ItemsStand bytes (under names) (groups_events options bytes gs)
 
 -- a group in front of others
-group-stands : (bytes : List ℕ) (names kept : List Name) (p : Point) (group : Group) (gs : List Group) →
-    Ordered bytes p group → Keeps names group kept → GroupsStand bytes kept p gs →
-    GroupsStand bytes names p (group ∷ gs)
-group-stands bytes names kept p group gs o keeps on =
+group-stands : (options : ParseOptions) (bytes : List ℕ) (names kept : List Name) (p : Point) (group : Group)
+    (gs : List Group) →
+    Ordered options bytes p group → Keeps names group kept → GroupsStand options bytes kept p gs →
+    GroupsStand options bytes names p (group ∷ gs)
+group-stands options bytes names kept p group gs o keeps on =
     subst (ItemsStand bytes (under names)) (sym apart)
     (stand-through bytes (under names) (under all) row.front (leaf ++ (ends ++ (ending ++ events)))
     (fronts-stand bytes row.change.opens names p row.first row.front o.front)
-    (stand-through bytes (under all) (under all) leaf (ends ++ (ending ++ events)) (o.leaf.2.stands (items_of all))
+    (stand-through bytes (under all) (under all) leaf (ends ++ (ending ++ events)) (o.leaf.1.stands (items_of all))
     (stand-through bytes (under all) (under kept) ends (ending ++ events)
     (subst (λ (l : List Name). StandsTo bytes (under l) (under kept) ends) (sym keeps)
     (ends-stand bytes last.leaves kept last.end))
@@ -113,7 +114,7 @@ group-stands bytes names kept p group gs o keeps on =
     all = open_names row.change.opens ++ names
 
     leaf : List Event
-    leaf = group_done bytes group
+    leaf = group_done options bytes group
 
     ends : List Event
     ends = ends_of last.leaves last.end
@@ -122,22 +123,23 @@ group-stands bytes names kept p group gs o keeps on =
     ending = ending_events (group_ending group) last
 
     events : List Event
-    events = groups_events bytes gs
+    events = groups_events options bytes gs
 
     apart : (row.front ++ leaf ++ (ends ++ ending)) ++ events ≡ row.front ++ (leaf ++ (ends ++ (ending ++ events)))
     apart = simp append_assoc
 
-stands-by_groups : (bytes : List ℕ) → ByGroups bytes (GroupsStand bytes)
-stands-by_groups bytes = record {
+stands-by_groups : (options : ParseOptions) (bytes : List ℕ) → ByGroups options bytes (GroupsStand options bytes)
+stands-by_groups options bytes = record {
   none = λ p. tt;
-  group = λ names kept p group gs o keeps on. group-stands bytes names kept p group gs o keeps on;
+  group = λ names kept p group gs o keeps on. group-stands options bytes names kept p group gs o keeps on;
 }
 
 -- The events of a text, with its mark.
 pub events-stand : (options : ParseOptions) (bytes : List ℕ) (lines : List (List ℕ)) (rows : List Row) →
     AreRows options bytes [] held_leaf.None (body_point bytes) lines rows →
-    ItemsStand bytes root (mark_events bytes ++ groups_events bytes (groups rows))
+    ItemsStand bytes root (mark_events bytes ++ groups_events options bytes (groups rows))
 events-stand options bytes lines rows are =
-    stand-through bytes root root (mark_events bytes) (groups_events bytes (groups rows))
+    stand-through bytes root root (mark_events bytes) (groups_events options bytes (groups rows))
     (between-stand bytes [] (mark_events bytes) (mark-between bytes))
-    (rows-hold bytes (GroupsStand bytes) (stands-by_groups bytes) options (body_point bytes) lines rows are)
+    (rows-hold options bytes (GroupsStand options bytes) (stands-by_groups options bytes) (body_point bytes)
+    lines rows are)

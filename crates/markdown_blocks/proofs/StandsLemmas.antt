@@ -99,7 +99,7 @@ pub flags-stand : (options : ParseOptions) (bytes : List ℕ) (p : Point) (n : �
     let path : Path = steps options (At (spot_of End)) (take n (rests_from p lines)) in
     AreOpen g.containers (containers_of path) → g.leaf ≡ still_of path →
     (r : Reading) × StandsFor options g r path ×
-    (read bytes unread (groups_events bytes (groups (take n rows))) ≡
+    (read bytes unread (groups_events options bytes (groups (take n rows))) ≡
     close_containers (length (last_leaves (take n rows))) r)
 flags-stand options bytes p n lines rows g built are further containers still =
     let path : Path = steps options (At (spot_of End)) (take n (rests_from p lines)) in (

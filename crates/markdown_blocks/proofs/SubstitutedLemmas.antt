@@ -137,7 +137,7 @@ place wants reads left name link chunk ys out w none s = go (chunks_behind wants
 -- Parts of lines with prefixes between them.
 
 -- over prefixes a part goes on
-prefixes-behind : (wants : Content → Bool) (xs ys : List Event) → ArePrefixes xs →
+pub prefixes-behind : (wants : Content → Bool) (xs ys : List Event) → ArePrefixes xs →
     chunks_behind wants (xs ++ ys) ≡ chunks_behind wants ys
 prefixes-behind wants [] ys h = refl
 prefixes-behind wants (e ∷ []) [] h = refl
@@ -161,7 +161,7 @@ prefixes-behind wants (e ∷ f ∷ xs) ys h =
     ∙ ap (λ (x : Bool). cond x (chunks_behind wants (f ∷ xs ++ ys)) []) h.0.0
     ∙ prefixes-behind wants (f ∷ xs) ys h.1
 
-prefixes-unwanted : (wants : Content → Bool) (es : List Event) → ArePrefixes es → Unwanted wants es
+pub prefixes-unwanted : (wants : Content → Bool) (es : List Event) → ArePrefixes es → Unwanted wants es
 prefixes-unwanted wants [] h = tt
 prefixes-unwanted wants (e ∷ es) h = (no_link-unwanted wants e h.0.1, prefixes-unwanted wants es h.1)
 

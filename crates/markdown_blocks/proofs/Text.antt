@@ -8,3 +8,9 @@ pub mod Parted
 pub mod Places
 pub mod Pieces
 pub mod Facts
+pub mod Cut
+pub mod Cuts
+pub mod Stands
+pub mod Names
+pub mod Off
+pub mod Reads

@@ -1,21 +1,26 @@
 -- The list law for a text that was read: with `+ ` before its first line and two spaces before each other its tree
--- stands in one item of one list.
+-- stands in one item of one list, and its labels are the same.
 use Rattle.std.proofs.Common.{◌≡◌, ℕ, true, List, [], ap, ◌∙◌, sym}
 use Rattle.md_engine.specs.declared.configuration.ParseOptions.{ParseOptions}
 use Rattle.md_engine.specs.declared.event.Event.{Event}
 use Rattle.md_definition.specs.Ascii.{plus}
+use Rattle.md_definition.specs.Label.{labels}
 use Rattle.md_definition.specs.Lines.{lines_of}
 use Rattle.md_definition.specs.Meaning.{tree}
 use Rattle.md_seam.specs.Events.Spelled.{spelled}
 use Rattle.md_definition.specs.Tree.{Blocks, End, Item, ListOf, More}
 use Rattle.md_definition.specs.Wrapped.{itemised}
-use Rattle.md_definition.proofs.ListLaw.{list-law}
+use Rattle.md_definition.proofs.ListLaw.{list-labels, list-law}
 use Rattle.markdown_blocks.specs.Parsed.{IsBuilt, IsItemable}
 use Rattle.markdown_blocks.proofs.TreeRows.{front-off}
 
 pub text-itemised : (options : ParseOptions) (text : List ℕ) (events : List Event) → IsBuilt options →
     spelled events text ≡ tree options text → options.constructs.list_item ≡ true → IsItemable text →
-    tree options (itemised text) ≡ More (ListOf plus (More (Item plus [] (spelled events text)) End)) End
+    (wraps : tree options (itemised text) ≡ More (ListOf plus (More (Item plus [] (spelled events text)) End)) End)
+    × (labels (tree options (itemised text)) ≡ labels (spelled events text))
 text-itemised options text events built is on may =
-    list-law options text on may.first may.no_tab may.no_mark (front-off options (lines_of text) built.frontmatter)
-    ∙ ap (λ (bs : Blocks). More (ListOf plus (More (Item plus [] bs) End)) End) (sym is)
+    let front = front-off options (lines_of text) built.frontmatter in (
+      list-law options text on may.first may.no_tab may.no_mark front
+          ∙ ap (λ (bs : Blocks). More (ListOf plus (More (Item plus [] bs) End)) End) (sym is),
+      list-labels options text on may.first may.no_tab may.no_mark front ∙ ap labels (sym is),
+    )

@@ -1,6 +1,6 @@
 -- The laws of a leaf of lines of text: what the frame asks of it (`TextLeaf`), beside what is known of its events
 -- (`text-facts`).
-use Rattle.std.proofs.Common.{◌≡◌, ℕ, Bool, true, false, List, ◌∷◌}
+use Rattle.std.proofs.Common.{◌≡◌, ℕ, Bool, true, List, ◌∷◌}
 use Rattle.md_engine.specs.declared.configuration.ParseOptions.{ParseOptions}
 use Rattle.md_engine.specs.declared.event.Event.{Event}
 use Rattle.md_engine.specs.declared.event.Point.{Point}
@@ -22,10 +22,11 @@ pub record TextLaws (t : TextLeaf) : Type 1 where
   pub cases : (P : Leaf → Type 0) → P NoLeaf → ((k : Kept) (ks : List Kept) → P (t.held (k ∷ ks))) →
       ((leaf : Leaf) → IsOpenSpan leaf → P leaf) →
       (leaf : Leaf) → IsBuiltLeaf leaf → P leaf
-  -- Where definitions are off, it is shut as a block of its lines, which an outline can show.
-  pub shut : (options : ParseOptions) (bs : Blocks) (ks : List Kept) → options.constructs.definition ≡ false →
-      then_leaf options bs (t.held ks) ≡ t.behind bs (texts ks)
-  pub shallow : (bs : Blocks) (lines : List (List ℕ)) → are_shallow bs ≡ true → are_shallow (t.behind bs lines) ≡ true
+  -- It is shut as what its lines come to, which an outline can show.
+  pub shut : (options : ParseOptions) (bs : Blocks) (ks : List Kept) →
+      then_leaf options bs (t.held ks) ≡ t.behind options bs (texts ks)
+  pub shallow : (options : ParseOptions) (bs : Blocks) (lines : List (List ℕ)) → are_shallow bs ≡ true →
+      are_shallow (t.behind options bs lines) ≡ true
   -- With what stands between blocks in it, it leaves open what is open where it stands.
   pub stands : (bytes : List ℕ) (held : List Bool) (p q : Point) (inside : List Event) → Roles Between inside →
       StandsTo bytes (among held) (among held) (around t.name p q inside)

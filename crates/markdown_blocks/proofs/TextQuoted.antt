@@ -1,19 +1,25 @@
--- The quote law for a text that was read: with `> ` before each line its tree stands in one block quote.
+-- The quote law for a text that was read: with `> ` before each line its tree stands in one block quote, and its labels are
+-- the same.
 use Rattle.std.proofs.Common.{◌≡◌, ℕ, true, List, ap, ◌∙◌, sym}
 use Rattle.md_engine.specs.declared.configuration.ParseOptions.{ParseOptions}
 use Rattle.md_engine.specs.declared.event.Event.{Event}
+use Rattle.md_definition.specs.Label.{labels}
 use Rattle.md_definition.specs.Lines.{lines_of}
 use Rattle.md_definition.specs.Meaning.{tree}
 use Rattle.md_seam.specs.Events.Spelled.{spelled}
 use Rattle.md_definition.specs.Tree.{Blocks, End, More, Quote}
 use Rattle.md_definition.specs.Wrapped.{quoted}
-use Rattle.md_definition.proofs.QuoteLaw.{quote-law}
+use Rattle.md_definition.proofs.QuoteLaw.{quote-labels, quote-law}
 use Rattle.markdown_blocks.specs.Parsed.{IsBuilt, IsQuotable}
 use Rattle.markdown_blocks.proofs.TreeRows.{front-off}
 
 pub text-quoted : (options : ParseOptions) (text : List ℕ) (events : List Event) → IsBuilt options →
     spelled events text ≡ tree options text → options.constructs.block_quote ≡ true → IsQuotable text →
-    tree options (quoted text) ≡ More (Quote (spelled events text)) End
+    (wraps : tree options (quoted text) ≡ More (Quote (spelled events text)) End)
+    × (labels (tree options (quoted text)) ≡ labels (spelled events text))
 text-quoted options text events built is on may =
-    quote-law options text on may.some may.no_tab may.no_mark (front-off options (lines_of text) built.frontmatter)
-    ∙ ap (λ (bs : Blocks). More (Quote bs) End) (sym is)
+    let front = front-off options (lines_of text) built.frontmatter in (
+      quote-law options text on may.some may.no_tab may.no_mark front
+          ∙ ap (λ (bs : Blocks). More (Quote bs) End) (sym is),
+      quote-labels options text on may.some may.no_tab may.no_mark front ∙ ap labels (sym is),
+    )

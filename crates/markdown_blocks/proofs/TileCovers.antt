@@ -77,20 +77,20 @@ behind_groups p [] = p
 behind_groups p (group ∷ gs) = behind_groups (behind_row (final_row group)) gs
 
 -- their events cover what stands there
-abbrev Laid : List ℕ → List Name → Point → List Group → Type 0
-Laid bytes names p gs = Follows p (behind_groups p gs) (listed_groups bytes gs)
+abbrev Laid : ParseOptions → List ℕ → List Name → Point → List Group → Type 0
+Laid options bytes names p gs = Follows p (behind_groups p gs) (listed_groups options bytes gs)
 
-laid-by_groups : (bytes : List ℕ) → ByGroups bytes (Laid bytes)
-laid-by_groups bytes = record {
+laid-by_groups : (options : ParseOptions) (bytes : List ℕ) → ByGroups options bytes (Laid options bytes)
+laid-by_groups options bytes = record {
   none = λ p. record { ends = refl; covers = same-refl p };
   group =
       λ names kept p group gs o keeps more.
       let row : Row = first_row group in
       let last : Row = final_row group in
-      follows-append p (behind_row last) (behind_groups (behind_row last) gs) (listed_group bytes group)
-      (listed_groups bytes gs)
-      (line-covers (group_ending group) row last p (group_unread bytes group)
-      (fronts-tiled bytes row.change.opens p row.first row.front o.front) o.leaf.2.tiled) more;
+      follows-append p (behind_row last) (behind_groups (behind_row last) gs) (listed_group options bytes group)
+      (listed_groups options bytes gs)
+      (line-covers (group_ending group) row last p (group_unread options bytes group)
+      (fronts-tiled bytes row.change.opens p row.first row.front o.front) o.leaf.1.tiled) more;
 }
 
 -- a line in front of groups ends where they begin
@@ -159,11 +159,11 @@ groups-reach options bytes open_before still p lines rows are = absurd are
 -- So they cover it.
 groups-cover : (options : ParseOptions) (bytes : List ℕ) (p : Point) (lines : List (List ℕ)) (rows : List Row) →
     AreRows options bytes [] held_leaf.None p lines rows →
-    Follows p (end_point bytes) (listed_groups bytes (groups rows))
+    Follows p (end_point bytes) (listed_groups options bytes (groups rows))
 groups-cover options bytes p lines rows are =
-    subst (Follows p (end_point bytes)) (append-nil (listed_groups bytes (groups rows)))
-    (follows-append p (behind_groups p (groups rows)) (end_point bytes) (listed_groups bytes (groups rows)) []
-    (rows-hold bytes (Laid bytes) (laid-by_groups bytes) options p lines rows are)
+    subst (Follows p (end_point bytes)) (append-nil (listed_groups options bytes (groups rows)))
+    (follows-append p (behind_groups p (groups rows)) (end_point bytes) (listed_groups options bytes (groups rows)) []
+    (rows-hold options bytes (Laid options bytes) (laid-by_groups options bytes) p lines rows are)
     (record { ends = refl; covers = groups-reach options bytes [] held_leaf.None p lines rows are }))
 
 -- So do the events of a text with its mark.
@@ -177,9 +177,9 @@ mark-tiled bytes = go (has_mark bytes)
 
 pub blocks-cover : (options : ParseOptions) (bytes : List ℕ) (lines : List (List ℕ)) (rows : List Row) →
     AreRows options bytes [] held_leaf.None (body_point bytes) lines rows →
-    Covers first_point (pieces (mark_events bytes ++ listed_groups bytes (groups rows))) (end_point bytes)
+    Covers first_point (pieces (mark_events bytes ++ listed_groups options bytes (groups rows))) (end_point bytes)
 blocks-cover options bytes lines rows are =
     (follows-append first_point (body_point bytes) (end_point bytes) (mark_events bytes)
-    (listed_groups bytes (groups rows))
+    (listed_groups options bytes (groups rows))
     (follows-tiled first_point (body_point bytes) (mark_events bytes) (mark-tiled bytes))
     (groups-cover options bytes (body_point bytes) lines rows are)).covers

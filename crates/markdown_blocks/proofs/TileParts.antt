@@ -61,19 +61,19 @@ ending-no_part true = refl
 ending-no_part false = refl
 
 stands-groups : (options : ParseOptions) (bytes : List ℕ) (gs : List Group) → AreGroups options bytes gs →
-    Stands bytes (listed_groups bytes gs)
+    Stands bytes (listed_groups options bytes gs)
 stands-groups options bytes [] are = stands-outside bytes [] tt tt
 stands-groups options bytes (group ∷ gs) are =
-    stands-append bytes (listed_group bytes group) (listed_groups bytes gs)
-    (stands-line bytes (group_ending group) (first_row group) (final_row group) (group_unread bytes group)
+    stands-append bytes (listed_group options bytes group) (listed_groups options bytes gs)
+    (stands-line bytes (group_ending group) (first_row group) (final_row group) (group_unread options bytes group)
     (ending-no_part (is_blank_group group)) (group-front options bytes group gs are)
-    (group-leaf options bytes group gs are).2.parts)
+    (group-leaf options bytes group gs are).1.parts)
     (stands-groups options bytes gs (more-groups options bytes group gs are))
 
 rows-stand : (options : ParseOptions) (bytes : List ℕ) (cs : List Container) (still : HeldLeaf) (p : Point)
     (lines : List (List ℕ)) (rows : List Row) →
     may_go_on still ≡ false → AreRows options bytes cs still p lines rows → EachNoContent rows →
-    Stands bytes (listed_groups bytes (groups rows))
+    Stands bytes (listed_groups options bytes (groups rows))
 rows-stand options bytes cs still p lines rows shut are quiet =
     stands-groups options bytes (groups rows) (groups-are options bytes cs still p lines rows shut are quiet)
 
@@ -95,51 +95,52 @@ stands-mark bytes = go (has_mark bytes)
 blocks-both : (options : ParseOptions) (bytes : List ℕ) (cs : List Container) (still : HeldLeaf) (p : Point)
     (lines : List (List ℕ)) (rows : List Row) →
     may_go_on still ≡ false → AreRows options bytes cs still p lines rows → EachNoContent rows →
-    Stands bytes (mark_events bytes ++ listed_groups bytes (groups rows))
+    Stands bytes (mark_events bytes ++ listed_groups options bytes (groups rows))
 blocks-both options bytes cs still p lines rows shut are quiet =
-    stands-append bytes (mark_events bytes) (listed_groups bytes (groups rows)) (stands-mark bytes)
+    stands-append bytes (mark_events bytes) (listed_groups options bytes (groups rows)) (stands-mark bytes)
     (rows-stand options bytes cs still p lines rows shut are quiet)
 
 pub blocks-stand : (options : ParseOptions) (bytes : List ℕ) (cs : List Container) (still : HeldLeaf) (p : Point)
     (lines : List (List ℕ)) (rows : List Row) →
     may_go_on still ≡ false → AreRows options bytes cs still p lines rows → EachNoContent rows →
-    parts_stand bytes (mark_events bytes ++ listed_groups bytes (groups rows)) ≡ true
+    parts_stand bytes (mark_events bytes ++ listed_groups options bytes (groups rows)) ≡ true
 blocks-stand options bytes cs still p lines rows shut are quiet =
-    all-stand bytes (mark_events bytes ++ listed_groups bytes (groups rows))
+    all-stand bytes (mark_events bytes ++ listed_groups options bytes (groups rows))
     (blocks-both options bytes cs still p lines rows shut are quiet)
 
 pub blocks-chunks : (options : ParseOptions) (bytes : List ℕ) (cs : List Container) (still : HeldLeaf) (p : Point)
     (lines : List (List ℕ)) (rows : List Row) →
     may_go_on still ≡ false → AreRows options bytes cs still p lines rows → EachNoContent rows →
-    chunks_stand 0 (mark_events bytes ++ listed_groups bytes (groups rows)) ≡ true
+    chunks_stand 0 (mark_events bytes ++ listed_groups options bytes (groups rows)) ≡ true
 blocks-chunks options bytes cs still p lines rows shut are quiet =
-    all-chunks bytes (mark_events bytes ++ listed_groups bytes (groups rows))
+    all-chunks bytes (mark_events bytes ++ listed_groups options bytes (groups rows))
     (blocks-both options bytes cs still p lines rows shut are quiet)
 
 -- Their events nest.
 
 -- these names are open in front of groups
-abbrev Listed : List ℕ → List Name → Point → List Group → Type 0
-Listed bytes names p gs = Under names p (listed_groups bytes gs)
+abbrev Listed : ParseOptions → List ℕ → List Name → Point → List Group → Type 0
+Listed options bytes names p gs = Under names p (listed_groups options bytes gs)
 
-listed-by_groups : (bytes : List ℕ) → ByGroups bytes (Listed bytes)
-listed-by_groups bytes = record {
+listed-by_groups : (options : ParseOptions) (bytes : List ℕ) → ByGroups options bytes (Listed options bytes)
+listed-by_groups options bytes = record {
   none = λ p. record { matches = tt; closed = refl; forward = tt };
   group =
-      λ names kept p group gs o keeps on. under-group bytes names kept p group (group_unread bytes group)
-      (listed_groups bytes gs) o keeps o.leaf.2.unread_nested on;
+      λ names kept p group gs o keeps on. under-group options bytes names kept p group
+      (group_unread options bytes group)
+      (listed_groups options bytes gs) o keeps o.leaf.1.unread_nested on;
 }
 
 listed-nest : (options : ParseOptions) (bytes : List ℕ) (p : Point) (lines : List (List ℕ)) (rows : List Row) →
-    AreRows options bytes [] held_leaf.None p lines rows → Onward p (listed_groups bytes (groups rows))
+    AreRows options bytes [] held_leaf.None p lines rows → Onward p (listed_groups options bytes (groups rows))
 listed-nest options bytes p lines rows are =
-    under-none p (listed_groups bytes (groups rows))
-    (rows-hold bytes (Listed bytes) (listed-by_groups bytes) options p lines rows are)
+    under-none p (listed_groups options bytes (groups rows))
+    (rows-hold options bytes (Listed options bytes) (listed-by_groups options bytes) p lines rows are)
 
 pub blocks-nested : (options : ParseOptions) (bytes : List ℕ) (lines : List (List ℕ)) (rows : List Row) →
     AreRows options bytes [] held_leaf.None (body_point bytes) lines rows →
-    Nested (mark_events bytes ++ listed_groups bytes (groups rows))
+    Nested (mark_events bytes ++ listed_groups options bytes (groups rows))
 blocks-nested options bytes lines rows are =
-    let nests : Onward (body_point bytes) (listed_groups bytes (groups rows)) = listed-nest options bytes
+    let nests : Onward (body_point bytes) (listed_groups options bytes (groups rows)) = listed-nest options bytes
     (body_point bytes) lines rows are in
-    mark-nested bytes (listed_groups bytes (groups rows)) nests.balanced nests.forward
+    mark-nested bytes (listed_groups options bytes (groups rows)) nests.balanced nests.forward

@@ -87,14 +87,15 @@ fill-line bytes name row last xs zs other front h =
 -- Texts.
 
 fill-groups : (options : ParseOptions) (bytes : List ℕ) (gs : List Group) → AreGroups options bytes gs →
-    Fill bytes (listed_groups bytes gs) (groups_events bytes gs)
+    Fill bytes (listed_groups options bytes gs) (groups_events options bytes gs)
 fill-groups options bytes [] are = fill-same bytes [] tt tt
 fill-groups options bytes (group ∷ gs) are =
-    fill-append bytes (listed_group bytes group) (group_events bytes group) (listed_groups bytes gs)
-    (groups_events bytes gs)
-    (fill-line bytes (group_ending group) (first_row group) (final_row group) (group_unread bytes group)
-    (group_done bytes group) (ending-no_part (is_blank_group group)) (group-front options bytes group gs are)
-    (group-leaf options bytes group gs are).2.filled)
+    fill-append bytes (listed_group options bytes group) (group_events options bytes group)
+    (listed_groups options bytes gs)
+    (groups_events options bytes gs)
+    (fill-line bytes (group_ending group) (first_row group) (final_row group) (group_unread options bytes group)
+    (group_done options bytes group) (ending-no_part (is_blank_group group)) (group-front options bytes group gs are)
+    (group-leaf options bytes group gs are).1.filled)
     (fill-groups options bytes gs (more-groups options bytes group gs are))
 
 fill-mark : (bytes : List ℕ) → Fill bytes (mark_events bytes) (mark_events bytes)
@@ -109,20 +110,21 @@ fill-mark bytes = go (has_mark bytes)
 pub blocks-filled : (options : ParseOptions) (bytes : List ℕ) (open_before : List Container) (still : HeldLeaf)
     (p : Point) (lines : List (List ℕ)) (rows : List Row) →
     may_go_on still ≡ false → AreRows options bytes open_before still p lines rows → EachNoContent rows →
-    IsFilled bytes (mark_events bytes ++ listed_groups bytes (groups rows))
-    (mark_events bytes ++ groups_events bytes (groups rows))
+    IsFilled bytes (mark_events bytes ++ listed_groups options bytes (groups rows))
+    (mark_events bytes ++ groups_events options bytes (groups rows))
 blocks-filled options bytes open_before still p lines rows shut are quiet =
     let mark : List Event = mark_events bytes in
-    fill-all bytes (mark ++ listed_groups bytes (groups rows)) (mark ++ groups_events bytes (groups rows))
-    (fill-append bytes mark mark (listed_groups bytes (groups rows)) (groups_events bytes (groups rows))
+    fill-all bytes (mark ++ listed_groups options bytes (groups rows))
+    (mark ++ groups_events options bytes (groups rows))
+    (fill-append bytes mark mark (listed_groups options bytes (groups rows)) (groups_events options bytes (groups rows))
     (fill-mark bytes)
     (fill-groups options bytes (groups rows) (groups-are options bytes open_before still p lines rows shut are quiet)))
 
 -- So it is with the lines that flow reads.
 pub text-filled : (options : ParseOptions) (bytes : List ℕ) (p : Point) (lines : List (List ℕ)) →
     AreRows options bytes [] held_leaf.None p lines (text_rows options bytes p) →
-    IsFilled bytes (mark_events bytes ++ listed_groups bytes (groups (text_rows options bytes p)))
-    (mark_events bytes ++ groups_events bytes (groups (text_rows options bytes p)))
+    IsFilled bytes (mark_events bytes ++ listed_groups options bytes (groups (text_rows options bytes p)))
+    (mark_events bytes ++ groups_events options bytes (groups (text_rows options bytes p)))
 text-filled options bytes p lines are =
     let cells : List Cell = text_cells bytes options p in
     blocks-filled options bytes [] held_leaf.None p lines (text_rows options bytes p) refl are
@@ -131,12 +133,14 @@ text-filled options bytes p lines are =
 -- The empty text has no events.
 
 empty-none : (options : ParseOptions) →
-    mark_events [] ++ groups_events [] (groups (text_rows options [] (body_point []))) ≡ []
+    mark_events [] ++ groups_events options [] (groups (text_rows options [] (body_point []))) ≡ []
 unfolding text_feed held_at insider shuts_out
 empty-none options = refl
 
 pub groups-empty : (options : ParseOptions) (bytes : List ℕ) → bytes ≡ [] →
-    mark_events bytes ++ groups_events bytes (groups (text_rows options bytes (body_point bytes))) ≡ []
+    mark_events bytes ++ groups_events options bytes (groups (text_rows options bytes (body_point bytes))) ≡ []
 groups-empty options bytes e =
-    subst (λ (l : List ℕ). mark_events l ++ groups_events l (groups (text_rows options l (body_point l))) ≡ []) (sym e)
+    subst
+    (λ (l : List ℕ).
+    mark_events l ++ groups_events options l (groups (text_rows options l (body_point l))) ≡ []) (sym e)
     (empty-none options)

@@ -133,8 +133,8 @@ shallow-shut options s built plain h =
   where
     text : (k : Kept) (ks : List Kept) → are_shallow (then_leaf options s.here (text_leaf.held (k ∷ ks))) ≡ true
     text k ks =
-        subst (λ (bs : Blocks). are_shallow bs ≡ true) (sym (text-laws.shut options s.here (k ∷ ks) built.definition))
-        (text-laws.shallow s.here (texts (k ∷ ks)) h)
+        subst (λ (bs : Blocks). are_shallow bs ≡ true) (sym (text-laws.shut options s.here (k ∷ ks)))
+        (text-laws.shallow options s.here (texts (k ∷ ks)) h)
 
 shallow-closed : (options : ParseOptions) (p : Path) → IsBuilt options → IsPlain p → HoldsShallow p →
     are_shallow (closed options p) ≡ true
@@ -586,7 +586,7 @@ rests-at p (line ∷ lines) = refl
 pub body-rows : (options : ParseOptions) → IsBuilt options → (bytes : List ℕ) (rows : List Row) →
     f.AreRows options bytes [] held_leaf.None (body_point bytes)
     (split_lines (drop (body_point bytes).index bytes)) rows →
-    spelled (groups_events bytes (groups rows)) bytes ≡ body_of options bytes
+    spelled (groups_events options bytes (groups rows)) bytes ≡ body_of options bytes
 body-rows options built bytes rows are =
     let p : Point = body_point bytes in
     let text : List ℕ = without_mark bytes in

@@ -9,31 +9,37 @@ use Rattle.md_engine.specs.declared.event.Name.TheVariants as n
 use Rattle.md_engine.specs.declared.event.Point.{Point}
 use Rattle.md_engine.specs.declared.tokenizer.held_leaf.HeldLeaf.{HeldLeaf}
 use Rattle.md_engine.specs.declared.tokenizer.held_leaf.HeldLeaf.TheVariants as held_leaf
+use Rattle.md_definition.specs.State.{Container}
 use Rattle.md_leaves.specs.Turned.{has_underline, is_underline, turned, underline_behind}
-use Rattle.md_leaves.proofs.TurnedLemmas as turns
 use Rattle.md_leaves.proofs.TurnedLemmas.{Unlined, no-ending, passes-parts, turned-passes, turned-text}
 use Rattle.md_leaves.proofs.TurnedLemmas.{turned-underlined}
+use Rattle.md_leaves.proofs.TurnedLemmas as turns
+use Rattle.md_parts.specs.DefinitionRule.{DefinitionParts}
 use Rattle.md_seam.specs.Events.Nested.{around, enter, exit, is_enter, pair}
-use Rattle.md_seam.specs.Events.Places.{past_text}
+use Rattle.md_seam.specs.Events.Places.{past_text, same_place}
 use Rattle.md_seam.specs.Events.Prefix.{is_prefix}
-use Rattle.md_definition.specs.State.{Container}
+use Rattle.markdown_blocks.specs.BlockList.{lines_unread}
 use Rattle.markdown_blocks.specs.Change.{ends_of}
 use Rattle.markdown_blocks.specs.HeldLeaf.{has_lines, may_go_on, takes_lazy}
 use Rattle.markdown_blocks.specs.LineFlags.{ending_name}
 use Rattle.markdown_blocks.specs.Registry.{LeafName, container_name, leaf, resolved, text_leaf, turn_leaf}
 use Rattle.markdown_blocks.specs.Rows.{BlankRow, Group, LeafRow, Lines, Row, RowKind, Single, Span, TextRow, Turned}
 use Rattle.markdown_blocks.specs.Rows.{blank_line, ending_events, ending_of, groups, is_blank_by, is_further, last_row}
-use Rattle.markdown_blocks.specs.Rows.{leaf_events, leaf_unread, row_events, rows_events}
-use Rattle.markdown_blocks.specs.Rows.{tail_events}
+use Rattle.markdown_blocks.specs.Rows.{leaf_events, leaf_unread, row_events, rows_events, tail_events, defined_unread}
+use Rattle.markdown_blocks.specs.Rows.{text_done}
 use Rattle.markdown_blocks.specs.Unread.{linked_lines, listed_group, listed_row_by, set_groups, text_unread}
 use Rattle.markdown_blocks.specs.Unread.{turned_groups, unread_group, unread_groups, unread_lines}
 use Rattle.markdown_blocks.proofs.ContainerNames.{container-facts}
-use Rattle.markdown_blocks.proofs.EachEvent.{each-append}
+use Rattle.markdown_blocks.proofs.Defined.Form.{Form, form_unread, inside_by, strand_unread, string_unread}
+use Rattle.markdown_blocks.proofs.Defined.Is.{IsDefined}
+use Rattle.markdown_blocks.proofs.EachEvent.{each-append, each-as}
+use Rattle.markdown_blocks.proofs.FrontFacts.{LinePrefix}
 use Rattle.markdown_blocks.proofs.FrontNames.{HasFront, ends-are, ends-first, fronts-are}
+use Rattle.markdown_blocks.proofs.GroupLemmas.{lines-prefixed, under-prefixed}
+use Rattle.markdown_blocks.proofs.GroupsAre.{AreGroups, AreLines, AreSpan, EndsBeforeGroups, IsSingle, IsSpanLine}
+use Rattle.markdown_blocks.proofs.GroupsAre.{IsUnder, further-may, groups-are, line-of, span-begins}
+use Rattle.markdown_blocks.proofs.GroupsSet.{leaves-set}
 use Rattle.markdown_blocks.proofs.HeadingSetext.Line.{underline-unturned, underline_parts}
-use Rattle.markdown_blocks.proofs.GroupLemmas.{leaves-set, lines-prefixed, under-prefixed}
-use Rattle.markdown_blocks.proofs.GroupsAre.{AreGroups, AreLines, AreSpan, EndsBeforeGroups, IsSingle}
-use Rattle.markdown_blocks.proofs.GroupsAre.{IsSpanLine, IsUnder, further-may, groups-are, line-of, span-begins}
 use Rattle.markdown_blocks.proofs.JoinedLemmas.{EachNoContent}
 use Rattle.markdown_blocks.proofs.KindLemmas.{kind-starts}
 use Rattle.markdown_blocks.proofs.PrefixNames.{ArePrefixes, prefixes-front}
@@ -42,7 +48,12 @@ use Rattle.markdown_blocks.proofs.RowFacts.{AreRows}
 use Rattle.markdown_blocks.proofs.Span.Cuts.{ending-is}
 use Rattle.markdown_blocks.proofs.SpanLaws.{IsLineOf}
 use Rattle.markdown_blocks.proofs.SubstitutedLemmas.{EachPrefixed}
-use Rattle.markdown_blocks.proofs.Turned.Under.{under-is}
+use Rattle.markdown_blocks.proofs.Text.Cut.{IsCutText, between}
+use Rattle.markdown_blocks.proofs.Text.Cut.IsCutText.{Defines, Follows, Remains}
+use Rattle.markdown_blocks.proofs.Text.Cuts.{cut-is}
+use Rattle.markdown_blocks.proofs.Text.Names.{IsOfDefinition, between-names, defined-names, unturned-of}
+use Rattle.markdown_blocks.proofs.Text.Off.{unread-off}
+use Rattle.markdown_blocks.proofs.Turned.Under.{under-is, under-off}
 use Rattle.markdown_blocks.proofs.UnturnedFacts.{AreUnturned, IsUnturned, fronts-unturned}
 
 -- Events that pass.
@@ -163,6 +174,17 @@ linked-unturned link row (next ∷ rows) h = (
   ),
 )
 
+-- definitions pass, and what stands between them
+defined-unturned : (bytes : List ℕ) (d : DefinitionParts) (row : Row) (rows : List Row) → IsDefined bytes d row rows →
+    AreUnturned (defined_unread d row rows)
+defined-unturned bytes d row rows is =
+    each-as IsOfDefinition IsUnturned unturned-of (defined_unread d row rows) (defined-names bytes d row rows is)
+
+between-unturned : (bytes : List ℕ) (p q r : Point) (front : List Event) → LinePrefix bytes [] q r front →
+    AreUnturned (between p q front)
+between-unturned bytes p q r front is =
+    each-as IsOfDefinition IsUnturned unturned-of (between p q front) (between-names bytes p q r front is)
+
 -- the line that turns one is an underline
 record IsUnderline (under : Row) : Type 0 where
   end : Point
@@ -188,43 +210,76 @@ under-line options bytes row rows under are is = record {
 
 -- What follows a text.
 
+-- what stands in the place of a text begins with no underline: a definition does not
+form-unlined : (x : Form) (es : List Event) → Unlined (form_unread x ++ es)
+form-unlined x es = go (same_place x.first x.p)
+  where
+    go : (y : Bool) →
+        Unlined
+        ((cond y [] (pair n.SpaceOrTab x.first x.p)
+        ++ around n.Definition x.p x.last (inside_by strand_unread string_unread x))
+        ++ es)
+    go true = refl
+    go false = refl
+
+defined-unlined : (bytes : List ℕ) (d : DefinitionParts) (row : Row) (rows : List Row) (es : List Event) →
+    IsDefined bytes d row rows → Unlined (defined_unread d row rows ++ es)
+defined-unlined bytes d row rows es is =
+    subst (λ (l : List Event). Unlined (l ++ es)) (sym is.unread) (form-unlined is.form es)
+
+-- and no paragraph
+cut-unlined : (options : ParseOptions) (bytes : List ℕ) (row : Row) (rows : List Row) (es fs more : List Event) →
+    IsCutText options bytes row rows es fs → Unlined (es ++ more)
+cut-unlined options bytes row rows es fs more (Remains first below are) = refl
+cut-unlined options bytes row rows es fs more (Defines d first below are is) =
+    defined-unlined bytes d first below more is
+cut-unlined options bytes row rows es fs more
+    (Follows d first own next below q left done are is after ending front rest) =
+    let own_events : List Event = defined_unread d first own in
+    let gap : List Event = between (last_row first own).end q next.front in
+    subst Unlined (sym (append_assoc (own_events ++ gap) left more ∙ append_assoc own_events gap (left ++ more)))
+    (defined-unlined bytes d first own (gap ++ (left ++ more)) is)
+
 -- no group begins with an underline
-text-unlined : (bytes : List ℕ) (row : Row) (rows : List Row) (es : List Event) → HasFront bytes row →
-    Unlined (unread_group (Lines row rows) ++ es)
-text-unlined bytes row rows es front =
-    let text : List Event = text_unread row rows in
+text-unlined : (options : ParseOptions) (bytes : List ℕ) (row : Row) (rows : List Row) (es : List Event) →
+    AreLines options bytes row rows → HasFront bytes row → Unlined (unread_group options bytes (Lines row rows) ++ es)
+text-unlined options bytes row rows es are front =
+    let text : List Event = text_unread options bytes row rows in
     let tail : List Event = tail_events n.LineEnding (last_row row rows) in
     subst Unlined
     (sym (append_assoc (row.front ++ text) tail es ∙ append_assoc row.front text (tail ++ es)))
-    (unlined-passed row.front (text ++ (tail ++ es)) (front-unturned bytes row front) refl)
+    (unlined-passed row.front (text ++ (tail ++ es)) (front-unturned bytes row front)
+    (cut-unlined options bytes row rows text (text_done options bytes row rows) (tail ++ es)
+    (cut-is options bytes row rows are)))
 
 groups-unlined : (options : ParseOptions) (bytes : List ℕ) (gs : List Group) → AreGroups options bytes gs →
-    Unlined (set_groups bytes gs)
+    Unlined (set_groups options bytes gs)
 groups-unlined options bytes [] are = refl
 groups-unlined options bytes (Single row ∷ gs) are =
-    unlined-passed (listed_group bytes (Single row)) (set_groups bytes gs)
+    unlined-passed (listed_group options bytes (Single row)) (set_groups options bytes gs)
     (single-unturned options bytes row are.0 row.kind refl) (groups-unlined options bytes gs are.1)
-groups-unlined options bytes (Lines row rows ∷ gs) are = text-unlined bytes row rows (set_groups bytes gs) are.2
+groups-unlined options bytes (Lines row rows ∷ gs) are =
+    text-unlined options bytes row rows (set_groups options bytes gs) are.0 are.2
 groups-unlined options bytes (Turned row rows under ∷ gs) are =
     subst Unlined
-    (sym (append_assoc (unread_group (Lines row rows)) (row_events under) (set_groups bytes gs)))
-    (text-unlined bytes row rows (row_events under ++ set_groups bytes gs) are.3)
+    (sym (append_assoc (unread_group options bytes (Lines row rows)) (row_events under) (set_groups options bytes gs)))
+    (text-unlined options bytes row rows (row_events under ++ set_groups options bytes gs) are.0 are.3)
 groups-unlined options bytes (Span row rows ∷ gs) are =
-    unlined-passed (rows_events (row ∷ rows)) (set_groups bytes gs)
+    unlined-passed (rows_events (row ∷ rows)) (set_groups options bytes gs)
     (span-unturned options bytes row rows are.0 (λ f. let bad : true ≡ false = sym f ∙ are.4 in cc))
     (groups-unlined options bytes gs are.2)
 
 -- so no underline follows lines of text
-no-underline : (bytes : List ℕ) (row : Row) (gs : List Group) → EndsBeforeGroups row gs →
-    Unlined (set_groups bytes gs) →
-    has_underline (tail_events n.LineEnding row ++ set_groups bytes gs) ≡ false
-no-underline bytes row gs ends none = go row.leaves
+no-underline : (options : ParseOptions) (bytes : List ℕ) (row : Row) (gs : List Group) → EndsBeforeGroups row gs →
+    Unlined (set_groups options bytes gs) →
+    has_underline (tail_events n.LineEnding row ++ set_groups options bytes gs) ≡ false
+no-underline options bytes row gs ends none = go row.leaves
   where
     es : List Event
-    es = set_groups bytes gs
+    es = set_groups options bytes gs
 
-    ending : (gs : List Group) → EndsBeforeGroups row gs → Unlined (set_groups bytes gs) →
-        has_underline (ending_events n.LineEnding row ++ set_groups bytes gs) ≡ false
+    ending : (gs : List Group) → EndsBeforeGroups row gs → Unlined (set_groups options bytes gs) →
+        has_underline (ending_events n.LineEnding row ++ set_groups options bytes gs) ≡ false
     ending [] ends none = last row.after
       where
         last : (after : Option Point) →
@@ -232,7 +287,7 @@ no-underline bytes row gs ends none = go row.leaves
         last None = refl
         last (Some q) = refl
     ending (group ∷ gs) ends none =
-        ap (λ (l : List Event). has_underline (l ++ set_groups bytes (group ∷ gs)))
+        ap (λ (l : List Event). has_underline (l ++ set_groups options bytes (group ∷ gs)))
         (ending-is n.LineEnding row ends.0 ends.1)
         ∙ none
 
@@ -247,20 +302,40 @@ no-underline bytes row gs ends none = go row.leaves
 
 -- Groups.
 
--- a text that nothing turns
+-- a text that nothing turns: its definitions pass, and what remains of it is a paragraph without an underline
+cut-turned : (options : ParseOptions) (bytes : List ℕ) (row : Row) (rows : List Row) (es fs more : List Event) →
+    IsCutText options bytes row rows es fs → has_underline more ≡ false → turned (es ++ more) ≡ es ++ turned more
+cut-turned options bytes row rows es fs more (Remains first below are) none =
+    turned-text first.first (last_row first below).end (unread_lines first below) more
+    (each-unturned (unread_lines first below)
+    (linked-unturned text_leaf.link first below (lines-prefixed options bytes first below are))) none
+cut-turned options bytes row rows es fs more (Defines d first below are is) none =
+    passed (defined_unread d first below) more (defined-unturned bytes d first below is)
+cut-turned options bytes row rows es fs more (Follows d first own next below q left done are is after ending front rest)
+    none =
+    let own_events : List Event = defined_unread d first own in
+    let gap : List Event = between (last_row first own).end q next.front in
+    let begun : List Event = own_events ++ gap in
+    let pass : AreUnturned begun = each-append IsUnturned own_events gap (defined-unturned bytes d first own is)
+    (between-unturned bytes (last_row first own).end q next.first next.front front) in
+    ap turned (append_assoc begun left more)
+    ∙ passed begun (left ++ more) pass
+    ∙ ap (λ (l : List Event). begun ++ l) (cut-turned options bytes next below left done more rest none)
+    ∙ sym (append_assoc begun left (turned more))
+
 text-turned : (options : ParseOptions) (bytes : List ℕ) (row : Row) (rows : List Row) (es : List Event) →
     AreLines options bytes row rows → HasFront bytes row →
     has_underline (tail_events n.LineEnding (last_row row rows) ++ es) ≡ false →
-    turned (listed_group bytes (Lines row rows) ++ es) ≡ listed_group bytes (Lines row rows) ++ turned es
+    turned (listed_group options bytes (Lines row rows) ++ es) ≡
+    listed_group options bytes (Lines row rows) ++ turned es
 text-turned options bytes row rows es are front none =
-    let text : List Event = text_unread row rows in
+    let text : List Event = text_unread options bytes row rows in
     let tail : List Event = tail_events n.LineEnding (last_row row rows) in
     ap turned (append_assoc (row.front ++ text) tail es ∙ append_assoc row.front text (tail ++ es))
     ∙ passed row.front (text ++ (tail ++ es)) (front-unturned bytes row front)
     ∙ ap (λ (l : List Event). row.front ++ l)
-    (turned-text row.first (last_row row rows).end (unread_lines row rows) (tail ++ es)
-    (each-unturned (unread_lines row rows)
-    (linked-unturned text_leaf.link row rows (lines-prefixed options bytes row rows are))) none
+    (cut-turned options bytes row rows text (text_done options bytes row rows) (tail ++ es)
+    (cut-is options bytes row rows are) none
     ∙ ap (λ (l : List Event). text ++ l) (passed tail es (tail-unturned false (last_row row rows))))
     ∙ sym (append_assoc row.front text (tail ++ turned es))
     ∙ sym (append_assoc (row.front ++ text) tail (turned es))
@@ -281,8 +356,10 @@ laid-turned front text ending between under tail es b e = simp append_assoc
 heading-turned : (options : ParseOptions) (bytes : List ℕ) (row : Row) (rows : List Row) (under : Row)
     (es : List Event) →
     AreLines options bytes row rows → IsUnder options bytes (last_row row rows) under → HasFront bytes row →
-    turned (unread_group (Turned row rows under) ++ es) ≡ listed_group bytes (Turned row rows under) ++ turned es
-heading-turned options bytes row rows under es are is front =
+    (options.constructs.definition && options.constructs.heading_setext) ≡ false →
+    turned (unread_group options bytes (Turned row rows under) ++ es) ≡
+    listed_group options bytes (Turned row rows under) ++ turned es
+heading-turned options bytes row rows under es are is front apart =
     let u : IsUnderline under = under-line options bytes row rows under are is in
     let U : List Event = around n.HeadingSetextUnderline under.first u.end u.marks in
     let heading : List Event → List Event → Point → List Event =
@@ -291,12 +368,16 @@ heading-turned options bytes row rows under es are is front =
     ++ around turn_leaf.name row.first q
     (around turn_leaf.text row.first last.end (unread_lines row rows) ++ e ++ under.front ++ line))
     ++ tail in
-    ap₂
+    ap
+    (λ (text : List Event).
+    turned ((((row.front ++ text) ++ tail_events n.LineEnding last) ++ row_events under) ++ es))
+    (unread-off options bytes row rows (under-off options bytes row rows under are is apart))
+    ∙ ap₂
     (λ (e line : List Event).
-    turned ((((row.front ++ text_unread row rows) ++ e) ++ ((under.front ++ line) ++ tail)) ++ es))
+    turned ((((row.front ++ lines_unread row rows) ++ e) ++ ((under.front ++ line) ++ tail)) ++ es))
     tail-is (u.leaf_is ∙ u.is)
-    ∙ ap turned (laid row.front (text_unread row rows) E under.front U tail es)
-    ∙ passed row.front (text_unread row rows ++ ((E ++ under.front) ++ (U ++ (tail ++ es))))
+    ∙ ap turned (laid row.front (lines_unread row rows) E under.front U tail es)
+    ∙ passed row.front (lines_unread row rows ++ ((E ++ under.front) ++ (U ++ (tail ++ es))))
     (front-unturned bytes row front)
     ∙ ap (λ (l : List Event). row.front ++ l)
     (turned-underlined row.first last.end last.end is.after under.first u.end (unread_lines row rows) under.front
@@ -332,31 +413,35 @@ heading-turned options bytes row rows under es are is front =
         ap (λ (leaves : List Container). ends_of leaves last.end ++ ending_events n.LineEnding last) is.leaves
         ∙ ending-last
 
-groups-turned : (options : ParseOptions) (bytes : List ℕ) (gs : List Group) → AreGroups options bytes gs →
-    turned (set_groups bytes gs) ≡ turned_groups bytes gs
-groups-turned options bytes [] are = refl
-groups-turned options bytes (Single row ∷ gs) are =
-    passed (listed_group bytes (Single row)) (set_groups bytes gs)
+groups-turned : (options : ParseOptions) (bytes : List ℕ) (gs : List Group) →
+    (options.constructs.definition && options.constructs.heading_setext) ≡ false → AreGroups options bytes gs →
+    turned (set_groups options bytes gs) ≡ turned_groups options bytes gs
+groups-turned options bytes [] apart are = refl
+groups-turned options bytes (Single row ∷ gs) apart are =
+    passed (listed_group options bytes (Single row)) (set_groups options bytes gs)
     (single-unturned options bytes row are.0 row.kind refl)
-    ∙ ap (λ (l : List Event). listed_group bytes (Single row) ++ l) (groups-turned options bytes gs are.1)
-groups-turned options bytes (Lines row rows ∷ gs) are =
-    text-turned options bytes row rows (set_groups bytes gs) are.0 are.2
-    (no-underline bytes (last_row row rows) gs are.1 (groups-unlined options bytes gs are.3))
-    ∙ ap (λ (l : List Event). listed_group bytes (Lines row rows) ++ l) (groups-turned options bytes gs are.3)
-groups-turned options bytes (Turned row rows under ∷ gs) are =
-    heading-turned options bytes row rows under (set_groups bytes gs) are.0 are.1 are.3
-    ∙ ap (λ (l : List Event). listed_group bytes (Turned row rows under) ++ l) (groups-turned options bytes gs are.4)
-groups-turned options bytes (Span row rows ∷ gs) are =
-    passed (rows_events (row ∷ rows)) (set_groups bytes gs)
+    ∙ ap (λ (l : List Event). listed_group options bytes (Single row) ++ l) (groups-turned options bytes gs apart are.1)
+groups-turned options bytes (Lines row rows ∷ gs) apart are =
+    text-turned options bytes row rows (set_groups options bytes gs) are.0 are.2
+    (no-underline options bytes (last_row row rows) gs are.1 (groups-unlined options bytes gs are.3))
+    ∙ ap (λ (l : List Event). listed_group options bytes (Lines row rows) ++ l)
+    (groups-turned options bytes gs apart are.3)
+groups-turned options bytes (Turned row rows under ∷ gs) apart are =
+    heading-turned options bytes row rows under (set_groups options bytes gs) are.0 are.1 are.3 apart
+    ∙ ap (λ (l : List Event). listed_group options bytes (Turned row rows under) ++ l)
+    (groups-turned options bytes gs apart are.4)
+groups-turned options bytes (Span row rows ∷ gs) apart are =
+    passed (rows_events (row ∷ rows)) (set_groups options bytes gs)
     (span-unturned options bytes row rows are.0 (λ f. let bad : true ≡ false = sym f ∙ are.4 in cc))
-    ∙ ap (λ (l : List Event). rows_events (row ∷ rows) ++ l) (groups-turned options bytes gs are.2)
+    ∙ ap (λ (l : List Event). rows_events (row ∷ rows) ++ l) (groups-turned options bytes gs apart are.2)
 
 -- The resolvers of leaves have run, and setext headings are set.
 pub headings-set : (options : ParseOptions) (bytes : List ℕ) (open_before : List Container) (still : HeldLeaf)
     (p : Point) (lines : List (List ℕ)) (rows : List Row) →
     may_go_on still ≡ false → AreRows options bytes open_before still p lines rows → EachNoContent rows →
-    turned (resolved (unread_groups (groups rows))) ≡ turned_groups bytes (groups rows)
-headings-set options bytes open_before still p lines rows shut are quiet =
+    (options.constructs.definition && options.constructs.heading_setext) ≡ false →
+    turned (resolved (unread_groups options bytes (groups rows))) ≡ turned_groups options bytes (groups rows)
+headings-set options bytes open_before still p lines rows shut are quiet apart =
     ap turned (leaves-set options bytes open_before still p lines rows shut are quiet)
-    ∙ groups-turned options bytes (groups rows)
+    ∙ groups-turned options bytes (groups rows) apart
     (groups-are options bytes open_before still p lines rows shut are quiet)

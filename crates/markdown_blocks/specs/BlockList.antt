@@ -5,9 +5,9 @@
 -- of the containers that end behind it, and its ending. Lines of text that belong together are one leaf: a chunk for
 -- each line, with its ending but the last, and in front of each further chunk what stands in front of its line.
 --
--- What the lines are (`Row`), and which of them are one text (`groups`), stands in `Rows`; the events of each leaf in
--- its own file of `Leaf`.
-use Rattle.std.specs.Prelude.{ℕ, List, [], ◌∷◌, ◌++◌}
+-- What the lines are (`Row`), which of them are one text (`groups`), and which definitions stand at its front
+-- (`cut_at_most`), stands in `Rows`; the events of each leaf in its own file of `Leaf`.
+use Rattle.std.specs.Prelude.{ℕ, suc, List, [], ◌∷◌, ◌++◌, length}
 use Rattle.md_engine.specs.declared.configuration.ParseOptions.{ParseOptions}
 use Rattle.md_engine.specs.declared.event.Event.{Event}
 use Rattle.md_engine.specs.declared.event.Link.{Link}
@@ -18,7 +18,7 @@ use Rattle.md_seam.specs.Events.Nested.{around, enter_link, exit}
 use Rattle.markdown_blocks.specs.Document.{body_point, mark_events}
 use Rattle.markdown_blocks.specs.Registry.{text_leaf}
 use Rattle.markdown_blocks.specs.Rows.{Group, Lines, Row, Span, Turned, final_row, first_row, RowKind, Single}
-use Rattle.markdown_blocks.specs.Rows.{behind_row, group_ending, turned_by, span_by}
+use Rattle.markdown_blocks.specs.Rows.{behind_row, cut_at_most, defined_unread, group_ending, turned_by, span_by}
 use Rattle.markdown_blocks.specs.Rows.{ending_of, groups, last_row, leaf_unread, tail_events}
 use Rattle.markdown_blocks.specs.TextRows.{text_rows}
 
@@ -34,30 +34,35 @@ abbrev pub unread_lines : Row → List Row → List Event
 unread_lines row rows = linked_lines n.Data text_leaf.link row rows
 
 -- and the leaf of these lines
-abbrev pub text_unread : Row → List Row → List Event
-text_unread row rows = around text_leaf.name row.first (last_row row rows).end (unread_lines row rows)
+abbrev pub lines_unread : Row → List Row → List Event
+lines_unread row rows = around text_leaf.name row.first (last_row row rows).end (unread_lines row rows)
+
+-- what stands in the place of the lines of a text: its definitions, and the leaf of what remains
+abbrev pub text_unread : ParseOptions → List ℕ → Row → List Row → List Event
+text_unread options bytes row rows =
+    cut_at_most defined_unread lines_unread options bytes (suc (length rows)) row rows
 
 -- a line that is no text
 abbrev pub listed_row_by : List ℕ → RowKind → Row → List Event
 listed_row_by bytes kind row = row.front ++ leaf_unread bytes kind row ++ tail_events (ending_of kind row) row
 
 -- the leaf of such a line, of the lines of a text, or of a text with its underline
-abbrev pub group_unread : List ℕ → Group → List Event
-group_unread bytes (Single row) = leaf_unread bytes row.kind row
-group_unread bytes (Lines row rows) = text_unread row rows
-group_unread bytes (Turned row rows under) = turned_by (unread_lines row rows) row rows under
-group_unread bytes (Span row rows) = span_by (λ (r : Row). r.inside) row rows
+abbrev pub group_unread : ParseOptions → List ℕ → Group → List Event
+group_unread options bytes (Single row) = leaf_unread bytes row.kind row
+group_unread options bytes (Lines row rows) = text_unread options bytes row rows
+group_unread options bytes (Turned row rows under) = turned_by (unread_lines row rows) row rows under
+group_unread options bytes (Span row rows) = span_by (λ (r : Row). r.inside) row rows
 
 -- with what stands in front of it, and behind it
-abbrev pub listed_group : List ℕ → Group → List Event
-listed_group bytes group =
-    (first_row group).front ++ group_unread bytes group ++ tail_events (group_ending group) (final_row group)
+abbrev pub listed_group : ParseOptions → List ℕ → Group → List Event
+listed_group options bytes group =
+    (first_row group).front ++ group_unread options bytes group ++ tail_events (group_ending group) (final_row group)
 
-abbrev pub listed_groups : List ℕ → List Group → List Event
-listed_groups bytes [] = []
-listed_groups bytes (group ∷ groups) = listed_group bytes group ++ listed_groups bytes groups
+abbrev pub listed_groups : ParseOptions → List ℕ → List Group → List Event
+listed_groups options bytes [] = []
+listed_groups options bytes (group ∷ groups) = listed_group options bytes group ++ listed_groups options bytes groups
 
 -- The block list of a text: its mark, and then its lines, with the lists around their items.
 unfoldable pub block_list : ParseOptions → List ℕ → List Event
 block_list options text =
-    listed text (mark_events text ++ listed_groups text (groups (text_rows options text (body_point text))))
+    listed text (mark_events text ++ listed_groups options text (groups (text_rows options text (body_point text))))

@@ -82,7 +82,7 @@ pub record StandsBehind (bytes : List ℕ) (options : ParseOptions) (p : Point) 
   pub events : w.events ≡ rows_events (not_left (take n (text_rows options bytes p)))
   -- these, with their parts read, are read as a tree that is not closed yet,
   pub reading : Reading
-  pub reads : read bytes unread (groups_events bytes (groups (take n (text_rows options bytes p)))) ≡
+  pub reads : read bytes unread (groups_events options bytes (groups (take n (text_rows options bytes p)))) ≡
       close_containers (length (last_leaves (take n (text_rows options bytes p)))) reading
   -- and with the flags it stands for what these lines come to
   pub stands : StandsFor options w.flags reading (path_behind options bytes p n)

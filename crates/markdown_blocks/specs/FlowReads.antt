@@ -10,6 +10,7 @@ use Rattle.md_engine.specs.World.{World}
 use Rattle.md_containers.specs.Listed.{listed}
 use Rattle.md_content.specs.ContentReads.{content_readings, wants_content}
 use Rattle.md_content.specs.Joined.{joined}
+use Rattle.md_content.specs.Labels.{labels_in}
 use Rattle.md_content.specs.Resolves.{found_in_content}
 use Rattle.md_leaves.specs.Spanned.{spanned}
 use Rattle.md_leaves.specs.Turned.{turned}
@@ -48,4 +49,7 @@ pub record FlowReads (bytes : List ℕ) (options : ParseOptions) (p : Point) (fo
   pub frames : new.frames ≡ []
   -- the resolver of content alone says what it has found, and it runs if a line is content
   pub found_is : ((has_text (text_rows options bytes p) ≡ false) × (found ≡ nothing)) ⊎
-      (found ≡ found_in_content content)
+      (found ≡ found_in_content bytes content)
+  -- it finds the labels of the definitions there, and none of footnotes
+  pub definitions : found.definitions ≡ labels_in bytes content
+  pub footnotes : found.footnotes ≡ []

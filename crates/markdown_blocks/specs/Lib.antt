@@ -30,3 +30,4 @@ pub mod TextReads
 pub mod Document
 pub mod DocumentRule
 pub mod AtOnce
+pub mod Laid

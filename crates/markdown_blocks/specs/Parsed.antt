@@ -1,6 +1,8 @@
 -- What a parse asks for, and what it gives.
-use Rattle.std.specs.Prelude.{◌≡◌, ◌≢◌, ℕ, ◌-◌, ◌/◌, ◌^◌, ◌<◌, ◌≤◌, ◌==◌, ◌||◌, true, false, not, IsTrue, List, [], length}
+use Rattle.std.specs.Prelude.{◌≡◌, ◌≢◌, ℕ, ◌-◌, ◌/◌, ◌^◌, ◌<◌, ◌≤◌, ◌==◌, ◌&&◌, ◌||◌, true, false, not, IsTrue, List, []}
+use Rattle.std.specs.Prelude.{length, map}
 use Rattle.std.specs.List.{list_all}
+use Rattle.std.specs.String.{string_bytes}
 use Rattle.md_engine.specs.declared.configuration.ParseOptions.{ParseOptions}
 use Rattle.md_engine.specs.declared.event.Event.{Event}
 use Rattle.md_engine.specs.declared.parse_state.ParseState.{ParseState}
@@ -18,6 +20,7 @@ use Rattle.md_seam.specs.Events.Spelled.{spelled}
 use Rattle.md_seam.specs.Events.Tiles.{Tiles, plain_read}
 use Rattle.md_definition.specs.Ascii.{plus}
 use Rattle.md_definition.specs.Bytes.{begins}
+use Rattle.md_definition.specs.Label.{labels}
 use Rattle.md_definition.specs.Lines.{is_ending}
 use Rattle.md_definition.specs.Rest.{is_white}
 use Rattle.md_definition.specs.Tree.{End, Item, ListOf, More, Quote}
@@ -29,10 +32,10 @@ use Rattle.markdown_blocks.specs.BlockList.{block_list}
 abbrev pub IsSmall : List ℕ → Type 0
 IsSmall text = length text ≤ (2 ^ 64 - 1) / 8
 
--- the constructs that are asked for are there: block quotes, list items, indented and fenced code, math, HTML, headings
--- and breaks alone
+-- the constructs that are asked for are there: block quotes, list items, indented and fenced code, math, HTML, headings,
+-- breaks and definitions alone, and not both definitions and underlines
 pub record IsBuilt (options : ParseOptions) : Type 0 where
-  pub definition : options.constructs.definition ≡ false
+  pub apart : (options.constructs.definition && options.constructs.heading_setext) ≡ false
   pub frontmatter : options.constructs.frontmatter ≡ false
   pub gfm_footnote_definition : options.constructs.gfm_footnote_definition ≡ false
   pub gfm_table : options.constructs.gfm_table ≡ false
@@ -59,8 +62,8 @@ pub record IsItemable (text : List ℕ) : Type 0 where
   pub no_tab : list_all (λ b. not (b == 9)) text ≡ true
   pub no_mark : has_mark text ≡ false
 
--- What is known of a text that was read: its events nest, stand at its points, spell its tree and tile it; and it
--- defines no label.
+-- What is known of a text that was read: its events nest, stand at its points, spell its tree and tile it, and
+-- the labels are those of that tree.
 pub record IsParsed (text : List ℕ) (options : ParseOptions) (events : List Event) (state : ParseState) : Type 0 where
   pub bytes : state.bytes.now ≡ text
   pub options_are : state.options.now ≡ options
@@ -68,13 +71,15 @@ pub record IsParsed (text : List ℕ) (options : ParseOptions) (events : List Ev
   pub nested : Nested events
   -- each point is one of the text, with the right line and column
   pub placed : IsTrue (are_placed text events)
-  -- with `> ` before each line, the text means one block quote with this tree in it, unchanged
+  -- with `> ` before each line, the text means one block quote with this tree in it, unchanged, and has the same labels
   pub in_quote : options.constructs.block_quote ≡ true → IsQuotable text →
-      tree options (quoted text) ≡ More (Quote (spelled events text)) End
+      (wraps : tree options (quoted text) ≡ More (Quote (spelled events text)) End)
+      × (labels (tree options (quoted text)) ≡ labels (spelled events text))
   -- with `+ ` before its first line and two spaces before each other, it means one list, whose one item has this tree in
-  -- it, unchanged
+  -- it, unchanged, and has the same labels
   pub in_item : options.constructs.list_item ≡ true → IsItemable text →
-      tree options (itemised text) ≡ More (ListOf plus (More (Item plus [] (spelled events text)) End)) End
+      (wraps : tree options (itemised text) ≡ More (ListOf plus (More (Item plus [] (spelled events text)) End)) End)
+      × (labels (tree options (itemised text)) ≡ labels (spelled events text))
   pub tree : spelled events text ≡ tree options text
   -- no construct occurs in it that is off
   pub on : are_on options (spelled events text) ≡ true
@@ -94,5 +99,6 @@ pub record IsParsed (text : List ℕ) (options : ParseOptions) (events : List Ev
   pub endings : endings_stand events ≡ true
   -- `outline` shows that tree
   pub outlined : IsOutlined events text
-  pub definitions : state.definitions.items ≡ []
+  -- the labels of its definitions, in their normal forms and in the order of the text, repeats kept; footnotes have none
+  pub definitions : map string_bytes state.definitions.items ≡ (labels (spelled events text)).definitions
   pub footnotes : state.gfm_footnote_definitions.items ≡ []

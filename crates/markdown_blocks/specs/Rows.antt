@@ -5,7 +5,7 @@ use Rattle.md_engine.specs.declared.tokenizer.held_leaf.HeldLeaf.{HeldLeaf}
 use Rattle.std.specs.Prelude.{ℕ, zero, suc, Bool, true, false, ◌&&◌, ◌||◌, ◌==◌, length, if◌then◌else◌, List, [], ◌∷◌}
 use Rattle.md_seam.specs.Events.Tiles.{plain_read}
 use Rattle.md_seam.specs.Events.Spelled.{role, without_last}
-use Rattle.std.specs.Prelude.{◌++◌, drop, map, slice_range, Option, Some, None}
+use Rattle.std.specs.Prelude.{◌++◌, ◌-◌, drop, map, slice_range, take, Option, Some, None}
 use Rattle.md_engine.specs.declared.configuration.ParseOptions.{ParseOptions}
 use Rattle.md_engine.specs.declared.event.Event.{Event}
 use Rattle.md_engine.specs.declared.event.Name.{Name}
@@ -13,6 +13,9 @@ use Rattle.md_engine.specs.declared.event.Name.TheVariants as n
 use Rattle.md_engine.specs.declared.event.Point.{Point}
 use Rattle.md_engine.specs.Meaning.{Cell}
 use Rattle.md_content.specs.Chunks.{content_link}
+use Rattle.md_content.specs.ContentReads.{part_world}
+use Rattle.md_content.specs.ContentRule.{definition_in}
+use Rattle.md_engine.specs.TextFeed.{text_feed}
 use Rattle.md_leaves.specs.BlankRule.{blank_events}
 use Rattle.md_leaves.specs.Spanned.{has_lines, renamed}
 use Rattle.md_leaves.specs.declared.spans.Place.TheVariants.{Outside}
@@ -24,7 +27,9 @@ use Rattle.md_seam.specs.Events.Places.{past_text}
 use Rattle.md_seam.specs.Events.Nested.{around, enter_link, exit, pair}
 use Rattle.md_definition.specs.Rest.{Rest, is_blank}
 use Rattle.md_definition.specs.State.{Container}
+use Rattle.markdown_blocks.specs.Laid.{Break, laid}
 use Rattle.markdown_blocks.specs.LineFlags.{ending_name, nothing_stands}
+use Rattle.md_parts.specs.DefinitionRule.{DefinitionParts, definition_end, definition_events}
 use Rattle.markdown_blocks.specs.Passed.{Passed}
 use Rattle.markdown_blocks.specs.Registry.{LeafName, first_of, goes_at, insider, leaf, opens_at, shuts_out, text_leaf, turn_leaf}
 use Rattle.markdown_blocks.specs.Registry.{trials}
@@ -389,8 +394,57 @@ read_lines bytes row (next ∷ rows) =
     plain_chunk bytes (record { first = row.first; after = behind_row row }) ++ next.front ++ read_lines bytes next rows
 
 -- the leaf of these lines, once they are read
-abbrev pub text_done : List ℕ → Row → List Row → List Event
-text_done bytes row rows = around text_leaf.name row.first (last_row row rows).end (read_lines bytes row rows)
+abbrev pub lines_done : List ℕ → Row → List Row → List Event
+lines_done bytes row rows = around text_leaf.name row.first (last_row row rows).end (read_lines bytes row rows)
+
+-- Definitions at the front of a text (CommonMark 4.7).
+
+-- between lines: where each ends, and what stands in front of the next
+abbrev pub breaks_of : Row → List Row → List Break
+breaks_of row [] = []
+breaks_of row (next ∷ rows) = (record { after = behind_row row; front = next.front }) ∷ breaks_of next rows
+
+-- a definition over these lines, and once its texts are read
+abbrev pub defined_unread : DefinitionParts → Row → List Row → List Event
+defined_unread d row rows = laid (breaks_of row rows) (definition_events d row.first)
+
+abbrev pub defined_done : List ℕ → DefinitionParts → Row → List Row → List Event
+defined_done bytes d row rows = plain_read bytes (defined_unread d row rows)
+
+-- the cells of lines, behind the prefixes of their containers
+abbrev pub lines_cells : ParseOptions → List ℕ → Row → List Row → List Cell
+lines_cells options bytes row rows =
+    let w = part_world bytes options (chunks_of row rows) in text_feed w.setting w.point
+
+-- how many lines a definition takes behind its first one
+abbrev pub further_lines : DefinitionParts → Row → ℕ
+further_lines d row = (definition_end d).line - row.first.line
+
+-- behind a definition: the ending of its last line, what stands in front of the next line, and what that begins
+abbrev pub behind_cut : (Row → List Row → List Event) → Row → List Row → List Event
+behind_cut more last [] = []
+behind_cut more last (next ∷ rows) = ending_events n.LineEnding last ++ next.front ++ more next rows
+
+-- by the definition at the front, if there is one
+abbrev pub cut_by : (DefinitionParts → Row → List Row → List Event) → (Row → List Row → List Event) →
+    (Row → List Row → List Event) → Option DefinitionParts → Row → List Row → List Event
+cut_by defined text more None row rows = text row rows
+cut_by defined text more (Some d) row rows =
+    let own = take (further_lines d row) rows in
+    defined d row own ++ behind_cut more (last_row row own) (drop (further_lines d row) rows)
+
+-- at most so many definitions, and the leaf of the lines that remain
+abbrev pub cut_at_most : (DefinitionParts → Row → List Row → List Event) → (Row → List Row → List Event) →
+    ParseOptions → List ℕ → ℕ → Row → List Row → List Event
+cut_at_most defined text options bytes zero row rows = text row rows
+cut_at_most defined text options bytes (suc n) row rows =
+    cut_by defined text (cut_at_most defined text options bytes n)
+    (definition_in options (lines_cells options bytes row rows)) row rows
+
+-- what stands in the place of the lines of a text, once they are read: its definitions, and the leaf of what remains
+abbrev pub text_done : ParseOptions → List ℕ → Row → List Row → List Event
+text_done options bytes row rows =
+    cut_at_most (defined_done bytes) (lines_done bytes) options bytes (suc (length rows)) row rows
 
 -- What a line turns these lines into: their text, the ending of the last, and that line behind the prefixes of its
 -- containers.
@@ -486,18 +540,18 @@ is_blank_group group = is_blank_by (group_kind group) (final_row group)
 abbrev pub group_ending : Group → Name
 group_ending group = ending_name (is_blank_group group)
 
-abbrev pub group_done : List ℕ → Group → List Event
-group_done bytes (Single row) = leaf_done bytes row.kind row
-group_done bytes (Lines row rows) = text_done bytes row rows
-group_done bytes (Turned row rows under) = turned_done bytes row rows under
-group_done bytes (Span row rows) = span_done bytes row rows
+abbrev pub group_done : ParseOptions → List ℕ → Group → List Event
+group_done options bytes (Single row) = leaf_done bytes row.kind row
+group_done options bytes (Lines row rows) = text_done options bytes row rows
+group_done options bytes (Turned row rows under) = turned_done bytes row rows under
+group_done options bytes (Span row rows) = span_done bytes row rows
 
 -- what stands in front of its first line, its leaf, and what stands behind its last line
-abbrev pub group_events : List ℕ → Group → List Event
-group_events bytes group =
-    (first_row group).front ++ group_done bytes group ++ tail_events (group_ending group) (final_row group)
+abbrev pub group_events : ParseOptions → List ℕ → Group → List Event
+group_events options bytes group =
+    (first_row group).front ++ group_done options bytes group ++ tail_events (group_ending group) (final_row group)
 
 -- the events of a text, once all its parts are read
-abbrev pub groups_events : List ℕ → List Group → List Event
-groups_events bytes [] = []
-groups_events bytes (group ∷ groups) = group_events bytes group ++ groups_events bytes groups
+abbrev pub groups_events : ParseOptions → List ℕ → List Group → List Event
+groups_events options bytes [] = []
+groups_events options bytes (group ∷ groups) = group_events options bytes group ++ groups_events options bytes groups

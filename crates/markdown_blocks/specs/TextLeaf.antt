@@ -1,6 +1,7 @@
 -- The interface of a leaf of lines of text, which are joined and read later, as a paragraph: what the frame knows of
 -- it.
 use Rattle.std.specs.Prelude.{ℕ, List}
+use Rattle.md_engine.specs.declared.configuration.ParseOptions.{ParseOptions}
 use Rattle.md_engine.specs.declared.event.Link.{Link}
 use Rattle.md_engine.specs.declared.event.Name.{Name}
 use Rattle.md_definition.specs.State.{Kept, Leaf}
@@ -14,5 +15,6 @@ pub record TextLeaf : Type 0 where
   -- its block, by the texts of its lines, and what the line definition holds of it where it is open
   pub block : List (List ℕ) → Block
   pub held : List Kept → Leaf
-  -- blocks, with its block behind them if it has lines
-  pub behind : Blocks → List (List ℕ) → Blocks
+  -- blocks, with what these lines come to behind them where it is shut: definitions, and its block of the lines that
+  -- remain, if any do
+  pub behind : ParseOptions → Blocks → List (List ℕ) → Blocks

@@ -1,6 +1,7 @@
 -- The events of a text on the way to its block list.
 use Rattle.std.specs.Prelude.{List, [], ◌∷◌, ◌++◌}
 use Rattle.std.specs.Prelude.{ℕ}
+use Rattle.md_engine.specs.declared.configuration.ParseOptions.{ParseOptions}
 use Rattle.md_engine.specs.declared.event.Event.{Event}
 use Rattle.md_engine.specs.declared.event.Link.{Link}
 use Rattle.md_engine.specs.declared.event.Name.{Name}
@@ -32,32 +33,32 @@ joined_groups [] = []
 joined_groups (group ∷ groups) = joined_group group ++ joined_groups groups
 
 -- Texts, before they are read; leaves as their states leave them.
-abbrev pub unread_group : Group → List Event
-unread_group (Single row) = row_events row
-unread_group (Span row rows) = rows_events (row ∷ rows)
-unread_group (Turned row rows under) =
-    row.front ++ text_unread row rows ++ tail_events n.LineEnding (last_row row rows) ++ row_events under
-unread_group (Lines row rows) = row.front ++ text_unread row rows ++ tail_events n.LineEnding (last_row row rows)
+abbrev pub unread_group : ParseOptions → List ℕ → Group → List Event
+unread_group options bytes (Single row) = row_events row
+unread_group options bytes (Span row rows) = rows_events (row ∷ rows)
+unread_group options bytes (Turned row rows under) =
+    row.front ++ text_unread options bytes row rows ++ tail_events n.LineEnding (last_row row rows) ++ row_events under
+unread_group options bytes (Lines row rows) = row.front ++ text_unread options bytes row rows ++ tail_events n.LineEnding (last_row row rows)
 
-abbrev pub unread_groups : List Group → List Event
-unread_groups [] = []
-unread_groups (group ∷ groups) = unread_group group ++ unread_groups groups
+abbrev pub unread_groups : ParseOptions → List ℕ → List Group → List Event
+unread_groups options bytes [] = []
+unread_groups options bytes (group ∷ groups) = unread_group options bytes group ++ unread_groups options bytes groups
 
 -- Leaves once their resolvers have run, before setext headings are set, and the lines of a leaf of several are joined.
-abbrev pub set_group : List ℕ → Group → List Event
-set_group bytes (Span row rows) = rows_events (row ∷ rows)
-set_group bytes (Turned row rows under) = unread_group (Turned row rows under)
-set_group bytes group = listed_group bytes group
+abbrev pub set_group : ParseOptions → List ℕ → Group → List Event
+set_group options bytes (Span row rows) = rows_events (row ∷ rows)
+set_group options bytes (Turned row rows under) = unread_group options bytes (Turned row rows under)
+set_group options bytes group = listed_group options bytes group
 
-abbrev pub set_groups : List ℕ → List Group → List Event
-set_groups bytes [] = []
-set_groups bytes (group ∷ groups) = set_group bytes group ++ set_groups bytes groups
+abbrev pub set_groups : ParseOptions → List ℕ → List Group → List Event
+set_groups options bytes [] = []
+set_groups options bytes (group ∷ groups) = set_group options bytes group ++ set_groups options bytes groups
 
 -- Setext headings once they are set, before the lines of a leaf of several are joined.
-abbrev pub turned_group : List ℕ → Group → List Event
-turned_group bytes (Span row rows) = rows_events (row ∷ rows)
-turned_group bytes group = listed_group bytes group
+abbrev pub turned_group : ParseOptions → List ℕ → Group → List Event
+turned_group options bytes (Span row rows) = rows_events (row ∷ rows)
+turned_group options bytes group = listed_group options bytes group
 
-abbrev pub turned_groups : List ℕ → List Group → List Event
-turned_groups bytes [] = []
-turned_groups bytes (group ∷ groups) = turned_group bytes group ++ turned_groups bytes groups
+abbrev pub turned_groups : ParseOptions → List ℕ → List Group → List Event
+turned_groups options bytes [] = []
+turned_groups options bytes (group ∷ groups) = turned_group options bytes group ++ turned_groups options bytes groups

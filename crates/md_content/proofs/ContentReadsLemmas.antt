@@ -14,9 +14,10 @@ use Rattle.md_engine.specs.Scheme.{stands}
 use Rattle.md_engine.specs.TextFeed.{text_feed}
 use Rattle.md_engine.specs.World.{Setting, World, fresh, reads_to, skipping}
 use Rattle.md_content.specs.ContentReads.{content_events, end_of, first_of, settled, skipping_all}
-use Rattle.md_content.specs.States.{ContentStep, content_behaves, content_over, content_scheme, content_start}
+use Rattle.md_content.specs.ContentRule.{content_over}
+use Rattle.md_content.specs.States.{ContentStep, content_behaves, content_scheme, content_start}
 use Rattle.md_content.proofs.ContentRuns.{content_outcome, content_push}
-use Rattle.md_content.proofs.ParagraphReads.{over, part-comes-to}
+use Rattle.md_content.proofs.ContentWhole.{over, part-comes-to}
 use Rattle.md_seam.specs.declared.inline.Chunk.{Chunk}
 use Rattle.md_seam.specs.Parts.{AreChunks}
 use Rattle.md_seam.specs.Spaces.{IsRest}
@@ -73,7 +74,7 @@ resolved-same R w names found v same (More ns n f m v' v'' r step) =
     same n v' m v'' step ∙ resolved-same R w ns f v' same r
 
 -- a part stands where it begins
-part-stands : (w : World) → IsRest w.scratch → w.frames ≡ [] → stands content_scheme w (Next (content_start))
+part-stands : (w : World) → IsRest w.scratch → w.frames ≡ [] → stands content_scheme w (Next content_start)
 part-stands w rest none = (rest, rw none (record { ok = λ s q t is g r. tt; nok = λ s q t is g. tt }))
 
 -- what is read of a part
@@ -81,32 +82,39 @@ pub part-read : (bytes : List ℕ) (options : ParseOptions) (chunks : List Chunk
     (s : State) (R : Resolution) (found : Found) (new : World) →
     length chunks ≤ i → skipping_all w (drop i chunks) ≡ skipping_all (fresh bytes options (first_of chunks)) chunks →
     end ≡ end_of chunks → end < 2 ^ 61 →
-    Runs ContentStep false (Next (content_start)) (reads_to w end) s w' →
+    Runs ContentStep false (Next content_start) (reads_to w end) s w' →
     w'.setting ≡ (reads_to w end).setting →
     ((n : ResolveName) (old : World) (m : Option Found) (v : World) → R n old m v → v ≡ old) →
     Flushes ContentStep R s w' true found new →
     settled chunks new.events ≡ content_events bytes options chunks
 unfolding content_events
 part-read bytes options chunks i w w' end s R found new le skips last small run kept same f =
-    let begun : w ≡ skipping_all (fresh bytes options (first_of chunks)) chunks = skipping-all chunks i w _ le skips in
-    let shape = begun ∙ skipping-same (fresh bytes options (first_of chunks)) chunks in
+    let first = fresh bytes options (first_of chunks) in
+    let begun : w ≡ skipping_all first chunks = skipping-all chunks i w _ le skips in
+    let shape = begun ∙ skipping-same first chunks in
     let frames : w.frames ≡ [] = ap (λ (x : World). x.frames) shape in
     let events : w.events ≡ [] = ap (λ (x : World). x.events) shape in
     let rest : IsRest w.scratch = ap (λ (x : World). x.scratch) shape in
+    let on : w.setting.options ≡ options = ap (λ (x : World). x.setting.options) shape in
+    let after : w'.setting.options ≡ w.setting.options = ap (λ (x : Setting). x.options) kept in
     let feed = text_feed (reads_to w end).setting in
-    let pushed = content_push (Next (content_start)) s w w' end end small (omega arith)
+    let behind : Here = over w.setting.options (feed w.point) w in
+    let pushed = content_push (Next content_start) s w w' end end small (omega arith)
     (part-stands (reads_to w end) rest frames) run in
-    let at_end : comes_to content_behaves (text_feed w'.setting) s w' ≡ Accepts (over (feed w.point) w) [] =
-    ap (λ (x : Setting). comes_to content_behaves (text_feed x) s w') kept ∙ sym pushed.0
-    ∙ part-comes-to feed w frames events in
-    let h : over (feed w.point) w ≡
-    here f.at = content_outcome R s w' true found new (over (feed w.point) w) (rw kept small) pushed.1 at_end f in
+    let at_end : comes_to (content_behaves w'.setting.options) (text_feed w'.setting) s w' ≡ Accepts behind [] =
+    ap (λ (o : ParseOptions). comes_to (content_behaves o) (text_feed w'.setting) s w') after
+    ∙ ap (λ (x : Setting). comes_to (content_behaves w.setting.options) (text_feed x) s w') kept ∙ sym pushed.0
+    ∙ part-comes-to w.setting.options feed w frames events in
+    let h : behind ≡
+    here f.at = content_outcome R s w' true found new behind (rw kept small) pushed.1 at_end f in
     let resolved : new ≡ record f.at { resolvers = [] } = resolved-same R _ _ _ _ same f.resolved in
-    let is : settled chunks (content_over (feed w.point) w.point) ≡
-    content_events bytes options chunks = ap (settled chunks) (place _ _ begun last) in
+    let is : settled chunks (content_over w.setting.options (feed w.point) w.point) ≡
+    content_events bytes options chunks =
+    ap (λ (o : ParseOptions). settled chunks (content_over o (feed w.point) w.point)) on
+    ∙ ap (settled chunks) (place _ _ begun last) in
     ap (λ (x : World). settled chunks x.events) resolved ∙ sym (ap (λ (x : Here). settled chunks x.events) h) ∙ is
   where
     place : (v : World) (m : ℕ) → w ≡ v → end ≡ m →
-        content_over (text_feed (reads_to w end).setting w.point) w.point ≡
-        content_over (text_feed (reads_to v m).setting v.point) v.point
+        content_over options (text_feed (reads_to w end).setting w.point) w.point ≡
+        content_over options (text_feed (reads_to v m).setting v.point) v.point
     place v m e f = rw (e, f) refl

@@ -17,11 +17,11 @@ use Rattle.md_content.proofs.States.{content_means, content_stands}
 pub content_push : (s s' : State) (w w' : World) (limit total : ℕ) → total < 2 ^ 61 → limit ≤ total →
     stands content_scheme (reads_to w limit) (plain s) →
     Runs ContentStep false s (reads_to w limit) s' w' →
-    (comes_to content_behaves (text_feed (reads_to w total).setting) s w ≡
-    comes_to content_behaves (text_feed (reads_to w total).setting) s' w') ×
+    (comes_to (content_behaves w.setting.options) (text_feed (reads_to w total).setting) s w ≡
+    comes_to (content_behaves w.setting.options) (text_feed (reads_to w total).setting) s' w') ×
     stands content_scheme w' (plain s')
 content_push s s' w w' limit total small le at run =
-    runs-mean ContentStep content_scheme content_behaves false
+    runs-mean ContentStep content_scheme (content_behaves w.setting.options) false
     (text_feed (reads_to w total).setting) s (reads_to w limit)
     (content_means (reads_to w limit).setting false) content_stands
     (text-follows (reads_to w total).setting limit false small le (λ e. cc)) at s' w' run
@@ -30,10 +30,10 @@ content_push s s' w w' limit total small le at run =
 pub content_flush : (R : Resolution) (s : State) (w : World) (resolve : Bool) (found : Found) (new : World) →
     w.setting.limit < 2 ^ 61 → stands content_scheme w (plain s) →
     (f : Flushes ContentStep R s w resolve found new) →
-    comes_to content_behaves (text_feed w.setting) s w ≡
-    goes content_behaves f.end (text_feed w.setting f.at.point) (here f.at)
+    comes_to (content_behaves w.setting.options) (text_feed w.setting) s w ≡
+    goes (content_behaves w.setting.options) f.end (text_feed w.setting f.at.point) (here f.at)
 content_flush R s w resolve found new small at f =
-    flush-means ContentStep R content_scheme content_behaves
+    flush-means ContentStep R content_scheme (content_behaves w.setting.options)
     (text_feed w.setting) s w resolve found new (content_means w.setting true) content_stands
     (text-follows w.setting w.setting.limit true small (omega arith) (λ e. refl)) at f
 
@@ -41,12 +41,13 @@ content_flush R s w resolve found new small at f =
 pub content_outcome : (R : Resolution) (s : State) (w : World) (resolve : Bool) (found : Found) (new : World)
     (h : Here) →
     w.setting.limit < 2 ^ 61 → stands content_scheme w (plain s) →
-    comes_to content_behaves (text_feed w.setting) s w ≡ Accepts h [] →
+    comes_to (content_behaves w.setting.options) (text_feed w.setting) s w ≡ Accepts h [] →
     (f : Flushes ContentStep R s w resolve found new) → h ≡ here f.at
 content_outcome R s w resolve found new h small at is f =
     go f.end f.ends (sym is ∙ content_flush R s w resolve found new small at f)
   where
-    go : (e : State) → IsEnd e → Accepts h [] ≡ goes content_behaves e (text_feed w.setting f.at.point) (here f.at) →
+    go : (e : State) → IsEnd e →
+        Accepts h [] ≡ goes (content_behaves w.setting.options) e (text_feed w.setting f.at.point) (here f.at) →
         h ≡ here f.at
     go Ok t k = cc
     go Nok t k = cc

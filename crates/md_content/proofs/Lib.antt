@@ -1,8 +1,12 @@
 pub mod Goods
 pub mod ParagraphGoods
-pub mod ParagraphReads
+pub mod ContentWhole
 pub mod ParagraphStays
 pub mod ParagraphSteps
+pub mod DefinitionTakes
+pub mod ContentRuleLemmas
+pub mod DefinitionsGoods
+pub mod DefinitionsSteps
 pub mod States
 pub mod StaysLemmas
 pub mod ContentSteps
@@ -10,3 +14,8 @@ pub mod ContentRuns
 pub mod JoinedLemmas
 pub mod ContentReadsLemmas
 pub mod SettledLemmas
+pub mod LabelTexts
+pub mod LabelWalks
+pub mod LabelsLemmas
+pub mod ContentNames
+pub mod DefinitionLabels

@@ -1,12 +1,14 @@
 -- The ends of lines are put where their chunks end, one event after another.
-use Rattle.std.proofs.Common.{◌≡◌, ℕ, suc, ◌+◌, ◌<◌, ◌≤◌, true, false, List, [], ◌∷◌, ◌++◌, length, get_or, set, take}
-use Rattle.std.proofs.Common.{drop, refl, sym, ◌∙◌, ap, add-one, append_assoc, drop-cons, arith}
+use Rattle.std.proofs.Common.{◌≡◌, ℕ, suc, ◌+◌, ◌<◌, ◌≤◌, Bool, true, false, ◌&&◌, cond, List, [], ◌∷◌, ◌++◌, length}
+use Rattle.std.proofs.Common.{get_or, set, take, drop, refl, sym, ◌∙◌, ap, add-one, append_assoc, drop-cons, arith}
+use Rattle.std.specs.Prelude.{nat_le}
+use Rattle.std.proofs.lemmas.Bool.Decides.{nat_tests}
 use Rattle.std.proofs.lemmas.List.{drop_all, drop-set-lt, take_more, take_more_set}
 use Rattle.std.proofs.lemmas.List.Elements.{All-set}
 use Rattle.md_engine.specs.declared.event.Event.{Event}
 use Rattle.md_engine.specs.declared.event.Name.TheVariants as n
 use Rattle.md_engine.specs.Place.{IsPlaced, first_point}
-use Rattle.md_content.specs.ContentReads.{is_data_end, settled}
+use Rattle.md_content.specs.ContentReads.{is_piece_end, settled}
 use Rattle.md_seam.specs.declared.inline.Chunk.{Chunk}
 use Rattle.md_seam.specs.Events.Nested.{exit}
 use Rattle.md_seam.specs.Parts.{AreChunks, ArePlaced}
@@ -17,12 +19,34 @@ pub record Settling (chunks : List Chunk) (all : List Event) (i k : ℕ) (events
   pub placed : (bytes : List ℕ) → AreChunks bytes chunks → ArePlaced bytes all → ArePlaced bytes events
   pub settled : take i events ++ settled (drop k chunks) (drop i events) ≡ settled chunks all
 
--- an event that no line ends with is kept
-pub settled-other : (chunks : List Chunk) (e : Event) (es : List Event) → is_data_end e ≡ false →
+-- an event that ends no piece is kept
+pub settled-other : (chunks : List Chunk) (e : Event) (es : List Event) → is_piece_end e ≡ false →
     settled chunks (e ∷ es) ≡ e ∷ settled chunks es
 settled-other [] e [] h = refl
 settled-other [] e (f ∷ es) h = refl
 settled-other (chunk ∷ chunks) e es h = rw h refl
+
+-- so is one that ends a piece within the line
+pub settled-within : (chunk : Chunk) (chunks : List Chunk) (e : Event) (es : List Event) →
+    e.point.index < chunk.after.index →
+    settled (chunk ∷ chunks) (e ∷ es) ≡ e ∷ settled (chunk ∷ chunks) es
+settled-within chunk chunks e es h =
+    let no : nat_le chunk.after.index e.point.index ≡ false = grind (arith, nat_tests) in
+    go (is_piece_end e) no
+  where
+    go : (x : Bool) → nat_le chunk.after.index e.point.index ≡ false →
+        cond (x && nat_le chunk.after.index e.point.index) (record e { point = chunk.after } ∷ settled chunks es)
+        (e ∷ settled (chunk ∷ chunks) es) ≡
+        e ∷ settled (chunk ∷ chunks) es
+    go true k = rw k refl
+    go false k = refl
+
+-- and the piece with which the line ends, ends where its chunk does
+pub settled-end : (chunk : Chunk) (chunks : List Chunk) (e : Event) (es : List Event) → is_piece_end e ≡ true →
+    chunk.after.index ≤ e.point.index →
+    settled (chunk ∷ chunks) (e ∷ es) ≡ record e { point = chunk.after } ∷ settled chunks es
+settled-end chunk chunks e es ends h =
+    let yes : nat_le chunk.after.index e.point.index ≡ true = grind (arith, nat_tests) in rw (ends, yes) refl
 
 -- where no chunk is left, all are
 pub settled-none : (es : List Event) → settled [] es ≡ es
@@ -46,9 +70,19 @@ kept chunks all events i k d lt h so_far = record {
 }
 
 pub settle-other : (chunks : List Chunk) (all events : List Event) (i k : ℕ) (d : Event) → i < length events →
-    is_data_end (get_or events i d) ≡ false → Settling chunks all i k events → Settling chunks all (i + 1) k events
+    is_piece_end (get_or events i d) ≡ false → Settling chunks all i k events → Settling chunks all (i + 1) k events
 settle-other chunks all events i k d lt h so_far =
     kept chunks all events i k d lt (λ es. settled-other (drop k chunks) (get_or events i d) es h) so_far
+
+pub settle-within : (chunks : List Chunk) (all events : List Event) (i k : ℕ) (d : Event) (c : Chunk) →
+    i < length events → k < length chunks → (get_or events i d).point.index < (get_or chunks k c).after.index →
+    Settling chunks all i k events → Settling chunks all (i + 1) k events
+settle-within chunks all events i k d c lt more h so_far =
+    kept chunks all events i k d lt
+    (λ es.
+    rw (drop-cons chunks k c more)
+    (settled-within (get_or chunks k c) (drop (suc k) chunks) (get_or events i d) es h))
+    so_far
 
 pub settle-none : (chunks : List Chunk) (all events : List Event) (i k : ℕ) → i < length events → length chunks ≤ k →
     Settling chunks all i k events → Settling chunks all (i + 1) k events
@@ -63,16 +97,18 @@ settle-none chunks all events i k lt le so_far =
 
 -- one more event, the end of a line
 pub settle-end : (chunks : List Chunk) (all events : List Event) (i k : ℕ) (d : Event) (c : Chunk) → i < length events →
-    k < length chunks → is_data_end (get_or events i d) ≡ true →
+    k < length chunks → is_piece_end (get_or events i d) ≡ true →
+    (get_or chunks k c).after.index ≤ (get_or events i d).point.index →
     Settling chunks all i k events →
     Settling chunks all (i + 1) (k + 1)
     (set events i (record (get_or events i d) { point = (get_or chunks k c).after }))
-settle-end chunks all events i k d c lt more h so_far =
+settle-end chunks all events i k d c lt more h past so_far =
     let e : Event = record (get_or events i d) { point = (get_or chunks k c).after } in
     let rest = drop (suc i) events in
     let first : settled (drop k chunks) (drop i events) ≡ e ∷ settled (drop (suc k) chunks) rest =
     ap (settled (drop k chunks)) (drop-cons events i d lt)
-    ∙ ap (λ (l : List Chunk). settled l (get_or events i d ∷ rest)) (drop-cons chunks k c more) ∙ rw h refl in
+    ∙ ap (λ (l : List Chunk). settled l (get_or events i d ∷ rest)) (drop-cons chunks k c more)
+    ∙ settled-end (get_or chunks k c) (drop (suc k) chunks) (get_or events i d) rest h past in
     record {
       within = omega arith;
       placed =

@@ -1,43 +1,159 @@
 -- Each state of content keeps what its table needs, and takes one step of what it means.
-use Rattle.std.proofs.Common.{◌≡◌, Bool, refl}
+use Rattle.std.proofs.Common.{◌≡◌, Bool, refl, sym}
 use Rattle.md_engine.specs.declared.state.Name.{Name as StateName}
 use Rattle.md_engine.specs.declared.state.Name.TheVariants as n
 use Rattle.md_engine.specs.declared.state.State.TheVariants.{Next}
 use Rattle.md_engine.specs.Meaning.{Feed, Steps}
+use Rattle.md_engine.specs.declared.configuration.ParseOptions.{ParseOptions}
 use Rattle.md_engine.specs.Run.{reading}
-use Rattle.md_engine.specs.Scheme.{stands}
+use Rattle.md_engine.specs.Scheme.{after_all, stands}
 use Rattle.md_engine.specs.Standing.{MeansAt, StandsOn}
 use Rattle.md_engine.specs.World.{Setting, World, looks}
 use Rattle.md_engine.proofs.Local.{fits}
 use Rattle.md_engine.proofs.StepOf.{Sees, sees, steps-as}
-use Rattle.md_content.specs.States.{ContentStep, content_behaves, content_owner, content_scheme, content_transition}
+use Rattle.md_content.specs.DefinitionsRule.{HasDefinitions}
 use Rattle.md_content.specs.ParagraphRule.{HasParagraph}
+use Rattle.md_content.specs.States.{ContentStep, content_behaves, content_owner, content_scheme, content_transition}
+use Rattle.md_content.proofs.DefinitionsGoods.{DefinitionsFits, definitions_does}
+use Rattle.md_content.proofs.DefinitionsSteps.{definitions_steps}
 use Rattle.md_content.proofs.ParagraphGoods.{ParagraphFits, paragraph_does}
 use Rattle.md_content.proofs.ParagraphSteps.{paragraph_steps}
-use Rattle.md_seam.proofs.SpacesGoods.{Does, does-stands}
+use Rattle.md_parts.specs.DefinitionRule.{HasDefinition}
+use Rattle.md_parts.specs.DestinationRule.{HasDestination}
+use Rattle.md_parts.specs.GapRule.{HasGap}
+use Rattle.md_parts.specs.LabelRule.{HasLabel}
+use Rattle.md_parts.specs.TitleRule.{HasTitle}
+use Rattle.md_parts.proofs.DefinitionGoods.{DefinitionFits, definition_does}
+use Rattle.md_parts.proofs.DefinitionSteps.{definition_steps}
+use Rattle.md_parts.proofs.DestinationGoods.{DestinationFits, destination_does}
+use Rattle.md_parts.proofs.DestinationSteps.{destination_steps}
+use Rattle.md_parts.proofs.GapGoods.{GapFits, gap_does}
+use Rattle.md_parts.proofs.GapSteps.{gap_steps}
+use Rattle.md_parts.proofs.LabelGoods.{LabelFits, label_does}
+use Rattle.md_parts.proofs.LabelSteps.{label_steps}
+use Rattle.md_parts.proofs.TitleGoods.{TitleFits, title_does}
+use Rattle.md_parts.proofs.TitleSteps.{title_steps}
+use Rattle.md_seam.specs.Ahead.{HasWhite}
+use Rattle.md_seam.proofs.SpacesGoods.{Does, WhiteFits, does-stands, white_does}
+use Rattle.md_seam.proofs.WhiteSteps.{white_steps}
+
+-- The table has each construct.
+
+white_fits : WhiteFits content_scheme
+white_fits = record { each = λ state. fits content_owner (n.SpaceOrTab state) }
+
+gap_fits : GapFits content_scheme
+gap_fits = record { white = white_fits; each = λ state. fits content_owner (n.SpaceOrTabEol state) }
+
+label_fits : LabelFits content_scheme
+label_fits = record { each = λ state. fits content_owner (n.Label state) }
+
+destination_fits : DestinationFits content_scheme
+destination_fits = record { each = λ state. fits content_owner (n.Destination state) }
+
+title_fits : TitleFits content_scheme
+title_fits = record { each = λ state. fits content_owner (n.Title state) }
+
+definition_fits : DefinitionFits content_scheme
+definition_fits = record {
+  gap = gap_fits;
+  label = label_fits;
+  destination = destination_fits;
+  title = title_fits;
+  each = λ state. fits content_owner (n.Definition state);
+}
 
 paragraph_fits : ParagraphFits content_scheme
 paragraph_fits = record { each = λ state. fits content_owner (n.Paragraph state) }
 
+definitions_fits : DefinitionsFits content_scheme
+definitions_fits = record {
+  definition = definition_fits;
+  paragraph = paragraph_fits;
+  each = λ state. fits content_owner (n.Content state);
+}
+
 pub content_does : (name : StateName) (w : World) → w.current ≡ looks w → stands content_scheme w (Next name) →
     Does content_scheme name w (content_transition name w)
+content_does (n.Content state) w c r = definitions_does content_scheme state w definitions_fits c r
+content_does (n.Definition state) w c r = definition_does content_scheme state w definition_fits c r
+content_does (n.Destination state) w c r = destination_does content_scheme state w destination_fits c r
+content_does (n.Label state) w c r = label_does content_scheme state w label_fits c r
 content_does (n.Paragraph state) w c r = paragraph_does content_scheme state w paragraph_fits c r
+content_does (n.SpaceOrTab state) w c r = white_does content_scheme state w white_fits c r
+content_does (n.SpaceOrTabEol state) w c r = gap_does content_scheme state w gap_fits c r
+content_does (n.Title state) w c r = title_does content_scheme state w title_fits c r
 content_does name w c r = absurd r
 
-has_paragraph : HasParagraph content_behaves
-has_paragraph = record { each = λ _ _ _. refl }
+-- What is left at each state is what the constructs say.
+
+has_white : (options : ParseOptions) → HasWhite (content_behaves options)
+has_white options = record { each = λ _ _ _. refl }
+
+has_gap : (options : ParseOptions) → HasGap (content_behaves options)
+has_gap options = record { white = has_white options; each = λ _ _ _. refl }
+
+has_label : (options : ParseOptions) → HasLabel (content_behaves options)
+has_label options = record { each = λ _ _ _. refl }
+
+has_destination : (options : ParseOptions) → HasDestination (content_behaves options)
+has_destination options = record { each = λ _ _ _. refl }
+
+has_title : (options : ParseOptions) → HasTitle (content_behaves options)
+has_title options = record { each = λ _ _ _. refl }
+
+has_definition : (options : ParseOptions) → HasDefinition (content_behaves options) options
+has_definition options = record {
+  gap = has_gap options;
+  label = has_label options;
+  destination = has_destination options;
+  title = has_title options;
+  each = λ _ _ _. refl;
+}
+
+has_paragraph : (options : ParseOptions) → HasParagraph (content_behaves options)
+has_paragraph options = record { each = λ _ _ _. refl }
+
+has_definitions : (options : ParseOptions) → HasDefinitions (content_behaves options) options
+has_definitions options = record {
+  definition = has_definition options;
+  paragraph = has_paragraph options;
+  each = λ _ _ _. refl;
+}
 
 content_steps : (feed : Feed) (name : StateName) (w : World) → Sees feed w → stands content_scheme w (Next name) →
-    Steps content_behaves feed (Next name) w (content_transition name w).to (content_transition name w).world
-content_steps feed (n.Paragraph state) w s at = paragraph_steps content_behaves feed state w has_paragraph s
+    Steps (content_behaves w.setting.options) feed (Next name) w (content_transition name w).to
+    (content_transition name w).world
+content_steps feed (n.Content state) w s at =
+    definitions_steps (content_behaves w.setting.options) feed state w (after_all content_scheme w.frames)
+    (has_definitions w.setting.options) s at
+content_steps feed (n.Definition state) w s at =
+    definition_steps (content_behaves w.setting.options) feed state w (after_all content_scheme w.frames)
+    (has_definition w.setting.options) s at
+content_steps feed (n.Destination state) w s at =
+    destination_steps (content_behaves w.setting.options) feed state w (after_all content_scheme w.frames)
+    (has_destination w.setting.options) s at
+content_steps feed (n.Label state) w s at =
+    label_steps (content_behaves w.setting.options) feed state w (after_all content_scheme w.frames)
+    (has_label w.setting.options) s at
+content_steps feed (n.Paragraph state) w s at =
+    paragraph_steps (content_behaves w.setting.options) feed state w (has_paragraph w.setting.options) s
+content_steps feed (n.SpaceOrTab state) w s at =
+    white_steps (content_behaves w.setting.options) feed state w (has_white w.setting.options) s
+content_steps feed (n.SpaceOrTabEol state) w s at =
+    gap_steps (content_behaves w.setting.options) feed state w (after_all content_scheme w.frames)
+    (has_gap w.setting.options) s at
+content_steps feed (n.Title state) w s at =
+    title_steps (content_behaves w.setting.options) feed state w (after_all content_scheme w.frames)
+    (has_title w.setting.options) s at
 content_steps feed name w s at = absurd at
 
 -- each state of content takes one step of what it means
 pub content_means : (under : Setting) (is_end : Bool) →
-    MeansAt ContentStep content_scheme under content_behaves is_end
+    MeansAt ContentStep content_scheme under (content_behaves under.options) is_end
 content_means under is_end feed name w to new f called step =
-    steps-as content_behaves feed (Next name) _ to (reading w) _ new step.to_is step.new_is
-    (content_steps feed name (reading w) (sees feed w is_end f called.may) called.stands)
+    steps-as (content_behaves under.options) feed (Next name) _ to (reading w) _ new step.to_is step.new_is
+    (rw (sym called.setting) (content_steps feed name (reading w) (sees feed w is_end f called.may) called.stands))
 
 -- and comes to where the table stands
 pub content_stands : StandsOn ContentStep content_scheme

@@ -1,5 +1,6 @@
 -- What a part of content is read as, over the text of its chunks.
-use Rattle.std.specs.Prelude.{◌≡◌, ℕ, Bool, true, false, ◌&&◌, if◌then◌else◌, List, [], ◌∷◌}
+use Rattle.std.specs.Prelude.{◌≡◌, ℕ, Bool, true, false, ◌&&◌, ◌||◌, if◌then◌else◌, nat_le, List, []}
+use Rattle.std.specs.Prelude.{◌∷◌}
 use Rattle.md_engine.specs.declared.configuration.ParseOptions.{ParseOptions}
 use Rattle.md_engine.specs.declared.event.Content.{Content}
 use Rattle.md_engine.specs.declared.event.Content.TheVariants as content
@@ -8,8 +9,9 @@ use Rattle.md_engine.specs.declared.event.Point.{Point}
 use Rattle.md_engine.specs.Place.{first_point}
 use Rattle.md_engine.specs.TextFeed.{text_feed}
 use Rattle.md_engine.specs.World.{World, fresh, reads_to, skipping}
-use Rattle.md_content.specs.States.{content_over}
+use Rattle.md_content.specs.ContentRule.{content_over}
 use Rattle.md_seam.specs.declared.inline.Chunk.{Chunk}
+use Rattle.md_seam.specs.Events.Inline.{is_line_ending}
 use Rattle.md_seam.specs.Events.Nested.{is_exit}
 use Rattle.md_seam.specs.Substituted.{Readings}
 use Rattle.md_seam.specs.Events.Tiles.{is_data}
@@ -34,23 +36,25 @@ skipping_all w (chunk ∷ chunks) = skipping_all (skipping w chunk.first) chunks
 abbrev pub part_world : List ℕ → ParseOptions → List Chunk → World
 part_world bytes options chunks = reads_to (skipping_all (fresh bytes options (first_of chunks)) chunks) (end_of chunks)
 
--- whether a line of what was read ends here
-abbrev pub is_data_end : Event → Bool
-is_data_end e = is_exit e.kind && is_data e.name
+-- whether a piece of what was read ends here, with which a line may end: text, or an ending alone
+abbrev pub is_piece_end : Event → Bool
+is_piece_end e = is_exit e.kind && (is_data e.name || is_line_ending e.name)
 
--- each line ends where its chunk does: the prefixes of containers in front of the next one belong to no line
--- (CommonMark 5.1)
+-- Each line ends where its chunk does: the prefixes of containers in front of the next one belong to no line
+-- (CommonMark 5.1). The piece that ends a line is the first that ends there or behind it.
 abbrev pub settled : List Chunk → List Event → List Event
 settled chunks [] = []
 settled [] (e ∷ es) = e ∷ es
 settled (chunk ∷ chunks) (e ∷ es) =
-    if is_data_end e then record e { point = chunk.after } ∷ settled chunks es else e ∷ settled (chunk ∷ chunks) es
+    if is_piece_end e && nat_le chunk.after.index e.point.index
+    then record e { point = chunk.after } ∷ settled chunks es
+    else e ∷ settled (chunk ∷ chunks) es
 
 -- the events of a part
 unfoldable pub content_events : List ℕ → ParseOptions → List Chunk → List Event
 content_events bytes options chunks =
     let w = part_world bytes options chunks in
-    settled chunks (content_over (text_feed w.setting w.point) w.point)
+    settled chunks (content_over options (text_feed w.setting w.point) w.point)
 
 -- What the reader of content reads, and as what.
 

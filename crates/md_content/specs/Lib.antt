@@ -1,8 +1,13 @@
 pub mod Paragraph
 pub mod Chunks
+pub mod Definitions
 pub mod States
 pub mod ChunkRule
 pub mod ParagraphRule
+pub mod ContentRule
+pub mod DefinitionsRule
 pub mod Resolves
 pub mod Joined
+pub mod Labels
+pub mod LabelTexts
 pub mod ContentReads

@@ -43,6 +43,7 @@ paragraph_rank (n.Paragraph its.Start) x = ranked 2 refl
 paragraph_rank (n.Paragraph its.LineStart) x = ranked 1 refl
 paragraph_rank _ x = ranked 0 refl
 
+-- an attempt at a definition may go on with it, and definitions are below
 abbrev pub paragraph_scheme : Scheme
 paragraph_scheme =
-    record { ready = λ n x K. rest_ready x K; level = λ n. 1; rank = paragraph_rank; tries = λ n. ranked 0 refl }
+    record { ready = λ n x K. rest_ready x K; level = λ n. 4; rank = paragraph_rank; tries = λ n. ranked 3 refl }

@@ -1,9 +1,10 @@
 // Content: lines that no other block takes (CommonMark 4.7 and 4.8).
 //
 //     content ::= 1*line
+//     text    ::= *( definition eol ) ( definition | paragraph )
 //
 // Each line first stands as one linked `Content`. When all lines are known, those that follow one another are joined
-// and read as one.
+// and read as one text.
 //
 // The prefixes of containers in front of a line belong to no line of the content (CommonMark 5.1). So each line begins
 // behind those in front of it, and ends behind its ending, before those of the next line: its end is that of its chunk.
@@ -12,13 +13,14 @@ ghost use Rattle.std.specs.Prelude.{◌≡◌, ◌≢◌, ℕ, ◌≤◌, ◌&&�
 ghost use Rattle.std.specs.List.{prefix_len};
 ghost use Rattle.std.specs.Option.{option_map};
 ghost use Rattle.md_engine.specs.Found.{found_in};
+ghost use Rattle.md_engine.specs.Scheme.{stands};
 ghost use Rattle.md_engine.specs.World.{looks, world};
 ghost use Rattle.md_engine.specs.declared.state.Name.{Name as StateName};
 ghost use Rattle.md_engine.specs.declared.state.State.{State};
 ghost use Rattle.md_engine.specs.declared.state.content.State.{State as ContentState};
-ghost use Rattle.md_content.specs.States.{content_transition};
+ghost use Rattle.md_content.specs.States.{content_scheme, content_transition};
 ghost use Rattle.md_content.specs.Chunks.{chunk_inside_code, chunk_start_transition, chunk_transition};
-ghost use Rattle.md_content.specs.ContentReads.{content_events, is_data_end, settled};
+ghost use Rattle.md_content.specs.ContentReads.{content_events, is_piece_end, settled};
 ghost use Rattle.md_content.specs.Joined.{GoesOnAt, JoinsAt, goes_on, is_content, is_of_prefix, joined};
 ghost use Rattle.md_content.specs.Resolves.{Resolves, is_all_read};
 ghost use Rattle.md_seam.specs.Events.Inline.{is_line_ending};
@@ -28,21 +30,23 @@ ghost use Rattle.md_seam.specs.Spaces.{ends_line};
 ghost use Rattle.md_seam.specs.Stays.{TakesEach};
 ghost use Rattle.md_seam.specs.Transition.{IsAt, NeedsNothing};
 
-use crate::paragraph;
+use crate::labels::labels;
+use crate::{definitions, paragraph};
 use md_engine::configuration::ParseOptions;
 use md_engine::event::{Content, Event, Kind, Link, Name};
 use md_engine::message::Message;
 use md_engine::or_error;
 use md_engine::resolve::Name as ResolveName;
 use md_engine::state::content::State as ContentState;
-use md_engine::state::paragraph::State as ParagraphState;
 use md_engine::state::{Name as StateName, State};
 use md_engine::stay::Stay;
 use md_engine::subtokenize::Subresult;
 use md_engine::table::{Table, flush, push};
 use md_engine::tokenizer::{HeldLeaf, Tokenizer};
+use md_parts::{definition, destination, label, space_or_tab_eol, title};
 use md_seam::inline::Chunk;
 use md_seam::moving::move_down;
+use md_seam::space_or_tab;
 use md_seam::subtokenize::{Reader, is_prefix, subtokenize};
 use std::alloc::Global;
 
@@ -127,19 +131,27 @@ pub fn stays(state: ContentState) -> Option<Stay>
     }
 }
 
-/// Calls a state of content.
+/// Calls a state of the table of content.
 fn call_state(tokenizer: &mut Tokenizer, name: StateName) -> State
-    requires { (world tokenizer.old).current ≡ looks (world tokenizer.old) }
+    requires current { (world tokenizer.old).current ≡ looks (world tokenizer.old) }
+    requires stands { stands content_scheme (world tokenizer.old) (State.Next name) }
     ensures to { result ≢ State.Error → result ≡ (content_transition name (world tokenizer.old)).to }
     ensures world { result ≢ State.Error → world tokenizer.new ≡ (content_transition name (world tokenizer.old)).world }
 {
     match name {
+        StateName::Content(state) => definitions::call(tokenizer, state),
+        StateName::Definition(state) => definition::call(tokenizer, state),
+        StateName::Destination(state) => destination::call(tokenizer, state),
+        StateName::Label(state) => label::call(tokenizer, state),
         StateName::Paragraph(state) => paragraph::call(tokenizer, state),
+        StateName::SpaceOrTab(state) => space_or_tab::call(tokenizer, state),
+        StateName::SpaceOrTabEol(state) => space_or_tab_eol::call(tokenizer, state),
+        StateName::Title(state) => title::call(tokenizer, state),
         _ => State::Nok,
     }
 }
 
-/// The states of content.
+/// The states of the text of content.
 pub struct ContentTable;
 
 impl Table for ContentTable {
@@ -158,7 +170,9 @@ impl Table for ContentTable {
 
     fn stays(name: StateName) -> Option<Stay> {
         match name {
+            StateName::Label(state) => label::stays(state),
             StateName::Paragraph(state) => paragraph::stays(state),
+            StateName::SpaceOrTab(state) => space_or_tab::stays(state),
             _ => None,
         }
     }
@@ -203,7 +217,7 @@ impl Reader for ContentReader<'_> {
 }
 
 impl ContentReader<'_> {
-    /// The events of a part that stands in these chunks: a paragraph over them.
+    /// The events of a part that stands in these chunks: definitions and a paragraph over them.
     fn read_part(
         &self,
         alloc: Global,
@@ -222,7 +236,7 @@ impl ContentReader<'_> {
             tokenizer.define_skip(chunk.first)?;
         }
         let end = chunks[chunks.len() - 1].after.index;
-        let start = State::Next(StateName::Paragraph(ParagraphState::Start));
+        let start = State::Next(StateName::Content(ContentState::DefinitionBefore));
         let state = match push::<ContentTable>(&mut tokenizer, end, start) {
             State::Error => return Err(Message),
             state => state,
@@ -234,17 +248,18 @@ impl ContentReader<'_> {
     }
 }
 
-/// Whether a line of what is read of content ends here.
-fn ends_line_of_data(event: &Event) -> bool
-    ensures { result ≡ is_data_end event.now }
+/// Whether a piece of what is read of content ends here, with which a line may end.
+fn ends_piece(event: &Event) -> bool
+    ensures { result ≡ is_piece_end event.now }
 {
-    matches!(event.kind, Kind::Exit) && matches!(event.name, Name::Data)
+    matches!(event.kind, Kind::Exit) && matches!(event.name, Name::Data | Name::LineEnding)
 }
 
 /// Has each line of what was read end where its chunk ends.
 ///
 /// The tokenizer goes from the ending of a line at once to the begin of the next chunk, which may lie behind prefixes
-/// of containers. These belong to no line, so a line that was read ends before them.
+/// of containers. These belong to no line, so the piece that ends with a line ends before them: text, or the ending
+/// alone, as it stands between the parts of a definition.
 ///
 /// ```markdown
 /// > | > a
@@ -259,8 +274,12 @@ fn settle(events: &mut [Event], chunks: &[Chunk])
 {
     let mut line = 0;
     for event in events.iter_mut() {
-        if line < chunks.len() && ends_line_of_data(event) {
-            event.point = chunks[line].after;
+        if line >= chunks.len() || !ends_piece(event) {
+            continue;
+        }
+        let after = chunks[line].after;
+        if after.index <= event.point.index {
+            event.point = after;
             line += 1;
         }
     }
@@ -382,7 +401,7 @@ fn is_done(events: &[Event]) -> bool
     events.iter().all(|event| event.link.is_none())
 }
 
-/// Joins the lines of content that follow one another, and reads them.
+/// Joins the lines of content that follow one another, and reads them. It finds the labels of definitions.
 ///
 /// After an `Err` the parse has failed, and the tokenizer is only dropped.
 pub fn resolve(tokenizer: &mut Tokenizer) -> Result<Option<Subresult>, Message>
@@ -399,10 +418,11 @@ pub fn resolve(tokenizer: &mut Tokenizer) -> Result<Option<Subresult>, Message>
     let spare = tokenizer.take_spare();
     let read = subtokenize(alloc, &reader, &events, spare)?;
     let done = is_done(&read);
+    let definitions = labels(alloc, tokenizer.bytes, &read)?;
     tokenizer.set_events(read, events);
     Ok(Some(Subresult {
         done,
         gfm_footnote_definitions: Vec::new(alloc),
-        definitions: Vec::new(alloc),
+        definitions,
     }))
 }

@@ -2,4 +2,6 @@
 #![tactic(auto)]
 
 pub mod content;
+pub mod definitions;
+mod labels;
 pub mod paragraph;

@@ -1,5 +1,7 @@
 pub mod BlocksStay
 pub mod ClosedTrees
+pub mod DefinedLemmas
+pub mod DefinedPass
 pub mod FirstLine
 pub mod HeadingLemmas
 pub mod LinedLemmas

@@ -1,4 +1,5 @@
--- Leaf blocks of several lines: an outline shows their lines as they come. Of setext headings `TitledLemmas` has it.
+-- Leaf blocks of several lines: an outline shows their lines as they come. Of setext headings `TitledLemmas` has it, and
+-- of definitions `DefinedLemmas`.
 use Rattle.std.proofs.Common.{◌≡◌, ℕ, ◌+◌, Bool, true, false, cond, ◌==◌, List, [], ◌∷◌, ◌++◌, length}
 use Rattle.std.proofs.Common.{slice_range, refl, sym, ◌∙◌, ap, subst, append_assoc, arith}
 use Rattle.std.specs.Prelude.{Option, Some, None, nat_lt, option_map}
@@ -14,32 +15,36 @@ use Rattle.md_definition.specs.Outline.{part_entry}
 use Rattle.md_definition.specs.State.{then_block}
 use Rattle.md_definition.specs.Texts.{first_byte}
 use Rattle.md_definition.specs.Tree.{Line}
-use Rattle.md_seam.specs.Events.Spelled.{AsHeading, AsInfo, AsLine, AsMarkers, AsMeta, CodeLeaf, FenceLeaf, Holds}
-use Rattle.md_seam.specs.Events.Spelled.{HtmlLeaf, IsEnding, IsFence, IsPrefix, IsQuiet, LeafKind, MathLeaf, OfCode}
-use Rattle.md_seam.specs.Events.Spelled.{OfFence, OfHeadingSetext, OfHtml, OfMath, OpenLeaf, Opens, OrderedShape}
+use Rattle.md_seam.specs.Events.Spelled.{AsDestination, AsHeading, AsInfo, AsLabel, AsLine, AsMarkers, AsMeta, AsTitle}
+use Rattle.md_seam.specs.Events.Spelled.{CodeLeaf, FenceLeaf, Holds, HtmlLeaf, IsEnding, IsFence, IsPrefix, IsQuiet}
+use Rattle.md_seam.specs.Events.Spelled.{IsTitle, LeafKind, MathLeaf, OfCode, OfDefinition, OfFence, OfHeadingSetext}
+use Rattle.md_seam.specs.Events.Spelled.{OfHtml, OfMath, OpenLeaf, Opens, OrderedShape}
 use Rattle.md_seam.specs.Events.Spelled.{Reading, Tells, Text, no_heading}
 use Rattle.md_seam.specs.Events.Spelled.{UnorderedShape, after_prefix, at_ending, at_fence, before_prefix, begun}
 use Rattle.md_seam.specs.Events.Spelled.{block_of, byte_at, columns_left, empty_line, finished, fresh, joined}
 use Rattle.md_seam.specs.Events.Spelled.{next_line, on_last, on_leaf, read_by, read_enter, read_exit, without_last}
 use Rattle.md_seam.specs.Events.Spelled as spelled
 use Rattle.md_outline.specs.HeadingDepths.{are_shallow}
-use Rattle.md_outline.specs.LinedState.{begin_lines, closed_word, filled_line, is_heading, marked_word, with_head}
-use Rattle.md_outline.specs.LinedState.{without_end}
+use Rattle.md_outline.specs.LinedState.{begin_lines, closed_word, filled_line, form_of, has_own_lines, marked_word}
+use Rattle.md_outline.specs.LinedState.{with_head, without_end}
 use Rattle.md_outline.specs.LinesStand.{AtEnd, AtEnding, AtInfo, AtLine, AtMarkers, AtMeta, HasFences, HasInfo, HasLines}
 use Rattle.md_outline.specs.LinesStand.{AtTitle, BehindTitle, BehindUnderline, InAtxText, InEnd, InMarkers, InText}
 use Rattle.md_outline.specs.LinesStand.{InTitle, InUnderline, LinesStand, MayStand, Outside, SameText, Site}
-use Rattle.md_outline.specs.LinesStand.{site_by, text_site}
+use Rattle.md_outline.specs.LinesStand.{AtLabel, AtTitleText, BehindPart, BehindTitleText}
+use Rattle.md_outline.specs.LinesStand.{InDestination, InPart, InParted, LabelPart, TitlePart, site_by, text_site}
 use Rattle.md_outline.specs.ListsBegin.{AllTold, MayFollow, Stage, stage_by}
 use Rattle.md_outline.specs.Outlined.{is_unparted, parts_by}
 use Rattle.md_outline.specs.OutlineSteps.{OutlineState, fence_begun, head_marked, line_ended, state_by}
 use Rattle.md_outline.specs.OutlineSteps.{state_enter, state_exit, told, told_leaf}
 use Rattle.md_outline.specs.Roles.{is_shown, shown_as}
 use Rattle.md_outline.specs.declared.outline.Span.{Span}
+use Rattle.md_outline.specs.declared.outline.lined.Form.TheVariants as form
 use Rattle.md_outline.specs.declared.outline.lined.Lined.{Lined}
 use Rattle.md_outline.specs.declared.outline.role.Note.TheVariants as note
 use Rattle.md_outline.specs.declared.outline.role.Purpose.TheVariants as purpose
 use Rattle.md_outline.specs.declared.outline.role.Role.TheVariants as role
 use Rattle.md_outline.proofs.ClosedTrees.{HaveWords, depth_of, shown, shown-then, words-then}
+use Rattle.md_outline.proofs.DefinedLemmas as defined
 use Rattle.md_outline.proofs.LinedLines.{end-taken, head-told}
 use Rattle.md_outline.proofs.ListLemmas.{AgreesAt, agrees-stage, lines-closed}
 use Rattle.md_outline.proofs.OutlineAgrees.{Agrees, TextIs, agrees-begun, agrees-ending, agrees-title, apart}
@@ -93,7 +98,7 @@ pub record Lining (kind : LeafKind) (markers : List ℕ) (info meta : Option (Li
   words : HaveWords r.outer r.here
   untold : s.untold ≡ None
   leaf : s.leaf ≡ None
-  lined : s.lined ≡ Some (record { place = length (shown r.outer r.here); is_fenced = fenced; is_heading = false })
+  lined : s.lined ≡ Some (record { place = length (shown r.outer r.here); is_fenced = fenced; form = form.Lines })
   all : s.lines ≡ shown r.outer r.here ++ lined_entries kind s.depth markers info meta lines closed
 
 -- whatever text is read
@@ -146,11 +151,11 @@ abbrev pub Ended : LeafKind → Bool → OutlineState → Reading → Type 0
 Ended kind closed s r =
     (info : Option (List ℕ)) × (meta : Option (List ℕ)) × (lines : List Line) × Marked kind info meta lines closed s r
 
-abbrev pub InPart : LeafKind → spelled.Purpose → OutlineState → Reading → Type 0
-InPart kind AsInfo s r = HasInfo kind × Marked kind None None [] false s r
-InPart kind AsMeta s r = HasFences kind × ((info : Option (List ℕ)) × Marked kind info None [] false s r)
-InPart kind AsLine s r = OnLine kind s r
-InPart kind _ s r = ⊥
+abbrev pub InTextOf : LeafKind → spelled.Purpose → OutlineState → Reading → Type 0
+InTextOf kind AsInfo s r = HasInfo kind × Marked kind None None [] false s r
+InTextOf kind AsMeta s r = HasFences kind × ((info : Option (List ℕ)) × Marked kind info None [] false s r)
+InTextOf kind AsLine s r = OnLine kind s r
+InTextOf kind _ s r = ⊥
 
 abbrev pub AgreesIn : Site → OutlineState → Reading → Type 0
 AgreesIn Outside s r = ⊥
@@ -159,7 +164,7 @@ AgreesIn (InMarkers kind q) s r = HasFences kind × Lining kind [] None None [] 
 AgreesIn (AtInfo kind) s r = HasFences kind × Marked kind None None [] false s r × NoText s r
 AgreesIn (AtMeta kind) s r =
     HasFences kind × ((info : Option (List ℕ)) × Marked kind info None [] false s r) × NoText s r
-AgreesIn (InText kind x) s r = InPart kind x s r × ((q : Point) × TextFrom q s r)
+AgreesIn (InText kind x) s r = InTextOf kind x s r × ((q : Point) × TextFrom q s r)
 AgreesIn (AtEnding kind) s r = Ended kind false s r × NoText s r
 AgreesIn (AtLine kind) s r = OnLine kind s r × NoText s r
 AgreesIn (AtEnd kind) s r = HasFences kind × Ended kind true s r × NoText s r
@@ -170,11 +175,18 @@ AgreesIn BehindTitle s r = titled.Unmarked s r × NoText s r
 AgreesIn InUnderline s r = titled.Unmarked s r × ((q : Point) × TextFrom q s r)
 AgreesIn BehindUnderline s r = titled.IsMarked s r × NoText s r
 AgreesIn InAtxText s r = Agrees s r × (is_unparted s.text ≡ true)
+AgreesIn AtLabel s r = defined.AtText LabelPart s r × NoText s r
+AgreesIn (InPart part q) s r = defined.AtText part s r × TextFrom q s r
+AgreesIn (InParted part) s r = defined.InText part s r
+AgreesIn (BehindPart left) s r = defined.Behind left s r × NoText s r
+AgreesIn InDestination s r = defined.InDestinationText s r × ((q : Point) × TextFrom q s r)
+AgreesIn AtTitleText s r = defined.AtText TitlePart s r × NoText s r
+AgreesIn BehindTitleText s r = defined.BehindText s r × NoText s r
 
 -- It begins.
 
 lining-begins : (bytes : List ℕ) (kind : LeafKind) (w : Word) (lines : List Line) (p : Point) (s : OutlineState)
-    (r : Reading) → is_heading w ≡ false → fresh kind ≡ lined_leaf kind [] None None lines false →
+    (r : Reading) → form_of w ≡ form.Lines → fresh kind ≡ lined_leaf kind [] None None lines false →
     begin_lines s.depth w ≡ lined_entries kind s.depth [] None None lines false → s.text ≡ None → Agrees s r →
     Lining kind [] None None lines false false (state_enter bytes (role.Lined w) p s) (read_enter bytes (Opens kind) p r)
 lining-begins bytes kind w lines p s r other leaf begins none is =
@@ -189,11 +201,11 @@ lining-begins bytes kind w lines p s r other leaf begins none is =
       lined =
           ap
           (λ (es : List Entry).
-          Some (record { place = length es; is_fenced = false; is_heading = is_heading w }))
+          Some (record { place = length es; is_fenced = false; form = form_of w }))
           same
           ∙ ap
           (λ x.
-          Some (record { place = length (shown r.outer r.here); is_fenced = false; is_heading = x }))
+          Some (record { place = length (shown r.outer r.here); is_fenced = false; form = x }))
           other;
       all =
           ap (λ es. es ++ begin_lines s.depth w) same ∙ ap (λ es. shown r.outer r.here ++ es) begins;
@@ -251,7 +263,7 @@ ending-agrees : (P : Bool → OutlineState → Reading → Type 0) (bytes : List
 ending-agrees P bytes p kind s r e none opens stays =
     let further : Bool = nat_lt p.index (length bytes) in
     let lined : Lined =
-    record { place = length (shown r.outer r.here); is_fenced = e.3.fenced; is_heading = false } in
+    record { place = length (shown r.outer r.here); is_fenced = e.3.fenced; form = form.Lines } in
     subst (λ l. P further (line_ended bytes p.index l s.text s) (at_ending bytes p r.text r)) (sym e.3.is.lined)
     (subst (λ span. P further (line_ended bytes p.index (Some lined) span s) (at_ending bytes p r.text r)) (sym none.0)
     (subst (λ text. P further (line_ended bytes p.index (Some lined) None s) (at_ending bytes p text r)) (sym none.1)
@@ -480,7 +492,7 @@ fence-closes kind info meta lines s r h m =
     let before : List Entry = shown r.outer r.here in
     let front : List Entry = before ++ lined_entries kind s.depth m.markers info meta lines false in
     let lined : Bool → Lined = λ x.
-    record { place = length before; is_fenced = x; is_heading = false } in
+    record { place = length before; is_fenced = x; form = form.Lines } in
     let fenced : m.fenced ≡ true = is-fenced kind m.markers m.fenced h m.marked in
     subst (λ l. Marked kind info meta lines true (fence_begun l s) (on_leaf at_fence r))
     (sym (m.is.lined ∙ ap (λ x. Some (lined x)) fenced))
@@ -530,7 +542,7 @@ markers-stand : (kind : LeafKind) (info meta : Option (List ℕ)) (lines : List 
     (spelled.told AsMarkers line (record r { text = None }))
 markers-stand kind info meta lines line s r h m =
     let lined : Bool → Lined = λ x.
-    record { place = length (shown r.outer r.here); is_fenced = x; is_heading = false } in
+    record { place = length (shown r.outer r.here); is_fenced = x; form = form.Lines } in
     subst
     (λ l.
     Marked kind info meta lines true
@@ -630,13 +642,13 @@ pub span-line : (bytes : List ℕ) (end : ℕ) (lined : Option Lined) (text : Op
     (line_ended bytes end lined text s).text ≡ s.text
 span-line bytes end None text s = refl
 span-line bytes end (Some lined) (Some text) s = refl
-span-line bytes end (Some lined) None s = go lined.is_heading (nat_lt end (length bytes))
+span-line bytes end (Some lined) None s = go (has_own_lines lined.form) (nat_lt end (length bytes))
   where
     go : (y x : Bool) →
-        (cond y s (cond x (record s { lines = s.lines ++ entry (s.depth + 1) word.Line ∷ [] }) s)).text ≡ s.text
-    go true x = refl
-    go false true = refl
-    go false false = refl
+        (cond y (cond x (record s { lines = s.lines ++ entry (s.depth + 1) word.Line ∷ [] }) s) s).text ≡ s.text
+    go true true = refl
+    go true false = refl
+    go false x = refl
 
 -- One event.
 
@@ -672,7 +684,7 @@ has-fences _ h = absurd h
 
 -- a text of it ends
 text-agrees : (bytes : List ℕ) (kind : LeafKind) (y x : spelled.Purpose) (p : Point) (s : OutlineState)
-    (r : Reading) → SameText y x → InPart kind y s r × ((q : Point) × TextFrom q s r) →
+    (r : Reading) → SameText y x → InTextOf kind y s r × ((q : Point) × TextFrom q s r) →
     AgreesWithin (text_site kind y) AllTold (state_exit bytes (shown_as (Tells x)) p s) (read_exit bytes (Tells x) p r)
 text-agrees bytes kind AsInfo AsInfo p s r same is =
     let line : Line = record {
@@ -739,6 +751,20 @@ agrees-in bytes BehindUnderline Enter IsQuiet p s r parts may is = is
 agrees-in bytes BehindUnderline Exit IsQuiet p s r parts may is = is
 agrees-in bytes InAtxText Enter IsQuiet p s r parts may is = is
 agrees-in bytes InAtxText Exit IsQuiet p s r parts may is = is
+agrees-in bytes AtLabel Enter IsQuiet p s r parts may is = is
+agrees-in bytes AtLabel Exit IsQuiet p s r parts may is = is
+agrees-in bytes (InPart part q) Enter IsQuiet p s r parts may is = is
+agrees-in bytes (InPart part q) Exit IsQuiet p s r parts may is = is
+agrees-in bytes (InParted part) Enter IsQuiet p s r parts may is = is
+agrees-in bytes (InParted part) Exit IsQuiet p s r parts may is = is
+agrees-in bytes (BehindPart left) Enter IsQuiet p s r parts may is = is
+agrees-in bytes (BehindPart left) Exit IsQuiet p s r parts may is = is
+agrees-in bytes InDestination Enter IsQuiet p s r parts may is = is
+agrees-in bytes InDestination Exit IsQuiet p s r parts may is = is
+agrees-in bytes AtTitleText Enter IsQuiet p s r parts may is = is
+agrees-in bytes AtTitleText Exit IsQuiet p s r parts may is = is
+agrees-in bytes BehindTitleText Enter IsQuiet p s r parts may is = is
+agrees-in bytes BehindTitleText Exit IsQuiet p s r parts may is = is
 agrees-in bytes (AtMarkers k) Enter IsFence p s r parts may is =
     (is.0, fence-begins k s r is.1, (span-fenced s.lined s ∙ is.2.0, is.2.1))
 agrees-in bytes (AtMarkers k) Enter (Tells AsMarkers) p s r parts may is = (
@@ -857,6 +883,35 @@ agrees-in bytes InAtxText Exit IsEnding p s r parts may is =
     (agrees-ending bytes p s r is.0, ap is_unparted (span-line bytes p.index s.lined s.text s) ∙ is.1)
 agrees-in bytes InAtxText Exit (Tells AsHeading) p s r parts may is =
     agrees-title bytes p s r s.text r.text is.0.text is.1 is.0
+agrees-in bytes AtLabel Enter (Tells AsLabel) p s r parts may is = defined.part-begins LabelPart p s r is.0
+agrees-in bytes (InPart part q) Enter IsPrefix p s r parts may is =
+    defined.part-parts bytes part q p s r may parts is
+agrees-in bytes (InPart part q) Enter IsEnding p s r parts may is = is
+agrees-in bytes (InPart part q) Exit IsEnding p s r parts may is = defined.first-line bytes part q p s r is
+agrees-in bytes (InPart LabelPart q) Exit (Tells AsLabel) p s r parts may is = defined.label-first bytes q p s r is
+agrees-in bytes (InPart TitlePart q) Exit (Tells AsTitle) p s r parts may is = defined.title-first bytes q p s r is
+agrees-in bytes (InParted part) Enter IsPrefix p s r parts may is = defined.part-prefix bytes part p s r parts is
+agrees-in bytes (InParted part) Exit IsPrefix p s r parts may is = defined.part-on part p s r is
+agrees-in bytes (InParted part) Enter IsEnding p s r parts may is = is
+agrees-in bytes (InParted part) Exit IsEnding p s r parts may is = defined.part-line bytes part p s r is
+agrees-in bytes (InParted LabelPart) Exit (Tells AsLabel) p s r parts may is = defined.label-ends bytes p s r parts is
+agrees-in bytes (InParted TitlePart) Exit (Tells AsTitle) p s r parts may is = defined.title-ends bytes p s r parts is
+agrees-in bytes (BehindPart left) Enter IsPrefix p s r parts may is =
+    prefix-enter (defined.Behind left) bytes p s r (defined.behind-keeps left) is
+agrees-in bytes (BehindPart left) Exit IsPrefix p s r parts may is =
+    prefix-exit (defined.Behind left) bytes p s r (defined.behind-keeps left) is
+agrees-in bytes (BehindPart left) Enter IsEnding p s r parts may is = is
+agrees-in bytes (BehindPart left) Exit IsEnding p s r parts may is = defined.behind-line bytes left p s r is
+agrees-in bytes (BehindPart left) Enter (Tells AsDestination) p s r parts may is =
+    defined.destination-begins left p s r may is.0
+agrees-in bytes (BehindPart left) Enter IsTitle p s r parts may is = defined.title-begins bytes left p s r may is
+agrees-in bytes (BehindPart left) Exit (Opens OfDefinition) p s r parts may is =
+    defined.definition-ends left s r is.0 is.1
+agrees-in bytes InDestination Exit (Tells AsDestination) p s r parts may is =
+    defined.destination-ends bytes is.1.0 p s r is.0 is.1.1
+agrees-in bytes AtTitleText Enter (Tells AsTitle) p s r parts may is = defined.part-begins TitlePart p s r is.0
+agrees-in bytes AtTitleText Exit IsTitle p s r parts may is = defined.title-empty bytes p s r is
+agrees-in bytes BehindTitleText Exit IsTitle p s r parts may is = defined.title-full bytes p s r is
 agrees-in bytes _ _ _ p s r parts may is = absurd may
 
 -- no list begins there
@@ -870,7 +925,7 @@ stage-stays bytes site Exit x p s r may is = refl
 
 -- it begins with a line, and without fences
 line-first : (bytes : List ℕ) (kind : LeafKind) (w : Word) (p : Point) (s : OutlineState) (r : Reading) →
-    is_heading w ≡ false → IsMarked kind [] false → fresh kind ≡ lined_leaf kind [] None None (empty_line ∷ []) false →
+    form_of w ≡ form.Lines → IsMarked kind [] false → fresh kind ≡ lined_leaf kind [] None None (empty_line ∷ []) false →
     begin_lines s.depth w ≡ lined_entries kind s.depth [] None None (empty_line ∷ []) false → s.text ≡ None →
     Agrees s r →
     AgreesIn (AtLine kind) (state_enter bytes (role.Lined w) p s) (read_enter bytes (Opens kind) p r)
@@ -910,6 +965,8 @@ agrees-site bytes Outside AllTold Enter (Opens OfMath) p s r h k d may stands is
     (tt, lining-begins bytes OfMath (word.Math false) [] p s r refl refl refl none is, (none, begins-texts s r none is))
 agrees-site bytes Outside AllTold Enter (Opens OfHeadingSetext) p s r h k d may stands is =
     heading-begins bytes p s r (no-span bytes OfHeadingSetext p s.text refl k) is
+agrees-site bytes Outside AllTold Enter (Opens OfDefinition) p s r h k d may stands is =
+    defined.definition-begins bytes p s r (no-span bytes OfDefinition p s.text refl k) is
 agrees-site bytes Outside AllTold Enter (Tells AsHeading) p s r h k d may stands is =
     (agrees-begun p s r (apart bytes Enter (Tells AsHeading) p s.text (λ t. refl) k) is, refl)
 agrees-site bytes Outside stage Enter (Opens OfCode) p s r h k d may stands is = absurd may
@@ -917,17 +974,23 @@ agrees-site bytes Outside stage Enter (Opens OfFence) p s r h k d may stands is 
 agrees-site bytes Outside stage Enter (Opens OfMath) p s r h k d may stands is = absurd may
 agrees-site bytes Outside stage Enter (Opens OfHtml) p s r h k d may stands is = absurd may
 agrees-site bytes Outside stage Enter (Opens OfHeadingSetext) p s r h k d may stands is = absurd may
+agrees-site bytes Outside stage Enter (Opens OfDefinition) p s r h k d may stands is = absurd may
 agrees-site bytes Outside stage Enter (Tells AsHeading) p s r h k d may stands is = absurd may
 agrees-site bytes Outside stage Exit (Opens OfCode) p s r h k d may stands is = absurd stands
 agrees-site bytes Outside stage Exit (Opens OfFence) p s r h k d may stands is = absurd stands
 agrees-site bytes Outside stage Exit (Opens OfMath) p s r h k d may stands is = absurd stands
 agrees-site bytes Outside stage Exit (Opens OfHtml) p s r h k d may stands is = absurd stands
 agrees-site bytes Outside stage Exit (Opens OfHeadingSetext) p s r h k d may stands is = absurd stands
+agrees-site bytes Outside stage Exit (Opens OfDefinition) p s r h k d may stands is = absurd stands
 agrees-site bytes Outside stage Exit (Tells AsHeading) p s r h k d may stands is = absurd stands
 agrees-site bytes Outside stage kind IsFence p s r h k d may stands is = absurd stands
+agrees-site bytes Outside stage kind IsTitle p s r h k d may stands is = absurd stands
 agrees-site bytes Outside stage kind (Tells AsLine) p s r h k d may stands is = absurd stands
 agrees-site bytes Outside stage kind (Tells AsInfo) p s r h k d may stands is = absurd stands
 agrees-site bytes Outside stage kind (Tells AsMeta) p s r h k d may stands is = absurd stands
+agrees-site bytes Outside stage kind (Tells AsLabel) p s r h k d may stands is = absurd stands
+agrees-site bytes Outside stage kind (Tells AsDestination) p s r h k d may stands is = absurd stands
+agrees-site bytes Outside stage kind (Tells AsTitle) p s r h k d may stands is = absurd stands
 agrees-site bytes Outside stage kind x p s r h k d may stands is = agrees-stage bytes stage kind x p s r h k d may is
 agrees-site bytes site AllTold kind x p s r h k d may stands is =
     subst

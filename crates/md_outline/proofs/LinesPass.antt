@@ -11,9 +11,9 @@ use Rattle.md_engine.specs.declared.event.Name.{Name}
 use Rattle.md_engine.specs.declared.event.Name.TheVariants as n
 use Rattle.md_engine.specs.declared.event.Point.{Point}
 use Rattle.md_seam.specs.Events.Nested.{around, enter, exit, pair}
-use Rattle.md_seam.specs.Events.Spelled.{AsHeading, AsInfo, AsLine, AsMarkers, AsMeta, IsEnding, IsFence, IsPrefix}
-use Rattle.md_seam.specs.Events.Spelled.{IsQuiet, LeafKind, OfCode, OfFence, OfHeadingSetext, OfHtml, OfMath, Opens}
-use Rattle.md_seam.specs.Events.Spelled.{Role, Tells, role}
+use Rattle.md_seam.specs.Events.Spelled.{AsDestination, AsHeading, AsInfo, AsLabel, AsLine, AsMarkers, AsMeta, AsTitle}
+use Rattle.md_seam.specs.Events.Spelled.{IsEnding, IsFence, IsPrefix, IsQuiet, IsTitle, LeafKind, OfCode, OfDefinition}
+use Rattle.md_seam.specs.Events.Spelled.{OfFence, OfHeadingSetext, OfHtml, OfMath, Opens, Role, Tells, role}
 use Rattle.md_seam.proofs.SpelledLemmas.{Between, Quiet, QuietOrEnding, QuietOrPrefix, Roles}
 use Rattle.md_outline.specs.LinesStand.{AtEnd, AtEnding, AtLine, AtTitle, BehindTitle, BehindUnderline, HasLines}
 use Rattle.md_outline.specs.LinesStand.{InAtxText, InTitle, InUnderline, LinesStand, MayStand, Outside, Site}
@@ -66,16 +66,21 @@ keeps-plain bytes (Opens OfFence) h kind p = absurd (true≢false (sym h))
 keeps-plain bytes (Opens OfMath) h kind p = absurd (true≢false (sym h))
 keeps-plain bytes (Opens OfHtml) h kind p = absurd (true≢false (sym h))
 keeps-plain bytes (Opens OfHeadingSetext) h kind p = absurd (true≢false (sym h))
+keeps-plain bytes (Opens OfDefinition) h kind p = absurd (true≢false (sym h))
 keeps-plain bytes (Tells AsHeading) h kind p = absurd (true≢false (sym h))
 keeps-plain bytes IsFence h kind p = absurd (true≢false (sym h))
+keeps-plain bytes IsTitle h kind p = absurd (true≢false (sym h))
 keeps-plain bytes (Tells AsLine) h kind p = absurd (true≢false (sym h))
 keeps-plain bytes (Tells AsInfo) h kind p = absurd (true≢false (sym h))
 keeps-plain bytes (Tells AsMeta) h kind p = absurd (true≢false (sym h))
+keeps-plain bytes (Tells AsLabel) h kind p = absurd (true≢false (sym h))
+keeps-plain bytes (Tells AsDestination) h kind p = absurd (true≢false (sym h))
+keeps-plain bytes (Tells AsTitle) h kind p = absurd (true≢false (sym h))
 keeps-plain bytes x h Enter p = (tt, refl)
 keeps-plain bytes x h Exit p = (tt, refl)
 
 -- and those that the tree does not show leave one everywhere.
-keeps-quiet : (bytes : List ℕ) (site : Site) → Keeps bytes site IsQuiet
+pub keeps-quiet : (bytes : List ℕ) (site : Site) → Keeps bytes site IsQuiet
 keeps-quiet bytes Outside Enter p = (tt, refl)
 keeps-quiet bytes Outside Exit p = (tt, refl)
 keeps-quiet bytes _ Enter p = (tt, refl)
@@ -138,7 +143,7 @@ passes-ending bytes p q _ on ys more = absurd on
 abbrev pub Steps : List ℕ → Site → Site → Kind → Role → Point → Type 0
 Steps bytes from to kind x p = MayStand bytes from kind x p × (site_by bytes from kind x p ≡ to)
 
-passes-event : (bytes : List ℕ) (from to : Site) (x : Role) (e : Event) → role e.name ≡ x →
+pub passes-event : (bytes : List ℕ) (from to : Site) (x : Role) (e : Event) → role e.name ≡ x →
     Steps bytes from to e.kind x e.point → Passes bytes from to (e ∷ [])
 passes-event bytes from to x e is step ys more =
     subst
@@ -146,7 +151,7 @@ passes-event bytes from to x e is step ys more =
     MayStand bytes from e.kind y e.point × LinesStand bytes (site_by bytes from e.kind y e.point) ys)
     (sym is) (step.0, subst (λ (s : Site). LinesStand bytes s ys) (sym step.1) more)
 
-passes-around : (bytes : List ℕ) (from first last to : Site) (x : Role) (name : Name) (p q : Point)
+pub passes-around : (bytes : List ℕ) (from first last to : Site) (x : Role) (name : Name) (p q : Point)
     (es : List Event) → role name ≡ x → Steps bytes from first Enter x p → Passes bytes first last es →
     Steps bytes last to Exit x q → Passes bytes from to (around name p q es)
 passes-around bytes from first last to x name p q es is begins h ends =

@@ -1,5 +1,5 @@
 -- What an outline has read of some events agrees with what was read of the tree that they spell out.
-use Rattle.std.proofs.Common.{◌≡◌, ℕ, ◌+◌, ◌-◌, Bool, true, false, ◌||◌, not, List, [], ◌∷◌, ◌++◌, append_assoc}
+use Rattle.std.proofs.Common.{◌≡◌, ℕ, ◌+◌, ◌-◌, true, false, ◌||◌, not, List, [], ◌∷◌, ◌++◌, append_assoc}
 use Rattle.std.proofs.Common.{slice_range, refl, sym, ◌∙◌, ap, subst}
 use Rattle.std.proofs.Common.{arith}
 use Rattle.std.specs.Prelude.{Option, Some, None, option_map}
@@ -27,11 +27,13 @@ use Rattle.md_outline.specs.HeadingDepths.{are_shallow, fits}
 use Rattle.md_outline.specs.Outlined.{begins_line, is_unparted, parts_by}
 use Rattle.md_outline.specs.OutlineSteps.{OutlineState, head_marked, is_titled, leaf_ended, line_ended, parted_at}
 use Rattle.md_outline.specs.OutlineSteps.{state_by, state_enter, state_exit, title_told, told_at, told_leaf}
-use Rattle.md_outline.specs.OutlineSteps.{marked_at}
+use Rattle.md_outline.specs.DefinitionState.{part_word}
+use Rattle.md_outline.specs.OutlineSteps.{marked_at, piece_shown}
 use Rattle.md_outline.specs.ParagraphState.{begin_entries}
 use Rattle.md_seam.specs.Events.Told.{block_told}
 use Rattle.md_outline.specs.Roles.{is_plain, leaf_entries, noted, shown_as, told_as}
-use Rattle.md_outline.specs.TextLines.{full_entries, text_entries}
+use Rattle.md_outline.specs.TextLines.{text_entries}
+use Rattle.md_outline.specs.declared.outline.lined.Lined.{Lined}
 use Rattle.md_outline.specs.declared.outline.role.Note.{Note}
 use Rattle.md_outline.specs.declared.outline.role.Note.TheVariants as note
 use Rattle.md_outline.specs.declared.outline.role.Purpose.TheVariants as purpose
@@ -285,8 +287,8 @@ agrees-prefix bytes p s r (Some span) (Some text) e h k is =
     let piece : List ℕ = slice_range bytes span.from p.index in
     let before : List Entry = shown r.outer r.here in
     let parts = and_parts (begins_line span piece) (is_blank (last_line (split_lines piece))) k in
-    let begun : Bool → List Entry =
-    λ x. (s.lines ++ begin_entries s.depth x) ++ full_entries (s.depth + 1) piece in
+    let lines : Option Lined → List Entry = λ l.
+    piece_shown (part_word l) (is_titled l || span.is_parted) span.is_parted s.depth piece s.lines in
     record {
       depth = is.depth;
       words = is.words;
@@ -298,13 +300,11 @@ agrees-prefix bytes p s r (Some span) (Some text) e h k is =
         h.0,
         subst
             (λ i.
-            Pieces before (begin_entries s.depth false) (s.depth + 1) (begun (is_titled s.lined || span.is_parted)) true
+            Pieces before (begin_entries s.depth false) (s.depth + 1) (lines s.lined) true
             (text.front ++ slice_range bytes i p.index))
             (sym h.0)
             (subst
-            (λ lined.
-            Pieces before (begin_entries s.depth false) (s.depth + 1) (begun (is_titled lined || span.is_parted)) true
-            (text.front ++ piece))
+            (λ l. Pieces before (begin_entries s.depth false) (s.depth + 1) (lines l) true (text.front ++ piece))
             (sym is.lined)
             (pieces-next before (begin_entries s.depth false) (s.depth + 1) s.lines span.is_parted text.front piece
             parts.0 parts.1 h.1)),

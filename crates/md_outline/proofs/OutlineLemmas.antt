@@ -12,10 +12,12 @@ use Rattle.md_engine.specs.declared.event.Event.{Event}
 use Rattle.md_engine.specs.declared.event.Kind.{Kind}
 use Rattle.md_engine.specs.declared.event.Kind.TheVariants.{Enter, Exit}
 use Rattle.md_engine.specs.declared.event.Point.{Point}
+use Rattle.md_definition.specs.declared.outline.Word.{Word}
 use Rattle.md_definition.specs.declared.outline.Word.TheVariants as word
 use Rattle.md_definition.specs.Outline.{Entry, outline}
 use Rattle.md_seam.specs.Events.Nested.{Balanced}
-use Rattle.md_seam.specs.Events.Spelled.{AsHeading, AsInfo, AsLine, AsMeta, Holds, IsFence, IsPrefix, OfCode, OfFence}
+use Rattle.md_seam.specs.Events.Spelled.{AsDestination, AsHeading, AsInfo, AsLabel, AsLine, AsMeta, AsTitle, Holds}
+use Rattle.md_seam.specs.Events.Spelled.{IsFence, IsPrefix, IsTitle, OfCode, OfDefinition, OfFence}
 use Rattle.md_seam.specs.Events.Spelled.{OfHeadingSetext, OfHtml}
 use Rattle.md_seam.specs.Events.Spelled.{OfMath, OpenLeaf, Opens, OrderedShape, Reading, Shape, Tells, Text}
 use Rattle.md_seam.specs.Events.Spelled.{UnorderedShape, after_prefix, at_ending, before_prefix, begun, block_around}
@@ -30,10 +32,12 @@ use Rattle.md_outline.specs.Outlined.{has_unlisted_name, parts_by, span_by, tell
 use Rattle.md_outline.specs.OutlineSteps.{BeginsBetween, IsCutAt, OutlineState, before_all, leaf_ended, parted_at}
 use Rattle.md_outline.specs.OutlineSteps.{state_after, state_by, told_at, told_leaf}
 use Rattle.md_outline.specs.LinesStand.{LinesStand, Outside, Site, site_by}
-use Rattle.md_outline.specs.OutlineSteps.{head_marked, is_titled, marked_at, title_told, told}
+use Rattle.md_outline.specs.DefinitionState.{part_word}
+use Rattle.md_outline.specs.OutlineSteps.{head_marked, is_titled, label_ended, marked_at, piece_shown, title_told}
+use Rattle.md_outline.specs.OutlineSteps.{told}
 use Rattle.md_outline.specs.ParagraphState.{begin_entries}
 use Rattle.md_outline.specs.Roles.{is_shown, is_told, is_unlisted, shown_as}
-use Rattle.md_outline.specs.TextLines.{full_entries, text_entries}
+use Rattle.md_outline.specs.TextLines.{text_entries}
 use Rattle.md_outline.specs.declared.outline.role.Note.TheVariants as note
 use Rattle.md_outline.specs.declared.outline.role.Purpose.{Purpose}
 use Rattle.md_outline.specs.declared.outline.role.Purpose.TheVariants as purpose
@@ -73,6 +77,9 @@ span-told bytes purpose.Markers i (Some span) s e =
     (told_leaf note.Markers (slice_range bytes span.from i) (record s { text = None }))
 span-told bytes (purpose.Part w) i (Some span) s e = refl
 span-told bytes purpose.Line i (Some span) s e = refl
+span-told bytes purpose.Label i (Some span) s e = refl
+span-told bytes purpose.Destination i (Some span) s e = refl
+span-told bytes purpose.DefinitionTitle i (Some span) s e = refl
 span-told bytes purpose.Marker i (Some span) s e =
     span-marked s.untold (slice_range bytes span.from i) (record s { text = None })
 
@@ -120,21 +127,31 @@ span-step bytes Enter (Opens OfFence) p s h = refl
 span-step bytes Enter (Opens OfMath) p s h = refl
 span-step bytes Enter (Opens OfHtml) p s h = refl
 span-step bytes Enter (Opens OfHeadingSetext) p s h = refl
+span-step bytes Enter (Opens OfDefinition) p s h = refl
+span-step bytes Enter IsTitle p s h = refl
 span-step bytes Enter (Tells AsHeading) p s h = refl
 span-step bytes Enter IsFence p s h = span-fenced s.lined s
 span-step bytes Enter (Tells AsLine) p s h = refl
 span-step bytes Enter (Tells AsInfo) p s h = refl
 span-step bytes Enter (Tells AsMeta) p s h = refl
+span-step bytes Enter (Tells AsLabel) p s h = refl
+span-step bytes Enter (Tells AsDestination) p s h = refl
+span-step bytes Enter (Tells AsTitle) p s h = refl
 span-step bytes Exit (Opens OfCode) p s h = refl
 span-step bytes Exit (Opens OfFence) p s h = refl
 span-step bytes Exit (Opens OfMath) p s h = refl
 span-step bytes Exit (Opens OfHtml) p s h = refl
 span-step bytes Exit (Opens OfHeadingSetext) p s h = refl
+span-step bytes Exit (Opens OfDefinition) p s h = refl
+span-step bytes Exit IsTitle p s h = refl
 span-step bytes Exit (Tells AsHeading) p s h = span-told bytes purpose.Title p.index s.text s refl
 span-step bytes Exit IsFence p s h = refl
 span-step bytes Exit (Tells AsLine) p s h = span-told bytes purpose.Line p.index s.text s refl
 span-step bytes Exit (Tells AsInfo) p s h = span-told bytes (purpose.Part word.Info) p.index s.text s refl
 span-step bytes Exit (Tells AsMeta) p s h = span-told bytes (purpose.Part word.Meta) p.index s.text s refl
+span-step bytes Exit (Tells AsLabel) p s h = span-told bytes purpose.Label p.index s.text s refl
+span-step bytes Exit (Tells AsDestination) p s h = span-told bytes purpose.Destination p.index s.text s refl
+span-step bytes Exit (Tells AsTitle) p s h = span-told bytes purpose.DefinitionTitle p.index s.text s refl
 span-step bytes Enter x p s h = by-role (SameSpan bytes Enter p s) x (span-enter bytes p s) h
 span-step bytes Exit x p s h = by-role (SameSpan bytes Exit p s) x (span-exit bytes p s) h
 
@@ -267,6 +284,17 @@ title-end bytes part span end text x s next is same cut epart reads =
     ∙ ap (λ t. title_told (is_titled s.lined) t (record s { text = None })) epart
     ∙ sym (ap (λ t. told_at bytes x end t s) is ∙ ap (λ z. told_at bytes z end (Some span) s) same)
 
+-- the label of a definition ends
+pub label-end : (bytes part : List ℕ) (span : Span) (end : ℕ) (text : Option Span) (x : Purpose)
+    (s next : OutlineState) → text ≡ Some span → x ≡ purpose.Label → IsCutAt bytes text end →
+    part ≡ slice_range bytes span.from end →
+    (IsUtf8 part → next ≡ label_ended span.is_parted part (record s { text = None })) →
+    next ≡ told_at bytes x end text s
+label-end bytes part span end text x s next is same cut epart reads =
+    reads (part-is_text bytes part span end text is cut epart)
+    ∙ ap (λ t. label_ended span.is_parted t (record s { text = None })) epart
+    ∙ sym (ap (λ t. told_at bytes x end t s) is ∙ ap (λ z. told_at bytes z end (Some span) s) same)
+
 -- a run of markers ends
 pub markers-end : (bytes part : List ℕ) (span : Span) (end : ℕ) (text : Option Span) (x : Purpose)
     (s middle next : OutlineState) → text ≡ Some span → x ≡ purpose.Markers → IsCutAt bytes text end →
@@ -292,19 +320,21 @@ part-end bytes part span end text x y s lines shows is same cut epart elines tol
     ∙ told_so
     ∙ sym (ap (λ t. told_at bytes x end t s) is ∙ ap (λ z. told_at bytes z end (Some span) s) same)
 
--- a prefix has begun in a text
+-- a prefix has begun in a text: of another block, or of a part of a definition
 pub piece-end : (bytes part : List ℕ) (span : Span) (end : ℕ) (text : Option Span) (s : OutlineState)
-    (lines : List Entry) (is_shown : Bool) → text ≡ Some span → is_shown ≡ is_titled s.lined || span.is_parted →
-    IsCutAt bytes text end → part ≡ slice_range bytes span.from end →
-    (IsUtf8 part → lines ≡ s.lines ++ begin_entries s.depth is_shown ++ full_entries (s.depth + 1) part) →
+    (lines : List Entry) (w : Option Word) (is_begun : Bool) → text ≡ Some span → w ≡ part_word s.lined →
+    is_begun ≡ is_titled s.lined || span.is_parted → IsCutAt bytes text end → part ≡ slice_range bytes span.from end →
+    (IsUtf8 part → lines ≡ piece_shown w is_begun span.is_parted s.depth part s.lines) →
     record s { text = Some (record span { is_parted = true }); lines = lines } ≡ parted_at bytes end text s
-piece-end bytes part span end text s lines is_shown is begun cut epart elines =
+piece-end bytes part span end text s lines w is_begun is by begun cut epart elines =
     let with_lines : List Entry →
     OutlineState = λ es. record s { text = Some (record span { is_parted = true }); lines = es } in
+    let piece : List ℕ = slice_range bytes span.from end in
     ap with_lines
-    (part-shown bytes part span end text s lines is_shown full_entries is cut epart elines
-    ∙ ap (λ x. s.lines ++ begin_entries s.depth x ++ full_entries (s.depth + 1) (slice_range bytes span.from end))
-    begun)
+    (elines (part-is_text bytes part span end text is cut epart)
+    ∙ ap (λ t. piece_shown w is_begun span.is_parted s.depth t s.lines) epart
+    ∙ ap (λ x. piece_shown x is_begun span.is_parted s.depth piece s.lines) by
+    ∙ ap (λ x. piece_shown (part_word s.lined) x span.is_parted s.depth piece s.lines) begun)
     ∙ sym (ap (λ t. parted_at bytes end t s) is)
 
 -- The loop over the events.

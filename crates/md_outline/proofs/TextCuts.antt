@@ -5,7 +5,7 @@ use Rattle.std.proofs.Common.{sym, ◌∙◌, ap, subst, append_assoc, append-ni
 use Rattle.std.specs.Prelude.{nat_lt, MatchResult}
 use Rattle.std.specs.Result.{result_unwrap_or}
 use Rattle.std.specs.Borrow.{Bor}
-use Rattle.std.specs.List.{onto_first, prefix_len}
+use Rattle.std.specs.List.{list_any, onto_first, prefix_len}
 use Rattle.std.specs.Str.{IsUtf8, IsCharBoundary}
 use Rattle.std.proofs.Math.Utf8.{encode}
 use Rattle.std.proofs.lemmas.Bool.{and_parts, cases_lt, eq-eqb, eqb-true, ltb-true, true≢false}
@@ -15,20 +15,20 @@ use Rattle.std.proofs.lemmas.List.Sums.{prefix_len_stops}
 use Rattle.std.proofs.lemmas.Str.{IsCharBoundary-after_ascii, IsCharBoundary-before_ascii, IsCharBoundary-end}
 use Rattle.std.proofs.lemmas.Str.{IsCharBoundary-past_char, IsCharBoundary-start, IsUtf8-between, IsUtf8-drop}
 use Rattle.std.proofs.lemmas.Str.{IsUtf8-nil, IsUtf8-take}
-use Rattle.md_definition.specs.declared.outline.Word.TheVariants as word
+use Rattle.md_definition.specs.declared.outline.Word.{Word}
 use Rattle.md_definition.specs.Lines.{begins_with, ends_line, is_ending}
 use Rattle.md_definition.specs.Preamble.{has_mark}
 use Rattle.md_definition.specs.Outline.{Entry, entries, entry_with}
 use Rattle.md_seam.specs.Events.Places.{last_line}
 use Rattle.md_definition.specs.Rest.{is_blank, is_white, trim_start}
 use Rattle.md_seam.specs.Events.Spelled.{without_last}
-use Rattle.md_definition.specs.Texts.{split_lines, trim_each}
+use Rattle.md_definition.specs.Texts.{split_lines, trim_each, trim_further}
 use Rattle.md_seam.proofs.PlacesLemmas.{Some_line, last-next, some-split}
 use Rattle.md_seam.proofs.PlainSteps.{range-none}
 use Rattle.md_definition.proofs.PreambleLemmas.{mark-bytes}
 use Rattle.md_definition.proofs.TextsLemmas.{split-byte}
 use Rattle.md_outline.specs.Between.{is_between}
-use Rattle.md_outline.specs.TextLines.{after_ending, full_entries, line_len, text_entries}
+use Rattle.md_outline.specs.TextLines.{after_ending, first_as, first_full_as, full_as, line_len, lines_as}
 
 -- behind a byte of ASCII
 boundary-behind : (bytes : List ℕ) (i : ℕ) → IsUtf8 bytes → 0 < i → i ≤ length bytes → get_or bytes (i - 1) 0 < 128 →
@@ -238,17 +238,17 @@ shown-line left line text k ek eline u shows =
     let same : line ≡ take (line_len left) left = eline ∙ ap (λ n. take n left) ek in
     shows (subst IsUtf8 (sym same) (utf8-line left u)) ∙ ap trim_start same
 
-entries-append : (depth : ℕ) (xs ys : List (List ℕ)) →
-    entries depth word.Line (trim_each (xs ++ ys)) ≡
-    entries depth word.Line (trim_each xs) ++ entries depth word.Line (trim_each ys)
-entries-append depth [] ys = refl
-entries-append depth (x ∷ xs) ys =
-    ap (λ es. entry_with depth word.Line (trim_start x) ∷ es) (entries-append depth xs ys)
+entries-append : (w : Word) (depth : ℕ) (xs ys : List (List ℕ)) →
+    entries depth w (trim_each (xs ++ ys)) ≡
+    entries depth w (trim_each xs) ++ entries depth w (trim_each ys)
+entries-append w depth [] ys = refl
+entries-append w depth (x ∷ xs) ys =
+    ap (λ es. entry_with depth w (trim_start x) ∷ es) (entries-append w depth xs ys)
 
-shown-parted : (depth : ℕ) (lines : List (List ℕ)) (line : List ℕ) →
-    entries depth word.Line (trim_each (lines ++ line ∷ [])) ≡
-    entries depth word.Line (trim_each lines) ++ entry_with depth word.Line (trim_start line) ∷ []
-shown-parted depth lines line = entries-append depth lines (line ∷ [])
+shown-parted : (w : Word) (depth : ℕ) (lines : List (List ℕ)) (line : List ℕ) →
+    entries depth w (trim_each (lines ++ line ∷ [])) ≡
+    entries depth w (trim_each lines) ++ entry_with depth w (trim_start line) ∷ []
+shown-parted w depth lines line = entries-append w depth lines (line ∷ [])
 
 full-line : (line : List ℕ) (lines : List (List ℕ)) → Some_line lines →
     without_last (line ∷ lines) ≡ line ∷ without_last lines
@@ -262,14 +262,14 @@ lines-parted (line ∷ []) h = refl
 lines-parted (line ∷ next ∷ lines) h = ap (λ ls. line ∷ ls) (lines-parted (next ∷ lines) tt)
 
 -- a line that has an ending was shown: what is left of the text is what stands behind the ending
-pub lines-next : (depth : ℕ) (done next : List Entry) (left line ending left' text : List ℕ) (k : ℕ) →
+pub lines-next : (w : Word) (depth : ℕ) (done next : List Entry) (left line ending left' text : List ℕ) (k : ℕ) →
     k ≡ line_len left → line ≡ take k left → ending ≡ drop k left → (length ending == 0) ≡ false →
     left' ≡ after_ending ending →
-    IsUtf8 left → (IsUtf8 line → text ≡ trim_start line) → next ≡ done ++ entry_with depth word.Line text ∷ [] →
+    IsUtf8 left → (IsUtf8 line → text ≡ trim_start line) → next ≡ done ++ entry_with depth w text ∷ [] →
     IsUtf8 left' ×
-    ((next ++ full_entries depth left' ≡ done ++ full_entries depth left) ×
+    ((next ++ full_as w depth left' ≡ done ++ full_as w depth left) ×
     (last_line (split_lines left') ≡ last_line (split_lines left)))
-lines-next depth done next left line ending left' text k ek eline eending some eleft u shows enext =
+lines-next w depth done next left line ending left' text k ek eline eending some eleft u shows enext =
     let behind : ending ≡ drop (line_len left) left = eending ∙ ap (λ n. drop n left) ek in
     let split : Splits left (line_len left) ending = subst (Splits left (line_len left)) (sym behind) (splits left) in
     let first : text ≡ trim_start (take (line_len left) left) = shown-line left line text k ek eline u shows in
@@ -282,25 +282,25 @@ lines-next depth done next left line ending left' text k ek eline eending some e
       subst IsUtf8 (sym eleft)
           (utf8-after left (line_len left) ending split (subst IsUtf8 (sym behind) (utf8-ending left u))),
       (
-        ap (λ es. es ++ full_entries depth left') enext
-            ∙ append_assoc done (entry_with depth word.Line text ∷ []) (full_entries depth left')
-            ∙ ap (λ t. done ++ entry_with depth word.Line t ∷ full_entries depth left') first
-            ∙ sym (ap (λ ls. done ++ entries depth word.Line (trim_each ls)) full),
+        ap (λ es. es ++ full_as w depth left') enext
+            ∙ append_assoc done (entry_with depth w text ∷ []) (full_as w depth left')
+            ∙ ap (λ t. done ++ entry_with depth w t ∷ full_as w depth left') first
+            ∙ sym (ap (λ ls. done ++ entries depth w (trim_each ls)) full),
         sym (ap last_line all ∙ last-next (take (line_len left) left) (split_lines left') (some-split left')),
       ),
     )
 
 -- no line that has an ending is left: the rest of the text is its last line
-pub lines-end : (depth : ℕ) (done : List Entry) (left ending : List ℕ) (k : ℕ) → k ≡ line_len left →
+pub lines-end : (w : Word) (depth : ℕ) (done : List Entry) (left ending : List ℕ) (k : ℕ) → k ≡ line_len left →
     ending ≡ drop k left → (length ending == 0) ≡ true →
-    (done ≡ done ++ full_entries depth left) × (left ≡ last_line (split_lines left))
-lines-end depth done left ending k ek eending none =
+    (done ≡ done ++ full_as w depth left) × (left ≡ last_line (split_lines left))
+lines-end w depth done left ending k ek eending none =
     let behind : ending ≡ drop (line_len left) left = eending ∙ ap (λ n. drop n left) ek in
     let split : Splits left (line_len left) ending = subst (Splits left (line_len left)) (sym behind) (splits left) in
     let one : split_lines left ≡ take (line_len left) left ∷ [] = split-last left (line_len left) ending split none in
     let nothing : drop (line_len left) left ≡ [] = sym behind ∙ length-none ending none in
     let whole : take (line_len left) left ≡ left = take-whole (line_len left) left nothing in (
-      sym (append-nil done) ∙ sym (ap (λ ls. done ++ entries depth word.Line (trim_each (without_last ls))) one),
+      sym (append-nil done) ∙ sym (ap (λ ls. done ++ entries depth w (trim_each (without_last ls))) one),
       sym (ap last_line one ∙ whole),
     )
   where
@@ -324,18 +324,18 @@ line-trimmed text long none =
     ap trim_each one ∙ ap (λ l. trim_start l ∷ []) whole ∙ ap (λ n. drop n text ∷ []) none
 
 -- the last line is shown behind those that have an ending
-pub lines-all : (depth : ℕ) (before done next : List Entry) (text rest shown : List ℕ) →
-    rest ≡ last_line (split_lines text) → done ≡ before ++ full_entries depth text → shown ≡ trim_start rest →
-    next ≡ done ++ entry_with depth word.Line shown ∷ [] → next ≡ before ++ text_entries depth text
-lines-all depth before done next text rest shown erest edone eshown enext =
+pub lines-all : (w : Word) (depth : ℕ) (before done next : List Entry) (text rest shown : List ℕ) →
+    rest ≡ last_line (split_lines text) → done ≡ before ++ full_as w depth text → shown ≡ trim_start rest →
+    next ≡ done ++ entry_with depth w shown ∷ [] → next ≡ before ++ lines_as w depth text
+lines-all w depth before done next text rest shown erest edone eshown enext =
     let lines : List (List ℕ) = split_lines text in
     enext
-    ∙ ap (λ es. es ++ entry_with depth word.Line shown ∷ []) edone
-    ∙ append_assoc before (full_entries depth text) (entry_with depth word.Line shown ∷ [])
-    ∙ ap (λ t. before ++ (full_entries depth text ++ entry_with depth word.Line t ∷ [])) (eshown ∙ ap trim_start erest)
+    ∙ ap (λ es. es ++ entry_with depth w shown ∷ []) edone
+    ∙ append_assoc before (full_as w depth text) (entry_with depth w shown ∷ [])
+    ∙ ap (λ t. before ++ (full_as w depth text ++ entry_with depth w t ∷ [])) (eshown ∙ ap trim_start erest)
     ∙ ap (λ es. before ++ es)
-    (sym (shown-parted depth (without_last lines) (last_line lines))
-    ∙ sym (ap (λ ls. entries depth word.Line (trim_each ls)) (lines-parted lines (some-split text))))
+    (sym (shown-parted w depth (without_last lines) (last_line lines))
+    ∙ sym (ap (λ ls. entries depth w (trim_each ls)) (lines-parted lines (some-split text))))
 
 -- Pieces.
 
@@ -402,13 +402,115 @@ trim-onto front [] some h = absurd some
 trim-onto front (line ∷ lines) some h = ap (λ l. l ∷ trim_each lines) (trim-blank front line h)
 
 -- a piece that ends where a line begins is shown by its lines that have an ending, and what follows it by its own lines
-pub piece-entries : (depth : ℕ) (piece rest : List ℕ) → begins_with 10 rest ≡ false →
+pub piece-entries : (w : Word) (depth : ℕ) (piece rest : List ℕ) → begins_with 10 rest ≡ false →
     is_blank (last_line (split_lines piece)) ≡ true →
-    text_entries depth (piece ++ rest) ≡ full_entries depth piece ++ text_entries depth rest
-piece-entries depth piece rest h blank =
+    lines_as w depth (piece ++ rest) ≡ full_as w depth piece ++ lines_as w depth rest
+piece-entries w depth piece rest h blank =
     let full : List (List ℕ) = without_last (split_lines piece) in
     let further : List (List ℕ) = onto_line (last_line (split_lines piece)) (split_lines rest) in
-    ap (λ ls. entries depth word.Line (trim_each ls)) (split-piece piece rest h)
-    ∙ entries-append depth full further
-    ∙ ap (λ ls. full_entries depth piece ++ entries depth word.Line ls)
+    ap (λ ls. entries depth w (trim_each ls)) (split-piece piece rest h)
+    ∙ entries-append w depth full further
+    ∙ ap (λ ls. full_as w depth piece ++ entries depth w ls)
+    (trim-onto (last_line (split_lines piece)) (split_lines rest) (some-split rest) blank)
+
+-- The first line of a text, which is shown as it stands.
+
+-- it is a text, and so is what stands behind its ending
+pub first-shown : (w : Word) (depth : ℕ) (before done : List Entry) (text line ending rest shown : List ℕ) (k : ℕ) →
+    k ≡ line_len text → line ≡ take k text → ending ≡ drop k text → rest ≡ after_ending ending → IsUtf8 text →
+    (IsUtf8 line → shown ≡ line) → done ≡ before ++ entry_with depth w shown ∷ [] →
+    IsUtf8 rest × (done ≡ before ++ entry_with depth w (take (line_len text) text) ∷ [])
+first-shown w depth before done text line ending rest shown k ek eline eending erest u shows edone =
+    let first : line ≡ take (line_len text) text = eline ∙ ap (λ n. take n text) ek in
+    let behind : ending ≡ drop (line_len text) text = eending ∙ ap (λ n. drop n text) ek in (
+      subst IsUtf8 (sym (erest ∙ ap after_ending behind))
+          (utf8-after text (line_len text) (drop (line_len text) text) (splits text) (utf8-ending text u)),
+      edone
+          ∙ ap (λ t. before ++ entry_with depth w t ∷ [])
+          (shows (subst IsUtf8 (sym first) (utf8-line text u)) ∙ first),
+    )
+
+-- with those behind it that have an ending
+pub first-full : (w : Word) (depth : ℕ) (before done next : List Entry) (text line ending rest shown : List ℕ) (k : ℕ) →
+    k ≡ line_len text → line ≡ take k text → ending ≡ drop k text → rest ≡ after_ending ending → IsUtf8 text →
+    (IsUtf8 line → shown ≡ line) → done ≡ before ++ entry_with depth w shown ∷ [] →
+    (IsUtf8 rest → next ≡ done ++ full_as w depth rest) → next ≡ before ++ first_full_as w depth text
+first-full w depth before done next text line ending rest shown k ek eline eending erest u shows edone enext =
+    let first = first-shown w depth before done text line ending rest shown k ek eline eending erest u shows edone in
+    let same : rest ≡ after_ending (drop (line_len text) text) =
+    erest ∙ ap after_ending (eending ∙ ap (λ n. drop n text) ek) in
+    enext first.0
+    ∙ ap (λ es. es ++ full_as w depth rest) first.1
+    ∙ append_assoc before (entry_with depth w (take (line_len text) text) ∷ []) (full_as w depth rest)
+    ∙ ap (λ t. before ++ entry_with depth w (take (line_len text) text) ∷ full_as w depth t) same
+
+-- all of the text
+pub first-all : (w : Word) (depth : ℕ) (before done next : List Entry) (text line ending rest shown : List ℕ) (k : ℕ) →
+    k ≡ line_len text → line ≡ take k text → ending ≡ drop k text → rest ≡ after_ending ending → IsUtf8 text →
+    (IsUtf8 line → shown ≡ line) → done ≡ before ++ entry_with depth w shown ∷ [] → (length ending == 0) ≡ false →
+    (IsUtf8 rest → next ≡ done ++ lines_as w depth rest) → next ≡ before ++ first_as w depth text
+first-all w depth before done next text line ending rest shown k ek eline eending erest u shows edone some enext =
+    let first = first-shown w depth before done text line ending rest shown k ek eline eending erest u shows edone in
+    let behind : ending ≡ drop (line_len text) text = eending ∙ ap (λ n. drop n text) ek in
+    let split : Splits text (line_len text) ending = subst (Splits text (line_len text)) (sym behind) (splits text) in
+    let all : split_lines text ≡ take (line_len text) text ∷ split_lines rest =
+    split-next text (line_len text) ending split some
+    ∙ ap (λ t. take (line_len text) text ∷ split_lines t) (sym erest) in
+    enext first.0
+    ∙ ap (λ es. es ++ lines_as w depth rest) first.1
+    ∙ append_assoc before (entry_with depth w (take (line_len text) text) ∷ []) (lines_as w depth rest)
+    ∙ ap (λ ls. before ++ entries depth w (trim_further ls)) (sym all)
+
+-- and where it has no ending
+pub first-one : (w : Word) (depth : ℕ) (before done : List Entry) (text line ending shown : List ℕ) (k : ℕ) →
+    k ≡ line_len text → line ≡ take k text → ending ≡ drop k text → IsUtf8 text → (IsUtf8 line → shown ≡ line) →
+    done ≡ before ++ entry_with depth w shown ∷ [] → (length ending == 0) ≡ true →
+    done ≡ before ++ first_as w depth text
+first-one w depth before done text line ending shown k ek eline eending u shows edone none =
+    let behind : ending ≡ drop (line_len text) text = eending ∙ ap (λ n. drop n text) ek in
+    let split : Splits text (line_len text) ending = subst (Splits text (line_len text)) (sym behind) (splits text) in
+    (first-shown w depth before done text line ending (after_ending ending) shown k ek eline eending refl u shows
+    edone).1
+    ∙ ap (λ ls. before ++ entries depth w (trim_further ls))
+    (sym (split-last text (line_len text) ending split none))
+
+abbrev Some_byte : List ℕ → Type 0
+Some_byte [] = ⊥
+Some_byte (b ∷ bytes) = Unit {0}
+
+-- something stands behind the first line where there is an ending
+any-behind : (text : List ℕ) → list_any is_ending text ≡ true → Some_byte (drop (line_len text) text)
+any-behind [] h = absurd (true≢false (sym h))
+any-behind (c ∷ bytes) h = go (is_ending c) refl (any-behind bytes)
+  where
+    go : (x : Bool) → is_ending c ≡ x → (list_any is_ending bytes ≡ true → Some_byte (drop (line_len bytes) bytes)) →
+        Some_byte (drop (cond (not (is_ending c)) (1 + line_len bytes) 0) (c ∷ bytes))
+    go true e k = subst (λ x. Some_byte (drop (cond (not x) (1 + line_len bytes) 0) (c ∷ bytes))) (sym e) tt
+    go false e k =
+        let one : 1 + line_len bytes ≡ suc (line_len bytes) = omega arith in
+        subst (λ x. Some_byte (drop (cond (not x) (1 + line_len bytes) 0) (c ∷ bytes))) (sym e)
+        (rw one (k (sym (ap (λ x. x || list_any is_ending bytes) e) ∙ h)))
+
+split-any : (text : List ℕ) → list_any is_ending text ≡ true →
+    split_lines text ≡ take (line_len text) text ∷ split_lines (after_ending (drop (line_len text) text))
+split-any text h = go (drop (line_len text) text) (any-behind text h) (splits text)
+  where
+    go : (behind : List ℕ) → Some_byte behind → Splits text (line_len text) behind →
+        split_lines text ≡ take (line_len text) text ∷ split_lines (after_ending behind)
+    go [] some split = absurd some
+    go (b ∷ bytes) some split = split.1
+
+-- a piece with an ending that ends where a line begins is shown so, and what follows it by its own lines
+pub first-piece : (w : Word) (depth : ℕ) (piece rest : List ℕ) → list_any is_ending piece ≡ true →
+    begins_with 10 rest ≡ false → is_blank (last_line (split_lines piece)) ≡ true →
+    first_as w depth (piece ++ rest) ≡ first_full_as w depth piece ++ lines_as w depth rest
+first-piece w depth piece rest some h blank =
+    let line : List ℕ = take (line_len piece) piece in
+    let behind : List ℕ = after_ending (drop (line_len piece) piece) in
+    let further : List (List ℕ) = onto_line (last_line (split_lines piece)) (split_lines rest) in
+    let full : without_last (split_lines piece) ≡ line ∷ without_last (split_lines behind) =
+    ap without_last (split-any piece some) ∙ full-line line (split_lines behind) (some-split behind) in
+    ap (λ ls. entries depth w (trim_further ls)) (split-piece piece rest h ∙ ap (λ ls. ls ++ further) full)
+    ∙ ap (λ es. entry_with depth w line ∷ es) (entries-append w depth (without_last (split_lines behind)) further)
+    ∙ ap (λ ls. first_full_as w depth piece ++ entries depth w ls)
     (trim-onto (last_line (split_lines piece)) (split_lines rest) (some-split rest) blank)

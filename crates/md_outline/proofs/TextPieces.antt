@@ -3,6 +3,7 @@ use Rattle.std.proofs.Common.{◌≡◌, ℕ, Bool, true, false, ◌||◌, not, 
 use Rattle.std.proofs.Common.{append_assoc, append-nil}
 use Rattle.std.specs.Prelude.{if◌then◌else◌}
 use Rattle.std.proofs.lemmas.Bool.{true≢false}
+use Rattle.md_definition.specs.declared.outline.Word.TheVariants as word
 use Rattle.md_definition.specs.Lines.{begins_with}
 use Rattle.md_definition.specs.Outline.{Entry}
 use Rattle.md_seam.specs.Events.Places.{last_line}
@@ -32,7 +33,7 @@ pieces-from before begin depth lines true front h k = absurd (true≢false (sym 
 pieces-from before begin depth lines false front h k = k
 
 -- a piece that is not the first begins with no line feed
-begins-behind : (piece rest : List ℕ) → begins_with 10 piece ≡ false → begins_with 10 rest ≡ false →
+pub begins-behind : (piece rest : List ℕ) → begins_with 10 piece ≡ false → begins_with 10 rest ≡ false →
     begins_with 10 (piece ++ rest) ≡ false
 begins-behind [] rest h k = k
 begins-behind (b ∷ piece) rest h k = h
@@ -54,7 +55,7 @@ pieces-next before begin depth lines false front piece h blank k = (
   full_entries depth piece,
   (
     ap (λ es. (es ++ begin) ++ full_entries depth piece) k.0,
-    λ rest no. ap (λ f. text_entries depth ((f ++ piece) ++ rest)) k.1 ∙ piece-entries depth piece rest no blank,
+    λ rest no. ap (λ f. text_entries depth ((f ++ piece) ++ rest)) k.1 ∙ piece-entries word.Line depth piece rest no blank,
   ),
 )
 pieces-next before begin depth lines true front piece h blank k =
@@ -65,7 +66,7 @@ pieces-next before begin depth lines true front piece h blank k =
         λ rest no.
             ap (text_entries depth) (append_assoc front piece rest)
             ∙ k.1.1 (piece ++ rest) (begins-behind piece rest (begins-other (begins_with 10 piece) h) no)
-            ∙ ap (λ es. k.0 ++ es) (piece-entries depth piece rest no blank)
+            ∙ ap (λ es. k.0 ++ es) (piece-entries word.Line depth piece rest no blank)
             ∙ sym (append_assoc k.0 shown_full (text_entries depth rest)),
       ),
     )

@@ -17,13 +17,14 @@ use Rattle.md_seam.specs.Events.Spelled.{OfHeadingSetext, OpenLeaf, Opens, Readi
 use Rattle.md_seam.specs.Events.Spelled.{at_ending, before_prefix, begun, byte_at, columns_left, finished, next_line}
 use Rattle.md_seam.specs.Events.Spelled.{no_heading, on_leaf, read_enter, text_to, underline_depth}
 use Rattle.md_seam.specs.Events.Spelled as spelled
+use Rattle.md_outline.specs.DefinitionState.{part_word}
 use Rattle.md_outline.specs.LinedState.{marked_word, with_head}
 use Rattle.md_outline.specs.Outlined.{begins_line, parts_by}
 use Rattle.md_outline.specs.OutlineSteps.{OutlineState, head_marked, is_titled, line_ended, parted_at, state_enter}
-use Rattle.md_outline.specs.OutlineSteps.{title_told, told, told_at, told_leaf}
-use Rattle.md_outline.specs.ParagraphState.{begin_entries}
+use Rattle.md_outline.specs.OutlineSteps.{piece_shown, title_told, told, told_at, told_leaf}
 use Rattle.md_outline.specs.TextLines.{full_entries, text_entries}
 use Rattle.md_outline.specs.declared.outline.Span.{Span}
+use Rattle.md_outline.specs.declared.outline.lined.Form.TheVariants as form
 use Rattle.md_outline.specs.declared.outline.lined.Lined.{Lined}
 use Rattle.md_outline.specs.declared.outline.role.Note.TheVariants as note
 use Rattle.md_outline.specs.declared.outline.role.Purpose.TheVariants as purpose
@@ -42,7 +43,7 @@ pub record Titled (heading : HeadingSoFar) (marked : Bool) (s : OutlineState) (r
   words : HaveWords r.outer r.here
   untold : s.untold ≡ None
   leaf : s.leaf ≡ None
-  lined : s.lined ≡ Some (record { place = length (shown r.outer r.here); is_fenced = marked; is_heading = true })
+  lined : s.lined ≡ Some (record { place = length (shown r.outer r.here); is_fenced = marked; form = form.Heading })
 
 -- and of what was shown of it: its lines, as if it ended here, with this depth
 pub record Headed (level : ℕ) (heading : HeadingSoFar) (marked : Bool) (s : OutlineState) (r : Reading) : Type 0 where
@@ -101,7 +102,7 @@ heading-begins bytes p s r none is =
           lined =
               ap
               (λ (es : List Entry).
-              Some (record { place = length es; is_fenced = false; is_heading = true })) same;
+              Some (record { place = length es; is_fenced = false; form = form.Heading })) same;
         };
         all = ap (λ es. es ++ entry s.depth (word.Heading 0) ∷ []) same;
       },
@@ -145,12 +146,11 @@ prefix-begins bytes p s r (Some span) (Some text) k is h =
     let before : List Entry = head_lines s r in
     let piece : List ℕ = slice_range bytes span.from p.index in
     let full : List Entry = full_entries (s.depth + 1) piece in
-    let lines : List Entry =
-    (s.lines ++ begin_entries s.depth (is_titled s.lined || span.is_parted)) ++ full in
+    let lines : Option Lined → List Entry = λ l.
+    piece_shown (part_word l) (is_titled l || span.is_parted) span.is_parted s.depth piece s.lines in
     let parts = and_parts (begins_line span piece) (is_blank (last_line (split_lines piece))) k in
-    let begun : begun_by [] span.is_parted ≡ begin_entries s.depth (is_titled s.lined || span.is_parted) =
-    none-begun span.is_parted
-    ∙ sym (ap (λ (l : Option Lined). begin_entries s.depth (is_titled l || span.is_parted)) is.lined) in (
+    let begun : (s.lines ++ begun_by [] span.is_parted) ++ full ≡ lines s.lined =
+    ap (λ es. (s.lines ++ es) ++ full) (none-begun span.is_parted) ∙ sym (ap lines is.lined) in (
       record {
         opened = is.opened;
         depth = is.depth;
@@ -161,9 +161,10 @@ prefix-begins bytes p s r (Some span) (Some text) k is h =
       },
       (
         h.0,
-        subst (λ i. Pieces before [] (s.depth + 1) lines true (text.front ++ slice_range bytes i p.index)) (sym h.0)
-            (subst
-            (λ es. Pieces before [] (s.depth + 1) ((s.lines ++ es) ++ full) true (text.front ++ piece)) begun
+        subst
+            (λ i.
+            Pieces before [] (s.depth + 1) (lines s.lined) true (text.front ++ slice_range bytes i p.index)) (sym h.0)
+            (subst (λ es. Pieces before [] (s.depth + 1) es true (text.front ++ piece)) begun
             (pieces-next before [] (s.depth + 1) s.lines span.is_parted text.front piece parts.0 parts.1 h.1)),
       ),
     )
@@ -300,7 +301,7 @@ gap-line bytes p s r is =
     ((is.0.0, headed-line 0 (some_lines is.0.0) false s r is.0.1), is.1)))
   where
     head : Lined
-    head = record { place = length (shown r.outer r.here); is_fenced = false; is_heading = true }
+    head = record { place = length (shown r.outer r.here); is_fenced = false; form = form.Heading }
 
 -- its underline tells its depth
 marks-told : (text : List (List ℕ)) (line : Line) (s : OutlineState) (r : Reading) →

@@ -1,4 +1,5 @@
 pub mod Between
+pub mod DefinitionState
 pub mod HeadingDepths
 pub mod HeadingState
 pub mod LinedState

@@ -4,16 +4,29 @@ use Rattle.md_definition.specs.declared.outline.Word.{Word}
 use Rattle.md_definition.specs.declared.outline.Word.TheVariants as word
 use Rattle.md_definition.specs.Outline.{Entry, entry}
 use Rattle.md_seam.specs.Events.Spelled.{underline_depth}
+use Rattle.md_outline.specs.declared.outline.lined.Form.{Form}
+use Rattle.md_outline.specs.declared.outline.lined.Form.TheVariants as form
 
--- the word of a heading
-abbrev pub is_heading : Word → Bool
-is_heading (word.Heading n) = true
+-- how its lines come, by its word
+abbrev pub form_of : Word → Form
+form_of (word.Heading n) = form.Heading
+form_of word.Definition = form.Definition
+form_of _ = form.Lines
+
+abbrev pub is_heading : Form → Bool
+is_heading form.Heading = true
 is_heading _ = false
 
--- it begins: indented code and HTML with their first line, which is empty yet
+-- each is a line of its own, which a line ending opens
+abbrev pub has_own_lines : Form → Bool
+has_own_lines form.Lines = true
+has_own_lines _ = false
+
+-- it begins: indented code and HTML with their first line, and a definition with that of its label, which are empty yet
 abbrev pub first_lines : ℕ → Word → List Entry
 first_lines depth word.Code = entry depth word.Line ∷ []
 first_lines depth word.Html = entry depth word.Line ∷ []
+first_lines depth word.Definition = entry depth word.Label ∷ []
 first_lines depth _ = []
 
 abbrev pub begin_lines : ℕ → Word → List Entry

@@ -1,17 +1,31 @@
 -- Leaf blocks of several lines as an outline can show them: each has its parts in the order of the grammar, and one
--- piece of text a line at the most. Setext headings are such leaf blocks; what is asked of an ATX heading is that
--- container prefixes stand in front of its text or behind it.
+-- piece of text a line at the most. Setext headings and definitions are such leaf blocks, of whose texts each line is one
+-- piece; what is asked of an ATX heading is that container prefixes stand in front of its text or behind it.
 --
 -- A walk over the events by their roles, which knows where in such a leaf block it is.
-use Rattle.std.specs.Prelude.{◌≡◌, ◌==◌, ℕ, false, if◌then◌else◌, nat_lt, List, [], ◌∷◌, length, slice_range}
+use Rattle.std.specs.Prelude.{◌≡◌, ◌==◌, ℕ, true, false, if◌then◌else◌, nat_lt, List, [], ◌∷◌, length, slice_range}
+use Rattle.std.specs.List.{list_any}
 use Rattle.md_engine.specs.declared.event.Event.{Event}
 use Rattle.md_engine.specs.declared.event.Kind.{Kind}
 use Rattle.md_engine.specs.declared.event.Kind.TheVariants.{Enter, Exit}
 use Rattle.md_engine.specs.declared.event.Point.{Point}
+use Rattle.md_definition.specs.Lines.{is_ending}
 use Rattle.md_definition.specs.Texts.{first_byte}
-use Rattle.md_seam.specs.Events.Spelled.{AsHeading, AsInfo, AsLine, AsMarkers, AsMeta, IsEnding, IsFence, IsPrefix}
-use Rattle.md_seam.specs.Events.Spelled.{IsQuiet, LeafKind, OfCode, OfFence, OfHeadingSetext, OfHtml, OfMath, Opens}
-use Rattle.md_seam.specs.Events.Spelled.{Purpose, Role, Tells, byte_at, role}
+use Rattle.md_seam.specs.Events.Spelled.{AsDestination, AsHeading, AsInfo, AsLabel, AsLine, AsMarkers, AsMeta, AsTitle}
+use Rattle.md_seam.specs.Events.Spelled.{IsEnding, IsFence, IsPrefix, IsQuiet, IsTitle, LeafKind, OfCode, OfDefinition}
+use Rattle.md_seam.specs.Events.Spelled.{OfFence, OfHeadingSetext, OfHtml, OfMath, Opens, Purpose, Role, Tells}
+use Rattle.md_seam.specs.Events.Spelled.{byte_at, role}
+
+-- The parts of a definition that may have several lines.
+pub data Part : Type 0 where
+  LabelPart : Part
+  TitlePart : Part
+
+-- Which parts of a definition may come behind its label: its destination, and its title.
+pub data Left : Type 0 where
+  DestinationLeft : Left
+  TitleLeft : Left
+  NoneLeft : Left
 
 -- Where in a leaf block of several lines one is, with its kind.
 pub data Site : Type 0 where
@@ -41,6 +55,18 @@ pub data Site : Type 0 where
   BehindUnderline : Site
   -- in the text of an ATX heading
   InAtxText : Site
+  -- in a definition, in front of its label
+  AtLabel : Site
+  -- in the text of such a part, which begins at this point: in front of the first prefix in it, and behind that
+  InPart : Part → Point → Site
+  InParted : Part → Site
+  -- behind its label, its destination or its title
+  BehindPart : Left → Site
+  -- in its destination
+  InDestination : Site
+  -- in its title, in front of its text and behind that
+  AtTitleText : Site
+  BehindTitleText : Site
 
 -- where a leaf block begins: indented code and HTML with a line
 abbrev pub begun_site : LeafKind → Site
@@ -49,6 +75,7 @@ begun_site OfFence = AtMarkers OfFence
 begun_site OfMath = AtMarkers OfMath
 begun_site OfHtml = AtLine OfHtml
 begun_site OfHeadingSetext = AtTitle
+begun_site OfDefinition = AtLabel
 begun_site kind = Outside
 
 -- behind a line ending, which opens a line if the text goes on
@@ -58,6 +85,11 @@ ending_site bytes p kind site = if nat_lt p.index (length bytes) then AtLine kin
 abbrev pub text_site : LeafKind → Purpose → Site
 text_site kind AsInfo = AtMeta kind
 text_site kind _ = AtEnding kind
+
+-- behind the text of a part of a definition
+abbrev pub part_site : Part → Site
+part_site LabelPart = BehindPart DestinationLeft
+part_site TitlePart = BehindTitleText
 
 -- where one is behind an event
 abbrev pub site_by : List ℕ → Site → Kind → Role → Point → Site
@@ -84,6 +116,17 @@ site_by bytes BehindTitle Enter (Tells x) p = InUnderline
 site_by bytes InUnderline Exit (Tells x) p = BehindUnderline
 site_by bytes BehindUnderline Exit (Opens x) p = Outside
 site_by bytes InAtxText Exit (Tells x) p = Outside
+site_by bytes AtLabel Enter (Tells x) p = InPart LabelPart p
+site_by bytes (InPart part q) Enter IsPrefix p = InParted part
+site_by bytes (InPart part q) Exit (Tells x) p = part_site part
+site_by bytes (InParted part) Exit (Tells x) p = part_site part
+site_by bytes (BehindPart left) Enter (Tells x) p = InDestination
+site_by bytes (BehindPart left) Enter IsTitle p = AtTitleText
+site_by bytes (BehindPart left) Exit (Opens x) p = Outside
+site_by bytes InDestination Exit (Tells x) p = BehindPart TitleLeft
+site_by bytes AtTitleText Enter (Tells x) p = InPart TitlePart p
+site_by bytes AtTitleText Exit IsTitle p = BehindPart NoneLeft
+site_by bytes BehindTitleText Exit IsTitle p = BehindPart NoneLeft
 site_by bytes site kind x p = site
 
 -- which leaf blocks have fences, and which an `info`
@@ -111,7 +154,22 @@ SameText AsMeta AsMeta = Unit {0}
 SameText AsLine AsLine = Unit {0}
 SameText _ _ = ⊥
 
--- what may stand there
+-- such a text of a definition ends as what it begins as
+abbrev pub IsOfPart : Part → Purpose → Type 0
+IsOfPart LabelPart AsLabel = Unit {0}
+IsOfPart TitlePart AsTitle = Unit {0}
+IsOfPart _ _ = ⊥
+
+-- what may come
+abbrev pub MayHaveDestination : Left → Type 0
+MayHaveDestination DestinationLeft = Unit {0}
+MayHaveDestination _ = ⊥
+
+abbrev pub MayHaveTitle : Left → Type 0
+MayHaveTitle NoneLeft = ⊥
+MayHaveTitle _ = Unit {0}
+
+-- what may stand there; no prefix stands in the first line of a text of a definition
 abbrev pub MayStand : List ℕ → Site → Kind → Role → Point → Type 0
 MayStand bytes Outside Enter (Opens x) p = Unit {0}
 MayStand bytes Outside Exit (Opens OfCode) p = ⊥
@@ -119,11 +177,16 @@ MayStand bytes Outside Exit (Opens OfFence) p = ⊥
 MayStand bytes Outside Exit (Opens OfMath) p = ⊥
 MayStand bytes Outside Exit (Opens OfHtml) p = ⊥
 MayStand bytes Outside Exit (Opens OfHeadingSetext) p = ⊥
+MayStand bytes Outside Exit (Opens OfDefinition) p = ⊥
 MayStand bytes Outside Exit (Tells AsHeading) p = ⊥
 MayStand bytes Outside kind IsFence p = ⊥
+MayStand bytes Outside kind IsTitle p = ⊥
 MayStand bytes Outside kind (Tells AsLine) p = ⊥
 MayStand bytes Outside kind (Tells AsInfo) p = ⊥
 MayStand bytes Outside kind (Tells AsMeta) p = ⊥
+MayStand bytes Outside kind (Tells AsLabel) p = ⊥
+MayStand bytes Outside kind (Tells AsDestination) p = ⊥
+MayStand bytes Outside kind (Tells AsTitle) p = ⊥
 MayStand bytes Outside kind x p = Unit {0}
 MayStand bytes site kind IsQuiet p = Unit {0}
 MayStand bytes (AtMarkers kind) Enter IsFence p = Unit {0}
@@ -160,6 +223,22 @@ MayStand bytes InUnderline Exit (Tells AsMarkers) p = Unit {0}
 MayStand bytes BehindUnderline Exit (Opens OfHeadingSetext) p = Unit {0}
 MayStand bytes InAtxText x IsEnding p = Unit {0}
 MayStand bytes InAtxText Exit (Tells AsHeading) p = Unit {0}
+MayStand bytes AtLabel Enter (Tells AsLabel) p = Unit {0}
+MayStand bytes (InPart part q) Enter IsPrefix p = list_any is_ending (slice_range bytes (byte_at q) p.index) ≡ true
+MayStand bytes (InPart part q) x IsEnding p = Unit {0}
+MayStand bytes (InPart part q) Exit (Tells x) p = IsOfPart part x
+MayStand bytes (InParted part) x IsPrefix p = Unit {0}
+MayStand bytes (InParted part) x IsEnding p = Unit {0}
+MayStand bytes (InParted part) Exit (Tells x) p = IsOfPart part x
+MayStand bytes (BehindPart left) x IsPrefix p = Unit {0}
+MayStand bytes (BehindPart left) x IsEnding p = Unit {0}
+MayStand bytes (BehindPart left) Enter (Tells AsDestination) p = MayHaveDestination left
+MayStand bytes (BehindPart left) Enter IsTitle p = MayHaveTitle left
+MayStand bytes (BehindPart left) Exit (Opens OfDefinition) p = Unit {0}
+MayStand bytes InDestination Exit (Tells AsDestination) p = Unit {0}
+MayStand bytes AtTitleText Enter (Tells AsTitle) p = Unit {0}
+MayStand bytes AtTitleText Exit IsTitle p = Unit {0}
+MayStand bytes BehindTitleText Exit IsTitle p = Unit {0}
 MayStand bytes site kind x p = ⊥
 
 -- whether leaf blocks of several lines have their parts so from here on, and end

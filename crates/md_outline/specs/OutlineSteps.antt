@@ -8,12 +8,14 @@ use Rattle.md_engine.specs.declared.event.Kind.TheVariants.{Enter, Exit}
 use Rattle.md_engine.specs.declared.event.Point.{Point}
 use Rattle.md_definition.specs.Outline.{Entry, entries_of, entry, entry_with}
 use Rattle.md_definition.specs.Texts.{first_byte}
+use Rattle.md_definition.specs.declared.outline.Word.{Word}
 use Rattle.md_definition.specs.declared.outline.Word.TheVariants as word
 use Rattle.md_seam.specs.Events.Spelled.{OpenLeaf}
 use Rattle.md_seam.specs.Events.Spelled as spelled
 use Rattle.md_outline.specs.Between.{is_between}
-use Rattle.md_outline.specs.LinedState.{begin_lines, closed_word, filled_line, is_heading, marked_word, with_head}
-use Rattle.md_outline.specs.LinedState.{without_end}
+use Rattle.md_outline.specs.DefinitionState.{destination_told, label_told, part_ended, part_parted, part_word}
+use Rattle.md_outline.specs.LinedState.{begin_lines, closed_word, filled_line, form_of, has_own_lines, is_heading}
+use Rattle.md_outline.specs.LinedState.{marked_word, with_head, without_end}
 use Rattle.md_outline.specs.ParagraphState.{begin_entries}
 use Rattle.md_outline.specs.Roles.{leaf_entries, leaf_of, noted, shown_as}
 use Rattle.md_outline.specs.TextLines.{full_entries, text_entries}
@@ -80,7 +82,7 @@ told_marker text s = marked_at s.untold text s
 -- a heading is open whose lines are shown as they come
 abbrev pub is_titled : Option Lined → Bool
 is_titled None = false
-is_titled (Some lined) = lined.is_heading
+is_titled (Some lined) = is_heading lined.form
 
 -- the text of a heading ends: its last lines are shown, or all of it is told
 abbrev pub title_told : Bool → List ℕ → OutlineState → OutlineState
@@ -101,13 +103,22 @@ fence_begun None s = s
 fence_begun (Some lined) s =
     if lined.is_fenced then record s { lines = with_head closed_word lined.place (without_end s.lines) } else s
 
--- a line ending opens a line of it unless it is a heading, if the text goes on behind that, and no text is read
+-- a line ending opens a line of it if its lines are its own, the text goes on behind that, and no text is read
 abbrev pub line_ended : List ℕ → ℕ → Option Lined → Option Span → OutlineState → OutlineState
 line_ended bytes end None text s = s
 line_ended bytes end (Some lined) (Some text) s = s
 line_ended bytes end (Some lined) None s =
-    if lined.is_heading then s
-    else if nat_lt end (length bytes) then record s { lines = s.lines ++ entry (s.depth + 1) word.Line ∷ [] } else s
+    if has_own_lines lined.form then
+    (if nat_lt end (length bytes) then record s { lines = s.lines ++ entry (s.depth + 1) word.Line ∷ [] } else s)
+    else s
+
+-- the label of a definition ends: its last lines are shown, and its destination, which is empty yet
+abbrev pub label_ended : Bool → List ℕ → OutlineState → OutlineState
+label_ended is_parted text s = record s {
+  lined = label_told s.lined;
+  lines =
+      part_ended word.Label is_parted (s.depth + 1) text s.lines ++ entry (s.depth + 1) word.Destination ∷ [];
+}
 
 -- a text has ended, with this piece
 abbrev pub told : Purpose → Bool → List ℕ → OutlineState → OutlineState
@@ -118,6 +129,10 @@ told purpose.Markers is_shown text s = head_marked s.lined text (told_leaf note.
 told (purpose.Part w) is_shown text s = record s { lines = s.lines ++ entry_with (s.depth + 1) w text ∷ [] }
 told purpose.Line is_shown text s =
     record s { lines = without_end s.lines ++ filled_line (s.depth + 1) s.spaces text ∷ [] }
+told purpose.Label is_shown text s = label_ended is_shown text s
+told purpose.Destination is_shown text s = record s { lines = destination_told (s.depth + 1) text s.lines }
+told purpose.DefinitionTitle is_shown text s =
+    record s { lines = part_ended word.Title is_shown (s.depth + 1) text s.lines }
 told purpose.Marker is_shown text s = told_marker text s
 told purpose.Digits is_shown text s = s
 
@@ -126,14 +141,20 @@ told_at bytes purpose end None s = s
 told_at bytes purpose end (Some text) s =
     told purpose text.is_parted (slice_range bytes text.from end) (record s { text = None })
 
+-- what stands in front of a prefix is shown: in a part of a definition that this word shows, or in another text
+abbrev pub piece_shown : Option Word → Bool → Bool → ℕ → List ℕ → List Entry → List Entry
+piece_shown None is_begun is_parted depth text lines =
+    lines ++ begin_entries depth is_begun ++ full_entries (depth + 1) text
+piece_shown (Some w) is_begun is_parted depth text lines = part_parted w is_parted (depth + 1) text lines
+
 -- a prefix begins
 abbrev pub parted_at : List ℕ → ℕ → Option Span → OutlineState → OutlineState
 parted_at bytes end None s = s
 parted_at bytes end (Some text) s = record s {
   text = Some (record text { is_parted = true });
   lines =
-      s.lines ++ begin_entries s.depth (is_titled s.lined || text.is_parted)
-      ++ full_entries (s.depth + 1) (slice_range bytes text.from end);
+      piece_shown (part_word s.lined) (is_titled s.lined || text.is_parted) text.is_parted s.depth
+      (slice_range bytes text.from end) s.lines;
 }
 
 abbrev pub state_enter : List ℕ → Role → Point → OutlineState → OutlineState
@@ -150,10 +171,11 @@ state_enter bytes role.Prefix p s = parted_at bytes p.index s.text s
 state_enter bytes (role.Leaf leaf) p s = record s { leaf = Some (leaf_of leaf) }
 state_enter bytes (role.Lined w) p s = record s {
   leaf = None;
-  lined = Some (record { place = length s.lines; is_fenced = false; is_heading = is_heading w });
+  lined = Some (record { place = length s.lines; is_fenced = false; form = form_of w });
   lines = s.lines ++ begin_lines s.depth w;
 }
 state_enter bytes role.Fence p s = fence_begun s.lined s
+state_enter bytes role.Title p s = record s { lines = s.lines ++ entry (s.depth + 1) word.Title ∷ [] }
 state_enter bytes (role.Text purpose) p s = record s {
   text = Some
       (record { from = spelled.byte_at p; is_parted = false });
@@ -172,6 +194,7 @@ state_exit bytes role.Prefix p s = record s {
 state_exit bytes (role.Leaf leaf) p s = leaf_ended s.leaf s
 state_exit bytes (role.Lined w) p s = record s { lined = None }
 state_exit bytes role.Fence p s = s
+state_exit bytes role.Title p s = s
 state_exit bytes role.Ending p s = line_ended bytes p.index s.lined s.text s
 state_exit bytes (role.Text purpose) p s = told_at bytes purpose p.index s.text s
 state_exit bytes role.Quiet p s = s

@@ -71,9 +71,9 @@ is_unparted None = true
 is_unparted (Some text) = not text.is_parted
 
 -- whether an event may stand in a text: a prefix begins where a line does, with nothing but spaces and tabs in front of
--- it, and ends between characters; no text is parted but one that is a block or the text of a heading, and from its
--- first prefix to its end nothing else begins or ends that the tree shows; and no leaf block of several lines begins in
--- a text
+-- it, and ends between characters; no text is parted but one that is a block, the text of a heading, or the label or
+-- title of a definition, and from its first prefix to its end nothing else begins or ends that the tree shows; and no
+-- leaf block of several lines begins in a text
 abbrev pub parts_enter : List ℕ → Role → Point → Span → Bool
 parts_enter bytes IsPrefix p text =
     begins_line text (piece_to bytes p text) && is_blank (last_line (split_lines (piece_to bytes p text)))

@@ -10,15 +10,17 @@
 --   in code.
 -- - A leaf block of several lines (`has_lines`): `is_unlisted` and `shown_as` here, `role_of` in code; its lines are
 --   shown as they come (`LinedState`), where they may (`LinesStand`), and `LinedLemmas` has what is proved of it. A
---   setext heading is one, whose lines are those of its text, shown as those of a paragraph (`TitledLemmas`).
+--   setext heading is one, whose lines are those of its text, shown as those of a paragraph (`TitledLemmas`), and so is
+--   a definition, whose lines are those of its label, its destination and its title (`DefinedLemmas`).
 -- - A text that tells a leaf block something: the same, and `told_as` here, `Note` in code.
 use Rattle.std.specs.Prelude.{ℕ, Bool, true, false, List, None}
 use Rattle.md_definition.specs.declared.outline.Word.TheVariants as word
 use Rattle.md_definition.specs.Outline.{Entry, block_entries}
-use Rattle.md_seam.specs.Events.Spelled.{AsDigits, AsHeading, AsInfo, AsItemMarker, AsLine, AsMarkers, AsMeta}
-use Rattle.md_seam.specs.Events.Spelled.{AsParagraph, BreakLeaf, IsFence, LeafKind, OfCode, OfFence, OfHtml, OfMath}
-use Rattle.md_seam.specs.Events.Spelled.{HeadingAtxLeaf, Holds, IsEnding, IsPrefix, IsQuiet, ItemShape, OfBreak}
-use Rattle.md_seam.specs.Events.Spelled.{OfHeadingAtx, OfHeadingSetext, OpenLeaf, Opens, OrderedShape, QuoteShape}
+use Rattle.md_seam.specs.Events.Spelled.{AsDestination, AsDigits, AsHeading, AsInfo, AsItemMarker, AsLabel, AsLine}
+use Rattle.md_seam.specs.Events.Spelled.{AsMarkers, AsMeta, AsParagraph, AsTitle, BreakLeaf, HeadingAtxLeaf, Holds}
+use Rattle.md_seam.specs.Events.Spelled.{IsEnding, IsFence, IsPrefix, IsQuiet, IsTitle, ItemShape, LeafKind, OfBreak}
+use Rattle.md_seam.specs.Events.Spelled.{OfCode, OfDefinition, OfFence, OfHeadingAtx, OfHeadingSetext, OfHtml, OfMath}
+use Rattle.md_seam.specs.Events.Spelled.{OpenLeaf, Opens, OrderedShape, QuoteShape}
 use Rattle.md_seam.specs.Events.Spelled.{Tells, UnorderedShape, block_of}
 use Rattle.md_seam.specs.Events.Spelled as spelled
 use Rattle.md_seam.specs.Events.Told.{OfItself, told_of}
@@ -62,21 +64,27 @@ has_lines OfFence = true
 has_lines OfMath = true
 has_lines OfHtml = true
 has_lines OfHeadingSetext = true
+has_lines OfDefinition = true
 has_lines _ = false
 
--- the plain ones, and those of such leaf blocks, their parts and the texts of headings: all that are shown, but those
--- of lists
+-- the plain ones, and those of such leaf blocks, their parts, and the texts of headings and of definitions: all that are
+-- shown, but those of lists
 abbrev pub is_unlisted : spelled.Role → Bool
 is_unlisted (Opens OfCode) = true
 is_unlisted (Opens OfFence) = true
 is_unlisted (Opens OfMath) = true
 is_unlisted (Opens OfHtml) = true
 is_unlisted (Opens OfHeadingSetext) = true
+is_unlisted (Opens OfDefinition) = true
 is_unlisted IsFence = true
+is_unlisted IsTitle = true
 is_unlisted (Tells AsHeading) = true
 is_unlisted (Tells AsLine) = true
 is_unlisted (Tells AsInfo) = true
 is_unlisted (Tells AsMeta) = true
+is_unlisted (Tells AsLabel) = true
+is_unlisted (Tells AsDestination) = true
+is_unlisted (Tells AsTitle) = true
 is_unlisted x = is_plain x
 
 -- all that an outline shows
@@ -89,9 +97,11 @@ is_shown x = is_unlisted x
 abbrev pub is_block : spelled.Purpose → Bool
 is_block purpose = elim (told_of purpose) [ OfItself ↦ true | _ ↦ false ]
 
--- the texts that prefixes may part: these, and those of headings
+-- the texts that prefixes may part: these, those of headings, and the labels and titles of definitions
 abbrev pub may_part : spelled.Purpose → Bool
 may_part AsHeading = true
+may_part AsLabel = true
+may_part AsTitle = true
 may_part purpose = is_block purpose
 
 -- what the events of a name mean to an outline
@@ -113,10 +123,15 @@ shown_as (Opens OfFence) = role.Lined (word.Fence 0 false)
 shown_as (Opens OfMath) = role.Lined (word.Math false)
 shown_as (Opens OfHtml) = role.Lined word.Html
 shown_as (Opens OfHeadingSetext) = role.Lined (word.Heading 0)
+shown_as (Opens OfDefinition) = role.Lined word.Definition
 shown_as IsFence = role.Fence
+shown_as IsTitle = role.Title
 shown_as (Tells AsInfo) = role.Text (purpose.Part word.Info)
 shown_as (Tells AsMeta) = role.Text (purpose.Part word.Meta)
 shown_as (Tells AsLine) = role.Text purpose.Line
+shown_as (Tells AsLabel) = role.Text purpose.Label
+shown_as (Tells AsDestination) = role.Text purpose.Destination
+shown_as (Tells AsTitle) = role.Text purpose.DefinitionTitle
 shown_as IsEnding = role.Ending
 shown_as _ = role.Quiet
 

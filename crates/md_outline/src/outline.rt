@@ -4,21 +4,23 @@ ghost use Rattle.std.specs.Prelude.{◌≡◌, ◌||◌, true, Option, option_ma
 ghost use Rattle.std.specs.Str.{IsUtf8};
 ghost use Rattle.md_seam.specs.Events.Spelled as spelled;
 ghost use Rattle.md_outline.specs.Outlined.{Outlines};
-ghost use Rattle.md_outline.specs.OutlineSteps.{IsCutAt, fence_begun, head_marked, leaf_ended, line_ended, parted_at};
-ghost use Rattle.md_outline.specs.OutlineSteps.{is_titled, state_by, state_enter, state_exit, title_told};
-ghost use Rattle.md_outline.specs.OutlineSteps.{state_of, told_at, told_leaf, told_marker};
+ghost use Rattle.md_outline.specs.DefinitionState.{part_word};
+ghost use Rattle.md_outline.specs.OutlineSteps.{IsCutAt, fence_begun, head_marked, is_titled, label_ended, leaf_ended};
+ghost use Rattle.md_outline.specs.OutlineSteps.{line_ended, parted_at, state_by, state_enter, state_exit, state_of};
+ghost use Rattle.md_outline.specs.OutlineSteps.{title_told, told_at, told_leaf, told_marker};
 ghost use Rattle.md_outline.specs.Roles.{shown_as};
 ghost use Rattle.md_outline.specs.declared.outline.Span.{Span};
 
+mod definition;
 mod heading;
 mod lined;
 mod lines;
 mod paragraph;
 mod role;
 
+use crate::outline::definition::{fill_destination, part_of, push_part_end, push_part_piece};
 use crate::outline::lined::{
-    Lined, close_head, fill_line, is_heading, mark_head, push_begun, push_line, push_part,
-    spaces_at,
+    Lined, close_head, fill_line, form_of, mark_head, push_begun, push_line, push_part, spaces_at,
 };
 use crate::outline::lines::{first_of, next, part, push, push_lines};
 use crate::outline::paragraph::{push_block, push_piece};
@@ -96,8 +98,18 @@ impl<'a> Reading<'a> {
         ensures { result ≡ is_titled self.now.lined }
     {
         match self.lined {
-            Some(lined) => lined.is_heading,
+            Some(lined) => lined.form.is_heading(),
             None => false,
+        }
+    }
+
+    /// The word that shows the lines of the part of a definition that is read, if one is open.
+    fn part_word(&self) -> Option<Word>
+        ensures { result ≡ part_word self.now.lined }
+    {
+        match self.lined {
+            Some(lined) => part_of(lined.form, lined.is_fenced),
+            None => None,
         }
     }
 
@@ -115,11 +127,27 @@ impl<'a> Reading<'a> {
             state_of self.new ≡ title_told (is_titled (state_of self.old).lined) text.now (state_of self.old)) }
     {
         if self.is_titled() {
-            push_lines(&mut self.lines, next(self.depth)?, text)
+            push_lines(&mut self.lines, next(self.depth)?, Word::Line, text)
         } else {
             self.note(Note::Title, text);
             Ok(())
         }
+    }
+
+    /// Reads the label of a definition: its last lines, or all of it.
+    fn end_label(&mut self, is_parted: bool, text: &'a [u8]) -> Result<(), Message>
+        ensures bytes { self.new.bytes ≡ self.old.bytes }
+        ensures read { OnOk result (IsUtf8 text.now →
+            state_of self.new ≡ label_ended is_parted text.now (state_of self.old)) }
+    {
+        if let Some(lined) = self.lined {
+            self.lined = Some(Lined {
+                is_fenced: true,
+                ..lined
+            });
+        }
+        push_part_end(&mut self.lines, self.depth, Word::Label, is_parted, text)?;
+        push(&mut self.lines, next(self.depth)?, Word::Destination, "")
     }
 
     /// Tells a leaf block of several lines the markers of its first fence, or of its underline.
@@ -160,7 +188,7 @@ impl<'a> Reading<'a> {
             line_ended self.old.bytes.now end (state_of self.old).lined self.old.text (state_of self.old)) }
     {
         match (self.lined, self.text) {
-            (Some(lined), None) if !lined.is_heading && end < self.bytes.len() => {
+            (Some(lined), None) if lined.form.has_own_lines() && end < self.bytes.len() => {
                 push_line(&mut self.lines, self.depth)
             }
             _ => Ok(()),
@@ -200,6 +228,17 @@ impl<'a> Reading<'a> {
             }
             Purpose::Part(word) => push_part(&mut self.lines, self.depth, word, text),
             Purpose::Line => fill_line(&mut self.lines, self.depth, self.spaces, text),
+            Purpose::Label => self.end_label(span.is_parted, text),
+            Purpose::Destination => fill_destination(&mut self.lines, self.depth, text),
+            Purpose::DefinitionTitle => {
+                push_part_end(
+                    &mut self.lines,
+                    self.depth,
+                    Word::Title,
+                    span.is_parted,
+                    text,
+                )
+            }
             Purpose::Marker => {
                 self.mark(text);
                 Ok(())
@@ -222,8 +261,13 @@ impl<'a> Reading<'a> {
             from: span.from,
             is_parted: true,
         });
-        let is_shown = self.is_begun(span);
-        push_piece(&mut self.lines, self.depth, is_shown, text)
+        match self.part_word() {
+            Some(word) => push_part_piece(&mut self.lines, self.depth, word, span.is_parted, text),
+            None => {
+                let is_shown = self.is_begun(span);
+                push_piece(&mut self.lines, self.depth, is_shown, text)
+            }
+        }
     }
 
     /// Reads on behind a prefix.
@@ -263,11 +307,12 @@ impl<'a> Reading<'a> {
                 self.lined = Some(Lined {
                     place: self.lines.len(),
                     is_fenced: false,
-                    is_heading: is_heading(word),
+                    form: form_of(word),
                 });
                 push_begun(&mut self.lines, self.depth, word)?;
             }
             Role::Fence => self.begin_fence(),
+            Role::Title => push(&mut self.lines, next(self.depth)?, Word::Title, "")?,
             Role::Text(_) => {
                 self.spaces = spaces_at(point);
                 self.text = Some(Span {
@@ -302,7 +347,7 @@ impl<'a> Reading<'a> {
             }
             Role::Ending => self.end_line(point.index),
             Role::Text(purpose) => self.end_text(purpose, point.index),
-            Role::Fence | Role::Quiet => Ok(()),
+            Role::Fence | Role::Title | Role::Quiet => Ok(()),
         }
     }
 

@@ -25,7 +25,7 @@
 // linked to the line before, around one `HtmlFlowData` over all of its rest, its indent inside; an empty line has none.
 // A resolver makes one block of them.
 
-ghost use Rattle.std.specs.Prelude.{◌≡◌, ◌≢◌, ◌<◌, IfSome, length};
+ghost use Rattle.std.specs.Prelude.{◌≡◌, ◌≢◌, ◌<◌, IfSome, false, length};
 ghost use Rattle.md_engine.specs.World.{looks, world};
 ghost use Rattle.md_engine.specs.declared.state.Name.{Name as StateName};
 ghost use Rattle.md_engine.specs.declared.state.State.{State};
@@ -41,7 +41,7 @@ ghost use Rattle.md_rich.specs.Html.{continuation_raw_end_tag_transition, contin
 ghost use Rattle.md_rich.specs.Html.{declaration_open_transition, html_transition, indent_transition, is_html};
 ghost use Rattle.md_rich.specs.Html.{is_open_text, may_begin, moved, open_transition, start_transition};
 ghost use Rattle.md_rich.specs.Html.{tag_close_start_transition, tag_name_transition};
-ghost use Rattle.md_seam.specs.Spaces.{is_current};
+ghost use Rattle.md_seam.specs.Spaces.{ends_line, is_current};
 ghost use Rattle.md_seam.specs.Look.{may_with};
 ghost use Rattle.md_seam.specs.Stays.{TakesEach};
 ghost use Rattle.md_seam.specs.Transition.{IsAt};
@@ -586,6 +586,7 @@ pub fn continuation_close(tokenizer: &mut Tokenizer) -> State
     ensures to { result ≢ State.Error → result ≡ (continuation_close_transition (world tokenizer.old)).to }
     ensures world { result ≢ State.Error →
         world tokenizer.new ≡ (continuation_close_transition (world tokenizer.old)).world }
+    ensures in_line { ends_line (world tokenizer.old).current ≡ false → result ≢ State.Error }
 {
     match tokenizer.current {
         None | Some(b'\n') => end_data(tokenizer),

@@ -10,7 +10,6 @@ use Rattle.md_engine.specs.declared.event.Name.TheVariants as n
 use Rattle.md_engine.specs.declared.event.Point.{Point}
 use Rattle.md_engine.specs.declared.tokenizer.held_leaf.HeldLeaf.{HeldLeaf}
 use Rattle.md_engine.specs.Meaning.{Cell}
-use Rattle.md_content.specs.Joined.{is_content}
 use Rattle.md_definition.specs.Bytes.{is_end}
 use Rattle.md_definition.specs.Rest.{Rest, is_blank}
 use Rattle.md_lines.specs.CodeRule.{blank_adds, line_adds}
@@ -22,7 +21,7 @@ use Rattle.md_seam.specs.Substituted.{wanted}
 use Rattle.markdown_blocks.specs.Leaf.CodeIndented.{code_further, code_leaf, code_parts, line_parts}
 use Rattle.markdown_blocks.specs.LineColumns.{rest_of}
 use Rattle.markdown_blocks.proofs.CodeIndented.Parts.{code-inside}
-use Rattle.markdown_blocks.proofs.ContentFacts.{NoContent}
+use Rattle.markdown_blocks.proofs.ContentFacts.{NoContent, is_told}
 use Rattle.markdown_blocks.proofs.EachEvent.{each-append}
 use Rattle.markdown_blocks.proofs.LostLine.Names.{AreInside, More, either-part, inside-no_content, inside-outside}
 use Rattle.markdown_blocks.proofs.LostLine.Names.{inside-unturned}
@@ -108,7 +107,7 @@ code_further-unturned options on line p =
 -- No content stands in it, and its link is to none that is read later.
 
 line-no_content : (wants : Content → Bool) (begin : Event) (cells : List Cell) (p : Point) →
-    wanted wants begin ≡ None → is_content begin.name ≡ false → NoContent wants (line_adds begin cells p)
+    wanted wants begin ≡ None → is_told begin.name ≡ false → NoContent wants (line_adds begin cells p)
 line-no_content wants begin cells p unwanted none =
     (unwanted, none, (refl, refl, (refl, refl, (refl, refl, (refl, refl, (refl, refl, tt))))))
 

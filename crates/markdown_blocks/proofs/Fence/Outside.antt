@@ -11,7 +11,6 @@ use Rattle.md_engine.specs.declared.event.Point.{Point}
 use Rattle.md_engine.specs.declared.tokenizer.held_leaf.HeldLeaf.{HeldLeaf}
 use Rattle.md_engine.specs.declared.tokenizer.held_leaf.HeldLeaf.TheVariants as held_leaf
 use Rattle.md_engine.specs.Meaning.{Cell}
-use Rattle.md_content.specs.Joined.{is_content}
 use Rattle.md_leaves.specs.Turned.{is_paragraph, is_underline}
 use Rattle.md_lines.specs.FenceLine.{fence_adds, fence_opened, is_opening, marker_at}
 use Rattle.md_lines.specs.FenceRule.{run_size}
@@ -22,7 +21,7 @@ use Rattle.md_seam.specs.Substituted.{wanted}
 use Rattle.markdown_blocks.specs.HeldLeaf.{takes_lazy}
 use Rattle.markdown_blocks.specs.Leaf.Fence.{fence_keeps, fence_line, linked, or_none}
 use Rattle.markdown_blocks.specs.Registry.{is_own}
-use Rattle.markdown_blocks.proofs.ContentFacts.{NoContent}
+use Rattle.markdown_blocks.proofs.ContentFacts.{NoContent, is_told}
 use Rattle.markdown_blocks.proofs.EachEvent.{Each}
 use Rattle.markdown_blocks.proofs.Fence.Each.{adds-each, is_block_name, is_fence_name, line-each}
 use Rattle.markdown_blocks.proofs.OutsideFacts.{AreOutside, IsOutside}
@@ -38,12 +37,14 @@ block-own : (name : Name) → is_block_name name ≡ true → is_own name ≡ fa
 block-own n.CodeFenced e = refl
 block-own _ e = cc
 
-block-content : (name : Name) → is_block_name name ≡ true → is_content name ≡ false
+block-content : (name : Name) → is_block_name name ≡ true → is_told name ≡ false
 block-content n.Content e = cc
+block-content n.DefinitionLabelString e = cc
 block-content _ e = refl
 
-name-content : (name : Name) → is_fence_name name ≡ true → is_content name ≡ false
+name-content : (name : Name) → is_fence_name name ≡ true → is_told name ≡ false
 name-content n.Content e = cc
+name-content n.DefinitionLabelString e = cc
 name-content _ e = refl
 
 -- No part of it is rewritten.
@@ -81,7 +82,7 @@ fence-unturned line p =
 -- No content stands in it.
 
 abbrev IsNoContent : (Content → Bool) → Event → Type 0
-IsNoContent wants e = (wanted wants e ≡ None) × (is_content e.name ≡ false)
+IsNoContent wants e = (wanted wants e ≡ None) × (is_told e.name ≡ false)
 
 each-none : (wants : Content → Bool) (es : List Event) → Each (IsNoContent wants) es → NoContent wants es
 each-none wants [] h = tt

@@ -11,7 +11,6 @@ use Rattle.md_engine.specs.declared.event.Name.TheVariants as n
 use Rattle.md_engine.specs.declared.event.Point.{Point}
 use Rattle.md_engine.specs.declared.tokenizer.held_leaf.HeldLeaf.{HeldLeaf}
 use Rattle.md_engine.specs.Meaning.{Cell}
-use Rattle.md_content.specs.Joined.{is_content}
 use Rattle.md_definition.specs.Leaves.{closes}
 use Rattle.md_definition.specs.Rest.{Rest, indent, run_len, trim_start}
 use Rattle.md_leaves.specs.Turned.{is_paragraph, is_underline}
@@ -26,7 +25,7 @@ use Rattle.markdown_blocks.specs.Leaf.FenceFurther.{closing_line, closing_part, 
 use Rattle.markdown_blocks.specs.Leaf.FenceFurther.{chunk_line, further_parts, opening_of, past_columns}
 use Rattle.markdown_blocks.specs.Leaf.FenceFurther.{rest_of}
 use Rattle.markdown_blocks.specs.Registry.{is_own}
-use Rattle.markdown_blocks.proofs.ContentFacts.{NoContent}
+use Rattle.markdown_blocks.proofs.ContentFacts.{NoContent, is_told}
 pub use Rattle.markdown_blocks.proofs.LostLine.Names.{inside-name, is_inside}
 use Rattle.markdown_blocks.proofs.EachEvent.{each-append}
 use Rattle.markdown_blocks.proofs.LostLine.Names.{AreInside, More, either-part, inside-outside, inside-unturned}
@@ -139,8 +138,8 @@ inside-each P more options on cells p es h = go (closes_here options on cells)
 block-own : (m : ℕ) → is_own (block_name m) ≡ false
 block-own m = either-name (λ a. is_own a ≡ false) (m == 36) _ _ refl refl
 
-block-content : (m : ℕ) → is_content (block_name m) ≡ false
-block-content m = either-name (λ a. is_content a ≡ false) (m == 36) _ _ refl refl
+block-content : (m : ℕ) → is_told (block_name m) ≡ false
+block-content m = either-name (λ a. is_told a ≡ false) (m == 36) _ _ refl refl
 
 -- Nothing begins in it that a resolver rewrites.
 pub further-own : (options : ParseOptions) (on : HeldLeaf) (cells : List Cell) (p : Point) →

@@ -8,7 +8,6 @@ use Rattle.md_engine.specs.declared.event.Kind.TheVariants.{Enter, Exit}
 use Rattle.md_engine.specs.declared.event.Name.{Name}
 use Rattle.md_engine.specs.declared.event.Name.TheVariants as n
 use Rattle.md_engine.specs.declared.event.Point.{Point}
-use Rattle.md_content.specs.Joined.{is_content}
 use Rattle.md_definition.specs.Rest.{Rest, indent, lose}
 use Rattle.md_leaves.specs.Turned.{is_paragraph, is_underline}
 use Rattle.md_seam.specs.Events.Nested.{is_enter, pair}
@@ -16,7 +15,7 @@ use Rattle.md_seam.specs.Substituted.{wanted}
 use Rattle.markdown_blocks.specs.Fronted.{rest_line}
 use Rattle.markdown_blocks.specs.LineColumns.{lost_line, part_over, past_columns}
 use Rattle.markdown_blocks.specs.Registry.{is_own}
-use Rattle.markdown_blocks.proofs.ContentFacts.{NoContent}
+use Rattle.markdown_blocks.proofs.ContentFacts.{NoContent, is_told}
 use Rattle.markdown_blocks.proofs.OutsideFacts.{AreOutside}
 use Rattle.markdown_blocks.proofs.UnturnedFacts.{AreUnturned}
 
@@ -117,8 +116,9 @@ inside-unturned es all = all AreUnturned tt (λ kind name x es e k. (inside-pass
 
 -- No content stands among them.
 
-inside-content : (name : Name) → is_inside name ≡ true → is_content name ≡ false
+inside-content : (name : Name) → is_inside name ≡ true → is_told name ≡ false
 inside-content n.Content e = absurd (cc)
+inside-content n.DefinitionLabelString e = absurd (cc)
 inside-content _ e = refl
 
 pub more-no_content : (wants : Content → Bool) → More (NoContent wants)

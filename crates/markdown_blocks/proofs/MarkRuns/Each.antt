@@ -9,7 +9,6 @@ use Rattle.md_engine.specs.declared.event.Name.{Name}
 use Rattle.md_engine.specs.declared.event.Name.TheVariants as n
 use Rattle.md_engine.specs.declared.event.Point.{Point}
 use Rattle.md_engine.specs.Meaning.{Cell}
-use Rattle.md_content.specs.Joined.{is_content}
 use Rattle.md_leaves.specs.MarkRuns as celled
 use Rattle.md_seam.specs.Events.Endings.{on_line}
 use Rattle.md_seam.specs.Events.Nested.{around, enter, exit, pair}
@@ -19,7 +18,7 @@ use Rattle.md_seam.specs.Substituted.{wanted}
 use Rattle.md_seam.proofs.EndingsLemmas.{AreOthers, is_other}
 use Rattle.md_seam.proofs.SpelledLemmas.{Roles}
 use Rattle.markdown_blocks.specs.MarkRuns.{Apart, Marks, Run, White, mark_runs}
-use Rattle.markdown_blocks.proofs.ContentFacts.{NoContent}
+use Rattle.markdown_blocks.proofs.ContentFacts.{NoContent, is_told}
 use Rattle.markdown_blocks.proofs.EachEvent.{Each, each-append}
 use Rattle.markdown_blocks.proofs.SpanLemmas.{either}
 
@@ -100,7 +99,7 @@ each-roles P (e ∷ es) h = (h.0, each-roles P es h.1)
 
 -- no content
 abbrev pub IsNoContent : (Content → Bool) → Event → Type 0
-IsNoContent wants e = (wanted wants e ≡ None) × (is_content e.name ≡ false)
+IsNoContent wants e = (wanted wants e ≡ None) × (is_told e.name ≡ false)
 
 -- of each event
 pub each-no_content : (wants : Content → Bool) (es : List Event) → Each (IsNoContent wants) es → NoContent wants es

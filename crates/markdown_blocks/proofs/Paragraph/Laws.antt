@@ -1,26 +1,23 @@
 -- The laws of paragraphs, as a leaf of lines of text.
-use Rattle.std.proofs.Common.{◌≡◌, ℕ, Bool, true, false, cond, ◌==◌, List, [], ◌∷◌, refl}
+use Rattle.std.proofs.Common.{◌≡◌, ℕ, true, List, [], ◌∷◌, refl}
 use Rattle.md_engine.specs.declared.configuration.ParseOptions.{ParseOptions}
-use Rattle.md_engine.specs.declared.event.Name.TheVariants as n
-use Rattle.md_engine.specs.declared.event.Point.{Point}
 use Rattle.md_engine.specs.Meaning.{Cell}
 use Rattle.md_engine.specs.TextFeed.{text_feed}
 use Rattle.md_engine.specs.World.{World}
+use Rattle.md_content.specs.ContentRule.{content_over}
+use Rattle.markdown_blocks.proofs.Defined.Names.{content-passed}
 use Rattle.md_content.specs.ContentReads.{content_events, part_world}
-use Rattle.md_content.specs.Paragraph.{text_link}
-use Rattle.md_content.specs.ParagraphRule.{line_events, paragraph_over}
 use Rattle.md_seam.specs.declared.inline.Chunk.{Chunk}
-use Rattle.md_seam.specs.Ahead.{point_after}
-use Rattle.md_seam.specs.Events.Nested.{enter_link, exit}
-use Rattle.md_definition.specs.State.{Kept, Leaf, NoLeaf, OpenParagraph, shut_paragraph, texts, then_leaf}
-use Rattle.md_definition.specs.State.{then_paragraph}
-use Rattle.md_definition.specs.Tree.{Blocks, Paragraph}
+use Rattle.md_definition.specs.Definition.{Defined}
+use Rattle.md_definition.specs.State.{Kept, Leaf, NoLeaf, OpenParagraph, cut, shut_paragraph, then_block}
+use Rattle.md_definition.specs.State.{then_definitions, then_paragraph}
+use Rattle.md_definition.specs.Tree.{Blocks, Definition, Paragraph}
 use Rattle.md_outline.specs.HeadingDepths.{are_shallow}
 use Rattle.markdown_blocks.specs.Leaf.Paragraph.{paragraph_leaf}
 use Rattle.markdown_blocks.specs.HeldLeaf.{IsBuiltLeaf}
 use Rattle.markdown_blocks.specs.Registry.{IsOpenSpan}
 use Rattle.markdown_blocks.proofs.EachEvent.{settled-each}
-use Rattle.markdown_blocks.proofs.OutsideFacts.{AreOutside, IsOutside, outside-append}
+use Rattle.markdown_blocks.proofs.OutsideFacts.{AreOutside, IsOutside}
 use Rattle.markdown_blocks.proofs.Paragraph.Stands.{text-stands}
 use Rattle.markdown_blocks.proofs.ShallowBlocks.{shallow-then}
 use Rattle.markdown_blocks.proofs.TextLaws.{TextLaws}
@@ -33,28 +30,29 @@ open-cases P none text span (OpenParagraph []) plain = absurd plain
 open-cases P none text span (OpenParagraph (k ∷ ks)) plain = text k ks
 open-cases P none text span leaf plain = span leaf plain
 
-shut-lines : (options : ParseOptions) (bs : Blocks) (ks : List Kept) → options.constructs.definition ≡ false →
-    then_leaf options bs (OpenParagraph ks) ≡ then_paragraph bs (texts ks)
-unfolding shut_paragraph
-shut-lines options bs ks off = rw off refl
-
-shallow-behind : (bs : Blocks) (lines : List (List ℕ)) → are_shallow bs ≡ true →
+-- What its lines come to, an outline can show:
+shallow-remaining : (bs : Blocks) (lines : List (List ℕ)) → are_shallow bs ≡ true →
     are_shallow (then_paragraph bs lines) ≡ true
-shallow-behind bs [] h = h
-shallow-behind bs (line ∷ lines) h = shallow-then bs (Paragraph (line ∷ lines)) h refl
+shallow-remaining bs [] h = h
+shallow-remaining bs (line ∷ lines) h = shallow-then bs (Paragraph (line ∷ lines)) h refl
+
+-- definitions,
+shallow-definitions : (bs : Blocks) (ds : List Defined) → are_shallow bs ≡ true →
+    are_shallow (then_definitions bs ds) ≡ true
+shallow-definitions bs [] h = h
+shallow-definitions bs (d ∷ ds) h =
+    shallow-definitions (then_block bs (Definition d.label d.destination d.title)) ds
+    (shallow-then bs (Definition d.label d.destination d.title) h refl)
+
+-- and what remains.
+shallow-behind : (options : ParseOptions) (bs : Blocks) (lines : List (List ℕ)) → are_shallow bs ≡ true →
+    are_shallow (shut_paragraph options bs lines) ≡ true
+unfolding shut_paragraph
+shallow-behind options bs lines h =
+    let c = cut options lines in
+    shallow-remaining (then_definitions bs c.0) c.1 (shallow-definitions bs c.0 h)
 
 -- What is read of content.
-
-lines-outside : (cells : List Cell) (p : Point) → AreOutside (line_events cells p)
-lines-outside [] p = (refl, tt)
-lines-outside (c ∷ cs) p = go (c.byte == 10) (lines-outside cs c.after)
-  where
-    go : (x : Bool) → AreOutside (line_events cs c.after) →
-        AreOutside
-        (cond x (exit n.Data c.after ∷ enter_link n.Data c.after text_link ∷ line_events cs c.after)
-        (line_events cs c.after))
-    go true k = (refl, (refl, k))
-    go false k = k
 
 content-outside : (bytes : List ℕ) (options : ParseOptions) (chunks : List Chunk) →
     AreOutside (content_events bytes options chunks)
@@ -62,20 +60,13 @@ unfolding content_events
 content-outside bytes options chunks =
     let w : World = part_world bytes options chunks in
     let cells : List Cell = text_feed w.setting w.point in
-    settled-each IsOutside (λ e q h. h) chunks (paragraph_over cells w.point) (
-      refl,
-      (
-        refl,
-        outside-append (line_events cells w.point) (exit n.Paragraph (point_after cells w.point) ∷ [])
-            (lines-outside cells w.point) (refl, tt),
-      ),
-    )
+    settled-each IsOutside (λ e q h. h) chunks (content_over options cells w.point) (content-passed options cells w.point)
 
 pub paragraph-laws : TextLaws paragraph_leaf
 paragraph-laws = record {
   cases = λ P none text span leaf plain. open-cases P none text span leaf plain;
-  shut = λ options bs ks off. shut-lines options bs ks off;
-  shallow = λ bs lines h. shallow-behind bs lines h;
+  shut = λ options bs ks. refl;
+  shallow = λ options bs lines h. shallow-behind options bs lines h;
   stands = λ bytes held p q inside between. text-stands bytes held paragraph_leaf.name p q inside refl between;
   outside = λ bytes options chunks. content-outside bytes options chunks;
 }

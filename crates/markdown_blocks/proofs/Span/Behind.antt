@@ -31,7 +31,7 @@ use Rattle.markdown_blocks.proofs.FrontLemmas.{fronts-balanced, fronts-spans}
 use Rattle.markdown_blocks.proofs.FrontNames.{fronts-no_parts, fronts-prefixes, fronts-unlinked}
 use Rattle.markdown_blocks.proofs.FrontStands.{fronts-between, fronts-others, fronts-stood, fronts-tiled}
 use Rattle.markdown_blocks.proofs.GrammarFronts.{blocks_behind, front-stays}
-use Rattle.markdown_blocks.proofs.LeafFacts.{LeafFacts, shown, spot_behind}
+use Rattle.markdown_blocks.proofs.LeafFacts.{LeafFacts, StandFacts, leaf-of, shown, spot_behind, stand-of}
 use Rattle.markdown_blocks.proofs.LeafStands.{between-stand, between-unlisted, unlisted-both}
 use Rattle.markdown_blocks.proofs.PartFacts.{IsNoPart, IsUnlinked, NoLinks, NoParts}
 use Rattle.markdown_blocks.proofs.PartedFacts.{Still, clear, sits-append, sits-still}
@@ -110,14 +110,14 @@ gap-facts bytes blank p at q front whole is fronts = record {
         roles-append P ended front (ended-roles P blank p at quiet end)
         (prefixes-roles P front quiet prefix (fronts-prefixes bytes [] at q front refl fronts))
 
--- The leaf with the line behind it shows what the leaf does; behind it one stands as behind the line.
-pub facts-behind : (bytes : List ℕ) (block : Option Block) (blank full : Bool) (p e at q : Point)
+-- Events with others behind them, and what stands between two lines between them: all of them stand from the begin of
+-- the first to the end of the last. No tab of a character is cut where the others begin.
+pub stand-behind : (bytes : List ℕ) (blank full : Bool) (p e at q : Point)
     (unread done gap unread_line line : List Event) →
-    LeafFacts bytes block (not blank) p e unread done → GapFacts bytes blank e at gap → clear bytes at ≡ true →
-    LeafFacts bytes None full at q unread_line line →
-    LeafFacts bytes block full p q (unread ++ (gap ++ unread_line)) (done ++ (gap ++ line))
-facts-behind bytes block blank full p e at q us ds gap vs ws h g whole k = record {
-  behind = k.behind;
+    StandFacts bytes (not blank) p e unread done → GapFacts bytes blank e at gap → clear bytes at ≡ true →
+    StandFacts bytes full at q unread_line line →
+    StandFacts bytes full p q (unread ++ (gap ++ unread_line)) (done ++ (gap ++ line))
+stand-behind bytes blank full p e at q us ds gap vs ws h g whole k = record {
   unread_nested =
       nested_in-append p e q us (gap ++ vs) h.unread_nested (nested_in-append e at q gap vs g.nested k.unread_nested);
   nested = nested_in-append p e q ds (gap ++ ws) h.nested (nested_in-append e at q gap ws g.nested k.nested);
@@ -125,6 +125,7 @@ facts-behind bytes block blank full p e at q us ds gap vs ws h g whole k = recor
   unread_stood =
       stood-append bytes us (gap ++ vs) h.unread_stood (stood-append bytes gap vs g.stood k.unread_stood);
   stood = stood-append bytes ds (gap ++ ws) h.stood (stood-append bytes gap ws g.stood k.stood);
+  behind = k.behind;
   unread_word = word unread_text us vs h.unread_word k.unread_word;
   word = word plain_text ds ws h.word k.word;
   unread_ending = ends us vs h.unread_ending k.unread_ending;
@@ -153,12 +154,6 @@ facts-behind bytes block blank full p e at q us ds gap vs ws h g whole k = recor
   plain = λ first.
       plain-append bytes ds (gap ++ ws) (h.plain first)
       (plain-append bytes gap ws (plain-untold bytes gap g.untold) (k.plain whole));
-  reads = λ r text shut.
-      let s = shown block r in
-      let same = still block r in
-      read-from bytes r s ds (gap ++ ws) (h.reads r text shut)
-      ∙ read-from bytes s s gap ws (read-between bytes s gap (same.0 ∙ text) (same.1 ∙ shut) g.roles)
-      ∙ k.reads s (same.0 ∙ text) (same.1 ∙ shut);
 }
   where
     word : (text : Expression) (es fs : List Event) →
@@ -178,6 +173,23 @@ facts-behind bytes block blank full p e at q us ds gap vs ws h g whole k = recor
         ending.leads-append line_start (spot_behind (not blank)) (spot_behind full) es (gap ++ fs) first
         (ending.leads-append (spot_behind (not blank)) line_start (spot_behind full) gap fs g.ending then)
 
+-- The leaf with the line behind it shows what the leaf does; behind it one stands as behind the line.
+pub facts-behind : (bytes : List ℕ) (block : Option Block) (blank full : Bool) (p e at q : Point)
+    (unread done gap unread_line line : List Event) →
+    LeafFacts bytes block (not blank) p e unread done → GapFacts bytes blank e at gap → clear bytes at ≡ true →
+    LeafFacts bytes None full at q unread_line line →
+    LeafFacts bytes block full p q (unread ++ (gap ++ unread_line)) (done ++ (gap ++ line))
+facts-behind bytes block blank full p e at q us ds gap vs ws h g whole k =
+    leaf-of bytes block full p q (us ++ (gap ++ vs)) (ds ++ (gap ++ ws))
+    (stand-behind bytes blank full p e at q us ds gap vs ws (stand-of bytes block (not blank) p e us ds h) g whole
+    (stand-of bytes None full at q vs ws k))
+    (λ r text shut.
+    let s = shown block r in
+    let same = still block r in
+    read-from bytes r s ds (gap ++ ws) (h.reads r text shut)
+    ∙ read-from bytes s s gap ws (read-between bytes s gap (same.0 ∙ text) (same.1 ∙ shut) g.roles)
+    ∙ k.reads s (same.0 ∙ text) (same.1 ∙ shut))
+  where
     -- a block more leaves what is open as it is
     still : (block : Option Block) (r : Reading) →
         ((shown block r).text ≡ r.text) × ((shown block r).leaf ≡ r.leaf)

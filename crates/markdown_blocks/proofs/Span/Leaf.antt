@@ -103,7 +103,7 @@ around-reads bytes name kind p q to es r is shut h =
     ∙ ap (λ (o : Option OpenLeaf). add_block (block_of to) (record r { leaf = o })) (sym shut)
 
 -- what the tree does not show stands between blocks
-quiets-between : (es : List Event) → Roles Quiet es → Roles Between es
+pub quiets-between : (es : List Event) → Roles Quiet es → Roles Between es
 quiets-between [] h = tt
 quiets-between (e ∷ es) h = (one (role e.name) h.0, quiets-between es h.1)
   where

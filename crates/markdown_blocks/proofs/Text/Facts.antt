@@ -1,4 +1,4 @@
--- All that the frame asks of the events of a text: lines that follow one another, as one leaf.
+-- All that the frame asks of the events of lines of text that follow one another, as one leaf.
 use Rattle.std.proofs.Common.{◌≡◌, ℕ, true, List, [], ◌∷◌, refl, ap}
 use Rattle.std.specs.Prelude.{◌==◌, ◌||◌, Some}
 use Rattle.md_engine.specs.declared.configuration.ParseOptions.{ParseOptions}
@@ -15,8 +15,9 @@ use Rattle.md_seam.proofs.InlineLemmas.{plain-fills}
 use Rattle.md_seam.proofs.SpelledLemmas.{Between, Roles, roles-append}
 use Rattle.md_outline.specs.Between.{is_between}
 use Rattle.markdown_blocks.specs.Registry.{text_leaf}
-use Rattle.markdown_blocks.specs.Rows.{Row, chunks_of, last_row, read_lines, text_done}
-use Rattle.markdown_blocks.specs.Unread.{text_unread, unread_lines}
+use Rattle.markdown_blocks.specs.BlockList.{lines_unread}
+use Rattle.markdown_blocks.specs.Rows.{Row, chunks_of, last_row, lines_done, read_lines}
+use Rattle.markdown_blocks.specs.Unread.{unread_lines}
 use Rattle.markdown_blocks.proofs.BetweenFacts.{around-between}
 use Rattle.markdown_blocks.proofs.FillFacts.{fill-part}
 use Rattle.markdown_blocks.proofs.GroupLemmas.{AreLines, chunks-lines}
@@ -75,8 +76,7 @@ end-clear options bytes row (next ∷ rows) h = end-clear options bytes next row
 pub text-facts : (options : ParseOptions) (bytes : List ℕ) (row : Row) (rows : List Row) →
     (h : AreLines options bytes row rows) →
     LeafFacts bytes (Some (text_leaf.block (texts (kept-of options bytes row rows h)))) true row.first
-    (last_row row rows).end
-    (text_unread row rows) (text_done bytes row rows)
+    (last_row row rows).end (lines_unread row rows) (lines_done bytes row rows)
 text-facts options bytes row rows h = record {
   unread_nested = around-nested text_leaf.name row.first end unread (unread-nested options bytes row rows h);
   nested = around-nested text_leaf.name row.first end done (read-nested options bytes row rows h);

@@ -1,5 +1,5 @@
 -- The line that turns a text is an underline, and where it stands.
-use Rattle.std.proofs.Common.{◌≡◌, ℕ, List, [], ◌∷◌, sym, ap, ◌∙◌}
+use Rattle.std.proofs.Common.{◌≡◌, ℕ, Bool, true, false, ◌&&◌, List, [], ◌∷◌, refl, sym, ap, ◌∙◌}
 use Rattle.std.specs.Prelude.{Some}
 use Rattle.md_engine.specs.declared.configuration.ParseOptions.{ParseOptions}
 use Rattle.md_engine.specs.declared.event.Point.{Point}
@@ -9,6 +9,7 @@ use Rattle.markdown_blocks.specs.Registry.{HeadingSetext, leaf}
 use Rattle.markdown_blocks.specs.Rows.{LeafRow, Row, RowKind, is_further, last_row, line_behind}
 use Rattle.markdown_blocks.proofs.FrontFacts.{LinePrefix}
 use Rattle.markdown_blocks.proofs.GroupsAre.{AreLines, IsUnder}
+use Rattle.markdown_blocks.proofs.HeadingSetext.Kinds.{setext-starts}
 use Rattle.markdown_blocks.proofs.RowFacts.{IsEnding}
 use Rattle.markdown_blocks.proofs.RowLeaf.{row-as}
 use Rattle.markdown_blocks.proofs.SpanLaws.{IsLineOf}
@@ -51,6 +52,26 @@ under-turns options bytes row rows under h is = record {
       row-as options bytes is.line under is.is HeadingSetext
       (is.kind ∙ ap LeafRow (under-is options bytes row rows under h is));
 }
+
+-- so setext headings are on,
+pub under-on : (options : ParseOptions) (bytes : List ℕ) (row : Row) (rows : List Row) (under : Row) →
+    AreLines options bytes row rows → IsUnder options bytes (last_row row rows) under →
+    options.constructs.heading_setext ≡ true
+under-on options bytes row rows under h is =
+    let line : IsLineOf options bytes setext_leaf under = (under-turns options bytes row rows under h is).is in
+    (setext-starts options under.on line.rest line.starts).enabled
+
+-- and definitions are off, where not both are on
+pub under-off : (options : ParseOptions) (bytes : List ℕ) (row : Row) (rows : List Row) (under : Row) →
+    AreLines options bytes row rows → IsUnder options bytes (last_row row rows) under →
+    (options.constructs.definition && options.constructs.heading_setext) ≡ false → options.constructs.definition ≡ false
+under-off options bytes row rows under h is apart =
+    go options.constructs.definition options.constructs.heading_setext
+    (under-on options bytes row rows under h is) apart
+  where
+    go : (x y : Bool) → y ≡ true → (x && y) ≡ false → x ≡ false
+    go false y on apart = refl
+    go true y on apart = let bad : true ≡ false = sym on ∙ apart in cc
 
 -- no tab is cut where the text ends
 pub text-whole : (options : ParseOptions) (bytes : List ℕ) (row : Row) (rows : List Row) →

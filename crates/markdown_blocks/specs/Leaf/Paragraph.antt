@@ -4,7 +4,7 @@ use Rattle.md_engine.specs.declared.tokenizer.held_leaf.HeldLeaf.{HeldLeaf}
 use Rattle.md_engine.specs.declared.tokenizer.held_leaf.HeldLeaf.TheVariants as held_leaf
 use Rattle.md_content.specs.Paragraph.{text_link}
 use Rattle.std.specs.Prelude.{List, [], ◌∷◌}
-use Rattle.md_definition.specs.State.{Kept, Leaf, OpenParagraph, then_paragraph}
+use Rattle.md_definition.specs.State.{Kept, Leaf, OpenParagraph, shut_paragraph}
 use Rattle.md_definition.specs.Tree.{Paragraph}
 use Rattle.markdown_blocks.specs.TextLeaf.{TextLeaf}
 
@@ -14,7 +14,7 @@ paragraph_leaf = record {
   link = text_link;
   block = λ lines. Paragraph lines;
   held = λ lines. OpenParagraph lines;
-  behind = λ bs lines. then_paragraph bs lines;
+  behind = λ options bs lines. shut_paragraph options bs lines;
 }
 
 -- the lines of an open text

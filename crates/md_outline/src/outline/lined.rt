@@ -1,36 +1,66 @@
 // What an outline knows of a leaf block of several lines that is open, and what it shows of it: indented code, fenced
-// code, math, HTML and setext headings. Its lines are shown as they come, and the line of its word is told later what
-// its fences or its underline say.
+// code, math, HTML, setext headings and definitions. Its lines are shown as they come, and the line of its word is told
+// later what its fences or its underline say.
 
 ghost use Rattle.std.specs.Prelude.{◌≡◌, ◌+◌, ◌∷◌, [], ◌++◌, if◌then◌else◌, OnOk};
 ghost use Rattle.std.specs.Str.{IsUtf8};
 ghost use Rattle.md_definition.specs.Outline.{entries_of, entry, entry_with};
 ghost use Rattle.md_definition.specs.declared.outline.Word.TheVariants as word;
 ghost use Rattle.md_seam.specs.Events.Spelled as spelled;
-ghost use Rattle.md_outline.specs.LinedState.{begin_lines, closed_word, filled_line, is_heading, marked_word};
-ghost use Rattle.md_outline.specs.LinedState.{with_head, without_end};
+ghost use Rattle.md_outline.specs.LinedState.{begin_lines, closed_word, filled_line, form_of, has_own_lines};
+ghost use Rattle.md_outline.specs.LinedState.{is_heading, marked_word, with_head, without_end};
 
 use crate::outline::lines::{next, push, text_of};
 use md_definition::outline::{OutlineLine, Word};
 use md_engine::event::Point;
 use md_engine::message::Message;
 
+/// How the lines of a leaf block come.
+#[derive(Clone, Copy)]
+pub enum Form {
+    /// Each by itself, behind a line ending.
+    Lines,
+    /// As those of its text: a heading.
+    Heading,
+    /// As those of its parts: a definition.
+    Definition,
+}
+
 /// A leaf block of several lines that is open.
 #[derive(Clone, Copy)]
 pub struct Lined {
     /// The line of the outline that has its word.
     pub place: usize,
-    /// Whether it has told its markers: a further fence closes it.
+    /// Whether it has told its markers, so that a further fence closes it, or its label.
     pub is_fenced: bool,
-    /// Whether it is a heading: its lines are those of one text.
-    pub is_heading: bool,
+    pub form: Form,
 }
 
-/// Whether this is the word of a heading.
-pub fn is_heading(word: Word) -> bool
-    ensures { result ≡ is_heading word }
+impl Form {
+    /// Whether it is that of a heading.
+    pub fn is_heading(self) -> bool
+        ensures { result ≡ is_heading self }
+    {
+        matches!(self, Form::Heading)
+    }
+
+    /// Whether a line ending opens a line.
+    pub fn has_own_lines(self) -> bool
+        ensures { result ≡ has_own_lines self }
+    {
+        matches!(self, Form::Lines)
+    }
+}
+
+/// How the lines of a leaf block come that this word shows.
+pub fn form_of(word: Word) -> Form
+    ensures { result ≡ form_of word }
 {
-    matches!(word, Word::Heading(_))
+    match word {
+        Word::Heading(_) => Form::Heading,
+        Word::Definition => Form::Definition,
+        _ => Form::Lines,
+    }
 }
 
 /// The depth of a setext heading, by the marker of its underline: `=` or `-`.
@@ -76,7 +106,8 @@ fn closed(word: Word) -> Word
     }
 }
 
-/// Adds a leaf block as it begins: indented code and HTML with their first line, which is empty yet.
+/// Adds a leaf block as it begins: indented code and HTML with their first line, and a definition with that of its
+/// label, which are empty yet.
 pub fn push_begun<'a>(
     lines: &mut Vec<OutlineLine<'a>>,
     depth: usize,
@@ -87,6 +118,7 @@ pub fn push_begun<'a>(
     push(lines, depth, word, "")?;
     match word {
         Word::Code | Word::Html => push(lines, next(depth)?, Word::Line, ""),
+        Word::Definition => push(lines, next(depth)?, Word::Label, ""),
         _ => Ok(()),
     }
 }
@@ -101,7 +133,7 @@ pub fn mark_head(lines: &mut Vec<OutlineLine>, place: usize, marker: u8)
 }
 
 /// Takes its last line away.
-fn drop_end(lines: &mut Vec<OutlineLine>)
+pub fn drop_end(lines: &mut Vec<OutlineLine>)
     ensures { entries_of lines.new.items ≡ without_end (entries_of lines.old.items) }
 {
     lines.truncate(lines.len().saturating_sub(1));

@@ -7,7 +7,8 @@ ghost use Rattle.md_definition.specs.Outline.{entries_of, entry_with};
 ghost use Rattle.md_definition.specs.Rest.{is_white, trim_start};
 ghost use Rattle.md_definition.specs.Texts.{first_byte, split_lines, trim_each};
 ghost use Rattle.md_seam.specs.Events.Places.{last_line};
-ghost use Rattle.md_outline.specs.TextLines.{after_ending, full_entries, line_len, text_entries};
+ghost use Rattle.md_outline.specs.TextLines.{after_ending, first_as, first_full_as, full_as, line_len, lines_as};
+ghost use Rattle.md_outline.specs.TextLines.{text_entries};
 
 use md_definition::outline::{OutlineLine, Word};
 use md_engine::message::Message;
@@ -120,12 +121,13 @@ pub fn push<'a>(
 pub fn push_full_lines<'a>(
     lines: &mut Vec<OutlineLine<'a>>,
     depth: usize,
+    word: Word,
     text: &'a [u8],
 ) -> Result<&'a [u8], Message>
     ensures rest { IfOk result
         (λ rest. IsUtf8 text.now → IsUtf8 rest.now × (rest.now ≡ last_line (split_lines text.now))) }
     ensures lines { OnOk result
-        (IsUtf8 text.now → entries_of lines.new.items ≡ entries_of lines.old.items ++ full_entries depth text.now) }
+        (IsUtf8 text.now → entries_of lines.new.items ≡ entries_of lines.old.items ++ full_as word depth text.now) }
 {
     let mut left = text;
     'rest: loop {
@@ -133,7 +135,7 @@ pub fn push_full_lines<'a>(
         if ending.is_empty() {
             return Ok(left);
         }
-        push(lines, depth, Word::Line, line_text(line))?;
+        push(lines, depth, word, line_text(line))?;
         left = behind_ending(ending);
     }
 }
@@ -142,13 +144,48 @@ pub fn push_full_lines<'a>(
 pub fn push_lines<'a>(
     lines: &mut Vec<OutlineLine<'a>>,
     depth: usize,
+    word: Word,
     text: &'a [u8],
 ) -> Result<(), Message>
     ensures { OnOk result
-        (IsUtf8 text.now → entries_of lines.new.items ≡ entries_of lines.old.items ++ text_entries depth text.now) }
+        (IsUtf8 text.now → entries_of lines.new.items ≡ entries_of lines.old.items ++ lines_as word depth text.now) }
 {
-    let rest = push_full_lines(lines, depth, text)?;
-    push(lines, depth, Word::Line, line_text(rest))
+    let rest = push_full_lines(lines, depth, word, text)?;
+    push(lines, depth, word, line_text(rest))
+}
+
+/// Adds the lines of a text, the first as it stands.
+pub fn push_first_lines<'a>(
+    lines: &mut Vec<OutlineLine<'a>>,
+    depth: usize,
+    word: Word,
+    text: &'a [u8],
+) -> Result<(), Message>
+    ensures { OnOk result
+        (IsUtf8 text.now → entries_of lines.new.items ≡ entries_of lines.old.items ++ first_as word depth text.now) }
+{
+    let (line, ending) = text.split_at(first_line_len(text));
+    push(lines, depth, word, text_of(line))?;
+    if ending.is_empty() {
+        return Ok(());
+    }
+    push_lines(lines, depth, word, behind_ending(ending))
+}
+
+/// Adds the first line of a text, as it stands, and those behind it that have an ending.
+pub fn push_first_full<'a>(
+    lines: &mut Vec<OutlineLine<'a>>,
+    depth: usize,
+    word: Word,
+    text: &'a [u8],
+) -> Result<(), Message>
+    ensures { OnOk result (IsUtf8 text.now →
+        entries_of lines.new.items ≡ entries_of lines.old.items ++ first_full_as word depth text.now) }
+{
+    let (line, ending) = text.split_at(first_line_len(text));
+    push(lines, depth, word, text_of(line))?;
+    push_full_lines(lines, depth, word, behind_ending(ending))?;
+    Ok(())
 }
 
 /// Whether a text, which is short, is seen to be one line: each of its bytes comes behind CR. All are
@@ -181,6 +218,6 @@ pub fn push_text<'a>(
     if is_trimmed_line(text.as_bytes()) {
         push(lines, depth, Word::Line, text)
     } else {
-        push_lines(lines, depth, text.as_bytes())
+        push_lines(lines, depth, Word::Line, text.as_bytes())
     }
 }

@@ -38,7 +38,7 @@ pub fn push_block<'a>(
         entries_of lines.old.items ++ begin_entries depth is_shown ++ text_entries (depth + 1) text.now) }
 {
     push_begin(lines, depth, is_shown)?;
-    push_lines(lines, next(depth)?, text)
+    push_lines(lines, next(depth)?, Word::Line, text)
 }
 
 /// Adds what stands in it in front of a prefix: nothing where another prefix ends there.
@@ -57,6 +57,6 @@ pub fn push_piece<'a>(
         return Ok(());
     }
     push_begin(lines, depth, is_shown)?;
-    push_full_lines(lines, next(depth)?, text)?;
+    push_full_lines(lines, next(depth)?, Word::Line, text)?;
     Ok(())
 }

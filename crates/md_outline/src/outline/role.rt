@@ -34,6 +34,12 @@ pub enum Purpose {
     Part(Word),
     /// The text of a line of a leaf block.
     Line,
+    /// The label of a definition.
+    Label,
+    /// The destination of a definition.
+    Destination,
+    /// The title of a definition.
+    DefinitionTitle,
     /// The marker of an item, which a list is shown with.
     Marker,
     /// The digits of an item, which are not shown.
@@ -62,6 +68,8 @@ pub enum Role<'a> {
     Lined(Word),
     /// A fence of one.
     Fence,
+    /// The title of a definition, also an empty one.
+    Title,
     /// A line ending, which may open a line of one.
     Ending,
     Text(Purpose),
@@ -92,6 +100,11 @@ pub fn role_of<'a>(name: Name) -> Role<'a>
         | Name::MathFlowFenceSequence => Role::Text(Purpose::Markers),
         Name::HeadingAtxText | Name::HeadingSetextText => Role::Text(Purpose::Title),
         Name::HeadingSetext => Role::Lined(Word::Heading(0)),
+        Name::Definition => Role::Lined(Word::Definition),
+        Name::DefinitionLabelString => Role::Text(Purpose::Label),
+        Name::DefinitionDestinationString => Role::Text(Purpose::Destination),
+        Name::DefinitionTitle => Role::Title,
+        Name::DefinitionTitleString => Role::Text(Purpose::DefinitionTitle),
         Name::CodeIndented => Role::Lined(Word::Code),
         Name::CodeFenced => Role::Lined(Word::Fence {
             marker: 0,

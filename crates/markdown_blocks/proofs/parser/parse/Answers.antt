@@ -5,15 +5,17 @@ use Rattle.md_engine.specs.declared.event.Event.{Event}
 use Rattle.md_engine.specs.declared.event.Point.{Point}
 use Rattle.md_engine.specs.Place.{IsPlaced}
 use Rattle.md_engine.specs.World.{Setting, World}
+use Rattle.md_definition.specs.Label.{labels}
+use Rattle.md_definition.specs.Tree.{Blocks}
 use Rattle.md_seam.specs.Events.Inline.{PlainReads}
 use Rattle.md_seam.specs.Parts.{ArePlaced}
 use Rattle.md_seam.specs.Events.On.{are_on}
 use Rattle.md_seam.proofs.HeldLemmas.{blocks-held}
 use Rattle.md_seam.proofs.OnLemmas.{tree-on}
 use Rattle.md_seam.proofs.ReachedLemmas.{events-placed}
-use Rattle.markdown_blocks.proofs.FlowReads.{reads-labels, map-nil}
+use Rattle.markdown_blocks.proofs.FlowReads.{map-nil}
 use Rattle.markdown_blocks.proofs.MarkLemmas.{body-placed}
-use Rattle.markdown_blocks.proofs.Parses.{Reads, parsed-reads}
+use Rattle.markdown_blocks.proofs.Parses.{Reads, parsed-labels, parsed-reads}
 use Rattle.markdown_blocks.proofs.TextItemised.{text-itemised}
 use Rattle.markdown_blocks.proofs.TextQuoted.{text-quoted}
 use Rattle.markdown_blocks.specs.TextReads.{text_kind, wants_text}
@@ -43,7 +45,6 @@ returns c =
     let bytes = c.as_bytes-bytes.result.now in
     let body = c.in_ok-body.body.items in
     let events_are = c.deref.ensures.value ∙ ap (λ (w : World). w.events) c.take_spare-spare.ensures.same in
-    let none = reads-labels _ _ _ _ _ c.in_ok-tokenizer.ensures in
     let read : Reads c.args.options.now c.args.value.now
     (c.in_ok-front.front.events.items ++ c.deref.result.now) c.in_ok-events.events.items =
     parsed-reads c.args.options.now bytes c.args.value.now c.in_ok-front.front.point _ _
@@ -94,6 +95,11 @@ returns c =
       pieces_are = read.pieces_are;
       endings = read.endings;
       outlined = read.outlined;
-      definitions = map-nil string_bytes c.in_ok-tokenizer.found.definitions.items none.definitions;
-      footnotes = map-nil string_bytes c.in_ok-tokenizer.found.gfm_footnote_definitions.items none.footnotes;
+      definitions =
+          parsed-labels c.args.options.now bytes c.args.value.now c.in_ok-front.front.point _ _
+          c.as_bytes-bytes.ensures.value c.requires.built c.requires.size c.in_ok-front.ensures.point
+          c.in_ok-tokenizer.ensures
+          ∙ ap (λ (bs : Blocks). (labels bs).definitions) (sym read.tree);
+      footnotes = map-nil string_bytes c.in_ok-tokenizer.found.gfm_footnote_definitions.items
+          c.in_ok-tokenizer.ensures.footnotes;
     }

@@ -2,6 +2,16 @@ use Rattle.md_engine.specs.declared.state.Name.TheVariants as n
 use Rattle.md_content.proofs.StaysLemmas.{content-stays}
 use Rattle.md_content.proofs.content.ContentTableTable.stays.Goals as goal
 
+pub returns-in-Label : goal.returns-in-Label
+returns-in-Label c =
+    rw c.in-Label.is (content-stays (n.Label c.in-Label.state) c.stays.result c.stays.ensures)
+
 pub returns-in-Paragraph : goal.returns-in-Paragraph
 returns-in-Paragraph c =
-    rw c.in-Paragraph.is (content-stays (n.Paragraph c.in-Paragraph.state) c.stays.result c.stays.ensures)
+    rw c.in-Paragraph.is
+    (content-stays (n.Paragraph c.in-Paragraph.state) c.stays-in-Paragraph.result c.stays-in-Paragraph.ensures)
+
+pub returns-in-SpaceOrTab : goal.returns-in-SpaceOrTab
+returns-in-SpaceOrTab c =
+    rw c.in-SpaceOrTab.is
+    (content-stays (n.SpaceOrTab c.in-SpaceOrTab.state) c.stays-in-SpaceOrTab.result c.stays-in-SpaceOrTab.ensures)

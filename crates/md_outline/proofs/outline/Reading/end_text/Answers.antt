@@ -1,8 +1,10 @@
 use Rattle.std.proofs.Common.{◌+◌, ◌∷◌, [], ◌++◌, refl}
 use Rattle.md_definition.specs.Outline.{entries_of, entry_with}
+use Rattle.md_definition.specs.declared.outline.Word.TheVariants as word
+use Rattle.md_outline.specs.DefinitionState.{destination_told, part_ended}
 use Rattle.md_outline.specs.LinedState.{filled_line, without_end}
 use Rattle.md_outline.specs.OutlineSteps.{state_of}
-use Rattle.md_outline.proofs.OutlineLemmas.{block-end, markers-end, on_ok-map, part-end, title-end}
+use Rattle.md_outline.proofs.OutlineLemmas.{block-end, label-end, markers-end, on_ok-map, part-end, title-end}
 use Rattle.md_outline.specs.declared.outline.role.Purpose.TheVariants as purpose
 use Rattle.md_outline.proofs.outline.Reading.end_text.Goals as goal
 
@@ -56,3 +58,36 @@ returns-in-Line-clause-read c =
     ++ filled_line (c.args.self.now.depth + 1) c.args.self.now.spaces text ∷ [])
     c.in-Some.is c.in-Line.is cut c.part-text.ensures reads refl)
     c.fill_line.ensures
+
+pub returns-in-Label-clause-read : goal.returns-in-Label-clause-read
+returns-in-Label-clause-read c =
+    on_ok-map c.end_label.result
+    (λ reads cut.
+    label-end c.args.self.now.bytes.now c.part-text.result.now c.in-Some.span c.args.end
+    c.args.self.now.text c.args.purpose (state_of c.args.self.now) (state_of c.end_label.new.self)
+    c.in-Some.is c.in-Label.is cut c.part-text.ensures reads)
+    c.end_label.ensures.read
+
+pub returns-in-Destination-clause-read : goal.returns-in-Destination-clause-read
+returns-in-Destination-clause-read c =
+    on_ok-map c.fill_destination.result
+    (λ reads cut.
+    part-end c.args.self.now.bytes.now c.part-text.result.now c.in-Some.span c.args.end c.args.self.now.text
+    c.args.purpose purpose.Destination
+    (state_of c.args.self.now) (entries_of c.fill_destination.new.lines.items)
+    (λ text. destination_told (c.args.self.now.depth + 1) text (entries_of c.args.self.now.lines.items))
+    c.in-Some.is c.in-Destination.is cut c.part-text.ensures reads refl)
+    c.fill_destination.ensures
+
+pub returns-in-DefinitionTitle-clause-read : goal.returns-in-DefinitionTitle-clause-read
+returns-in-DefinitionTitle-clause-read c =
+    on_ok-map c.push_part_end.result
+    (λ reads cut.
+    part-end c.args.self.now.bytes.now c.part-text.result.now c.in-Some.span c.args.end c.args.self.now.text
+    c.args.purpose purpose.DefinitionTitle
+    (state_of c.args.self.now) (entries_of c.push_part_end.new.lines.items)
+    (λ text.
+    part_ended word.Title c.in-Some.span.is_parted (c.args.self.now.depth + 1) text
+    (entries_of c.args.self.now.lines.items))
+    c.in-Some.is c.in-DefinitionTitle.is cut c.part-text.ensures reads refl)
+    c.push_part_end.ensures

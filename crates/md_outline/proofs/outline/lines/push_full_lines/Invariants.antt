@@ -3,14 +3,14 @@ use Rattle.std.specs.Str.{IsUtf8}
 use Rattle.md_definition.specs.Outline.{entries_of}
 use Rattle.md_seam.specs.Events.Places.{last_line}
 use Rattle.md_definition.specs.Texts.{split_lines}
-use Rattle.md_outline.specs.TextLines.{full_entries}
+use Rattle.md_outline.specs.TextLines.{full_as}
 use Rattle.md_outline.proofs.outline.lines.push_full_lines.Given as goal
 
 abbrev pub invariant-rest : goal.invariant-rest
 invariant-rest l =
     IsUtf8 l.text → IsUtf8 l.left ×
-    ((entries_of l.lines.items ++ full_entries l.depth l.left ≡
-    entries_of l.initial.lines.items ++ full_entries l.depth l.text) ×
+    ((entries_of l.lines.items ++ full_as l.word l.depth l.left ≡
+    entries_of l.initial.lines.items ++ full_as l.word l.depth l.text) ×
     (last_line (split_lines l.left) ≡ last_line (split_lines l.text)))
 
 abbrev pub decreases-rest : goal.decreases-rest

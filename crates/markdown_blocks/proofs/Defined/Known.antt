@@ -1,0 +1,16 @@
+-- What is known of the parts of a definition, and of all of it.
+pub mod Becomes
+pub mod Enclosed
+pub mod Gap
+pub mod Inside
+pub mod Label
+pub mod Leaf
+pub mod Left
+pub mod Marks
+pub mod Parts
+pub mod Passes
+pub mod Plain
+pub mod Read
+pub mod Target
+pub mod Texts
+pub mod Title

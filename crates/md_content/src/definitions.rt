@@ -1,0 +1,93 @@
+// Definitions in front of the paragraph of a text (CommonMark 4.7).
+//
+//     text ::= *( definition eol ) ( definition | paragraph )
+//
+// A definition is tried on each line in front of the paragraph, and the paragraph begins where none stands. It adds
+// `LineEnding` behind a definition. By one look most paragraphs begin at once.
+
+ghost use Rattle.std.specs.Prelude.{◌≡◌, ◌≢◌};
+ghost use Rattle.md_engine.specs.World.{world};
+ghost use Rattle.md_engine.specs.declared.state.Name.{Name as StateName};
+ghost use Rattle.md_engine.specs.declared.state.State.{State};
+ghost use Rattle.md_engine.specs.declared.state.content.State.{State as ContentState};
+ghost use Rattle.md_content.specs.Definitions.{definition_after_transition, definition_before_transition};
+ghost use Rattle.md_content.specs.Definitions.{definitions_transition, may_define};
+ghost use Rattle.md_seam.specs.Transition.{IsAt, NeedsNothing};
+
+use md_engine::event::Name;
+use md_engine::or_error;
+use md_engine::state::content::State as ContentState;
+use md_engine::state::definition::State as DefinitionState;
+use md_engine::state::paragraph::State as ParagraphState;
+use md_engine::state::{Name as StateName, State};
+use md_engine::tokenizer::Tokenizer;
+use md_seam::space_or_tab::is_space_or_tab;
+
+/// Whether a definition may begin with what stands here.
+fn may_define(current: Option<u8>) -> bool
+    ensures { result ≡ may_define current }
+{
+    is_space_or_tab(current) || current == Some(b'[')
+}
+
+/// Before a definition, or the paragraph.
+///
+/// ```markdown
+/// > | [a]: b
+///     ^
+/// > | c
+///     ^
+/// ```
+pub fn definition_before(tokenizer: &mut Tokenizer) -> State
+    requires { IsAt NeedsNothing (StateName.Content ContentState.DefinitionBefore) (world tokenizer.old) }
+    ensures to { result ≢ State.Error → result ≡ (definition_before_transition (world tokenizer.old)).to }
+    ensures world { result ≢ State.Error →
+        world tokenizer.new ≡ (definition_before_transition (world tokenizer.old)).world }
+{
+    let paragraph = StateName::Paragraph(ParagraphState::Start);
+    if !may_define(tokenizer.current) {
+        return State::Retry(paragraph);
+    }
+    let behind = StateName::Content(ContentState::DefinitionAfter);
+    or_error!(tokenizer.attempt(State::Next(behind), State::Next(paragraph)));
+    State::Retry(StateName::Definition(DefinitionState::Start))
+}
+
+/// Behind a definition.
+///
+/// ```markdown
+/// > | [a]: b
+///           ^
+///   | c
+/// ```
+pub fn definition_after(tokenizer: &mut Tokenizer) -> State
+    requires { IsAt NeedsNothing (StateName.Content ContentState.DefinitionAfter) (world tokenizer.old) }
+    ensures to { result ≢ State.Error → result ≡ (definition_after_transition (world tokenizer.old)).to }
+    ensures world { result ≢ State.Error →
+        world tokenizer.new ≡ (definition_after_transition (world tokenizer.old)).world }
+{
+    match tokenizer.current {
+        None => State::Ok,
+        Some(b'\n') => {
+            or_error!(tokenizer.enter(Name::LineEnding));
+            tokenizer.consume();
+            or_error!(tokenizer.exit(Name::LineEnding));
+            State::Next(StateName::Content(ContentState::DefinitionBefore))
+        }
+        _ => State::Nok,
+    }
+}
+
+/// Calls a state in front of the paragraph of a text.
+pub fn call(tokenizer: &mut Tokenizer, state: ContentState) -> State
+    requires { IsAt NeedsNothing (StateName.Content state) (world tokenizer.old) }
+    ensures to { result ≢ State.Error → result ≡ (definitions_transition state (world tokenizer.old)).to }
+    ensures world { result ≢ State.Error →
+        world tokenizer.new ≡ (definitions_transition state (world tokenizer.old)).world }
+{
+    match state {
+        ContentState::DefinitionBefore => definition_before(tokenizer),
+        ContentState::DefinitionAfter => definition_after(tokenizer),
+        _ => State::Nok,
+    }
+}
