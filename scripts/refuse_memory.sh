@@ -1,7 +1,7 @@
 #!/usr/bin/env bash
 # Refuses requests for memory of the programs `blocks` and `events`, as `rt ci` or `rt run` has built them (`out`): on the texts of
-# their stored runs, and on each begin of a text with a byte order mark, headings of both kinds, quotes, a break, nested lists, a fence
-# and HTML.
+# their stored runs, and on each begin of a text with a byte order mark, headings of both kinds, quotes, a break, nested lists, a fence,
+# HTML, and definitions, in a quote and in front of an underline.
 #
 # Each text has a run in which nothing is refused, which must end with status 0 and print what is given, or anything where nothing is;
 # and for each request of that run one in which this request is refused (`scripts/refuse.c`). Such a run must end with status 3, say so
@@ -18,7 +18,7 @@ python3 - "$work/refuse.so" blocks 2000 events 2000 <<'PYTHON'
 import os, subprocess, sys
 
 library, *programs = sys.argv[1:]
-WHOLE = b"\xef\xbb\xbf# # a #\nb\n> > c\n> d\ne\n### ##\n***\n- f\n\n  1. g\n     > h\n- i\n> ~~~ j k\n>  l\n>\nm\n<p\nn\n\no\n=\n"
+WHOLE = b"\xef\xbb\xbf# # a #\nb\n> > c\n> d\ne\n### ##\n***\n- f\n\n  1. g\n     > h\n- i\n> ~~~ j k\n>  l\n>\nm\n<p\nn\n\no\n=\n\n> [P\n> Q]: r 's'\n\n[P]: u\nv\n=\n"
 OUTLINE = b"""heading 1
   | # a
 paragraph
@@ -58,8 +58,21 @@ html
   | n
 heading 1
   | o
+quote
+  definition
+    label | P
+    label | Q
+    destination | r
+    title | s
+definition
+  label | P
+  destination | u
+heading 1
+  | v
 
-definitions 0
+definitions 2
+= p q
+= p
 footnotes 0
 """
 

@@ -31,6 +31,7 @@ MOST: dict[str, tuple[int, int]] = {
     "lines of an open fence": (74, 5_492),
     "lines of indented code": (80, 5_492),
     "HTML": (21, 5_492),
+    "definitions": (14, 3),
     "blank lines": (582, 5_492),
     "one line of tabs": (500, 5_492),
     "one line of spaces": (2_500, 5_492),

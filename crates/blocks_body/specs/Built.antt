@@ -1,5 +1,5 @@
 -- What the program makes of options and of texts.
-use Rattle.std.specs.Prelude.{◌≡◌, ℕ, ◌&&◌, false, not, List, []}
+use Rattle.std.specs.Prelude.{◌≡◌, ℕ, false, List, []}
 use Rattle.md_engine.specs.declared.configuration.ParseOptions.{ParseOptions}
 use Rattle.md_program.specs.Listing.{Listing}
 use Rattle.md_definition.specs.Label.{labels}
@@ -7,14 +7,14 @@ use Rattle.md_definition.specs.Meaning.{tree}
 use Rattle.md_definition.specs.Outline.{outline}
 
 -- what is asked for, as far as it is there: block quotes, list items, indented and fenced code, math, HTML,
--- headings, breaks, and definitions where no underlines are asked for, alone
+-- headings, breaks and definitions alone
 abbrev pub built_from : ParseOptions → ParseOptions
 built_from options = record {
   constructs = record {
     block_quote = options.constructs.block_quote;
     code_fenced = options.constructs.code_fenced;
     code_indented = options.constructs.code_indented;
-    definition = options.constructs.definition && not options.constructs.heading_setext;
+    definition = options.constructs.definition;
     frontmatter = false;
     gfm_footnote_definition = false;
     gfm_table = false;

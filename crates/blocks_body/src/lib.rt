@@ -13,7 +13,7 @@ use md_program::body::{Body, Outlined};
 use std::alloc::Global;
 
 /// The parser of blocks. Of the constructs it has block quotes, list items, indented and fenced code, math, HTML, headings,
-/// thematic breaks, and definitions where setext headings are off, and turns the others off.
+/// thematic breaks and definitions, and turns the others off.
 pub struct Blocks;
 
 impl Body for Blocks {
@@ -31,7 +31,7 @@ impl Body for Blocks {
                 block_quote: options.constructs.block_quote,
                 code_fenced: options.constructs.code_fenced,
                 code_indented: options.constructs.code_indented,
-                definition: options.constructs.definition && !options.constructs.heading_setext,
+                definition: options.constructs.definition,
                 heading_atx: options.constructs.heading_atx,
                 heading_setext: options.constructs.heading_setext,
                 html_flow: options.constructs.html_flow,

@@ -29,6 +29,12 @@ const MATH: [&str; 6] = ["a", "$$", "$", ">", " ", "\n"];
 /// Letters of which underlines, items and breaks are made, text that they may stand behind, quotes, and lines.
 const UNDERLINES: [&str; 6] = ["a", "=", "-", ">", " ", "\n"];
 
+/// Letters of which definitions and underlines are made, quotes, and lines.
+const DEFINITIONS: [&str; 7] = ["[", "]", ":", "a", "=", "\n", ">"];
+
+/// Letters that stand behind a label: marks of destinations and titles, whitespace, and lines.
+const PARTS: [&str; 9] = ["[a]:", "\"", "\\", "(", ")", "<", ">", " ", "\n"];
+
 /// Letters of which tags and comments are made, and lines.
 const HTML: [&str; 8] = ["<", "/", "a", "!", "-", ">", " ", "\n"];
 
@@ -50,7 +56,7 @@ const KINDS: [&str; 13] = [
 ];
 
 /// Tries two bodies on all texts of at most so many letters of each alphabet, with all constructs of the first. The texts
-/// of the last two alphabets, which have more letters, are one and two letters shorter.
+/// of the last four alphabets, of which there are many, are one letter shorter, and those of the last two are two.
 pub fn try_agree<A: Body, B: Body>(
     alloc: Global,
     most: usize,
@@ -63,7 +69,9 @@ pub fn try_agree<A: Body, B: Body>(
     try_letters::<A, B>(alloc, &SIZES, most, report)?;
     try_letters::<A, B>(alloc, &MATH, most, report)?;
     try_letters::<A, B>(alloc, &UNDERLINES, most, report)?;
+    try_letters::<A, B>(alloc, &DEFINITIONS, most.saturating_sub(1), report)?;
     try_letters::<A, B>(alloc, &HTML, most.saturating_sub(1), report)?;
+    try_letters::<A, B>(alloc, &PARTS, most.saturating_sub(2), report)?;
     try_letters::<A, B>(alloc, &KINDS, most.saturating_sub(2), report)
 }
 

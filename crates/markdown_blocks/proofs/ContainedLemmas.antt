@@ -1,7 +1,7 @@
 -- The containers of a line by its bytes: those that go on are those that were open.
 use Rattle.md_engine.specs.declared.tokenizer.held_leaf.HeldLeaf.TheVariants as held_leaf
 use Rattle.md_engine.specs.declared.tokenizer.held_leaf.HeldLeaf.{HeldLeaf}
-use Rattle.std.proofs.Common.{◌≡◌, ◌+◌, Bool, true, false, cond, ◌&&◌, List, [], ◌∷◌, ◌++◌, length, map, refl, ap, sym}
+use Rattle.std.proofs.Common.{◌≡◌, ◌+◌, Bool, true, false, ◌&&◌, List, [], ◌∷◌, ◌++◌, length, map, refl, ap, sym}
 use Rattle.markdown_blocks.specs.HeldLeaf.{has_lines, may_go_on, met_by, takes_lazy}
 use Rattle.std.proofs.Common.{◌∙◌, append-nil}
 use Rattle.std.specs.Prelude.{Option, Some, None}
@@ -115,8 +115,8 @@ lazy-opens still (c ∷ cs) kind e = let some = lazy-some still c cs kind in cc
 -- one of several lines takes no lazy line
 pub lines-unlazy : (still : HeldLeaf) → has_lines still ≡ true → takes_lazy still ≡ false
 lines-unlazy held_leaf.None lines = cc
-lines-unlazy held_leaf.Text lines = cc
-lines-unlazy held_leaf.LazyText lines = cc
+lines-unlazy (held_leaf.Text at) lines = cc
+lines-unlazy (held_leaf.LazyText at) lines = cc
 lines-unlazy held_leaf.Code lines = refl
 lines-unlazy (held_leaf.Fence marker size indent) lines = refl
 lines-unlazy (held_leaf.Html kind) lines = refl
@@ -124,19 +124,17 @@ lines-unlazy (held_leaf.Html kind) lines = refl
 -- it may be gone on
 pub lines-open : (still : HeldLeaf) → has_lines still ≡ true → may_go_on still ≡ true
 lines-open held_leaf.None lines = cc
-lines-open held_leaf.Text lines = cc
-lines-open held_leaf.LazyText lines = cc
+lines-open (held_leaf.Text at) lines = cc
+lines-open (held_leaf.LazyText at) lines = cc
 lines-open held_leaf.Code lines = refl
 lines-open (held_leaf.Fence marker size indent) lines = refl
 lines-open (held_leaf.Html kind) lines = refl
 
 -- none such is met where its containers did not go on
 pub ended-open : (still : HeldLeaf) → may_go_on (met_by false still) ≡ false
-ended-open still = go (takes_lazy still)
-  where
-    go : (x : Bool) → may_go_on (cond x held_leaf.LazyText held_leaf.None) ≡ false
-    go true = refl
-    go false = refl
+ended-open (held_leaf.Text at) = refl
+ended-open (held_leaf.LazyText at) = refl
+ended-open _ = refl
 
 -- no container opens on that line, and none ends in front of it
 record MeetsOpen (still : HeldLeaf) (others opens : List Container) : Type 0 where

@@ -202,7 +202,7 @@ group-ends options bytes (Turned row rows under) gs are =
     StandFacts bytes (not blank) row.first under.end (group_unread options bytes (Turned row rows under))
     (group_done options bytes (Turned row rows under)))
     (sym (under-filled options bytes row rows under are.0 are.1))
-    (turned-stands options bytes row rows under are.0 are.1)
+    (turned-stands options bytes row rows under are.0 are.1 are.5)
 group-ends options bytes (Span row rows) gs are =
     subst
     (λ (blank : Bool).
@@ -241,7 +241,7 @@ endings-with options bytes lines rows leaf events within same are quiet =
     mark-leads bytes events
     ∙ ap (endings_stand_from line_start) (sym same)
     ∙ groups-stand options bytes leaf (groups rows) within
-    (groups-are options bytes [] held_leaf.None p lines rows refl are quiet)
+    (groups-are options bytes [] held_leaf.None p lines rows (refl, refl) are quiet)
     (groups-ended rows (rows-end options bytes [] held_leaf.None p lines rows are))
 
 -- The endings of a text stand before its text parts are read,

@@ -20,7 +20,6 @@ use Rattle.md_engine.specs.declared.state.document.State.TheVariants as document
 use Rattle.md_engine.specs.declared.state.flow.State.{State as FlowState}
 use Rattle.md_engine.specs.declared.state.flow.State.TheVariants as flow
 use Rattle.md_engine.specs.declared.state.blank_line.State.TheVariants as blank_line
-use Rattle.md_engine.specs.declared.state.content.State.TheVariants as content
 use Rattle.md_engine.specs.declared.state.State.{State}
 use Rattle.md_engine.specs.declared.state.State.TheVariants.{Nok, Next}
 use Rattle.md_engine.specs.declared.tokenizer.container.Container.{Container}
@@ -346,7 +345,7 @@ before_content_steps B feed w options next has =
     (has.leaves flow.BeforeContent _ _
     ∙ resumed B feed w (Next (n.Flow flow.After)) Nok (chunk_at (feed w.point) (here w)) (line_ended next) Refuses
     (has.leaves flow.After) (λ s g. refl)
-    ∙ ap (resume B feed w.events f) (sym (has.chunk.each content.ChunkStart _ _)))
+    ∙ ap (resume B feed w.events f) (sym (has.chunk _ _)))
 
 blank_line_after_steps : (B : Behaviour) (feed : Feed) (w : World) (options : ParseOptions) (next : Rule) →
     HasFlow B options next →
@@ -432,7 +431,7 @@ flow_has : (bytes : List ℕ) (options : ParseOptions) (next : Rule) →
     HasFlow (flow_behaves_by bytes options next) options next
 flow_has bytes options next = record {
   blank = record { white = white_has bytes options next; each = λ _ _ _. refl };
-  chunk = record { each = λ _ _ _. refl };
+  chunk = λ _ _. refl;
   starts = λ l. (leaf-states l).starts bytes options next;
   opens = λ k. (container-states k).begins_is bytes options next;
   goes_on = λ k. (container-states k).goes_on_is bytes options next;
@@ -515,7 +514,8 @@ each_steps is_name feed next name w s c at on = go name at on
     go : (name : StateName) → stands flow_table_scheme w (Next name) → GoesOn B next (feeds name w.current) →
         Steps B feed (Next name) w (flow_transition is_name name w).to (flow_transition is_name name w).world
     go (n.BlankLine state) at on = blank_steps B feed state w has.blank s at.0
-    go (n.Content state) at on = chunk_steps B feed (is_name r.Content) state w has.chunk s
+    go (n.Content state) at on =
+        chunk_steps B feed (is_name r.Content) state w _ (record { each = λ _ _ _. refl }) s c at
     go (n.Document state) at on = containers_steps B feed next state w has s at on
     go (n.Flow state) at on = leaves_steps B feed next state w has s at
     go (n.SpaceOrTab state) at on = white_steps B feed state w has.blank.white s

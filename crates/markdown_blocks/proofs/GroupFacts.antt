@@ -9,11 +9,12 @@ use Rattle.markdown_blocks.specs.Rows.{Span, Turned, last_row, Group, Lines, Row
 use Rattle.markdown_blocks.specs.Rows.{TextRow, group_done, is_blank_row, leaf_done, leaf_unread}
 use Rattle.markdown_blocks.specs.Unread.{group_unread}
 use Rattle.markdown_blocks.proofs.GroupLemmas.{AreGroups, AreLines, HasFront}
+use Rattle.markdown_blocks.proofs.GroupsAre.{IsLeft}
 use Rattle.markdown_blocks.proofs.LeafFacts.{StandFacts, stand-of}
 use Rattle.markdown_blocks.proofs.RowFacts.{IsRow}
 use Rattle.markdown_blocks.proofs.RowLeaf.{EndsOnLine, block_of, row-facts}
 use Rattle.markdown_blocks.proofs.Text.Stands.{text-stands}
-use Rattle.markdown_blocks.proofs.Turned.Facts.{turned-block, turned-facts}
+use Rattle.markdown_blocks.proofs.Turned.Stands as turned
 
 -- it stands from the begin of its first line to the end of its last, whatever it is read as
 abbrev pub IsGroupLeaf : ParseOptions → List ℕ → Group → Type 0
@@ -41,18 +42,16 @@ pub text-leaf : (options : ParseOptions) (bytes : List ℕ) (row : Row) (rows : 
 text-leaf options bytes row rows h = (true, text-stands options bytes row rows h)
 
 pub turned-stands : (options : ParseOptions) (bytes : List ℕ) (row : Row) (rows : List Row) (under : Row) →
-    AreLines options bytes row rows → IsUnder options bytes (last_row row rows) under →
+    (are : AreLines options bytes row rows) → IsUnder options bytes (last_row row rows) under →
+    IsLeft options bytes row rows are →
     StandFacts bytes true row.first under.end (group_unread options bytes (Turned row rows under))
     (group_done options bytes (Turned row rows under))
-turned-stands options bytes row rows under h is =
-    stand-of bytes (Some (turned-block options bytes row rows under h is)) true row.first under.end
-    (group_unread options bytes (Turned row rows under)) (group_done options bytes (Turned row rows under))
-    (turned-facts options bytes row rows under h is)
+turned-stands options bytes row rows under h is left = turned.turned-stands options bytes row rows under h is left
 
 pub turned-leaf : (options : ParseOptions) (bytes : List ℕ) (row : Row) (rows : List Row) (under : Row) →
-    AreLines options bytes row rows → IsUnder options bytes (last_row row rows) under →
-    IsGroupLeaf options bytes (Turned row rows under)
-turned-leaf options bytes row rows under h is = (true, turned-stands options bytes row rows under h is)
+    (are : AreLines options bytes row rows) → IsUnder options bytes (last_row row rows) under →
+    IsLeft options bytes row rows are → IsGroupLeaf options bytes (Turned row rows under)
+turned-leaf options bytes row rows under h is left = (true, turned-stands options bytes row rows under h is left)
 
 -- the block that the lines of a leaf of several show, and what is known of their events
 abbrev pub span-block : (options : ParseOptions) (bytes : List ℕ) (row : Row) (rows : List Row) →
@@ -85,7 +84,7 @@ group-leaf options bytes (Single row) gs are =
     single-leaf options bytes are.0.line row are.0.is are.0.other are.0.ends
 group-leaf options bytes (Lines row rows) gs are = text-leaf options bytes row rows are.0
 group-leaf options bytes (Turned row rows under) gs are =
-    turned-leaf options bytes row rows under are.0 are.1
+    turned-leaf options bytes row rows under are.0 are.1 are.5
 group-leaf options bytes (Span row rows) gs are = span-group options bytes row rows are.0 are.4
 
 pub group-front : (options : ParseOptions) (bytes : List ℕ) (group : Group) (gs : List Group) →

@@ -1,7 +1,6 @@
 -- The events of the lines of a text, joined, with their content read, are those of its groups.
 use Rattle.md_engine.specs.declared.tokenizer.held_leaf.HeldLeaf.{HeldLeaf}
 use Rattle.std.proofs.Common.{◌≡◌, ◌≢◌, ℕ, ◌<◌, ◌≤◌, Bool, true, false, cond, ◌&&◌, List, [], ◌∷◌, ◌++◌, length, drop}
-use Rattle.markdown_blocks.specs.HeldLeaf.{may_go_on}
 use Rattle.markdown_blocks.specs.BlockList.{lines_unread}
 use Rattle.markdown_blocks.specs.Rows.{Span, Turned}
 use Rattle.std.proofs.Common.{slice_range, refl, ap, sym, ◌∙◌, subst, append_assoc, append-nil, arith, length-append}
@@ -61,6 +60,7 @@ use Rattle.md_definition.specs.Rest.{Rest as LineRest, is_blank}
 use Rattle.markdown_blocks.proofs.LineTexts.{one-last, one-next, piece, without-none, without-one}
 use Rattle.markdown_blocks.proofs.PrefixNames.{ArePrefixes, prefixes-front}
 use Rattle.markdown_blocks.proofs.KindLemmas.{kind-text}
+use Rattle.markdown_blocks.proofs.TextProgress.{IsShut}
 use Rattle.markdown_blocks.specs.Rows.{is_blank_by}
 
 -- each line of a text but the last has an ending
@@ -457,7 +457,7 @@ groups-content options bytes wants reads w other unique (Lines row rows ∷ gs) 
 -- The events of the lines of a text, joined, and their content read: texts that are not read yet.
 pub content-read : (options : ParseOptions) (bytes : List ℕ) (open_before : List Container) (still : HeldLeaf)
     (p : Point) (lines : List (List ℕ)) (rows : List Row) →
-    may_go_on still ≡ false → AreRows options bytes open_before still p lines rows → EachNoContent rows →
+    IsShut still → AreRows options bytes open_before still p lines rows → EachNoContent rows →
     (wants : Content → Bool) (reads : Readings) → wants content.Content ≡ true → WantsContent wants →
     ReadsContent options bytes reads →
     (unread : List Event) → Substituted wants reads [] 0 (joined (rows_events rows)) unread →

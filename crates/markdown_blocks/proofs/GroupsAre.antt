@@ -1,20 +1,27 @@
 -- What the groups of the lines of a text are: lines that are no text, lines of text that belong together, with the line
 -- that turns them if one does, and the lines of a leaf of several.
-use Rattle.std.proofs.Common.{◌≡◌, ◌≢◌, ℕ, Bool, true, false, cond, ◌&&◌, List, [], ◌∷◌, refl, ap, sym, ◌∙◌, subst}
+use Rattle.std.proofs.Common.{◌≡◌, ◌≢◌, ℕ, Bool, true, false, cond, ◌&&◌, List, [], ◌∷◌, refl, ap, ap₂, sym, ◌∙◌}
+use Rattle.std.proofs.Common.{subst}
 use Rattle.std.specs.Prelude.{Some}
 use Rattle.md_engine.specs.declared.configuration.ParseOptions.{ParseOptions}
 use Rattle.md_engine.specs.declared.event.Point.{Point}
 use Rattle.md_engine.specs.declared.tokenizer.held_leaf.HeldLeaf.{HeldLeaf}
 use Rattle.md_engine.specs.declared.tokenizer.held_leaf.HeldLeaf.TheVariants as held_leaf
-use Rattle.md_definition.specs.State.{Container}
+use Rattle.md_engine.specs.declared.tokenizer.held_leaf.Progress.{Progress}
+use Rattle.md_engine.specs.declared.tokenizer.held_leaf.Progress.TheVariants.{Fresh}
+use Rattle.md_engine.specs.Progress.{is_whole}
+use Rattle.md_definition.specs.Rest.{trim_start}
+use Rattle.md_definition.specs.State.{Container, Kept, kept, texts}
+use Rattle.md_leaves.specs.HeadingSetext.{may_turn}
+use Rattle.md_parts.specs.Progress.{progress, progress_of, step, steps}
 use Rattle.markdown_blocks.specs.Change as change
-use Rattle.markdown_blocks.specs.Change.{Change}
+use Rattle.markdown_blocks.specs.Change.{Change, is_none}
 use Rattle.markdown_blocks.specs.Fronted.{contained, rest_from, rest_line}
-use Rattle.markdown_blocks.specs.HeldLeaf.{may_go_on}
-use Rattle.markdown_blocks.specs.Registry.{LeafName, further_of, leaf}
+use Rattle.markdown_blocks.specs.HeldLeaf.{may_go_on, takes_lazy}
+use Rattle.markdown_blocks.specs.Registry.{HeadingSetext, LeafName, further_of, leaf}
 use Rattle.markdown_blocks.specs.Rows.{BlankRow, Group, LeafRow, Lines, Row, RowKind, Single, Span, TextRow, Turned}
 use Rattle.markdown_blocks.specs.Rows.{first_row}
-use Rattle.markdown_blocks.specs.Rows.{goes_on, groups, is_further, last_row, line_behind}
+use Rattle.markdown_blocks.specs.Rows.{goes_on, groups, is_further, last_row, line_behind, line_kind}
 use Rattle.markdown_blocks.specs.Rows.{is_last, onto_groups, onto_leaf, onto_underline}
 use Rattle.markdown_blocks.proofs.ContainedLemmas.{contained-met, contained-still}
 use Rattle.markdown_blocks.proofs.FrontFacts.{LinePrefix}
@@ -25,7 +32,9 @@ use Rattle.markdown_blocks.proofs.Registry.{further-further, further-is, laws}
 use Rattle.markdown_blocks.proofs.RowFacts.{AreRows, IsEnding, IsLine, IsRow, behind_line}
 use Rattle.markdown_blocks.proofs.RowLeaf.{EndsOnLine, row-as}
 use Rattle.markdown_blocks.proofs.SpanLaws.{AreBehind, IsLineOf}
-use Rattle.markdown_blocks.proofs.UnderNames.{under-shuts}
+use Rattle.markdown_blocks.proofs.TextProgress.{IsFresh, IsShut, contained-closed, contained-progress, setext-may, turn-left}
+use Rattle.markdown_blocks.proofs.TextProgress.{unlazy-fresh}
+use Rattle.markdown_blocks.proofs.UnderNames.{further-text, under-shuts}
 
 -- The groups of a text.
 
@@ -36,6 +45,25 @@ AreLines options bytes row (next ∷ rows) =
     (line : List ℕ) × (is : IsRow options bytes line row) × (text : row.kind ≡ TextRow)
     × (q : Point) × (after : row.after ≡ Some q) × (ending : IsEnding bytes row.end q) ×
     (front : LinePrefix bytes [] q next.first next.front) × AreLines options bytes next rows
+
+-- as the line definition keeps them
+abbrev pub kept-of : (options : ParseOptions) (bytes : List ℕ) (row : Row) (rows : List Row) →
+    AreLines options bytes row rows → List Kept
+kept-of options bytes row [] h = kept h.1.rest ∷ []
+kept-of options bytes row (next ∷ rows) h = kept h.1.rest ∷ kept-of options bytes next rows h.7
+
+-- Definitions leave something of these lines, where they had come as far in front of them as the first line tells,
+abbrev pub Leaves : (options : ParseOptions) (bytes : List ℕ) (row : Row) (rows : List Row) →
+    AreLines options bytes row rows → Type 0
+Leaves options bytes row rows are =
+    options.constructs.definition ≡ true →
+    is_whole (steps (progress_of row.on) (texts (kept-of options bytes row rows are))) ≡ false
+
+-- and so they do where the text begins with these lines.
+abbrev pub IsLeft : (options : ParseOptions) (bytes : List ℕ) (row : Row) (rows : List Row) →
+    AreLines options bytes row rows → Type 0
+IsLeft options bytes row rows are =
+    options.constructs.definition ≡ true → is_whole (progress (texts (kept-of options bytes row rows are))) ≡ false
 
 -- a line has an ending if more follows
 abbrev pub EndsBeforeGroups : Row → List Group → Type 0
@@ -90,6 +118,10 @@ pub record IsUnder (options : ParseOptions) (bytes : List ℕ) (last under : Row
 abbrev pub Begins : Row → Type 0
 Begins row = is_further row.kind row.on ≡ false
 
+-- and no definitions have begun in front of it
+abbrev pub BeginsFresh : Row → Type 0
+BeginsFresh row = Begins row × IsFresh row.on
+
 -- groups that are such; the first line of a leaf of several goes on none
 abbrev pub AreGroups : ParseOptions → List ℕ → List Group → Type 0
 AreGroups options bytes [] = Unit {0}
@@ -98,8 +130,9 @@ AreGroups options bytes (Span row rows ∷ gs) =
     AreSpan options bytes row rows × EndsBeforeGroups (last_row row rows) gs × AreGroups options bytes gs ×
     EachNoContent (row ∷ rows) × Begins row
 AreGroups options bytes (Turned row rows under ∷ gs) =
-    AreLines options bytes row rows × IsUnder options bytes (last_row row rows) under × EndsBeforeGroups under gs ×
-    HasFront bytes row × AreGroups options bytes gs
+    (are : AreLines options bytes row rows) × (is : IsUnder options bytes (last_row row rows) under)
+    × (ends : EndsBeforeGroups under gs) × (front : HasFront bytes row) × (more : AreGroups options bytes gs)
+    × IsLeft options bytes row rows are
 AreGroups options bytes (Lines row rows ∷ gs) =
     AreLines options bytes row rows × EndsBeforeGroups (last_row row rows) gs × HasFront bytes row ×
     AreGroups options bytes gs
@@ -205,6 +238,10 @@ pub record IsBehind (bytes : List ℕ) (p : Point) (row below : Row) : Type 0 wh
   pub met : is_further below.kind below.on ≡ true →
       (leaves : row.leaves ≡ []) × (opens : below.change.opens ≡ []) × (below.on ≡ row.behind)
   pub begins : may_go_on row.behind ≡ false → Begins below
+  -- where no container opens, definitions have come as far as behind the other line; else none have begun
+  pub on : progress_of below.on ≡ cond (is_none below.change.opens) (progress_of row.behind) Fresh
+  -- nor where text begins behind containers that end
+  pub closed : below.kind ≡ TextRow → is_none row.leaves ≡ false → IsFresh below.on
 
 -- where a line goes on the leaf that it meets, it may do so
 pub further-may : (options : ParseOptions) (bytes line : List ℕ) (row : Row) → IsRow options bytes line row →
@@ -218,29 +255,30 @@ further-may options bytes line row is f = go row.kind refl f
         (laws l).meets options row.on is.rest (kind-starts options row.on is.rest l (sym is.kind ∙ e)) f
 
 -- a line that goes on text is one alone: no line goes on it
-pub turned-alone : (options : ParseOptions) (bytes : List ℕ) (row next : Row) (rows : List Row) →
-    row.on ≡ held_leaf.Text → is_further row.kind row.on ≡ true → AreSpan options bytes row (next ∷ rows) → ⊥
-turned-alone options bytes row next rows on f are =
+pub turned-alone : (options : ParseOptions) (bytes : List ℕ) (at : Progress) (row next : Row) (rows : List Row) →
+    row.on ≡ held_leaf.Text at → is_further row.kind row.on ≡ true → AreSpan options bytes row (next ∷ rows) → ⊥
+turned-alone options bytes at row next rows on f are =
     let is : IsSpanLine options bytes row = are.0 in
     let below : IsSpanLine options bytes next = span-begins options bytes next rows are.8 in
     let above : IsLineOf options bytes (leaf is.name) row = line-of options bytes row is in
-    let further : (leaf is.name).further held_leaf.Text ≡ true =
+    let further : (leaf is.name).further (held_leaf.Text at) ≡ true =
     ap (leaf is.name).further (sym on) ∙ line-further options bytes row is true f in
     let shut : may_go_on next.on ≡ false =
-    ap may_go_on (are.6 ∙ above.behind ∙ under-shuts is.name further options row.on above.rest) in
+    ap may_go_on (are.6 ∙ above.behind ∙ under-shuts at is.name further options row.on above.rest) in
     let may : may_go_on next.on ≡ true = further-may options bytes below.line next below.is are.7 in
     let bad : true ≡ false = sym may ∙ shut in
     cc
 
 -- no line goes on a line that is no text and of no leaf of several lines
 pub shut-behind : (options : ParseOptions) (bytes line : List ℕ) (row : Row) → IsRow options bytes line row →
-    EndsOnLine row.kind → row.kind ≢ TextRow → may_go_on row.behind ≡ false
-shut-behind options bytes line row is ends other = ap may_go_on is.behind ∙ go row.kind refl
+    EndsOnLine row.kind → row.kind ≢ TextRow → IsShut row.behind
+shut-behind options bytes line row is ends other =
+    let none = is.behind ∙ go row.kind refl in (ap may_go_on none, ap progress_of none)
   where
-    go : (kind : RowKind) → row.kind ≡ kind → may_go_on (line_behind options row.on is.rest kind) ≡ false
+    go : (kind : RowKind) → row.kind ≡ kind → line_behind options row.on is.rest kind ≡ held_leaf.None
     go BlankRow e = refl
     go TextRow e = absurd (other e)
-    go (LeafRow l) e = ap may_go_on (((laws l).shut (ends l e) options row.on).1 is.rest)
+    go (LeafRow l) e = ((laws l).shut (ends l e) options row.on).1 is.rest
 
 -- a line begins a leaf where none is open that a line may go on
 pub line-begins : (options : ParseOptions) (bytes : List ℕ) (cs : List Container) (still : HeldLeaf) (p : Point)
@@ -255,6 +293,18 @@ line-begins options bytes cs still p line row is shut = go (is_further row.kind 
         let met = contained-still options cs still (rest_from p line) (ap may_go_on (sym is.on) ∙ may) in
         let bad : true ≡ false = sym may ∙ ap may_go_on (is.on ∙ met) ∙ shut in
         cc
+
+-- and no definitions have begun in front of it where no text is open
+line-fresh : (options : ParseOptions) (bytes : List ℕ) (cs : List Container) (still : HeldLeaf) (p : Point)
+    (line : List ℕ) (row : Row) →
+    IsLine options bytes cs still p line row → IsFresh still → IsFresh row.on
+line-fresh options bytes cs still p line row is fresh =
+    ap progress_of is.on ∙ contained-progress options cs still (rest_from p line)
+    ∙ go (is_none (contained options cs still (rest_from p line)).change.opens)
+  where
+    go : (x : Bool) → cond x (progress_of still) Fresh ≡ Fresh
+    go true = fresh
+    go false = refl
 
 -- where it goes on one, no container ends in front of it, and none opens
 line-met : (options : ParseOptions) (bytes : List ℕ) (cs : List Container) (still : HeldLeaf) (p : Point)
@@ -292,6 +342,14 @@ line-behind options bytes cs p (line ∷ lines) row below is leaves = record {
   met =
       λ f. let met = line-met options bytes cs row.behind p line below is f in (leaves ∙ met.1, met.0, met.2);
   begins = line-begins options bytes cs row.behind p line below is;
+  on =
+      ap progress_of is.on ∙ contained-progress options cs row.behind (rest_from p line)
+      ∙ ap (λ (change : Change). cond (is_none change.opens) (progress_of row.behind) Fresh) (sym is.change);
+  closed =
+      λ text some. ap progress_of is.on
+      ∙ contained-closed options cs row.behind (rest_from p line)
+      (ap₂ (line_kind options) (sym is.on) (sym is.rest_is) ∙ sym is.is.kind ∙ text)
+      (ap (λ (change : Change). is_none change.closes) (sym is.change) ∙ ap is_none (sym leaves) ∙ some);
 }
 
 -- the first line of the groups of the lines behind one
@@ -311,36 +369,65 @@ abbrev AreBelow : ParseOptions → List ℕ → List Group → Type 0
 AreBelow options bytes (Span row rows ∷ gs) =
     AreSpan options bytes row rows × EndsBeforeGroups (last_row row rows) gs × AreGroups options bytes gs ×
     EachNoContent (row ∷ rows)
+AreBelow options bytes (Turned row rows under ∷ gs) =
+    (are : AreLines options bytes row rows) × (is : IsUnder options bytes (last_row row rows) under)
+    × (ends : EndsBeforeGroups under gs) × (front : HasFront bytes row) × (more : AreGroups options bytes gs)
+    × Leaves options bytes row rows are
 AreBelow options bytes gs = AreGroups options bytes gs
 
 -- the first of them goes on none
 abbrev pub FirstBegins : List Group → Type 0
 FirstBegins (Span row rows ∷ gs) = Begins row
+FirstBegins (Turned row rows under ∷ gs) = IsFresh row.on
 FirstBegins gs = Unit {0}
+
+-- where no definitions had come in front of them, that is what they leave of the text
+pub leaves-left : (options : ParseOptions) (bytes : List ℕ) (row : Row) (rows : List Row) →
+    (are : AreLines options bytes row rows) → Leaves options bytes row rows are → IsFresh row.on →
+    IsLeft options bytes row rows are
+leaves-left options bytes row rows are leaves fresh =
+    λ on.
+    ap (λ (at : Progress). is_whole (steps at (texts (kept-of options bytes row rows are)))) (sym fresh) ∙ leaves on
 
 below-are : (options : ParseOptions) (bytes : List ℕ) (gs : List Group) → FirstBegins gs → AreBelow options bytes gs →
     AreGroups options bytes gs
 below-are options bytes [] begins are = are
 below-are options bytes (Single row ∷ gs) begins are = are
 below-are options bytes (Lines row rows ∷ gs) begins are = are
-below-are options bytes (Turned row rows under ∷ gs) begins are = are
+below-are options bytes (Turned row rows under ∷ gs) begins are = (
+  are.0,
+  are.1,
+  are.2,
+  are.3,
+  are.4,
+  leaves-left options bytes row rows are.0 are.5 begins,
+)
 below-are options bytes (Span row rows ∷ gs) begins are = (are.0, are.1, are.2, are.3, begins)
 
-first-begin : (gs : List Group) → FirstIs Begins gs → FirstBegins gs
+first-begin : (gs : List Group) → FirstIs BeginsFresh gs → FirstBegins gs
 first-begin [] h = tt
 first-begin (Single row ∷ gs) h = tt
 first-begin (Lines row rows ∷ gs) h = tt
-first-begin (Turned row rows under ∷ gs) h = tt
-first-begin (Span row rows ∷ gs) h = h
+first-begin (Turned row rows under ∷ gs) h = h.1
+first-begin (Span row rows ∷ gs) h = h.0
+
+-- behind a line that leaves no text open none is met
+pub behind-fresh : (bytes : List ℕ) (p : Point) (row below : Row) → IsBehind bytes p row below → IsFresh row.behind →
+    IsFresh below.on
+behind-fresh bytes p row below is fresh = is.on ∙ go (is_none below.change.opens)
+  where
+    go : (x : Bool) → cond x (progress_of row.behind) Fresh ≡ Fresh
+    go true = fresh
+    go false = refl
 
 -- so it is behind a line that no other goes on
 pub begins-behind : (bytes : List ℕ) (p : Point) (row : Row) (gs : List Group) → FirstIs (IsBehind bytes p row) gs →
-    may_go_on row.behind ≡ false → FirstBegins gs
+    IsShut row.behind → FirstBegins gs
 begins-behind bytes p row [] first shut = tt
 begins-behind bytes p row (Single below ∷ gs) first shut = tt
 begins-behind bytes p row (Lines below rows ∷ gs) first shut = tt
-begins-behind bytes p row (Turned below rows under ∷ gs) first shut = tt
-begins-behind bytes p row (Span below rows ∷ gs) first shut = first.begins shut
+begins-behind bytes p row (Turned below rows under ∷ gs) first shut = behind-fresh bytes p row below first shut.1
+begins-behind bytes p row (Span below rows ∷ gs) first shut = first.begins shut.0
 
 -- a line, with what stands in front of it
 record IsBegun (options : ParseOptions) (bytes line : List ℕ) (p : Point) (row : Row) : Type 0 where
@@ -385,6 +472,44 @@ pub leaf-other : (kind : RowKind) (l : LeafName) → kind ≡ LeafRow l → kind
 leaf-other kind l e h = let bad : LeafRow l ≡ TextRow = sym e ∙ h in cc
 
 -- a line of a leaf is no text
+-- where a line goes on the text of another, definitions come as far through both as through the second from behind the
+-- first
+pub behind-on : (bytes : List ℕ) (p : Point) (row below : Row) → IsBehind bytes p row below →
+    below.change.opens ≡ [] → progress_of below.on ≡ progress_of row.behind
+behind-on bytes p row below is none =
+    is.on ∙ ap (λ (l : List Container). cond (is_none l) (progress_of row.behind) Fresh) none
+
+pub leaves-longer : (options : ParseOptions) (bytes line : List ℕ) (row below : Row) (rows : List Row) →
+    (are : AreLines options bytes below rows) → (is : IsRow options bytes line row) → row.kind ≡ TextRow →
+    progress_of below.on ≡ progress_of row.behind → Leaves options bytes below rows are →
+    options.constructs.definition ≡ true →
+    is_whole
+    (steps (progress_of row.on) ((kept is.rest).text ∷ texts (kept-of options bytes below rows are))) ≡ false
+unfolding steps
+leaves-longer options bytes line row below rows are is e same leaves on =
+    ap (λ (x : Progress). is_whole (steps x (texts (kept-of options bytes below rows are))))
+    (sym (same ∙ ap progress_of (is.behind ∙ ap (line_behind options row.on is.rest) e)))
+    ∙ leaves on
+
+-- where it does not, the other begins with none
+pub unjoined-fresh : (bytes : List ℕ) (p : Point) (row below : Row) → IsBehind bytes p row below →
+    below.kind ≡ TextRow → goes_on row below ≡ false → IsFresh below.on
+unjoined-fresh bytes p row below is text apart = go (is_none row.leaves) refl below.change.opens refl apart
+  where
+    go : (x : Bool) → is_none row.leaves ≡ x → (opens : List Container) → below.change.opens ≡ opens →
+        (x && is_none opens) ≡ false → IsFresh below.on
+    go true ends [] k apart = cc
+    go true ends (c ∷ opens) k apart =
+        is.on ∙ ap (λ (l : List Container). cond (is_none l) (progress_of row.behind) Fresh) k
+    go false ends opens k apart = is.closed text ends
+
+-- behind a line of a leaf none has begun
+pub leaf-fresh : (options : ParseOptions) (bytes line : List ℕ) (row : Row) (l : LeafName) →
+    IsRow options bytes line row → row.kind ≡ LeafRow l → IsFresh row.behind
+leaf-fresh options bytes line row l is e =
+    unlazy-fresh row.behind
+    (ap takes_lazy (is.behind ∙ ap (line_behind options row.on is.rest) e) ∙ ((laws l).not_lazy options row.on).1 is.rest)
+
 -- a line of a leaf goes before groups
 leaf-are : (options : ParseOptions) (bytes line : List ℕ) (p : Point) (row : Row) (l : LeafName) (q : Point)
     (gs : List Group) →
@@ -404,8 +529,13 @@ leaf-are options bytes line p row l q (Single below ∷ gs) is e after ending fi
     (span-line options bytes line p row l is e k, (q, after), are, (is.quiet, tt))
 leaf-are options bytes line p row l q (Lines below rows ∷ gs) is e after ending first are false k =
     (span-line options bytes line p row l is e k, (q, after), are, (is.quiet, tt))
-leaf-are options bytes line p row l q (Turned below rows under ∷ gs) is e after ending first are false k =
-    (span-line options bytes line p row l is e k, (q, after), are, (is.quiet, tt))
+leaf-are options bytes line p row l q (Turned below rows under ∷ gs) is e after ending first are false k = (
+  span-line options bytes line p row l is e k,
+  (q, after),
+  below-are options bytes (Turned below rows under ∷ gs)
+      (behind-fresh bytes q row below first (leaf-fresh options bytes line row l is.is e)) are,
+  (is.quiet, tt),
+)
 leaf-are options bytes line p row l q (Span below rows ∷ gs) is e after ending first are false k =
     go (is_further below.kind below.on) refl
   where
@@ -464,6 +594,26 @@ text-under options bytes line row q below after ending first f is quiet =
       quiet = quiet;
     }
 
+-- the first line of a text is one
+pub first-text : (options : ParseOptions) (bytes : List ℕ) (row : Row) (rows : List Row) →
+    AreLines options bytes row rows → row.kind ≡ TextRow
+first-text options bytes row [] are = are.2
+first-text options bytes row (next ∷ rows) are = are.2
+
+-- definitions leave something of the line that an underline turns
+pub under-leaves : (options : ParseOptions) (bytes line : List ℕ) (row under : Row) →
+    (is : IsRow options bytes line row) → (e : row.kind ≡ TextRow) → IsSpanLine options bytes under →
+    under.on ≡ row.behind → is_further under.kind under.on ≡ true → Leaves options bytes row [] (line, is, e)
+unfolding steps
+under-leaves options bytes line row under is e below on f =
+    let at : Progress = step (progress_of row.on) (trim_start is.rest.bytes) in
+    let text : under.on ≡ held_leaf.Text at = on ∙ is.behind ∙ ap (line_behind options row.on is.rest) e in
+    let further : (leaf below.name).further (held_leaf.Text at) ≡ true =
+    ap (leaf below.name).further (sym text) ∙ line-further options bytes under below true f in
+    let of : IsLineOf options bytes (leaf HeadingSetext) under =
+    line-as options bytes under below HeadingSetext (below.kind ∙ ap LeafRow (further-text at below.name further)) in
+    turn-left options at (ap (may_turn options) (sym text) ∙ setext-may options under.on of.rest of.starts)
+
 -- text goes before a leaf of several lines: where its first line goes on text, it is that line alone
 text-span : (options : ParseOptions) (bytes line : List ℕ) (p : Point) (row : Row) (q : Point) (below : Row)
     (rows : List Row) (gs : List Group) →
@@ -473,6 +623,12 @@ text-span : (options : ParseOptions) (bytes line : List ℕ) (p : Point) (row : 
 text-span options bytes line p row q below rows gs is e after ending first are =
     go (is_further below.kind below.on) refl rows are
   where
+    at : Progress
+    at = step (progress_of row.on) (trim_start is.is.rest.bytes)
+
+    text : row.behind ≡ held_leaf.Text at
+    text = is.is.behind ∙ ap (line_behind options row.on is.is.rest) e
+
     go : (x : Bool) → is_further below.kind below.on ≡ x → (rows : List Row) →
         AreBelow options bytes (Span below rows ∷ gs) →
         AreBelow options bytes
@@ -483,11 +639,10 @@ text-span options bytes line p row q below rows gs is e after ending first are =
       are.1,
       (p, is.front),
       are.2,
+      under-leaves options bytes line row below is.is e are.0 (first.met f).2 f,
     )
     go true f (next ∷ rows) are =
-        absurd
-        (turned-alone options bytes below next rows
-        ((first.met f).2 ∙ is.is.behind ∙ ap (line_behind options row.on is.is.rest) e) f are.0)
+        absurd (turned-alone options bytes at below next rows ((first.met f).2 ∙ text) f are.0)
     go false f rows are =
         text-begins options bytes line p row q (Span below rows ∷ gs) is e (q, after)
         (are.0, are.1, are.2, are.3, f)
@@ -504,13 +659,19 @@ text-are options bytes line p row q (Single below ∷ gs) is e after ending firs
 text-are options bytes line p row q (Span below rows ∷ gs) is e after ending first are =
     text-span options bytes line p row q below rows gs is e after ending first are
 text-are options bytes line p row q (Turned below rows under ∷ gs) is e after ending first are =
-    go (change.is_none row.leaves) below.change.opens refl
+    go (change.is_none row.leaves) refl below.change.opens refl
   where
-    go : (x : Bool) (opens : List Container) → below.change.opens ≡ opens →
+    -- no definitions have begun in front of the text that is turned
+    apart : IsFresh below.on → AreBelow options bytes (Lines row [] ∷ Turned below rows under ∷ gs)
+    apart fresh =
+        text-begins options bytes line p row q (Turned below rows under ∷ gs) is e (q, after)
+        (below-are options bytes (Turned below rows under ∷ gs) fresh are)
+
+    go : (x : Bool) → change.is_none row.leaves ≡ x → (opens : List Container) → below.change.opens ≡ opens →
         AreBelow options bytes
         (cond (x && change.is_none opens) (Turned row (below ∷ rows) under ∷ gs)
         (Lines row [] ∷ Turned below rows under ∷ gs))
-    go true [] none = (
+    go true ends [] none = (
       (
         line,
         is.is,
@@ -525,10 +686,11 @@ text-are options bytes line p row q (Turned below rows under ∷ gs) is e after 
       are.2,
       (p, is.front),
       are.4,
+      leaves-longer options bytes line row below rows are.0 is.is e (behind-on bytes q row below first none) are.5,
     )
-    go true (c ∷ opens) k =
-        text-begins options bytes line p row q (Turned below rows under ∷ gs) is e (q, after) are
-    go false opens k = text-begins options bytes line p row q (Turned below rows under ∷ gs) is e (q, after) are
+    go true ends (c ∷ opens) k =
+        apart (first.on ∙ ap (λ (l : List Container). cond (is_none l) (progress_of row.behind) Fresh) k)
+    go false ends opens k = apart (first.closed (first-text options bytes below rows are.0) ends)
 text-are options bytes line p row q (Lines below rows ∷ gs) is e after ending first are =
     go (change.is_none row.leaves) below.change.opens refl
   where
@@ -612,22 +774,25 @@ groups-below options bytes open_before still p (line ∷ next ∷ lines) (row �
 -- The first line of a text begins a leaf, if none is open in front of it that a line may go on.
 pub first-begins : (options : ParseOptions) (bytes : List ℕ) (open_before : List Container) (still : HeldLeaf)
     (p : Point) (lines : List (List ℕ)) (rows : List Row) →
-    may_go_on still ≡ false → AreRows options bytes open_before still p lines rows → FirstBegins (groups rows)
+    IsShut still → AreRows options bytes open_before still p lines rows → FirstBegins (groups rows)
 first-begins options bytes open_before still p lines [] shut h = tt
 first-begins options bytes open_before still p lines (row ∷ rows) shut h =
     first-begin (groups (row ∷ rows))
-    (onto-first Begins row row.kind (groups rows)
+    (onto-first BeginsFresh row row.kind (groups rows)
     (go lines (first-line options bytes open_before still p lines row rows h)))
   where
-    go : (lines : List (List ℕ)) → FirstLine options bytes open_before still p lines row → Begins row
+    go : (lines : List (List ℕ)) → FirstLine options bytes open_before still p lines row → BeginsFresh row
     go [] is = absurd is
-    go (line ∷ lines) is = line-begins options bytes open_before still p line row is shut
+    go (line ∷ lines) is = (
+      line-begins options bytes open_before still p line row is shut.0,
+      line-fresh options bytes open_before still p line row is shut.1,
+    )
 
 -- The groups of the lines of a text are lines of text that belong together, with the line that turns them if one does,
 -- lines of a leaf of several, and others.
 pub groups-are : (options : ParseOptions) (bytes : List ℕ) (open_before : List Container) (still : HeldLeaf) (p : Point)
     (lines : List (List ℕ)) (rows : List Row) →
-    may_go_on still ≡ false → AreRows options bytes open_before still p lines rows → EachNoContent rows →
+    IsShut still → AreRows options bytes open_before still p lines rows → EachNoContent rows →
     AreGroups options bytes (groups rows)
 groups-are options bytes open_before still p lines rows shut h k =
     below-are options bytes (groups rows) (first-begins options bytes open_before still p lines rows shut h)

@@ -12,13 +12,13 @@ use Rattle.md_definition.specs.State.{Container}
 use Rattle.md_parts.specs.DefinitionRule.{DefinitionParts}
 use Rattle.md_seam.specs.Events.Nested.{pair}
 use Rattle.md_seam.specs.Substituted.{Readings, Substituted}
-use Rattle.markdown_blocks.specs.HeldLeaf.{may_go_on}
+use Rattle.markdown_blocks.specs.BlockList.{turned_unread}
 use Rattle.markdown_blocks.specs.Registry.{text_leaf}
 use Rattle.markdown_blocks.specs.Rows.{Group, Lines, Row, RowKind, Single, Span, TextRow, Turned, ending_of}
 use Rattle.markdown_blocks.specs.Rows.{defined_done, defined_unread, group_events, group_kind, groups, groups_events}
 use Rattle.markdown_blocks.specs.Rows.{is_further, last_row, leaf_done, leaf_unread, single_events_by, span_by}
-use Rattle.markdown_blocks.specs.Rows.{span_done, tail_events, text_done, turned_by, turned_done}
-use Rattle.markdown_blocks.specs.Unread.{listed_group, listed_groups, listed_row_by, text_unread, unread_lines}
+use Rattle.markdown_blocks.specs.Rows.{span_done, tail_events, text_done, turned_done}
+use Rattle.markdown_blocks.specs.Unread.{listed_group, listed_groups, listed_row_by, text_unread}
 use Rattle.markdown_blocks.proofs.Defined.Facts.{defined-becomes}
 use Rattle.markdown_blocks.proofs.Defined.Is.{IsDefined}
 use Rattle.markdown_blocks.proofs.EachEvent.{each-append}
@@ -26,7 +26,7 @@ use Rattle.markdown_blocks.proofs.EndingFacts.{ending-unlinked}
 use Rattle.markdown_blocks.proofs.FrontFacts.{LinePrefix}
 use Rattle.markdown_blocks.proofs.FrontNames.{fronts-unlinked}
 use Rattle.markdown_blocks.proofs.GroupLemmas.{front-unwanted, tail-unwanted}
-use Rattle.markdown_blocks.proofs.GroupsAre.{AreGroups, AreLines, AreSpan, HasFront, IsSingle, IsSpanLine, IsUnder}
+use Rattle.markdown_blocks.proofs.GroupsAre.{AreGroups, AreLines, AreSpan, HasFront, IsLeft, IsSingle, IsSpanLine, IsUnder}
 use Rattle.markdown_blocks.proofs.GroupsAre.{behind-first, groups-are, line-further, line-of, span-begins}
 use Rattle.markdown_blocks.proofs.JoinedLemmas.{EachNoContent}
 use Rattle.markdown_blocks.proofs.LeafFacts.{ReadsString, ReadsText}
@@ -40,7 +40,10 @@ use Rattle.markdown_blocks.proofs.Text.Becomes.{text-becomes}
 use Rattle.markdown_blocks.proofs.Text.Cut.{Defines, Follows, IsCutText, Remains, between}
 use Rattle.markdown_blocks.proofs.Text.Cuts.{cut-is}
 use Rattle.markdown_blocks.proofs.Text.Stands.{done-is}
+use Rattle.markdown_blocks.proofs.TextProgress.{IsShut}
 use Rattle.markdown_blocks.proofs.Turned.Becomes.{turned-becomes}
+use Rattle.markdown_blocks.proofs.Turned.Cut as heading
+use Rattle.markdown_blocks.proofs.Turned.Cut.{IsCutHeading, heading-cut, left-remains}
 
 -- what stands between the front of a line and its tail
 leaf-becomes : (wants : Content → Bool) (reads : Readings) (front leaf read tail : List Event) → Unwanted wants front →
@@ -77,6 +80,22 @@ between-unwanted wants bytes p q r front is =
     (each-append IsUnlinked (pair n.LineEnding p q) front (ending-unlinked false p q)
     (fronts-unlinked bytes [] q r front is))
 
+-- a definition, and behind it more
+then-becomes : (options : ParseOptions) (bytes : List ℕ) (d : DefinitionParts) (row : Row) (own : List Row) (next : Row)
+    (q : Point) (es fs : List Event) (wants : Content → Bool) (reads : Readings) →
+    wants content.String ≡ true → ReadsString bytes reads → IsDefined bytes d row own →
+    LinePrefix bytes [] q next.first next.front → Becomes wants reads es fs →
+    Becomes wants reads (defined_unread d row own ++ between (last_row row own).end q next.front ++ es)
+    (defined_done bytes d row own ++ between (last_row row own).end q next.front ++ fs)
+then-becomes options bytes d row own next q es fs wants reads ws rs is front behind =
+    let gap : List Event = between (last_row row own).end q next.front in
+    becomes-append wants reads (defined_unread d row own ++ gap) (defined_done bytes d row own ++ gap) es fs
+    (becomes-append wants reads (defined_unread d row own) (defined_done bytes d row own) gap gap
+    (definition-becomes bytes d row own wants reads ws rs is)
+    (becomes-same wants reads gap
+    (between-unwanted wants bytes (last_row row own).end q next.first next.front front)))
+    behind
+
 -- what stands in the place of the lines of a text, block by block
 cut-becomes : (options : ParseOptions) (bytes : List ℕ) (row : Row) (rows : List Row) (unread done : List Event)
     (wants : Content → Bool) (reads : Readings) →
@@ -88,12 +107,7 @@ cut-becomes options bytes _ _ _ _ wants reads w ws rt rs (Defines d row rows are
     definition-becomes bytes d row rows wants reads ws rs is
 cut-becomes options bytes _ _ _ _ wants reads w ws rt rs
     (Follows d row own next more q es fs are is after ends front behind) =
-    let gap : List Event = between (last_row row own).end q next.front in
-    becomes-append wants reads (defined_unread d row own ++ gap) (defined_done bytes d row own ++ gap) es fs
-    (becomes-append wants reads (defined_unread d row own) (defined_done bytes d row own) gap gap
-    (definition-becomes bytes d row own wants reads ws rs is)
-    (becomes-same wants reads gap
-    (between-unwanted wants bytes (last_row row own).end q next.first next.front front)))
+    then-becomes options bytes d row own next q es fs wants reads ws rs is front
     (cut-becomes options bytes next more es fs wants reads w ws rt rs behind)
 
 lines-become : (options : ParseOptions) (bytes : List ℕ) (row : Row) (rows : List Row) (wants : Content → Bool)
@@ -109,18 +123,33 @@ lines-become options bytes row rows wants reads w ws rt rs is front =
     (front-unwanted wants bytes row front) (tail-unwanted wants TextRow last)
     (cut-becomes options bytes row rows unread done wants reads w ws rt rs (cut-is options bytes row rows is))
 
--- and the line that turns them
+-- and the line that turns them, block by block
+heading-becomes : (options : ParseOptions) (bytes : List ℕ) (under row : Row) (rows : List Row)
+    (text unread done : List Event) (wants : Content → Bool) (reads : Readings) →
+    wants content.Text ≡ true → wants content.String ≡ true → ReadsText bytes reads → ReadsString bytes reads →
+    IsCutHeading options bytes under row rows text unread done → Becomes wants reads unread done
+heading-becomes options bytes under _ _ _ _ _ wants reads w ws rt rs (heading.Turned row rows are is) =
+    turned-becomes options bytes row rows under are is wants reads w rt
+heading-becomes options bytes under _ _ _ _ _ wants reads w ws rt rs
+    (heading.Follows d row own next more q ts es fs are is after ends front behind) =
+    then-becomes options bytes d row own next q es fs wants reads ws rs is front
+    (heading-becomes options bytes under next more ts es fs wants reads w ws rt rs behind)
+
 turned-become : (options : ParseOptions) (bytes : List ℕ) (row : Row) (rows : List Row) (under : Row)
     (wants : Content → Bool) (reads : Readings) →
-    wants content.Text ≡ true → ReadsText bytes reads → AreLines options bytes row rows →
-    IsUnder options bytes (last_row row rows) under → HasFront bytes row →
+    wants content.Text ≡ true → wants content.String ≡ true → ReadsText bytes reads → ReadsString bytes reads →
+    (are : AreLines options bytes row rows) → IsUnder options bytes (last_row row rows) under →
+    IsLeft options bytes row rows are → HasFront bytes row →
     Becomes wants reads (listed_group options bytes (Turned row rows under))
     (group_events options bytes (Turned row rows under))
-turned-become options bytes row rows under wants reads w rt is turns front =
-    leaf-becomes wants reads row.front (turned_by (unread_lines row rows) row rows under)
-    (turned_done bytes row rows under) (tail_events (ending_of under.kind under) under)
+turned-become options bytes row rows under wants reads w ws rt rs is turns left front =
+    let unread : List Event = turned_unread options bytes row rows under in
+    let done : List Event = turned_done options bytes row rows under in
+    leaf-becomes wants reads row.front unread done (tail_events (ending_of under.kind under) under)
     (front-unwanted wants bytes row front) (tail-unwanted wants under.kind under)
-    (turned-becomes options bytes row rows under is turns wants reads w rt)
+    (heading-becomes options bytes under row rows (text_unread options bytes row rows) unread done wants reads w ws rt
+    rs
+    (heading-cut options bytes row rows under is turns (left-remains options bytes row rows is left)))
 
 -- the lines of a leaf of several
 span-becomes : (options : ParseOptions) (bytes : List ℕ) (row : Row) (rows : List Row) (wants : Content → Bool)
@@ -151,7 +180,7 @@ groups-become options bytes wants reads w ws rt rs (Turned row rows under ∷ gs
     becomes-append wants reads (listed_group options bytes (Turned row rows under))
     (group_events options bytes (Turned row rows under)) (listed_groups options bytes gs)
     (groups_events options bytes gs)
-    (turned-become options bytes row rows under wants reads w rt are.0 are.1 are.3)
+    (turned-become options bytes row rows under wants reads w ws rt rs are.0 are.1 are.5 are.3)
     (groups-become options bytes wants reads w ws rt rs gs are.4)
 groups-become options bytes wants reads w ws rt rs (Span row rows ∷ gs) are =
     becomes-append wants reads (listed_group options bytes (Span row rows)) (group_events options bytes (Span row rows))
@@ -168,7 +197,7 @@ groups-become options bytes wants reads w ws rt rs (Lines row rows ∷ gs) are =
 -- The text of leaves, and texts, read: the events of a text.
 pub text-read : (options : ParseOptions) (bytes : List ℕ) (open_before : List Container) (still : HeldLeaf) (p : Point)
     (lines : List (List ℕ)) (rows : List Row) →
-    may_go_on still ≡ false → AreRows options bytes open_before still p lines rows → EachNoContent rows →
+    IsShut still → AreRows options bytes open_before still p lines rows → EachNoContent rows →
     (wants : Content → Bool) (reads : Readings) → wants content.Text ≡ true → wants content.String ≡ true →
     ReadsText bytes reads → ReadsString bytes reads →
     (events : List Event) → Substituted wants reads [] 0 (listed_groups options bytes (groups rows)) events →

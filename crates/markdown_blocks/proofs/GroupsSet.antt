@@ -8,7 +8,6 @@ use Rattle.md_engine.specs.declared.tokenizer.held_leaf.HeldLeaf.{HeldLeaf}
 use Rattle.md_content.specs.Paragraph.{text_link}
 use Rattle.md_definition.specs.State.{Container}
 use Rattle.markdown_blocks.specs.BlockList.{lines_unread}
-use Rattle.markdown_blocks.specs.HeldLeaf.{may_go_on}
 use Rattle.markdown_blocks.specs.Registry.{leaf as line_leaf, LeafName, resolved, text_leaf}
 use Rattle.markdown_blocks.specs.Rows.{Span, Turned, BlankRow, Group, LeafRow, Lines, Row, RowKind, Single, TextRow}
 use Rattle.markdown_blocks.specs.Rows.{blank_line, ending_of, groups, last_row, leaf_events, leaf_unread, row_events}
@@ -28,6 +27,7 @@ use Rattle.markdown_blocks.proofs.Registry.{laws, outside-passes}
 use Rattle.markdown_blocks.proofs.RowFacts.{AreRows, IsRow}
 use Rattle.markdown_blocks.proofs.Text.Cuts.{cut-is}
 use Rattle.markdown_blocks.proofs.Text.Names.{cut-each, outside-of}
+use Rattle.markdown_blocks.proofs.TextProgress.{IsShut}
 
 -- the whitespace of a blank line stays
 blank-outside : (line : List ℕ) (p : Point) → AreOutside (blank_line line p)
@@ -134,7 +134,7 @@ groups-set options bytes (Span row rows ∷ gs) are =
 -- Each leaf on one line is set, and all else stays.
 pub leaves-set : (options : ParseOptions) (bytes : List ℕ) (open_before : List Container) (still : HeldLeaf) (p : Point)
     (lines : List (List ℕ)) (rows : List Row) →
-    may_go_on still ≡ false → AreRows options bytes open_before still p lines rows → EachNoContent rows →
+    IsShut still → AreRows options bytes open_before still p lines rows → EachNoContent rows →
     resolved (unread_groups options bytes (groups rows)) ≡ set_groups options bytes (groups rows)
 leaves-set options bytes open_before still p lines rows shut are quiet =
     groups-set options bytes (groups rows) (groups-are options bytes open_before still p lines rows shut are quiet)

@@ -2,11 +2,12 @@
 use Rattle.std.proofs.Common.{◌≡◌, Bool, true, false, cond, List, [], ◌∷◌, ◌++◌, ap, append_assoc}
 use Rattle.md_engine.specs.declared.event.Event.{Event}
 use Rattle.md_engine.specs.declared.event.Name.TheVariants as n
-use Rattle.md_engine.specs.declared.tokenizer.held_leaf.HeldLeaf.TheVariants as held_leaf
 use Rattle.md_engine.specs.Meaning.{Accepts, Cell, Here, Refuses}
 use Rattle.md_content.specs.ChunkRule.{chunk_at, inside_chunk}
 use Rattle.md_content.specs.Chunks.{content_link}
 use Rattle.md_leaves.specs.BlankRule.{blank_at, blank_events}
+use Rattle.md_parts.specs.Progress.{text_behind}
+use Rattle.md_parts.specs.WholeCells.{whole_line}
 use Rattle.md_seam.specs.Ahead.{from_ending, line_bytes, line_end}
 use Rattle.md_seam.specs.Events.Nested.{enter_link, exit}
 use Rattle.md_definition.specs.Rest.{is_blank}
@@ -44,7 +45,7 @@ pub chunk-took : (cells : List Cell) (h : Here) →
     (record h {
       events = h.events ++ (enter_link n.Content h.point content_link ∷ exit n.Content (line_end cells h.point) ∷ []);
       point = line_end cells h.point;
-      flags = record h.flags { leaf = held_leaf.Text };
+      flags = record h.flags { leaf = text_behind h.flags.leaf (whole_line h.point cells) };
     })
     (from_ending cells)
 unfolding chunk_at inside_chunk
@@ -52,7 +53,11 @@ chunk-took cells h =
     ap
     (λ (es : List Event).
     Accepts
-    (record h { events = es; point = line_end cells h.point; flags = record h.flags { leaf = held_leaf.Text } })
+    (record h {
+      events = es;
+      point = line_end cells h.point;
+      flags = record h.flags { leaf = text_behind h.flags.leaf (whole_line h.point cells) };
+    })
     (from_ending cells))
     (append_assoc h.events (enter_link n.Content h.point content_link ∷ [])
     (exit n.Content (line_end cells h.point) ∷ []))

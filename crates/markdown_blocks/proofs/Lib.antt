@@ -55,7 +55,9 @@ pub mod RestRows
 pub mod RegistryRead
 pub mod PassedFacts
 pub mod ContainerLaws
+pub mod TextBehind
 pub mod TextLaws
+pub mod TextProgress
 pub mod Trials
 pub mod RegistryContainers
 pub mod FrontRows

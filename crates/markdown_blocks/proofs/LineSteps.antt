@@ -18,6 +18,7 @@ use Rattle.md_definition.specs.Step.{is_open_text, lazy_by, leaf_line, leaf_line
 use Rattle.md_definition.specs.Step.{stopped, stopped_by}
 use Rattle.md_definition.specs.Step.{text_line, underline_or_text, with_lazy}
 use Rattle.md_definition.specs.Tree.{Blocks, End}
+use Rattle.md_parts.specs.Progress.{progress}
 use Rattle.md_definition.proofs.ColumnLemmas.{opened_by, step_by}
 use Rattle.md_definition.proofs.ContainerLemmas.{opens-leaves}
 use Rattle.md_definition.proofs.TakenLemmas.{LeavesFewer}
@@ -30,13 +31,13 @@ use Rattle.markdown_blocks.specs.Rows.{BlankRow, LeafRow, RowKind, TextRow, insi
 use Rattle.markdown_blocks.specs.Rows.{kind_of, line_kind}
 use Rattle.markdown_blocks.specs.HeldLeaf.{IsBuiltLeaf, kind_of_leaf, met_by}
 use Rattle.markdown_blocks.specs.Stands.{IsPlain, containers_of, still_of}
-use Rattle.markdown_blocks.specs.Leaf.Paragraph.{held_of}
+use Rattle.markdown_blocks.specs.Leaf.Paragraph.{held_of, then_front}
 use Rattle.markdown_blocks.proofs.ContainedLemmas.{change-opens, ended-open, lazy-some, lines-unlazy}
 use Rattle.markdown_blocks.proofs.KindLemmas.{kind-plain, kind-starts}
 use Rattle.markdown_blocks.proofs.OpenSpan.{AllBegin, OpenSpan}
 use Rattle.markdown_blocks.proofs.Registry.{IsAgainst, came_of, insider-none, laws, leaf_at, open-span, text-laws}
 use Rattle.markdown_blocks.proofs.Registry.{shuts_out-none, text-starts, trials-begin}
-use Rattle.markdown_blocks.proofs.RegistryFound.{starts-found, text-comes, text_came}
+use Rattle.markdown_blocks.proofs.RegistryFound.{lazy_on, starts-found, text-comes, text_came, text_on}
 
 -- Leaves of several lines.
 
@@ -60,16 +61,24 @@ lazy-none : (still : HeldLeaf) (opens : List Container) (kind : RowKind) → tak
 lazy-none still opens kind unlazy = ap (λ (x : Bool). x && is_none opens && is_text kind) unlazy
 
 met-none : (still : HeldLeaf) → takes_lazy still ≡ false → met_by false still ≡ held_leaf.None
-met-none still unlazy = ap (λ (x : Bool). cond x held_leaf.LazyText held_leaf.None) unlazy
+met-none (held_leaf.Text at) unlazy = cc
+met-none (held_leaf.LazyText at) unlazy = cc
+met-none _ unlazy = refl
 
 -- a line that meets one, or no leaf, stands against no text
 context-none : (on : HeldLeaf) → takes_lazy on ≡ false → IsAgainst NoText on
 context-none held_leaf.None unlazy = refl
-context-none held_leaf.Text unlazy = cc
-context-none held_leaf.LazyText unlazy = cc
+context-none (held_leaf.Text at) unlazy = cc
+context-none (held_leaf.LazyText at) unlazy = cc
 context-none held_leaf.Code unlazy = refl
 context-none (held_leaf.Fence marker size indent) unlazy = refl
 context-none (held_leaf.Html kind) unlazy = refl
+
+-- no definitions stand at the front of what is no text
+pub front-unlazy : (options : ParseOptions) (bs : Blocks) (open_leaf : Leaf) →
+    takes_lazy (kind_of_leaf open_leaf) ≡ false → then_front options bs open_leaf ≡ bs
+front-unlazy options bs (OpenParagraph lines) unlazy = cc
+front-unlazy options bs _ unlazy = refl
 
 -- by the line definition one goes on or ends, and takes no lazy line
 span-line : (options : ParseOptions) (s : Spot) (r : Rest) (open_leaf : Leaf) →
@@ -90,7 +99,7 @@ built-concrete : (open_leaf : Leaf) → IsBuiltLeaf open_leaf →
 built-concrete open_leaf plain =
     text-laws.cases (λ (l : Leaf). is_concrete l ≡ shuts_out (kind_of_leaf l))
     (sym (shuts_out-none held_leaf.None refl))
-    (λ k ks. sym (shuts_out-none held_leaf.Text refl)) (λ l is. (open-span l is).concrete) open_leaf plain
+    (λ k ks. sym (shuts_out-none (text_on (k ∷ ks)) refl)) (λ l is. (open-span l is).concrete) open_leaf plain
 
 -- the first of them interrupts what is open if that is text
 text-interrupted : (open_leaf : Leaf) → is_open_text open_leaf ≡ interrupts (kind_of_leaf open_leaf) []
@@ -173,16 +182,17 @@ come_by options open_leaf r kind = Opened open_leaf
 -- a line where text is open: it turns the text, or stands behind it, or is one more line of it
 abbrev text_spot : ParseOptions → Blocks → List Kept → Rest → RowKind → Spot
 text_spot options bs lines r kind =
-    cond (is_further kind held_leaf.Text) (came bs (come_by options (text_leaf.held lines) r kind))
+    cond (is_further kind (text_on lines))
+    (came (then_front options bs (text_leaf.held lines)) (come_by options (text_leaf.held lines) r kind))
     (spot_by options bs lines r kind)
 
 text-found : (options : ParseOptions) (bs : Blocks) (k : Kept) (ks : List Kept) (r : Rest) → IsBuilt options →
-    text_line options bs (k ∷ ks) r ≡ text_spot options bs (k ∷ ks) r (line_kind options held_leaf.Text r)
+    text_line options bs (k ∷ ks) r ≡ text_spot options bs (k ∷ ks) r (line_kind options (text_on (k ∷ ks)) r)
 unfolding text_line
 text-found options bs k ks r built =
     go (is_blank r.bytes) refl
     ∙ ap (text_spot options bs (k ∷ ks) r)
-    (sym (kind-plain options held_leaf.Text r (insider-none held_leaf.Text refl)))
+    (sym (kind-plain options (text_on (k ∷ ks)) r (insider-none (text_on (k ∷ ks)) refl)))
   where
     by : (o : Option LeafName) →
         text_came options bs (k ∷ ks) r o ≡ text_spot options bs (k ∷ ks) r (kind_of o)
@@ -192,9 +202,9 @@ text-found options bs k ks r built =
     go : (x : Bool) → is_blank r.bytes ≡ x →
         cond x (spot_of (then_leaf options bs (text_leaf.held (k ∷ ks))))
         (underline_or_text options bs (k ∷ ks) r (underline_depth options r)) ≡
-        text_spot options bs (k ∷ ks) r (cond x BlankRow (kind_of (leaf_at options held_leaf.Text r)))
+        text_spot options bs (k ∷ ks) r (cond x BlankRow (kind_of (leaf_at options (text_on (k ∷ ks)) r)))
     go true e = ap spot_of (text-laws.shut options bs (k ∷ ks))
-    go false e = text-comes options bs k ks r e built ∙ by (leaf_at options held_leaf.Text r)
+    go false e = text-comes options bs k ks r e built ∙ by (leaf_at options (text_on (k ∷ ks)) r)
 
 -- The containers that open.
 
@@ -284,10 +294,10 @@ abbrev pub new_line : ParseOptions → HeldLeaf → List Container → Rest → 
 new_line options on [] r bs = At (spot_by options bs [] r (line_kind options on r))
 new_line options on (c ∷ cs) r bs = Within bs c (new_line options on cs r End)
 
--- with what the innermost leaf came to
-abbrev pub with_came : Path → Came → Path
-with_came (At s) c = At (came s.here c)
-with_came (Within before container p) c = Within before container (with_came p c)
+-- with what the innermost leaf came to; of a text, that stands behind the definitions at its front
+abbrev pub with_came : ParseOptions → Path → Came → Path
+with_came options (At s) c = At (came (then_front options s.here s.leaf) c)
+with_came options (Within before container p) c = Within before container (with_came options p c)
 
 -- What a line does where these containers went on, and these open on it: it goes on the open text, and all containers
 -- stay; or it goes on the open leaf of several lines, or turns the open text; or all else is closed, and it begins in
@@ -298,7 +308,7 @@ stepped options p went new =
     let kind = line_kind options on new.rest in
     cond (is_lazy (still_of p) new.containers kind)
     (longer (renewed (went ++ others_of (containers_of p) went) p) (kept new.rest ∷ []))
-    (cond (is_further kind on) (with_came (renewed went p) (come_by options (spot p).leaf new.rest kind))
+    (cond (is_further kind on) (with_came options (renewed went p) (come_by options (spot p).leaf new.rest kind))
     (behind_path (kept_to options went p) (new_line options on new.containers new.rest)))
 
 renewed-same : (p : Path) → renewed (containers_of p) p ≡ p
@@ -325,7 +335,7 @@ stepped-more options p went c new =
     lazy = longer (renewed (went ++ others_of (containers_of p) went) p) (kept new.rest ∷ [])
 
     further : Path
-    further = with_came (renewed went p) (come_by options (spot p).leaf new.rest kind)
+    further = with_came options (renewed went p) (come_by options (spot p).leaf new.rest kind)
 
     other : Path
     other = behind_path (kept_to options went p) (new_line options held_leaf.None (c ∷ new.containers) new.rest)
@@ -364,25 +374,27 @@ IsStepped options bs r open_leaf =
 text-stepped : (options : ParseOptions) (bs : Blocks) (r : Rest) → IsBuilt options → (k : Kept) (ks : List Kept) →
     IsStepped options bs r (text_leaf.held (k ∷ ks))
 text-stepped options bs r built k ks =
-    ap At (text-found options bs k ks r built) ∙ go (line_kind options held_leaf.Text r)
-    ∙ ap (λ (x : Blocks). by (line_kind options held_leaf.Text r) x)
+    ap At (text-found options bs k ks r built) ∙ go (line_kind options (text_on (k ∷ ks)) r)
+    ∙ ap (λ (x : Blocks). by (line_kind options (text_on (k ∷ ks)) r) x)
     (sym (text-laws.shut options bs (k ∷ ks)))
   where
     -- where the text is shut with these blocks
     by : RowKind → Blocks → Path
     by kind shut_to =
-        cond (is_lazy held_leaf.Text [] kind) (At (with_line bs (k ∷ ks) r))
-        (cond (is_further kind held_leaf.Text) (At (came bs (come_by options (text_leaf.held (k ∷ ks)) r kind)))
+        cond (is_lazy (text_on (k ∷ ks)) [] kind) (At (with_line bs (k ∷ ks) r))
+        (cond (is_further kind (text_on (k ∷ ks)))
+        (At (came (then_front options bs (text_leaf.held (k ∷ ks))) (come_by options (text_leaf.held (k ∷ ks)) r kind)))
         (At (spot_by options shut_to [] r kind)))
 
     go : (kind : RowKind) →
         At (text_spot options bs (k ∷ ks) r kind) ≡ by kind (text_leaf.behind options bs (texts (k ∷ ks)))
     go BlankRow = refl
     go TextRow = refl
-    go (LeafRow l) = to ((leaf l).further held_leaf.Text)
+    go (LeafRow l) = to ((leaf l).further (text_on (k ∷ ks)))
       where
         turned : Spot
-        turned = came bs ((leaf l).comes options (text_leaf.held (k ∷ ks)) r)
+        turned =
+            came (then_front options bs (text_leaf.held (k ∷ ks))) ((leaf l).comes options (text_leaf.held (k ∷ ks)) r)
 
         behind : Spot
         behind = came (text_leaf.behind options bs (texts (k ∷ ks))) ((leaf l).comes options NoLeaf r)
@@ -397,7 +409,8 @@ span-stepped options bs r built open_leaf is =
     ap At (span-line options s r open_leaf is.lines)
     ∙ ap (λ (o : Option Came). At (on_or_fresh options s r o)) (is.goes options r)
     ∙ go ((leaf is.name).starts options still r)
-    ∙ ap by (sym (asked-kind options still r is.name is.asked))
+    ∙ ap (by bs) (sym (asked-kind options still r is.name is.asked))
+    ∙ ap (λ (x : Blocks). by x (line_kind options still r)) (sym (front-unlazy options bs open_leaf unlazy_leaf))
   where
     s : Spot
     s = record { here = bs; leaf = open_leaf }
@@ -405,32 +418,37 @@ span-stepped options bs r built open_leaf is =
     still : HeldLeaf
     still = kind_of_leaf open_leaf
 
-    further : RowKind → Path
-    further kind = At (came bs (come_by options open_leaf r kind))
+    unlazy_leaf : takes_lazy still ≡ false
+    unlazy_leaf = lines-unlazy still is.lines
+
+    further : Blocks → RowKind → Path
+    further x kind = At (came x (come_by options open_leaf r kind))
 
     other : RowKind → Path
     other kind = At (spot_by options (shut options s) [] r kind)
 
-    by : RowKind → Path
-    by kind =
+    -- where it goes on the leaf behind these blocks
+    by : Blocks → RowKind → Path
+    by x kind =
         cond (is_lazy still [] kind) (longer (At s) (kept r ∷ []))
-        (cond (is_further kind still) (further kind) (other kind))
+        (cond (is_further kind still) (further x kind) (other kind))
 
-    unlazy : (kind : RowKind) (x : Bool) → is_further kind still ≡ x → cond x (further kind) (other kind) ≡ by kind
+    unlazy : (kind : RowKind) (x : Bool) → is_further kind still ≡ x →
+        cond x (further bs kind) (other kind) ≡ by bs kind
     unlazy kind x e =
-        ap (λ (t : Bool). cond t (further kind) (other kind)) (sym e)
+        ap (λ (t : Bool). cond t (further bs kind) (other kind)) (sym e)
         ∙ sym
         (ap
         (λ (t : Bool).
-        cond t (longer (At s) (kept r ∷ [])) (cond (is_further kind still) (further kind) (other kind)))
-        (lazy-none still [] kind (lines-unlazy still is.lines)))
+        cond t (longer (At s) (kept r ∷ [])) (cond (is_further kind still) (further bs kind) (other kind)))
+        (lazy-none still [] kind unlazy_leaf))
 
     go : (x : Bool) →
         At (on_or_fresh options s r (cond x (Some ((leaf is.name).comes options open_leaf r)) None)) ≡
-        by (cond x (LeafRow is.name) (plain_kind options still r))
+        by bs (cond x (LeafRow is.name) (plain_kind options still r))
     go true = unlazy (LeafRow is.name) true is.further
     go false =
-        ap At (fresh-plain options still (shut options s) r (lines-unlazy still is.lines) built)
+        ap At (fresh-plain options still (shut options s) r unlazy_leaf built)
         ∙ unlazy (plain_kind options still r) false (plain-begins options still r is.lines)
 
 leaf-stepped : (options : ParseOptions) (bs : Blocks) (open_leaf : Leaf) (r : Rest) → IsBuilt options →
@@ -543,19 +561,19 @@ lazy-stepped options before c p r built leaf e plain =
     text : (k : Kept) (ks : List Kept) → By (text_leaf.held (k ∷ ks))
     text k ks e =
         go (is_blank r.bytes) refl
-        ∙ ap (longer_by held_leaf.Text)
-        (sym (kind-plain options held_leaf.LazyText r (insider-none held_leaf.LazyText refl)))
+        ∙ ap (longer_by (text_on (k ∷ ks)))
+        (sym (kind-plain options (lazy_on (k ∷ ks)) r (insider-none (lazy_on (k ∷ ks)) refl)))
       where
         to : Bool → Option Came → Path
         to x o =
             lazy_by options before c p r
             (cond (x || is_some o) None (Some (text_leaf.held (k ∷ ks ++ kept r ∷ []))))
 
-        by : is_blank r.bytes ≡ false → (o : Option LeafName) → leaf_at options held_leaf.LazyText r ≡ o →
-            to false (came_of options r o) ≡ longer_by held_leaf.Text (kind_of o)
+        by : is_blank r.bytes ≡ false → (o : Option LeafName) → leaf_at options (lazy_on (k ∷ ks)) r ≡ o →
+            to false (came_of options r o) ≡ longer_by (text_on (k ∷ ks)) (kind_of o)
         by dark (Some l) found =
             plain_line ∙ ap (λ (x : Bool). other (kind_by held_leaf.None x)) dark
-            ∙ ap (λ (o : Option LeafName). other (kind_of o)) (text-starts options r l found)
+            ∙ ap (λ (o : Option LeafName). other (kind_of o)) (text-starts options (progress (texts (k ∷ ks))) r l found)
         by dark None found =
             ap (Within before c)
             (at_spot-longer p (k ∷ ks) (kept r ∷ []) e
@@ -563,17 +581,17 @@ lazy-stepped options before c p r built leaf e plain =
 
         go : (x : Bool) → is_blank r.bytes ≡ x →
             to (is_blank r.bytes) (starts options LazyText r) ≡
-            longer_by held_leaf.Text (kind_by held_leaf.LazyText (is_blank r.bytes))
+            longer_by (text_on (k ∷ ks)) (kind_by (lazy_on (k ∷ ks)) (is_blank r.bytes))
         go true b =
             ap (λ (x : Bool). to x (starts options LazyText r)) b
             ∙ plain_line
             ∙ ap (λ (x : Bool). other (kind_by held_leaf.None x)) b
-            ∙ sym (ap (λ (x : Bool). longer_by held_leaf.Text (kind_by held_leaf.LazyText x)) b)
+            ∙ sym (ap (λ (x : Bool). longer_by (text_on (k ∷ ks)) (kind_by (lazy_on (k ∷ ks)) x)) b)
         go false b =
             ap (λ (x : Bool). to x (starts options LazyText r)) b
-            ∙ ap (to false) (starts-found options held_leaf.LazyText LazyText r refl refl b built)
-            ∙ by b (leaf_at options held_leaf.LazyText r) refl
-            ∙ sym (ap (λ (x : Bool). longer_by held_leaf.Text (kind_by held_leaf.LazyText x)) b)
+            ∙ ap (to false) (starts-found options (lazy_on (k ∷ ks)) LazyText r refl refl b built)
+            ∙ by b (leaf_at options (lazy_on (k ∷ ks)) r) refl
+            ∙ sym (ap (λ (x : Bool). longer_by (text_on (k ∷ ks)) (kind_by (lazy_on (k ∷ ks)) x)) b)
 
     span : (l : Leaf) → OpenSpan l → By l
     span l is e =
@@ -621,7 +639,7 @@ step-stopped options before c p r built plain =
         (sym
         (ap
         (λ (x : Bool).
-        cond x (with_came (Within before c p) (come_by options (spot p).leaf r kind))
+        cond x (with_came options (Within before c p) (come_by options (spot p).leaf r kind))
         (At (spot_by options (then_block before (container_block c (closed options p))) [] r kind)))
         (none-further options on r (ended-open (still_of p)))))
     go (Some t) =
@@ -643,7 +661,7 @@ stepped-within options before c d p went new = go (is_lazy (still_of p) new.cont
     lazy = longer (renewed (went ++ others_of (containers_of p) went) p) (kept new.rest ∷ [])
 
     further : Path
-    further = with_came (renewed went p) (come_by options (spot p).leaf new.rest kind)
+    further = with_came options (renewed went p) (come_by options (spot p).leaf new.rest kind)
 
     other : Path
     other = behind_path (kept_to options went p) (new_line options on new.containers new.rest)
@@ -693,7 +711,7 @@ goes_further options c = is_further (line_kind options c.on c.rest) c.on
 
 abbrev pub further_path : ParseOptions → Path → Contained → Path
 further_path options p c =
-    with_came (renewed c.change.stays p) (come_by options (spot p).leaf c.rest (line_kind options c.on c.rest))
+    with_came options (renewed c.change.stays p) (come_by options (spot p).leaf c.rest (line_kind options c.on c.rest))
 
 -- where it does neither: some containers stay, and behind them it opens others, and begins in the innermost
 abbrev pub new_path : ParseOptions → Path → Contained → Path
@@ -741,12 +759,12 @@ step-contained options p r built plain =
     by x y =
         let change : Change = change_by y on.containers others new.containers in
         cond x (longer (renewed change.stays p) (kept new.rest ∷ []))
-        (cond (is_further kind leaf) (with_came (renewed change.stays p) come)
+        (cond (is_further kind leaf) (with_came options (renewed change.stays p) come)
         (behind_path (kept_to options change.stays p) (new_line options leaf change.opens new.rest)))
 
     go : (x : Bool) →
         cond x (longer (renewed (on.containers ++ others) p) (kept new.rest ∷ []))
-        (cond (is_further kind leaf) (with_came (renewed on.containers p) come)
+        (cond (is_further kind leaf) (with_came options (renewed on.containers p) come)
         (behind_path (kept_to options on.containers p) (new_line options leaf new.containers new.rest))) ≡
         by x x
     go true = refl

@@ -3,6 +3,8 @@ use Rattle.md_engine.specs.declared.tokenizer.held_leaf.HeldLeaf.TheVariants as 
 use Rattle.md_engine.specs.declared.tokenizer.held_leaf.HeldLeaf.{HeldLeaf}
 use Rattle.markdown_blocks.specs.Registry.{LeafName, leaf}
 use Rattle.markdown_blocks.proofs.GroupsAre.{AreSpan, Begins, FirstBegins, FirstIs, IsBehind, IsSpanLine, IsUnder}
+use Rattle.markdown_blocks.proofs.GroupsAre.{Leaves, behind-fresh, behind-on, first-text, leaf-fresh, leaves-left}
+use Rattle.markdown_blocks.proofs.GroupsAre.{leaves-longer, under-leaves, unjoined-fresh}
 use Rattle.markdown_blocks.proofs.GroupsAre.{begins-behind, blank-ends, first-begins, first-behind, leaf-other}
 use Rattle.markdown_blocks.proofs.GroupsAre.{leaf-row-ends, shut-behind, text-under, turned-alone}
 use Rattle.std.proofs.Common.{◌≡◌, ◌≢◌, ℕ, Bool, true, false, cond, ◌&&◌, List, [], ◌∷◌, ◌++◌, refl, ap, sym, ◌∙◌}
@@ -149,6 +151,7 @@ record UnderLined (options : ParseOptions) (bytes : List ℕ) (P : List Name →
   front : LinePrefix bytes row.change.opens p row.first row.front
   are : AreLines options bytes row rows
   is : IsUnder options bytes (last_row row rows) under
+  leaves : Leaves options bytes row rows are
   ends : IsTrue (at_or_before under.end (behind_row under))
   kept : List Name
   keeps : Keeps names (Turned row rows under) kept
@@ -228,7 +231,9 @@ onto-holds options bytes line P by names kept p q row gs begun ended first below
       λ begins. by.group names lined.kept p (Turned row rows under) gs
           (record {
             front = lined.front;
-            leaf = turned-leaf options bytes row rows under lined.are lined.is;
+            leaf =
+                turned-leaf options bytes row rows under lined.are lined.is
+                (leaves-left options bytes row rows lined.are lined.leaves begins);
             ends = lined.ends;
           })
           lined.keeps lined.more,
@@ -317,7 +322,9 @@ onto-holds options bytes line P by names kept p q row gs begun ended first below
         go [] ended first below h = one [] (h tt)
         go (Single next ∷ gs) ended first below h = one (Single next ∷ gs) (h tt)
         go (Lines next rows ∷ gs) ended first below h = one (Lines next rows ∷ gs) (h tt)
-        go (Turned next rows under ∷ gs) ended first below h = one (Turned next rows under ∷ gs) (h tt)
+        go (Turned next rows under ∷ gs) ended first below h =
+            one (Turned next rows under ∷ gs)
+            (h (behind-fresh bytes q row next first (leaf-fresh options bytes line row l begun.is e)))
         go (Span next rows ∷ gs) ended first below h = joins (is_further next.kind next.on) refl
           where
             joins : (x : Bool) → is_further next.kind next.on ≡ x →
@@ -359,20 +366,23 @@ onto-holds options bytes line P by names kept p q row gs begun ended first below
     underline e next gs ended first below f =
         let met = first.met f in
         let is : IsSpanLine options bytes next = below.are in
+        let text = text-open options bytes row [] (line, begun.is, e) in
         let behind : IsBehind bytes ended.0 row next = record {
           front =
               subst (λ (r : Point). LinePrefix bytes next.change.opens r next.first next.front)
               (behind-is row ended.0 ended.1) below.front;
           met = first.met;
           begins = first.begins;
+          on = first.on;
+          closed = first.closed;
         } in
         turned [] next gs (record {
           front = begun.front;
           are = (line, begun.is, e);
           is =
               text-under options bytes line row ended.0 next ended.1 ended.2 behind f is
-              (further-quiet options bytes is.line next is.name is.is is.kind
-              (met.2 ∙ text-open options bytes row [] (line, begun.is, e)) f);
+              (further-quiet options bytes is.line next is.name text.0 is.is is.kind (met.2 ∙ text.1) f);
+          leaves = under-leaves options bytes line row next begun.is e is met.2 f;
           ends = below.ends;
           kept = below.kept;
           keeps = both next next below.kept met.0 met.1 below.keeps;
@@ -388,7 +398,9 @@ onto-holds options bytes line P by names kept p q row gs begun ended first below
       where
         joins : (x : Bool) → goes_on row next ≡ x →
             Both_of (cond x (Turned row (next ∷ rows) under ∷ gs) (Lines row [] ∷ Turned next rows under ∷ gs))
-        joins false k = alone e (Turned next rows under ∷ gs) (h tt)
+        joins false k =
+            alone e (Turned next rows under ∷ gs)
+            (h (unjoined-fresh bytes q row next first (first-text options bytes next rows below.are) k))
         joins true k =
             let parts = and_parts (is_none row.leaves) (is_none next.change.opens) k in
             let leaves : row.leaves ≡ [] = none-nil row.leaves parts.0 in
@@ -397,6 +409,9 @@ onto-holds options bytes line P by names kept p q row gs begun ended first below
               front = begun.front;
               are = longer e next rows gs ended opens below.front below.are;
               is = below.is;
+              leaves =
+                  leaves-longer options bytes line row next rows below.are begun.is e
+                  (behind-on bytes q row next first opens) below.leaves;
               ends = below.ends;
               kept = below.kept;
               keeps = both next under below.kept leaves opens below.keeps;
@@ -412,8 +427,8 @@ onto-holds options bytes line P by names kept p q row gs begun ended first below
         joins [] true f below h = underline e next gs ended first below f
         joins (more ∷ rows) true f below h =
             absurd
-            (turned-alone options bytes next more rows
-            ((first.met f).2 ∙ text-open options bytes row [] (line, begun.is, e)) f below.are)
+            (let text = text-open options bytes row [] (line, begun.is, e) in
+            turned-alone options bytes text.0 next more rows ((first.met f).2 ∙ text.1) f below.are)
     lines e (Lines next rows ∷ gs) ended first below h = joins (goes_on row next) refl
       where
         joins : (x : Bool) → goes_on row next ≡ x →
@@ -554,7 +569,7 @@ rows-hold options bytes P by p lines rows are =
     let hold : Hold options bytes P [] p rows = lines-hold options bytes P by [] held_leaf.None p lines rows are in
     subst (λ (l : List Name). P l p (groups rows))
     (none-left (open_names (closes_before [] rows)) hold.names hold.left)
-    (hold.holds (first-begins options bytes [] held_leaf.None p lines rows refl are))
+    (hold.holds (first-begins options bytes [] held_leaf.None p lines rows (refl, refl) are))
 
 -- The events of a text.
 

@@ -6,7 +6,7 @@ use Rattle.md_engine.specs.declared.configuration.ParseOptions.{ParseOptions}
 use Rattle.md_engine.specs.declared.tokenizer.held_leaf.HeldLeaf.{HeldLeaf}
 use Rattle.md_definition.specs.Leaves.{Came, Finished, goes_on}
 use Rattle.md_definition.specs.Rest.{Rest, is_blank}
-use Rattle.md_definition.specs.State.{Kept, Leaf, NoLeaf, texts, then_leaf}
+use Rattle.md_definition.specs.State.{Kept, Leaf, NoLeaf, cut, texts, then_leaf}
 use Rattle.md_definition.specs.Step.{came, is_concrete}
 use Rattle.md_definition.specs.Tree.{Blocks}
 use Rattle.md_outline.specs.HeadingDepths.{are_shallow, is_shallow}
@@ -45,12 +45,13 @@ pub record Begun (l : LeafName) (options : ParseOptions) (on : HeldLeaf) (r : Re
   pub built : IsBuiltLeaf (left_by ((leaf l).comes options NoLeaf r))
   pub shallow : ComesShallow ((leaf l).comes options NoLeaf r)
 
--- A line that goes on text: it turns all of the text into one block.
+-- A line that goes on text: it turns the lines that remain behind the definitions at the front of the text into one
+-- block.
 pub record TurnsText (l : LeafName) : Type 0 where
   pub ends : (leaf l).ends ≡ false
   pub same : further_of l ≡ l
   pub comes : (options : ParseOptions) (lines : List Kept) (r : Rest) →
-      (leaf l).comes options (text_leaf.held lines) r ≡ Finished (turn_leaf.block (texts lines) r)
+      (leaf l).comes options (text_leaf.held lines) r ≡ Finished (turn_leaf.block (cut options (texts lines)).1 r)
   -- something stands on it, and an outline can show the block
   pub filled : (options : ParseOptions) (on : HeldLeaf) (r : Rest) → (leaf l).starts options on r ≡ true →
       is_blank r.bytes ≡ false

@@ -102,7 +102,7 @@ content-are : (options : ParseOptions) (bytes : List ℕ) → IsBuilt options �
     flow.content ≡ unread_groups options bytes (groups (rows_of options bytes))
 content-are options bytes built small found new flow =
     content-read options bytes [] held_leaf.None (body_point bytes) (lines_of bytes) (rows_of options bytes)
-    refl (text-are options bytes built small) (text-quiet options bytes (body_point bytes))
+    (refl, refl) (text-are options bytes built small) (text-quiet options bytes (body_point bytes))
     wants_content (content_readings bytes options) refl content-alone
     (content-reads options bytes) flow.content flow.content_read
 
@@ -117,7 +117,7 @@ resolved-are options bytes built small found new flow =
     (content-are options bytes built small found new flow)
     ∙ ap (listed bytes)
     (lines-joined options bytes [] held_leaf.None (body_point bytes) (lines_of bytes) (rows_of options bytes)
-    refl (text-are options bytes built small) (text-quiet options bytes (body_point bytes)) built.apart)
+    (refl, refl) (text-are options bytes built small) (text-quiet options bytes (body_point bytes)))
 
 -- The labels that content found are those of the tree.
 labels-are : (options : ParseOptions) (bytes : List ℕ) → IsBuilt options → length bytes < 2 ^ 61 →
@@ -130,8 +130,8 @@ labels-are options bytes built small found new flow =
     let are : AreRows options bytes [] held_leaf.None p lines rows = text-are options bytes built small in
     flow.definitions
     ∙ ap (labels_in bytes) (content-are options bytes built small found new flow)
-    ∙ rows-labels options bytes (groups rows) built.apart
-    (groups-are options bytes [] held_leaf.None p lines rows refl are (text-quiet options bytes p))
+    ∙ rows-labels options bytes (groups rows)
+    (groups-are options bytes [] held_leaf.None p lines rows (refl, refl) are (text-quiet options bytes p))
     (rows-outer options bytes p lines rows built are)
     ∙ ap defined_in (body-rows options built bytes rows are)
     ∙ sym (grouped-defined (body_of options bytes))
@@ -152,10 +152,10 @@ events-are options bytes built small found new flow wants reads wanted strings t
     let quiet : EachNoContent rows = text-quiet options bytes p in
     listed-read wants reads bytes (mark_events bytes) (listed_groups options bytes (groups rows))
     (groups_events options bytes (groups rows)) events
-    (blocks-chunks options bytes [] held_leaf.None p lines rows refl are quiet)
+    (blocks-chunks options bytes [] held_leaf.None p lines rows (refl, refl) are quiet)
     (text-filled options bytes p lines are).read
     (λ read s.
-    text-read options bytes [] held_leaf.None p lines rows refl are quiet wants reads wanted strings text string read s)
+    text-read options bytes [] held_leaf.None p lines rows (refl, refl) are quiet wants reads wanted strings text string read s)
     (subst (λ (l : List Event). Substituted wants reads [] 0 l events)
     (resolved-are options bytes built small found new flow) substituted)
 
@@ -177,7 +177,7 @@ read-listed options bytes built small =
     ap (listed bytes) (text-filled options bytes p lines are).read
     ∙ sym
     (listed-plain bytes bytes (blocks_of options bytes)
-    (blocks-chunks options bytes [] held_leaf.None p lines rows refl are (text-quiet options bytes p)))
+    (blocks-chunks options bytes [] held_leaf.None p lines rows (refl, refl) are (text-quiet options bytes p)))
 
 -- The blocks of a text, in front of the resolver of lists.
 blocks-unlisted : (options : ParseOptions) (bytes : List ℕ) → IsBuilt options → length bytes < 2 ^ 61 →
@@ -191,8 +191,8 @@ blocks-unlisted options bytes built small placed =
       nested = blocks-nested options bytes lines rows are;
       items = blocks-held options bytes lines rows are;
       placed = placed;
-      lines = blocks-stand options bytes [] held_leaf.None p lines rows refl are (text-quiet options bytes p);
-      chunks = blocks-chunks options bytes [] held_leaf.None p lines rows refl are (text-quiet options bytes p);
+      lines = blocks-stand options bytes [] held_leaf.None p lines rows (refl, refl) are (text-quiet options bytes p);
+      chunks = blocks-chunks options bytes [] held_leaf.None p lines rows (refl, refl) are (text-quiet options bytes p);
       grammar = blocks-grammar options bytes lines rows are (text-quiet options bytes p);
       pieces_are = blocks-pieces options bytes lines rows are;
       endings = blocks-endings options bytes lines rows are (text-quiet options bytes p);

@@ -4,12 +4,14 @@ use Rattle.std.proofs.Common.{◌≡◌, ◌<◌, Bool, true, false, cond, ◌&&
 use Rattle.std.proofs.Common.{ap₂, ℕ, subst, append-nil, arith}
 use Rattle.std.specs.Prelude.{◌==◌}
 use Rattle.std.specs.Option.{is_some}
+use Rattle.md_engine.specs.Progress.{is_whole}
 use Rattle.md_engine.specs.declared.tokenizer.held_leaf.HeldLeaf.TheVariants as held_leaf
+use Rattle.md_engine.specs.declared.tokenizer.held_leaf.Progress.{Progress}
 use Rattle.markdown_blocks.specs.Registry.{IsOpenSpan, insider, shuts_out}
 use Rattle.md_engine.specs.declared.tokenizer.held_leaf.HeldLeaf.{HeldLeaf}
 use Rattle.std.specs.Option.{option_or}
 use Rattle.std.specs.Prelude.{Option, Some, None, nat_le, not}
-use Rattle.std.proofs.lemmas.Bool.{and_parts}
+use Rattle.std.proofs.lemmas.Bool.{and_parts, and_right}
 use Rattle.std.proofs.lemmas.Bool.Decides.{nat_tests}
 use Rattle.md_engine.specs.declared.configuration.ParseOptions.{ParseOptions}
 use Rattle.md_engine.specs.declared.event.Event.{Event}
@@ -50,7 +52,7 @@ use Rattle.md_seam.specs.Ahead.{HasWhite}
 use Rattle.md_seam.specs.Spaces.{rest_ready}
 use Rattle.md_definition.specs.Containers.{Taken, opens, opens_footnote, opens_item, opens_quote}
 use Rattle.md_definition.specs.Leaves.{Came, Finished, Opened, ParagraphContext, break_at, closes, code_at, fence_at}
-use Rattle.md_definition.specs.Leaves.{fence_goes_on, heading_at, html_at, html_line, is_free, is_rule}
+use Rattle.md_definition.specs.Leaves.{fence_goes_on, heading_at, html_at, html_line, is_free, is_rule, underline_depth}
 use Rattle.md_leaves.specs.HeadingRule.{is_heading}
 use Rattle.md_lines.specs.Code.{may_open}
 use Rattle.md_definition.specs.Rest.{Rest, has_small_indent, indent, is_blank, line_of, lose, trim_start}
@@ -59,7 +61,7 @@ use Rattle.md_definition.specs.State.{fence_block, without_trailing_blank}
 use Rattle.md_definition.specs.Ascii.{equals_sign}
 use Rattle.md_definition.specs.Texts.{first_byte}
 use Rattle.md_definition.specs.Tree.{Break, Code, Heading, Html, Line}
-use Rattle.md_leaves.specs.HeadingSetext.{is_text}
+use Rattle.md_leaves.specs.HeadingSetext.{is_text, may_turn, turns_nothing}
 use Rattle.md_leaves.specs.HeadingSetextRule.{is_underline}
 use Rattle.md_outline.specs.HeadingDepths.{is_shallow}
 use Rattle.md_outline.proofs.TextCuts.{trim-blank}
@@ -77,7 +79,7 @@ use Rattle.markdown_blocks.specs.Leaf.Fence.{fence_leaf, opening_at}
 use Rattle.markdown_blocks.specs.Leaf.FenceFurther.{fence_further, is_fence, opening_of}
 use Rattle.markdown_blocks.specs.Leaf.HeadingAtx.{heading_leaf}
 use Rattle.markdown_blocks.specs.Leaf.HeadingSetext.{setext_leaf}
-use Rattle.markdown_blocks.specs.Leaf.ThematicBreak.{break_leaf}
+use Rattle.markdown_blocks.specs.Leaf.ThematicBreak.{break_leaf, is_ruled}
 use Rattle.markdown_blocks.specs.Parsed.{IsBuilt}
 use Rattle.markdown_blocks.specs.Registry.{CodeFurther, CodeIndented, Fence, FenceFurther, HeadingAtx, HeadingSetext}
 use Rattle.markdown_blocks.specs.Registry.{HtmlFlow}
@@ -122,7 +124,7 @@ use Rattle.markdown_blocks.proofs.HeadingAtx.Found.{heading-found, heading-shall
 use Rattle.markdown_blocks.proofs.HeadingAtx.Laws.{heading-laws}
 use Rattle.markdown_blocks.proofs.HeadingAtx.Outside.{front-heading}
 use Rattle.markdown_blocks.proofs.HeadingAtx.Registers.{heading-registers}
-use Rattle.markdown_blocks.proofs.HeadingSetext.Found.{StartsNone, setext-first}
+use Rattle.markdown_blocks.proofs.HeadingSetext.Found.{StartsNone, is_underlined, setext-first, some-underlined, starts-by, underlined-first}
 use Rattle.markdown_blocks.proofs.HeadingSetext.Kinds.{setext-starts}
 use Rattle.markdown_blocks.proofs.HeadingSetext.Laws.{setext-laws}
 use Rattle.markdown_blocks.proofs.HeadingSetext.Registers.{setext-registers}
@@ -173,8 +175,8 @@ IsAgainst against on = against ≡ context_of on
 -- so indented code may begin by both, or by neither
 free-open : (on : HeldLeaf) → may_open on ≡ is_free (context_of on)
 free-open held_leaf.None = refl
-free-open held_leaf.Text = refl
-free-open held_leaf.LazyText = refl
+free-open (held_leaf.Text at) = refl
+free-open (held_leaf.LazyText at) = refl
 free-open held_leaf.Code = refl
 free-open (held_leaf.Fence m size indent) = refl
 free-open (held_leaf.Html kind) = refl
@@ -204,13 +206,13 @@ setext-turns = record {
     shallow true lines = refl
     shallow false lines = refl
 
-pub text-turns : (l : LeafName) → (leaf l).further held_leaf.Text ≡ true → TurnsText l
-text-turns l e = subst TurnsText (sym (further-text l e)) setext-turns
+pub text-turns : (at : Progress) (l : LeafName) → (leaf l).further (held_leaf.Text at) ≡ true → TurnsText l
+text-turns at l e = subst TurnsText (sym (further-text at l e)) setext-turns
 
 -- where one starts, no leaf does that is tried before it
-pub setext-taken : (options : ParseOptions) (r : Rest) → setext_leaf.starts options held_leaf.Text r ≡ true →
-    leaf_at options held_leaf.Text r ≡ Some HeadingSetext
-setext-taken options r starts =
+pub setext-taken : (options : ParseOptions) (on : HeldLeaf) (r : Rest) → setext_leaf.starts options on r ≡ true →
+    leaf_at options on r ≡ Some HeadingSetext
+setext-taken options on r starts =
     ap₂
     (λ (c x : Bool).
     to c x (html_leaf.starts options on r) (heading_leaf.starts options on r) (setext_leaf.starts options on r))
@@ -218,9 +220,6 @@ setext-taken options r starts =
     ∙ ap₂ (λ (h y : Bool). to false false h y (setext_leaf.starts options on r)) none.html none.heading
     ∙ ap (to false false false false) starts
   where
-    on : HeldLeaf
-    on = held_leaf.Text
-
     none : StartsNone options on r
     none = setext-first options on r starts
 
@@ -232,19 +231,64 @@ setext-taken options r starts =
         (cond y (Some HeadingAtx)
         (cond s (Some HeadingSetext) (cond (break_leaf.starts options on r) (Some ThematicBreak) None)))))
 
+-- where one stands that has nothing to turn none starts at all
+pub lost-none : (options : ParseOptions) (at : Progress) (r : Rest) (depth : ℕ) →
+    may_turn options (held_leaf.Text at) ≡ false → underline_depth options r ≡ Some depth →
+    leaf_at options (held_leaf.Text at) r ≡ None
+lost-none options at r depth may some =
+    ap₂
+    (λ (c x : Bool).
+    to c x (html_leaf.starts options on r) (heading_leaf.starts options on r) (setext_leaf.starts options on r)
+    (break_leaf.starts options on r)) none.code none.fence
+    ∙ ap₂
+    (λ (h y : Bool). to false false h y (setext_leaf.starts options on r) (break_leaf.starts options on r)) none.html
+    none.heading
+    ∙ ap₂ (to false false false false) (starts-by options on r false may) lost
+  where
+    on : HeldLeaf
+    on = held_leaf.Text at
+
+    is : is_underlined options r ≡ true
+    is = some-underlined options r depth some
+
+    none : StartsNone options on r
+    none = underlined-first options on r refl is
+
+    lost : break_leaf.starts options on r ≡ false
+    lost =
+        and_right (is_ruled options r) (not (turns_nothing options on && is_underline (trim_start r.bytes)))
+        (go options.constructs.heading_setext (has_small_indent options r) (is_underline (trim_start r.bytes))
+        (options.constructs.definition && is_whole at) is may)
+      where
+        go : (x s u w : Bool) → (x && s && u) ≡ true → not w ≡ false → not ((x && w) && u) ≡ false
+        go true true true true e k = refl
+        go true true true false e k = cc
+        go true true false w e k = cc
+        go true false u w e k = cc
+        go false s u w e k = cc
+
+    to : Bool → Bool → Bool → Bool → Bool → Bool → Option LeafName
+    to c x h y s z =
+        cond c (Some CodeIndented)
+        (cond x (Some Fence)
+        (cond h (Some HtmlFlow)
+        (cond y (Some HeadingAtx) (cond s (Some HeadingSetext) (cond z (Some ThematicBreak) None)))))
+
 -- where none does, of the leaves of the line definition these alone are built, in this order
 pub leaves-found : (options : ParseOptions) (on : HeldLeaf) (against : ParagraphContext) (r : Rest) →
-    IsAgainst against on → setext_leaf.starts options on r ≡ false → is_blank r.bytes ≡ false →
+    IsAgainst against on → setext_leaf.starts options on r ≡ false →
+    (has_small_indent options r && turns_nothing options on && is_underline (trim_start r.bytes)) ≡ false →
+    is_blank r.bytes ≡ false →
     option_or (code_at options against r)
     (option_or (fence_at options r)
     (option_or (html_at options against r) (option_or (heading_at options r) (break_at options r)))) ≡
     came_of options r (leaf_at options on r)
-leaves-found options on against r same unturned dark =
+leaves-found options on against r same unturned no_underline dark =
     ap₂ (λ (x y : Option Came). option_or x y)
     (code-found options on against r (free-open on ∙ sym (ap is_free same)) dark)
     (ap₂ (λ (x y : Option Came). option_or x y) (fence-found options r)
     (ap₂ (λ (x y : Option Came). option_or x y) (html-found options on against r same)
-    (ap₂ (λ (x y : Option Came). option_or x y) (heading-found options r) (break-found options r))))
+    (ap₂ (λ (x y : Option Came). option_or x y) (heading-found options r) (break-found options on r no_underline))))
     ∙ go (code_leaf.starts options on r) (fence_leaf.starts options on r) (html_leaf.starts options on r)
     (heading_leaf.starts options on r) (break_leaf.starts options on r)
     ∙ ap
@@ -287,9 +331,9 @@ unfolding fence_at
 fence-none options r far = rw far refl
 
 -- So one that starts where a line is lazy for text starts where none is open.
-pub text-starts : (options : ParseOptions) (r : Rest) (l : LeafName) → leaf_at options held_leaf.LazyText r ≡ Some l →
-    leaf_at options held_leaf.None r ≡ Some l
-text-starts options r l found = go (code_leaf.starts options held_leaf.None r) refl
+pub text-starts : (options : ParseOptions) (at : Progress) (r : Rest) (l : LeafName) →
+    leaf_at options (held_leaf.LazyText at) r ≡ Some l → leaf_at options held_leaf.None r ≡ Some l
+text-starts options at r l found = go (code_leaf.starts options held_leaf.None r) refl
   where
     Others : Bool → Bool → Bool → Bool → Option LeafName
     Others x h y z =
@@ -310,9 +354,9 @@ text-starts options r l found = go (code_leaf.starts options held_leaf.None r) r
     text =
         ap (λ (h : Bool). Others (fence_leaf.starts options held_leaf.None r) h
         (heading_leaf.starts options held_leaf.None r) (break_leaf.starts options held_leaf.None r))
-        (sym (html-lazy options r))
+        (sym (html-lazy options at r))
         ∙ ap (λ (c : Bool). cond c (Some CodeIndented)
-        (Others (fence_leaf.starts options held_leaf.None r) (html_leaf.starts options held_leaf.LazyText r)
+        (Others (fence_leaf.starts options held_leaf.None r) (html_leaf.starts options (held_leaf.LazyText at) r)
         (heading_leaf.starts options held_leaf.None r) (break_leaf.starts options held_leaf.None r)))
         (sym (off options.constructs.code_indented (nat_le 4 (indent r)) (not (is_blank r.bytes)))) ∙ found
 
@@ -327,8 +371,9 @@ text-starts options r l found = go (code_leaf.starts options held_leaf.None r) r
         (ap (λ (s : Bool). options.constructs.heading_atx && s && is_heading (trim_start r.bytes)) far
         ∙ small options.constructs.heading_atx (is_heading (trim_start r.bytes)))
         ∙ ap (Others false false false)
-        (ap (λ (s : Bool). options.constructs.thematic_break && s && is_rule (trim_start r.bytes)) far
-        ∙ small options.constructs.thematic_break (is_rule (trim_start r.bytes)))
+        (ap
+        (λ (s : Bool). (options.constructs.thematic_break && s && is_rule (trim_start r.bytes)) && true) far
+        ∙ ap (λ (x : Bool). x && true) (small options.constructs.thematic_break (is_rule (trim_start r.bytes))))
 
     go : (c : Bool) → code_leaf.starts options held_leaf.None r ≡ c → cond c (Some CodeIndented) others ≡ Some l
     go false e = text
@@ -408,7 +453,7 @@ trials-begin =
     (λ on h. refl, (λ on h. refl, (λ on h. refl, (λ on h. refl, (setext-lines, (λ on h. refl, tt))))))
   where
     setext-lines : (on : HeldLeaf) → has_lines on ≡ true → is_text on ≡ false
-    setext-lines held_leaf.Text h = cc
+    setext-lines (held_leaf.Text at) h = cc
     setext-lines _ h = refl
 
 -- behind a line of a fence no other leaf of several lines is open,
@@ -457,7 +502,7 @@ fence-none_html = (refl, λ kind. refl)
 
 -- and text is open behind no line of a leaf: a line might go on it lazily
 text-lazy : (on : HeldLeaf) → is_text on ≡ true → takes_lazy on ≡ true
-text-lazy held_leaf.Text e = refl
+text-lazy (held_leaf.Text at) e = refl
 text-lazy _ e = cc
 
 -- a line that goes on what a line of one has left is one of the leaf that takes its further lines
@@ -667,8 +712,8 @@ leaf-states ThematicBreak =
 pub insider-none : (on : HeldLeaf) → has_lines on ≡ false → insider on ≡ None
 unfolding insider
 insider-none held_leaf.None e = refl
-insider-none held_leaf.Text e = refl
-insider-none held_leaf.LazyText e = refl
+insider-none (held_leaf.Text at) e = refl
+insider-none (held_leaf.LazyText at) e = refl
 insider-none held_leaf.Code e = cc
 insider-none (held_leaf.Fence m size indent) e = cc
 insider-none (held_leaf.Html kind) e = cc
@@ -677,8 +722,8 @@ insider-none (held_leaf.Html kind) e = cc
 pub shuts_out-none : (on : HeldLeaf) → has_lines on ≡ false → shuts_out on ≡ false
 unfolding shuts_out
 shuts_out-none held_leaf.None e = refl
-shuts_out-none held_leaf.Text e = refl
-shuts_out-none held_leaf.LazyText e = refl
+shuts_out-none (held_leaf.Text at) e = refl
+shuts_out-none (held_leaf.LazyText at) e = refl
 shuts_out-none held_leaf.Code e = cc
 shuts_out-none (held_leaf.Fence m size indent) e = cc
 shuts_out-none (held_leaf.Html kind) e = cc

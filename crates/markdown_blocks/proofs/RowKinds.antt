@@ -7,6 +7,7 @@ use Rattle.md_engine.specs.declared.tokenizer.held_leaf.HeldLeaf.{HeldLeaf}
 use Rattle.md_engine.specs.declared.tokenizer.Line.{Line}
 use Rattle.md_engine.specs.Meaning.{Cell}
 use Rattle.md_definition.specs.Rest.{Rest}
+use Rattle.md_parts.specs.Progress.{text_behind}
 use Rattle.md_seam.proofs.FeedLines.{Stops}
 use Rattle.md_seam.proofs.RestCells.{RestAt, rest_cells}
 use Rattle.md_definition.proofs.TextsLemmas.{NoEnding}
@@ -17,6 +18,7 @@ use Rattle.markdown_blocks.specs.Rows.{line_behind, line_kind, row_kind}
 use Rattle.markdown_blocks.proofs.KindLemmas.{first-agrees, inside-agrees, kind-blank, kind-starts}
 use Rattle.markdown_blocks.proofs.Registry.{laws}
 use Rattle.markdown_blocks.proofs.RestRows.{rest-blank, rest-blank_events}
+use Rattle.markdown_blocks.proofs.TextBehind.{whole-rest}
 
 -- what a line is by its cells, it is by its rest
 pub kind-rest : (options : ParseOptions) (on : HeldLeaf) (said : Line) (text behind : List ℕ) (r : Rest) (p : Point)
@@ -63,4 +65,5 @@ pub behind-rest : (options : ParseOptions) (on : HeldLeaf) (said : Line) (text b
 behind-rest options on said text behind r p stop BlankRow is none k short same = refl
 behind-rest options on said text behind r p stop (LeafRow l) is none k short same =
     (laws l).keeps_is options on said text behind r p stop is none k short (kind-starts options on r l (sym same))
-behind-rest options on said text behind r p stop TextRow is none k short same = refl
+behind-rest options on said text behind r p stop TextRow is none k short same =
+    ap (text_behind on) (whole-rest said r p stop none is.cut (let column = is.column in omega (arith, column)) k)

@@ -23,23 +23,22 @@ use Rattle.md_seam.specs.Events.Blocks.{is_block}
 use Rattle.md_seam.specs.Events.Nested.{around, exit, is_enter, pair}
 use Rattle.md_seam.specs.Events.Prefix.{is_prefix}
 use Rattle.md_seam.specs.Events.Spelled.{role}
-use Rattle.markdown_blocks.specs.BlockList.{lines_unread}
+use Rattle.markdown_blocks.specs.BlockList.{heading_unread, lines_unread, turned_unread}
 use Rattle.markdown_blocks.specs.Change.{ends_of}
 use Rattle.markdown_blocks.specs.FlowReads.{lines_joined}
-use Rattle.markdown_blocks.specs.HeldLeaf.{may_go_on}
 use Rattle.markdown_blocks.specs.LineFlags.{ending_name}
 use Rattle.markdown_blocks.specs.Registry.{LeafName, further_of, leaf, resolved, text_leaf, turn_leaf, joins_lines}
 use Rattle.markdown_blocks.specs.Rows.{BlankRow, Group, LeafRow, Lines, Row, RowKind, Single, Span, TextRow, Turned}
 use Rattle.markdown_blocks.specs.Rows.{but_end, but_ends, end_of, ending_events, ending_of, groups, last_row}
-use Rattle.markdown_blocks.specs.Rows.{any_framed, blank_line, is_framed, leaf_events, span_behind, turned_by}
+use Rattle.markdown_blocks.specs.Rows.{any_framed, blank_line, is_framed, leaf_events, span_behind}
 use Rattle.markdown_blocks.specs.Rows.{leaf_unread, row_events, rows_events, span_by, span_rest, tail_events}
-use Rattle.markdown_blocks.specs.Rows.{is_blank_by, text_done}
+use Rattle.markdown_blocks.specs.Rows.{defined_unread, is_blank_by, text_done, turned_done}
 use Rattle.markdown_blocks.specs.Unread.{linked_lines, listed_group, listed_groups, listed_row_by, text_unread}
 use Rattle.markdown_blocks.specs.Unread.{turned_groups, unread_groups, unread_lines}
-use Rattle.markdown_blocks.proofs.EachEvent.{each-append}
+use Rattle.markdown_blocks.proofs.EachEvent.{each-append, each-as}
 use Rattle.markdown_blocks.proofs.FrontNames.{HasFront, ends-are, fronts-are, fronts-prefixes}
 use Rattle.markdown_blocks.proofs.GroupLemmas.{AreGroups, AreSpan, IsSingle, groups-are, lines-prefixed}
-use Rattle.markdown_blocks.proofs.GroupsAre.{AreLines, Begins, IsSpanLine, IsUnder, behind-first, line-further, line-of}
+use Rattle.markdown_blocks.proofs.GroupsAre.{AreLines, Begins, IsLeft, IsSpanLine, IsUnder, behind-first, line-further, line-of}
 use Rattle.markdown_blocks.proofs.GroupsAre.{span-begins}
 use Rattle.markdown_blocks.proofs.JoinedLemmas.{EachNoContent}
 use Rattle.markdown_blocks.proofs.KindLemmas.{kind-starts}
@@ -52,8 +51,12 @@ use Rattle.markdown_blocks.proofs.SpanLaws.{AreBehind, IsBare, IsLineOf, IsNone,
 use Rattle.markdown_blocks.proofs.SpannedFacts.{AreUnspanned, IsUnspanned, fronts-unspanned, unspanned-lines}
 use Rattle.markdown_blocks.proofs.SpannedFacts.{unspanned-pass}
 use Rattle.markdown_blocks.proofs.SubstitutedLemmas.{EachPrefixed}
+use Rattle.markdown_blocks.proofs.Text.Cut.{between}
 use Rattle.markdown_blocks.proofs.Text.Cuts.{cut-is}
-use Rattle.markdown_blocks.proofs.Text.Names.{cut-each, unspanned-of}
+use Rattle.markdown_blocks.proofs.Text.Names.{IsOfDefinition, between-names, cut-each, defined-names, unspanned-of}
+use Rattle.markdown_blocks.proofs.Turned.Cut.{IsCutHeading, heading-cut, left-remains}
+use Rattle.markdown_blocks.proofs.Turned.Cut.{IsCutHeading as cut_heading}
+use Rattle.markdown_blocks.proofs.TextProgress.{IsShut}
 use Rattle.markdown_blocks.proofs.TurnedGroups.{headings-set}
 use Rattle.markdown_blocks.proofs.Underlines.{under-unspanned}
 
@@ -604,30 +607,25 @@ text-unspanned options bytes row rows are front =
     (text_unread options bytes row rows) (text_done options bytes row rows) (cut-is options bytes row rows are)))
     (tail-unspanned TextRow last)
 
--- the text that an underline turns, with it
-turned-unspanned : (options : ParseOptions) (bytes : List ℕ) (row : Row) (rows : List Row) (under : Row) →
-    AreLines options bytes row rows → IsUnder options bytes (last_row row rows) under → HasFront bytes row →
-    AreUnspanned (listed_group options bytes (Turned row rows under))
-turned-unspanned options bytes row rows under are is front =
-    each-append IsUnspanned (row.front ++ turned_by (unread_lines row rows) row rows under)
-    (tail_events (ending_of under.kind under) under)
-    (each-append IsUnspanned row.front (turned_by (unread_lines row rows) row rows under)
-    (front-unspanned bytes row front) (
-      refl,
-      each-append IsUnspanned (begun ++ under.inside) (exit turn_leaf.name under.end ∷ [])
-          (each-append IsUnspanned begun under.inside
-          (each-append IsUnspanned (text ++ ending_events n.LineEnding last) under.front
-          (each-append IsUnspanned text (ending_events n.LineEnding last) (
-            refl,
-            each-append IsUnspanned (unread_lines row rows) (exit turn_leaf.text last.end ∷ [])
-                (linked-unspanned text_leaf.link row rows (lines-prefixed options bytes row rows are)) (refl, tt),
-          )
-          (ending-unspanned n.LineEnding last (ending-name TextRow last)))
-          (prefixes-unspanned under.front (fronts-prefixes bytes [] is.after under.first under.front refl is.front)))
-          (under-unspanned options bytes row rows under are is))
-          (refl, tt),
-    ))
-    (tail-unspanned under.kind under)
+-- the lines that an underline turns, with it
+heading-unspanned : (options : ParseOptions) (bytes : List ℕ) (row : Row) (rows : List Row) (under : Row) →
+    AreLines options bytes row rows → IsUnder options bytes (last_row row rows) under →
+    AreUnspanned (heading_unread under row rows)
+heading-unspanned options bytes row rows under are is = (
+  refl,
+  each-append IsUnspanned (begun ++ under.inside) (exit turn_leaf.name under.end ∷ [])
+      (each-append IsUnspanned begun under.inside
+      (each-append IsUnspanned (text ++ ending_events n.LineEnding last) under.front
+      (each-append IsUnspanned text (ending_events n.LineEnding last) (
+        refl,
+        each-append IsUnspanned (unread_lines row rows) (exit turn_leaf.text last.end ∷ [])
+            (linked-unspanned text_leaf.link row rows (lines-prefixed options bytes row rows are)) (refl, tt),
+      )
+      (ending-unspanned n.LineEnding last (ending-name TextRow last)))
+      (prefixes-unspanned under.front (fronts-prefixes bytes [] is.after under.first under.front refl is.front)))
+      (under-unspanned options bytes row rows under are is))
+      (refl, tt),
+)
   where
     last : Row
     last = last_row row rows
@@ -637,6 +635,37 @@ turned-unspanned options bytes row rows under are is front =
 
     begun : List Event
     begun = text ++ ending_events n.LineEnding last ++ under.front
+
+-- and the text with them, definitions and all
+headed-unspanned : (options : ParseOptions) (bytes : List ℕ) (under row : Row) (rows : List Row)
+    (before behind done : List Event) → IsCutHeading options bytes under row rows before behind done →
+    AreUnspanned behind
+headed-unspanned options bytes under row rows before behind done (cut_heading.Turned first below are is) =
+    heading-unspanned options bytes first below under are is
+headed-unspanned options bytes under row rows before behind done
+    (cut_heading.Follows d first own next below q left turns read are is after ending front rest) =
+    let own_events : List Event = defined_unread d first own in
+    let gap : List Event = between (last_row first own).end q next.front in
+    each-append IsUnspanned (own_events ++ gap) turns
+    (each-append IsUnspanned own_events gap
+    (each-as IsOfDefinition IsUnspanned unspanned-of own_events (defined-names bytes d first own is))
+    (each-as IsOfDefinition IsUnspanned unspanned-of gap
+    (between-names bytes (last_row first own).end q next.first next.front front)))
+    (headed-unspanned options bytes under next below left turns read rest)
+
+-- with what stands in front of it, and behind it
+turned-unspanned : (options : ParseOptions) (bytes : List ℕ) (row : Row) (rows : List Row) (under : Row) →
+    (are : AreLines options bytes row rows) → IsUnder options bytes (last_row row rows) under →
+    IsLeft options bytes row rows are → HasFront bytes row →
+    AreUnspanned (listed_group options bytes (Turned row rows under))
+turned-unspanned options bytes row rows under are is left front =
+    let heading : List Event = turned_unread options bytes row rows under in
+    each-append IsUnspanned (row.front ++ heading) (tail_events (ending_of under.kind under) under)
+    (each-append IsUnspanned row.front heading (front-unspanned bytes row front)
+    (headed-unspanned options bytes under row rows (text_unread options bytes row rows) heading
+    (turned_done options bytes row rows under)
+    (heading-cut options bytes row rows under are is (left-remains options bytes row rows are left))))
+    (tail-unspanned under.kind under)
 
 -- Groups.
 
@@ -656,7 +685,7 @@ groups-ahead options bytes (Lines row rows ∷ gs) are =
 groups-ahead options bytes (Turned row rows under ∷ gs) are =
     plain-ahead (listed_group options bytes (Turned row rows under)) (turned_groups options bytes gs)
     (unspanned-lines (listed_group options bytes (Turned row rows under))
-    (turned-unspanned options bytes row rows under are.0 are.1 are.3))
+    (turned-unspanned options bytes row rows under are.0 are.1 are.5 are.3))
     (groups-ahead options bytes gs are.4)
 groups-ahead options bytes (Span row rows ∷ gs) are =
     let of_leaf : AreOfLeaf options bytes row rows = span-leaf options bytes row rows are.0 are.4 in
@@ -684,7 +713,7 @@ groups-joined options bytes (Lines row rows ∷ gs) are =
     ∙ ap (λ (l : List Event). listed_group options bytes (Lines row rows) ++ l) (groups-joined options bytes gs are.3)
 groups-joined options bytes (Turned row rows under ∷ gs) are =
     passed (listed_group options bytes (Turned row rows under)) (turned_groups options bytes gs)
-    (turned-unspanned options bytes row rows under are.0 are.1 are.3)
+    (turned-unspanned options bytes row rows under are.0 are.1 are.5 are.3)
     ∙ ap (λ (l : List Event). listed_group options bytes (Turned row rows under) ++ l)
     (groups-joined options bytes gs are.4)
 groups-joined options bytes (Span row rows ∷ gs) are =
@@ -713,12 +742,11 @@ groups-apart options bytes (Span row rows ∷ gs) none are =
 -- The resolvers of leaves have run, setext headings are set, and the lines of each leaf of several are joined.
 pub lines-joined : (options : ParseOptions) (bytes : List ℕ) (open_before : List Container) (still : HeldLeaf)
     (p : Point) (lines : List (List ℕ)) (rows : List Row) →
-    may_go_on still ≡ false → AreRows options bytes open_before still p lines rows → EachNoContent rows →
-    (options.constructs.definition && options.constructs.heading_setext) ≡ false →
+    IsShut still → AreRows options bytes open_before still p lines rows → EachNoContent rows →
     lines_joined options (turned (resolved (unread_groups options bytes (groups rows)))) ≡
     listed_groups options bytes (groups rows)
-lines-joined options bytes open_before still p lines rows shut are quiet apart =
-    ap (lines_joined options) (headings-set options bytes open_before still p lines rows shut are quiet apart)
+lines-joined options bytes open_before still p lines rows shut are quiet =
+    ap (lines_joined options) (headings-set options bytes open_before still p lines rows shut are quiet)
     ∙ go (joins_lines options) refl
   where
     gs : List Group

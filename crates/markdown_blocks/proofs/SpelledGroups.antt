@@ -1,5 +1,6 @@
 -- What the lines of a leaf are read as, with what follows them: a line that is no text, the lines of a text, with the
 -- one that turns it if one does, and those of a leaf of several.
+use Rattle.md_engine.specs.Progress.{is_whole}
 use Rattle.md_engine.specs.declared.tokenizer.held_leaf.HeldLeaf.{HeldLeaf}
 use Rattle.md_engine.specs.declared.tokenizer.held_leaf.HeldLeaf.TheVariants as held_leaf
 use Rattle.std.proofs.Common.{append_assoc, arith, map}
@@ -7,20 +8,24 @@ use Rattle.std.proofs.Common.{◌≡◌, ◌≢◌, ℕ, ◌<◌, Bool, true, fa
 use Rattle.std.proofs.lemmas.Bool.Decides.{nat_tests}
 use Rattle.std.specs.Prelude.{nat_lt}
 use Rattle.md_definition.specs.Leaves.{Finished, Opened}
-use Rattle.markdown_blocks.specs.HeldLeaf.{kind_of_leaf, left_by, may_go_on}
+use Rattle.markdown_blocks.proofs.TextProgress.{setext-may, turn-left}
+use Rattle.markdown_blocks.proofs.UnderNames.{further-text}
+use Rattle.markdown_blocks.specs.HeldLeaf.{kind_of_leaf, left_by, may_go_on, takes_lazy}
+use Rattle.markdown_blocks.specs.Leaf.Paragraph.{then_front}
 use Rattle.markdown_blocks.specs.Registry.{further_of}
 use Rattle.markdown_blocks.specs.LineFlags.{ending_name}
 use Rattle.markdown_blocks.specs.Rows.{is_blank_row}
 use Rattle.markdown_blocks.specs.Rows.{is_further, onto_span, span_done}
-use Rattle.markdown_blocks.proofs.GroupsAre.{AreLines, shut-behind}
+use Rattle.markdown_blocks.proofs.GroupsAre.{AreLines, IsUnder, shut-behind}
 use Rattle.markdown_blocks.proofs.Text.Facts.{kept-of}
-use Rattle.markdown_blocks.proofs.LineSteps.{with_came}
+use Rattle.markdown_blocks.proofs.LineSteps.{front-unlazy, with_came}
 use Rattle.markdown_blocks.proofs.Registry.{further-is, span-laws, text-turns}
-use Rattle.markdown_blocks.proofs.RowLeaf.{EndsOnLine}
+use Rattle.markdown_blocks.proofs.RowLeaf.{EndsOnLine, row-as}
 use Rattle.markdown_blocks.proofs.SpanLaws.{AreBehind, IsLineOf, SpanLaws, come_behind}
 use Rattle.markdown_blocks.proofs.StepBehind.{came-spot, containers-longer}
 use Rattle.markdown_blocks.specs.Registry.{LeafName, leaf}
 use Rattle.md_definition.specs.Leaves.{Came}
+use Rattle.md_definition.specs.Rest.{trim_start}
 use Rattle.md_definition.specs.Step.{came}
 use Rattle.markdown_blocks.specs.Rows.{Span, Turned}
 use Rattle.markdown_blocks.specs.Rows.{line_behind}
@@ -31,6 +36,7 @@ use Rattle.md_engine.specs.declared.event.Event.{Event}
 use Rattle.md_engine.specs.declared.event.Name.{Name}
 use Rattle.md_engine.specs.declared.event.Name.TheVariants as n
 use Rattle.md_engine.specs.declared.event.Point.{Point}
+use Rattle.md_engine.specs.declared.tokenizer.held_leaf.Progress.{Progress}
 use Rattle.md_seam.specs.Events.Nested.{enter, exit}
 use Rattle.md_definition.specs.Rest.{Rest, is_blank}
 use Rattle.md_seam.specs.Events.Spelled.{Around, Reading, read, role}
@@ -54,6 +60,7 @@ use Rattle.markdown_blocks.proofs.JoinedLemmas.{text-onto, text_group}
 use Rattle.markdown_blocks.proofs.LineSteps.{longer, renewed, renewed-spot, spot_by}
 use Rattle.markdown_blocks.proofs.LineTexts.{some-text, text-behind}
 use Rattle.markdown_blocks.proofs.UnderNames.{under-shuts}
+use Rattle.markdown_blocks.proofs.Underlines.{further-quiet}
 use Rattle.markdown_blocks.proofs.StepBehind.{still-step}
 use Rattle.markdown_blocks.proofs.Registry.{laws}
 use Rattle.markdown_blocks.proofs.RowFacts as f
@@ -66,6 +73,8 @@ use Rattle.markdown_blocks.proofs.ContainerNames.{container-facts}
 use Rattle.markdown_blocks.proofs.SpelledPaths.{AreShapes, around-same, close_containers-between}
 use Rattle.markdown_blocks.proofs.SpelledPaths.{close_containers-one, enters, longer-longer, open_path, reading-open}
 use Rattle.markdown_blocks.proofs.SpelledPaths.{reading-renewed, reading-with, with_spot}
+use Rattle.md_parts.specs.Progress.{progress_of, step as further}
+use Rattle.md_leaves.specs.HeadingSetext.{may_turn}
 
 -- Events.
 
@@ -113,27 +122,22 @@ abbrev pub Reads : ParseOptions → List ℕ → Path → List Container → Lis
 Reads options bytes p closes gs last =
     read bytes (close_containers (length closes) (reading options p)) (groups_events options bytes gs) ≡ last
 
--- the line that turns a text, behind its last line
-pub record IsTurn (options : ParseOptions) (bytes : List ℕ) (last under : Row) : Type 0 where
-  pub name : LeafName
-  pub is : IsLineOf options bytes (leaf name) under
-  pub further : (leaf name).further held_leaf.Text ≡ true
-  pub after : Point
-  pub after_is : last.after ≡ Some after
-  pub ending : f.IsEnding bytes last.end after
-  pub front : LinePrefix bytes [] after under.first under.front
-
--- the one behind the lines of a text, if one turns them
+-- the line behind those of a text, if one turns them
 abbrev pub IsTurned : ParseOptions → List ℕ → Row → Option Row → Type 0
 IsTurned options bytes last None = Unit {0}
-IsTurned options bytes last (Some under) = IsTurn options bytes last under
+IsTurned options bytes last (Some under) = IsUnder options bytes last under
 
 -- what is open behind them
 abbrev pub text_path : (options : ParseOptions) (bytes : List ℕ) (last : Row) (turn : Option Row) →
     IsTurned options bytes last turn → Path → Path
 text_path options bytes last None is p = p
 text_path options bytes last (Some under) is p =
-    with_came p ((leaf is.name).comes options (spot p).leaf is.is.rest)
+    with_came options p ((leaf is.name).comes options (spot p).leaf is.is.rest)
+
+-- where one turns them, definitions leave something of the text that is open with them
+abbrev pub IsTurnLeft : ParseOptions → Option Row → Path → Type 0
+IsTurnLeft options None p = Unit {0}
+IsTurnLeft options (Some under) p = options.constructs.definition ≡ true → is_whole (progress_of (still_of p)) ≡ false
 
 -- and what stands there
 abbrev pub text_tail : Row → Option Row → List Event
@@ -145,6 +149,7 @@ pub record ReadsLines (options : ParseOptions) (bytes : List ℕ) (p : Path) (ro
     (turn : Option Row) (gs : List Group) (last : Reading) : Type 0 where
   pub are : AreLines options bytes row rows
   pub turned : IsTurned options bytes (last_row row rows) turn
+  pub left : IsTurnLeft options turn (longer p (kept-of options bytes row rows are))
   pub behind : read bytes
       (reading options
       (text_path options bytes (last_row row rows) turn turned (longer p (kept-of options bytes row rows are))))
@@ -177,15 +182,17 @@ pub record ReadsSpan (options : ParseOptions) (bytes : List ℕ) (l : LeafName) 
   pub below : List Group
   pub groups_are : gs ≡ Span row rows ∷ below
   pub are : AreBehind options bytes (leaf l) row rows
-  pub behind : read bytes (reading options (with_came p (come_behind options bytes (leaf l) row rows are come)))
+  pub behind : read bytes (reading options (with_came options p (come_behind options bytes (leaf l) row rows are come)))
       (span_tail row rows ++ groups_events options bytes below) ≡
       last
 
 -- the lines from this point on go on the leaf that is open on a path
 pub record StartsSpan (options : ParseOptions) (bytes : List ℕ) (l : LeafName) (p : Path) (a : Point) (row : Row)
     (gs : List Group) (last : Reading) : Type 0 where
+  pub line : List ℕ
+  pub is : f.IsRow options bytes line row
+  pub kind : row.kind ≡ LeafRow l
   pub further : (leaf l).further row.on ≡ true
-  pub is : IsLineOf options bytes (leaf l) row
   pub reads : ReadsSpan options bytes l p (first_come options bytes l p a is.rest) row gs last
 
 -- by whether the first line goes on the open text, or on an open leaf of several lines
@@ -219,6 +226,7 @@ pub record JoinsSpan (options : ParseOptions) (bytes : List ℕ) (p : Path) (row
     (last : Reading) : Type 0 where
   pub name : LeafName
   pub next : Row
+  pub leaves : row.leaves ≡ []
   pub after : Point
   pub after_is : row.after ≡ Some after
   pub ending : f.IsEnding bytes row.end after
@@ -246,13 +254,13 @@ onto-joined row next rows turn gs e h =
 -- What a line changes of the containers that stay, the events do not tell: not behind what the innermost leaf came to,
 pub reading-came : (options : ParseOptions) (stays closes : List Container) (outer : List Around) (p : Path) (c : Came) →
     AreShapes stays closes p →
-    reading_on options outer (with_came (renewed stays p) c) ≡ reading_on options outer (with_came p c)
+    reading_on options outer (with_came options (renewed stays p) c) ≡ reading_on options outer (with_came options p c)
 reading-came options [] closes outer p c e = refl
 reading-came options (d ∷ stays) closes outer (At s) c e = refl
 reading-came options (d ∷ stays) closes outer (Within before container p) c e =
     let same : shape_of d ≡ shape_of container = cc in
     let more : AreShapes stays closes p = cc in
-    ap (λ (around : Around). reading_on options (around ∷ outer) (with_came (renewed stays p) c))
+    ap (λ (around : Around). reading_on options (around ∷ outer) (with_came options (renewed stays p) c))
     (around-same d container before same)
     ∙ reading-came options stays closes (around_of container before ∷ outer) p c more
 
@@ -273,10 +281,20 @@ reading-text options bytes stays closes p lines last None is shapes =
 reading-text options bytes stays closes p lines last (Some under) is shapes =
     let q : Path = longer p lines in
     let comes : Leaf → Came = λ open_leaf. (leaf is.name).comes options open_leaf is.is.rest in
-    ap (λ (x : Path). reading options (with_came x (comes (spot x).leaf))) (longer-renewed stays p lines)
-    ∙ ap (λ (s : Spot). reading options (with_came (renewed stays q) (comes s.leaf))) (renewed-spot stays q)
+    ap (λ (x : Path). reading options (with_came options x (comes (spot x).leaf))) (longer-renewed stays p lines)
+    ∙ ap (λ (s : Spot). reading options (with_came options (renewed stays q) (comes s.leaf))) (renewed-spot stays q)
     ∙ reading-came options stays closes [] q (comes (spot q).leaf)
     (shapes ∙ ap (map shape_of) (sym (containers-longer p lines)))
+
+-- what is held of a text does not change with them either
+left-alike : (options : ParseOptions) (turn : Option Row) (stays : List Container) (p : Path) (lines : List Kept) →
+    IsTurnLeft options turn (longer (renewed stays p) lines) → IsTurnLeft options turn (longer p lines)
+left-alike options None stays p lines left = tt
+left-alike options (Some under) stays p lines left =
+    λ on.
+    ap (λ (s : Spot). is_whole (progress_of (kind_of_leaf s.leaf)))
+    (sym (ap spot (longer-renewed stays p lines) ∙ renewed-spot stays (longer p lines)))
+    ∙ left on
 
 -- so a line of text goes on a text there as well.
 pub starts-alike : (options : ParseOptions) (bytes : List ℕ) (stays closes : List Container) (p : Path) (row : Row)
@@ -294,6 +312,8 @@ starts-alike options bytes stays closes p row gs last shapes starts =
       reads = record {
         are = reads.are;
         turned = reads.turned;
+        left =
+            left-alike options starts.turn stays p (kept-of options bytes row starts.rows reads.are) reads.left;
         behind =
             ap
             (λ (r : Reading).
@@ -306,22 +326,22 @@ starts-alike options bytes stays closes p row gs last shapes starts =
     }
 
 -- behind what turns a text no leaf is open, so no line goes on it
-turn-alone : (options : ParseOptions) (bytes : List ℕ) (l : LeafName) (under : Row) (rows : List Row) →
-    (leaf l).further held_leaf.Text ≡ true → IsLineOf options bytes (leaf l) under →
+turn-alone : (options : ParseOptions) (bytes : List ℕ) (at : Progress) (l : LeafName) (under : Row) (rows : List Row) →
+    (leaf l).further (held_leaf.Text at) ≡ true → IsLineOf options bytes (leaf l) under →
     AreBehind options bytes (leaf l) under rows → rows ≡ []
-turn-alone options bytes l under [] further is are = refl
-turn-alone options bytes l under (next ∷ rows) further is are =
-    let left : next.on ≡ held_leaf.None = are.4 ∙ is.behind ∙ under-shuts l further options under.on is.rest in
+turn-alone options bytes at l under [] further is are = refl
+turn-alone options bytes at l under (next ∷ rows) further is are =
+    let left : next.on ≡ held_leaf.None = are.4 ∙ is.behind ∙ under-shuts at l further options under.on is.rest in
     let may = (laws l).meets options next.on are.6.rest are.6.starts are.5 in
     let bad : true ≡ false = sym may ∙ ap may_go_on left in
     absurd (cc)
 
 -- it is a line of the text, not one behind its end
-turn-inside : (options : ParseOptions) (bytes : List ℕ) (l : LeafName) (p : Point) (under : Row) →
-    (leaf l).further held_leaf.Text ≡ true → IsLineOf options bytes (leaf l) under →
+pub turn-inside : (options : ParseOptions) (bytes : List ℕ) (at : Progress) (l : LeafName) (p : Point) (under : Row) →
+    (leaf l).further (held_leaf.Text at) ≡ true → IsLineOf options bytes (leaf l) under →
     LinePrefix bytes [] p under.first under.front → nat_lt p.index (length bytes) ≡ true
-turn-inside options bytes l p under further is front =
-    let dark : is_blank is.rest.bytes ≡ false = (text-turns l further).filled options under.on is.rest is.starts in
+turn-inside options bytes at l p under further is front =
+    let dark : is_blank is.rest.bytes ≡ false = (text-turns at l further).filled options under.on is.rest is.starts in
     let inside = text-behind bytes is.rest under.first under.end is.at (some-text is.rest dark) in
     let grow = fronts-grow bytes [] p under.first under.front front in
     let less : p.index < length bytes = omega (arith, inside, grow) in grind (arith, nat_tests)
@@ -332,8 +352,8 @@ turn-lines : (options : ParseOptions) (bytes line : List ℕ) (p : Path) (row : 
     JoinsSpan options bytes (longer p (kept is.rest ∷ [])) row gs last →
     StartsLines options bytes p row (onto_groups row TextRow gs) last
 turn-lines options bytes line p row gs last is text joins =
-    go reads.rows (turn-alone options bytes joins.name under reads.rows further joins.starts.is reads.are)
-    reads.groups_are reads.are reads.behind
+    go reads.rows (turn-alone options bytes at joins.name under reads.rows further of reads.are) reads.groups_are
+    reads.are reads.behind
   where
     under : Row
     under = joins.next
@@ -344,26 +364,44 @@ turn-lines options bytes line p row gs last is text joins =
     rest : Rest
     rest = joins.starts.is.rest
 
+    of : IsLineOf options bytes (leaf joins.name) under
+    of = row-as options bytes joins.starts.line under joins.starts.is joins.name joins.starts.kind
+
     first : Came
     first = first_come options bytes joins.name q joins.after rest
 
     reads : ReadsSpan options bytes joins.name q first under gs last
     reads = joins.starts.reads
 
-    further : (leaf joins.name).further held_leaf.Text ≡ true
-    further =
-        ap (leaf joins.name).further
-        (sym (ap (line_behind options row.on is.rest) text) ∙ sym is.behind ∙ sym joins.on)
-        ∙ joins.starts.further
+    at : Progress
+    at = further (progress_of row.on) (trim_start is.rest.bytes)
+
+    on : under.on ≡ held_leaf.Text at
+    on = joins.on ∙ is.behind ∙ ap (line_behind options row.on is.rest) text
+
+    further : (leaf joins.name).further (held_leaf.Text at) ≡ true
+    further = ap (leaf joins.name).further (sym on) ∙ joins.starts.further
 
     come : first ≡ (leaf joins.name).comes options (spot q).leaf rest
     come =
         ap (λ (x : Bool). cond x ((leaf joins.name).comes options (spot q).leaf rest) (Opened (spot q).leaf))
-        (turn-inside options bytes joins.name joins.after under further joins.starts.is joins.fronts)
+        (turn-inside options bytes at joins.name joins.after under further of joins.fronts)
+
+    may : may_turn options under.on ≡ true
+    may =
+        setext-may options under.on of.rest
+        (subst (λ (l : LeafName). (leaf l).starts options under.on of.rest ≡ true) (further-text at joins.name further)
+        of.starts)
+
+    left : options.constructs.definition ≡ true → is_whole (progress_of (still_of q)) ≡ false
+    left defines =
+        ap (λ (h : HeldLeaf). is_whole (progress_of h)) (joins.still ∙ sym joins.on ∙ on)
+        ∙ turn-left options at (ap (may_turn options) (sym on) ∙ may) defines
 
     go : (rows : List Row) → rows ≡ [] → gs ≡ Span under rows ∷ reads.below →
         (are : AreBehind options bytes (leaf joins.name) under rows) →
-        read bytes (reading options (with_came q (come_behind options bytes (leaf joins.name) under rows are first)))
+        read bytes
+        (reading options (with_came options q (come_behind options bytes (leaf joins.name) under rows are first)))
         (span_tail under rows ++ groups_events options bytes reads.below) ≡
         last →
         StartsLines options bytes p row (onto_groups row TextRow gs) last
@@ -381,18 +419,28 @@ turn-lines options bytes line p row gs last is text joins =
       reads = record {
         are = (line, is, text);
         turned = record {
-          name = joins.name;
+          line = joins.starts.line;
           is = joins.starts.is;
-          further = further;
+          name = joins.name;
+          kind = joins.starts.kind;
+          open_leaf = (text-turns at joins.name further).ends;
           after = joins.after;
           after_is = joins.after_is;
           ending = joins.ending;
           front = joins.fronts;
+          leaves = joins.leaves;
+          on = joins.on;
+          further = joins.further;
+          quiet =
+              further-quiet options bytes joins.starts.line under joins.name at joins.starts.is joins.starts.kind on
+              joins.further;
         };
+        left = left;
         behind =
             ap
             (λ (c : Came).
-            read bytes (reading options (with_came q c)) (span_tail under [] ++ groups_events options bytes reads.below))
+            read bytes (reading options (with_came options q c))
+            (span_tail under [] ++ groups_events options bytes reads.below))
             (sym come)
             ∙ behind;
       };
@@ -412,6 +460,7 @@ starts-lines options bytes line p row gs last is text (inl parts) = record {
   reads = record {
     are = (line, is, text);
     turned = tt;
+    left = tt;
     behind =
         let s : Reading = reading options (longer p (kept is.rest ∷ [])) in
         read-from bytes s (close_containers (length row.leaves) s) (tail_events n.LineEnding row)
@@ -435,6 +484,9 @@ starts-lines options bytes line p row gs last is text (inr (inl joins)) =
       reads = record {
         are = (line, is, text, joins.after, joins.after_is, joins.ending, joins.fronts, reads.are);
         turned = reads.turned;
+        left =
+            subst (IsTurnLeft options below.turn)
+            (longer-longer p (kept is.rest ∷ []) (kept-of options bytes joins.next below.rows reads.are)) reads.left;
         behind =
             subst
             (λ (x : Path).
@@ -540,23 +592,38 @@ no-joins options bytes line p row gs last is none ends (inl parts) = parts.reads
 no-joins options bytes line p row gs last is none ends (inr (inl joins)) = let text = joins.text in cc
 no-joins options bytes line p row gs last is none ends (inr (inr joins)) =
     let may = joins.may in
-    let shut = shut-behind options bytes line row is ends
-    (λ (text : row.kind ≡ TextRow). let bad : true ≡ false = sym (ap is_text text) ∙ none in cc) in
+    let shut = (shut-behind options bytes line row is ends
+    (λ (text : row.kind ≡ TextRow). let bad : true ≡ false = sym (ap is_text text) ∙ none in cc)).0 in
     cc
 
 -- Leaves of several lines.
 
-pub came-with : (p : Path) (c : Came) → with_came p c ≡ with_spot p (λ bs. came bs c)
-came-with (At s) c = refl
-came-with (Within before container p) c = ap (Within before container) (came-with p c)
+pub came-with : (options : ParseOptions) (p : Path) (c : Came) →
+    with_came options p c ≡ with_spot p (λ bs. came (then_front options bs (spot p).leaf) c)
+came-with options (At s) c = refl
+came-with options (Within before container p) c = ap (Within before container) (came-with options p c)
 
-pub came-open : (p : Path) → with_came p (Opened (spot p).leaf) ≡ p
-came-open (At s) = refl
-came-open (Within before container p) = ap (Within before container) (came-open p)
+-- where no leaf is open
+pub came-none : (options : ParseOptions) (p : Path) (c : Came) → (spot p).leaf ≡ NoLeaf →
+    with_came options p c ≡ with_spot p (λ bs. came bs c)
+came-none options p c none =
+    came-with options p c ∙ ap (λ (x : Leaf). with_spot p (λ bs. came (then_front options bs x) c)) none
 
-pub came-came : (p : Path) (open_leaf : Leaf) (c : Came) → with_came (with_came p (Opened open_leaf)) c ≡ with_came p c
-came-came (At s) open_leaf c = refl
-came-came (Within before container p) open_leaf c = ap (Within before container) (came-came p open_leaf c)
+-- where one is open that is no text, and where it was opened
+pub came-open : (options : ParseOptions) (p : Path) → takes_lazy (still_of p) ≡ false →
+    with_came options p (Opened (spot p).leaf) ≡ p
+came-open options (At s) unlazy =
+    ap (λ (bs : Blocks). At (record { here = bs; leaf = s.leaf })) (front-unlazy options s.here s.leaf unlazy)
+came-open options (Within before container p) unlazy = ap (Within before container) (came-open options p unlazy)
+
+pub came-came : (options : ParseOptions) (p : Path) (open_leaf : Leaf) (c : Came) →
+    takes_lazy (kind_of_leaf open_leaf) ≡ false →
+    with_came options (with_came options p (Opened open_leaf)) c ≡ with_came options p c
+came-came options (At s) open_leaf c unlazy =
+    ap (λ (bs : Blocks). At (came bs c))
+    (front-unlazy options (then_front options s.here s.leaf) open_leaf unlazy)
+came-came options (Within before container p) open_leaf c unlazy =
+    ap (Within before container) (came-came options p open_leaf c unlazy)
 
 -- what may be gone on is open
 pub may-opened : (c : Came) → may_go_on (kind_of_leaf (left_by c)) ≡ true → c ≡ Opened (left_by c)
@@ -565,7 +632,7 @@ may-opened (Finished block) e = cc
 
 pub span-alike : (options : ParseOptions) (bytes : List ℕ) (l : LeafName) (p q : Path) (come : Came) (row : Row)
     (gs : List Group) (last : Reading) →
-    ((c : Came) → reading options (with_came p c) ≡ reading options (with_came q c)) →
+    ((c : Came) → reading options (with_came options p c) ≡ reading options (with_came options q c)) →
     ReadsSpan options bytes l p come row gs last → ReadsSpan options bytes l q come row gs last
 span-alike options bytes l p q come row gs last alike is = record {
   rows = is.rows;
@@ -581,11 +648,11 @@ span-alike options bytes l p q come row gs last alike is = record {
 -- a line of a leaf, where another goes on it
 span-joined : (options : ParseOptions) (bytes : List ℕ) (l : LeafName) (p : Path) (come : Came) (row : Row)
     (gs : List Group) (last : Reading) →
-    (joins : JoinsSpan options bytes (with_came p come) row gs last) →
-    (next : StartsSpan options bytes l (with_came p come) joins.after joins.next gs last) →
-    come ≡ Opened (left_by come) →
+    (joins : JoinsSpan options bytes (with_came options p come) row gs last) →
+    (next : StartsSpan options bytes l (with_came options p come) joins.after joins.next gs last) →
+    come ≡ Opened (left_by come) → takes_lazy (kind_of_leaf (left_by come)) ≡ false →
     ReadsSpan options bytes l p come row (onto_span row gs) last
-span-joined options bytes l p come row gs last joins next opened = record {
+span-joined options bytes l p come row gs last joins next opened unlazy = record {
   rows = joins.next ∷ rows;
   below = below;
   groups_are =
@@ -600,12 +667,13 @@ span-joined options bytes l p come row gs last joins next opened = record {
     joins.fronts,
     joins.on,
     next.further,
-    next.is,
+    row-as options bytes next.line joins.next next.is l next.kind,
     next.reads.are,
   );
   behind =
       ap (λ (r : Reading). read bytes r (span_tail joins.next rows ++ groups_events options bytes below))
-      (sym (ap (to (with_came p come)) first ∙ ap (reading options) (twice (come_to other)))) ∙ next.reads.behind;
+      (sym (ap (to (with_came options p come)) first ∙ ap (reading options) (twice (come_to other))))
+      ∙ next.reads.behind;
 }
   where
     rows : List Row
@@ -618,7 +686,7 @@ span-joined options bytes l p come row gs last joins next opened = record {
     come_to c = come_behind options bytes (leaf l) joins.next rows next.reads.are c
 
     to : Path → Came → Reading
-    to x c = reading options (with_came x (come_to c))
+    to x c = reading options (with_came options x (come_to c))
 
     in_text : Bool
     in_text = nat_lt joins.after.index (length bytes)
@@ -626,19 +694,21 @@ span-joined options bytes l p come row gs last joins next opened = record {
     other : Came
     other = cond in_text ((leaf l).comes options (left_by come) next.is.rest) come
 
-    first : first_come options bytes l (with_came p come) joins.after next.is.rest ≡ other
+    first : first_come options bytes l (with_came options p come) joins.after next.is.rest ≡ other
     first =
-        ap (λ (x : Leaf). cond in_text ((leaf l).comes options x next.is.rest) (Opened x)) (came-spot p come)
+        ap (λ (x : Leaf). cond in_text ((leaf l).comes options x next.is.rest) (Opened x)) (came-spot options p come)
         ∙ ap (λ (c : Came). cond in_text ((leaf l).comes options (left_by come) next.is.rest) c) (sym opened)
 
-    twice : (c : Came) → with_came (with_came p come) c ≡ with_came p c
-    twice c = ap (λ (d : Came). with_came (with_came p d) c) opened ∙ came-came p (left_by come) c
+    twice : (c : Came) → with_came options (with_came options p come) c ≡ with_came options p c
+    twice c =
+        ap (λ (d : Came). with_came options (with_came options p d) c) opened
+        ∙ came-came options p (left_by come) c unlazy
 
 -- a line of a leaf, and what follows
 pub span-rows : (options : ParseOptions) (bytes : List ℕ) (l m : LeafName) (p : Path) (come : Came) (row : Row)
     (gs : List Group) (last : Reading) →
     is_text row.kind ≡ false → further_of m ≡ l → IsLineOf options bytes (leaf m) row →
-    Follows options bytes (with_came p come) row gs last →
+    Follows options bytes (with_came options p come) row gs last →
     ReadsSpan options bytes l p come row (onto_span row gs) last
 span-rows options bytes l m p come row gs last other same is (inl parts) = record {
   rows = [];
@@ -646,21 +716,23 @@ span-rows options bytes l m p come row gs last other same is (inl parts) = recor
   groups_are = parts.alone;
   are = tt;
   behind =
-      let s : Reading = reading options (with_came p come) in
+      let s : Reading = reading options (with_came options p come) in
       read-from bytes s (close_containers (length row.leaves) s) (span_tail row []) (groups_events options bytes gs)
       (read-tail bytes (ending_of row.kind row) row s (ending-role (is_blank_row row)) refl refl)
       ∙ parts.reads;
 }
 span-rows options bytes l m p come row gs last other same is (inr (inl joins)) = let text = joins.text in cc
 span-rows options bytes l m p come row gs last other same is (inr (inr joins)) =
+    let left : kind_of_leaf (left_by come) ≡ row.behind =
+    ap kind_of_leaf (sym (came-spot options p come)) ∙ joins.still in
     let name : joins.name ≡ l = further-is m joins.name options row.on is.rest
     (ap (leaf joins.name).further (sym (joins.on ∙ is.behind)) ∙ joins.starts.further)
     ∙ same in
     span-joined options bytes l p come row gs last joins
-    (subst (λ (k : LeafName). StartsSpan options bytes k (with_came p come) joins.after joins.next gs last) name
+    (subst (λ (k : LeafName). StartsSpan options bytes k (with_came options p come) joins.after joins.next gs last) name
     joins.starts)
-    (may-opened come
-    (ap (λ (x : Leaf). may_go_on (kind_of_leaf x)) (sym (came-spot p come)) ∙ ap may_go_on joins.still ∙ joins.may))
+    (may-opened come (ap may_go_on left ∙ joins.may))
+    (ap takes_lazy (left ∙ is.behind) ∙ ((laws m).not_lazy options row.on).1 is.rest)
 
 -- a line that begins a leaf is read with those that go on it
 pub begun-reads : (options : ParseOptions) (bytes : List ℕ) (l : LeafName) (o : Path) (row : Row) (gs : List Group)
@@ -677,14 +749,14 @@ begun-reads options bytes l o row gs last ends is begins none begin same spans =
     ((leaf l).comes options NoLeaf is.rest) in
     let block : Block = laws.block options bytes row spans.rows is spans.are in
     let whole : List Event = span_done bytes row spans.rows in
-    let new : Reading = reading options (with_came o come) in
+    let new : Reading = reading options (with_came options o come) in
     read-from bytes begin new whole (span_tail row spans.rows ++ groups_events options bytes spans.below)
     (ap (λ (x : Reading). read bytes x whole) same
     ∙ (laws.facts options bytes row spans.rows is begins spans.are).reads (reading options o) refl refl
     ∙ ap (λ (bs : Blocks). record (reading options o) { here = bs })
     (sym (laws.shuts options bytes row spans.rows is begins spans.are (reading options o).here))
     ∙ sym (reading-with options o (λ bs. came bs come) none)
-    ∙ ap (reading options) (sym (came-with o come)))
+    ∙ ap (reading options) (sym (came-none options o come none)))
     ∙ spans.behind
 
 -- and with what stands in front of it

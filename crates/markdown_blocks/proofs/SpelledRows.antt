@@ -1,5 +1,6 @@
 -- What the events of a text are read as, where only leaves that are built may be on: what its lines do to the
 -- containers and the text that are open.
+use Rattle.md_engine.specs.Progress.{is_whole}
 use Rattle.md_engine.specs.declared.tokenizer.held_leaf.HeldLeaf.TheVariants as held_leaf
 use Rattle.md_engine.specs.declared.tokenizer.held_leaf.HeldLeaf.{HeldLeaf}
 use Rattle.std.proofs.Common.{◌≡◌, ◌≢◌, ℕ, zero, suc, ◌+◌, ◌-◌, Bool, true, false, cond, ◌&&◌, List, [], ◌∷◌, ◌++◌}
@@ -8,10 +9,12 @@ use Rattle.std.proofs.Common.{◌≤◌, ◌<◌, not}
 use Rattle.std.proofs.lemmas.Bool.Decides.{nat_tests}
 use Rattle.md_definition.proofs.TextsLemmas.{Both, Ending, LineFeed, Return, ending_bytes}
 use Rattle.md_definition.specs.Leaves.{Finished, Opened}
-use Rattle.markdown_blocks.specs.HeldLeaf.{may_go_on}
+use Rattle.markdown_blocks.proofs.SpelledGroups.{IsTurnLeft}
+use Rattle.markdown_blocks.specs.HeldLeaf.{kind_of_leaf, may_go_on}
+use Rattle.markdown_blocks.specs.Leaf.Paragraph.{then_front}
 use Rattle.markdown_blocks.specs.Registry.{further_of}
-use Rattle.markdown_blocks.specs.Rows.{group_done, is_further, is_last, onto_span, turned_done}
-use Rattle.markdown_blocks.proofs.GroupsAre.{AreLines, line-begins, line-of}
+use Rattle.markdown_blocks.specs.Rows.{group_done, is_further, is_last, onto_span}
+use Rattle.markdown_blocks.proofs.GroupsAre.{AreLines, kept-of, line-begins, line-of}
 use Rattle.markdown_blocks.proofs.LineSteps.{come_by, renewed-spot, with_came}
 use Rattle.markdown_blocks.proofs.OpenSpan.{TurnsText}
 use Rattle.markdown_blocks.proofs.Registry.{text-turns}
@@ -31,10 +34,12 @@ use Rattle.std.specs.Prelude.{None, Option, Some}
 use Rattle.md_engine.specs.declared.configuration.ParseOptions.{ParseOptions}
 use Rattle.md_engine.specs.declared.event.Event.{Event}
 use Rattle.md_engine.specs.declared.event.Point.{Point}
+use Rattle.md_engine.specs.declared.tokenizer.held_leaf.Progress.{Progress}
 use Rattle.md_definition.specs.Preamble.{rest_at}
 use Rattle.md_definition.specs.Rest.{Rest}
-use Rattle.md_seam.specs.Events.Spelled.{Reading, add_block, read, spelled, unread}
-use Rattle.md_definition.specs.State.{At, Container, Kept, NoLeaf, Path, Spot, closed, kept, spot, texts}
+use Rattle.md_seam.specs.Events.Spelled.{Reading, read, spelled, unread}
+use Rattle.md_definition.specs.State.{At, Container, Kept, Leaf, NoLeaf, OpenParagraph, Path, Spot, closed, cut}
+use Rattle.md_definition.specs.State.{kept, spot, texts}
 use Rattle.md_definition.specs.Step.{came, spot_of, step}
 use Rattle.md_definition.specs.Tree.{Block, End}
 use Rattle.md_seam.proofs.SpelledLemmas.{read-from}
@@ -59,23 +64,21 @@ use Rattle.markdown_blocks.proofs.Registry.{laws}
 use Rattle.markdown_blocks.proofs.RowFacts as f
 use Rattle.markdown_blocks.proofs.LeafFacts.{shown}
 use Rattle.markdown_blocks.proofs.RowLeaf.{block_of, row-facts}
-use Rattle.markdown_blocks.proofs.SpelledParagraphs.{IsRead}
-use Rattle.markdown_blocks.proofs.Text.Facts as own
-use Rattle.markdown_blocks.proofs.Text.Facts.{kept-of}
 use Rattle.markdown_blocks.proofs.Text.Reads.{text-read}
 use Rattle.markdown_blocks.proofs.PrefixFacts.{begins}
-use Rattle.markdown_blocks.proofs.Turned.Reads.{read-turned}
-use Rattle.markdown_blocks.proofs.UnderNames.{further-text}
+use Rattle.markdown_blocks.proofs.Turned.CutReads.{then_turned, turned-read}
+use Rattle.markdown_blocks.proofs.Turned.Under.{under-text}
 use Rattle.markdown_blocks.specs.Rows.{is_blank_row}
 use Rattle.markdown_blocks.proofs.SpelledPaths.{AreShapes, close_containers-all, close_containers-between, enters}
 use Rattle.markdown_blocks.proofs.SpelledPaths.{behind-behind, longer-with, new-path, open-none, open_path}
 use Rattle.markdown_blocks.proofs.SpelledPaths.{reading-longer, reading-with, spot-with, with_spot}
-use Rattle.markdown_blocks.proofs.SpelledGroups.{Follows, IsTurn, IsTurned, Means, Reads, ReadsSpan, StartsLines}
+use Rattle.markdown_blocks.proofs.SpelledGroups.{Follows, IsTurned, Means, Reads, ReadsSpan, StartsLines}
 use Rattle.markdown_blocks.proofs.SpelledGroups.{StartsSpan, text_path, text_tail}
-use Rattle.markdown_blocks.proofs.SpelledGroups.{starts-read, came-open, came-with, ending-role, first_come}
+use Rattle.markdown_blocks.proofs.SpelledGroups.{starts-read, came-none, came-open, came-with, ending-role, first_come}
 use Rattle.markdown_blocks.proofs.SpelledGroups.{kind-name, line-is, no-joins, other-kind, read-fronts, read-open}
 use Rattle.markdown_blocks.proofs.SpelledGroups.{reading-came, shown-leaf, single-reads, span-alike, span-rows}
-use Rattle.markdown_blocks.proofs.SpelledGroups.{starts-alike, starts-lines, still-line, text-kind}
+use Rattle.markdown_blocks.proofs.SpelledGroups.{starts-alike, starts-lines, still-line, text-kind, turn-inside}
+use Rattle.md_parts.specs.Progress.{progress, progress_of}
 
 -- The lines of a text, with the one that turns it if one does.
 
@@ -88,60 +91,64 @@ text-parts : (options : ParseOptions) (bytes : List ℕ) (row : Row) (rows : Lis
 text-parts options bytes row rows None gs = refl
 text-parts options bytes row rows (Some under) gs = refl
 
--- one that turns a text is read as what the text comes to with it
-turned-reads : (bytes : List ℕ) (options : ParseOptions) (row : Row) (rows : List Row) (under : Row) (lines : List Kept)
-    (r : Reading) → IsRead bytes row rows lines → (is : IsTurn options bytes (last_row row rows) under) →
-    r.text ≡ None → r.leaf ≡ None →
-    read bytes r (turned_done bytes row rows under) ≡ add_block (turn_leaf.block (texts lines) is.is.rest) r
-turned-reads bytes options row rows under lines r are is t l =
-    subst
-    (λ (k : LeafName).
-    (of : IsLineOf options bytes (leaf k) under) →
-    read bytes r (turned_done bytes row rows under) ≡ add_block (turn_leaf.block (texts lines) of.rest) r)
-    (sym (further-text is.name is.further))
-    (λ of.
-    read-turned options bytes row rows under lines r are
-    (record { after = is.after; after_is = is.after_is; ending = is.ending; front = is.front; is = of }) t l)
-    is.is
-
--- where no leaf was open, that is a block behind the others
+-- Where no leaf was open, a text that is turned is the definitions at its front and the block behind the others.
 reading-turned : (options : ParseOptions) (o : Path) (lines : List Kept) (r : Rest) (l : LeafName) → TurnsText l →
     (spot o).leaf ≡ NoLeaf →
-    reading options (with_came (longer o lines) ((leaf l).comes options (spot (longer o lines)).leaf r)) ≡
-    add_block (turn_leaf.block (texts lines) r) (reading options o)
+    reading options (with_came options (longer o lines) ((leaf l).comes options (spot (longer o lines)).leaf r)) ≡
+    record (reading options o) { here = then_turned options (reading options o).here (texts lines) r }
 reading-turned options o lines r l turns none =
-    ap (λ (x : Path). reading options (with_came x ((leaf l).comes options (spot x).leaf r))) (longer-with o lines none)
-    ∙ ap (λ (s : Spot). reading options (with_came held ((leaf l).comes options s.leaf r)))
-    (spot-with o (λ bs. record { here = bs; leaf = text_leaf.held lines }))
-    ∙ ap (λ (come : Came). reading options (with_came held come)) (turns.comes options lines r)
+    ap (λ (x : Path). reading options (with_came options x ((leaf l).comes options (spot x).leaf r)))
+    (longer-with o lines none)
+    ∙ ap (λ (s : Spot). reading options (with_came options held ((leaf l).comes options s.leaf r))) open_text
+    ∙ ap (λ (come : Came). reading options (with_came options held come)) (turns.comes options lines r)
     ∙ ap (reading options)
-    (came-with held (Finished block)
-    ∙ behind-behind o (λ bs. At (record { here = bs; leaf = text_leaf.held lines })) (λ bs. came bs (Finished block)))
-    ∙ reading-with options o (λ bs. came bs (Finished block)) none
+    (came-with options held (Finished block)
+    ∙ ap (λ (s : Spot). with_spot held (λ bs. came (then_front options bs s.leaf) (Finished block))) open_text
+    ∙ behind-behind o (λ bs. At (record { here = bs; leaf = text_leaf.held lines }))
+    (λ bs. came (then_front options bs (text_leaf.held lines)) (Finished block)))
+    ∙ reading-with options o (λ bs. came (then_front options bs (text_leaf.held lines)) (Finished block)) none
   where
     held : Path
     held = with_spot o (λ bs. record { here = bs; leaf = text_leaf.held lines })
 
+    open_text : spot held ≡ record { here = (spot o).here; leaf = text_leaf.held lines }
+    open_text = spot-with o (λ bs. record { here = bs; leaf = text_leaf.held lines })
+
     block : Block
-    block = turn_leaf.block (texts lines) r
+    block = turn_leaf.block (cut options (texts lines)).1 r
 
 -- so all of it is read as what it comes to
 text-whole : (options : ParseOptions) (bytes : List ℕ) (o : Path) (row : Row) (rows : List Row) (turn : Option Row) →
     (spot o).leaf ≡ NoLeaf → (are : AreLines options bytes row rows) →
     (turned : IsTurned options bytes (last_row row rows) turn) →
+    IsTurnLeft options turn (longer o (kept-of options bytes row rows are)) →
     read bytes (reading options o) (group_done options bytes (text_group turn row rows)) ≡
     reading options
     (text_path options bytes (last_row row rows) turn turned (longer o (kept-of options bytes row rows are)))
-text-whole options bytes o row rows None none are turned =
+text-whole options bytes o row rows None none are turned left =
     text-read options bytes row rows are (reading options o) refl refl
     ∙ sym (reading-longer options o (kept-of options bytes row rows are) none)
-text-whole options bytes o row rows (Some under) none are turned =
-    let lines : List Kept = kept-of options bytes row rows are in
-    turned-reads bytes options row rows under lines (reading options o) (own.lines-read options bytes row rows are)
-    turned refl refl
-    ∙ sym (reading-turned options o lines turned.is.rest turned.name (text-turns turned.name turned.further) none)
+text-whole options bytes o row rows (Some under) none are turned left =
+    let text = under-text options bytes row rows under are turned in
+    turned-read options bytes row rows under are turned
+    (λ on.
+    sym
+    (ap (λ (p : Path). is_whole (progress_of (still_of p))) (longer-with o (kept-of options bytes row rows are) none)
+    ∙ ap (λ (s : Spot). is_whole (progress_of (kind_of_leaf s.leaf)))
+    (spot-with o (λ bs. record { here = bs; leaf = text_leaf.held (kept-of options bytes row rows are) })))
+    ∙ left on)
+    (reading options o) refl refl
+    ∙ sym
+    (reading-turned options o (kept-of options bytes row rows are) turned.is.rest turned.name
+    (text-turns text.0 turned.name text.1) none)
 
 -- One line, and what follows.
+
+-- a leaf that takes lazy lines is text
+lazy-open : (open_leaf : Leaf) → takes_lazy (kind_of_leaf open_leaf) ≡ true →
+    (at : Progress) × (kind_of_leaf open_leaf ≡ held_leaf.Text at)
+lazy-open (OpenParagraph lines) lazy = (progress (texts lines), refl)
+lazy-open _ lazy = cc
 
 abbrev MeansLine : ParseOptions → List ℕ → Path → Point → Row → List Group → Reading → Type 0
 MeansLine options bytes p a row gs last =
@@ -241,7 +248,7 @@ row-means options bytes p a line row gs last over built plain is in_text follows
         (read-from bytes start begin row.front whole
         (read-fronts bytes row.change.opens a row.first row.front start is.front text.0)
         ∙ ap (λ (x : Reading). read bytes x whole) (read-open options p c row shapes is.change)
-        ∙ text-whole options bytes o row starts.rows starts.turn none reads.are reads.turned)
+        ∙ text-whole options bytes o row starts.rows starts.turn none reads.are reads.turned reads.left)
         ∙ reads.behind
 
     -- a line of a leaf
@@ -256,9 +263,9 @@ row-means options bytes p a line row gs last over built plain is in_text follows
         Reads options bytes p row.change.closes (onto_span row gs) last
     span-reads l e ends begins further =
         let come : Came = (leaf l).comes options NoLeaf is.is.rest in
-        let on : to row.kind ≡ with_came o come =
-        ap to e ∙ sym (came-with o ((leaf l).comes options NoLeaf c.rest))
-        ∙ ap (λ (r : Rest). with_came o ((leaf l).comes options NoLeaf r)) (sym is.rest_is) in
+        let on : to row.kind ≡ with_came options o come =
+        ap to e ∙ sym (came-none options o ((leaf l).comes options NoLeaf c.rest) none)
+        ∙ ap (λ (r : Rest). with_came options o ((leaf l).comes options NoLeaf r)) (sym is.rest_is) in
         starts-read options bytes l o row (onto_span row gs) last ends (line-is-of l e ends)
         (sym (ap (λ (k : RowKind). is_further k row.on) e) ∙ same-further ∙ begins) none a is.front
         (close_containers (length row.change.closes) (reading options p))
@@ -302,7 +309,7 @@ row-means options bytes p a line row gs last over built plain is in_text follows
         let of : IsLineOf options bytes (leaf l) row = line-is-of l e ends in
         let come : Came = first_come options bytes l p a of.rest in
         let base : Path = renewed c.change.stays p in
-        let stepped_to : step_over options over p (rest_from a line) ≡ with_came base come =
+        let stepped_to : step_over options over p (rest_from a line) ≡ with_came options base come =
         further_by over refl f goes in
         let spans : ReadsSpan options bytes l base come row (onto_span row gs) last = span-rows options bytes l l base come
         row gs last (ap is_text e) goes.is.same of
@@ -313,22 +320,46 @@ row-means options bytes p a line row gs last over built plain is in_text follows
           subst (λ (k : RowKind). StartsSpan options bytes l p a row (onto_groups row k gs) last) (sym e)
               (subst (λ (x : Bool). StartsSpan options bytes l p a row (onto_leaf x row gs) last) (sym ends)
               (record {
+                line = rest_line c.rest;
+                is = is.is;
+                kind = e;
                 further = ap (leaf l).further (is.on ∙ goes.on) ∙ goes.is.further;
-                is = of;
                 reads = whole;
               })),
         )
       where
+        -- over the end of the text no line turns one
+        still-over : over ≡ true → (goes : GoesOn options p c) → (x : Bool) → takes_lazy (still_of p) ≡ x → x ≡ false
+        still-over e goes false lazy = refl
+        still-over e goes true lazy =
+            let text = lazy-open (spot p).leaf lazy in
+            let further : (leaf goes.is.name).further (held_leaf.Text text.0) ≡ true =
+            ap (leaf goes.is.name).further (sym text.1) ∙ goes.is.further in
+            let front : LinePrefix bytes [] a row.first row.front =
+            subst (λ (cs : List Container). LinePrefix bytes cs a row.first row.front)
+            (ap (λ (x : Change). x.opens) is.change ∙ goes.opens) is.front in
+            let inside : nat_lt a.index (length bytes) ≡ true = turn-inside options bytes text.0 goes.is.name a row further
+            (line-is-of goes.is.name (kind-is ∙ goes.kind) goes.is.ends) front in
+            let bad : true ≡ false = sym inside ∙ in_text ∙ ap not e in
+            cc
+
+        open-over : over ≡ true → (goes : GoesOn options p c) →
+            takes_lazy (still_of (renewed c.change.stays p)) ≡ false
+        open-over e goes =
+            ap (λ (s : Spot). takes_lazy (kind_of_leaf s.leaf)) (renewed-spot c.change.stays p)
+            ∙ still-over e goes (takes_lazy (still_of p)) refl
+
         further_by : (x : Bool) → over ≡ x → goes_further options c ≡ true → (goes : GoesOn options p c) →
             step_over options over p (rest_from a line) ≡
-            with_came (renewed c.change.stays p) (first_come options bytes goes.is.name p a is.is.rest)
+            with_came options (renewed c.change.stays p) (first_come options bytes goes.is.name p a is.is.rest)
         further_by true e f goes =
             ap₂ (λ (x y : Bool). cond (x && y) (renewed c.change.stays p) (step options p (rest_from a line))) e f
-            ∙ sym (came-open (renewed c.change.stays p))
-            ∙ ap (λ (s : Spot). with_came (renewed c.change.stays p) (Opened s.leaf)) (renewed-spot c.change.stays p)
+            ∙ sym (came-open options (renewed c.change.stays p) (open-over e goes))
+            ∙ ap (λ (s : Spot). with_came options (renewed c.change.stays p) (Opened s.leaf))
+            (renewed-spot c.change.stays p)
             ∙ ap
             (λ (x : Bool).
-            with_came (renewed c.change.stays p)
+            with_came options (renewed c.change.stays p)
             (cond x ((leaf goes.is.name).comes options (spot p).leaf is.is.rest) (Opened (spot p).leaf)))
             (sym (in_text ∙ ap not e))
         further_by false e f goes =
@@ -338,13 +369,16 @@ row-means options bytes p a line row gs last over built plain is in_text follows
             ∙ step-contained options p (rest_from a line) built plain
             ∙ ap₂ (path_by options p c)
             (further-unlazy (still_of p) c.on c.change.opens (line_kind options c.on c.rest) f) f
-            ∙ ap (λ (k : RowKind). with_came (renewed c.change.stays p) (come_by options (spot p).leaf c.rest k))
+            ∙ ap
+            (λ (k : RowKind). with_came options (renewed c.change.stays p) (come_by options (spot p).leaf c.rest k))
             goes.kind
-            ∙ ap (λ (r : Rest). with_came (renewed c.change.stays p) ((leaf goes.is.name).comes options (spot p).leaf r))
+            ∙ ap
+            (λ (r : Rest).
+            with_came options (renewed c.change.stays p) ((leaf goes.is.name).comes options (spot p).leaf r))
             (sym is.rest_is)
             ∙ ap
             (λ (x : Bool).
-            with_came (renewed c.change.stays p)
+            with_came options (renewed c.change.stays p)
             (cond x ((leaf goes.is.name).comes options (spot p).leaf is.is.rest) (Opened (spot p).leaf)))
             (sym (in_text ∙ ap not e))
 
@@ -455,7 +489,7 @@ leaf-begins false row below (Span next rows ∷ gs) e = go (is_further next.kind
     go true = span-begins row below (next ∷ rows) gs e
     go false = span-begins row below [] (Span next rows ∷ gs) e
 
-not-joined : (row below : Row) (gs : List Group) → is_lazy held_leaf.Text below.change.opens below.kind ≡ false →
+not-joined : (row below : Row) (gs : List Group) → (is_none below.change.opens && is_text below.kind) ≡ false →
     is_further below.kind below.on ≡ false →
     onto_groups row TextRow (onto_groups below below.kind gs) ≡ Lines row [] ∷ onto_groups below below.kind gs
 not-joined row below gs lazy begins = go below.kind lazy
@@ -464,7 +498,7 @@ not-joined row below gs lazy begins = go below.kind lazy
     opens true e = cc
     opens false e = refl
 
-    go : (kind : RowKind) → is_lazy held_leaf.Text below.change.opens kind ≡ false →
+    go : (kind : RowKind) → (is_none below.change.opens && is_text kind) ≡ false →
         onto_groups row TextRow (onto_groups below kind gs) ≡ Lines row [] ∷ onto_groups below kind gs
     go BlankRow e = refl
     go (LeafRow l) e = leaf-begins (leaf l).ends row below gs begins
@@ -566,6 +600,7 @@ follows-below options bytes p row below gs q line last built plain lazily still 
     (record {
       name = means.0;
       next = below;
+      leaves = leaves ∙ ap (λ (x : Change). x.closes) is.change ∙ goes.closes;
       after = q;
       after_is = after;
       ending = ending;

@@ -1,19 +1,25 @@
 -- What is open behind one line: its containers, the kind of the leaf, and that it is such as may be open.
-use Rattle.std.proofs.Common.{◌≡◌, ◌+◌, ◌≤◌, Bool, true, false, cond, ◌&&◌, List, [], ◌∷◌, ◌++◌}
+use Rattle.std.proofs.Common.{◌≡◌, ℕ, ◌+◌, ◌≤◌, Bool, true, false, cond, ◌&&◌, List, [], ◌∷◌, ◌++◌}
 use Rattle.std.proofs.Common.{length, refl, ap, sym, ◌∙◌, subst, append-nil, arith}
 use Rattle.std.proofs.lemmas.Bool.{and_parts}
+use Rattle.std.proofs.lemmas.List.{map-append}
 use Rattle.md_engine.specs.declared.configuration.ParseOptions.{ParseOptions}
 use Rattle.md_engine.specs.declared.tokenizer.held_leaf.HeldLeaf.{HeldLeaf}
 use Rattle.md_engine.specs.declared.tokenizer.held_leaf.HeldLeaf.TheVariants as held_leaf
+use Rattle.md_engine.specs.declared.tokenizer.held_leaf.Progress.TheVariants.{Fresh}
+use Rattle.md_engine.specs.declared.tokenizer.held_leaf.Progress.{Progress}
 use Rattle.md_definition.specs.Leaves.{Came, Finished, Opened}
 use Rattle.md_definition.specs.Rest.{Rest}
-use Rattle.md_definition.specs.State.{At, Container, Kept, Leaf, NoLeaf, Path, Spot, Within, kept, spot, texts}
+use Rattle.md_definition.specs.Rest.{trim_start}
+use Rattle.md_definition.specs.State.{At, Container, Kept, Leaf, NoLeaf, OpenParagraph, Path, Spot, Within, cut, kept, spot, texts}
 use Rattle.md_definition.specs.Step.{came, step}
 use Rattle.md_definition.specs.Tree.{Blocks, End}
+use Rattle.markdown_blocks.proofs.RegistryFound.{text_on}
+use Rattle.markdown_blocks.proofs.TextProgress.{IsFresh, contained-progress, unlazy-fresh}
 use Rattle.markdown_blocks.specs.Change.{is_none, open_behind}
 use Rattle.markdown_blocks.specs.Fronted.{Contained}
 use Rattle.markdown_blocks.specs.HeldLeaf.{IsBuiltLeaf, has_lines, kind_of_leaf, left_by, may_go_on, takes_lazy}
-use Rattle.markdown_blocks.specs.Leaf.Paragraph.{held_of}
+use Rattle.markdown_blocks.specs.Leaf.Paragraph.{held_of, then_front}
 use Rattle.markdown_blocks.specs.Parsed.{IsBuilt}
 use Rattle.markdown_blocks.specs.Registry.{LeafName, further_of, leaf, text_leaf, turn_leaf}
 use Rattle.markdown_blocks.specs.Rows.{BlankRow, LeafRow, RowKind, TextRow, is_further, is_lazy, is_text, line_behind}
@@ -30,6 +36,9 @@ use Rattle.markdown_blocks.proofs.LineSteps.{step-contained, with_came}
 use Rattle.markdown_blocks.proofs.OpenSpan.{Begun, ComesShallow, OpenSpan, TurnsText}
 use Rattle.markdown_blocks.proofs.Registry.{insider-open, laws, leaf-begun, open-span, text-laws, text-turns}
 use Rattle.markdown_blocks.proofs.ShallowBlocks.{shallow-then}
+use Rattle.md_parts.proofs.ProgressLemmas.{progress-snoc}
+use Rattle.md_parts.specs.Progress.{progress, progress_of, steps, text_behind}
+use Rattle.md_parts.specs.Progress as stepped
 
 -- Where a line goes on the leaf that is open: it is one of several lines, or text that the line turns.
 
@@ -94,18 +103,18 @@ span-takes options r open_leaf is goes = record {
 
 -- one that goes on text turns it
 text-takes : (options : ParseOptions) (r : Rest) (lines : List Kept) →
-    is_further (line_kind options held_leaf.Text r) held_leaf.Text ≡ true →
-    Takes options (text_leaf.held lines) r
-text-takes options r lines goes = go (line_kind options held_leaf.Text r) refl goes
+    is_further (line_kind options (text_on lines) r) (text_on lines) ≡ true → Takes options (text_leaf.held lines) r
+text-takes options r lines goes = go (line_kind options (text_on lines) r) refl goes
   where
-    go : (kind : RowKind) → line_kind options held_leaf.Text r ≡ kind → is_further kind held_leaf.Text ≡ true →
+    go : (kind : RowKind) → line_kind options (text_on lines) r ≡ kind → is_further kind (text_on lines) ≡ true →
         Takes options (text_leaf.held lines) r
     go BlankRow e f = absurd (cc)
     go TextRow e f = absurd (cc)
     go (LeafRow l) e f =
-        let turns : TurnsText l = text-turns l f in
+        let turns : TurnsText l = text-turns (progress (texts lines)) l f in
+        let left : List (List ℕ) = (cut options (texts lines)).1 in
         let comes : (leaf l).comes options (text_leaf.held lines) r ≡
-        Finished (turn_leaf.block (texts lines) r) = turns.comes options lines r in
+        Finished (turn_leaf.block left r) = turns.comes options lines r in
         record {
           name = l;
           ends = turns.ends;
@@ -113,11 +122,11 @@ text-takes options r lines goes = go (line_kind options held_leaf.Text r) refl g
           may = refl;
           further = f;
           kind = e;
-          starts = kind-starts options held_leaf.Text r l e;
+          starts = kind-starts options (text_on lines) r l e;
           built = subst (λ (c : Came). IsBuiltLeaf (left_by c)) (sym comes) tt;
           shallow =
               subst ComesShallow (sym comes)
-              (λ bs h. shallow-then bs (turn_leaf.block (texts lines) r) h (turns.shallow (texts lines) r));
+              (λ bs h. shallow-then bs (turn_leaf.block left r) h (turns.shallow left r));
         }
 
 takes : (options : ParseOptions) (r : Rest) (open_leaf : Leaf) → IsBuiltLeaf open_leaf →
@@ -177,9 +186,9 @@ came-leaf : (bs : Blocks) (c : Came) → (came bs c).leaf ≡ left_by c
 came-leaf bs (Opened open_leaf) = refl
 came-leaf bs (Finished block) = refl
 
-pub came-spot : (p : Path) (c : Came) → (spot (with_came p c)).leaf ≡ left_by c
-came-spot (At s) c = came-leaf s.here c
-came-spot (Within before container p) c = came-spot p c
+pub came-spot : (options : ParseOptions) (p : Path) (c : Came) → (spot (with_came options p c)).leaf ≡ left_by c
+came-spot options (At s) c = came-leaf (then_front options s.here s.leaf) c
+came-spot options (Within before container p) c = came-spot options p c
 
 -- a line that begins a leaf, where it goes on none
 pub begun-leaf : (options : ParseOptions) (on : HeldLeaf) (r : Rest) → is_further (line_kind options on r) on ≡ false →
@@ -210,7 +219,8 @@ plain-further : (options : ParseOptions) (p : Path) (c : Contained) → GoesOn o
 plain-further options p c goes =
     subst IsBuiltLeaf
     (sym
-    (came-spot (renewed c.change.stays p) (come_by options (spot p).leaf c.rest (line_kind options c.on c.rest))))
+    (came-spot options (renewed c.change.stays p)
+    (come_by options (spot p).leaf c.rest (line_kind options c.on c.rest))))
     (subst (λ (kind : RowKind). IsBuiltLeaf (left_by (come_by options (spot p).leaf c.rest kind))) (sym goes.kind)
     goes.is.built)
 
@@ -281,10 +291,11 @@ containers-new_line options on [] r bs = refl
 containers-new_line options on (c ∷ cs) r bs =
     ap (λ (l : List Container). c ∷ l) (containers-new_line options on cs r End)
 
-containers-came : (p : Path) (c : Came) → containers_of (with_came p c) ≡ containers_of p
-containers-came (At s) c = refl
-containers-came (Within before container p) c =
-    ap (λ (cs : List Container). container ∷ cs) (containers-came p c)
+containers-came : (options : ParseOptions) (p : Path) (c : Came) →
+    containers_of (with_came options p c) ≡ containers_of p
+containers-came options (At s) c = refl
+containers-came options (Within before container p) c =
+    ap (λ (cs : List Container). container ∷ cs) (containers-came options p c)
 
 -- where none ends, those that stay are all
 pub containers-all : (options : ParseOptions) (p : Path) (r : Rest) →
@@ -321,7 +332,7 @@ containers-step options p r built plain =
         (sym (lazy-opens (still_of p) c.change.opens (line_kind options c.on c.rest) e))
     go false true e f =
         let goes = goes-on options p r plain f in
-        containers-came (renewed c.change.stays p)
+        containers-came options (renewed c.change.stays p)
         (come_by options (spot p).leaf c.rest (line_kind options c.on c.rest))
         ∙ all goes.closes ∙ sym (append-nil c.change.stays)
         ∙ ap (λ (l : List Container). c.change.stays ++ l) (sym goes.opens)
@@ -333,15 +344,29 @@ containers-step options p r built plain =
 
 -- The leaf that is open behind a line.
 
-text-behind : (options : ParseOptions) (on : HeldLeaf) (r : Rest) (kind : RowKind) → is_text kind ≡ true →
-    line_behind options on r kind ≡ held_leaf.Text
-text-behind options on r BlankRow e = cc
-text-behind options on r (LeafRow l) e = cc
-text-behind options on r TextRow e = refl
+text-left : (options : ParseOptions) (on : HeldLeaf) (r : Rest) (kind : RowKind) → is_text kind ≡ true →
+    line_behind options on r kind ≡ text_behind on r.bytes
+text-left options on r BlankRow e = cc
+text-left options on r (LeafRow l) e = cc
+text-left options on r TextRow e = refl
 
-still-longer : (p : Path) (ks : List Kept) → still_of (longer p ks) ≡ held_leaf.Text
-still-longer (At s) ks = refl
-still-longer (Within before container p) ks = still-longer p ks
+-- what is held of a leaf tells how far the definitions of its lines have come
+held-progress : (open_leaf : Leaf) → progress_of (kind_of_leaf open_leaf) ≡ progress (texts (held_of open_leaf))
+unfolding steps
+held-progress (OpenParagraph lines) = refl
+held-progress _ = refl
+
+-- with one line more
+one-longer : (open_leaf : Leaf) (r : Rest) →
+    held_leaf.Text (progress (texts (held_of open_leaf ++ kept r ∷ []))) ≡ text_behind (kind_of_leaf open_leaf) r.bytes
+one-longer open_leaf r =
+    ap (λ (lines : List (List ℕ)). held_leaf.Text (progress lines)) (map-append (λ k. k.text) (held_of open_leaf) (kept r ∷ []))
+    ∙ ap held_leaf.Text (progress-snoc (texts (held_of open_leaf)) (trim_start r.bytes))
+    ∙ ap (λ (at : Progress). held_leaf.Text (stepped.step at (trim_start r.bytes))) (sym (held-progress open_leaf))
+
+still-longer : (p : Path) (r : Rest) → still_of (longer p (kept r ∷ [])) ≡ text_behind (still_of p) r.bytes
+still-longer (At s) r = one-longer s.leaf r
+still-longer (Within before container p) r = still-longer p r
 
 still-behind : (p : Path) (f : Blocks → Path) (x : HeldLeaf) → ((bs : Blocks) → still_of (f bs) ≡ x) →
     still_of (behind_path p f) ≡ x
@@ -349,29 +374,32 @@ still-behind (At s) f x each = each s.here
 still-behind (Within before container p) f x each = still-behind p f x each
 
 still-line : (options : ParseOptions) (on : HeldLeaf) (bs : Blocks) (r : Rest) →
-    is_further (line_kind options on r) on ≡ false →
+    is_further (line_kind options on r) on ≡ false → (line_kind options on r ≡ TextRow → IsFresh on) →
     kind_of_leaf (spot_by options bs [] r (line_kind options on r)).leaf ≡
     line_behind options on r (line_kind options on r)
-still-line options on bs r begins = go (line_kind options on r) refl
+still-line options on bs r begins fresh = go (line_kind options on r) refl
   where
     go : (kind : RowKind) → line_kind options on r ≡ kind →
         kind_of_leaf (spot_by options bs [] r kind).leaf ≡ line_behind options on r kind
     go BlankRow e = refl
     go (LeafRow l) e =
         ap kind_of_leaf (came-leaf bs ((leaf l).comes options NoLeaf r)) ∙ (begun-leaf options on r begins l e).holds
-    go TextRow e = refl
+    go TextRow e =
+        one-longer NoLeaf r
+        ∙ ap (λ (at : Progress). held_leaf.Text (stepped.step at (trim_start r.bytes))) (sym (fresh e))
 
 still-new_line : (options : ParseOptions) (on : HeldLeaf) (cs : List Container) (r : Rest) (bs : Blocks) →
-    is_further (line_kind options on r) on ≡ false →
+    is_further (line_kind options on r) on ≡ false → (line_kind options on r ≡ TextRow → IsFresh on) →
     still_of (new_line options on cs r bs) ≡ line_behind options on r (line_kind options on r)
-still-new_line options on [] r bs begins = still-line options on bs r begins
-still-new_line options on (c ∷ cs) r bs begins = still-new_line options on cs r End begins
+still-new_line options on [] r bs begins fresh = still-line options on bs r begins fresh
+still-new_line options on (c ∷ cs) r bs begins fresh = still-new_line options on cs r End begins fresh
 
 still-further : (options : ParseOptions) (p : Path) (c : Contained) → GoesOn options p c →
     still_of (further_path options p c) ≡ line_behind options c.on c.rest (line_kind options c.on c.rest)
 still-further options p c goes =
     ap kind_of_leaf
-    (came-spot (renewed c.change.stays p) (come_by options (spot p).leaf c.rest (line_kind options c.on c.rest)))
+    (came-spot options (renewed c.change.stays p)
+    (come_by options (spot p).leaf c.rest (line_kind options c.on c.rest)))
     ∙ ap (λ (kind : RowKind). kind_of_leaf (left_by (come_by options (spot p).leaf c.rest kind))) goes.kind
     ∙ (laws goes.is.name).holds_is options (spot p).leaf c.rest goes.is.starts
     ∙ ap (λ (on : HeldLeaf). (leaf goes.is.name).holds options on c.rest) (sym goes.on)
@@ -390,12 +418,37 @@ still-step options p r built plain =
     kind : RowKind
     kind = line_kind options c.on c.rest
 
+    on-progress : progress_of c.on ≡ cond (is_none c.change.opens) (progress_of (still_of p)) Fresh
+    on-progress = contained-progress options (containers_of p) (still_of p) r
+
+    -- a line that goes on the open text meets it
+    lazy-on : goes_lazy options p c ≡ true → progress_of c.on ≡ progress_of (still_of p)
+    lazy-on e =
+        on-progress
+        ∙ ap (λ (l : List Container). cond (is_none l) (progress_of (still_of p)) Fresh)
+        (lazy-opens (still_of p) c.change.opens kind e)
+
+    -- and where text does not, none is open
+    unlazy-on : kind ≡ TextRow → goes_lazy options p c ≡ false → IsFresh c.on
+    unlazy-on text e =
+        on-progress
+        ∙ shut (is_none c.change.opens) (takes_lazy (still_of p)) refl
+        (ap (λ (k : RowKind). is_lazy (still_of p) c.change.opens k) (sym text) ∙ e)
+      where
+        shut : (x y : Bool) → takes_lazy (still_of p) ≡ y → (takes_lazy (still_of p) && x && true) ≡ false →
+            cond x (progress_of (still_of p)) Fresh ≡ Fresh
+        shut false y k e = refl
+        shut true true k e = let bad : true ≡ false = sym (ap (λ (t : Bool). t && true && true) k) ∙ e in cc
+        shut true false k e = unlazy-fresh (still_of p) k
+
     go : (x y : Bool) → goes_lazy options p c ≡ x → goes_further options c ≡ y →
         still_of (path_by options p c x y) ≡ line_behind options c.on c.rest kind
     go true y e f =
-        still-longer (renewed c.change.stays p) (kept c.rest ∷ [])
-        ∙ sym (text-behind options c.on c.rest kind (lazy-text (still_of p) c.change.opens kind e))
+        still-longer (renewed c.change.stays p) c.rest
+        ∙ ap (λ (s : Spot). text_behind (kind_of_leaf s.leaf) c.rest.bytes) (renewed-spot c.change.stays p)
+        ∙ ap (λ (at : Progress). held_leaf.Text (stepped.step at (trim_start c.rest.bytes))) (sym (lazy-on e))
+        ∙ sym (text-left options c.on c.rest kind (lazy-text (still_of p) c.change.opens kind e))
     go false true e f = still-further options p c (goes-on options p r plain f)
     go false false e f =
         still-behind (kept_to options c.change.stays p) (new_line options c.on c.change.opens c.rest)
-        (line_behind options c.on c.rest kind) (λ bs. still-new_line options c.on c.change.opens c.rest bs f)
+        (line_behind options c.on c.rest kind) (λ bs. still-new_line options c.on c.change.opens c.rest bs f (λ text. unlazy-on text e))

@@ -16,7 +16,6 @@ use Rattle.md_seam.specs.Events.Tiles.{chunks_stand, part_kind, parts_stand}
 use Rattle.markdown_blocks.specs.LineFlags.{ending_name}
 use Rattle.markdown_blocks.specs.Change.{ends_of}
 use Rattle.markdown_blocks.specs.Document.{body_point, mark_end, mark_events}
-use Rattle.markdown_blocks.specs.HeldLeaf.{may_go_on}
 use Rattle.markdown_blocks.specs.Rows.{final_row, first_row, Group, Row}
 use Rattle.markdown_blocks.specs.Rows.{ending_events, groups, tail_events}
 use Rattle.markdown_blocks.specs.Unread.{group_unread, listed_group, listed_groups}
@@ -28,6 +27,7 @@ use Rattle.markdown_blocks.proofs.GroupFacts.{group-front, group-leaf, more-grou
 use Rattle.markdown_blocks.proofs.RowFacts.{AreRows}
 use Rattle.markdown_blocks.proofs.PartsStand.{Stands, stands-append, stands-outside}
 use Rattle.markdown_blocks.proofs.FrontNames.{ends-no_parts, ends-unlinked, fronts-no_parts, fronts-unlinked}
+use Rattle.markdown_blocks.proofs.TextProgress.{IsShut}
 use Rattle.markdown_blocks.specs.Rows.{group_ending, is_blank_group}
 
 -- Events in front of others.
@@ -72,7 +72,7 @@ stands-groups options bytes (group ∷ gs) are =
 
 rows-stand : (options : ParseOptions) (bytes : List ℕ) (cs : List Container) (still : HeldLeaf) (p : Point)
     (lines : List (List ℕ)) (rows : List Row) →
-    may_go_on still ≡ false → AreRows options bytes cs still p lines rows → EachNoContent rows →
+    IsShut still → AreRows options bytes cs still p lines rows → EachNoContent rows →
     Stands bytes (listed_groups options bytes (groups rows))
 rows-stand options bytes cs still p lines rows shut are quiet =
     stands-groups options bytes (groups rows) (groups-are options bytes cs still p lines rows shut are quiet)
@@ -94,7 +94,7 @@ stands-mark bytes = go (has_mark bytes)
 
 blocks-both : (options : ParseOptions) (bytes : List ℕ) (cs : List Container) (still : HeldLeaf) (p : Point)
     (lines : List (List ℕ)) (rows : List Row) →
-    may_go_on still ≡ false → AreRows options bytes cs still p lines rows → EachNoContent rows →
+    IsShut still → AreRows options bytes cs still p lines rows → EachNoContent rows →
     Stands bytes (mark_events bytes ++ listed_groups options bytes (groups rows))
 blocks-both options bytes cs still p lines rows shut are quiet =
     stands-append bytes (mark_events bytes) (listed_groups options bytes (groups rows)) (stands-mark bytes)
@@ -102,7 +102,7 @@ blocks-both options bytes cs still p lines rows shut are quiet =
 
 pub blocks-stand : (options : ParseOptions) (bytes : List ℕ) (cs : List Container) (still : HeldLeaf) (p : Point)
     (lines : List (List ℕ)) (rows : List Row) →
-    may_go_on still ≡ false → AreRows options bytes cs still p lines rows → EachNoContent rows →
+    IsShut still → AreRows options bytes cs still p lines rows → EachNoContent rows →
     parts_stand bytes (mark_events bytes ++ listed_groups options bytes (groups rows)) ≡ true
 blocks-stand options bytes cs still p lines rows shut are quiet =
     all-stand bytes (mark_events bytes ++ listed_groups options bytes (groups rows))
@@ -110,7 +110,7 @@ blocks-stand options bytes cs still p lines rows shut are quiet =
 
 pub blocks-chunks : (options : ParseOptions) (bytes : List ℕ) (cs : List Container) (still : HeldLeaf) (p : Point)
     (lines : List (List ℕ)) (rows : List Row) →
-    may_go_on still ≡ false → AreRows options bytes cs still p lines rows → EachNoContent rows →
+    IsShut still → AreRows options bytes cs still p lines rows → EachNoContent rows →
     chunks_stand 0 (mark_events bytes ++ listed_groups options bytes (groups rows)) ≡ true
 blocks-chunks options bytes cs still p lines rows shut are quiet =
     all-chunks bytes (mark_events bytes ++ listed_groups options bytes (groups rows))

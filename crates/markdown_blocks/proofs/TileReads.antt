@@ -22,7 +22,6 @@ use Rattle.markdown_blocks.specs.Change.{ends_of}
 use Rattle.markdown_blocks.specs.Document.{body_point, mark_end, mark_events}
 use Rattle.markdown_blocks.specs.FlowReads.{text_cells, text_rows}
 use Rattle.markdown_blocks.specs.Parsed.{reads_plain}
-use Rattle.markdown_blocks.specs.HeldLeaf.{may_go_on}
 use Rattle.markdown_blocks.specs.Rows.{final_row, first_row, group_done, Group, Row}
 use Rattle.markdown_blocks.specs.Rows.{ending_events, group_events, groups, groups_events, held_at, tail_events}
 use Rattle.markdown_blocks.specs.Unread.{group_unread, listed_group, listed_groups}
@@ -30,6 +29,7 @@ use Rattle.markdown_blocks.proofs.GroupLemmas.{AreGroups, HasFront, groups-are}
 use Rattle.markdown_blocks.proofs.JoinedLemmas.{EachNoContent, rows_at-no_content}
 use Rattle.markdown_blocks.proofs.GroupFacts.{group-front, group-leaf, more-groups}
 use Rattle.markdown_blocks.proofs.RowFacts.{AreRows}
+use Rattle.markdown_blocks.proofs.TextProgress.{IsShut}
 use Rattle.markdown_blocks.proofs.TileParts.{ending-no_part}
 use Rattle.markdown_blocks.proofs.FillFacts.{Fill, fill-append, fill-same}
 use Rattle.markdown_blocks.proofs.FrontNames.{ends-no_parts, ends-unlinked, fronts-no_parts, fronts-unlinked}
@@ -109,7 +109,7 @@ fill-mark bytes = go (has_mark bytes)
 -- The same with a mark in front.
 pub blocks-filled : (options : ParseOptions) (bytes : List ℕ) (open_before : List Container) (still : HeldLeaf)
     (p : Point) (lines : List (List ℕ)) (rows : List Row) →
-    may_go_on still ≡ false → AreRows options bytes open_before still p lines rows → EachNoContent rows →
+    IsShut still → AreRows options bytes open_before still p lines rows → EachNoContent rows →
     IsFilled bytes (mark_events bytes ++ listed_groups options bytes (groups rows))
     (mark_events bytes ++ groups_events options bytes (groups rows))
 blocks-filled options bytes open_before still p lines rows shut are quiet =
@@ -127,7 +127,7 @@ pub text-filled : (options : ParseOptions) (bytes : List ℕ) (p : Point) (lines
     (mark_events bytes ++ groups_events options bytes (groups (text_rows options bytes p)))
 text-filled options bytes p lines are =
     let cells : List Cell = text_cells bytes options p in
-    blocks-filled options bytes [] held_leaf.None p lines (text_rows options bytes p) refl are
+    blocks-filled options bytes [] held_leaf.None p lines (text_rows options bytes p) (refl, refl) are
     (rows_at-no_content options (suc (length cells)) [] held_leaf.None cells p)
 
 -- The empty text has no events.

@@ -61,6 +61,8 @@ use Rattle.markdown_blocks.proofs.RowFacts as f
 use Rattle.markdown_blocks.proofs.SpelledRows.{spelled-rows}
 use Rattle.markdown_blocks.proofs.Registry.{open-span, text-laws}
 use Rattle.markdown_blocks.proofs.ShallowBlocks.{shallow-then}
+use Rattle.markdown_blocks.proofs.Paragraph.Laws.{shallow-front}
+use Rattle.markdown_blocks.specs.Leaf.Paragraph.{then_front}
 use Rattle.markdown_blocks.proofs.RegistryRead.{AreRead, IsRead, IsReadTaken, kinds-read, read-front}
 use Rattle.markdown_blocks.proofs.RegistryContainers.{opens-read, over-empty, read-shallow}
 use Rattle.md_outline.specs.HeadingDepths.{are_shallow}
@@ -165,9 +167,11 @@ shallow-behind : (p : Path) (f : Blocks → Path) → HoldsShallow p →
 shallow-behind (At s) f h each = each s.here h
 shallow-behind (Within before container p) f h each = (h.0, h.1, shallow-behind p f h.2 each)
 
-shallow-came : (p : Path) (c : Came) → ComesShallow c → HoldsShallow p → HoldsShallow (with_came p c)
-shallow-came (At s) c shallow h = shallow s.here h
-shallow-came (Within before container p) c shallow h = (h.0, h.1, shallow-came p c shallow h.2)
+shallow-came : (options : ParseOptions) (p : Path) (c : Came) → ComesShallow c → HoldsShallow p →
+    HoldsShallow (with_came options p c)
+shallow-came options (At s) c shallow h =
+    shallow (then_front options s.here s.leaf) (shallow-front options s.here s.leaf h)
+shallow-came options (Within before container p) c shallow h = (h.0, h.1, shallow-came options p c shallow h.2)
 
 shallow-line : (options : ParseOptions) (on : HeldLeaf) (bs : Blocks) (r : Rest) →
     is_further (line_kind options on r) on ≡ false → are_shallow bs ≡ true →
@@ -189,7 +193,8 @@ shallow-new_line options on (c ∷ cs) r bs begins read h =
 shallow-further : (options : ParseOptions) (p : Path) (c : Contained) → GoesOn options p c → AreRead c.change.stays →
     HoldsShallow p → HoldsShallow (further_path options p c)
 shallow-further options p c goes stay h =
-    shallow-came (renewed c.change.stays p) (come_by options (spot p).leaf c.rest (line_kind options c.on c.rest))
+    shallow-came options (renewed c.change.stays p)
+    (come_by options (spot p).leaf c.rest (line_kind options c.on c.rest))
     (subst (λ (kind : RowKind). ComesShallow (come_by options (spot p).leaf c.rest kind)) (sym goes.kind)
     goes.is.shallow) (shallow-renewed c.change.stays p stay h)
 

@@ -15,10 +15,10 @@ use Rattle.md_leaves.proofs.TurnedLemmas.{Unlined, no-ending, passes-parts, turn
 use Rattle.md_leaves.proofs.TurnedLemmas.{turned-underlined}
 use Rattle.md_leaves.proofs.TurnedLemmas as turns
 use Rattle.md_parts.specs.DefinitionRule.{DefinitionParts}
-use Rattle.md_seam.specs.Events.Nested.{around, enter, exit, is_enter, pair}
+use Rattle.md_seam.specs.Events.Nested.{around, exit, is_enter, pair}
 use Rattle.md_seam.specs.Events.Places.{past_text, same_place}
 use Rattle.md_seam.specs.Events.Prefix.{is_prefix}
-use Rattle.markdown_blocks.specs.BlockList.{lines_unread}
+use Rattle.markdown_blocks.specs.BlockList.{heading_unread, lines_unread, turned_unread}
 use Rattle.markdown_blocks.specs.Change.{ends_of}
 use Rattle.markdown_blocks.specs.HeldLeaf.{has_lines, may_go_on, takes_lazy}
 use Rattle.markdown_blocks.specs.LineFlags.{ending_name}
@@ -26,7 +26,7 @@ use Rattle.markdown_blocks.specs.Registry.{LeafName, container_name, leaf, resol
 use Rattle.markdown_blocks.specs.Rows.{BlankRow, Group, LeafRow, Lines, Row, RowKind, Single, Span, TextRow, Turned}
 use Rattle.markdown_blocks.specs.Rows.{blank_line, ending_events, ending_of, groups, is_blank_by, is_further, last_row}
 use Rattle.markdown_blocks.specs.Rows.{leaf_events, leaf_unread, row_events, rows_events, tail_events, defined_unread}
-use Rattle.markdown_blocks.specs.Rows.{text_done}
+use Rattle.markdown_blocks.specs.Rows.{text_done, turned_done}
 use Rattle.markdown_blocks.specs.Unread.{linked_lines, listed_group, listed_row_by, set_groups, text_unread}
 use Rattle.markdown_blocks.specs.Unread.{turned_groups, unread_group, unread_groups, unread_lines}
 use Rattle.markdown_blocks.proofs.ContainerNames.{container-facts}
@@ -36,7 +36,7 @@ use Rattle.markdown_blocks.proofs.EachEvent.{each-append, each-as}
 use Rattle.markdown_blocks.proofs.FrontFacts.{LinePrefix}
 use Rattle.markdown_blocks.proofs.FrontNames.{HasFront, ends-are, ends-first, fronts-are}
 use Rattle.markdown_blocks.proofs.GroupLemmas.{lines-prefixed, under-prefixed}
-use Rattle.markdown_blocks.proofs.GroupsAre.{AreGroups, AreLines, AreSpan, EndsBeforeGroups, IsSingle, IsSpanLine}
+use Rattle.markdown_blocks.proofs.GroupsAre.{AreGroups, AreLines, AreSpan, EndsBeforeGroups, IsLeft, IsSingle, IsSpanLine}
 use Rattle.markdown_blocks.proofs.GroupsAre.{IsUnder, further-may, groups-are, line-of, span-begins}
 use Rattle.markdown_blocks.proofs.GroupsSet.{leaves-set}
 use Rattle.markdown_blocks.proofs.HeadingSetext.Line.{underline-unturned, underline_parts}
@@ -52,8 +52,11 @@ use Rattle.markdown_blocks.proofs.Text.Cut.{IsCutText, between}
 use Rattle.markdown_blocks.proofs.Text.Cut.IsCutText.{Defines, Follows, Remains}
 use Rattle.markdown_blocks.proofs.Text.Cuts.{cut-is}
 use Rattle.markdown_blocks.proofs.Text.Names.{IsOfDefinition, between-names, defined-names, unturned-of}
-use Rattle.markdown_blocks.proofs.Text.Off.{unread-off}
-use Rattle.markdown_blocks.proofs.Turned.Under.{under-is, under-off}
+use Rattle.markdown_blocks.proofs.Text.Stands.{last-behind}
+use Rattle.markdown_blocks.proofs.Turned.Cut.{IsCutHeading, heading-cut, left-remains}
+use Rattle.markdown_blocks.proofs.Turned.Cut.{IsCutHeading as cut_heading}
+use Rattle.markdown_blocks.proofs.Turned.Under.{under-is}
+use Rattle.markdown_blocks.proofs.TextProgress.{IsShut}
 use Rattle.markdown_blocks.proofs.UnturnedFacts.{AreUnturned, IsUnturned, fronts-unturned}
 
 -- Events that pass.
@@ -141,8 +144,8 @@ span_line-unturned options bytes row is lines =
 -- a leaf that a line may go on, and that takes no lazy lines, has several
 lines-of : (on : HeldLeaf) → may_go_on on ≡ true → takes_lazy on ≡ false → has_lines on ≡ true
 lines-of held_leaf.None may lazy = cc
-lines-of held_leaf.Text may lazy = cc
-lines-of held_leaf.LazyText may lazy = cc
+lines-of (held_leaf.Text at) may lazy = cc
+lines-of (held_leaf.LazyText at) may lazy = cc
 lines-of _ may lazy = refl
 
 span-unturned : (options : ParseOptions) (bytes : List ℕ) (row : Row) (rows : List Row) →
@@ -340,61 +343,45 @@ text-turned options bytes row rows es are front none =
     ∙ sym (append_assoc row.front text (tail ++ turned es))
     ∙ sym (append_assoc (row.front ++ text) tail (turned es))
 
--- what stands in front of a text, the text, its ending, what stands in front of its underline, the underline, and
--- what stands behind it
-laid : (front text ending between under tail es : List Event) →
-    (((front ++ text) ++ ending) ++ ((between ++ under) ++ tail)) ++ es ≡
-    front ++ (text ++ ((ending ++ between) ++ (under ++ (tail ++ es))))
-laid front text ending between under tail es = simp append_assoc
+-- events one behind the other
+in_line : (a b c d e : List Event) → (a ++ b ++ c ++ d) ++ e ≡ a ++ (b ++ (c ++ (d ++ e)))
+in_line a b c d e = simp append_assoc
 
-laid-turned : (front text ending between under tail es : List Event) (b e : Event) →
-    front ++ ((b ∷ ((text ++ ((ending ++ between) ++ under)) ++ e ∷ [])) ++ (tail ++ es)) ≡
-    ((front ++ (b ∷ ((((text ++ ending) ++ between) ++ under) ++ e ∷ []))) ++ tail) ++ es
-laid-turned front text ending between under tail es b e = simp append_assoc
+-- a text, its ending, what stands in front of its underline, the underline, and what stands behind it
+laid : (text ending before under tail es : List Event) →
+    text ++ (ending ++ ((before ++ under ++ tail) ++ es)) ≡ text ++ ((ending ++ before) ++ (under ++ (tail ++ es)))
+laid text ending before under tail es = simp append_assoc
 
--- a text with its underline
-heading-turned : (options : ParseOptions) (bytes : List ℕ) (row : Row) (rows : List Row) (under : Row)
-    (es : List Event) →
-    AreLines options bytes row rows → IsUnder options bytes (last_row row rows) under → HasFront bytes row →
-    (options.constructs.definition && options.constructs.heading_setext) ≡ false →
-    turned (unread_group options bytes (Turned row rows under) ++ es) ≡
-    listed_group options bytes (Turned row rows under) ++ turned es
-heading-turned options bytes row rows under es are is front apart =
+laid-turned : (text ending before under : List Event) →
+    text ++ ((ending ++ before) ++ under) ≡ text ++ ending ++ before ++ under
+laid-turned text ending before under = simp append_assoc
+
+-- the lines of a text with their underline
+lines-headed : (options : ParseOptions) (bytes : List ℕ) (row : Row) (rows : List Row) (under : Row)
+    (es : List Event) → AreLines options bytes row rows → IsUnder options bytes (last_row row rows) under →
+    turned (lines_unread row rows ++ (tail_events n.LineEnding (last_row row rows) ++ (row_events under ++ es))) ≡
+    heading_unread under row rows ++ (tail_events (ending_of under.kind under) under ++ turned es)
+lines-headed options bytes row rows under es are is =
     let u : IsUnderline under = under-line options bytes row rows under are is in
     let U : List Event = around n.HeadingSetextUnderline under.first u.end u.marks in
+    let text : List Event = around turn_leaf.text row.first last.end (unread_lines row rows) in
     let heading : List Event → List Event → Point → List Event =
-    λ e line q.
-    (row.front
-    ++ around turn_leaf.name row.first q
-    (around turn_leaf.text row.first last.end (unread_lines row rows) ++ e ++ under.front ++ line))
-    ++ tail in
-    ap
-    (λ (text : List Event).
-    turned ((((row.front ++ text) ++ tail_events n.LineEnding last) ++ row_events under) ++ es))
-    (unread-off options bytes row rows (under-off options bytes row rows under are is apart))
-    ∙ ap₂
-    (λ (e line : List Event).
-    turned ((((row.front ++ lines_unread row rows) ++ e) ++ ((under.front ++ line) ++ tail)) ++ es))
+    λ e line q. around turn_leaf.name row.first q (text ++ e ++ under.front ++ line) in
+    ap₂
+    (λ (e line : List Event). turned (lines_unread row rows ++ (e ++ ((under.front ++ line ++ tail) ++ es))))
     tail-is (u.leaf_is ∙ u.is)
-    ∙ ap turned (laid row.front (lines_unread row rows) E under.front U tail es)
-    ∙ passed row.front (lines_unread row rows ++ ((E ++ under.front) ++ (U ++ (tail ++ es))))
-    (front-unturned bytes row front)
-    ∙ ap (λ (l : List Event). row.front ++ l)
-    (turned-underlined row.first last.end last.end is.after under.first u.end (unread_lines row rows) under.front
+    ∙ ap turned (laid (lines_unread row rows) E under.front U tail es)
+    ∙ turned-underlined row.first last.end last.end is.after under.first u.end (unread_lines row rows) under.front
     u.marks (tail ++ es)
     (each-unturned (unread_lines row rows)
     (linked-unturned text_leaf.link row rows (lines-prefixed options bytes row rows are)))
     (prefixes-are under.front (under-prefixed options bytes last under is))
     (each-unturned u.marks u.marks_unturned)
-    ∙ ap
-    (λ (l : List Event).
-    around n.HeadingSetext row.first u.end
-    (around n.HeadingSetextText row.first last.end (unread_lines row rows) ++ ((E ++ under.front) ++ U))
-    ++ l) (passed tail es (tail-unturned (is_blank_by under.kind under) under)))
-    ∙ laid-turned row.front (around n.HeadingSetextText row.first last.end (unread_lines row rows)) E under.front U tail
-    (turned es) (enter n.HeadingSetext row.first) (exit n.HeadingSetext u.end)
-    ∙ ap (λ (q : Point). heading E U q ++ turned es) u.end_is
-    ∙ ap₂ (λ (e line : List Event). heading e line under.end ++ turned es) (sym ending-last) (sym u.is)
+    ∙ ap₂
+    (λ (inside behind : List Event). around turn_leaf.name row.first u.end inside ++ behind)
+    (laid-turned text E under.front U) (passed tail es (tail-unturned (is_blank_by under.kind under) under))
+    ∙ ap (λ (q : Point). heading E U q ++ (tail ++ turned es)) u.end_is
+    ∙ ap₂ (λ (e line : List Event). heading e line under.end ++ (tail ++ turned es)) (sym ending-last) (sym u.is)
   where
     last : Row
     last = last_row row rows
@@ -413,35 +400,77 @@ heading-turned options bytes row rows under es are is front apart =
         ap (λ (leaves : List Container). ends_of leaves last.end ++ ending_events n.LineEnding last) is.leaves
         ∙ ending-last
 
-groups-turned : (options : ParseOptions) (bytes : List ℕ) (gs : List Group) →
-    (options.constructs.definition && options.constructs.heading_setext) ≡ false → AreGroups options bytes gs →
+-- a text that an underline turns: its definitions pass, and what remains of it is a heading with its underline
+cut-headed : (options : ParseOptions) (bytes : List ℕ) (under row : Row) (rows : List Row)
+    (before behind done more : List Event) → IsCutHeading options bytes under row rows before behind done →
+    turned (before ++ (tail_events n.LineEnding (last_row row rows) ++ (row_events under ++ more))) ≡
+    behind ++ (tail_events (ending_of under.kind under) under ++ turned more)
+cut-headed options bytes under row rows before behind done more (cut_heading.Turned first below are is) =
+    lines-headed options bytes first below under more are is
+cut-headed options bytes under row rows before behind done more
+    (cut_heading.Follows d first own next below q left turns read are is after ending front rest) =
+    let own_events : List Event = defined_unread d first own in
+    let gap : List Event = between (last_row first own).end q next.front in
+    let begun : List Event = own_events ++ gap in
+    let pass : AreUnturned begun = each-append IsUnturned own_events gap (defined-unturned bytes d first own is)
+    (between-unturned bytes (last_row first own).end q next.first next.front front) in
+    let line : List Event = row_events under ++ more in
+    let follows : List Event = tail_events n.LineEnding (last_row next below) ++ line in
+    let tail : List Event = tail_events (ending_of under.kind under) under in
+    ap (λ (last : Row). turned ((begun ++ left) ++ (tail_events n.LineEnding last ++ line)))
+    (last-behind first own next below)
+    ∙ ap turned (append_assoc begun left follows)
+    ∙ passed begun (left ++ follows) pass
+    ∙ ap (λ (l : List Event). begun ++ l) (cut-headed options bytes under next below left turns read more rest)
+    ∙ sym (append_assoc begun turns (tail ++ turned more))
+
+-- with what stands in front of it, and behind it
+heading-turned : (options : ParseOptions) (bytes : List ℕ) (row : Row) (rows : List Row) (under : Row)
+    (es : List Event) →
+    (are : AreLines options bytes row rows) → IsUnder options bytes (last_row row rows) under →
+    IsLeft options bytes row rows are → HasFront bytes row →
+    turned (unread_group options bytes (Turned row rows under) ++ es) ≡
+    listed_group options bytes (Turned row rows under) ++ turned es
+heading-turned options bytes row rows under es are is left front =
+    let text : List Event = text_unread options bytes row rows in
+    let ending : List Event = tail_events n.LineEnding (last_row row rows) in
+    let heading : List Event = turned_unread options bytes row rows under in
+    let tail : List Event = tail_events (ending_of under.kind under) under in
+    ap turned (in_line row.front text ending (row_events under) es)
+    ∙ passed row.front (text ++ (ending ++ (row_events under ++ es))) (front-unturned bytes row front)
+    ∙ ap (λ (l : List Event). row.front ++ l)
+    (cut-headed options bytes under row rows text heading (turned_done options bytes row rows under) es
+    (heading-cut options bytes row rows under are is (left-remains options bytes row rows are left)))
+    ∙ sym (append_assoc row.front heading (tail ++ turned es))
+    ∙ sym (append_assoc (row.front ++ heading) tail (turned es))
+
+groups-turned : (options : ParseOptions) (bytes : List ℕ) (gs : List Group) → AreGroups options bytes gs →
     turned (set_groups options bytes gs) ≡ turned_groups options bytes gs
-groups-turned options bytes [] apart are = refl
-groups-turned options bytes (Single row ∷ gs) apart are =
+groups-turned options bytes [] are = refl
+groups-turned options bytes (Single row ∷ gs) are =
     passed (listed_group options bytes (Single row)) (set_groups options bytes gs)
     (single-unturned options bytes row are.0 row.kind refl)
-    ∙ ap (λ (l : List Event). listed_group options bytes (Single row) ++ l) (groups-turned options bytes gs apart are.1)
-groups-turned options bytes (Lines row rows ∷ gs) apart are =
+    ∙ ap (λ (l : List Event). listed_group options bytes (Single row) ++ l) (groups-turned options bytes gs are.1)
+groups-turned options bytes (Lines row rows ∷ gs) are =
     text-turned options bytes row rows (set_groups options bytes gs) are.0 are.2
     (no-underline options bytes (last_row row rows) gs are.1 (groups-unlined options bytes gs are.3))
     ∙ ap (λ (l : List Event). listed_group options bytes (Lines row rows) ++ l)
-    (groups-turned options bytes gs apart are.3)
-groups-turned options bytes (Turned row rows under ∷ gs) apart are =
-    heading-turned options bytes row rows under (set_groups options bytes gs) are.0 are.1 are.3 apart
+    (groups-turned options bytes gs are.3)
+groups-turned options bytes (Turned row rows under ∷ gs) are =
+    heading-turned options bytes row rows under (set_groups options bytes gs) are.0 are.1 are.5 are.3
     ∙ ap (λ (l : List Event). listed_group options bytes (Turned row rows under) ++ l)
-    (groups-turned options bytes gs apart are.4)
-groups-turned options bytes (Span row rows ∷ gs) apart are =
+    (groups-turned options bytes gs are.4)
+groups-turned options bytes (Span row rows ∷ gs) are =
     passed (rows_events (row ∷ rows)) (set_groups options bytes gs)
     (span-unturned options bytes row rows are.0 (λ f. let bad : true ≡ false = sym f ∙ are.4 in cc))
-    ∙ ap (λ (l : List Event). rows_events (row ∷ rows) ++ l) (groups-turned options bytes gs apart are.2)
+    ∙ ap (λ (l : List Event). rows_events (row ∷ rows) ++ l) (groups-turned options bytes gs are.2)
 
 -- The resolvers of leaves have run, and setext headings are set.
 pub headings-set : (options : ParseOptions) (bytes : List ℕ) (open_before : List Container) (still : HeldLeaf)
     (p : Point) (lines : List (List ℕ)) (rows : List Row) →
-    may_go_on still ≡ false → AreRows options bytes open_before still p lines rows → EachNoContent rows →
-    (options.constructs.definition && options.constructs.heading_setext) ≡ false →
+    IsShut still → AreRows options bytes open_before still p lines rows → EachNoContent rows →
     turned (resolved (unread_groups options bytes (groups rows))) ≡ turned_groups options bytes (groups rows)
-headings-set options bytes open_before still p lines rows shut are quiet apart =
+headings-set options bytes open_before still p lines rows shut are quiet =
     ap turned (leaves-set options bytes open_before still p lines rows shut are quiet)
-    ∙ groups-turned options bytes (groups rows) apart
+    ∙ groups-turned options bytes (groups rows)
     (groups-are options bytes open_before still p lines rows shut are quiet)

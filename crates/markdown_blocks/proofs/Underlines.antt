@@ -5,6 +5,7 @@ use Rattle.md_engine.specs.declared.configuration.ParseOptions.{ParseOptions}
 use Rattle.md_engine.specs.declared.event.Content.{Content}
 use Rattle.md_engine.specs.declared.event.Point.{Point}
 use Rattle.md_engine.specs.declared.tokenizer.held_leaf.HeldLeaf.TheVariants as held_leaf
+use Rattle.md_engine.specs.declared.tokenizer.held_leaf.Progress.{Progress}
 use Rattle.markdown_blocks.specs.Fronted.{rest_line}
 use Rattle.markdown_blocks.specs.HeldLeaf.{has_lines}
 use Rattle.markdown_blocks.specs.Leaf.HeadingSetext.{setext_leaf, underline_line}
@@ -31,11 +32,11 @@ underline-no_content wants line p =
     (λ q. (refl, refl), λ q. (refl, refl)) line p)
 
 -- so none stands in a line that goes on text
-pub further-quiet : (options : ParseOptions) (bytes line : List ℕ) (row : Row) (l : LeafName) →
-    IsRow options bytes line row → row.kind ≡ LeafRow l → row.on ≡ held_leaf.Text → is_further row.kind row.on ≡ true →
+pub further-quiet : (options : ParseOptions) (bytes line : List ℕ) (row : Row) (l : LeafName) (at : Progress) →
+    IsRow options bytes line row → row.kind ≡ LeafRow l → row.on ≡ held_leaf.Text at → is_further row.kind row.on ≡ true →
     HasNoContent row
-further-quiet options bytes line row l is kind on further wants w =
-    let name : l ≡ HeadingSetext = further-text l
+further-quiet options bytes line row l at is kind on further wants w =
+    let name : l ≡ HeadingSetext = further-text at l
     (ap (leaf l).further (sym on) ∙ ap (λ (k : RowKind). is_further k row.on) (sym kind) ∙ further) in
     subst (NoContent wants) (sym (is.leaf_is HeadingSetext (kind ∙ ap LeafRow name)))
     (underline-no_content wants line row.first)
@@ -52,7 +53,8 @@ pub under-filled : (options : ParseOptions) (bytes : List ℕ) (row : Row) (rows
     AreLines options bytes row rows → IsUnder options bytes (last_row row rows) under →
     is_blank_by under.kind under ≡ false
 under-filled options bytes row rows under are is =
-    let text : under.on ≡ held_leaf.Text = is.on ∙ text-open options bytes row rows are in
+    let open_text = text-open options bytes row rows are in
+    let text : under.on ≡ held_leaf.Text open_text.0 = is.on ∙ open_text.1 in
     ap (λ (kind : RowKind). is_blank_by kind under) is.kind
     ∙ leaf-filled options bytes is.line under is.name is.is is.kind
     (λ i. let bad : None ≡ Some is.name = sym (insider-none under.on (ap has_lines text)) ∙ i in cc)

@@ -42,6 +42,16 @@ abbrev pub text_unread : ParseOptions → List ℕ → Row → List Row → List
 text_unread options bytes row rows =
     cut_at_most defined_unread lines_unread options bytes (suc (length rows)) row rows
 
+-- what a line turns these lines into
+abbrev pub heading_unread : Row → Row → List Row → List Event
+heading_unread under row rows = turned_by (unread_lines row rows) row rows under
+
+-- what stands in the place of a text and the line that turns it: the definitions at the front of the text, and what that
+-- line turns the rest into
+abbrev pub turned_unread : ParseOptions → List ℕ → Row → List Row → Row → List Event
+turned_unread options bytes row rows under =
+    cut_at_most defined_unread (heading_unread under) options bytes (suc (length rows)) row rows
+
 -- a line that is no text
 abbrev pub listed_row_by : List ℕ → RowKind → Row → List Event
 listed_row_by bytes kind row = row.front ++ leaf_unread bytes kind row ++ tail_events (ending_of kind row) row
@@ -50,7 +60,7 @@ listed_row_by bytes kind row = row.front ++ leaf_unread bytes kind row ++ tail_e
 abbrev pub group_unread : ParseOptions → List ℕ → Group → List Event
 group_unread options bytes (Single row) = leaf_unread bytes row.kind row
 group_unread options bytes (Lines row rows) = text_unread options bytes row rows
-group_unread options bytes (Turned row rows under) = turned_by (unread_lines row rows) row rows under
+group_unread options bytes (Turned row rows under) = turned_unread options bytes row rows under
 group_unread options bytes (Span row rows) = span_by (λ (r : Row). r.inside) row rows
 
 -- with what stands in front of it, and behind it

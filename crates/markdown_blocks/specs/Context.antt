@@ -4,6 +4,6 @@ use Rattle.md_engine.specs.declared.tokenizer.held_leaf.HeldLeaf.TheVariants as 
 use Rattle.md_definition.specs.Leaves.{ParagraphContext, NoText, Text, LazyText}
 
 abbrev pub context_of : HeldLeaf → ParagraphContext
-context_of held_leaf.Text = Text
-context_of held_leaf.LazyText = LazyText
+context_of (held_leaf.Text at) = Text
+context_of (held_leaf.LazyText at) = LazyText
 context_of _ = NoText

@@ -3,6 +3,7 @@
 use Rattle.std.specs.Prelude.{◌≡◌, ℕ, zero, suc, Bool, true, false, ◌==◌, Option, Some, None, if◌then◌else◌, List, [], ◌∷◌, ◌++◌, length}
 use Rattle.md_engine.specs.declared.configuration.ParseOptions.{ParseOptions}
 use Rattle.md_engine.specs.declared.state.Name.TheVariants as s
+use Rattle.md_engine.specs.declared.state.content.State.TheVariants as content
 use Rattle.md_engine.specs.declared.state.document.State.{State as DocumentState}
 use Rattle.md_engine.specs.declared.state.document.State.TheVariants as document
 use Rattle.md_engine.specs.declared.state.flow.State.{State as FlowState}
@@ -12,7 +13,7 @@ use Rattle.md_engine.specs.declared.tokenizer.container.name.ContainerKind.{Cont
 use Rattle.md_engine.specs.declared.tokenizer.Scratch.{Scratch}
 use Rattle.md_engine.specs.Meaning.{Accepts, Behaviour, Cell, Fails, Here, Outcome, Refuses}
 use Rattle.md_engine.specs.World.{Flags, closed_events, container_of, kept}
-use Rattle.md_content.specs.ChunkRule.{HasChunk, chunk_at}
+use Rattle.md_content.specs.ChunkRule.{chunk_at}
 use Rattle.md_leaves.specs.BlankRule.{HasBlank, blank_at}
 use Rattle.md_seam.specs.Events.Nested.{pair}
 use Rattle.md_seam.specs.Look.{first_seen}
@@ -210,7 +211,7 @@ leaves_behave options next state cells h = leaf_behaves options next (tried_at s
 
 pub record HasFlow (B : Behaviour) (options : ParseOptions) (next : Rule) : Type 0 where
   pub blank : HasBlank B
-  pub chunk : HasChunk B
+  pub chunk : (cells : List Cell) (h : Here) → B (s.Content content.ChunkStart) cells h ≡ chunk_at cells h
   pub starts : (l : LeafName) (cells : List Cell) (h : Here) → B (leaf l).start cells h ≡ (leaf l).trial options cells h
   pub opens : (k : ContainerKind) (cells : List Cell) (h : Here) → B (opens_with k) cells h ≡ begins_at options k cells h
   pub goes_on : (k : ContainerKind) (cells : List Cell) (h : Here) →

@@ -14,27 +14,34 @@ use Rattle.markdown_blocks.specs.Registry.{IsOpenSpan}
 -- whether a line that starts no other leaf goes on it although not all containers went on (CommonMark 5.1, "laziness"):
 -- so it does on text, also where a lazy line meets it
 abbrev pub takes_lazy : HeldLeaf → Bool
-takes_lazy held_leaf.Text = true
-takes_lazy held_leaf.LazyText = true
+takes_lazy (held_leaf.Text at) = true
+takes_lazy (held_leaf.LazyText at) = true
 takes_lazy _ = false
 
 -- whether it is a leaf of several lines that are no text
 abbrev pub has_lines : HeldLeaf → Bool
 has_lines held_leaf.None = false
-has_lines held_leaf.Text = false
-has_lines held_leaf.LazyText = false
+has_lines (held_leaf.Text at) = false
+has_lines (held_leaf.LazyText at) = false
 has_lines leaf = true
 
 -- whether a line may go on it where all containers went on: a leaf of several lines, and text, which an underline turns
 abbrev pub may_go_on : HeldLeaf → Bool
 may_go_on held_leaf.None = false
-may_go_on held_leaf.LazyText = false
+may_go_on (held_leaf.LazyText at) = false
 may_go_on leaf = true
 
--- what a line meets of a leaf, where no container opens: the leaf itself where all containers went on; else text that
--- the line is lazy for, if the leaf takes lazy lines, and none if not, since it has ended with its containers
+-- a leaf as a lazy line meets it: text that the line is lazy for, if the leaf takes lazy lines, and none if not, since it
+-- has ended with its containers
+abbrev pub lazy_of : HeldLeaf → HeldLeaf
+lazy_of (held_leaf.Text at) = held_leaf.LazyText at
+lazy_of (held_leaf.LazyText at) = held_leaf.LazyText at
+lazy_of _ = held_leaf.None
+
+-- what a line meets of a leaf, where no container opens: the leaf itself where all containers went on, and else the leaf
+-- as a lazy line meets it
 abbrev pub met_by : Bool → HeldLeaf → HeldLeaf
-met_by all leaf = if all then leaf else if takes_lazy leaf then held_leaf.LazyText else held_leaf.None
+met_by all leaf = if all then leaf else lazy_of leaf
 
 -- the kind of an open leaf of the line definition, of one that is no text and of any: between two lines text is held as
 -- `Text` alone

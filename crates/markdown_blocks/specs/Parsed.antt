@@ -1,5 +1,5 @@
 -- What a parse asks for, and what it gives.
-use Rattle.std.specs.Prelude.{◌≡◌, ◌≢◌, ℕ, ◌-◌, ◌/◌, ◌^◌, ◌<◌, ◌≤◌, ◌==◌, ◌&&◌, ◌||◌, true, false, not, IsTrue, List, []}
+use Rattle.std.specs.Prelude.{◌≡◌, ◌≢◌, ℕ, ◌-◌, ◌/◌, ◌^◌, ◌<◌, ◌≤◌, ◌==◌, ◌||◌, true, false, not, IsTrue, List, []}
 use Rattle.std.specs.Prelude.{length, map}
 use Rattle.std.specs.List.{list_all}
 use Rattle.std.specs.String.{string_bytes}
@@ -33,9 +33,8 @@ abbrev pub IsSmall : List ℕ → Type 0
 IsSmall text = length text ≤ (2 ^ 64 - 1) / 8
 
 -- the constructs that are asked for are there: block quotes, list items, indented and fenced code, math, HTML, headings,
--- breaks and definitions alone, and not both definitions and underlines
+-- breaks and definitions alone
 pub record IsBuilt (options : ParseOptions) : Type 0 where
-  pub apart : (options.constructs.definition && options.constructs.heading_setext) ≡ false
   pub frontmatter : options.constructs.frontmatter ≡ false
   pub gfm_footnote_definition : options.constructs.gfm_footnote_definition ≡ false
   pub gfm_table : options.constructs.gfm_table ≡ false

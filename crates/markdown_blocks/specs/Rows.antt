@@ -29,6 +29,8 @@ use Rattle.md_definition.specs.Rest.{Rest, is_blank}
 use Rattle.md_definition.specs.State.{Container}
 use Rattle.markdown_blocks.specs.Laid.{Break, laid}
 use Rattle.markdown_blocks.specs.LineFlags.{ending_name, nothing_stands}
+use Rattle.md_parts.specs.Progress.{text_behind}
+use Rattle.md_parts.specs.WholeCells.{whole_line}
 use Rattle.md_parts.specs.DefinitionRule.{DefinitionParts, definition_end, definition_events}
 use Rattle.markdown_blocks.specs.Passed.{Passed}
 use Rattle.markdown_blocks.specs.Registry.{LeafName, first_of, goes_at, insider, leaf, opens_at, shuts_out, text_leaf, turn_leaf}
@@ -82,7 +84,7 @@ line_kind options on r =
 abbrev pub line_behind : ParseOptions → HeldLeaf → Rest → RowKind → HeldLeaf
 line_behind options on r BlankRow = held_leaf.None
 line_behind options on r (LeafRow l) = (leaf l).holds options on r
-line_behind options on r TextRow = held_leaf.Text
+line_behind options on r TextRow = text_behind on r.bytes
 
 -- By its cells.
 abbrev pub row_kind : ParseOptions → HeldLeaf → List Cell → RowKind
@@ -93,7 +95,7 @@ row_kind options on cells =
 abbrev pub leaf_behind : ParseOptions → HeldLeaf → List Cell → Point → RowKind → HeldLeaf
 leaf_behind options on cells p BlankRow = held_leaf.None
 leaf_behind options on cells p (LeafRow l) = (leaf l).keeps options on cells p
-leaf_behind options on cells p TextRow = held_leaf.Text
+leaf_behind options on cells p TextRow = text_behind on (whole_line p cells)
 
 -- by the bytes of a blank line, its whitespace
 abbrev pub blank_line : List ℕ → Point → List Event
@@ -455,8 +457,14 @@ turned_by text row rows under =
     ++ ending_events n.LineEnding (last_row row rows) ++ under.front ++ under.inside)
 
 -- once they are read
-abbrev pub turned_done : List ℕ → Row → List Row → Row → List Event
-turned_done bytes row rows under = turned_by (read_lines bytes row rows) row rows under
+abbrev pub heading_done : List ℕ → Row → Row → List Row → List Event
+heading_done bytes under row rows = turned_by (read_lines bytes row rows) row rows under
+
+-- what stands in the place of a text and the line that turns it, once they are read: the definitions at the front of the
+-- text, and what that line turns the rest into
+abbrev pub turned_done : ParseOptions → List ℕ → Row → List Row → Row → List Event
+turned_done options bytes row rows under =
+    cut_at_most (defined_done bytes) (heading_done bytes under) options bytes (suc (length rows)) row rows
 
 -- The lines of a leaf of several, joined. A line is a pair of its own, from its begin to its end; but a blank line in
 -- indented code stands bare, without them, since it may stand behind the code. What the first line adds but its end, what
@@ -543,7 +551,7 @@ group_ending group = ending_name (is_blank_group group)
 abbrev pub group_done : ParseOptions → List ℕ → Group → List Event
 group_done options bytes (Single row) = leaf_done bytes row.kind row
 group_done options bytes (Lines row rows) = text_done options bytes row rows
-group_done options bytes (Turned row rows under) = turned_done bytes row rows under
+group_done options bytes (Turned row rows under) = turned_done options bytes row rows under
 group_done options bytes (Span row rows) = span_done bytes row rows
 
 -- what stands in front of its first line, its leaf, and what stands behind its last line

@@ -94,7 +94,7 @@ pub record FlowStep (is_name : ResolveName → ResolveName → Bool) (name : Sta
 -- what is left at each state, where this is the text, by a rule for what follows behind the line,
 abbrev pub flow_behaves_by : List ℕ → ParseOptions → Rule → Behaviour
 flow_behaves_by bytes options next (s.BlankLine state) cells h = blank_behaves state cells h
-flow_behaves_by bytes options next (s.Content state) cells h = chunk_behaves state cells h
+flow_behaves_by bytes options next (s.Content state) cells h = chunk_behaves bytes state cells h
 flow_behaves_by bytes options next (s.Document state) cells h = containers_behave options next state cells h
 flow_behaves_by bytes options next (s.Flow state) cells h = leaves_behave options next state cells h
 flow_behaves_by bytes options next (s.SpaceOrTab state) cells h = white_behaves state cells h

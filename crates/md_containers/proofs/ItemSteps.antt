@@ -2,6 +2,7 @@
 use Rattle.std.proofs.Common.{◌≡◌, ℕ, zero, suc, ◌+◌, ◌-◌, ◌<◌, ◌≤◌, Bool, true, false, cond, not, ◌&&◌, ◌||◌, nat_eq}
 use Rattle.std.proofs.Common.{nat_lt, List, [], ◌∷◌, ◌++◌, length, take, Option, Some, None, refl, sym, ◌∙◌, ap, ap₂}
 use Rattle.std.proofs.Common.{arith, append_assoc, add-zero}
+use Rattle.std.specs.List.{list_all}
 use Rattle.std.specs.Prelude.{count_by, nat_le}
 use Rattle.std.proofs.lemmas.Bool.{and_parts, eq-eqb, eqb-true}
 use Rattle.std.proofs.lemmas.Bool.Decides.{nat_tests}
@@ -40,9 +41,12 @@ use Rattle.md_containers.proofs.ItemGoods.{least-some}
 use Rattle.md_definition.specs.Containers.{is_bullet, is_digit}
 use Rattle.md_definition.specs.Leaves.{is_rule, is_rule_marker}
 use Rattle.md_definition.specs.Rest.{is_blank, is_white}
+use Rattle.md_leaves.proofs.SetextLemmas.{is_run-one, is_run-other}
 use Rattle.md_leaves.specs.BlankRule.{blank_at, blank_events}
 use Rattle.md_leaves.specs.Break.{without_marker}
 use Rattle.md_leaves.specs.BreakRule.{Apart, before_marker, broken}
+use Rattle.md_leaves.specs.HeadingSetext.{is_marker, turns_nothing}
+use Rattle.md_leaves.specs.HeadingSetextRule.{is_run, is_underline}
 use Rattle.md_leaves.specs.LeafStart.{entered_here}
 use Rattle.md_leaves.proofs.LeafStart.{HasStart, at-none, start-steps}
 use Rattle.md_seam.specs.Ahead.{after_white, begins_white, from_ending, line_bytes, line_end, white_at, white_rest, white_size}
@@ -140,38 +144,132 @@ no-rule feed w c cs s next e f =
         ∙ other-first feed w c.byte s (bullet-no_ending c.byte e) k)
     go true false false j k f = cc
 
+-- An underline that is a rule too begins no item: behind its first marker stands another.
+
+-- none of a marker stands on a blank line
+blank-counts : (m : ℕ) (bs : List ℕ) → is_white m ≡ false → is_blank bs ≡ true →
+    count_by (λ (b : ℕ). nat_eq b m) bs ≡ 0
+blank-counts m [] dark blank = refl
+blank-counts m (b ∷ bs) dark blank =
+    let both = and_parts (is_white b) (is_blank bs) blank in
+    go (nat_eq b m) refl both.0 (blank-counts m bs dark both.1)
+  where
+    go : (x : Bool) → nat_eq b m ≡ x → is_white b ≡ true → count_by (λ (b : ℕ). nat_eq b m) bs ≡ 0 →
+        count_by (λ (b : ℕ). nat_eq b m) (b ∷ bs) ≡ 0
+    go true e white more = let same : true ≡ false = sym white ∙ ap is_white (eqb-true b m e) ∙ dark in cc
+    go false e white more = rw e more
+
+-- a marker is no whitespace, and another is behind it where there are three
+second-marker : (m d : ℕ) (bs : List ℕ) → is_white m ≡ false → is_run m (d ∷ bs) ≡ true →
+    nat_le 2 (count_by (λ (b : ℕ). nat_eq b m) (d ∷ bs)) ≡ true → nat_eq d m ≡ true
+second-marker m d bs dark run many = go (nat_eq d m) refl
+  where
+    go : (x : Bool) → nat_eq d m ≡ x → x ≡ true
+    go true e = refl
+    go false e =
+        let none = blank-counts m (d ∷ bs) dark (sym (is_run-other m d bs e) ∙ run) in
+        let few : nat_le 2 0 ≡ true = ap (nat_le 2) (sym none) ∙ many in
+        cc
+
+bullet-marks : (b : ℕ) → is_bullet b ≡ true → is_item_marker b ≡ true
+bullet-marks b e = grind (arith, nat_tests)
+
+-- nothing else than a refusal comes of it
+unparted-refused : (c d : Cell) (ds : List Cell) (h : Here) → IsRest h.scratch → is_bullet c.byte ≡ true →
+    is_white d.byte ≡ false → nat_eq d.byte 10 ≡ false → at_bullet (c ∷ d ∷ ds) h ≡ Refuses h.scratch h.flags
+unfolding at_bullet at_marker behind_marker filled_at one_column
+unparted-refused c d ds h is e dark on =
+    let mark : is_item_marker c.byte ≡ true = bullet-marks c.byte e in
+    rw (mark, on, dark)
+    (ap (λ (s : Scratch). Refuses s h.flags)
+    (ap (λ (s : Scratch). unseen (record s { seen = true })) is ∙ sym is))
+
+bullet-run : (c : Cell) (cs : List Cell) (h : Here) → IsRest h.scratch → is_bullet c.byte ≡ true →
+    is_rule (line_bytes (c ∷ cs)) ≡ true → is_underline (line_bytes (c ∷ cs)) ≡ true →
+    at_bullet (c ∷ cs) h ≡ Refuses h.scratch h.flags
+bullet-run c cs h is e rule under =
+    go cs (rw (bullet-on c.byte e) at rule) (rw (bullet-on c.byte e) at under)
+  where
+    m : ℕ
+    m = c.byte
+
+    many : (bs : List ℕ) → is_rule (m ∷ bs) ≡ true → nat_le 2 (count_by (λ (b : ℕ). nat_eq b m) bs) ≡ true
+    many bs r =
+        (and_parts (is_rule_marker m && list_all (λ (b : ℕ). nat_eq b m || is_white b) bs)
+        (nat_le 2 (count_by (λ (b : ℕ). nat_eq b m) bs)) r).1
+
+    run : (bs : List ℕ) → is_underline (m ∷ bs) ≡ true → is_run m bs ≡ true
+    run bs u =
+        sym (is_run-one m m bs (eq-eqb m m refl))
+        ∙ (and_parts (is_marker m) (is_run m (m ∷ bs)) u).1
+
+    go : (cs : List Cell) → is_rule (m ∷ line_bytes cs) ≡ true → is_underline (m ∷ line_bytes cs) ≡ true →
+        at_bullet (c ∷ cs) h ≡ Refuses h.scratch h.flags
+    go [] r u = let few = many [] r in cc
+    go (d ∷ ds) r u = at_second (nat_eq d.byte 10) refl
+      where
+        at_second : (x : Bool) → nat_eq d.byte 10 ≡ x → at_bullet (c ∷ d ∷ ds) h ≡ Refuses h.scratch h.flags
+        at_second true k = let few = many [] (rw k at r) in cc
+        at_second false k =
+            let bs : List ℕ = d.byte ∷ line_bytes ds in
+            let same : nat_eq d.byte m ≡ true =
+            second-marker m d.byte (line_bytes ds) (bullet-dark m e) (run bs (rw k at u)) (many bs (rw k at r)) in
+            unparted-refused c d ds h is e (ap is_white (eqb-true d.byte m same) ∙ bullet-dark m e) k
+
 -- a break stands here, or none
+abbrev breaks_here : ParseOptions → List Cell → Here → Bool
+breaks_here options cells h =
+    is_rule (line_bytes cells) && not (turns_nothing options h.flags.leaf && is_underline (line_bytes cells))
+
 break-outcome : (B : Behaviour) (options : ParseOptions) (c : Cell) (cs : List Cell) (h : Here) → HasItem B options →
     options.constructs.thematic_break ≡ true → is_bullet c.byte ≡ true →
     B (n.ThematicBreak thematic_break.Start) (c ∷ cs) h ≡
-    cond (is_rule (line_bytes (c ∷ cs))) (broken Apart c.byte (c ∷ cs) (entered_here parts.ThematicBreak h))
+    cond (breaks_here options (c ∷ cs) h) (broken Apart c.byte (c ∷ cs) (entered_here parts.ThematicBreak h))
     (Refuses (without_marker h.scratch) h.flags)
 unfolding before_marker
 break-outcome B options c cs h has on e =
     has.breaks.each thematic_break.Start _ _
-    ∙ at-none parts.ThematicBreak options.constructs.thematic_break before_marker options (c ∷ cs) h on
+    ∙ at-none parts.ThematicBreak options.constructs.thematic_break (before_marker options) options (c ∷ cs) h on
     (bullet-dark c.byte e)
 
-break-checked : (B : Behaviour) (feed : Feed) (w : World) (c : Cell) (cs : List Cell) (x : Bool) →
+break-checked : (B : Behaviour) (feed : Feed) (w : World) (c : Cell) (cs : List Cell) (x y : Bool) →
     HasItem B w.setting.options → IsRest w.scratch → feed w.point ≡ c ∷ cs → is_bullet c.byte ≡ true →
     is_rule (line_bytes (c ∷ cs)) ≡ x →
+    (turns_nothing w.setting.options w.flags.leaf && is_underline (line_bytes (c ∷ cs))) ≡ y →
     cond x (Refuses w.scratch w.flags) (at_bullet (c ∷ cs) (here w)) ≡
     resume B feed w.events (frame_here Nok (Next (n.ListItem its.BeforeUnordered)) true w)
-    (cond x (broken Apart c.byte (c ∷ cs) (entered_here parts.ThematicBreak (here w)))
+    (cond (x && not y) (broken Apart c.byte (c ∷ cs) (entered_here parts.ThematicBreak (here w)))
     (Refuses (without_marker w.scratch) w.flags))
-break-checked B feed w c cs true has is next e f =
-    let rest : without_marker w.scratch ≡ w.scratch = ap without_marker is ∙ sym is in
-    sym
-    (went-back B Nok feed w (without_marker w.scratch) w.flags
-    ∙ ap (λ (s : Scratch). Refuses s w.flags) rest)
-break-checked B feed w c cs false has is next e f =
-    let rest : without_marker w.scratch ≡ w.scratch = ap without_marker is ∙ sym is in
-    sym
-    (went-back B (Next (n.ListItem its.BeforeUnordered)) feed w (without_marker w.scratch) w.flags
-    ∙ ap₂
-    (λ (cells : List Cell) (s : Scratch). B (n.ListItem its.BeforeUnordered) cells (record (here w) { scratch = s }))
-    next rest
-    ∙ has.each its.BeforeUnordered _ _)
+break-checked B feed w c cs x y has is next e f g = go x y f g
+  where
+    rest : without_marker w.scratch ≡ w.scratch
+    rest = ap without_marker is ∙ sym is
+
+    onward : at_bullet (c ∷ cs) (here w) ≡
+        resume B feed w.events (frame_here Nok (Next (n.ListItem its.BeforeUnordered)) true w)
+        (Refuses (without_marker w.scratch) w.flags)
+    onward =
+        sym
+        (went-back B (Next (n.ListItem its.BeforeUnordered)) feed w (without_marker w.scratch) w.flags
+        ∙ ap₂
+        (λ (cells : List Cell) (s : Scratch).
+        B (n.ListItem its.BeforeUnordered) cells (record (here w) { scratch = s })) next rest
+        ∙ has.each its.BeforeUnordered _ _)
+
+    go : (x y : Bool) → is_rule (line_bytes (c ∷ cs)) ≡ x →
+        (turns_nothing w.setting.options w.flags.leaf && is_underline (line_bytes (c ∷ cs))) ≡ y →
+        cond x (Refuses w.scratch w.flags) (at_bullet (c ∷ cs) (here w)) ≡
+        resume B feed w.events (frame_here Nok (Next (n.ListItem its.BeforeUnordered)) true w)
+        (cond (x && not y) (broken Apart c.byte (c ∷ cs) (entered_here parts.ThematicBreak (here w)))
+        (Refuses (without_marker w.scratch) w.flags))
+    go true false f g =
+        sym
+        (went-back B Nok feed w (without_marker w.scratch) w.flags
+        ∙ ap (λ (s : Scratch). Refuses s w.flags) rest)
+    go true true f g =
+        let under = (and_parts (turns_nothing w.setting.options w.flags.leaf) (is_underline (line_bytes (c ∷ cs))) g).1 in
+        sym (bullet-run c cs (here w) is e f under) ∙ onward
+    go false y f g = onward
 
 bullet_steps : (B : Behaviour) (feed : Feed) (w : World) (c : Cell) (cs : List Cell) (x : Bool) →
     HasItem B w.setting.options → Sees feed w → IsRest w.scratch → feed w.point ≡ c ∷ cs → is_bullet c.byte ≡ true →
@@ -186,7 +284,7 @@ bullet_steps B feed w c cs true has s is next e f =
     (has.each its.Before _ _ ∙ ap (λ (x : List Cell). behind_indent w.setting.options x (here w)) next
     ∙ indent-bullet w.setting.options c cs (here w) e
     ∙ ap (λ (x : Bool). cond (x && rule) (Refuses w.scratch w.flags) (at_bullet (c ∷ cs) (here w))) on
-    ∙ break-checked B feed w c cs rule has is next e refl
+    ∙ break-checked B feed w c cs rule _ has is next e refl refl
     ∙ ap
     (resume B feed w.events (frame_here Nok (Next (n.ListItem its.BeforeUnordered)) true w))
     (sym

@@ -6,7 +6,7 @@ use Rattle.md_engine.specs.World.{Flags}
 
 -- whether a container that opens behind all others interrupts it
 abbrev pub is_interrupted : HeldLeaf → Bool
-is_interrupted held_leaf.Text = true
+is_interrupted (held_leaf.Text at) = true
 is_interrupted _ = false
 
 -- the leaf that is open is interrupted by what opens, since all containers went on: where one did not, the leaf ends

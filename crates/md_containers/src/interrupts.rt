@@ -12,7 +12,7 @@ pub(crate) fn interrupts(tokenizer: &Tokenizer) -> bool
     ensures { result ≡ interrupts (world tokenizer.now).flags }
 {
     match tokenizer.flags.leaf {
-        HeldLeaf::Text => tokenizer.flags.continued == tokenizer.containers.len(),
+        HeldLeaf::Text(_) => tokenizer.flags.continued == tokenizer.containers.len(),
         _ => false,
     }
 }

@@ -1,64 +1,137 @@
 -- Each state of a line of content takes one step of its rule.
-use Rattle.std.proofs.Common.{◌≡◌, ℕ, Bool, true, false, List, [], ◌∷◌, ◌++◌, Option, Some, None, refl, sym}
-use Rattle.std.proofs.Common.{◌∙◌, ap}
+use Rattle.std.proofs.Common.{◌≡◌, ℕ, ◌≤◌, Bool, true, false, nat_eq, List, [], ◌∷◌, ◌++◌, Option, Some, None, refl}
+use Rattle.std.proofs.Common.{sym, ◌∙◌, ap, ap₂, append-nil}
 use Rattle.md_engine.specs.declared.event.Name.TheVariants as parts
 use Rattle.md_engine.specs.declared.resolve.name.Name.{Name as ResolveName}
 use Rattle.md_engine.specs.declared.state.Name.TheVariants as n
 use Rattle.md_engine.specs.declared.state.content.State.{State as ContentState}
 use Rattle.md_engine.specs.declared.state.content.State.TheVariants as content
 use Rattle.md_engine.specs.declared.state.State.TheVariants.{Next}
-use Rattle.md_engine.specs.declared.tokenizer.held_leaf.HeldLeaf.TheVariants as held_leaf
+use Rattle.md_engine.specs.declared.event.Point.{Point}
+use Rattle.md_engine.specs.declared.tokenizer.Scratch.{Scratch}
 use Rattle.md_engine.specs.Meaning.{Accepts, Behaviour, Cell, Feed, Here, Steps, here}
-use Rattle.md_engine.specs.World.{World, after}
-use Rattle.md_engine.proofs.StepOf.{Sees, ahead, moves, passes}
+use Rattle.md_engine.specs.Scheme.{After, spot}
+use Rattle.md_engine.specs.World.{World, after, looks}
+use Rattle.md_engine.proofs.StepOf.{Sees, ahead, cell_here, moves, passes}
 use Rattle.md_content.specs.ChunkRule.{HasChunk, chunk_at, inside_chunk}
-use Rattle.md_content.specs.Chunks.{chunk_inside_code, chunk_start_transition, chunk_transition, content_link}
+use Rattle.md_content.specs.Chunks.{chunk_inside_code, chunk_ready, chunk_start_transition, chunk_transition}
+use Rattle.md_content.specs.Chunks.{content_link, line_taken, unbegun}
+use Rattle.md_content.proofs.LineTaken.{bytes-none, taken-more}
+use Rattle.md_parts.specs.Progress.{text_behind}
+use Rattle.md_parts.specs.WholeCells.{whole_line}
+use Rattle.md_seam.specs.Ahead.{from_ending, line_end}
 use Rattle.md_seam.specs.Events.Nested.{enter_link, exit}
-use Rattle.md_seam.specs.Spaces.{ends_line}
+use Rattle.md_seam.specs.Lent.{whole_from}
+use Rattle.md_seam.specs.Spaces.{IsRest, ends_line}
 
-chunk_start_steps : (B : Behaviour) (feed : Feed) (w : World) → HasChunk B →
+-- at rest no line has begun
+rest-unbegun : (s : Scratch) → IsRest s → unbegun s ≡ s
+rest-unbegun s e = ap unbegun e ∙ sym e
+
+chunk_start_steps : (B : Behaviour) (feed : Feed) (w : World) → HasChunk B w.setting.bytes → IsRest w.scratch →
     Steps B feed (Next (n.Content content.ChunkStart)) w (chunk_start_transition w).to (chunk_start_transition w).world
 unfolding chunk_at
-chunk_start_steps B feed w has =
+chunk_start_steps B feed w has rest =
     moves B feed _ _ w (chunk_start_transition w).world (enter_link parts.Content w.point content_link ∷ []) refl refl
-    (has.each content.ChunkStart _ _ ∙ sym (has.each content.ChunkInside _ _))
+    (has.each content.ChunkStart _ _
+    ∙ ap₂ (λ (front : List ℕ) (s : Scratch). inside_chunk front (feed w.point)
+    (record (here w) { events = w.events ++ enter_link parts.Content w.point content_link ∷ []; scratch = s }))
+    (sym (bytes-none w.setting.bytes (whole_from w.point))) (sym (rest-unbegun w.scratch rest))
+    ∙ sym (has.each content.ChunkInside _ _))
 
-chunk-ends : (feed : Feed) (w : World) (h : Here) (o : Option ℕ) → ends_line o ≡ true →
-    inside_chunk (ahead feed w o) h ≡
+chunk-ends : (feed : Feed) (w : World) (front : List ℕ) (h : Here) (o : Option ℕ) → ends_line o ≡ true →
+    inside_chunk front (ahead feed w o) h ≡
     Accepts
     (record h {
       events = h.events ++ exit parts.Content h.point ∷ [];
-      flags = record h.flags { leaf = held_leaf.Text };
+      flags = record h.flags { leaf = text_behind h.flags.leaf front };
     })
     (ahead feed w o)
 unfolding inside_chunk
-chunk-ends feed w h None e = refl
-chunk-ends feed w h (Some b) e = rw e refl
+chunk-ends feed w front h None e =
+    ap (λ (line : List ℕ). Accepts
+    (record h {
+      events = h.events ++ exit parts.Content h.point ∷ [];
+      flags = record h.flags { leaf = text_behind h.flags.leaf line };
+    })
+    [])
+    (append-nil front)
+chunk-ends feed w front h (Some b) e =
+    rw e
+    (ap (λ (line : List ℕ). Accepts
+    (record h {
+      events = h.events ++ exit parts.Content h.point ∷ [];
+      flags = record h.flags { leaf = text_behind h.flags.leaf line };
+    })
+    (ahead feed w (Some b)))
+    (append-nil front))
 
-chunk-more : (feed : Feed) (w : World) (h : Here) (o : Option ℕ) → ends_line o ≡ false →
-    inside_chunk (ahead feed w o) h ≡
-    inside_chunk (feed (after w.setting w.point)) (record h { point = after w.setting w.point })
+-- behind a byte of the line, where all of it is the same
+chunk-passes : (front more : List ℕ) (c : Cell) (cs : List Cell) (h : Here) → nat_eq c.byte 10 ≡ false →
+    front ++ whole_line h.point (c ∷ cs) ≡ more ++ whole_line c.after cs →
+    inside_chunk front (c ∷ cs) h ≡ inside_chunk more cs (record h { point = c.after })
 unfolding inside_chunk
-chunk-more feed w h None e = cc
-chunk-more feed w h (Some b) e = rw e refl
+chunk-passes front more c cs h e same =
+    let q = line_end cs c.after in
+    let ends : line_end (c ∷ cs) h.point ≡ q = rw e refl in
+    let rest : from_ending (c ∷ cs) ≡ from_ending cs = rw e refl in
+    ap₂ (λ (p : Point) (line : List ℕ). Accepts
+    (record h {
+      events = h.events ++ exit parts.Content p ∷ [];
+      point = p;
+      flags = record h.flags { leaf = text_behind h.flags.leaf line };
+    })
+    (from_ending (c ∷ cs)))
+    ends same
+    ∙ ap (Accepts
+    (record h {
+      events = h.events ++ exit parts.Content q ∷ [];
+      point = q;
+      flags = record h.flags { leaf = text_behind h.flags.leaf (more ++ whole_line c.after cs) };
+    }))
+    rest
 
-chunk_inside_steps : (B : Behaviour) (feed : Feed) (is_name : ResolveName → Bool) (w : World) (x : Bool) → HasChunk B →
-    Sees feed w → ends_line w.current ≡ x →
+chunk-more : (feed : Feed) (w : World) (h : Here) (o : Option ℕ) → h.point ≡ w.point →
+    w.scratch.start ≤ whole_from w.point → o ≡ looks w → ends_line o ≡ false →
+    let q = after w.setting w.point in
+    inside_chunk (line_taken w.setting.bytes w.scratch w.point) (ahead feed w o) h ≡
+    inside_chunk (line_taken w.setting.bytes w.scratch q) (feed q) (record h { point = q })
+chunk-more feed w h None same le c e = cc
+chunk-more feed w h (Some b) same le c e =
+    let q = after w.setting w.point in
+    let cell = cell_here feed w b in
+    let front = line_taken w.setting.bytes w.scratch w.point in
+    chunk-passes front (line_taken w.setting.bytes w.scratch q) cell (feed q) h e
+    (ap (λ (p : Point). front ++ whole_line p (cell ∷ feed q)) same
+    ∙ taken-more w.setting w.scratch w.point cell (feed q) le refl (sym c) e)
+
+-- what stands in a line, which began before its point
+chunk_inside_steps : (B : Behaviour) (feed : Feed) (is_name : ResolveName → Bool) (w : World) (x : Bool) →
+    HasChunk B w.setting.bytes → Sees feed w → w.current ≡ looks w → w.scratch.start ≤ whole_from w.point →
+    ends_line w.current ≡ x →
     Steps B feed (Next (n.Content content.ChunkInside)) w (chunk_inside_code is_name w x).to
     (chunk_inside_code is_name w x).world
-chunk_inside_steps B feed is_name w true has s e =
+chunk_inside_steps B feed is_name w true has s c le e =
     moves B feed _ _ w (chunk_inside_code is_name w true).world (exit parts.Content w.point ∷ []) refl refl
-    (has.each content.ChunkInside _ _ ∙ rw s.next (chunk-ends feed w (here w) w.current e))
-chunk_inside_steps B feed is_name w false has s e =
+    (has.each content.ChunkInside _ _
+    ∙ rw s.next
+    (chunk-ends feed w (line_taken w.setting.bytes w.scratch w.point)
+    (record (here w) { scratch = unbegun w.scratch }) w.current e))
+chunk_inside_steps B feed is_name w false has s c le e =
     passes B feed _ _ w (chunk_inside_code is_name w false).world refl refl
-    (has.each content.ChunkInside _ _ ∙ ap (λ (x : List Cell). inside_chunk x (here w)) s.next
-    ∙ chunk-more feed w (here w) w.current e ∙ sym (has.each content.ChunkInside _ _))
+    (has.each content.ChunkInside _ _
+    ∙ ap (λ (l : List Cell). inside_chunk (line_taken w.setting.bytes w.scratch w.point) l
+    (record (here w) { scratch = unbegun w.scratch })) s.next
+    ∙ chunk-more feed w (record (here w) { scratch = unbegun w.scratch }) w.current refl le c e
+    ∙ sym (has.each content.ChunkInside _ _))
 
 -- each state of a line of content takes one step of what it means
-pub chunk_steps : (B : Behaviour) (feed : Feed) (is_name : ResolveName → Bool) (state : ContentState) (w : World) →
-    HasChunk B → Sees feed w →
+pub chunk_steps : (B : Behaviour) (feed : Feed) (is_name : ResolveName → Bool) (state : ContentState) (w : World)
+    (K : After) →
+    HasChunk B w.setting.bytes → Sees feed w → w.current ≡ looks w → chunk_ready (n.Content state) (spot w) K →
     Steps B feed (Next (n.Content state)) w (chunk_transition is_name state w).to
     (chunk_transition is_name state w).world
-chunk_steps B feed is_name content.ChunkStart w has s = chunk_start_steps B feed w has
-chunk_steps B feed is_name content.ChunkInside w has s = chunk_inside_steps B feed is_name w _ has s refl
-chunk_steps B feed is_name state w has s = passes B feed _ _ w w refl refl (has.each state _ _)
+chunk_steps B feed is_name content.ChunkStart w K has s c at = chunk_start_steps B feed w has at.0
+chunk_steps B feed is_name content.ChunkInside w K has s c at =
+    chunk_inside_steps B feed is_name w _ has s c at.0 refl
+chunk_steps B feed is_name state w K has s c at = absurd at

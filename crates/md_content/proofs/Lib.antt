@@ -9,6 +9,7 @@ pub mod DefinitionsGoods
 pub mod DefinitionsSteps
 pub mod States
 pub mod StaysLemmas
+pub mod LineTaken
 pub mod ContentSteps
 pub mod ContentRuns
 pub mod JoinedLemmas

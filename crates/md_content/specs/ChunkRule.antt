@@ -1,38 +1,40 @@
 -- What is left of a line of content at each state, before it is read.
-use Rattle.std.specs.Prelude.{◌≡◌, List, [], ◌∷◌, ◌++◌}
+use Rattle.std.specs.Prelude.{◌≡◌, ℕ, List, [], ◌∷◌, ◌++◌}
 use Rattle.md_engine.specs.declared.event.Name.TheVariants as parts
 use Rattle.md_engine.specs.declared.state.Name.TheVariants as n
 use Rattle.md_engine.specs.declared.state.content.State.{State as ContentState}
 use Rattle.md_engine.specs.declared.state.content.State.TheVariants as its
-use Rattle.md_engine.specs.declared.tokenizer.held_leaf.HeldLeaf.TheVariants as held_leaf
 use Rattle.md_engine.specs.Meaning.{Accepts, Behaviour, Cell, Here, Outcome, Refuses}
-use Rattle.md_content.specs.Chunks.{content_link}
+use Rattle.md_content.specs.Chunks.{content_link, line_taken, unbegun}
+use Rattle.md_parts.specs.Progress.{text_behind}
+use Rattle.md_parts.specs.WholeCells.{whole_line}
 use Rattle.md_seam.specs.Ahead.{from_ending, line_end}
 use Rattle.md_seam.specs.Events.Nested.{enter_link, exit}
 
--- the rest of the line; a paragraph is open then
-unfoldable pub inside_chunk : List Cell → Here → Outcome
-inside_chunk cells h =
+-- the rest of a line, behind these bytes of it; a text is open then, which is told all of the line
+unfoldable pub inside_chunk : List ℕ → List Cell → Here → Outcome
+inside_chunk front cells h =
     let p = line_end cells h.point in
     Accepts
     (record h {
       events = h.events ++ exit parts.Content p ∷ [];
       point = p;
-      flags = record h.flags { leaf = held_leaf.Text };
+      flags = record h.flags { leaf = text_behind h.flags.leaf (front ++ whole_line h.point cells) };
     })
     (from_ending cells)
 
 -- the whole line
 unfoldable pub chunk_at : List Cell → Here → Outcome
 chunk_at cells h =
-    inside_chunk cells (record h { events = h.events ++ enter_link parts.Content h.point content_link ∷ [] })
+    inside_chunk [] cells (record h { events = h.events ++ enter_link parts.Content h.point content_link ∷ [] })
 
--- what is left at each state
-abbrev pub chunk_behaves : ContentState → List Cell → Here → Outcome
-chunk_behaves its.ChunkStart cells h = chunk_at cells h
-chunk_behaves its.ChunkInside cells h = inside_chunk cells h
-chunk_behaves _ cells h = Refuses h.scratch h.flags
+-- what is left at each state, by the text of which the line is a part
+abbrev pub chunk_behaves : List ℕ → ContentState → List Cell → Here → Outcome
+chunk_behaves bytes its.ChunkStart cells h = chunk_at cells h
+chunk_behaves bytes its.ChunkInside cells h =
+    inside_chunk (line_taken bytes h.scratch h.point) cells (record h { scratch = unbegun h.scratch })
+chunk_behaves bytes _ cells h = Refuses h.scratch h.flags
 
-pub record HasChunk (B : Behaviour) : Type 0 where
+pub record HasChunk (B : Behaviour) (bytes : List ℕ) : Type 0 where
   pub each : (state : ContentState) (cells : List Cell) (h : Here) →
-      B (n.Content state) cells h ≡ chunk_behaves state cells h
+      B (n.Content state) cells h ≡ chunk_behaves bytes state cells h

@@ -1,5 +1,6 @@
 -- A line of content, before it is read.
-use Rattle.std.specs.Prelude.{refl, Bool, true, false}
+use Rattle.std.specs.Prelude.{refl, ℕ, zero, suc, ◌+◌, ◌-◌, ◌≤◌, Bool, true, false, List, [], ◌∷◌, ◌++◌, slice_index}
+use Rattle.md_engine.specs.declared.event.Point.{Point}
 use Rattle.md_engine.specs.declared.event.Link.{Link}
 use Rattle.md_engine.specs.declared.event.Content.TheVariants as content
 use Rattle.md_engine.specs.declared.event.Name.TheVariants as parts
@@ -10,27 +11,49 @@ use Rattle.md_engine.specs.declared.state.Name.TheVariants as n
 use Rattle.md_engine.specs.declared.state.content.State.{State as ContentState}
 use Rattle.md_engine.specs.declared.state.content.State.TheVariants as its
 use Rattle.md_engine.specs.declared.state.State.TheVariants.{Ok, Nok, Next, Retry}
-use Rattle.md_engine.specs.declared.tokenizer.held_leaf.HeldLeaf.TheVariants as held_leaf
-use Rattle.md_engine.specs.Scheme.{After, Rank, Scheme, Spot, ranked}
+use Rattle.md_engine.specs.declared.tokenizer.Scratch.{Scratch}
+use Rattle.md_engine.specs.Scheme.{After, Ends, Rank, Scheme, Spot, ranked}
 use Rattle.md_engine.specs.World.{World, registered_before}
-use Rattle.md_seam.specs.Spaces.{ends_line, rest_ready}
+use Rattle.md_parts.specs.Progress.{text_behind}
+use Rattle.md_seam.specs.Lent.{whole_from}
+use Rattle.md_seam.specs.Spaces.{IsRest, ends_line, rest_ready}
 use Rattle.md_seam.specs.Transition.{Transition, entered_link, exited, taken}
 
 abbrev pub content_link : Link
 content_link = record { previous = false; next = false; content = content.Content }
 
+-- so many bytes of a text from an index on; behind its end 0 is seen
+unfoldable pub bytes_on : List ℕ → ℕ → ℕ → List ℕ
+bytes_on bytes from zero = []
+bytes_on bytes from (suc n) = bytes_on bytes from n ++ slice_index bytes (from + n) ∷ []
+
+-- what was taken of a line: a byte within which the point lies counts, and not one within which the line began
+abbrev pub line_taken : List ℕ → Scratch → Point → List ℕ
+line_taken bytes s p = bytes_on bytes s.start (whole_from p - s.start)
+
+-- where a line began, and no more
+abbrev pub begun : Point → Scratch → Scratch
+begun p s = record s { start = whole_from p }
+
+abbrev pub unbegun : Scratch → Scratch
+unbegun s = record s { start = 0 }
+
 abbrev pub chunk_start_transition : World → Transition
 chunk_start_transition w =
-    record { to = Retry (n.Content its.ChunkInside); world = entered_link w parts.Content content_link }
+    record {
+      to = Retry (n.Content its.ChunkInside);
+      world = record (entered_link w parts.Content content_link) { scratch = begun w.point w.scratch };
+    }
 
--- by whether the line ends here; `is_name` finds the resolver of content
+-- by whether the line ends here, of which an open text is told; `is_name` finds the resolver of content
 abbrev pub chunk_inside_code : (ResolveName → Bool) → World → Bool → Transition
 chunk_inside_code is_name w true =
     record {
       to = Ok;
       world = record (exited w parts.Content) {
         resolvers = registered_before is_name w.resolvers ContentResolver;
-        flags = record w.flags { leaf = held_leaf.Text };
+        scratch = unbegun w.scratch;
+        flags = record w.flags { leaf = text_behind w.flags.leaf (line_taken w.setting.bytes w.scratch w.point) };
       };
     }
 chunk_inside_code is_name w false = record { to = Next (n.Content its.ChunkInside); world = taken w }
@@ -45,10 +68,16 @@ abbrev pub chunk_rank : StateName → Spot → Rank
 chunk_rank (n.Content its.ChunkStart) x = ranked 1 refl
 chunk_rank _ x = ranked 0 refl
 
+-- in a line: at rest but for where it began
+abbrev pub in_chunk : Spot → After → Type 0
+in_chunk x K =
+    (x.scratch.start ≤ whole_from x.point) × IsRest (unbegun x.scratch) × Ends IsRest IsRest x K
+
 -- no tokenizer stands at a state that is not built
 abbrev pub chunk_ready : StateName → Spot → After → Type 0
 chunk_ready (n.Content its.DefinitionBefore) x K = ⊥
 chunk_ready (n.Content its.DefinitionAfter) x K = ⊥
+chunk_ready (n.Content its.ChunkInside) x K = in_chunk x K
 chunk_ready _ x K = rest_ready x K
 
 abbrev pub chunk_scheme : Scheme

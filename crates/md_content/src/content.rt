@@ -19,18 +19,19 @@ ghost use Rattle.md_engine.specs.declared.state.Name.{Name as StateName};
 ghost use Rattle.md_engine.specs.declared.state.State.{State};
 ghost use Rattle.md_engine.specs.declared.state.content.State.{State as ContentState};
 ghost use Rattle.md_content.specs.States.{content_scheme, content_transition};
-ghost use Rattle.md_content.specs.Chunks.{chunk_inside_code, chunk_start_transition, chunk_transition};
+ghost use Rattle.md_content.specs.Chunks.{chunk_inside_code, chunk_start_transition, chunk_transition, line_taken};
 ghost use Rattle.md_content.specs.ContentReads.{content_events, is_piece_end, settled};
 ghost use Rattle.md_content.specs.Joined.{GoesOnAt, JoinsAt, goes_on, is_content, is_of_prefix, joined};
 ghost use Rattle.md_content.specs.Resolves.{Resolves, is_all_read};
 ghost use Rattle.md_seam.specs.Events.Inline.{is_line_ending};
 ghost use Rattle.md_seam.specs.Events.Nested.{is_enter, is_exit};
+ghost use Rattle.md_seam.specs.Lent.{whole_from};
 ghost use Rattle.md_seam.specs.Parts.{AreChunks, ArePlaced};
 ghost use Rattle.md_seam.specs.Spaces.{ends_line};
 ghost use Rattle.md_seam.specs.Stays.{TakesEach};
 ghost use Rattle.md_seam.specs.Transition.{IsAt, NeedsNothing};
 
-use crate::labels::labels;
+use crate::labels::{between, labels};
 use crate::{definitions, paragraph};
 use md_engine::configuration::ParseOptions;
 use md_engine::event::{Content, Event, Kind, Link, Name};
@@ -42,13 +43,37 @@ use md_engine::state::{Name as StateName, State};
 use md_engine::stay::Stay;
 use md_engine::subtokenize::Subresult;
 use md_engine::table::{Table, flush, push};
-use md_engine::tokenizer::{HeldLeaf, Tokenizer};
+use md_engine::tokenizer::Tokenizer;
+use md_parts::progress::text_behind;
 use md_parts::{definition, destination, label, space_or_tab_eol, title};
 use md_seam::inline::Chunk;
 use md_seam::moving::move_down;
 use md_seam::space_or_tab;
 use md_seam::subtokenize::{Reader, is_prefix, subtokenize};
 use std::alloc::Global;
+
+/// The first byte that does not begin before the point.
+fn whole_from(tokenizer: &Tokenizer) -> usize
+    ensures { result ≡ whole_from (world tokenizer.now).point }
+{
+    let index = tokenizer.point.index;
+    if tokenizer.point.vs > 0 {
+        index + 1
+    } else {
+        index
+    }
+}
+
+/// What was taken of a line. A byte within which the point lies counts, and not one within which the line began.
+fn line_taken<'a>(tokenizer: &Tokenizer<'a>) -> &'a [u8]
+    ensures { let w = world tokenizer.now in result.now ≡ line_taken w.setting.bytes w.scratch w.point }
+{
+    between(
+        tokenizer.bytes,
+        tokenizer.scratch.start,
+        whole_from(tokenizer),
+    )
+}
 
 /// Before a line.
 ///
@@ -67,10 +92,11 @@ pub fn chunk_start(tokenizer: &mut Tokenizer) -> State
         content: Content::Content,
     };
     or_error!(tokenizer.enter_link(Name::Content, link));
+    tokenizer.scratch.start = whole_from(tokenizer);
     State::Retry(StateName::Content(ContentState::ChunkInside))
 }
 
-/// In a line.
+/// In a line. Where it ends, the open text is told of it.
 ///
 /// ```markdown
 /// > | ab
@@ -91,7 +117,8 @@ pub fn chunk_inside(tokenizer: &mut Tokenizer) -> State
         None | Some(b'\n') => {
             or_error!(tokenizer.exit(Name::Content));
             or_error!(tokenizer.register_resolver_before(ResolveName::Content));
-            tokenizer.flags.leaf = HeldLeaf::Text;
+            tokenizer.flags.leaf = text_behind(tokenizer.flags.leaf, line_taken(tokenizer));
+            tokenizer.scratch.start = 0;
             State::Ok
         }
         _ => {

@@ -57,7 +57,7 @@ fn push_bytes(text: &mut Vec<u8>, bytes: &[u8]) -> Result<(), Message>
 }
 
 /// The bytes from one place to another.
-fn between(bytes: &[u8], from: usize, to: usize) -> &[u8]
+pub fn between(bytes: &[u8], from: usize, to: usize) -> &[u8]
     ensures { result.now ≡ slice_range bytes.now from to }
 {
     let end = to.min(bytes.len());

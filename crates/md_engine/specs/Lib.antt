@@ -15,3 +15,4 @@ pub mod Staying
 pub mod Meaning
 pub mod Standing
 pub mod TextFeed
+pub mod Progress

@@ -1,5 +1,6 @@
 -- A break stands and ends in any table that has it.
-use Rattle.std.proofs.Common.{◌≡◌, ℕ, ◌<◌, Bool, true, false, cond, Option, Some, None, refl, arith, ap, sym, ◌∙◌}
+use Rattle.std.proofs.Common.{◌≡◌, ℕ, ◌<◌, ◌&&◌, ◌==◌, Bool, true, false, cond, Option, Some, None, refl, arith, ap, sym}
+use Rattle.std.proofs.Common.{◌∙◌}
 use Rattle.md_engine.specs.declared.event.Name.TheVariants as parts
 use Rattle.md_engine.specs.declared.state.Name.TheVariants as n
 use Rattle.md_engine.specs.declared.state.thematic_break.State.{State as BreakState}
@@ -11,7 +12,8 @@ use Rattle.md_engine.proofs.Falls.{later, later_at, seen_grows}
 use Rattle.md_engine.proofs.Local.{accepts, consumes, refuses, turns}
 use Rattle.md_engine.proofs.Points.{cells-grow, stays, takes}
 use Rattle.md_leaves.specs.Break.{at_break_code, before_code, break_ready, break_scheme, break_transition, is_marker}
-use Rattle.md_leaves.specs.Break.{sequence_code, without_marker}
+use Rattle.md_leaves.specs.Break.{marked_code, one_run_after_code, one_run_code, sequence_code, without_marker}
+use Rattle.md_leaves.specs.HeadingSetext.{turns_nothing}
 use Rattle.md_seam.specs.Spaces.{IsRest, calmed, is_current, rest_ready, sees_white, any_size}
 use Rattle.md_seam.specs.Transition.{entered, exited}
 use Rattle.md_leaves.proofs.LeafStart.{FitsStart, good-start}
@@ -50,23 +52,53 @@ pub low-rank : (y : Bool) → (cond y (ranked 2 refl) (ranked 0 refl)).number < 
 low-rank true = omega arith
 low-rank false = omega arith
 
-good_before : (T : Scheme) (w : World) (o : Option ℕ) → BreakFits T → rest_ready (spot w) (after_all T w.frames) →
-    Does T (n.ThematicBreak its.Before) w (before_code w o)
-good_before T w None has r =
+-- at a marker it is below that in front of the marker,
+marked-rank : (y : Bool) → (cond y (ranked 2 refl) (ranked 0 refl)).number < 4
+marked-rank true = omega arith
+marked-rank false = omega arith
+
+-- in the first run too,
+run-rank : (y : Bool) → (cond y (ranked 1 refl) (ranked 3 refl)).number < 4
+run-rank true = omega arith
+run-rank false = omega arith
+
+-- and behind that run it is above that between two runs
+after-rank : (y : Bool) →
+    (cond y (ranked 2 refl) (ranked 0 refl)).number < (cond y (ranked 3 refl) (ranked 1 refl)).number
+after-rank true = omega arith
+after-rank false = omega arith
+
+good_before : (T : Scheme) (w : World) (x : Bool) (o : Option ℕ) → BreakFits T →
+    rest_ready (spot w) (after_all T w.frames) → Does T (n.ThematicBreak its.Before) w (before_code w x o)
+good_before T w x None has r =
     (refuses T _ w _ _ w.events w.scratch r.1 r.0, refl)
-good_before T w (Some b) has r = go (is_marker b) refl
+good_before T w x (Some b) has r = go (is_marker b) refl
   where
-    go : (x : Bool) → is_marker b ≡ x → Does T (n.ThematicBreak its.Before) w (before_code w (Some b))
-    go true e = rw e (
-      (turns T break_scheme _ (n.ThematicBreak its.AtBreak) w w.events (record w.scratch { marker = b })
-          (has.each its.Before) (has.each its.AtBreak) (
-            record { marker = e; size = omega (arith, rest-size w.scratch r.0); rest = marked-rest w.scratch b r.0 },
-            later IsRest IsRest (spot w) (after_all T w.frames) w.point (record w.scratch { marker = b })
-                (stays w.setting.limit w.point) r.1,
-          )
-          (omega arith) (low-rank (is_current b (seen (spot w))))),
+    ready : is_marker b ≡ true →
+        break_ready (n.ThematicBreak its.AtBreak) (spot_at w.setting w.point (record w.scratch { marker = b }))
+        (after_all T w.frames)
+    ready e = (
+      record { marker = e; size = omega (arith, rest-size w.scratch r.0); rest = marked-rest w.scratch b r.0 },
+      later IsRest IsRest (spot w) (after_all T w.frames) w.point (record w.scratch { marker = b })
+          (stays w.setting.limit w.point) r.1,
+    )
+
+    marked : is_marker b ≡ true → (y : Bool) → Does T (n.ThematicBreak its.Before) w (marked_code w b y)
+    marked e true = (
+      turns T break_scheme _ (n.ThematicBreak its.OneRun) w (entered w parts.ThematicBreakSequence).events
+          (record w.scratch { marker = b }) (has.each its.Before) (has.each its.OneRun) (ready e) (omega arith)
+          (run-rank (is_current b (seen (spot w)))),
       refl,
     )
+    marked e false = (
+      turns T break_scheme _ (n.ThematicBreak its.AtBreak) w w.events (record w.scratch { marker = b })
+          (has.each its.Before) (has.each its.AtBreak) (ready e) (omega arith)
+          (marked-rank (is_current b (seen (spot w)))),
+      refl,
+    )
+
+    go : (y : Bool) → is_marker b ≡ y → Does T (n.ThematicBreak its.Before) w (before_code w x (Some b))
+    go true e = rw e (marked e ((b == 45) && x))
     go false e = rw e ((refuses T (n.ThematicBreak its.Before) w IsRest IsRest w.events w.scratch r.1 r.0), refl)
 
 good_at_break : (T : Scheme) (w : World) (x y : Bool) → BreakFits T →
@@ -135,12 +167,61 @@ good_sequence T w false false has r e k = (
   refl,
 )
 
+good_one_run : (T : Scheme) (w : World) (x y : Bool) → BreakFits T →
+    break_ready (n.ThematicBreak its.OneRun) (spot w) (after_all T w.frames) →
+    is_current w.scratch.marker (seen (spot w)) ≡ x → sees_white (seen (spot w)) ≡ y →
+    Does T (n.ThematicBreak its.OneRun) w (one_run_code w x y)
+good_one_run T w true y has r e k =
+    let inside = seen-in (spot w) (is_current w.scratch.marker) refl e in (
+      consumes T break_scheme _ _ w w.events _ (has.each its.OneRun) (has.each its.OneRun) inside (
+        record {
+          marker = r.0.marker;
+          size = omega (arith, r.0.size, cells-grow w.setting w.point);
+          rest = r.0.rest;
+        },
+        later _ _ (spot w) _ _ _ (takes w.setting w.point inside) r.1,
+      )
+          (omega arith),
+      refl,
+    )
+good_one_run T w false true has r e k =
+    let calm = marked-calm w.scratch r.0.rest in
+    white_try T break_scheme _ (n.ThematicBreak its.OneRunAfter) w
+    (exited w parts.ThematicBreakSequence).events w.scratch 0 any_size IsRest IsRest has.white
+    (has.each its.OneRun) (has.each its.OneRunAfter) (marked-none w.scratch r.0.rest)
+    (λ some. absurd (omega arith)) r.1
+    (λ q t up way. (
+      record { marker = r.0.marker; size = omega (arith, r.0.size, way.before); rest = ap calmed r.0.rest },
+      later_at _ _ (spot w) _ q t _ up way r.1,
+    ))
+    (omega arith) (omega arith) (λ t up. rw (still-none w t up e k) (omega arith)) (rw e (omega arith))
+good_one_run T w false false has r e k = (
+  turns T break_scheme _ _ w (exited w parts.ThematicBreakSequence).events w.scratch (has.each its.OneRun)
+      (has.each its.OneRunAfter) r (omega arith) (rw e (omega arith)),
+  refl,
+)
+
+good_one_run_after : (T : Scheme) (w : World) (x : Bool) → BreakFits T →
+    break_ready (n.ThematicBreak its.OneRunAfter) (spot w) (after_all T w.frames) →
+    Does T (n.ThematicBreak its.OneRunAfter) w (one_run_after_code w x)
+good_one_run_after T w true has r =
+    (refuses T _ w _ _ w.events (without_marker w.scratch) r.1 r.0.rest, refl)
+good_one_run_after T w false has r = (
+  turns T break_scheme _ (n.ThematicBreak its.AtBreak) w w.events w.scratch (has.each its.OneRunAfter)
+      (has.each its.AtBreak) r (omega arith) (after-rank (is_current w.scratch.marker (seen (spot w)))),
+  refl,
+)
+
 -- each state of a break
 pub break_does : (T : Scheme) (state : BreakState) (w : World) → BreakFits T → w.current ≡ looks w →
     break_ready (n.ThematicBreak state) (spot w) (after_all T w.frames) →
     Does T (n.ThematicBreak state) w (break_transition state w)
 break_does T its.Start w has c r = good-start T break_scheme parts.ThematicBreak _ _ w _ _ (break-starts T has) r
-break_does T its.Before w has c r = good_before T w w.current has r
+break_does T its.Before w has c r =
+    good_before T w (turns_nothing w.setting.options w.flags.leaf) w.current has r
 break_does T its.AtBreak w has c r = good_at_break T w _ _ has r (ap (is_current w.scratch.marker) (sym c))
 break_does T its.Sequence w has c r =
     good_sequence T w _ _ has r (ap (is_current w.scratch.marker) (sym c)) (ap sees_white (sym c))
+break_does T its.OneRun w has c r =
+    good_one_run T w _ _ has r (ap (is_current w.scratch.marker) (sym c)) (ap sees_white (sym c))
+break_does T its.OneRunAfter w has c r = good_one_run_after T w _ has r

@@ -1,17 +1,22 @@
 -- What is left of a break, cell by cell.
-use Rattle.std.proofs.Common.{◌≡◌, ℕ, ◌+◌, Bool, true, false, cond, nat_eq, List, [], ◌∷◌, ◌++◌, refl, sym, ◌∙◌, arith}
-use Rattle.std.proofs.Common.{append_assoc, append-nil}
-use Rattle.std.specs.Prelude.{count_by, nat_le}
-use Rattle.std.proofs.lemmas.Bool.{eqb-true}
+use Rattle.std.proofs.Common.{◌≡◌, ℕ, ◌+◌, Bool, true, false, cond, nat_eq, List, [], ◌∷◌, ◌++◌, refl, sym, ◌∙◌, ap}
+use Rattle.std.proofs.Common.{append_assoc, append-nil, arith}
+use Rattle.std.specs.Prelude.{◌&&◌, count_by, nat_le, not}
+use Rattle.std.proofs.Math.Bool.{and-true}
+use Rattle.std.proofs.lemmas.Bool.{and_right, eqb-true}
 use Rattle.std.proofs.lemmas.Bool.Decides.{nat_tests}
 use Rattle.std.proofs.lemmas.List.Sums.{sum_by-cons}
+use Rattle.md_engine.specs.declared.configuration.ParseOptions.{ParseOptions}
 use Rattle.md_engine.specs.declared.event.Name.TheVariants.{SpaceOrTab, ThematicBreakSequence}
 use Rattle.md_engine.specs.Meaning.{Cell, Here, Refuses}
 use Rattle.md_leaves.specs.Break.{is_marker, without_marker}
-use Rattle.md_leaves.specs.BreakRule.{Apart, Marks, Run, White, at_break, before_marker, in_break, marks}
+use Rattle.md_leaves.specs.BreakRule.{Apart, Marks, Run, White, at_break, before_marker, broken, in_break, marks}
+use Rattle.md_leaves.specs.HeadingSetext.{turns_nothing}
+use Rattle.md_leaves.specs.HeadingSetextRule.{is_underline}
 use Rattle.md_leaves.proofs.LeafSteps.{TakesWhite}
 use Rattle.md_seam.specs.Ahead.{line_bytes}
 use Rattle.md_seam.specs.Events.Nested.{enter, exit}
+use Rattle.md_definition.specs.Leaves.{is_rule}
 use Rattle.md_definition.specs.Rest.{is_white}
 use Rattle.md_seam.proofs.AheadLemmas.{white-no_ending}
 
@@ -144,10 +149,11 @@ unfolding marks
 counted m bs = refl
 
 -- a rule is a break with its first byte as marker, of which none was taken
-pub before-mark : (c : Cell) (cs : List Cell) (h : Here) → is_marker c.byte ≡ true → h.scratch.size ≡ 0 →
-    before_marker (c ∷ cs) h ≡ in_break Apart (c ∷ cs) (record h { scratch = record h.scratch { marker = c.byte } })
-unfolding before_marker in_break
-before-mark c cs h mark none =
+rule-mark : (c : Cell) (cs : List Cell) (h : Here) → is_marker c.byte ≡ true → h.scratch.size ≡ 0 →
+    cond (is_rule (line_bytes (c ∷ cs))) (broken Apart c.byte (c ∷ cs) h) (Refuses (without_marker h.scratch) h.flags) ≡
+    in_break Apart (c ∷ cs) (record h { scratch = record h.scratch { marker = c.byte } })
+unfolding in_break
+rule-mark c cs h mark none =
     let same : nat_eq c.byte c.byte ≡ true = grind (arith, nat_tests) in
     rw (
       marker-no_ending c.byte mark,
@@ -159,11 +165,53 @@ before-mark c cs h mark none =
       counted c.byte (line_bytes cs),
     ) refl
 
-pub before-other : (c : Cell) (cs : List Cell) (h : Here) → is_marker c.byte ≡ false →
-    before_marker (c ∷ cs) h ≡ Refuses (without_marker h.scratch) h.flags
+-- what is left of it where it is an underline with nothing to turn, or not
+before-by : (options : ParseOptions) (c : Cell) (cs : List Cell) (h : Here) (x : Bool) →
+    turns_nothing options h.flags.leaf && is_underline (line_bytes (c ∷ cs)) ≡ x →
+    before_marker options (c ∷ cs) h ≡
+    cond (is_rule (line_bytes (c ∷ cs)) && not x) (broken Apart c.byte (c ∷ cs) h)
+    (Refuses (without_marker h.scratch) h.flags)
 unfolding before_marker
-before-other c cs h mark = go (nat_eq c.byte 10) refl
+before-by options c cs h x e =
+    ap
+    (λ (y : Bool).
+    cond (is_rule (line_bytes (c ∷ cs)) && not y) (broken Apart c.byte (c ∷ cs) h)
+    (Refuses (without_marker h.scratch) h.flags)) e
+
+-- such an underline is no break,
+pub before-underline : (options : ParseOptions) (c : Cell) (cs : List Cell) (h : Here) →
+    turns_nothing options h.flags.leaf && is_underline (line_bytes (c ∷ cs)) ≡ true →
+    before_marker options (c ∷ cs) h ≡ Refuses (without_marker h.scratch) h.flags
+before-underline options c cs h e =
+    before-by options c cs h true e
+    ∙ ap
+    (λ (y : Bool). cond y (broken Apart c.byte (c ∷ cs) h) (Refuses (without_marker h.scratch) h.flags))
+    (and_right (is_rule (line_bytes (c ∷ cs))) false refl)
+
+-- and any other line is one where it is a rule
+pub before-rule : (options : ParseOptions) (c : Cell) (cs : List Cell) (h : Here) →
+    turns_nothing options h.flags.leaf && is_underline (line_bytes (c ∷ cs)) ≡ false →
+    before_marker options (c ∷ cs) h ≡
+    cond (is_rule (line_bytes (c ∷ cs))) (broken Apart c.byte (c ∷ cs) h) (Refuses (without_marker h.scratch) h.flags)
+before-rule options c cs h e =
+    before-by options c cs h false e
+    ∙ ap
+    (λ (y : Bool). cond y (broken Apart c.byte (c ∷ cs) h) (Refuses (without_marker h.scratch) h.flags))
+    (and-true (is_rule (line_bytes (c ∷ cs))))
+
+-- so at a marker
+pub before-mark : (options : ParseOptions) (c : Cell) (cs : List Cell) (h : Here) → is_marker c.byte ≡ true →
+    h.scratch.size ≡ 0 → turns_nothing options h.flags.leaf && is_underline (line_bytes (c ∷ cs)) ≡ false →
+    before_marker options (c ∷ cs) h ≡
+    in_break Apart (c ∷ cs) (record h { scratch = record h.scratch { marker = c.byte } })
+before-mark options c cs h mark none e = before-rule options c cs h e ∙ rule-mark c cs h mark none
+
+pub before-other : (options : ParseOptions) (c : Cell) (cs : List Cell) (h : Here) → is_marker c.byte ≡ false →
+    before_marker options (c ∷ cs) h ≡ Refuses (without_marker h.scratch) h.flags
+unfolding before_marker
+before-other options c cs h mark = go (nat_eq c.byte 10) refl
   where
-    go : (x : Bool) → nat_eq c.byte 10 ≡ x → before_marker (c ∷ cs) h ≡ Refuses (without_marker h.scratch) h.flags
+    go : (x : Bool) → nat_eq c.byte 10 ≡ x →
+        before_marker options (c ∷ cs) h ≡ Refuses (without_marker h.scratch) h.flags
     go true e = rw e refl
     go false e = rw (e, mark) refl

@@ -1,7 +1,7 @@
 -- Each state of a thematic break takes one step of its rule.
 use Rattle.std.proofs.Common.{◌≡◌, ℕ, Bool, true, false, ◌&&◌, nat_eq, List, [], ◌∷◌, ◌++◌, Option, Some, None, refl}
 use Rattle.std.proofs.Common.{sym, ◌∙◌, ap, arith, append-nil, add-zero}
-use Rattle.std.specs.Prelude.{nat_le}
+use Rattle.std.specs.Prelude.{◌==◌, nat_le}
 use Rattle.std.proofs.lemmas.Bool.{eqb-true}
 use Rattle.md_engine.specs.declared.configuration.ParseOptions.{ParseOptions}
 use Rattle.md_engine.specs.declared.event.Name.TheVariants.{SpaceOrTab, ThematicBreak}
@@ -16,19 +16,26 @@ use Rattle.md_engine.specs.Meaning.{Accepts, Behaviour, Cell, Feed, Here, Refuse
 use Rattle.md_engine.specs.Scheme.{After, spot}
 use Rattle.md_engine.specs.World.{World, after}
 use Rattle.md_engine.proofs.StepOf.{Sees, ahead, begins, cell_here, moves, passes}
-use Rattle.md_leaves.specs.Break.{at_break_code, before_code, break_ready, break_transition, is_marker, sequence_code}
+use Rattle.md_leaves.specs.Break.{at_break_code, before_code, before_transition, break_ready, break_transition}
+use Rattle.md_leaves.specs.Break.{is_marker, marked_code, one_run_after_code, one_run_code, sequence_code}
 use Rattle.md_leaves.specs.Break.{without_marker}
-use Rattle.md_leaves.specs.BreakRule.{Apart, HasBreak, Marks, White, at_break, before_marker, in_break}
+use Rattle.md_leaves.specs.BreakRule.{Apart, HasBreak, Marks, White, at_break, before_marker, behind_one_run, in_break}
+use Rattle.md_leaves.specs.BreakRule.{in_one_run}
+use Rattle.md_leaves.specs.HeadingSetext.{turns_nothing}
+use Rattle.md_leaves.specs.HeadingSetextRule.{is_underline}
 use Rattle.md_leaves.proofs.BreakLemmas.{apart-mark, before-mark, before-other, in_break-mark, in_break-other}
 use Rattle.md_leaves.proofs.BreakLemmas.{marker-no_ending, marker-no_white, marks-at_none, marks-end, marks-none}
 use Rattle.md_leaves.proofs.BreakLemmas.{marks-white, takes-white}
+use Rattle.md_leaves.proofs.BreakOneRun.{behind-by, in_one_white, no-underline, one-mark, one_run-end, one_run-mark}
+use Rattle.md_leaves.proofs.BreakOneRun.{one_run-none, one_run-white, takes-one_white}
 use Rattle.md_leaves.proofs.BreakGoods.{marked-calm, rest-marker}
 use Rattle.md_leaves.proofs.LeafStart.{HasStart, start-steps}
 use Rattle.md_leaves.proofs.LeafSteps.{sees-one, sees-other_white, white_frame, behind-joined, white-run}
-use Rattle.md_seam.specs.Ahead.{white_rest}
+use Rattle.md_seam.specs.Ahead.{line_bytes, white_rest}
 use Rattle.md_seam.specs.Events.Nested.{enter, exit}
 use Rattle.md_definition.specs.Rest.{is_white}
 use Rattle.md_seam.specs.Spaces.{IsRest, any_size, ends_line, is_current, sees_white}
+use Rattle.md_seam.proofs.LookLemmas.{first-seen}
 use Rattle.md_seam.proofs.WhiteSteps.{begins-seen, white-tried}
 
 abbrev behind_marks : Here → Here
@@ -157,9 +164,10 @@ at_break_steps B options feed w false false has s mark e f =
     passes B feed _ _ w (at_break_code w false false).world refl refl
     (has.each its.AtBreak _ _ ∙ rw s.next (at_break-no feed w (here w) w.current e f))
 
-before-none : (h : Here) → before_marker [] h ≡ Refuses (without_marker h.scratch) h.flags
+before-none : (options : ParseOptions) (h : Here) →
+    before_marker options [] h ≡ Refuses (without_marker h.scratch) h.flags
 unfolding before_marker
-before-none h = refl
+before-none options h = refl
 
 -- between two runs, where the marker stands
 at_break-apart : (c : Cell) (cs : List Cell) (h : Here) → is_marker c.byte ≡ true →
@@ -167,42 +175,159 @@ at_break-apart : (c : Cell) (cs : List Cell) (h : Here) → is_marker c.byte ≡
 unfolding at_break
 at_break-apart c cs h mark = rw (marker-no_white c.byte mark) refl
 
-before_steps : (B : Behaviour) (options : ParseOptions) (feed : Feed) (w : World) → HasBreak B options → Sees feed w →
-    IsRest w.scratch →
-    Steps B feed (Next (n.ThematicBreak its.Before)) w (before_code w w.current).to (before_code w w.current).world
-before_steps B options feed w has s r = go w.current s.next
+-- at a marker, by whether it is a hyphen, and whether an underline has nothing to turn
+marked_steps : (B : Behaviour) (feed : Feed) (w : World) (b : ℕ) (y x : Bool) → HasBreak B w.setting.options →
+    IsRest w.scratch → feed w.point ≡ ahead feed w (Some b) → is_marker b ≡ true → (b == 45) ≡ y →
+    turns_nothing w.setting.options w.flags.leaf ≡ x →
+    Steps B feed (Next (n.ThematicBreak its.Before)) w (marked_code w b (y && x)).to (marked_code w b (y && x)).world
+marked_steps B feed w b y x has r e k is turns = go y x is turns
   where
-    refused : before_marker (feed w.point) (here w) ≡ Refuses (without_marker w.scratch) w.flags →
+    options : ParseOptions
+    options = w.setting.options
+
+    c : Cell
+    c = cell_here feed w b
+
+    cs : List Cell
+    cs = feed (after w.setting w.point)
+
+    size : w.scratch.size ≡ 0
+    size = ap (λ (t : Scratch). t.size) r
+
+    one : (b == 45) ≡ true → turns_nothing w.setting.options w.flags.leaf ≡ true →
+        Steps B feed (Next (n.ThematicBreak its.Before)) w (marked_code w b true).to (marked_code w b true).world
+    one is turns =
+        let new : World = record w {
+          events = w.events ++ enter parts.ThematicBreakSequence w.point ∷ [];
+          scratch = record w.scratch { marker = b };
+        } in
+        moves B feed _ (Retry (n.ThematicBreak its.OneRun)) w new (enter parts.ThematicBreakSequence w.point ∷ [])
+        refl refl
+        (has.each its.Before _ _ ∙ ap (λ (x : List Cell). before_marker options x (here w)) e
+        ∙ one-mark options c cs (here w) k is size turns
+        ∙ ap (λ (x : List Cell). in_one_run x (here new)) (sym e)
+        ∙ sym (has.each its.OneRun _ _))
+
+    apart : turns_nothing w.setting.options w.flags.leaf && is_underline (line_bytes (c ∷ cs)) ≡ false →
+        Steps B feed (Next (n.ThematicBreak its.Before)) w (marked_code w b false).to (marked_code w b false).world
+    apart none =
+        let h : Here = record (here w) { scratch = record w.scratch { marker = b } } in
+        passes B feed _ (Retry (n.ThematicBreak its.AtBreak)) w
+        (record w { scratch = record w.scratch { marker = b } }) refl refl
+        (has.each its.Before _ _ ∙ ap (λ (x : List Cell). before_marker options x (here w)) e
+        ∙ before-mark options c cs (here w) k size none
+        ∙ at_break-apart c cs h k ∙ ap (λ (x : List Cell). at_break x h) (sym e) ∙ sym (has.each its.AtBreak _ _))
+
+    go : (y x : Bool) → (b == 45) ≡ y → turns_nothing w.setting.options w.flags.leaf ≡ x →
+        Steps B feed (Next (n.ThematicBreak its.Before)) w (marked_code w b (y && x)).to
+        (marked_code w b (y && x)).world
+    go true true is turns = one is turns
+    go true false is turns = apart (no-underline options c cs (here w) true false k is turns refl)
+    go false x is turns = apart (no-underline options c cs (here w) false x k is turns refl)
+
+before_steps : (B : Behaviour) (feed : Feed) (w : World) → HasBreak B w.setting.options → Sees feed w →
+    IsRest w.scratch →
+    Steps B feed (Next (n.ThematicBreak its.Before)) w (before_transition w).to (before_transition w).world
+before_steps B feed w has s r = go w.current s.next
+  where
+    nothing : Bool
+    nothing = turns_nothing w.setting.options w.flags.leaf
+
+    refused : before_marker w.setting.options (feed w.point) (here w) ≡ Refuses (without_marker w.scratch) w.flags →
         Steps B feed (Next (n.ThematicBreak its.Before)) w Nok w
     refused e =
-        passes B feed _ Nok w w refl refl (has.each its.Before _ _ ∙ e ∙ ap (λ (x : Scratch). Refuses x w.flags) (rest-marker w.scratch r))
+        passes B feed _ Nok w w refl refl
+        (has.each its.Before _ _ ∙ e ∙ ap (λ (x : Scratch). Refuses x w.flags) (rest-marker w.scratch r))
 
     go : (o : Option ℕ) → feed w.point ≡ ahead feed w o →
-        Steps B feed (Next (n.ThematicBreak its.Before)) w (before_code w o).to (before_code w o).world
-    go None e = refused (ap (λ (x : List Cell). before_marker x (here w)) e ∙ before-none (here w))
+        Steps B feed (Next (n.ThematicBreak its.Before)) w (before_code w nothing o).to
+        (before_code w nothing o).world
+    go None e =
+        refused
+        (ap (λ (x : List Cell). before_marker w.setting.options x (here w)) e
+        ∙ before-none w.setting.options (here w))
     go (Some b) e = by (is_marker b) refl
       where
         by : (x : Bool) → is_marker b ≡ x →
-            Steps B feed (Next (n.ThematicBreak its.Before)) w (before_code w (Some b)).to
-            (before_code w (Some b)).world
-        by true k =
-            let c = cell_here feed w b in
-            let cs = feed (after w.setting w.point) in
-            let h : Here = record (here w) { scratch = record w.scratch { marker = b } } in
-            rw k (passes B feed _ (Retry (n.ThematicBreak its.AtBreak)) w
-            (record w { scratch = record w.scratch { marker = b } }) refl refl
-            (has.each its.Before _ _ ∙ ap (λ (x : List Cell). before_marker x (here w)) e ∙ before-mark c cs (here w) k
-            (ap (λ (t : Scratch). t.size) r)
-            ∙ at_break-apart c cs h k ∙ ap (λ (x : List Cell). at_break x h) (sym e) ∙ sym (has.each its.AtBreak _ _)))
+            Steps B feed (Next (n.ThematicBreak its.Before)) w (before_code w nothing (Some b)).to
+            (before_code w nothing (Some b)).world
+        by true k = rw k (marked_steps B feed w b (b == 45) nothing has r e k refl refl)
         by false k =
             rw k
             (refused
-            (ap (λ (x : List Cell). before_marker x (here w)) e
-            ∙ before-other (cell_here feed w b) (feed (after w.setting w.point)) (here w) k))
+            (ap (λ (x : List Cell). before_marker w.setting.options x (here w)) e
+            ∙ before-other w.setting.options (cell_here feed w b) (feed (after w.setting w.point)) (here w) k))
+
+-- The first run, where it may be all of the line.
+
+-- neither a marker nor whitespace stands here
+run-stops : (feed : Feed) (w : World) (h : Here) (o : Option ℕ) → is_current h.scratch.marker o ≡ false →
+    sees_white o ≡ false → in_one_run (ahead feed w o) h ≡ behind_one_run (ahead feed w o) (behind_marks h)
+run-stops feed w h None e f = one_run-none h
+run-stops feed w h (Some b) e f = one_run-end (cell_here feed w b) (feed (after w.setting w.point)) h f e
+
+-- whitespace does
+to-one_white : (cells : List Cell) (c : Cell) (cs : List Cell) (h : Here) → cells ≡ c ∷ cs → is_white c.byte ≡ true →
+    nat_eq c.byte h.scratch.marker ≡ false →
+    in_one_run cells h ≡
+    in_one_white cells
+    (record h { events = h.events ++ exit parts.ThematicBreakSequence h.point ∷ [] ++ enter SpaceOrTab h.point ∷ [] })
+to-one_white cells c cs h e s k = ap (λ (x : List Cell). in_one_run x h) e ∙ one_run-white c cs h s k
+    ∙ ap
+    (λ (x : List Cell).
+    in_one_white x
+    (record h { events = h.events ++ exit parts.ThematicBreakSequence h.point ∷ [] ++ enter SpaceOrTab h.point ∷ [] }))
+    (sym e)
+
+one_run_steps : (B : Behaviour) (options : ParseOptions) (feed : Feed) (w : World) (x y : Bool) → HasBreak B options →
+    Sees feed w → IsRest (without_marker w.scratch) → is_marker w.scratch.marker ≡ true →
+    is_current w.scratch.marker w.current ≡ x → sees_white w.current ≡ y →
+    Steps B feed (Next (n.ThematicBreak its.OneRun)) w (one_run_code w x y).to (one_run_code w x y).world
+one_run_steps B options feed w true y has s r mark e f =
+    let saw = sees-one feed w (is_current w.scratch.marker) refl s e in
+    let ending : nat_eq saw.0 10 ≡
+    false = rw (eqb-true saw.0 w.scratch.marker saw.2) (marker-no_ending w.scratch.marker mark) in
+    passes B feed _ _ w (one_run_code w true y).world refl refl
+    (has.each its.OneRun _ _ ∙ ap (λ (x : List Cell). in_one_run x (here w)) saw.1
+    ∙ one_run-mark (cell_here feed w saw.0) (feed (after w.setting w.point)) (here w) saw.2 ending
+    ∙ sym (has.each its.OneRun _ _))
+one_run_steps B options feed w false true has s r mark e f =
+    let saw = sees-other_white feed w w.scratch.marker s e f in
+    let h : Here = behind_marks (here w) in
+    let frame : Frame = white_frame (Next (n.ThematicBreak its.OneRunAfter)) w h.events in
+    begins B feed _ _ w (one_run_code w false true).world
+    (exit parts.ThematicBreakSequence w.point ∷ []) frame refl refl
+    (has.each its.OneRun _ _
+    ∙ to-one_white (feed w.point) (cell_here feed w saw.0) (feed (after w.setting w.point)) (here w) saw.1 saw.3 saw.2
+    ∙ white-run _ in_one_white behind_one_run any_size (feed w.point)
+    (record h { events = h.events ++ enter SpaceOrTab h.point ∷ [] }) takes-one_white
+    (marker-no_white w.scratch.marker mark) (omega (arith, s.short))
+    ∙ ap (behind_one_run (white_rest any_size (feed w.point)))
+    (behind-joined any_size (feed w.point) h (marked-calm w.scratch r))
+    ∙ sym (has.each its.OneRunAfter _ _)
+    ∙ white-tried B feed frame h.events (feed w.point) h 0 any_size has.white (begins-seen feed w s ∙ f) (omega arith)
+    (omega arith) refl)
+one_run_steps B options feed w false false has s r mark e f =
+    moves B feed _ _ w (one_run_code w false false).world (exit parts.ThematicBreakSequence w.point ∷ []) refl refl
+    (has.each its.OneRun _ _ ∙ ap (λ (x : List Cell). in_one_run x (here w)) s.next
+    ∙ run-stops feed w (here w) w.current e f
+    ∙ ap (λ (x : List Cell). behind_one_run x (behind_marks (here w))) (sym s.next)
+    ∙ sym (has.each its.OneRunAfter _ _))
+
+one_run_after_steps : (B : Behaviour) (options : ParseOptions) (feed : Feed) (w : World) (x : Bool) →
+    HasBreak B options → Sees feed w → ends_line w.current ≡ x →
+    Steps B feed (Next (n.ThematicBreak its.OneRunAfter)) w (one_run_after_code w x).to (one_run_after_code w x).world
+one_run_after_steps B options feed w true has s e =
+    passes B feed _ _ w (one_run_after_code w true).world refl refl
+    (has.each its.OneRunAfter _ _ ∙ behind-by (feed w.point) (here w) true (ap ends_line (first-seen feed w s) ∙ e))
+one_run_after_steps B options feed w false has s e =
+    passes B feed _ _ w w refl refl
+    (has.each its.OneRunAfter _ _ ∙ behind-by (feed w.point) (here w) false (ap ends_line (first-seen feed w s) ∙ e)
+    ∙ sym (has.each its.AtBreak _ _))
 
 has_start : (B : Behaviour) (options : ParseOptions) → HasBreak B options →
-    HasStart B options parts.ThematicBreak options.constructs.thematic_break before_marker (n.ThematicBreak its.Start)
-    (n.ThematicBreak its.Before)
+    HasStart B options parts.ThematicBreak options.constructs.thematic_break (before_marker options)
+    (n.ThematicBreak its.Start) (n.ThematicBreak its.Before)
 has_start B options has = record { white = has.white; start_is = has.each its.Start; next_is = has.each its.Before }
 
 -- each state of a break takes one step of what it means
@@ -210,7 +335,9 @@ pub break_steps : (B : Behaviour) (feed : Feed) (state : BreakState) (w : World)
     HasBreak B w.setting.options → Sees feed w → break_ready (n.ThematicBreak state) (spot w) K →
     Steps B feed (Next (n.ThematicBreak state)) w (break_transition state w).to (break_transition state w).world
 break_steps B feed its.Start w K has s at =
-    start-steps B feed parts.ThematicBreak _ before_marker _ _ w _ _ (has_start B _ has) s refl refl
-break_steps B feed its.Before w K has s at = before_steps B _ feed w has s at.0
+    start-steps B feed parts.ThematicBreak _ (before_marker w.setting.options) _ _ w _ _ (has_start B _ has) s refl refl
+break_steps B feed its.Before w K has s at = before_steps B feed w has s at.0
 break_steps B feed its.AtBreak w K has s at = at_break_steps B _ feed w _ _ has s at.0.marker refl refl
 break_steps B feed its.Sequence w K has s at = sequence_steps B _ feed w _ _ has s at.0.rest at.0.marker refl refl
+break_steps B feed its.OneRun w K has s at = one_run_steps B _ feed w _ _ has s at.0.rest at.0.marker refl refl
+break_steps B feed its.OneRunAfter w K has s at = one_run_after_steps B _ feed w _ has s refl

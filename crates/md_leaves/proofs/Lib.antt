@@ -1,6 +1,7 @@
 pub mod BlankGoods
 pub mod BreakGoods
 pub mod BreakLemmas
+pub mod BreakOneRun
 pub mod BlankSteps
 pub mod BlankLook
 pub mod BreakSteps

@@ -28,11 +28,11 @@ pub marker-no_white : (m : ℕ) → is_marker m ≡ true → is_white m ≡ fals
 marker-no_white m h = grind (arith, nat_tests)
 
 -- the run goes on with its marker,
-is_run-one : (m b : ℕ) (bs : List ℕ) → nat_eq b m ≡ true → is_run m (b ∷ bs) ≡ is_run m bs
+pub is_run-one : (m b : ℕ) (bs : List ℕ) → nat_eq b m ≡ true → is_run m (b ∷ bs) ≡ is_run m bs
 is_run-one m b bs e = ap (λ (k : ℕ). is_blank (drop k (b ∷ bs))) (run_len-one m b bs e)
 
 -- and behind it stands whitespace
-is_run-other : (m b : ℕ) (bs : List ℕ) → nat_eq b m ≡ false → is_run m (b ∷ bs) ≡ is_blank (b ∷ bs)
+pub is_run-other : (m b : ℕ) (bs : List ℕ) → nat_eq b m ≡ false → is_run m (b ∷ bs) ≡ is_blank (b ∷ bs)
 is_run-other m b bs e = ap (λ (k : ℕ). is_blank (drop k (b ∷ bs))) (run_len-other m b bs e)
 
 -- one marker more

@@ -10,7 +10,7 @@ use Rattle.md_engine.specs.declared.event.Point.{Point}
 use Rattle.md_engine.specs.declared.tokenizer.held_leaf.HeldLeaf.TheVariants as held_leaf
 use Rattle.md_engine.specs.declared.tokenizer.Scratch.{Scratch}
 use Rattle.md_engine.specs.Meaning.{Accepts, Cell, Here, Outcome, Refuses}
-use Rattle.md_leaves.specs.HeadingSetext.{is_text, may_begin}
+use Rattle.md_leaves.specs.HeadingSetext.{may_begin, may_turn}
 use Rattle.md_leaves.specs.HeadingSetextRule.{before_run, first_cell, is_underline, is_underline_line, runs, setext_at}
 use Rattle.md_leaves.specs.HeadingSetextRule.{underline_inside, underlined}
 use Rattle.md_leaves.specs.LeafStart.{entered_here}
@@ -80,9 +80,9 @@ setext-looked options cells b seen e =
     rule-refused may_begin options.constructs.heading_setext is_underline (small_indent options) cells b refl
     (λ c bytes k. rw k refl) (λ c white. grind (arith, nat_tests)) seen e
 
--- An underline that meets open text takes its line, with its indent and its run,
+-- An underline that meets text that it turns takes its line, with its indent and its run,
 pub setext-took : (options : ParseOptions) (cells : List Cell) (h : Here) → IsRest h.scratch →
-    is_text h.flags.leaf && is_underline_line options cells ≡ true →
+    may_turn options h.flags.leaf && is_underline_line options cells ≡ true →
     setext_at options cells h ≡ taken_line (underline_inside options cells h.point) cells h
 setext-took options cells h is e = go (begins_white cells) refl
   where
@@ -92,8 +92,8 @@ setext-took options cells h is e = go (begins_white cells) refl
     left : List Cell
     left = white_rest (small_indent options) cells
 
-    both : (is_text h.flags.leaf ≡ true) × (is_underline_line options cells ≡ true)
-    both = and_parts (is_text h.flags.leaf) (is_underline_line options cells) e
+    both : (may_turn options h.flags.leaf ≡ true) × (is_underline_line options cells ≡ true)
+    both = and_parts (may_turn options h.flags.leaf) (is_underline_line options cells) e
 
     parts : (options.constructs.heading_setext ≡ true) ×
         (is_underline (line_bytes (white_rest (small_indent options) cells)) ≡ true)
@@ -101,7 +101,7 @@ setext-took options cells h is e = go (begins_white cells) refl
         and_parts options.constructs.heading_setext
         (is_underline (line_bytes (white_rest (small_indent options) cells))) both.1
 
-    on : options.constructs.heading_setext && is_text h.flags.leaf ≡ true
+    on : options.constructs.heading_setext && may_turn options h.flags.leaf ≡ true
     on = ap₂ (λ (x y : Bool). x && y) parts.0 both.0
 
     go : (x : Bool) → begins_white cells ≡ x →
@@ -120,10 +120,10 @@ setext-took options cells h is e = go (begins_white cells) refl
 
 -- and any other line is refused.
 pub setext-refused : (options : ParseOptions) (cells : List Cell) (h : Here) → IsRest h.scratch →
-    is_text h.flags.leaf && is_underline_line options cells ≡ false →
+    may_turn options h.flags.leaf && is_underline_line options cells ≡ false →
     setext_at options cells h ≡ Refuses h.scratch h.flags
 setext-refused options cells h is e =
-    by options.constructs.heading_setext (is_text h.flags.leaf) refl refl
+    by options.constructs.heading_setext (may_turn options h.flags.leaf) refl refl
   where
     room : ℕ
     room = small_indent options
@@ -131,12 +131,12 @@ setext-refused options cells h is e =
     left : List Cell
     left = white_rest (small_indent options) cells
 
-    off : options.constructs.heading_setext && is_text h.flags.leaf ≡ false →
+    off : options.constructs.heading_setext && may_turn options h.flags.leaf ≡ false →
         setext_at options cells h ≡ Refuses h.scratch h.flags
     off = at-off HeadingSetextUnderline _ before_run options cells h
 
-    go : options.constructs.heading_setext && is_text h.flags.leaf ≡ true → is_underline (line_bytes left) ≡ false →
-        (x : Bool) → begins_white cells ≡ x → setext_at options cells h ≡ Refuses h.scratch h.flags
+    go : options.constructs.heading_setext && may_turn options h.flags.leaf ≡ true →
+        is_underline (line_bytes left) ≡ false → (x : Bool) → begins_white cells ≡ x → setext_at options cells h ≡ Refuses h.scratch h.flags
     go on none true s =
         at-white HeadingSetextUnderline _ before_run options cells h on s
         ∙ before-no left (behind_white room cells (entered_here HeadingSetextUnderline h)) none
@@ -146,10 +146,10 @@ setext-refused options cells h is e =
         ∙ before-no cells (entered_here HeadingSetextUnderline h)
         (sym (ap (λ (r : List Cell). is_underline (line_bytes r)) (none-rest room cells s)) ∙ none)
 
-    by : (x y : Bool) → options.constructs.heading_setext ≡ x → is_text h.flags.leaf ≡ y →
+    by : (x y : Bool) → options.constructs.heading_setext ≡ x → may_turn options h.flags.leaf ≡ y →
         setext_at options cells h ≡ Refuses h.scratch h.flags
     by true true k l =
         go (ap₂ (λ (x y : Bool). x && y) k l)
         (sym (ap₂ (λ (x y : Bool). y && (x && is_underline (line_bytes left))) k l) ∙ e) (begins_white cells) refl
     by true false k l = off (ap₂ (λ (x y : Bool). x && y) k l)
-    by false y k l = off (ap (λ (x : Bool). x && is_text h.flags.leaf) k)
+    by false y k l = off (ap (λ (x : Bool). x && may_turn options h.flags.leaf) k)

@@ -10,6 +10,7 @@ use Rattle.md_engine.specs.declared.state.State.TheVariants.{Ok, Nok, Next, Retr
 use Rattle.md_engine.specs.declared.tokenizer.Scratch.{Scratch}
 use Rattle.md_engine.specs.Scheme.{After, Ends, Rank, Scheme, Spot, cells_before, ranked, seen}
 use Rattle.md_engine.specs.World.{World}
+use Rattle.md_leaves.specs.HeadingSetext.{turns_nothing}
 use Rattle.md_leaves.specs.LeafStart as leaf
 use Rattle.md_seam.specs.Spaces.{any_size, ends_line, IsRest, is_current, rest_ready, sees_white, white_then}
 use Rattle.md_seam.specs.Transition.{Transition, entered, exited, taken}
@@ -25,16 +26,22 @@ may_begin b = is_marker b
 abbrev pub without_marker : Scratch → Scratch
 without_marker s = record s { marker = 0; size = 0 }
 
--- by what stands here
-abbrev pub before_code : World → Option ℕ → Transition
-before_code w None = record { to = Nok; world = w }
-before_code w (Some b) =
-    if is_marker b
-    then record {
-      to = Retry (n.ThematicBreak its.AtBreak);
-      world = record w { scratch = record w.scratch { marker = b } };
-    }
-    else record { to = Nok; world = w }
+-- at this marker, by whether a line of one run of it is no break
+abbrev pub marked_code : World → ℕ → Bool → Transition
+marked_code w b true = record {
+  to = Retry (n.ThematicBreak its.OneRun);
+  world = record (entered w ThematicBreakSequence) { scratch = record w.scratch { marker = b } };
+}
+marked_code w b false = record {
+  to = Retry (n.ThematicBreak its.AtBreak);
+  world = record w { scratch = record w.scratch { marker = b } };
+}
+
+-- by what stands here, and whether an underline has nothing to turn
+abbrev pub before_code : World → Bool → Option ℕ → Transition
+before_code w nothing None = record { to = Nok; world = w }
+before_code w nothing (Some b) =
+    if is_marker b then marked_code w b ((b == 45) && nothing) else record { to = Nok; world = w }
 
 -- by whether the marker stands here, and whether the line ends here with enough of it
 abbrev pub at_break_code : World → Bool → Bool → Transition
@@ -56,13 +63,30 @@ sequence_code w false true =
 sequence_code w false false =
     record { to = Retry (n.ThematicBreak its.AtBreak); world = exited w ThematicBreakSequence }
 
+-- in the first run, where it may not be all of the line: by whether the marker stands here, and whether whitespace does
+abbrev pub one_run_code : World → Bool → Bool → Transition
+one_run_code w true white =
+    record {
+      to = Next (n.ThematicBreak its.OneRun);
+      world = record (taken w) { scratch = record w.scratch { size = w.scratch.size + 1 } };
+    }
+one_run_code w false true =
+    white_then (exited w ThematicBreakSequence) 0 any_size (Next (n.ThematicBreak its.OneRunAfter)) Nok
+one_run_code w false false =
+    record { to = Retry (n.ThematicBreak its.OneRunAfter); world = exited w ThematicBreakSequence }
+
+-- behind it and whitespace, by whether the line ends here
+abbrev pub one_run_after_code : World → Bool → Transition
+one_run_after_code w true = record { to = Nok; world = record w { scratch = without_marker w.scratch } }
+one_run_after_code w false = record { to = Retry (n.ThematicBreak its.AtBreak); world = w }
+
 -- each state with what it does, where there is memory
 abbrev pub start_transition : World → Transition
 start_transition w =
     leaf.start_transition ThematicBreak (n.ThematicBreak its.Before) w.setting.options.constructs.thematic_break w
 
 abbrev pub before_transition : World → Transition
-before_transition w = before_code w w.current
+before_transition w = before_code w (turns_nothing w.setting.options w.flags.leaf) w.current
 
 abbrev pub at_break_transition : World → Transition
 at_break_transition w =
@@ -71,12 +95,20 @@ at_break_transition w =
 abbrev pub sequence_transition : World → Transition
 sequence_transition w = sequence_code w (is_current w.scratch.marker w.current) (sees_white w.current)
 
+abbrev pub one_run_transition : World → Transition
+one_run_transition w = one_run_code w (is_current w.scratch.marker w.current) (sees_white w.current)
+
+abbrev pub one_run_after_transition : World → Transition
+one_run_after_transition w = one_run_after_code w (ends_line w.current)
+
 -- all of them
 abbrev pub break_transition : BreakState → World → Transition
 break_transition its.Start w = start_transition w
 break_transition its.Before w = before_transition w
 break_transition its.AtBreak w = at_break_transition w
 break_transition its.Sequence w = sequence_transition w
+break_transition its.OneRun w = one_run_transition w
+break_transition its.OneRunAfter w = one_run_after_transition w
 
 -- Behind the indent there is a marker, and those that were taken lie before the point.
 pub record IsMarked (x : Spot) : Type 0 where
@@ -86,22 +118,30 @@ pub record IsMarked (x : Spot) : Type 0 where
 
 abbrev pub BreakNeeds : StateName → World → Type 0
 BreakNeeds (n.ThematicBreak its.Sequence) w = w.scratch.size ≤ cells_before w.point
+BreakNeeds (n.ThematicBreak its.OneRun) w = w.scratch.size ≤ cells_before w.point
 BreakNeeds _ w = Unit {0}
 
 abbrev pub break_ready : StateName → Spot → After → Type 0
 break_ready (n.ThematicBreak its.AtBreak) x K = IsMarked x × Ends IsRest IsRest x K
 break_ready (n.ThematicBreak its.Sequence) x K = IsMarked x × Ends IsRest IsRest x K
+break_ready (n.ThematicBreak its.OneRun) x K = IsMarked x × Ends IsRest IsRest x K
+break_ready (n.ThematicBreak its.OneRunAfter) x K = IsMarked x × Ends IsRest IsRest x K
 break_ready _ x K = rest_ready x K
 
 abbrev pub break_rank : StateName → Spot → Rank
-break_rank (n.ThematicBreak its.Start) x = ranked 5 refl
-break_rank (n.ThematicBreak its.Before) x = ranked 3 refl
+break_rank (n.ThematicBreak its.Start) x = ranked 6 refl
+break_rank (n.ThematicBreak its.Before) x = ranked 4 refl
 break_rank (n.ThematicBreak its.AtBreak) x =
     if is_current x.scratch.marker (seen x) then ranked 2 refl else ranked 0 refl
+break_rank (n.ThematicBreak its.OneRun) x =
+    if is_current x.scratch.marker (seen x) then ranked 1 refl else ranked 3 refl
+break_rank (n.ThematicBreak its.OneRunAfter) x =
+    if is_current x.scratch.marker (seen x) then ranked 3 refl else ranked 1 refl
 break_rank _ x = if is_current x.scratch.marker (seen x) then ranked 1 refl else ranked 2 refl
 
 abbrev pub break_tries : StateName → Rank
-break_tries (n.ThematicBreak its.Before) = ranked 4 refl
+break_tries (n.ThematicBreak its.Before) = ranked 5 refl
+break_tries (n.ThematicBreak its.OneRunAfter) = ranked 2 refl
 break_tries _ = ranked 1 refl
 
 abbrev pub break_scheme : Scheme

@@ -1,5 +1,5 @@
 -- The rule of a thematic break, as what is left of it at each state (CommonMark 4.1).
-use Rattle.std.specs.Prelude.{◌≡◌, ℕ, ◌+◌, ◌&&◌, ◌||◌, ◌==◌, nat_le, if◌then◌else◌, List, [], ◌∷◌, ◌++◌}
+use Rattle.std.specs.Prelude.{◌≡◌, ℕ, ◌+◌, ◌&&◌, ◌||◌, ◌==◌, not, nat_le, if◌then◌else◌, List, [], ◌∷◌, ◌++◌}
 use Rattle.std.specs.Prelude.{count_by}
 use Rattle.std.specs.List.{list_all}
 use Rattle.md_engine.specs.declared.configuration.ParseOptions.{ParseOptions}
@@ -12,12 +12,16 @@ use Rattle.md_engine.specs.declared.state.thematic_break.State.TheVariants as it
 use Rattle.md_engine.specs.Meaning.{Accepts, Behaviour, Cell, Here, Outcome, Refuses}
 use Rattle.md_leaves.specs.LeafStart.{start_at}
 use Rattle.md_leaves.specs.Break.{without_marker}
+use Rattle.md_leaves.specs.HeadingSetext.{turns_nothing}
+use Rattle.md_leaves.specs.HeadingSetextRule.{is_run, is_underline}
 pub use Rattle.md_leaves.specs.MarkRuns.{Apart, Marks, Run, White}
 use Rattle.md_leaves.specs.MarkRuns.{mark_runs}
 use Rattle.md_seam.specs.Ahead.{HasWhite, begins_white, from_ending, line_bytes, line_cells, line_end}
 use Rattle.md_definition.specs.Leaves.{is_rule}
 use Rattle.md_seam.specs.Events.Nested.{exit}
 use Rattle.md_definition.specs.Rest.{is_white}
+use Rattle.md_seam.specs.Look.{first_seen}
+use Rattle.md_seam.specs.Spaces.{ends_line}
 
 -- the runs of markers and of whitespace that are left of a line
 abbrev pub runs : Run → ℕ → List Cell → Point → List Event
@@ -52,22 +56,39 @@ in_break run cells h =
 unfoldable pub at_break : List Cell → Here → Outcome
 at_break cells h = if begins_white cells then Refuses (without_marker h.scratch) h.flags else in_break Apart cells h
 
--- behind the indent
-unfoldable pub before_marker : List Cell → Here → Outcome
-before_marker [] h = Refuses (without_marker h.scratch) h.flags
-before_marker (c ∷ cs) h =
-    if is_rule (line_bytes (c ∷ cs)) then broken Apart c.byte (c ∷ cs) h else Refuses (without_marker h.scratch) h.flags
+-- in the first run, where that may not be all of the line
+unfoldable pub in_one_run : List Cell → Here → Outcome
+in_one_run cells h =
+    if is_run h.scratch.marker (line_bytes cells) then Refuses (without_marker h.scratch) h.flags
+    else in_break Marks cells h
 
--- the whole rule, if breaks are on: a small indent, and a rule behind it
+-- behind that run, and the whitespace that follows it
+unfoldable pub behind_one_run : List Cell → Here → Outcome
+behind_one_run cells h =
+    if ends_line (first_seen cells) then Refuses (without_marker h.scratch) h.flags else at_break cells h
+
+-- behind the indent: no underline that has nothing to turn
+unfoldable pub before_marker : ParseOptions → List Cell → Here → Outcome
+before_marker options [] h = Refuses (without_marker h.scratch) h.flags
+before_marker options (c ∷ cs) h =
+    let bytes = line_bytes (c ∷ cs) in
+    if is_rule bytes && not (turns_nothing options h.flags.leaf && is_underline bytes)
+    then broken Apart c.byte (c ∷ cs) h
+    else Refuses (without_marker h.scratch) h.flags
+
+-- the whole rule, if breaks are on: a small indent, and a rule behind it that is no underline with nothing to turn
 abbrev pub break_at : ParseOptions → List Cell → Here → Outcome
-break_at options cells h = start_at ThematicBreak options.constructs.thematic_break before_marker options cells h
+break_at options cells h =
+    start_at ThematicBreak options.constructs.thematic_break (before_marker options) options cells h
 
 -- what is left at each state
 abbrev pub break_behaves : ParseOptions → BreakState → List Cell → Here → Outcome
 break_behaves options its.Start cells h = break_at options cells h
-break_behaves options its.Before cells h = before_marker cells h
+break_behaves options its.Before cells h = before_marker options cells h
 break_behaves options its.AtBreak cells h = at_break cells h
 break_behaves options its.Sequence cells h = in_break Marks cells h
+break_behaves options its.OneRun cells h = in_one_run cells h
+break_behaves options its.OneRunAfter cells h = behind_one_run cells h
 
 pub record HasBreak (B : Behaviour) (options : ParseOptions) : Type 0 where
   pub white : HasWhite B

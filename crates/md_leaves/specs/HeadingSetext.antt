@@ -1,5 +1,8 @@
--- The underline of a setext heading (CommonMark 4.3): it stands where text is open.
-use Rattle.std.specs.Prelude.{◌≡◌, refl, ℕ, ◌+◌, ◌≤◌, Bool, true, false, ◌&&◌, ◌||◌, ◌==◌, if◌then◌else◌, Option, Some, None}
+-- The underline of a setext heading (CommonMark 4.3): it stands where text is open of which something is left behind
+-- the definitions at its front.
+use Rattle.std.specs.Prelude.{◌≡◌, refl, ℕ, ◌+◌, ◌≤◌, Bool, true, false, ◌&&◌, ◌||◌, ◌==◌, not, if◌then◌else◌, Option}
+use Rattle.std.specs.Prelude.{Some, None}
+use Rattle.md_engine.specs.declared.configuration.ParseOptions.{ParseOptions}
 use Rattle.md_engine.specs.declared.event.Name.TheVariants.{HeadingSetextUnderline, HeadingSetextUnderlineSequence}
 use Rattle.md_engine.specs.declared.state.Name.{Name as StateName}
 use Rattle.md_engine.specs.declared.state.Name.TheVariants as n
@@ -9,6 +12,7 @@ use Rattle.md_engine.specs.declared.state.State.TheVariants.{Ok, Nok, Next, Retr
 use Rattle.md_engine.specs.declared.tokenizer.Scratch.{Scratch}
 use Rattle.md_engine.specs.declared.tokenizer.held_leaf.HeldLeaf.{HeldLeaf}
 use Rattle.md_engine.specs.declared.tokenizer.held_leaf.HeldLeaf.TheVariants as held_leaf
+use Rattle.md_engine.specs.Progress.{is_whole}
 use Rattle.md_engine.specs.Scheme.{After, Ends, Rank, Scheme, Spot, cells_before, ranked, seen}
 use Rattle.md_engine.specs.World.{World}
 use Rattle.md_leaves.specs.LeafStart as leaf
@@ -23,10 +27,21 @@ is_marker b = (b == 61) || (b == 45)
 abbrev pub may_begin : ℕ → Bool
 may_begin b = is_marker b
 
--- whether a line that meets this leaf may be an underline: it is text for which the line is not lazy
+-- whether this leaf is text for which a line is not lazy
 abbrev pub is_text : HeldLeaf → Bool
-is_text held_leaf.Text = true
+is_text (held_leaf.Text at) = true
 is_text _ = false
+
+-- whether an underline that meets this leaf turns it: it is such text, and something is left behind its definitions
+abbrev pub may_turn : ParseOptions → HeldLeaf → Bool
+may_turn options (held_leaf.Text at) = not (options.constructs.definition && is_whole at)
+may_turn options _ = false
+
+-- whether it is such text, and nothing of it is left that an underline could turn, so that one is a line of the text
+abbrev pub turns_nothing : ParseOptions → HeldLeaf → Bool
+turns_nothing options (held_leaf.Text at) =
+    options.constructs.heading_setext && (options.constructs.definition && is_whole at)
+turns_nothing options _ = false
 
 abbrev pub without_marker : Scratch → Scratch
 without_marker s = record s { marker = 0; size = 0 }
@@ -66,7 +81,7 @@ after_code w false = record { to = Nok; world = w }
 abbrev pub start_transition : World → Transition
 start_transition w =
     leaf.start_transition HeadingSetextUnderline (n.HeadingSetext its.Before)
-    (w.setting.options.constructs.heading_setext && is_text w.flags.leaf) w
+    (w.setting.options.constructs.heading_setext && may_turn w.setting.options w.flags.leaf) w
 
 abbrev pub before_transition : World → Transition
 before_transition w = before_code w w.current

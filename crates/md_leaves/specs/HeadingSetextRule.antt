@@ -10,7 +10,7 @@ use Rattle.md_engine.specs.declared.state.heading_setext.State.{State as SetextS
 use Rattle.md_engine.specs.declared.state.heading_setext.State.TheVariants as its
 use Rattle.md_engine.specs.declared.tokenizer.held_leaf.HeldLeaf.TheVariants as held_leaf
 use Rattle.md_engine.specs.Meaning.{Accepts, Behaviour, Cell, Here, Outcome, Refuses}
-use Rattle.md_leaves.specs.HeadingSetext.{is_marker, is_text, without_marker}
+use Rattle.md_leaves.specs.HeadingSetext.{is_marker, may_turn, without_marker}
 use Rattle.md_leaves.specs.LeafStart.{start_at}
 use Rattle.md_leaves.specs.MarkRuns.{Apart, Marks, Run, mark_runs}
 use Rattle.md_seam.specs.Ahead.{HasWhite, begins_white, from_ending, line_bytes, line_cells, line_end, white_end}
@@ -70,10 +70,11 @@ before_run [] h = Refuses h.scratch h.flags
 before_run (c ∷ cs) h =
     if is_underline (line_bytes (c ∷ cs)) then underlined Apart c.byte (c ∷ cs) h else Refuses h.scratch h.flags
 
--- the whole rule, if setext headings are on and text is open: a small indent, and an underline behind it
+-- the whole rule, if setext headings are on and one turns what is open: a small indent, and an underline behind it
 abbrev pub setext_at : ParseOptions → List Cell → Here → Outcome
 setext_at options cells h =
-    start_at HeadingSetextUnderline (options.constructs.heading_setext && is_text h.flags.leaf) before_run options cells h
+    start_at HeadingSetextUnderline (options.constructs.heading_setext && may_turn options h.flags.leaf) before_run
+    options cells h
 
 -- what is left at each state
 abbrev pub setext_behaves : ParseOptions → SetextState → List Cell → Here → Outcome

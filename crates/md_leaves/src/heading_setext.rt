@@ -3,19 +3,22 @@
 //     heading_setext ::= paragraph eol underline
 //     underline      ::= small_indent ( 1*'=' | 1*'-' ) *space_or_tab
 //
-// A line that is an underline turns the text that is open before it into a heading. The states add
+// A line that is an underline turns the text that is open before it into a heading, or what is left of that behind its
+// definitions. Where nothing is left the line is a line of the text. The states add
 // `HeadingSetextUnderline` around the run, `HeadingSetextUnderlineSequence`, and `SpaceOrTab`. When all of the text is
 // read, `resolve` puts `HeadingSetext` around that and the paragraph in front, which becomes `HeadingSetextText`.
 
 ghost use Rattle.std.specs.Prelude.{◌≡◌, ◌≢◌, ◌&&◌, [], IfOk, IfSome, None};
 ghost use Rattle.std.specs.Option.{option_map};
 ghost use Rattle.md_engine.specs.Found.{found_in};
+ghost use Rattle.md_engine.specs.Progress.{is_whole};
 ghost use Rattle.md_engine.specs.World.{world};
 ghost use Rattle.md_engine.specs.declared.state.Name.{Name as StateName};
 ghost use Rattle.md_engine.specs.declared.state.State.{State};
 ghost use Rattle.md_engine.specs.declared.state.heading_setext.State.{State as SetextState};
 ghost use Rattle.md_leaves.specs.HeadingSetext.{SetextNeeds, after_transition, before_transition, inside_transition};
-ghost use Rattle.md_leaves.specs.HeadingSetext.{is_marker, is_text, may_begin, setext_transition, start_transition};
+ghost use Rattle.md_leaves.specs.HeadingSetext.{is_marker, may_begin, may_turn, setext_transition, start_transition};
+ghost use Rattle.md_leaves.specs.HeadingSetext.{turns_nothing};
 ghost use Rattle.md_leaves.specs.Turned.{turned};
 ghost use Rattle.md_seam.specs.Look.{may_with};
 ghost use Rattle.md_seam.specs.Stays.{TakesEach};
@@ -23,6 +26,7 @@ ghost use Rattle.md_seam.specs.Transition.{IsAt};
 
 use crate::leaf_start::start_leaf;
 use crate::underlines::{put_headings, until_underline};
+use md_engine::configuration::ParseOptions;
 use md_engine::event::Name;
 use md_engine::message::Message;
 use md_engine::or_error;
@@ -30,7 +34,7 @@ use md_engine::state::heading_setext::State as SetextState;
 use md_engine::state::{Name as StateName, State};
 use md_engine::stay::Stay;
 use md_engine::subtokenize::Subresult;
-use md_engine::tokenizer::{HeldLeaf, Tokenizer};
+use md_engine::tokenizer::{HeldLeaf, Progress, Tokenizer};
 use md_seam::space_or_tab::{is_space_or_tab, space_or_tab_min_max};
 
 /// Whether this is a marker of an underline.
@@ -40,11 +44,35 @@ fn is_marker(byte: u8) -> bool
     byte == b'=' || byte == b'-'
 }
 
-/// Whether a line that meets this leaf may be an underline: it is text for which the line is not lazy.
-fn is_text(leaf: HeldLeaf) -> bool
-    ensures { result ≡ is_text leaf }
+/// Whether all lines of a text so far are whole definitions.
+pub fn is_whole(progress: Progress) -> bool
+    ensures { result ≡ is_whole progress }
 {
-    matches!(leaf, HeldLeaf::Text)
+    matches!(progress, Progress::Fresh | Progress::Untitled)
+}
+
+/// Whether an underline that meets this leaf turns it: it is text for which the line is not lazy, and something is left
+/// of it behind its definitions.
+pub fn may_turn(options: &ParseOptions, leaf: HeldLeaf) -> bool
+    ensures { result ≡ may_turn options.now leaf }
+{
+    match leaf {
+        HeldLeaf::Text(at) => !(options.constructs.definition && is_whole(at)),
+        _ => false,
+    }
+}
+
+/// Whether this leaf is text for which a line is not lazy, and nothing of it is left that an underline could turn: an
+/// underline is a line of it then.
+pub fn turns_nothing(options: &ParseOptions, leaf: HeldLeaf) -> bool
+    ensures { result ≡ turns_nothing options.now leaf }
+{
+    match leaf {
+        HeldLeaf::Text(at) => {
+            options.constructs.heading_setext && options.constructs.definition && is_whole(at)
+        }
+        _ => false,
+    }
 }
 
 /// Whether an underline may begin here, by what stands first behind whitespace: a marker, if that is known.
@@ -69,7 +97,8 @@ pub fn start(tokenizer: &mut Tokenizer) -> State
     ensures to { result ≢ State.Error → result ≡ (start_transition (world tokenizer.old)).to }
     ensures world { result ≢ State.Error → world tokenizer.new ≡ (start_transition (world tokenizer.old)).world }
 {
-    let is_on = tokenizer.options.constructs.heading_setext && is_text(tokenizer.flags.leaf);
+    let is_on = tokenizer.options.constructs.heading_setext
+        && may_turn(tokenizer.options, tokenizer.flags.leaf);
     start_leaf(
         tokenizer,
         is_on,

@@ -4,7 +4,7 @@
 //     marker         ::= '*' | '-' | '_'
 //
 // All markers of a break are one byte. It adds `ThematicBreak` around `ThematicBreakSequence`, one for each run of
-// markers, and `SpaceOrTab`.
+// markers, and `SpaceOrTab`. A line that is an underline with nothing to turn is a line of the text, and no break.
 
 ghost use Rattle.std.specs.Prelude.{◌≡◌, ◌≢◌, IfSome};
 ghost use Rattle.md_engine.specs.World.{world};
@@ -12,11 +12,13 @@ ghost use Rattle.md_engine.specs.declared.state.Name.{Name as StateName};
 ghost use Rattle.md_engine.specs.declared.state.State.{State};
 ghost use Rattle.md_engine.specs.declared.state.thematic_break.State.{State as BreakState};
 ghost use Rattle.md_leaves.specs.Break.{BreakNeeds, at_break_transition, before_transition, break_transition};
-ghost use Rattle.md_leaves.specs.Break.{is_marker, may_begin, sequence_transition, start_transition};
+ghost use Rattle.md_leaves.specs.Break.{is_marker, may_begin, one_run_after_transition, one_run_transition};
+ghost use Rattle.md_leaves.specs.Break.{sequence_transition, start_transition};
 ghost use Rattle.md_seam.specs.Look.{may_with};
 ghost use Rattle.md_seam.specs.Stays.{TakesEach};
 ghost use Rattle.md_seam.specs.Transition.{IsAt};
 
+use crate::heading_setext::turns_nothing;
 use crate::leaf_start::start_leaf;
 use md_engine::event::Name;
 use md_engine::or_error;
@@ -74,11 +76,16 @@ pub fn start(tokenizer: &mut Tokenizer) -> State
 /// ```
 pub fn before(tokenizer: &mut Tokenizer) -> State
     requires { IsAt BreakNeeds (StateName.ThematicBreak BreakState.Before) (world tokenizer.old) }
-    ensures to { result ≡ (before_transition (world tokenizer.old)).to }
-    ensures world { world tokenizer.new ≡ (before_transition (world tokenizer.old)).world }
+    ensures to { result ≢ State.Error → result ≡ (before_transition (world tokenizer.old)).to }
+    ensures world { result ≢ State.Error → world tokenizer.new ≡ (before_transition (world tokenizer.old)).world }
 {
     match tokenizer.current {
         Some(byte) if is_marker(byte) => {
+            if byte == b'-' && turns_nothing(tokenizer.options, tokenizer.flags.leaf) {
+                or_error!(tokenizer.enter(Name::ThematicBreakSequence));
+                tokenizer.scratch.marker = byte;
+                return State::Retry(StateName::ThematicBreak(BreakState::OneRun));
+            }
             tokenizer.scratch.marker = byte;
             State::Retry(StateName::ThematicBreak(BreakState::AtBreak))
         }
@@ -145,12 +152,66 @@ pub fn sequence(tokenizer: &mut Tokenizer) -> State
     }
 }
 
+/// In the first run of markers, where that may not be all of the line: then it is an underline with nothing to turn.
+///
+/// ```markdown
+///   | [a]: b
+/// > | - - -
+///     ^
+/// ```
+pub fn one_run(tokenizer: &mut Tokenizer) -> State
+    requires { IsAt BreakNeeds (StateName.ThematicBreak BreakState.OneRun) (world tokenizer.old) }
+    ensures to { result ≢ State.Error → result ≡ (one_run_transition (world tokenizer.old)).to }
+    ensures world { result ≢ State.Error → world tokenizer.new ≡ (one_run_transition (world tokenizer.old)).world }
+{
+    if tokenizer.current == Some(tokenizer.scratch.marker) {
+        tokenizer.consume();
+        tokenizer.scratch.size += 1;
+        return State::Next(StateName::ThematicBreak(BreakState::OneRun));
+    }
+    or_error!(tokenizer.exit(Name::ThematicBreakSequence));
+    if is_space_or_tab(tokenizer.current) {
+        space_or_tab_min_max(
+            tokenizer,
+            0,
+            usize::MAX,
+            State::Next(StateName::ThematicBreak(BreakState::OneRunAfter)),
+            State::Nok,
+        )
+    } else {
+        State::Retry(StateName::ThematicBreak(BreakState::OneRunAfter))
+    }
+}
+
+/// Behind that run, and the whitespace that follows it.
+///
+/// ```markdown
+///   | [a]: b
+/// > | - - -
+///       ^
+/// ```
+pub fn one_run_after(tokenizer: &mut Tokenizer) -> State
+    requires { IsAt BreakNeeds (StateName.ThematicBreak BreakState.OneRunAfter) (world tokenizer.old) }
+    ensures to { result ≡ (one_run_after_transition (world tokenizer.old)).to }
+    ensures world { world tokenizer.new ≡ (one_run_after_transition (world tokenizer.old)).world }
+{
+    match tokenizer.current {
+        None | Some(b'\n') => {
+            tokenizer.scratch.marker = 0;
+            tokenizer.scratch.size = 0;
+            State::Nok
+        }
+        _ => State::Retry(StateName::ThematicBreak(BreakState::AtBreak)),
+    }
+}
+
 /// What a state of a break only takes and counts.
 pub fn stays(state: BreakState) -> Option<Stay>
     ensures { IfSome result (λ stay. TakesEach stay (StateName.ThematicBreak state) (break_transition state)) }
 {
     match state {
         BreakState::Sequence => Some(Stay::Markers),
+        BreakState::OneRun => Some(Stay::Markers),
         _ => None,
     }
 }
@@ -166,5 +227,7 @@ pub fn call(tokenizer: &mut Tokenizer, state: BreakState) -> State
         BreakState::Before => before(tokenizer),
         BreakState::AtBreak => at_break(tokenizer),
         BreakState::Sequence => sequence(tokenizer),
+        BreakState::OneRun => one_run(tokenizer),
+        BreakState::OneRunAfter => one_run_after(tokenizer),
     }
 }

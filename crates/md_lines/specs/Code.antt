@@ -18,8 +18,8 @@ use Rattle.md_seam.specs.Transition.{Transition, entered, exited, taken, tried}
 
 -- whether code may begin where this leaf is open: text is not interrupted, and any other leaf has ended before
 abbrev pub may_open : HeldLeaf → Bool
-may_open held_leaf.Text = false
-may_open held_leaf.LazyText = false
+may_open (held_leaf.Text at) = false
+may_open (held_leaf.LazyText at) = false
 may_open _ = true
 
 -- a line of code with this begin, by whether it may begin, and whitespace stands here

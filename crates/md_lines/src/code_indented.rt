@@ -39,7 +39,7 @@ const INDENT: usize = 4;
 fn may_open(leaf: HeldLeaf) -> bool
     ensures { result ≡ may_open leaf }
 {
-    !matches!(leaf, HeldLeaf::Text | HeldLeaf::LazyText)
+    !matches!(leaf, HeldLeaf::Text(_) | HeldLeaf::LazyText(_))
 }
 
 /// Before the first line of code.

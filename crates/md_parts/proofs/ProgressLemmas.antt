@@ -18,9 +18,9 @@ use Rattle.md_definition.specs.Lines.{begins_with}
 use Rattle.md_definition.specs.Rest.{is_blank, is_parted, is_white, trim_start}
 use Rattle.md_parts.proofs.CellLineLemmas.{all-enclosed, by_line}
 use Rattle.md_parts.proofs.TitleLines as titles
-use Rattle.md_parts.specs.declared.progress.Progress.{Progress}
-use Rattle.md_parts.specs.declared.progress.Progress.TheVariants.{BeforeDestination, Fresh, InLabel, InTitle, Left}
-use Rattle.md_parts.specs.declared.progress.Progress.TheVariants.{Untitled}
+use Rattle.md_engine.specs.declared.tokenizer.held_leaf.Progress.{Progress}
+use Rattle.md_engine.specs.declared.tokenizer.held_leaf.Progress.TheVariants.{BeforeDestination, Fresh, InLabel}
+use Rattle.md_engine.specs.declared.tokenizer.held_leaf.Progress.TheVariants.{InTitle, Left, Untitled}
 use Rattle.md_parts.specs.Progress.{begin, behind_colon, behind_destination, behind_label, destination_by}
 use Rattle.md_parts.specs.Progress.{destination_on, has_room, is_filled, is_none_left, is_whole, label_by, label_from}
 use Rattle.md_parts.specs.Progress.{progress, step, steps, title_by, title_on, title_with}

@@ -77,7 +77,7 @@ rest-whole line r p cut one = go r.spaces cut
 -- The lines of bytes.
 
 -- within a tab no byte begins
-tab-none : (line : Line) (n b : ℕ) (p : Point) → nat_eq p.vs 0 ≡ false → whole_cells p (tab_cells line n b p) ≡ []
+pub tab-none : (line : Line) (n b : ℕ) (p : Point) → nat_eq p.vs 0 ≡ false → whole_cells p (tab_cells line n b p) ≡ []
 tab-none line zero b p e = rw e refl
 tab-none line (suc n) b p e =
     let more : nat_eq (p.vs + 1) 0 ≡ false = grind (arith, nat_tests) in rw e (tab-none line n 32 (next_column p) more)

@@ -8,9 +8,12 @@ use Rattle.md_definition.specs.Definition.{Destination, destination_at, title_cl
 use Rattle.md_definition.specs.Enclosed.{Closed, Open, Broken, Enclosed, enclosed}
 use Rattle.md_definition.specs.Lines.{begins_with}
 use Rattle.md_definition.specs.Rest.{is_blank, is_parted, trim_start}
-use Rattle.md_parts.specs.declared.progress.Progress.{Progress}
-use Rattle.md_parts.specs.declared.progress.Progress.TheVariants.{BeforeDestination, Fresh, InLabel, InTitle, Left}
-use Rattle.md_parts.specs.declared.progress.Progress.TheVariants.{Untitled}
+use Rattle.md_engine.specs.declared.tokenizer.held_leaf.HeldLeaf.{HeldLeaf}
+use Rattle.md_engine.specs.declared.tokenizer.held_leaf.HeldLeaf.TheVariants as held_leaf
+use Rattle.md_engine.specs.declared.tokenizer.held_leaf.Progress.{Progress}
+use Rattle.md_engine.specs.declared.tokenizer.held_leaf.Progress.TheVariants.{BeforeDestination, Fresh, InLabel}
+use Rattle.md_engine.specs.declared.tokenizer.held_leaf.Progress.TheVariants.{InTitle, Left, Untitled}
+pub use Rattle.md_engine.specs.Progress.{is_whole}
 
 -- by how the text of a title goes on
 abbrev pub title_by : ℕ → ℕ → Enclosed → Progress
@@ -96,15 +99,6 @@ unfoldable pub steps : Progress → List (List ℕ) → Progress
 steps at [] = at
 steps at (line ∷ lines) = steps (step at line) lines
 
--- whether all lines so far are whole definitions
-abbrev pub is_whole : Progress → Bool
-is_whole Fresh = true
-is_whole Untitled = true
-is_whole (InLabel size filled) = false
-is_whole BeforeDestination = false
-is_whole (InTitle opener closer) = false
-is_whole Left = false
-
 -- how far the definitions at the front of these lines have come
 abbrev pub progress : List (List ℕ) → Progress
 progress lines = steps Fresh lines
@@ -113,3 +107,13 @@ progress lines = steps Fresh lines
 abbrev pub is_none_left : List (List ℕ) → Bool
 is_none_left [] = true
 is_none_left (line ∷ lines) = false
+
+-- how far those of an open text have come; where none is open, one may begin
+abbrev pub progress_of : HeldLeaf → Progress
+progress_of (held_leaf.Text at) = at
+progress_of (held_leaf.LazyText at) = at
+progress_of _ = Fresh
+
+-- what is held of a text behind one more line, where the line meets this leaf
+abbrev pub text_behind : HeldLeaf → List ℕ → HeldLeaf
+text_behind on line = held_leaf.Text (step (progress_of on) (trim_start line))

@@ -4,29 +4,13 @@
 ghost use Rattle.std.specs.Prelude.{◌≡◌};
 ghost use Rattle.md_parts.specs.Progress as progress;
 
+use md_engine::tokenizer::{HeldLeaf, Progress};
 use plain_grammars::ahead::{after_optional, begins_with};
 use plain_grammars::bytes::{is_blank, is_parted, trim_start};
 use plain_grammars::definition::{Enclosed, destination_at, title_closer, up_to_mark};
 
 /// How many bytes a label may have.
 const LABEL_LEN: usize = 999;
-
-/// How far the definitions have come behind some lines.
-#[derive(Clone, Copy)]
-pub enum Progress {
-    /// The lines are whole definitions.
-    Fresh,
-    /// In a label: its bytes so far, and whether one of them is neither a space nor a tab.
-    InLabel(usize, bool),
-    /// Behind the `:`: a destination is next.
-    BeforeDestination,
-    /// The lines are whole definitions, and a title of the last may follow on the next line.
-    Untitled,
-    /// In a title: the mark that opened it, and the one that closes it.
-    InTitle(u8, u8),
-    /// Something is left behind the definitions, whatever follows.
-    Left,
-}
 
 /// Behind a line in a title, or what stands on it behind the opening mark.
 fn in_title(opener: u8, closer: u8, line: &[u8]) -> Progress
@@ -147,35 +131,48 @@ fn begins_title(line: &[u8]) -> bool
     }
 }
 
-impl Progress {
-    /// Behind one more line, which is given without leading spaces and tabs.
-    ///
-    /// ```markdown
-    ///   | [a]:
-    /// > | b
-    ///     ^
-    ///   | "c
-    ///   | d"
-    /// ```
-    #[tactic(auto, unfolding(crate::specs::Progress::step))]
-    pub fn step(self, line: &[u8]) -> Progress
-        ensures { result ≡ progress.step self line.now }
-    {
-        match self {
-            Progress::Fresh => begin(line),
-            Progress::InLabel(size, filled) => label_from(size, filled, line),
-            Progress::BeforeDestination => destination_on(line),
-            Progress::Untitled if begins_title(line) => title_on(line),
-            Progress::Untitled => begin(line),
-            Progress::InTitle(opener, closer) => in_title(opener, closer, line),
-            Progress::Left => Progress::Left,
-        }
+/// Behind one more line, which is given without leading spaces and tabs.
+///
+/// ```markdown
+///   | [a]:
+/// > | b
+///     ^
+///   | "c
+///   | d"
+/// ```
+#[tactic(auto, unfolding(crate::specs::Progress::step))]
+fn step(at: Progress, line: &[u8]) -> Progress
+    ensures { result ≡ progress.step at line.now }
+{
+    match at {
+        Progress::Fresh => begin(line),
+        Progress::InLabel(size, filled) => label_from(size, filled, line),
+        Progress::BeforeDestination => destination_on(line),
+        Progress::Untitled if begins_title(line) => title_on(line),
+        Progress::Untitled => begin(line),
+        Progress::InTitle(opener, closer) => in_title(opener, closer, line),
+        Progress::Left => Progress::Left,
     }
+}
 
-    /// Whether the lines so far are whole definitions.
-    pub fn is_whole(self) -> bool
-        ensures { result ≡ progress.is_whole self }
-    {
-        matches!(self, Progress::Fresh | Progress::Untitled)
+/// How far the definitions of an open text have come. Where none is open, one may begin.
+fn progress_of(leaf: HeldLeaf) -> Progress
+    ensures { result ≡ progress.progress_of leaf }
+{
+    match leaf {
+        HeldLeaf::Text(at) | HeldLeaf::LazyText(at) => at,
+        _ => Progress::Fresh,
+    }
+}
+
+/// What is held of a text behind one more line, where the line meets this leaf. Where something is left already, the
+/// line is not looked at.
+#[tactic(auto, unfolding(crate::specs::Progress::step))]
+pub fn text_behind(leaf: HeldLeaf, line: &[u8]) -> HeldLeaf
+    ensures { result ≡ progress.text_behind leaf line.now }
+{
+    match progress_of(leaf) {
+        Progress::Left => HeldLeaf::Text(Progress::Left),
+        at => HeldLeaf::Text(step(at, trim_start(line))),
     }
 }

@@ -41,7 +41,7 @@ ends_in_front _ = false
 
 -- whether text is open that no complete tag interrupts
 abbrev pub is_open_text : HeldLeaf → Bool
-is_open_text held_leaf.Text = true
+is_open_text (held_leaf.Text at) = true
 is_open_text _ = false
 
 -- the byte with which the end of a kind begins; kinds 6 and 7 have none

@@ -16,8 +16,8 @@ use Rattle.markdown_blocks.proofs.LeafLaws.{LeafLaws}
 -- a line may go on a block with a fence
 fence-lines : (on : HeldLeaf) → is_fence on ≡ true → may_go_on on ≡ true
 fence-lines held_leaf.None e = absurd (cc)
-fence-lines held_leaf.Text e = absurd (cc)
-fence-lines held_leaf.LazyText e = absurd (cc)
+fence-lines (held_leaf.Text at) e = absurd (cc)
+fence-lines (held_leaf.LazyText at) e = absurd (cc)
 fence-lines held_leaf.Code e = refl
 fence-lines (held_leaf.Fence m size indent) e = refl
 fence-lines (held_leaf.Html kind) e = refl

@@ -156,8 +156,8 @@ further-shrinks options cells h =
 
 lazy-none : (on : HeldLeaf) → is_fence on ≡ true → takes_lazy on ≡ false
 lazy-none held_leaf.None e = refl
-lazy-none held_leaf.Text e = absurd (cc)
-lazy-none held_leaf.LazyText e = absurd (cc)
+lazy-none (held_leaf.Text at) e = absurd (cc)
+lazy-none (held_leaf.LazyText at) e = absurd (cc)
 lazy-none held_leaf.Code e = refl
 lazy-none (held_leaf.Fence m size indent) e = refl
 lazy-none (held_leaf.Html kind) e = refl

@@ -16,6 +16,7 @@ use Rattle.md_definition.specs.Rest.{Rest, has_small_indent, indent, is_blank, i
 use Rattle.md_definition.specs.Texts.{first_byte}
 use Rattle.md_leaves.specs.HeadingRule.{is_heading}
 use Rattle.md_leaves.specs.HeadingSetext.{is_marker, is_text}
+use Rattle.md_leaves.specs.HeadingSetext.{may_turn}
 use Rattle.md_leaves.specs.HeadingSetextRule.{is_run, is_underline}
 use Rattle.md_leaves.proofs.TitleTexts.{front-stops}
 use Rattle.markdown_blocks.specs.Leaf.CodeIndented.{code_leaf}
@@ -25,7 +26,7 @@ use Rattle.markdown_blocks.specs.Leaf.HeadingSetext.{depth_of, setext_leaf}
 use Rattle.markdown_blocks.specs.Leaf.HtmlFlow.{html_leaf}
 use Rattle.markdown_blocks.proofs.Fence.Opened.{fence-starts}
 use Rattle.markdown_blocks.proofs.HeadingAtx.Cells.{heading-other}
-use Rattle.markdown_blocks.proofs.HeadingSetext.Kinds.{Underlines, run-one, run-other, setext-starts}
+use Rattle.markdown_blocks.proofs.HeadingSetext.Kinds.{Underlines, underline-first, run-one, run-other, setext-starts}
 use Rattle.markdown_blocks.proofs.HeadingSetext.Trimmed.{trim-more}
 use Rattle.markdown_blocks.proofs.HtmlFlow.Found.{html-first}
 
@@ -102,17 +103,60 @@ depth-at : (bs : List ℕ) → begins is_white bs ≡ false → by_runs (trim_en
 depth-at [] black = refl
 depth-at (b ∷ bs) black = depth-is b bs black
 
--- An underline is of the depth that its leaf says, where it meets text.
-pub setext-found : (options : ParseOptions) (r : Rest) →
-    underline_depth options r ≡ cond (setext_leaf.starts options held_leaf.Text r) (Some (depth_of r)) None
+-- An underline, whatever it meets.
+abbrev pub is_underlined : ParseOptions → Rest → Bool
+is_underlined options r =
+    options.constructs.heading_setext && has_small_indent options r && is_underline (trim_start r.bytes)
+
+-- It is of the depth that its leaf says, where it meets text.
+depth-found : (options : ParseOptions) (r : Rest) →
+    underline_depth options r ≡ cond (is_underlined options r) (Some (depth_of r)) None
 unfolding underline_depth
-setext-found options r = go (options.constructs.heading_setext && has_small_indent options r)
+depth-found options r = go (options.constructs.heading_setext && has_small_indent options r)
   where
     go : (x : Bool) →
         cond x (by_runs (trim r.bytes)) None ≡
         cond (x && is_underline (trim_start r.bytes)) (Some (depth_of r)) None
     go true = depth-at (trim_start r.bytes) (front-stops is_white r.bytes)
     go false = refl
+
+-- by whether it may turn the text, its leaf starts
+pub starts-by : (options : ParseOptions) (on : HeldLeaf) (r : Rest) (x : Bool) → may_turn options on ≡ x →
+    setext_leaf.starts options on r ≡ (x && is_underlined options r)
+starts-by options on r x e =
+    ap
+    (λ (y : Bool).
+    y && options.constructs.heading_setext && has_small_indent options r && is_underline (trim_start r.bytes)) e
+    ∙ go x
+  where
+    go : (x : Bool) →
+        (x && options.constructs.heading_setext && has_small_indent options r && is_underline (trim_start r.bytes)) ≡
+        (x && is_underlined options r)
+    go true = refl
+    go false = refl
+
+pub setext-found : (options : ParseOptions) (on : HeldLeaf) (r : Rest) → may_turn options on ≡ true →
+    underline_depth options r ≡ cond (setext_leaf.starts options on r) (Some (depth_of r)) None
+setext-found options on r may =
+    depth-found options r
+    ∙ ap (λ (x : Bool). cond x (Some (depth_of r)) None) (sym (starts-by options on r true may))
+
+-- where none stands, no line is one
+pub none-underlined : (options : ParseOptions) (r : Rest) → underline_depth options r ≡ None →
+    is_underlined options r ≡ false
+none-underlined options r none = go (is_underlined options r) (sym (depth-found options r) ∙ none)
+  where
+    go : (x : Bool) → cond x (Some (depth_of r)) None ≡ (let o : Option ℕ = None in o) → x ≡ false
+    go true e = cc
+    go false e = refl
+
+pub some-underlined : (options : ParseOptions) (r : Rest) (depth : ℕ) → underline_depth options r ≡ Some depth →
+    is_underlined options r ≡ true
+some-underlined options r depth some = go (is_underlined options r) (sym (depth-found options r) ∙ some)
+  where
+    go : (x : Bool) → cond x (Some (depth_of r)) None ≡ Some depth → x ≡ true
+    go true e = refl
+    go false e = cc
 
 -- What starts elsewhere.
 
@@ -148,7 +192,7 @@ marker-heading (b ∷ bs) mark = heading-other b bs (other b mark)
 -- code begins in no open text
 text-code : (options : ParseOptions) (on : HeldLeaf) (r : Rest) → is_text on ≡ true →
     code_leaf.starts options on r ≡ false
-text-code options held_leaf.Text r text =
+text-code options (held_leaf.Text at) r text =
     let on : Bool = options.constructs.code_indented in
     and_left (on && false && nat_le 4 (indent r)) (not (is_blank r.bytes))
     (and_left (on && false) (nat_le 4 (indent r)) (and_right on false refl))
@@ -162,23 +206,32 @@ pub record StartsNone (options : ParseOptions) (on : HeldLeaf) (r : Rest) : Type
   pub heading : heading_leaf.starts options on r ≡ false
 
 -- so it is behind text
-pub setext-first : (options : ParseOptions) (on : HeldLeaf) (r : Rest) → setext_leaf.starts options on r ≡ true →
-    StartsNone options on r
-setext-first options on r starts = record {
-  code = text-code options on r is.text;
+pub underlined-first : (options : ParseOptions) (on : HeldLeaf) (r : Rest) → is_text on ≡ true →
+    is_underlined options r ≡ true → StartsNone options on r
+underlined-first options on r text is = record {
+  code = text-code options on r text;
   fence =
       false_from_ne_true (fence_leaf.starts options on r)
-      (λ e. marker-fence options (first_byte (trim_start r.bytes)) is.mark (fence-starts options r e).fence.marker);
+      (λ e. marker-fence options (first_byte (trim_start r.bytes)) mark (fence-starts options r e).fence.marker);
   html =
       false_from_ne_true (html_leaf.starts options on r)
-      (λ e. marker-html (first_byte (trim_start r.bytes)) is.mark (html-first options on r e));
+      (λ e. marker-html (first_byte (trim_start r.bytes)) mark (html-first options on r e));
   heading = heading;
 }
   where
-    is : Underlines options on r
-    is = setext-starts options on r starts
+    mark : is_marker (first_byte (trim_start r.bytes)) ≡ true
+    mark =
+        underline-first (trim_start r.bytes)
+        (and_parts (options.constructs.heading_setext && has_small_indent options r)
+        (is_underline (trim_start r.bytes)) is).1
 
     heading : heading_leaf.starts options on r ≡ false
     heading =
         and_right (options.constructs.heading_atx && has_small_indent options r) (is_heading (trim_start r.bytes))
-        (marker-heading (trim_start r.bytes) is.mark)
+        (marker-heading (trim_start r.bytes) mark)
+
+pub setext-first : (options : ParseOptions) (on : HeldLeaf) (r : Rest) → setext_leaf.starts options on r ≡ true →
+    StartsNone options on r
+setext-first options on r starts =
+    let is : Underlines options on r = setext-starts options on r starts in
+    underlined-first options on r is.text (sym (starts-by options on r true is.turns) ∙ starts)

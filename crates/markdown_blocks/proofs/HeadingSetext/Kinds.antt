@@ -14,6 +14,7 @@ use Rattle.md_definition.specs.Rest.{Rest, has_small_indent, is_blank, is_white,
 use Rattle.md_definition.specs.Texts.{first_byte}
 use Rattle.md_definition.proofs.TextsLemmas.{NoEnding}
 use Rattle.md_leaves.specs.HeadingSetext.{is_marker, is_text}
+use Rattle.md_leaves.specs.HeadingSetext.{may_turn}
 use Rattle.md_leaves.specs.HeadingSetextRule.{is_run, is_underline}
 use Rattle.md_seam.specs.Ahead.{line_bytes, white_rest}
 use Rattle.md_seam.specs.Spaces.{small_indent}
@@ -24,6 +25,7 @@ use Rattle.md_seam.proofs.RestLines.{count-none, count-one}
 use Rattle.markdown_blocks.specs.Leaf.HeadingSetext.{setext_leaf}
 use Rattle.markdown_blocks.proofs.MarkRuns.Cells.{IsMark, spread-first}
 use Rattle.markdown_blocks.proofs.MarkRuns.Fits.{Tells, line-fits}
+use Rattle.md_engine.specs.declared.tokenizer.held_leaf.HeldLeaf.TheVariants as held_leaf
 
 -- The marker.
 
@@ -121,30 +123,37 @@ pub setext-fits : (options : ParseOptions) (on : HeldLeaf) (said : Line) (text b
     setext_leaf.takes options on (rest_cells said r p ++ stop) ≡ setext_leaf.starts options on r
 setext-fits options on said text behind r p stop at h k short =
     sym
-    (and_assoc (is_text on) options.constructs.heading_setext
+    (and_assoc (may_turn options on) options.constructs.heading_setext
     (is_underline (line_bytes (white_rest (small_indent options) (rest_cells said r p ++ stop)))))
-    ∙ line-fits is_underline underline-tells (is_text on && options.constructs.heading_setext) options said text behind
+    ∙ line-fits is_underline underline-tells (may_turn options on && options.constructs.heading_setext) options said text behind
     r p stop at h k short
 
 -- What is known where it starts.
 
 pub record Underlines (options : ParseOptions) (on : HeldLeaf) (r : Rest) : Type 0 where
   pub text : is_text on ≡ true
+  pub turns : may_turn options on ≡ true
   pub enabled : options.constructs.heading_setext ≡ true
   pub small : has_small_indent options r ≡ true
   pub underline : is_underline (trim_start r.bytes) ≡ true
   pub mark : is_marker (first_byte (trim_start r.bytes)) ≡ true
 
+-- what an underline turns is text
+turn-text : (options : ParseOptions) (on : HeldLeaf) → may_turn options on ≡ true → is_text on ≡ true
+turn-text options (held_leaf.Text at) may = refl
+turn-text options _ may = cc
+
 -- all of it
 pub setext-starts : (options : ParseOptions) (on : HeldLeaf) (r : Rest) → setext_leaf.starts options on r ≡ true →
     Underlines options on r
 setext-starts options on r starts =
-    let all = and_parts (is_text on && options.constructs.heading_setext && has_small_indent options r)
+    let all = and_parts (may_turn options on && options.constructs.heading_setext && has_small_indent options r)
     (is_underline (trim_start r.bytes)) starts in
-    let indented = and_parts (is_text on && options.constructs.heading_setext) (has_small_indent options r) all.0 in
-    let met = and_parts (is_text on) options.constructs.heading_setext indented.0 in
+    let indented = and_parts (may_turn options on && options.constructs.heading_setext) (has_small_indent options r) all.0 in
+    let met = and_parts (may_turn options on) options.constructs.heading_setext indented.0 in
     record {
-      text = met.0;
+      text = turn-text options on met.0;
+      turns = met.0;
       enabled = met.1;
       small = indented.1;
       underline = all.1;

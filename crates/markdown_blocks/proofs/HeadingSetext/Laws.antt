@@ -14,12 +14,12 @@ use Rattle.markdown_blocks.proofs.LeafLaws.{LeafLaws}
 
 -- a line may go on a text
 text-goes_on : (on : HeldLeaf) → is_text on ≡ true → may_go_on on ≡ true
-text-goes_on held_leaf.Text e = refl
+text-goes_on (held_leaf.Text at) e = refl
 text-goes_on _ e = cc
 
 -- and text is no leaf of several lines
 text-alone : (on : HeldLeaf) → is_text on ≡ true → (is_text on ≡ true → has_lines on ≡ true) → ⊥
-text-alone held_leaf.Text e lines = let bad : false ≡ true = lines refl in cc
+text-alone (held_leaf.Text at) e lines = let bad : false ≡ true = lines refl in cc
 text-alone _ e lines = cc
 
 -- All that the frame asks of an underline: it goes on the text that it meets, and leaves no leaf open.

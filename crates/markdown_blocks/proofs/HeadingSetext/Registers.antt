@@ -34,7 +34,7 @@ pub setext-registers : (state : SetextState) (w : World) → Registers w →
     Registers (setext.setext_transition state w).world
 setext-registers at.Start w h =
     start-registers n.HeadingSetextUnderline _ w
-    (w.setting.options.constructs.heading_setext && setext.is_text w.flags.leaf) (sees_white w.current) h
+    (w.setting.options.constructs.heading_setext && setext.may_turn w.setting.options w.flags.leaf) (sees_white w.current) h
 setext-registers at.Before w h = setext-before w w.current h
 setext-registers at.Inside w h =
     setext-inside w (is_current w.scratch.marker w.current) (sees_white w.current) h

@@ -7,7 +7,7 @@ use Rattle.md_engine.specs.declared.event.Name.TheVariants as n
 use Rattle.md_engine.specs.declared.tokenizer.held_leaf.HeldLeaf.{HeldLeaf}
 use Rattle.md_engine.specs.declared.tokenizer.held_leaf.HeldLeaf.TheVariants as held_leaf
 use Rattle.md_engine.specs.Meaning.{Cell, Here, Refuses}
-use Rattle.md_leaves.specs.HeadingSetext.{is_text, may_begin}
+use Rattle.md_leaves.specs.HeadingSetext.{may_begin, may_turn}
 use Rattle.md_leaves.specs.HeadingSetextRule.{before_run, is_underline, is_underline_line, setext_at}
 use Rattle.md_leaves.proofs.SetextWhole as whole
 use Rattle.md_seam.specs.Ahead.{line_bytes}
@@ -22,7 +22,7 @@ use Rattle.markdown_blocks.proofs.LeafStarts.{start-shrinks}
 pub setext-looked : (options : ParseOptions) (on : HeldLeaf) (cells : List Cell) (b : ℕ) → seen_behind cells ≡ Some b →
     may_begin b ≡ false → setext_leaf.takes options on cells ≡ false
 setext-looked options on cells b seen e =
-    and_right (is_text on) (is_underline_line options cells) (whole.setext-looked options cells b seen e)
+    and_right (may_turn options on) (is_underline_line options cells) (whole.setext-looked options cells b seen e)
 
 -- One takes its line,
 pub setext-took : (options : ParseOptions) (cells : List Cell) (h : Here) → IsRest h.scratch →
@@ -50,5 +50,5 @@ before_run-shrinks n (c ∷ cs) h le =
 pub setext-shrinks : (options : ParseOptions) (cells : List Cell) (h : Here) →
     Shrinks (length cells) (setext_at options cells h)
 setext-shrinks options cells h =
-    start-shrinks n.HeadingSetextUnderline (options.constructs.heading_setext && is_text h.flags.leaf) before_run
+    start-shrinks n.HeadingSetextUnderline (options.constructs.heading_setext && may_turn options h.flags.leaf) before_run
     options cells h before_run-shrinks

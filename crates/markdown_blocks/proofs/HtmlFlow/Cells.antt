@@ -27,8 +27,8 @@ use Rattle.markdown_blocks.proofs.CodeIndented.Cells.{line-ends}
 
 -- text that is open by the leaf that a line meets is open by what it stands against
 pub text-same : (on : HeldLeaf) → is_open_text on ≡ is_text (context_of on)
-text-same held_leaf.Text = refl
-text-same held_leaf.LazyText = refl
+text-same (held_leaf.Text at) = refl
+text-same (held_leaf.LazyText at) = refl
 text-same _ = refl
 
 pub html-fits : (options : ParseOptions) (on : HeldLeaf) (said : Line) (text behind : List ℕ) (r : Rest) (p : Point)

@@ -7,6 +7,7 @@ use Rattle.md_engine.specs.declared.configuration.ParseOptions.{ParseOptions}
 use Rattle.md_engine.specs.declared.event.Point.{Point}
 use Rattle.md_engine.specs.declared.tokenizer.held_leaf.HeldLeaf.{HeldLeaf}
 use Rattle.md_engine.specs.declared.tokenizer.held_leaf.HeldLeaf.TheVariants as held_leaf
+use Rattle.md_engine.specs.declared.tokenizer.held_leaf.Progress.{Progress}
 use Rattle.md_engine.specs.Meaning.{Cell}
 use Rattle.md_definition.specs.Html.{HtmlKind, Basic, Cdata, Comment, Complete, Declaration, Instruction, Raw}
 use Rattle.md_definition.specs.Html.{html_ends, html_kind, kind_after}
@@ -72,10 +73,10 @@ html-indented options on r e = rw e (go options.constructs.html_flow)
     go false = refl
 
 -- Where a line is lazy for text it starts as where none is open.
-pub html-lazy : (options : ParseOptions) (r : Rest) →
-    html_leaf.starts options held_leaf.LazyText r ≡ html_leaf.starts options held_leaf.None r
+pub html-lazy : (options : ParseOptions) (at : Progress) (r : Rest) →
+    html_leaf.starts options (held_leaf.LazyText at) r ≡ html_leaf.starts options held_leaf.None r
 unfolding html_at
-html-lazy options r = go (options.constructs.html_flow && has_small_indent options r) (kind_begun r)
+html-lazy options at r = go (options.constructs.html_flow && has_small_indent options r) (kind_begun r)
   where
     go : (x : Bool) (kind : Option HtmlKind) →
         is_some (cond x (html_by LazyText r kind) None) ≡ is_some (cond x (html_by NoText r kind) None)

@@ -1,7 +1,7 @@
 -- The labels of a text: those among the events of its groups are those of the blocks that these are read as.
 use Rattle.std.proofs.Common.{◌≡◌, ◌≢◌, ℕ, Bool, true, false, List, [], ◌∷◌, ◌++◌, length, refl, ap, sym, ◌∙◌, append_assoc}
-use Rattle.std.proofs.Common.{append-nil, subst₂}
-use Rattle.std.specs.Prelude.{◌&&◌, Option, Some, None, not}
+use Rattle.std.proofs.Common.{append-nil, subst, subst₂}
+use Rattle.std.specs.Prelude.{Option, Some, None, not}
 use Rattle.md_engine.specs.declared.configuration.ParseOptions.{ParseOptions}
 use Rattle.md_engine.specs.declared.event.Event.{Event}
 use Rattle.md_engine.specs.declared.event.Name.TheVariants as n
@@ -17,14 +17,14 @@ use Rattle.md_seam.specs.Events.Nested.{exit, pair}
 use Rattle.md_seam.specs.Events.Spelled.{Around, Reading, add_block, read, role, spelled, unread}
 use Rattle.md_seam.proofs.PlacesLemmas.{all-append}
 use Rattle.md_seam.proofs.SpelledLemmas.{Between, read-between, read-from, roles-append}
-use Rattle.markdown_blocks.specs.BlockList.{lines_unread, text_unread}
+use Rattle.markdown_blocks.specs.BlockList.{lines_unread, text_unread, turned_unread}
 use Rattle.markdown_blocks.specs.Fed.{close_containers}
 use Rattle.markdown_blocks.specs.LineFlags.{ending_name}
 use Rattle.markdown_blocks.specs.Registry.{further_of, leaf, text_leaf}
 use Rattle.markdown_blocks.specs.Rows.{BlankRow, Group, LeafRow, Lines, Row, RowKind, Single, Span, TextRow, Turned}
 use Rattle.markdown_blocks.specs.Rows.{defined_done, group_events, is_blank_by, leaf_done, leaf_events, span_done}
 use Rattle.markdown_blocks.specs.Rows.{defined_unread, ending_of, groups_events, last_row, lines_done}
-use Rattle.markdown_blocks.specs.Rows.{row_events, rows_events, tail_events, text_done, turned_done}
+use Rattle.markdown_blocks.specs.Rows.{heading_done, row_events, rows_events, tail_events, text_done, turned_done}
 use Rattle.markdown_blocks.specs.Unread.{unread_group, unread_groups, unread_lines}
 use Rattle.markdown_blocks.proofs.ContentFacts.{content-alone, no_content-label}
 use Rattle.markdown_blocks.proofs.Defined.Facts.{defined-facts}
@@ -34,8 +34,8 @@ use Rattle.markdown_blocks.proofs.FrontFacts.{LinePrefix}
 use Rattle.markdown_blocks.proofs.FrontNames.{HasFront}
 use Rattle.markdown_blocks.proofs.GroupFacts.{span-block}
 use Rattle.markdown_blocks.proofs.GroupLemmas.{AreGroups, AreLines, spans-quiet, under-quiet}
-use Rattle.markdown_blocks.proofs.GroupsAre.{AreSpan, Begins, IsSingle, IsUnder, behind-first, line-further, line-of}
-use Rattle.markdown_blocks.proofs.GroupsAre.{span-begins}
+use Rattle.markdown_blocks.proofs.GroupsAre.{AreSpan, Begins, IsLeft, IsSingle, IsUnder, behind-first, line-further}
+use Rattle.markdown_blocks.proofs.GroupsAre.{line-of, span-begins}
 use Rattle.markdown_blocks.proofs.JoinedLemmas.{EachNoContent, HasNoContent, ending-other, has_front-no_content}
 use Rattle.markdown_blocks.proofs.JoinedLemmas.{tail-no_content}
 use Rattle.markdown_blocks.proofs.Labels.Groups.{form-label, front-none}
@@ -54,10 +54,10 @@ use Rattle.markdown_blocks.proofs.Text.Cut.{IsCutText, between}
 use Rattle.markdown_blocks.proofs.Text.Cut.IsCutText.{Defines, Follows, Remains}
 use Rattle.markdown_blocks.proofs.Text.Cuts.{cut-is}
 use Rattle.markdown_blocks.proofs.Text.Facts.{kept-of, text-facts}
-use Rattle.markdown_blocks.proofs.Text.Off.{unread-off}
 use Rattle.markdown_blocks.proofs.Text.Stands.{done-is}
+use Rattle.markdown_blocks.proofs.Turned.Cut as headings
+use Rattle.markdown_blocks.proofs.Turned.Cut.{IsCutHeading, heading-cut, left-remains}
 use Rattle.markdown_blocks.proofs.Turned.Facts.{turned-block, turned-facts}
-use Rattle.markdown_blocks.proofs.Turned.Under.{under-off}
 
 -- Events in which these labels stand, and those once their texts are read: read between blocks, they show blocks with
 -- these labels.
@@ -208,13 +208,17 @@ lines-none options bytes row (next ∷ rows) are =
     all-append (λ (e : Event). not (is_label e.name)) next.front (unread_lines next rows)
     (front-none bytes are.3 next.first next.front are.6) (lines-none options bytes next rows are.7)
 
+text-none : (options : ParseOptions) (bytes : List ℕ) (row : Row) (rows : List Row) → AreLines options bytes row rows →
+    has_no_label (lines_unread row rows) ≡ true
+text-none options bytes row rows are =
+    all-append (λ (e : Event). not (is_label e.name)) (unread_lines row rows)
+    (exit text_leaf.name (last_row row rows).end ∷ []) (lines-none options bytes row rows are) refl
+
 text-labelled : (options : ParseOptions) (bytes : List ℕ) (row : Row) (rows : List Row) →
     AreLines options bytes row rows → Labelled bytes (lines_unread row rows) (lines_done bytes row rows)
 text-labelled options bytes row rows are =
     leaf-labelled bytes (lines_unread row rows) (lines_done bytes row rows)
-    (Some (text_leaf.block (texts (kept-of options bytes row rows are))))
-    (all-append (λ (e : Event). not (is_label e.name)) (unread_lines row rows)
-    (exit text_leaf.name (last_row row rows).end ∷ []) (lines-none options bytes row rows are) refl) refl
+    (Some (text_leaf.block (texts (kept-of options bytes row rows are)))) (text-none options bytes row rows are) refl
     (text-facts options bytes row rows are).reads
 
 defined-labelled : (bytes : List ℕ) (d : DefinitionParts) (row : Row) (rows : List Row) → IsDefined bytes d row rows →
@@ -233,17 +237,26 @@ defined-labelled bytes d row rows is =
           );
     })
 
+-- with what follows behind it
+definition-labelled : (bytes : List ℕ) (d : DefinitionParts) (row : Row) (own : List Row) (next : Row) (q : Point)
+    (us ds : List Event) →
+    IsDefined bytes d row own → LinePrefix bytes [] q next.first next.front → Labelled bytes us ds →
+    Labelled bytes (defined_unread d row own ++ between (last_row row own).end q next.front ++ us)
+    (defined_done bytes d row own ++ between (last_row row own).end q next.front ++ ds)
+definition-labelled bytes d row own next q us ds is front more =
+    let gap : List Event = between (last_row row own).end q next.front in
+    labelled-append bytes (defined_unread d row own ++ gap) (defined_done bytes d row own ++ gap) us ds
+    (labelled-append bytes (defined_unread d row own) (defined_done bytes d row own) gap gap
+    (defined-labelled bytes d row own is)
+    (between-labelled bytes (last_row row own).end q next.first next.front front))
+    more
+
 cut-labelled : (options : ParseOptions) (bytes : List ℕ) (row : Row) (rows : List Row) (us ds : List Event) →
     IsCutText options bytes row rows us ds → Labelled bytes us ds
 cut-labelled options bytes row rows _ _ (Remains _ _ are) = text-labelled options bytes row rows are
 cut-labelled options bytes row rows _ _ (Defines d _ _ are is) = defined-labelled bytes d row rows is
 cut-labelled options bytes row _ _ _ (Follows d _ own next more q es fs are is after ending front cut) =
-    let gap : List Event = between (last_row row own).end q next.front in
-    labelled-append bytes (defined_unread d row own ++ gap) (defined_done bytes d row own ++ gap) es fs
-    (labelled-append bytes (defined_unread d row own) (defined_done bytes d row own) gap gap
-    (defined-labelled bytes d row own is)
-    (between-labelled bytes (last_row row own).end q next.first next.front front))
-    (cut-labelled options bytes next more es fs cut)
+    definition-labelled bytes d row own next q es fs is front (cut-labelled options bytes next more es fs cut)
 
 -- Groups.
 
@@ -299,49 +312,58 @@ span-labelled options bytes row rows are quiet begins =
     facts.reads))
     (tail-quiet bytes (is_blank_by last.kind last) last))
 
+-- a text and the line that turns it, where no definition stands at its front
+heading-labelled : (options : ParseOptions) (bytes : List ℕ) (row : Row) (rows : List Row) (under : Row) →
+    AreLines options bytes row rows → IsUnder options bytes (last_row row rows) under →
+    Labelled bytes (lines_unread row rows) (heading_done bytes under row rows)
+heading-labelled options bytes row rows under are is =
+    leaf-labelled bytes (lines_unread row rows) (heading_done bytes under row rows)
+    (Some (turned-block options bytes row rows under are is)) (text-none options bytes row rows are) refl
+    (turned-facts options bytes row rows under are is).reads
+
+-- and where some do
+cut_heading-labelled : (options : ParseOptions) (bytes : List ℕ) (under row : Row) (rows : List Row)
+    (ts es fs : List Event) →
+    IsCutHeading options bytes under row rows ts es fs → Labelled bytes ts fs
+cut_heading-labelled options bytes under row rows _ _ _ (headings.Turned _ _ are is) =
+    heading-labelled options bytes row rows under are is
+cut_heading-labelled options bytes under row _ _ _ _
+    (headings.Follows d _ own next more q ts es fs are is after ending front cut) =
+    definition-labelled bytes d row own next q ts fs is front
+    (cut_heading-labelled options bytes under next more ts es fs cut)
+
 turned-labelled : (options : ParseOptions) (bytes : List ℕ) (row : Row) (rows : List Row) (under : Row) →
-    (options.constructs.definition && options.constructs.heading_setext) ≡ false →
-    AreLines options bytes row rows → IsUnder options bytes (last_row row rows) under → HasFront bytes row →
+    (are : AreLines options bytes row rows) → IsUnder options bytes (last_row row rows) under →
+    IsLeft options bytes row rows are → HasFront bytes row →
     Labelled bytes (unread_group options bytes (Turned row rows under))
     (group_events options bytes (Turned row rows under))
-turned-labelled options bytes row rows under apart are is front =
+turned-labelled options bytes row rows under are is left front =
     let last : Row = last_row row rows in
-    let off : options.constructs.definition ≡ false = under-off options bytes row rows under are is apart in
-    let ds : List Event = turned_done bytes row rows under in
-    let tail : List Event = tail_events (ending_of under.kind under) under in
-    let text : List Event = text_unread options bytes row rows in
+    let ts : List Event = text_unread options bytes row rows in
+    let fs : List Event = turned_done options bytes row rows under in
     let line : List Event = tail_events n.LineEnding last in
-    let same : text ≡ lines_unread row rows = unread-off options bytes row rows off in
-    let no_text : has_no_label text ≡ true =
-    ap has_no_label same
-    ∙ all-append (λ (e : Event). not (is_label e.name)) (unread_lines row rows)
-    (exit text_leaf.name last.end ∷ []) (lines-none options bytes row rows are) refl in
-    none-labelled bytes (((row.front ++ text) ++ line) ++ row_events under) ((row.front ++ ds) ++ tail)
-    (both ((row.front ++ text) ++ line) (row_events under)
-    (both (row.front ++ text) line
-    (both row.front text (no_content-label wants_content row.front (has_front-no_content wants_content bytes row front))
-    no_text)
-    (no_content-label wants_content line (tail-no_content wants_content n.LineEnding last refl)))
+    let tail : List Event = tail_events (ending_of under.kind under) under in
+    subst (λ (us : List Event). Labelled bytes us ((row.front ++ fs) ++ tail))
+    (sym (append_assoc (row.front ++ ts) line (row_events under)))
+    (labelled-append bytes (row.front ++ ts) (row.front ++ fs) (line ++ row_events under) tail
+    (labelled-append bytes row.front row.front ts fs (front-labelled bytes row front)
+    (cut_heading-labelled options bytes under row rows ts (turned_unread options bytes row rows under) fs
+    (heading-cut options bytes row rows under are is (left-remains options bytes row rows are left))))
+    (none-labelled bytes (line ++ row_events under) tail
+    (all-append (λ (e : Event). not (is_label e.name)) line (row_events under)
+    (no_content-label wants_content line (tail-no_content wants_content n.LineEnding last refl))
     (no_content-label wants_content (row_events under)
     (under-quiet options bytes wants_content last under is content-alone)))
-    (quiet-append bytes (row.front ++ ds) tail
-    (quiet-append bytes row.front ds (front-quiet bytes row front)
-    (leaf-quiet bytes ds (Some (turned-block options bytes row rows under are is)) refl
-    (turned-facts options bytes row rows under are is).reads))
-    (tail-quiet bytes (is_blank_by under.kind under) under))
-  where
-    both : (xs ys : List Event) → has_no_label xs ≡ true → has_no_label ys ≡ true → has_no_label (xs ++ ys) ≡ true
-    both xs ys h k = all-append (λ (e : Event). not (is_label e.name)) xs ys h k
+    (tail-quiet bytes (is_blank_by under.kind under) under)))
 
-groups-labelled : (options : ParseOptions) (bytes : List ℕ) (gs : List Group) →
-    (options.constructs.definition && options.constructs.heading_setext) ≡ false → AreGroups options bytes gs →
+groups-labelled : (options : ParseOptions) (bytes : List ℕ) (gs : List Group) → AreGroups options bytes gs →
     Labelled bytes (unread_groups options bytes gs) (groups_events options bytes gs)
-groups-labelled options bytes [] apart are = none-labelled bytes [] [] refl (λ r text shut. (refl, text, shut))
-groups-labelled options bytes (Single row ∷ gs) apart are =
+groups-labelled options bytes [] are = none-labelled bytes [] [] refl (λ r text shut. (refl, text, shut))
+groups-labelled options bytes (Single row ∷ gs) are =
     labelled-append bytes (unread_group options bytes (Single row)) (group_events options bytes (Single row))
     (unread_groups options bytes gs) (groups_events options bytes gs) (single-labelled options bytes row are.0)
-    (groups-labelled options bytes gs apart are.1)
-groups-labelled options bytes (Lines row rows ∷ gs) apart are =
+    (groups-labelled options bytes gs are.1)
+groups-labelled options bytes (Lines row rows ∷ gs) are =
     let us : List Event = text_unread options bytes row rows in
     let ds : List Event = text_done options bytes row rows in
     let tail : List Event = tail_events n.LineEnding (last_row row rows) in
@@ -351,25 +373,24 @@ groups-labelled options bytes (Lines row rows ∷ gs) apart are =
     (labelled-append bytes row.front row.front us ds (front-labelled bytes row are.2)
     (cut-labelled options bytes row rows us ds (cut-is options bytes row rows are.0)))
     (tail-labelled bytes false (last_row row rows)))
-    (groups-labelled options bytes gs apart are.3)
-groups-labelled options bytes (Turned row rows under ∷ gs) apart are =
+    (groups-labelled options bytes gs are.3)
+groups-labelled options bytes (Turned row rows under ∷ gs) are =
     labelled-append bytes (unread_group options bytes (Turned row rows under))
     (group_events options bytes (Turned row rows under)) (unread_groups options bytes gs)
-    (groups_events options bytes gs) (turned-labelled options bytes row rows under apart are.0 are.1 are.3)
-    (groups-labelled options bytes gs apart are.4)
-groups-labelled options bytes (Span row rows ∷ gs) apart are =
+    (groups_events options bytes gs) (turned-labelled options bytes row rows under are.0 are.1 are.5 are.3)
+    (groups-labelled options bytes gs are.4)
+groups-labelled options bytes (Span row rows ∷ gs) are =
     labelled-append bytes (unread_group options bytes (Span row rows)) (group_events options bytes (Span row rows))
     (unread_groups options bytes gs) (groups_events options bytes gs)
-    (span-labelled options bytes row rows are.0 are.3 are.4) (groups-labelled options bytes gs apart are.2)
+    (span-labelled options bytes row rows are.0 are.3 are.4) (groups-labelled options bytes gs are.2)
 
 -- What is found among the events of a text that is read as this tree is what the tree has.
-pub rows-labels : (options : ParseOptions) (bytes : List ℕ) (gs : List Group) →
-    (options.constructs.definition && options.constructs.heading_setext) ≡ false → AreGroups options bytes gs →
+pub rows-labels : (options : ParseOptions) (bytes : List ℕ) (gs : List Group) → AreGroups options bytes gs →
     (read bytes unread (groups_events options bytes gs)).outer ≡ [] →
     labels_in bytes (unread_groups options bytes gs) ≡ defined_in (spelled (groups_events options bytes gs) bytes)
 unfolding spelled
-rows-labels options bytes gs apart are none =
-    let h = groups-labelled options bytes gs apart are in
+rows-labels options bytes gs are none =
+    let h = groups-labelled options bytes gs are in
     let us : List Event = unread_groups options bytes gs in
     let r : Reading = read bytes unread (groups_events options bytes gs) in
     ap (labels_in bytes) (sym (append-nil us)) ∙ h.told [] ∙ append-nil h.own

@@ -10,10 +10,10 @@ use Rattle.md_content.specs.ContentReads.{content_events, part_world}
 use Rattle.md_seam.specs.declared.inline.Chunk.{Chunk}
 use Rattle.md_definition.specs.Definition.{Defined}
 use Rattle.md_definition.specs.State.{Kept, Leaf, NoLeaf, OpenParagraph, cut, shut_paragraph, then_block}
-use Rattle.md_definition.specs.State.{then_definitions, then_paragraph}
+use Rattle.md_definition.specs.State.{texts, then_definitions, then_paragraph}
 use Rattle.md_definition.specs.Tree.{Blocks, Definition, Paragraph}
 use Rattle.md_outline.specs.HeadingDepths.{are_shallow}
-use Rattle.markdown_blocks.specs.Leaf.Paragraph.{paragraph_leaf}
+use Rattle.markdown_blocks.specs.Leaf.Paragraph.{paragraph_leaf, then_front}
 use Rattle.markdown_blocks.specs.HeldLeaf.{IsBuiltLeaf}
 use Rattle.markdown_blocks.specs.Registry.{IsOpenSpan}
 use Rattle.markdown_blocks.proofs.EachEvent.{settled-each}
@@ -43,6 +43,12 @@ shallow-definitions bs [] h = h
 shallow-definitions bs (d ∷ ds) h =
     shallow-definitions (then_block bs (Definition d.label d.destination d.title)) ds
     (shallow-then bs (Definition d.label d.destination d.title) h refl)
+
+-- those at the front of an open text,
+pub shallow-front : (options : ParseOptions) (bs : Blocks) (open_leaf : Leaf) → are_shallow bs ≡ true →
+    are_shallow (then_front options bs open_leaf) ≡ true
+shallow-front options bs (OpenParagraph lines) h = shallow-definitions bs (cut options (texts lines)).0 h
+shallow-front options bs _ h = h
 
 -- and what remains.
 shallow-behind : (options : ParseOptions) (bs : Blocks) (lines : List (List ℕ)) → are_shallow bs ≡ true →

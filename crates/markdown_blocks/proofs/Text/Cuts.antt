@@ -21,7 +21,7 @@ use Rattle.markdown_blocks.proofs.Text.Cut.{IsCutText, between}
 use Rattle.markdown_blocks.proofs.Text.Cut.IsCutText.{Defines, Follows, Remains}
 
 -- the first lines of a text are such lines
-lines-front : (options : ParseOptions) (bytes : List ℕ) (row : Row) (own rest : List Row) →
+pub lines-front : (options : ParseOptions) (bytes : List ℕ) (row : Row) (own rest : List Row) →
     AreLines options bytes row (own ++ rest) → AreLines options bytes row own
 lines-front options bytes row [] [] h = h
 lines-front options bytes row [] (next ∷ rest) h = (h.0, h.1, h.2)

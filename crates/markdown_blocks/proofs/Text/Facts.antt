@@ -8,7 +8,7 @@ use Rattle.md_seam.specs.declared.inline.Chunk.{Chunk}
 use Rattle.md_seam.specs.declared.inline.PartKind.TheVariants.{Text}
 use Rattle.md_seam.specs.Events.Grammar.{blocks, plain_text, unread_text}
 use Rattle.md_seam.specs.Events.Spelled.{AsParagraph, byte_at}
-use Rattle.md_definition.specs.State.{Kept, kept, texts}
+use Rattle.md_definition.specs.State.{texts}
 use Rattle.md_seam.proofs.EndingsLemmas.{leaf-leads}
 use Rattle.md_seam.proofs.GrammarLemmas.{leads-around}
 use Rattle.md_seam.proofs.InlineLemmas.{plain-fills}
@@ -21,6 +21,7 @@ use Rattle.markdown_blocks.specs.Unread.{unread_lines}
 use Rattle.markdown_blocks.proofs.BetweenFacts.{around-between}
 use Rattle.markdown_blocks.proofs.FillFacts.{fill-part}
 use Rattle.markdown_blocks.proofs.GroupLemmas.{AreLines, chunks-lines}
+pub use Rattle.markdown_blocks.proofs.GroupsAre.{kept-of}
 use Rattle.markdown_blocks.proofs.LeafFacts.{LeafFacts}
 use Rattle.markdown_blocks.proofs.LeafStands.{around-unlisted, between-parts}
 use Rattle.markdown_blocks.proofs.PartedFacts.{clear}
@@ -38,12 +39,6 @@ use Rattle.markdown_blocks.proofs.Text.Parts.{chunks-begin, lines-filled, lines-
 use Rattle.markdown_blocks.proofs.Text.Pieces.{linked-starts, read-starts, read-stood, unread-stood}
 use Rattle.markdown_blocks.proofs.Text.Places.{read-between, read-nested, read-plain, unread-nested, unread-tiled}
 use Rattle.markdown_blocks.proofs.Text.Words.{linked-word, read-word}
-
--- its lines, as the line definition keeps them
-abbrev pub kept-of : (options : ParseOptions) (bytes : List ℕ) (row : Row) (rows : List Row) →
-    AreLines options bytes row rows → List Kept
-kept-of options bytes row [] h = kept h.1.rest ∷ []
-kept-of options bytes row (next ∷ rows) h = kept h.1.rest ∷ kept-of options bytes next rows h.7
 
 -- they are read as these
 pub lines-read : (options : ParseOptions) (bytes : List ℕ) (row : Row) (rows : List Row) →

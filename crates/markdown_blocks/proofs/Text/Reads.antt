@@ -48,7 +48,7 @@ abbrev said : Line
 said = record { start = 0; lazy = false; pierce = false }
 
 -- its text is small
-text-small : (options : ParseOptions) (bytes : List ℕ) (row : Row) (rows : List Row) →
+pub text-small : (options : ParseOptions) (bytes : List ℕ) (row : Row) (rows : List Row) →
     AreLines options bytes row rows → length bytes < 2 ^ 61
 text-small options bytes row [] are = are.1.small
 text-small options bytes row (next ∷ rows) are = are.1.small
@@ -89,7 +89,7 @@ cells-whole options bytes row (next ∷ rows) are =
     whole (suc k) at = refl
 
 -- So the line definition finds a definition on them where their cells begin with one.
-lines-definition : (options : ParseOptions) (bytes : List ℕ) (row : Row) (rows : List Row) →
+pub lines-definition : (options : ParseOptions) (bytes : List ℕ) (row : Row) (rows : List Row) →
     (are : AreLines options bytes row rows) →
     definition_at (texts (kept-of options bytes row rows are)) ≡
     cut_of (definition_parts (lines_cells options bytes row rows))
@@ -103,18 +103,18 @@ lines-definition options bytes row rows are =
     ∙ ap (λ (cells : List Cell). cut_of (definition_parts cells)) (sym same)
 
 -- What it tells.
-abbrev defined_of : DefinitionParts → Defined
+abbrev pub defined_of : DefinitionParts → Defined
 defined_of d = record {
   label = cell_lines false (whole_cells d.label.opener.after d.label.text);
   destination = text_bytes d.destination (gap_rest d.more) (destination_begin d);
   title = title_told d.title;
 }
 
-abbrev defined_block : Defined → Block
+abbrev pub defined_block : Defined → Block
 defined_block x = Definition x.label x.destination x.title
 
 -- its events are read as just this
-defined-reads : (bytes : List ℕ) (d : DefinitionParts) (row : Row) (rows : List Row) (r : Reading) →
+pub defined-reads : (bytes : List ℕ) (d : DefinitionParts) (row : Row) (rows : List Row) (r : Reading) →
     IsDefined bytes d row rows → r.text ≡ None → r.leaf ≡ None →
     read bytes r (defined_done bytes d row rows) ≡ add_block (defined_block (defined_of d)) r
 defined-reads bytes d row rows r is none shut =
@@ -157,7 +157,7 @@ shut-on : (options : ParseOptions) (bs : Blocks) (lines : List (List ℕ)) → o
 unfolding shut_paragraph
 shut-on options bs lines on = rw on refl
 
-none-found : definition_at [] ≡ None
+pub none-found : definition_at [] ≡ None
 unfolding definition_at label_at
 none-found = refl
 
@@ -175,17 +175,42 @@ lines-alone options bytes row (next ∷ rows) are r none =
     (lines-read options bytes row (next ∷ rows) are) none
 
 -- those behind some of them
-abbrev IsMore : ParseOptions → List ℕ → List Row → Type 0
+abbrev pub IsMore : ParseOptions → List ℕ → List Row → Type 0
 IsMore options bytes [] = Unit {0}
 IsMore options bytes (next ∷ more) =
     (q : Point) × (front : LinePrefix bytes [] q next.first next.front) × AreLines options bytes next more
 
-lines-behind : (options : ParseOptions) (bytes : List ℕ) (k : ℕ) (row : Row) (rows : List Row) →
+pub lines-behind : (options : ParseOptions) (bytes : List ℕ) (k : ℕ) (row : Row) (rows : List Row) →
     AreLines options bytes row rows → IsMore options bytes (drop k rows)
 lines-behind options bytes zero row [] are = tt
 lines-behind options bytes zero row (next ∷ rows) are = (are.3, are.6, are.7)
 lines-behind options bytes (suc k) row [] are = tt
 lines-behind options bytes (suc k) row (next ∷ rows) are = lines-behind options bytes k next rows are.7
+
+-- what stands behind a definition are these lines
+pub further-behind : (options : ParseOptions) (bytes : List ℕ) (d : DefinitionParts) (next : Row) (below : List Row) →
+    (are : AreLines options bytes next below) → IsBehind options bytes d (next ∷ below) →
+    further (definition_rest d) ≡ texts (kept-of options bytes next below are)
+further-behind options bytes d next below are behind =
+    ap further behind.1
+    ∙ ap (λ (cells : List Cell). cell_lines true (whole_cells next.first cells))
+    (lines-are options bytes (text-small options bytes next below are) next below are)
+    ∙ cells-texts options bytes next below are
+
+-- and nothing does where none is there
+pub none-behind : (options : ParseOptions) (bytes : List ℕ) (d : DefinitionParts) → IsBehind options bytes d [] →
+    cut_definitions (further (definition_rest d)) ≡ ([], [])
+none-behind options bytes d behind =
+    ap (λ (cells : List Cell). cut_definitions (further cells)) behind ∙ cut_definitions-none [] none-found
+
+-- what stands between it and the next line is not read
+pub read-gap : (options : ParseOptions) (bytes : List ℕ) (last next : Row) (left : List Row) (r : Reading) →
+    IsMore options bytes (next ∷ left) → r.text ≡ None → r.leaf ≡ None →
+    read bytes r (ending_events n.LineEnding last ++ next.front) ≡ r
+read-gap options bytes last next left r more none shut =
+    read-between bytes r (ending_events n.LineEnding last ++ next.front) none shut
+    (roles-append Between (ending_events n.LineEnding last) next.front (ending-roles Between n.LineEnding last tt)
+    (fronts-between bytes [] more.0 next.first next.front more.1 refl))
 
 -- At most so many definitions, and what remains.
 
@@ -209,22 +234,16 @@ cut-behind : (options : ParseOptions) (bytes : List ℕ) (k : ℕ) (d : Definiti
     record r { here = then_cut r.here (cut_definitions (further (definition_rest d))) }
 cut-behind options bytes k d last [] r on fewer some more behind none shut =
     ap (λ (cut : List Defined × List (List ℕ)). record r { here = then_cut r.here cut })
-    (sym (ap (λ (cells : List Cell). cut_definitions (further cells)) behind ∙ cut_definitions-none [] none-found))
+    (sym (none-behind options bytes d behind))
 cut-behind options bytes k d last (next ∷ left) r on fewer some more behind none shut =
     let between : List Event = ending_events n.LineEnding last ++ next.front in
     read-from bytes r r between (cut_done options bytes k next left)
-    (read-between bytes r between none shut
-    (roles-append Between (ending_events n.LineEnding last) next.front (ending-roles Between n.LineEnding last tt)
-    (fronts-between bytes [] more.0 next.first next.front more.1 refl)))
+    (read-gap options bytes last next left r more none shut)
     ∙ fewer next left (omega arith) more.2 r none shut
     ∙ ap (λ (bs : Blocks). record r { here = bs })
     (shut-on options r.here (texts (kept-of options bytes next left more.2)) on
     ∙ ap (λ (lines : List (List ℕ)). then_cut r.here (cut_definitions lines))
-    (sym
-    (ap further behind.1
-    ∙ ap (λ (cells : List Cell). cell_lines true (whole_cells next.first cells))
-    (lines-are options bytes (text-small options bytes next left more.2) next left more.2)
-    ∙ cells-texts options bytes next left more.2)))
+    (sym (further-behind options bytes d next left more.2 behind)))
 
 -- with one more
 reads-more : (options : ParseOptions) (bytes : List ℕ) (k : ℕ) (row : Row) (rows : List Row) → length rows < suc k →

@@ -50,7 +50,7 @@ done-is bytes d row rows is =
     ap (plain_read bytes) is.unread ∙ defined-done bytes is.form is.behind_gap is.behind_target is.is
 
 -- it stands from the begin of its first line to the end of its last
-defined-stands : (bytes : List ℕ) (d : DefinitionParts) (row : Row) (rows : List Row) → IsDefined bytes d row rows →
+pub defined-stands : (bytes : List ℕ) (d : DefinitionParts) (row : Row) (rows : List Row) → IsDefined bytes d row rows →
     StandFacts bytes true row.first (last_row row rows).end (defined_unread d row rows) (defined_done bytes d row rows)
 defined-stands bytes d row rows is =
     subst₂ (λ (p q : Point). StandFacts bytes true p q (defined_unread d row rows) (defined_done bytes d row rows))
@@ -66,7 +66,7 @@ defined-stands bytes d row rows is =
 -- Texts.
 
 -- no tab of a character is cut where the first line begins
-lines-clear : (options : ParseOptions) (bytes : List ℕ) (row : Row) (rows : List Row) →
+pub lines-clear : (options : ParseOptions) (bytes : List ℕ) (row : Row) (rows : List Row) →
     AreLines options bytes row rows → clear bytes row.first ≡ true
 lines-clear options bytes row [] are = rest-clear options bytes are.0 row are.1
 lines-clear options bytes row (next ∷ rows) are = rest-clear options bytes are.0 row are.1

@@ -1,5 +1,4 @@
 -- What is known of the events of a thematic break, by the bytes of its line.
-use Rattle.md_engine.specs.declared.tokenizer.held_leaf.HeldLeaf.TheVariants as held_leaf
 use Rattle.std.proofs.Common.{◌≡◌, ℕ, suc, ◌+◌, Bool, true, false, cond, ◌&&◌, ◌||◌, List, [], ◌∷◌, ◌++◌, drop}
 use Rattle.std.proofs.Common.{refl, ap, sym, ◌∙◌, subst, arith}
 use Rattle.std.specs.Prelude.{◌==◌, nat_le, count_by, Some}
@@ -26,7 +25,8 @@ use Rattle.md_seam.proofs.GrammarLemmas.{IsWord, leads-around}
 use Rattle.md_seam.proofs.SpelledLemmas.{Quiet, Roles}
 use Rattle.markdown_blocks.proofs.EachEvent.{Each}
 use Rattle.markdown_blocks.specs.Fronted.{rest_line}
-use Rattle.markdown_blocks.specs.Leaf.ThematicBreak.{break_leaf, break_line, first_byte}
+use Rattle.markdown_blocks.specs.Leaf.ThematicBreak.{break_line, first_byte}
+use Rattle.markdown_blocks.specs.Leaf.ThematicBreak.{is_ruled}
 use Rattle.markdown_blocks.specs.MarkRuns.{Apart, Marks, Run, White, mark_runs}
 use Rattle.markdown_blocks.specs.Registry.{resolved}
 use Rattle.markdown_blocks.proofs.BetweenFacts.{all-more, around-between, is_low, low-between, trim-low, white-low}
@@ -238,7 +238,7 @@ break-word text m (b ∷ bs) p mark first = go (b == m) refl
 
 -- The whole break.
 pub break-facts : (options : ParseOptions) (bytes : List ℕ) (r : Rest) (p q : Point) →
-    break_leaf.starts options held_leaf.None r ≡ true → LineAt bytes r (rest_line r) p q →
+    is_ruled options r ≡ true → LineAt bytes r (rest_line r) p q →
     LeafFacts bytes (Some Break) true p q (break_line (rest_line r) p) (break_line (rest_line r) p)
 break-facts options bytes r p q starts at =
     subst

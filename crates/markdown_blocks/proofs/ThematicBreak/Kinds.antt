@@ -1,7 +1,7 @@
 -- Which lines are breaks: by their cells those that are by their bytes.
-use Rattle.md_engine.specs.declared.tokenizer.held_leaf.HeldLeaf.TheVariants as held_leaf
+use Rattle.std.specs.Prelude.{not}
 use Rattle.std.proofs.Common.{◌≡◌, ℕ, zero, suc, ◌+◌, Bool, true, false, cond, ◌&&◌, ◌||◌, List, [], ◌∷◌, ◌++◌, length}
-use Rattle.std.proofs.Common.{drop, ◌<◌, ◌^◌, refl, sym, ap, ◌∙◌, subst, arith}
+use Rattle.std.proofs.Common.{drop, ◌<◌, ◌^◌, refl, sym, ap, ap₂, ◌∙◌, subst, arith}
 use Rattle.std.specs.Prelude.{◌==◌, nat_le, count_by}
 use Rattle.std.specs.List.{list_all, prefix_len}
 use Rattle.std.proofs.lemmas.Bool.{and_parts, eq-eqb, eqb-true}
@@ -11,14 +11,18 @@ use Rattle.md_engine.specs.declared.tokenizer.Line.{Line}
 use Rattle.md_engine.specs.Meaning.{Cell}
 use Rattle.md_definition.specs.Leaves.{is_rule, is_rule_marker}
 use Rattle.md_seam.specs.Events.Places.{past_byte}
-use Rattle.md_definition.specs.Rest.{Rest, is_white, trim_start}
+use Rattle.md_definition.specs.Rest.{Rest, has_small_indent, is_white, trim_start}
 use Rattle.md_seam.proofs.FeedLines.{Stops, all-spread, bytes_of, cell, columns_more, count-spread, spread, tab_cells}
 use Rattle.md_seam.proofs.RestCells.{RestAt, rest_cells}
 use Rattle.md_definition.proofs.TextsLemmas.{NoEnding}
 use Rattle.md_engine.specs.declared.configuration.ParseOptions.{ParseOptions}
-use Rattle.markdown_blocks.specs.Leaf.ThematicBreak.{break_leaf, first_byte, is_break}
+use Rattle.md_engine.specs.declared.tokenizer.held_leaf.HeldLeaf.{HeldLeaf}
+use Rattle.markdown_blocks.proofs.HeadingSetext.Kinds.{underline-tells}
+use Rattle.markdown_blocks.specs.Leaf.ThematicBreak.{break_leaf, first_byte}
 use Rattle.markdown_blocks.proofs.MarkRuns.Cells.{IsMark}
 use Rattle.markdown_blocks.proofs.MarkRuns.Fits.{Tells, line-fits}
+use Rattle.md_leaves.specs.HeadingSetext.{turns_nothing}
+use Rattle.md_leaves.specs.HeadingSetextRule.{is_underline}
 
 -- The marker.
 
@@ -117,9 +121,20 @@ rule-tells = record {
     unmarked b e = grind (arith, nat_tests)
 
 -- A break stands on a line by its cells if it does by its rest.
-pub break-fits :
-    (options : ParseOptions) (said : Line) (text behind : List ℕ) (r : Rest) (p : Point) (stop : List Cell) →
+pub break-fits : (options : ParseOptions) (on : HeldLeaf) (said : Line) (text behind : List ℕ) (r : Rest) (p : Point)
+    (stop : List Cell) →
     RestAt text behind r p → NoEnding r.bytes → Stops stop → length (rest_cells said r p ++ stop) < 2 ^ 63 →
-    is_break options (rest_cells said r p ++ stop) ≡ break_leaf.starts options held_leaf.None r
-break-fits options said text behind r p stop is h k short =
-    line-fits is_rule rule-tells options.constructs.thematic_break options said text behind r p stop is h k short
+    break_leaf.takes options on (rest_cells said r p ++ stop) ≡ break_leaf.starts options on r
+break-fits options on said text behind r p stop is h k short =
+    ap₂ (λ (x y : Bool). x && not y)
+    (line-fits is_rule rule-tells options.constructs.thematic_break options said text behind r p stop is h k short)
+    (line-fits is_underline underline-tells (turns_nothing options on) options said text behind r p stop is h k short)
+    ∙ go options.constructs.thematic_break (has_small_indent options r) (is_rule (trim_start r.bytes))
+    (turns_nothing options on) (is_underline (trim_start r.bytes))
+  where
+    -- without a small indent neither stands
+    go : (a s b t u : Bool) → ((a && s && b) && not (t && s && u)) ≡ ((a && s && b) && not (t && u))
+    go false s b t u = refl
+    go true false b t u = refl
+    go true true b false u = refl
+    go true true b true u = refl

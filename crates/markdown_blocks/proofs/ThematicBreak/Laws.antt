@@ -1,5 +1,8 @@
 -- The laws of thematic breaks.
 use Rattle.std.proofs.Common.{refl}
+use Rattle.std.proofs.Common.{◌≡◌, true}
+use Rattle.std.proofs.lemmas.Bool.{and_parts}
+use Rattle.std.specs.Prelude.{◌&&◌, not}
 use Rattle.markdown_blocks.specs.Fronted.{rest_line}
 use Rattle.markdown_blocks.specs.Leaf.ThematicBreak.{break_leaf}
 use Rattle.markdown_blocks.proofs.LeafLaws.{LeafLaws}
@@ -9,16 +12,29 @@ use Rattle.markdown_blocks.proofs.ThematicBreak.Kinds.{break-fits}
 use Rattle.markdown_blocks.proofs.ThematicBreak.Runs.{break-adds, break-no_content, break-own}
 use Rattle.markdown_blocks.proofs.ThematicBreak.Trial.{break-looked, break-refused, break-shrinks, break-took}
 use Rattle.markdown_blocks.proofs.ThematicBreak.Unturned.{break-unturned}
+use Rattle.markdown_blocks.specs.Leaf.ThematicBreak.{is_ruled}
+use Rattle.md_engine.specs.declared.configuration.ParseOptions.{ParseOptions}
+use Rattle.md_engine.specs.declared.tokenizer.held_leaf.HeldLeaf.{HeldLeaf}
+use Rattle.md_definition.specs.Rest.{Rest, trim_start}
+use Rattle.md_leaves.specs.HeadingSetext.{turns_nothing}
+use Rattle.md_leaves.specs.HeadingSetextRule.{is_underline}
+
+-- a rule stands where one starts
+ruled : (options : ParseOptions) (on : HeldLeaf) (r : Rest) → break_leaf.starts options on r ≡ true →
+    is_ruled options r ≡ true
+ruled options on r starts =
+    (and_parts (is_ruled options r) (not (turns_nothing options on && is_underline (trim_start r.bytes))) starts).0
 
 pub break-laws : LeafLaws break_leaf
 break-laws = record {
-  looked = λ options on. break-looked options;
+  looked = break-looked;
   took = λ options cells h is few. break-took options cells h is;
   refused = λ options cells h asked. break-refused options cells h;
   meets = λ options on r starts further. cc;
   shrinks = break-shrinks;
-  fits = λ options on. break-fits options;
-  adds_is = λ options on. break-adds options;
+  fits = break-fits;
+  adds_is = λ options on said text behind r p stop at none ends short starts.
+      break-adds options said text behind r p stop at none ends short (ruled options on r starts);
   keeps_is = λ options on said text behind r p stop at none ends short starts. refl;
   shut = λ ends options on. (λ cells p. refl, λ r. refl);
   finishes = λ ends options leaf r. refl;
@@ -31,7 +47,7 @@ break-laws = record {
   unturned = λ ends options on r p starts. break-unturned (rest_line r) p;
   unspanned = λ ends options on r p starts. break-unspanned (rest_line r) p;
   set = λ ends options on r p es starts. break-set (rest_line r) p es;
-  facts = λ ends options on. break-facts options;
+  facts = λ ends options on bytes r p q starts. break-facts options bytes r p q (ruled options on r starts);
   becomes = λ ends options on bytes r p q starts at wants reads text read.
       becomes-same wants reads (break_leaf.unread (rest_line r) p)
       (no_links-unwanted wants (break_leaf.unread (rest_line r) p) (break-unlinked (rest_line r) p));

@@ -24,12 +24,13 @@ use Rattle.markdown_blocks.proofs.MarkRuns.Cells.{line-adds}
 use Rattle.markdown_blocks.proofs.MarkRuns.Each.{Holds, IsNoContent, cell_line-holds, each-no_content}
 use Rattle.markdown_blocks.proofs.OutsideFacts.{AreOutside, IsOutside}
 use Rattle.markdown_blocks.proofs.ThematicBreak.Kinds.{break-mark, rule-first}
+use Rattle.markdown_blocks.specs.Leaf.ThematicBreak.{is_ruled}
 
 -- the whole break
 pub break-adds :
     (options : ParseOptions) (said : Line) (text behind : List ℕ) (r : Rest) (p : Point) (stop : List Cell) →
     RestAt text behind r p → NoEnding r.bytes → Stops stop → length (rest_cells said r p ++ stop) < 2 ^ 63 →
-    break_leaf.starts options held_leaf.None r ≡ true →
+    is_ruled options r ≡ true →
     break_leaf.adds options held_leaf.None (rest_cells said r p ++ stop) p ≡
     break_leaf.added options held_leaf.None (rest_line r) p
 break-adds options said text behind r p stop is h k short starts =

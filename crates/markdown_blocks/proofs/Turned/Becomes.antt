@@ -7,8 +7,9 @@ use Rattle.md_engine.specs.declared.event.Event.{Event}
 use Rattle.md_engine.specs.declared.event.Name.TheVariants as n
 use Rattle.md_seam.specs.Events.Nested.{pair}
 use Rattle.md_seam.specs.Substituted.{Readings}
+use Rattle.markdown_blocks.specs.BlockList.{heading_unread}
 use Rattle.markdown_blocks.specs.Registry.{turn_leaf}
-use Rattle.markdown_blocks.specs.Rows.{Row, last_row, read_lines, turned_by, turned_done}
+use Rattle.markdown_blocks.specs.Rows.{Row, heading_done, last_row, read_lines}
 use Rattle.markdown_blocks.specs.Unread.{unread_lines}
 use Rattle.markdown_blocks.proofs.EachEvent.{each-append}
 use Rattle.markdown_blocks.proofs.FrontNames.{fronts-unlinked}
@@ -25,7 +26,7 @@ use Rattle.markdown_blocks.proofs.Turned.Under.{Turns, under-turns}
 pub turned-becomes : (options : ParseOptions) (bytes : List ℕ) (row : Row) (rows : List Row) (under : Row) →
     AreLines options bytes row rows → IsUnder options bytes (last_row row rows) under →
     (wants : Content → Bool) (reads : Readings) → wants content.Text ≡ true → ReadsText bytes reads →
-    Becomes wants reads (turned_by (unread_lines row rows) row rows under) (turned_done bytes row rows under)
+    Becomes wants reads (heading_unread under row rows) (heading_done bytes under row rows)
 turned-becomes options bytes row rows under h is wants reads wanted text =
     subst₂ (Becomes wants reads)
     (sym (turned-is row rows under turns.after (unread_lines row rows) turns.after_is))

@@ -12,8 +12,9 @@ use Rattle.md_seam.specs.Events.Nested.{around}
 use Rattle.md_seam.specs.Events.Spelled.{OfHeadingSetext, fresh}
 use Rattle.md_seam.proofs.EndingsLemmas.{filling-append, leaf-leads}
 use Rattle.md_seam.proofs.GrammarLemmas.{leads-around}
+use Rattle.markdown_blocks.specs.BlockList.{heading_unread}
 use Rattle.markdown_blocks.specs.Registry.{turn_leaf}
-use Rattle.markdown_blocks.specs.Rows.{Row, last_row, read_lines, turned_by, turned_done}
+use Rattle.markdown_blocks.specs.Rows.{Row, heading_done, last_row, read_lines}
 use Rattle.markdown_blocks.specs.Unread.{unread_lines}
 use Rattle.markdown_blocks.proofs.BetweenFacts.{around-between, ending-before, ending-behind}
 use Rattle.markdown_blocks.proofs.FillFacts.{fill-around}
@@ -48,7 +49,7 @@ turned-block options bytes row rows under h is =
 turns-facts : (options : ParseOptions) (bytes : List ℕ) (row : Row) (rows : List Row) (under : Row) →
     (h : AreLines options bytes row rows) → (turns : Turns options bytes (last_row row rows) under) →
     LeafFacts bytes (Some (turn_leaf.block (texts (kept-of options bytes row rows h)) turns.is.rest)) true row.first
-    under.end (turned_by (unread_lines row rows) row rows under) (turned_done bytes row rows under)
+    under.end (heading_unread under row rows) (heading_done bytes under row rows)
 turns-facts options bytes row rows under h turns =
     subst₂
     (λ (es fs : List Event).
@@ -154,6 +155,6 @@ turns-facts options bytes row rows under h turns =
 pub turned-facts : (options : ParseOptions) (bytes : List ℕ) (row : Row) (rows : List Row) (under : Row) →
     (h : AreLines options bytes row rows) → (is : IsUnder options bytes (last_row row rows) under) →
     LeafFacts bytes (Some (turned-block options bytes row rows under h is)) true row.first under.end
-    (turned_by (unread_lines row rows) row rows under) (turned_done bytes row rows under)
+    (heading_unread under row rows) (heading_done bytes under row rows)
 turned-facts options bytes row rows under h is =
     turns-facts options bytes row rows under h (under-turns options bytes row rows under h is)

@@ -11,7 +11,7 @@ use Rattle.md_seam.proofs.BlocksLemmas.{read-leaf}
 use Rattle.md_seam.proofs.SetextReads.{read-setext_gap}
 use Rattle.md_seam.proofs.SpelledLemmas.{read-from}
 use Rattle.markdown_blocks.specs.Registry.{turn_leaf}
-use Rattle.markdown_blocks.specs.Rows.{Row, last_row, read_lines, turned_done}
+use Rattle.markdown_blocks.specs.Rows.{Row, heading_done, last_row, read_lines}
 use Rattle.markdown_blocks.proofs.SpelledParagraphs.{IsRead}
 use Rattle.markdown_blocks.proofs.Turned.Events.{gap_events, inside_events, so_far, text_events, turned-is}
 use Rattle.markdown_blocks.proofs.Turned.Gap.{front-quiet}
@@ -61,7 +61,7 @@ pub read-turned : (options : ParseOptions) (bytes : List ℕ) (row : Row) (rows 
     (lines : List Kept) (r : Reading) →
     IsRead bytes row rows lines → (turns : Turns options bytes (last_row row rows) under) → r.text ≡ None →
     r.leaf ≡ None →
-    read bytes r (turned_done bytes row rows under) ≡ add_block (turn_leaf.block (texts lines) turns.is.rest) r
+    read bytes r (heading_done bytes under row rows) ≡ add_block (turn_leaf.block (texts lines) turns.is.rest) r
 read-turned options bytes row rows under lines r is turns none shut =
     ap (read bytes r) (turned-is row rows under turns.after (read_lines bytes row rows) turns.after_is)
     ∙ read-inside options bytes row rows under lines r is turns none shut

@@ -1,9 +1,12 @@
 -- The line that turns a text is an underline, and where it stands.
-use Rattle.std.proofs.Common.{◌≡◌, ℕ, Bool, true, false, ◌&&◌, List, [], ◌∷◌, refl, sym, ap, ◌∙◌}
+use Rattle.std.proofs.Common.{◌≡◌, ℕ, true, List, [], ◌∷◌, sym, ap, ◌∙◌}
 use Rattle.std.specs.Prelude.{Some}
 use Rattle.md_engine.specs.declared.configuration.ParseOptions.{ParseOptions}
 use Rattle.md_engine.specs.declared.event.Point.{Point}
 use Rattle.md_engine.specs.declared.tokenizer.held_leaf.HeldLeaf.TheVariants as held_leaf
+use Rattle.md_engine.specs.declared.tokenizer.held_leaf.Progress.{Progress}
+use Rattle.md_definition.specs.Rest.{trim_start}
+use Rattle.md_parts.specs.Progress.{progress_of, step}
 use Rattle.markdown_blocks.specs.Leaf.HeadingSetext.{setext_leaf}
 use Rattle.markdown_blocks.specs.Registry.{HeadingSetext, leaf}
 use Rattle.markdown_blocks.specs.Rows.{LeafRow, Row, RowKind, is_further, last_row, line_behind}
@@ -26,18 +29,26 @@ pub record Turns (options : ParseOptions) (bytes : List ℕ) (last under : Row) 
 
 -- behind a line of text, text is open
 pub text-open : (options : ParseOptions) (bytes : List ℕ) (row : Row) (rows : List Row) →
-    AreLines options bytes row rows → (last_row row rows).behind ≡ held_leaf.Text
-text-open options bytes row [] h = h.1.behind ∙ ap (line_behind options row.on h.1.rest) h.2
+    AreLines options bytes row rows → (at : Progress) × ((last_row row rows).behind ≡ held_leaf.Text at)
+text-open options bytes row [] h =
+    (step (progress_of row.on) (trim_start h.1.rest.bytes), h.1.behind ∙ ap (line_behind options row.on h.1.rest) h.2)
 text-open options bytes row (next ∷ rows) h = text-open options bytes next rows h.7
 
--- so a line that goes on it is one
+-- so a line that goes on it goes on text, and is one
+pub under-text : (options : ParseOptions) (bytes : List ℕ) (row : Row) (rows : List Row) (under : Row) →
+    AreLines options bytes row rows → (is : IsUnder options bytes (last_row row rows) under) →
+    (at : Progress) × ((leaf is.name).further (held_leaf.Text at) ≡ true)
+under-text options bytes row rows under h is =
+    let text = text-open options bytes row rows h in (
+      text.0,
+      ap (leaf is.name).further (sym (is.on ∙ text.1)) ∙ ap (λ (kind : RowKind). is_further kind under.on) (sym is.kind)
+          ∙ is.further,
+    )
+
 pub under-is : (options : ParseOptions) (bytes : List ℕ) (row : Row) (rows : List Row) (under : Row) →
     AreLines options bytes row rows → (is : IsUnder options bytes (last_row row rows) under) → is.name ≡ HeadingSetext
 under-is options bytes row rows under h is =
-    further-text is.name
-    (ap (leaf is.name).further (sym (is.on ∙ text-open options bytes row rows h))
-    ∙ ap (λ (kind : RowKind). is_further kind under.on) (sym is.kind)
-    ∙ is.further)
+    let text = under-text options bytes row rows under h is in further-text text.0 is.name text.1
 
 -- and it turns the text
 abbrev pub under-turns : (options : ParseOptions) (bytes : List ℕ) (row : Row) (rows : List Row) (under : Row) →
@@ -60,18 +71,6 @@ pub under-on : (options : ParseOptions) (bytes : List ℕ) (row : Row) (rows : L
 under-on options bytes row rows under h is =
     let line : IsLineOf options bytes setext_leaf under = (under-turns options bytes row rows under h is).is in
     (setext-starts options under.on line.rest line.starts).enabled
-
--- and definitions are off, where not both are on
-pub under-off : (options : ParseOptions) (bytes : List ℕ) (row : Row) (rows : List Row) (under : Row) →
-    AreLines options bytes row rows → IsUnder options bytes (last_row row rows) under →
-    (options.constructs.definition && options.constructs.heading_setext) ≡ false → options.constructs.definition ≡ false
-under-off options bytes row rows under h is apart =
-    go options.constructs.definition options.constructs.heading_setext
-    (under-on options bytes row rows under h is) apart
-  where
-    go : (x y : Bool) → y ≡ true → (x && y) ≡ false → x ≡ false
-    go false y on apart = refl
-    go true y on apart = let bad : true ≡ false = sym on ∙ apart in cc
 
 -- no tab is cut where the text ends
 pub text-whole : (options : ParseOptions) (bytes : List ℕ) (row : Row) (rows : List Row) →

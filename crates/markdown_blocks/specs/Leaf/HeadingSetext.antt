@@ -8,7 +8,7 @@ use Rattle.md_engine.specs.declared.state.Name.TheVariants as s
 use Rattle.md_engine.specs.declared.state.flow.State.TheVariants as flow
 use Rattle.md_engine.specs.declared.state.heading_setext.State.TheVariants as its
 use Rattle.md_engine.specs.declared.tokenizer.held_leaf.HeldLeaf.TheVariants as held_leaf
-use Rattle.md_leaves.specs.HeadingSetext.{is_text, may_begin}
+use Rattle.md_leaves.specs.HeadingSetext.{is_text, may_begin, may_turn}
 use Rattle.md_leaves.specs.HeadingSetextRule.{is_underline, is_underline_line, setext_at, underline_inside}
 use Rattle.md_seam.specs.Ahead.{line_end}
 use Rattle.md_seam.specs.Events.Nested.{around}
@@ -16,10 +16,9 @@ use Rattle.md_seam.specs.Events.Places.{past_text}
 use Rattle.md_definition.specs.Ascii.{equals_sign}
 use Rattle.md_definition.specs.Leaves.{Finished}
 use Rattle.md_definition.specs.Rest.{Rest, has_small_indent, trim_start}
-use Rattle.md_definition.specs.State.{texts}
 use Rattle.md_definition.specs.Texts.{first_byte}
 use Rattle.md_definition.specs.Tree.{Block, Heading}
-use Rattle.markdown_blocks.specs.Leaf.Paragraph.{held_of}
+use Rattle.markdown_blocks.specs.Leaf.Paragraph.{left_of}
 use Rattle.markdown_blocks.specs.LineLeaf.{LineLeaf}
 use Rattle.markdown_blocks.specs.MarkRuns.{Apart, mark_runs}
 use Rattle.markdown_blocks.specs.TurnLeaf.{TurnLeaf}
@@ -52,13 +51,14 @@ setext_leaf = record {
   asked = λ on. true;
   may_begin = λ white. may_begin;
   trial = setext_at;
-  takes = λ options on cells. is_text on && is_underline_line options cells;
+  takes = λ options on cells. may_turn options on && is_underline_line options cells;
   adds = λ options on cells p. around n.HeadingSetextUnderline p (line_end cells p) (underline_inside options cells p);
   keeps = λ options on cells p. held_leaf.None;
   starts = λ options on r.
-      is_text on && options.constructs.heading_setext && has_small_indent options r && is_underline (trim_start r.bytes);
+      may_turn options on && options.constructs.heading_setext && has_small_indent options r
+      && is_underline (trim_start r.bytes);
   holds = λ options on r. held_leaf.None;
-  comes = λ options open_leaf r. Finished (heading_of (texts (held_of open_leaf)) r);
+  comes = λ options open_leaf r. Finished (heading_of (left_of options open_leaf) r);
   block = λ r. heading_of [] r;
   added = λ options on line p. underline_line line p;
   unread = underline_line;

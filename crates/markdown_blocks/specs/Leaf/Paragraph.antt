@@ -3,9 +3,11 @@ use Rattle.md_engine.specs.declared.event.Name.TheVariants as n
 use Rattle.md_engine.specs.declared.tokenizer.held_leaf.HeldLeaf.{HeldLeaf}
 use Rattle.md_engine.specs.declared.tokenizer.held_leaf.HeldLeaf.TheVariants as held_leaf
 use Rattle.md_content.specs.Paragraph.{text_link}
-use Rattle.std.specs.Prelude.{List, [], ◌∷◌}
-use Rattle.md_definition.specs.State.{Kept, Leaf, OpenParagraph, shut_paragraph}
-use Rattle.md_definition.specs.Tree.{Paragraph}
+use Rattle.std.specs.Prelude.{ℕ, List, [], ◌∷◌}
+use Rattle.md_engine.specs.declared.configuration.ParseOptions.{ParseOptions}
+use Rattle.md_definition.specs.State.{Kept, Leaf, OpenParagraph, cut, shut_paragraph, texts, then_definitions}
+use Rattle.md_definition.specs.Tree.{Blocks, Paragraph}
+use Rattle.md_parts.specs.Progress.{progress}
 use Rattle.markdown_blocks.specs.TextLeaf.{TextLeaf}
 
 abbrev pub paragraph_leaf : TextLeaf
@@ -22,10 +24,18 @@ abbrev pub held_of : Leaf → List Kept
 held_of (OpenParagraph lines) = lines
 held_of _ = []
 
--- As what an open leaf is held, and whether it may be open: an open text has a line at least. Of any other leaf it is as
--- this says.
+-- blocks, with the definitions at the front of an open text behind them; and the lines that remain of it
+abbrev pub then_front : ParseOptions → Blocks → Leaf → Blocks
+then_front options bs (OpenParagraph lines) = then_definitions bs (cut options (texts lines)).0
+then_front options bs _ = bs
+
+abbrev pub left_of : ParseOptions → Leaf → List (List ℕ)
+left_of options leaf = (cut options (texts (held_of leaf))).1
+
+-- As what an open leaf is held, and whether it may be open: an open text is held with how far the definitions at its
+-- front have come, and has a line at least. Of any other leaf it is as this says.
 abbrev pub held_or : (Leaf → HeldLeaf) → Leaf → HeldLeaf
-held_or other (OpenParagraph lines) = held_leaf.Text
+held_or other (OpenParagraph lines) = held_leaf.Text (progress (texts lines))
 held_or other leaf = other leaf
 
 abbrev pub IsTextOr : (Leaf → Type 0) → Leaf → Type 0

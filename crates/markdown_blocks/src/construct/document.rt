@@ -28,7 +28,7 @@ ghost use Rattle.md_containers.specs.PlainBullet.{IsPlainBullet};
 ghost use Rattle.markdown_blocks.specs.Registry.{opener_front, openers, shuts_out};
 ghost use Rattle.markdown_blocks.specs.States.{FlowStep};
 ghost use Rattle.md_engine.specs.declared.resolve.name.Name.{Name as ResolveName};
-ghost use Rattle.markdown_blocks.specs.HeldLeaf.{takes_lazy};
+ghost use Rattle.markdown_blocks.specs.HeldLeaf.{lazy_of, takes_lazy};
 ghost use Rattle.markdown_blocks.specs.Document.{before_frontmatter_transition, document_own_transition};
 ghost use Rattle.markdown_blocks.specs.Document.{document_table_scheme, document_transition, start_transition};
 ghost use Rattle.md_seam.specs.Transition.{IsAt, NeedsNothing};
@@ -338,11 +338,18 @@ fn begin_line(tokenizer: &mut Tokenizer)
     let all = !(tokenizer.flags.continued < tokenizer.containers.len());
     tokenizer.flags.leaf_before = tokenizer.flags.leaf;
     if !all {
-        tokenizer.flags.leaf = if takes_lazy(tokenizer.flags.leaf) {
-            HeldLeaf::LazyText
-        } else {
-            HeldLeaf::None
-        };
+        tokenizer.flags.leaf = lazy_of(tokenizer.flags.leaf);
+    }
+}
+
+/// A leaf as a lazy line meets it.
+#[inline(always)]
+fn lazy_of(leaf: HeldLeaf) -> HeldLeaf
+    ensures { result ≡ lazy_of leaf }
+{
+    match leaf {
+        HeldLeaf::Text(at) | HeldLeaf::LazyText(at) => HeldLeaf::LazyText(at),
+        _ => HeldLeaf::None,
     }
 }
 
@@ -353,7 +360,7 @@ fn takes_lazy(leaf: HeldLeaf) -> bool
     ensures { result ≡ takes_lazy leaf }
 {
     match leaf {
-        HeldLeaf::Text | HeldLeaf::LazyText => true,
+        HeldLeaf::Text(_) | HeldLeaf::LazyText(_) => true,
         _ => false,
     }
 }
@@ -456,7 +463,7 @@ fn call_state(tokenizer: &mut Tokenizer, name: StateName) -> State
 pub struct DocumentTable;
 
 impl Table for DocumentTable {
-    ghost use Rattle.markdown_blocks.specs.HeldLeaf.{takes_lazy};
+    ghost use Rattle.markdown_blocks.specs.HeldLeaf.{lazy_of, takes_lazy};
     ghost use Rattle.markdown_blocks.specs.Document.{DocumentStep};
     ghost use Rattle.markdown_blocks.specs.Resolved.{resolved_as};
 

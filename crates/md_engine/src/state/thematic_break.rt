@@ -7,4 +7,6 @@ pub enum State {
     Before,
     AtBreak,
     Sequence,
+    OneRun,
+    OneRunAfter,
 }

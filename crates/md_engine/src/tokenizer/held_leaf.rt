@@ -19,16 +19,34 @@ pub enum HtmlKind {
     Complete,
 }
 
+/// How far the definitions at the front of a text have come behind some lines (CommonMark 4.7). An underline asks whether
+/// anything is left behind them, so this is kept of an open text, and no line of it is read again.
+#[derive(Clone, Copy)]
+pub enum Progress {
+    /// The lines are whole definitions.
+    Fresh,
+    /// In a label: its bytes so far, and whether one of them is neither a space nor a tab.
+    InLabel(usize, bool),
+    /// Behind the `:`: a destination is next.
+    BeforeDestination,
+    /// The lines are whole definitions, and a title of the last may follow on the next line.
+    Untitled,
+    /// In a title: the mark that opened it, and the one that closes it.
+    InTitle(u8, u8),
+    /// Something is left behind the definitions, whatever follows.
+    Left,
+}
+
 /// The leaf block that is open: what the next line goes on, or ends. Of a leaf of several lines this holds what is kept
 /// of it from line to line.
 #[derive(Clone, Copy)]
 pub enum HeldLeaf {
     /// None: the last one has ended.
     None,
-    /// Lines of text, which are read once it ends.
-    Text,
+    /// Lines of text, which are read once it ends: how far the definitions at its front have come.
+    Text(Progress),
     /// The same, as a lazy line meets it: not all containers went on. Between two lines none is held so.
-    LazyText,
+    LazyText(Progress),
     /// Indented code.
     Code,
     /// Fenced code or math: the byte of its marker, how many of it, and the columns in front of them.

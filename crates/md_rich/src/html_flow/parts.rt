@@ -62,7 +62,7 @@ pub fn ends_in_front(leaf: HeldLeaf) -> bool
 pub fn is_open_text(leaf: HeldLeaf) -> bool
     ensures { result ≡ is_open_text leaf }
 {
-    matches!(leaf, HeldLeaf::Text)
+    matches!(leaf, HeldLeaf::Text(_))
 }
 
 /// A byte of `CDATA[`.

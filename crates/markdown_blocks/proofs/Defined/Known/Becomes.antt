@@ -83,8 +83,8 @@ tail-becomes wants reads outer name link p q row rows tail given w apart fits af
 abbrev string_row : Point → Point → List Event → Row
 string_row p q front = record {
   kind = TextRow;
-  on = held_leaf.Text;
-  behind = held_leaf.Text;
+  on = held_leaf.None;
+  behind = held_leaf.None;
   front = front;
   change = record { stays = []; closes = []; opens = [] };
   leaves = [];
