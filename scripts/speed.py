@@ -199,6 +199,14 @@ GROWING: dict[str, Callable[[int], str]] = {
     "such a heading in a quote": lambda n: "> a\n" * 100_000 * n + "> =\n",
     "100,000 underlines behind a line": lambda n: "a\n" + "=\n" * 100_000 * n,
     "100,000 lines of HTML in a quote": lambda n: "> <div>\n" + "> a\n" * 100_000 * n,
+    "100,000 definitions": lambda n: "[a]: b\n" * 100_000 * n,
+    "100,000 definitions in a quote": lambda n: "> [a]: b\n" * 100_000 * n,
+    "a paragraph of 100,000 lines that begin with `[`": lambda n: "[a\n[\n" * 50_000 * n,
+    "100,000 lines in a label that is not closed": lambda n: "[\n" + "a\n" * 100_000 * n,
+    "`[a]: b` with 100,000 underlines behind it": lambda n: "[a]: b\n" + "=\n" * 100_000 * n,
+    "`[a]: b` with 100,000 lines behind it": lambda n: "[a]: b\n" + "c\n" * 100_000 * n,
+    "100,000 parentheses in a destination": lambda n: "[a]: " + "(" * 50_000 * n + ")" * 50_000 * n + "\n",
+    "a title of 100,000 lines that is not closed": lambda n: '[a]: b\n"' + "c\n" * 100_000 * n,
 }
 
 # What is timed: a part, and how many times it stands.

@@ -197,6 +197,7 @@ impl Table for ContentTable {
 
     fn stays(name: StateName) -> Option<Stay> {
         match name {
+            StateName::Destination(state) => destination::stays(state),
             StateName::Label(state) => label::stays(state),
             StateName::Paragraph(state) => paragraph::stays(state),
             StateName::SpaceOrTab(state) => space_or_tab::stays(state),

@@ -78,6 +78,9 @@ line-spans = record { each = λ s b h. ap not (in-line class.Text b h); none = �
 pub word-spans : Spans stay.Word class.Word
 word-spans = record { each = λ s b h. h; none = λ s. refl }
 
+pub plain-spans : Spans stay.Plain class.Plain
+plain-spans = record { each = λ s b h. h; none = λ s. refl }
+
 span-some : (k : Stay) (c : Class) (w : World) (n : ℕ) → Spans k c → ((i : ℕ) → i < n → IsSeen c (took_all i w)) →
     SeesSome k w (took_all n w)
 unfolding took_all
@@ -95,9 +98,12 @@ span-some k c w (suc n) is h =
 pub span-sees : (k : Stay) (c : Class) (w v : World) → Spans k c → SeesSpan c w v → SeesSome k w v
 span-sees k c w v is h = subst (SeesSome k w) (sym h.new) (span-some k c w h.count is h.each)
 
--- where no byte of the class stands, nothing stands there that is taken
-pub word-ends : (w : World) → ¬ IsSeen class.Word w → ¬ Sees stay.Word w
-word-ends w none is = go (is_ending r) (nat_eq r 9) (nat_lt 0 w.point.vs) refl refl refl
+-- where no byte of a class without spaces stands, nothing stands there that is taken
+pub span-ends : (k : Stay) (c : Class) (w : World) →
+    ((s : Scratch) (b : ℕ) → takes k s b ≡ true → has c b ≡ true) →
+    has c 32 ≡ false →
+    ¬ IsSeen c w → ¬ Sees k w
+span-ends k c w of_class spaceless none is = go (is_ending r) (nat_eq r 9) (nat_lt 0 w.point.vs) refl refl refl
   where
     r : ℕ
     r = slice_index w.setting.bytes w.point.index
@@ -111,18 +117,21 @@ word-ends w none is = go (is_ending r) (nat_eq r 9) (nat_lt 0 w.point.vs) refl r
     seen : Some (seen_at w.setting.bytes w.point) ≡ Some is.0
     seen = rw inside at is.1
 
-    taken : has class.Word is.0 ≡ true
-    taken = is.2
+    taken : has c is.0 ≡ true
+    taken = of_class w.scratch is.0 is.2
+
+    seen_as : (b : ℕ) → Some b ≡ Some is.0 → has c b ≡ true
+    seen_as b e = let same : is.0 ≡ b = cc in subst (λ (x : ℕ). has c x ≡ true) same taken
 
     go : (x y z : Bool) → is_ending r ≡ x → nat_eq r 9 ≡ y → nat_lt 0 w.point.vs ≡ z → ⊥
-    go true y z a b c = let e : Some 10 ≡ Some is.0 = rw a at seen in let k : has class.Word 10 ≡ true = cc in cc
-    go false true true a b c =
-        let e : Some 32 ≡ Some is.0 = rw (a, b, c) at seen in let k : has class.Word 32 ≡ true = cc in cc
-    go false true false a b c =
-        let e : Some r ≡ Some is.0 = rw (a, b, c) at seen in let k : has class.Word r ≡ true = cc in
+    go true y z a b e = let s : Some 10 ≡ Some is.0 = rw a at seen in let k : has c 10 ≡ true = seen_as 10 s in cc
+    go false true true a b e =
+        let s : Some 32 ≡ Some is.0 = rw (a, b, e) at seen in let k : has c 32 ≡ true = seen_as 32 s in cc
+    go false true false a b e =
+        let s : Some r ≡ Some is.0 = rw (a, b, e) at seen in let k : has c r ≡ true = seen_as r s in
         let no : false ≡ true = rw (a, b) at k in cc
-    go false false z a b c =
-        let e : Some r ≡ Some is.0 = rw (a, b) at seen in let k : has class.Word r ≡ true = cc in none (lt, k)
+    go false false z a b e =
+        let s : Some r ≡ Some is.0 = rw (a, b) at seen in let k : has c r ≡ true = seen_as r s in none (lt, k)
 
 pub line-ends : (w : World) → ¬ IsSeen class.Text w →
     (w.point.index < w.setting.limit → ¬ (slice_index w.setting.bytes w.point.index ≡ 9)) →

@@ -67,6 +67,7 @@ pub record SeesColumns (most : ℕ) (w : World) (count : ℕ) (w' : World) : Typ
 abbrev pub takes : Stay → Scratch → ℕ → Bool
 takes stay.Line s b = not (b == 10)
 takes stay.Word s b = has class.Word b
+takes stay.Plain s b = has class.Plain b
 takes stay.White s b = is_white b && nat_lt s.whitespace.size s.whitespace.max
 takes (stay.Byte one) s b = b == one
 takes (stay.UpTo one most) s b = (b == one) && nat_lt s.size most

@@ -3,7 +3,7 @@
 // No class has a line ending or a tab: behind each of its bytes the line goes on, one column further.
 
 ghost use Rattle.std.specs.Prelude.{◌≡◌};
-ghost use Rattle.md_engine.specs.Classes.{IsSpan, has, is_white};
+ghost use Rattle.md_engine.specs.Classes.{IsSpan, has, is_mark, is_white};
 
 use memchr::memchr3;
 
@@ -14,6 +14,8 @@ pub enum Class {
     Text,
     /// All others but spaces: a word.
     Word,
+    /// Those behind the space that nothing gives a meaning: all but `"'()<>[\]|` and U+007F.
+    Plain,
 }
 
 /// Whether this is a space or a tab.
@@ -23,18 +25,26 @@ pub fn is_white(byte: u8) -> bool
     byte == b' ' || byte == b'\t'
 }
 
+/// Whether a construct may give this byte a meaning.
+fn is_mark(byte: u8) -> bool
+    ensures { result ≡ is_mark byte }
+{
+    matches!(
+        byte,
+        b'"' | b'\'' | b'(' | b')' | b'<' | b'>' | b'[' | b'\\' | b']' | b'|' | 0x7F
+    )
+}
+
 impl Class {
     /// Whether a byte is in the class.
     pub fn has(self, byte: u8) -> bool
         ensures { result ≡ has self byte }
     {
-        // Most bytes come behind all that a class may lack.
-        if byte > b' ' {
-            return true;
-        }
+        // Most bytes come behind all that a line or a word may lack.
         match self {
-            Class::Text => !matches!(byte, b'\n' | b'\r' | b'\t'),
-            Class::Word => !matches!(byte, b'\n' | b'\r' | b'\t' | b' '),
+            Class::Text => byte > b' ' || !matches!(byte, b'\n' | b'\r' | b'\t'),
+            Class::Word => byte > b' ' || !matches!(byte, b'\n' | b'\r' | b'\t' | b' '),
+            Class::Plain => byte > b' ' && !is_mark(byte),
         }
     }
 
@@ -44,7 +54,7 @@ impl Class {
     {
         match self {
             Class::Text => memchr3(b'\n', b'\r', b'\t', bytes).unwrap_or(bytes.len()),
-            Class::Word => self.count(bytes),
+            Class::Word | Class::Plain => self.count(bytes),
         }
     }
 

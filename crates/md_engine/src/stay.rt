@@ -13,6 +13,8 @@ pub enum Stay {
     Line,
     /// A word.
     Word,
+    /// Bytes that nothing gives a meaning.
+    Plain,
     /// Spaces and columns of tabs, counted as whitespace up to its limit.
     White,
     /// This byte.
@@ -33,6 +35,7 @@ impl Stay {
         match self {
             Stay::Line => byte != b'\n',
             Stay::Word => Class::Word.has(byte),
+            Stay::Plain => Class::Plain.has(byte),
             Stay::White => is_white(byte) && scratch.whitespace.size < scratch.whitespace.max,
             Stay::Byte(one) => byte == one,
             Stay::UpTo(one, most) => byte == one && scratch.size < most,
@@ -47,7 +50,7 @@ impl Stay {
         ensures { scratch.new ≡ counted self scratch.old }
     {
         match self {
-            Stay::Line | Stay::Word | Stay::Byte(_) | Stay::ToMarker => {}
+            Stay::Line | Stay::Word | Stay::Plain | Stay::Byte(_) | Stay::ToMarker => {}
             Stay::White => {
                 let whitespace = scratch.whitespace;
                 scratch.whitespace = Whitespace {

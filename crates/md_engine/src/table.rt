@@ -98,6 +98,7 @@ fn stay<T: Table>(tokenizer: &mut Tokenizer, state: State)
     match stay {
         Stay::Line => tokenizer.see_line(),
         Stay::Word => tokenizer.see_word(),
+        Stay::Plain => tokenizer.see_plain(),
         Stay::White => tokenizer.see_white(),
         _ => tokenizer.see_each(stay),
     }

@@ -626,6 +626,13 @@ impl<'a> Tokenizer<'a> {
         self.see_span(Class::Word);
     }
 
+    /// Sees and takes bytes that nothing gives a meaning.
+    pub(crate) fn see_plain(&mut self)
+        ensures { SeesAll Stay.Plain (world self.old) (world self.new) }
+    {
+        self.see_span(Class::Plain);
+    }
+
     /// Sees and takes spaces and columns of tabs, at most so many, and says how many there were.
     fn see_columns(&mut self, most: usize) -> usize
         ensures { SeesColumns most (world self.old) result (world self.new) }

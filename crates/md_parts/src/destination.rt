@@ -11,7 +11,7 @@
 // `DefinitionDestinationRaw`. The text is `DefinitionDestinationString` around `Data`, which is read later; between
 // angle brackets there may be none.
 
-ghost use Rattle.std.specs.Prelude.{◌≡◌, ◌≢◌};
+ghost use Rattle.std.specs.Prelude.{◌≡◌, ◌≢◌, IfSome};
 ghost use Rattle.md_engine.specs.World.{world};
 ghost use Rattle.md_engine.specs.declared.state.Name.{Name as StateName};
 ghost use Rattle.md_engine.specs.declared.state.State.{State};
@@ -20,12 +20,14 @@ ghost use Rattle.md_definition.specs.Definition.{is_raw_byte};
 ghost use Rattle.md_parts.specs.Destination.{DestinationNeeds, destination_transition, enclosed_before_transition};
 ghost use Rattle.md_parts.specs.Destination.{enclosed_escape_transition, enclosed_transition, raw_escape_transition};
 ghost use Rattle.md_parts.specs.Destination.{raw_transition, start_transition};
+ghost use Rattle.md_seam.specs.Stays.{TakesEach};
 ghost use Rattle.md_seam.specs.Transition.{IsAt};
 
 use md_engine::event::{Content, Link, Name};
 use md_engine::or_error;
 use md_engine::state::destination::State as DestinationState;
 use md_engine::state::{Name as StateName, State};
+use md_engine::stay::Stay;
 use md_engine::tokenizer::Tokenizer;
 
 /// The text of a destination is read later, as text with escapes and references.
@@ -213,6 +215,17 @@ pub fn raw_escape(tokenizer: &mut Tokenizer) -> State
             State::Next(StateName::Destination(DestinationState::Raw))
         }
         _ => State::Retry(StateName::Destination(DestinationState::Raw)),
+    }
+}
+
+/// What a state of a destination only takes.
+pub fn stays(state: DestinationState) -> Option<Stay>
+    ensures { IfSome result (λ stay.
+        TakesEach stay (StateName.Destination state) (destination_transition state)) }
+{
+    match state {
+        DestinationState::Enclosed | DestinationState::Raw => Some(Stay::Plain),
+        _ => None,
     }
 }
 

@@ -25,6 +25,13 @@ returns-in-Word g c =
     (world c.see_word.new.self) c.in-Next.is c.in-Some.ensures c.requires (within-world c.args.tokenizer.now) all in
     record { runs = h.runs; stands = h.ready; falls = h.falls; setting = h.setting }
 
+pub returns-in-Plain : goal.returns-in-Plain
+returns-in-Plain g c =
+    let all : SeesAll c.in-Some.stay (world c.args.tokenizer.now) (world c.see_plain.new.self) = rw c.in-Plain.is c.see_plain.ensures in
+    let h = stayed-by g.T.Table.step g.T.Table.scheme c.args.state c.in-Next.name c.in-Some.stay (world c.args.tokenizer.now)
+    (world c.see_plain.new.self) c.in-Next.is c.in-Some.ensures c.requires (within-world c.args.tokenizer.now) all in
+    record { runs = h.runs; stands = h.ready; falls = h.falls; setting = h.setting }
+
 pub returns-in-White : goal.returns-in-White
 returns-in-White g c =
     let all : SeesAll c.in-Some.stay (world c.args.tokenizer.now) (world c.see_white.new.self) = rw c.in-White.is c.see_white.ensures in

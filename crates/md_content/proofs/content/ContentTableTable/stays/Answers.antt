@@ -2,9 +2,14 @@ use Rattle.md_engine.specs.declared.state.Name.TheVariants as n
 use Rattle.md_content.proofs.StaysLemmas.{content-stays}
 use Rattle.md_content.proofs.content.ContentTableTable.stays.Goals as goal
 
+pub returns-in-Destination : goal.returns-in-Destination
+returns-in-Destination c =
+    rw c.in-Destination.is (content-stays (n.Destination c.in-Destination.state) c.stays.result c.stays.ensures)
+
 pub returns-in-Label : goal.returns-in-Label
 returns-in-Label c =
-    rw c.in-Label.is (content-stays (n.Label c.in-Label.state) c.stays.result c.stays.ensures)
+    rw c.in-Label.is
+    (content-stays (n.Label c.in-Label.state) c.stays-in-Label.result c.stays-in-Label.ensures)
 
 pub returns-in-Paragraph : goal.returns-in-Paragraph
 returns-in-Paragraph c =
