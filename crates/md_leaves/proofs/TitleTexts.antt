@@ -43,10 +43,10 @@ front-stops f (b ∷ bs) = go (f b) refl (front-stops f bs)
     go false e h = e
 
 -- what is left without those at the end
-abbrev kept : (ℕ → Bool) → List ℕ → List ℕ
+abbrev pub kept : (ℕ → Bool) → List ℕ → List ℕ
 kept f bytes = take (length bytes - suffix_len f bytes) bytes
 
-abbrev tail : (ℕ → Bool) → List ℕ → List ℕ
+abbrev pub tail : (ℕ → Bool) → List ℕ → List ℕ
 tail f bytes = reverse (take (suffix_len f bytes) (reverse bytes))
 
 kept-is : (f : ℕ → Bool) (bytes : List ℕ) → kept f bytes ≡ reverse (drop (suffix_len f bytes) (reverse bytes))
@@ -59,18 +59,18 @@ kept-is f bytes =
     ∙ ap reverse (sym (take-append-drop k (reverse bytes))) ∙ reverse-append (take k (reverse bytes)) front in
     ap (take (length bytes - k)) whole ∙ take_at (reverse front) (tail f bytes) (length bytes - k) long
 
-kept-whole : (f : ℕ → Bool) (bytes : List ℕ) → bytes ≡ kept f bytes ++ tail f bytes
+pub kept-whole : (f : ℕ → Bool) (bytes : List ℕ) → bytes ≡ kept f bytes ++ tail f bytes
 kept-whole f bytes =
     let k = suffix_len f bytes in
     sym (reverse-reverse bytes) ∙ ap reverse (sym (take-append-drop k (reverse bytes)))
     ∙ reverse-append (take k (reverse bytes)) (drop k (reverse bytes))
     ∙ ap (λ (front : List ℕ). front ++ tail f bytes) (sym (kept-is f bytes))
 
-tail-passes : (f : ℕ → Bool) (bytes : List ℕ) → AllPass f (tail f bytes)
+pub tail-passes : (f : ℕ → Bool) (bytes : List ℕ) → AllPass f (tail f bytes)
 tail-passes f bytes =
     All-reverse (λ (x : ℕ). f x ≡ true) (take (suffix_len f bytes) (reverse bytes)) (front-passes f (reverse bytes))
 
-kept-ends : (f : ℕ → Bool) (bytes : List ℕ) → begins f (reverse (kept f bytes)) ≡ false
+pub kept-ends : (f : ℕ → Bool) (bytes : List ℕ) → begins f (reverse (kept f bytes)) ≡ false
 kept-ends f bytes =
     ap (begins f) (ap reverse (kept-is f bytes) ∙ reverse-reverse (drop (suffix_len f bytes) (reverse bytes)))
     ∙ front-stops f (reverse bytes)

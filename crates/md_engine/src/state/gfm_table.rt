@@ -9,6 +9,7 @@ pub enum State {
     HeadRowBreak,
     HeadRowData,
     HeadRowEscape,
+    HeadRowCellBefore,
     HeadDelimiterStart,
     HeadDelimiterBefore,
     HeadDelimiterCellBefore,
@@ -22,4 +23,5 @@ pub enum State {
     BodyRowBreak,
     BodyRowData,
     BodyRowEscape,
+    BodyRowCellBefore,
 }

@@ -1,0 +1,9 @@
+pub mod RowLemmas
+pub mod RowGoods
+pub mod RowSteps
+pub mod DelimiterGoods
+pub mod DelimiterLemmas
+pub mod DelimiterSteps
+pub mod CellLemmas
+pub mod DelimiterColumns
+pub mod HeadLemmas

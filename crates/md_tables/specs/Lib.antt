@@ -1,0 +1,5 @@
+pub mod Row
+pub mod RowRule
+pub mod Delimiter
+pub mod DelimiterRule
+pub mod Head

@@ -1,0 +1,292 @@
+// Delimiter rows of tables (GFM 4.10).
+//
+//     delimiter_row ::= small_indent [ '|' ] delimiter *( '|' delimiter ) [ '|' ] *space_or_tab
+//     delimiter     ::= *space_or_tab [ ':' ] 1*'-' [ ':' ] *space_or_tab
+//
+// A row has a colon or a pipe, and as many cells as the head: how many that is, is in the scratch (`size_b`) when it
+// begins. It is a `GfmTable` of its own around `GfmTableDelimiterRow`, and in that `GfmTableCellDivider`, `SpaceOrTab`,
+// `GfmTableDelimiterMarker` and `GfmTableDelimiterFiller`; a resolver puts the head in front, and makes cells of these.
+
+ghost use Rattle.std.specs.Prelude.{◌≡◌, ◌≢◌, ◌<◌, IfSome, length};
+ghost use Rattle.md_engine.specs.World.{world};
+ghost use Rattle.md_engine.specs.declared.state.Name.{Name as StateName};
+ghost use Rattle.md_engine.specs.declared.state.State.{State};
+ghost use Rattle.md_engine.specs.declared.state.gfm_table.State.{State as TableState};
+ghost use Rattle.md_seam.specs.Spaces.{sees_white};
+ghost use Rattle.md_seam.specs.Stays.{TakesEach};
+ghost use Rattle.md_seam.specs.Transition.{IsAt};
+ghost use Rattle.md_tables.specs.Delimiter.{DelimiterNeeds, before_transition, cell_after_transition};
+ghost use Rattle.md_tables.specs.Delimiter.{cell_before_transition, delimiter_transition, filler_transition};
+ghost use Rattle.md_tables.specs.Delimiter.{left_after_transition, marked, refused, right_after_transition};
+ghost use Rattle.md_tables.specs.Delimiter.{start_transition, uncounted, value_before_transition, white_on};
+
+use md_engine::event::Name;
+use md_engine::or_error;
+use md_engine::state::gfm_table::State as TableState;
+use md_engine::state::{Name as StateName, State};
+use md_engine::stay::Stay;
+use md_engine::tokenizer::{Scratch, Tokenizer};
+use md_seam::space_or_tab::{is_space_or_tab, small_indent, space_or_tab_min_max};
+
+/// Without what a delimiter row keeps.
+fn uncounted(scratch: Scratch) -> Scratch
+    ensures { result ≡ uncounted scratch }
+{
+    Scratch {
+        size: 0,
+        size_b: 0,
+        seen: false,
+        ..scratch
+    }
+}
+
+/// Refuses, at rest.
+fn refuse(tokenizer: &mut Tokenizer) -> State
+    ensures to { result ≡ State.Nok }
+    ensures world { world tokenizer.new ≡ (refused (world tokenizer.old)).world }
+{
+    tokenizer.scratch = uncounted(tokenizer.scratch);
+    State::Nok
+}
+
+/// Goes on behind whitespace, if some stands here, and at most so much of it.
+fn behind_white(tokenizer: &mut Tokenizer, max: usize, next: TableState) -> State
+    ensures to { result ≢ State.Error →
+        result ≡ (white_on (world tokenizer.old) max next (sees_white tokenizer.old.current)).to }
+    ensures world { result ≢ State.Error →
+        world tokenizer.new ≡ (white_on (world tokenizer.old) max next (sees_white tokenizer.old.current)).world }
+{
+    let behind = StateName::GfmTable(next);
+    if is_space_or_tab(tokenizer.current) {
+        space_or_tab_min_max(tokenizer, 0, max, State::Next(behind), State::Nok)
+    } else {
+        State::Retry(behind)
+    }
+}
+
+/// Takes a pipe or a colon, as a part of this name, and goes on.
+fn take_mark(tokenizer: &mut Tokenizer, name: Name, next: TableState) -> State
+    requires { (world tokenizer.old).point.index < length (world tokenizer.old).setting.bytes }
+    ensures to { result ≢ State.Error → result ≡ (marked (world tokenizer.old) name next).to }
+    ensures world { result ≢ State.Error → world tokenizer.new ≡ (marked (world tokenizer.old) name next).world }
+{
+    tokenizer.scratch.seen = true;
+    or_error!(tokenizer.enter(name));
+    tokenizer.consume();
+    or_error!(tokenizer.exit(name));
+    State::Next(StateName::GfmTable(next))
+}
+
+/// Before a delimiter row.
+///
+/// ```markdown
+///   | | a |
+/// > | | - |
+///     ^
+/// ```
+pub fn start(tokenizer: &mut Tokenizer) -> State
+    requires { IsAt DelimiterNeeds (StateName.GfmTable TableState.HeadDelimiterStart) (world tokenizer.old) }
+    ensures to { result ≢ State.Error → result ≡ (start_transition (world tokenizer.old)).to }
+    ensures world { result ≢ State.Error → world tokenizer.new ≡ (start_transition (world tokenizer.old)).world }
+{
+    or_error!(tokenizer.enter(Name::GfmTable));
+    or_error!(tokenizer.enter(Name::GfmTableDelimiterRow));
+    let max = small_indent(tokenizer);
+    behind_white(tokenizer, max, TableState::HeadDelimiterBefore)
+}
+
+/// Before the first cell, or at a pipe.
+///
+/// ```markdown
+///   | | a |
+/// > | | - |
+///     ^   ^
+/// ```
+pub fn before(tokenizer: &mut Tokenizer) -> State
+    requires { IsAt DelimiterNeeds (StateName.GfmTable TableState.HeadDelimiterBefore) (world tokenizer.old) }
+    ensures to { result ≢ State.Error → result ≡ (before_transition (world tokenizer.old)).to }
+    ensures world { result ≢ State.Error → world tokenizer.new ≡ (before_transition (world tokenizer.old)).world }
+{
+    match tokenizer.current {
+        Some(b'-' | b':') => {
+            State::Retry(StateName::GfmTable(TableState::HeadDelimiterValueBefore))
+        }
+        Some(b'|') => take_mark(
+            tokenizer,
+            Name::GfmTableCellDivider,
+            TableState::HeadDelimiterCellBefore,
+        ),
+        _ => refuse(tokenizer),
+    }
+}
+
+/// Behind a pipe.
+///
+/// ```markdown
+///   | | a |
+/// > | | - |
+///      ^
+/// ```
+pub fn cell_before(tokenizer: &mut Tokenizer) -> State
+    requires { IsAt DelimiterNeeds (StateName.GfmTable TableState.HeadDelimiterCellBefore) (world tokenizer.old) }
+    ensures to { result ≢ State.Error → result ≡ (cell_before_transition (world tokenizer.old)).to }
+    ensures world { result ≢ State.Error →
+        world tokenizer.new ≡ (cell_before_transition (world tokenizer.old)).world }
+{
+    behind_white(tokenizer, usize::MAX, TableState::HeadDelimiterValueBefore)
+}
+
+/// Before a cell, or at the end of the row behind a pipe.
+///
+/// ```markdown
+///   | | a |
+/// > | | - |
+///       ^
+/// ```
+pub fn value_before(tokenizer: &mut Tokenizer) -> State
+    requires { IsAt DelimiterNeeds (StateName.GfmTable TableState.HeadDelimiterValueBefore) (world tokenizer.old) }
+    ensures to { result ≢ State.Error → result ≡ (value_before_transition (world tokenizer.old)).to }
+    ensures world { result ≢ State.Error →
+        world tokenizer.new ≡ (value_before_transition (world tokenizer.old)).world }
+{
+    match tokenizer.current {
+        None | Some(b'\n') => State::Retry(StateName::GfmTable(TableState::HeadDelimiterCellAfter)),
+        Some(b':') => take_mark(
+            tokenizer,
+            Name::GfmTableDelimiterMarker,
+            TableState::HeadDelimiterLeftAlignmentAfter,
+        ),
+        Some(b'-') => State::Retry(StateName::GfmTable(
+            TableState::HeadDelimiterLeftAlignmentAfter,
+        )),
+        _ => refuse(tokenizer),
+    }
+}
+
+/// Before the dashes of a cell, which counts with the first of them.
+///
+/// ```markdown
+///   | | a  |
+/// > | | :- |
+///        ^
+/// ```
+pub fn left_alignment_after(tokenizer: &mut Tokenizer) -> State
+    requires { IsAt DelimiterNeeds (StateName.GfmTable TableState.HeadDelimiterLeftAlignmentAfter) (world tokenizer.old) }
+    ensures to { result ≢ State.Error → result ≡ (left_after_transition (world tokenizer.old)).to }
+    ensures world { result ≢ State.Error → world tokenizer.new ≡ (left_after_transition (world tokenizer.old)).world }
+{
+    if tokenizer.current == Some(b'-') {
+        or_error!(tokenizer.enter(Name::GfmTableDelimiterFiller));
+        tokenizer.consume();
+        tokenizer.scratch.size += 1;
+        State::Next(StateName::GfmTable(TableState::HeadDelimiterFiller))
+    } else {
+        refuse(tokenizer)
+    }
+}
+
+/// In the dashes of a cell.
+///
+/// ```markdown
+///   | | a |
+/// > | | - |
+///       ^
+/// ```
+pub fn filler(tokenizer: &mut Tokenizer) -> State
+    requires { IsAt DelimiterNeeds (StateName.GfmTable TableState.HeadDelimiterFiller) (world tokenizer.old) }
+    ensures to { result ≢ State.Error → result ≡ (filler_transition (world tokenizer.old)).to }
+    ensures world { result ≢ State.Error → world tokenizer.new ≡ (filler_transition (world tokenizer.old)).world }
+{
+    match tokenizer.current {
+        Some(b'-') => {
+            tokenizer.consume();
+            State::Next(StateName::GfmTable(TableState::HeadDelimiterFiller))
+        }
+        Some(b':') => {
+            or_error!(tokenizer.exit(Name::GfmTableDelimiterFiller));
+            take_mark(
+                tokenizer,
+                Name::GfmTableDelimiterMarker,
+                TableState::HeadDelimiterRightAlignmentAfter,
+            )
+        }
+        _ => {
+            or_error!(tokenizer.exit(Name::GfmTableDelimiterFiller));
+            State::Retry(StateName::GfmTable(TableState::HeadDelimiterRightAlignmentAfter))
+        }
+    }
+}
+
+/// Behind a cell.
+///
+/// ```markdown
+///   | |  a |
+/// > | | -: |
+///         ^
+/// ```
+pub fn right_alignment_after(tokenizer: &mut Tokenizer) -> State
+    requires { IsAt DelimiterNeeds (StateName.GfmTable TableState.HeadDelimiterRightAlignmentAfter) (world tokenizer.old) }
+    ensures to { result ≢ State.Error → result ≡ (right_after_transition (world tokenizer.old)).to }
+    ensures world { result ≢ State.Error → world tokenizer.new ≡ (right_after_transition (world tokenizer.old)).world }
+{
+    behind_white(tokenizer, usize::MAX, TableState::HeadDelimiterCellAfter)
+}
+
+/// Behind a cell and the whitespace that follows it.
+///
+/// ```markdown
+///   | |  a |
+/// > | | -: |
+///          ^
+/// ```
+pub fn cell_after(tokenizer: &mut Tokenizer) -> State
+    requires { IsAt DelimiterNeeds (StateName.GfmTable TableState.HeadDelimiterCellAfter) (world tokenizer.old) }
+    ensures to { result ≢ State.Error → result ≡ (cell_after_transition (world tokenizer.old)).to }
+    ensures world { result ≢ State.Error → world tokenizer.new ≡ (cell_after_transition (world tokenizer.old)).world }
+{
+    let scratch = tokenizer.scratch;
+    match tokenizer.current {
+        None | Some(b'\n') if scratch.seen && scratch.size == scratch.size_b => {
+            or_error!(tokenizer.exit(Name::GfmTableDelimiterRow));
+            or_error!(tokenizer.exit(Name::GfmTable));
+            tokenizer.scratch = uncounted(scratch);
+            State::Ok
+        }
+        Some(b'|') => take_mark(
+            tokenizer,
+            Name::GfmTableCellDivider,
+            TableState::HeadDelimiterCellBefore,
+        ),
+        _ => refuse(tokenizer),
+    }
+}
+
+/// What a state of a delimiter row only takes.
+pub fn stays(state: TableState) -> Option<Stay>
+    ensures { IfSome result (λ stay. TakesEach stay (StateName.GfmTable state) (delimiter_transition state)) }
+{
+    match state {
+        TableState::HeadDelimiterFiller => Some(Stay::Byte(b'-')),
+        _ => None,
+    }
+}
+
+/// Calls a state of a delimiter row.
+pub fn call(tokenizer: &mut Tokenizer, state: TableState) -> State
+    requires { IsAt DelimiterNeeds (StateName.GfmTable state) (world tokenizer.old) }
+    ensures to { result ≢ State.Error → result ≡ (delimiter_transition state (world tokenizer.old)).to }
+    ensures world { result ≢ State.Error →
+        world tokenizer.new ≡ (delimiter_transition state (world tokenizer.old)).world }
+{
+    match state {
+        TableState::HeadDelimiterStart => start(tokenizer),
+        TableState::HeadDelimiterBefore => before(tokenizer),
+        TableState::HeadDelimiterCellBefore => cell_before(tokenizer),
+        TableState::HeadDelimiterValueBefore => value_before(tokenizer),
+        TableState::HeadDelimiterLeftAlignmentAfter => left_alignment_after(tokenizer),
+        TableState::HeadDelimiterFiller => filler(tokenizer),
+        TableState::HeadDelimiterRightAlignmentAfter => right_alignment_after(tokenizer),
+        TableState::HeadDelimiterCellAfter => cell_after(tokenizer),
+        _ => refuse(tokenizer),
+    }
+}

@@ -1,0 +1,53 @@
+// How many cells a line has as the head of a table (GFM 4.10). The delimiter row behind it has as many.
+
+ghost use Rattle.std.specs.Prelude.{◌≡◌, false, length};
+ghost use Rattle.md_definition.specs.Table.{row_cells};
+ghost use Rattle.md_tables.specs.Head.{divided, head_columns, pieces_len};
+
+use plain_grammars::ahead::after_optional;
+use plain_grammars::bytes::trim;
+use plain_grammars::table::is_head;
+
+/// 1 where a pipe divides here, which no backslash takes and behind which something stands, and else 0.
+fn divided(byte: u8, escaped: bool, is_last: bool) -> usize
+    ensures { result ≡ divided byte escaped is_last }
+{
+    if !escaped && byte == b'|' && !is_last {
+        1
+    } else {
+        0
+    }
+}
+
+/// How many pieces stand between the pipes of a row.
+fn pieces_len(row: &[u8]) -> usize
+    ensures { result ≡ pieces_len false row.now }
+{
+    let mut rest = row;
+    let mut count = 0;
+    let mut escaped = false;
+    while let [first, others @ ..] = rest {
+        count += divided(*first, escaped, others.is_empty());
+        escaped = !escaped && *first == b'\\';
+        rest = others;
+    }
+    count + 1
+}
+
+/// How many cells a row has.
+fn cells_len(line: &[u8]) -> usize
+    ensures { result ≡ length (row_cells line.now) }
+{
+    pieces_len(after_optional(b'|', trim(line)))
+}
+
+/// How many cells a line has as a head, if it may be one.
+pub fn head_columns(line: &[u8]) -> Option<usize>
+    ensures { result ≡ head_columns line.now }
+{
+    if is_head(line) {
+        Some(cells_len(line))
+    } else {
+        None
+    }
+}

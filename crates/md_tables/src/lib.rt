@@ -1,0 +1,6 @@
+// Tables: their rows, read a line at a time.
+#![tactic(auto)]
+
+pub mod delimiter;
+pub mod head;
+pub mod row;

@@ -1,0 +1,253 @@
+// Rows of a table (GFM 4.10): the head, which is a line of text that is read again, and those of the body.
+//
+//     row  ::= *space_or_tab [ '|' ] cell *( '|' cell ) [ '|' ] *space_or_tab
+//     cell ::= *space_or_tab *text *space_or_tab
+//     text ::= pair | any but '|'
+//     pair ::= '\' ( '\' | '|' )
+//
+// Any line is a row, of any indent. It adds `GfmTableRow` around `GfmTableCellDivider`, `SpaceOrTab`, and one linked
+// `Data` for each word; a resolver makes cells of them. A row of the body is a `GfmTable` of its own, linked to the line
+// before, as each further line of a leaf of several lines is.
+
+ghost use Rattle.std.specs.Prelude.{◌≡◌, ◌≢◌, IfSome};
+ghost use Rattle.md_engine.specs.World.{world};
+ghost use Rattle.md_engine.specs.declared.state.Name.{Name as StateName};
+ghost use Rattle.md_engine.specs.declared.state.State.{State};
+ghost use Rattle.md_seam.specs.Spaces.{sees_white};
+ghost use Rattle.md_seam.specs.Stays.{TakesEach};
+ghost use Rattle.md_seam.specs.Transition.{IsAt, NeedsNothing};
+ghost use Rattle.md_tables.specs.Row.{at_break_transition, behind_part, cell_before_transition, data_transition};
+ghost use Rattle.md_tables.specs.Row.{escape_transition, row_transition, start_transition, state_at};
+
+use md_engine::event::{Content, Link, Name};
+use md_engine::or_error;
+use md_engine::state::gfm_table::State as TableState;
+use md_engine::state::{Name as StateName, State};
+use md_engine::stay::Stay;
+use md_engine::tokenizer::Tokenizer;
+use md_leaves::further::FURTHER;
+use md_seam::space_or_tab::{is_space_or_tab, space_or_tab};
+
+/// What is text of a cell is read later.
+const TEXT_LINK: Link = Link {
+    previous: false,
+    next: false,
+    content: Content::Text,
+};
+
+/// Which row is read.
+#[derive(Clone, Copy)]
+pub enum Row {
+    Head,
+    Body,
+}
+
+/// Where in a row a state stands.
+#[derive(Clone, Copy)]
+pub enum Place {
+    /// In front of it.
+    Start,
+    /// Between its parts, where no whitespace stands.
+    Break,
+    /// In a word.
+    Data,
+    /// In a word, behind `\`.
+    Escape,
+    /// Behind a pipe.
+    CellBefore,
+}
+
+/// The state at a place of a row.
+pub fn state_at(row: Row, place: Place) -> TableState
+    ensures { result ≡ state_at row place }
+{
+    match row {
+        Row::Head => match place {
+            Place::Start => TableState::HeadRowBefore,
+            Place::Break => TableState::HeadRowBreak,
+            Place::Data => TableState::HeadRowData,
+            Place::Escape => TableState::HeadRowEscape,
+            Place::CellBefore => TableState::HeadRowCellBefore,
+        },
+        Row::Body => match place {
+            Place::Start => TableState::BodyRowStart,
+            Place::Break => TableState::BodyRowBreak,
+            Place::Data => TableState::BodyRowData,
+            Place::Escape => TableState::BodyRowEscape,
+            Place::CellBefore => TableState::BodyRowCellBefore,
+        },
+    }
+}
+
+/// The name of that state.
+fn name_at(row: Row, place: Place) -> StateName
+    ensures { result ≡ StateName.GfmTable (state_at row place) }
+{
+    StateName::GfmTable(state_at(row, place))
+}
+
+/// Goes on behind a part of the row: behind whitespace, if some stands here.
+fn behind_part(tokenizer: &mut Tokenizer, row: Row) -> State
+    ensures to { result ≢ State.Error →
+        result ≡ (behind_part row (world tokenizer.old) (sees_white tokenizer.old.current)).to }
+    ensures world { result ≢ State.Error →
+        world tokenizer.new ≡ (behind_part row (world tokenizer.old) (sees_white tokenizer.old.current)).world }
+{
+    let next = name_at(row, Place::Break);
+    if is_space_or_tab(tokenizer.current) {
+        space_or_tab(tokenizer, State::Next(next), State::Nok)
+    } else {
+        State::Retry(next)
+    }
+}
+
+/// Before a row.
+///
+/// ```markdown
+///   | | a |
+///   | | - |
+/// > | | b |
+///     ^
+/// ```
+pub fn start(tokenizer: &mut Tokenizer, row: Row) -> State
+    requires { IsAt NeedsNothing (StateName.GfmTable (state_at row Place.Start)) (world tokenizer.old) }
+    ensures to { result ≢ State.Error → result ≡ (start_transition row (world tokenizer.old)).to }
+    ensures world { result ≢ State.Error → world tokenizer.new ≡ (start_transition row (world tokenizer.old)).world }
+{
+    if matches!(row, Row::Body) {
+        or_error!(tokenizer.enter_link(Name::GfmTable, FURTHER));
+    }
+    or_error!(tokenizer.enter(Name::GfmTableRow));
+    behind_part(tokenizer, row)
+}
+
+/// Between two parts of a row, or at its end.
+///
+/// ```markdown
+///   | | a |
+///   | | - |
+/// > | | b |
+///     ^ ^ ^
+/// ```
+pub fn at_break(tokenizer: &mut Tokenizer, row: Row) -> State
+    requires { IsAt NeedsNothing (StateName.GfmTable (state_at row Place.Break)) (world tokenizer.old) }
+    ensures to { result ≢ State.Error → result ≡ (at_break_transition row (world tokenizer.old)).to }
+    ensures world { result ≢ State.Error → world tokenizer.new ≡ (at_break_transition row (world tokenizer.old)).world }
+{
+    match tokenizer.current {
+        None | Some(b'\n') => {
+            or_error!(tokenizer.exit(Name::GfmTableRow));
+            if matches!(row, Row::Body) {
+                or_error!(tokenizer.exit(Name::GfmTable));
+            }
+            State::Ok
+        }
+        Some(b' ' | b'\t') => State::Nok,
+        Some(b'|') => {
+            or_error!(tokenizer.enter(Name::GfmTableCellDivider));
+            tokenizer.consume();
+            or_error!(tokenizer.exit(Name::GfmTableCellDivider));
+            State::Next(name_at(row, Place::CellBefore))
+        }
+        Some(_) => {
+            or_error!(tokenizer.enter_link(Name::Data, TEXT_LINK));
+            State::Retry(name_at(row, Place::Data))
+        }
+    }
+}
+
+/// In a word of a cell.
+///
+/// ```markdown
+///   | | a  |
+///   | | -- |
+/// > | | bc |
+///       ^^
+/// ```
+pub fn data(tokenizer: &mut Tokenizer, row: Row) -> State
+    requires { IsAt NeedsNothing (StateName.GfmTable (state_at row Place.Data)) (world tokenizer.old) }
+    ensures to { result ≢ State.Error → result ≡ (data_transition row (world tokenizer.old)).to }
+    ensures world { result ≢ State.Error → world tokenizer.new ≡ (data_transition row (world tokenizer.old)).world }
+{
+    match tokenizer.current {
+        None | Some(b'\n' | b' ' | b'\t' | b'|') => {
+            or_error!(tokenizer.exit(Name::Data));
+            behind_part(tokenizer, row)
+        }
+        Some(byte) => {
+            let place = if byte == b'\\' {
+                Place::Escape
+            } else {
+                Place::Data
+            };
+            tokenizer.consume();
+            State::Next(name_at(row, place))
+        }
+    }
+}
+
+/// Behind `\` in a word of a cell.
+///
+/// ```markdown
+///   | | a    |
+///   | | ---- |
+/// > | | b\|c |
+///         ^
+/// ```
+pub fn escape(tokenizer: &mut Tokenizer, row: Row) -> State
+    requires { IsAt NeedsNothing (StateName.GfmTable (state_at row Place.Escape)) (world tokenizer.old) }
+    ensures to { result ≡ (escape_transition row (world tokenizer.old)).to }
+    ensures world { world tokenizer.new ≡ (escape_transition row (world tokenizer.old)).world }
+{
+    let next = name_at(row, Place::Data);
+    match tokenizer.current {
+        Some(b'\\' | b'|') => {
+            tokenizer.consume();
+            State::Next(next)
+        }
+        _ => State::Retry(next),
+    }
+}
+
+/// Behind a pipe.
+///
+/// ```markdown
+///   | | a |
+///   | | - |
+/// > | | b |
+///      ^   ^
+/// ```
+pub fn cell_before(tokenizer: &mut Tokenizer, row: Row) -> State
+    requires { IsAt NeedsNothing (StateName.GfmTable (state_at row Place.CellBefore)) (world tokenizer.old) }
+    ensures to { result ≢ State.Error → result ≡ (cell_before_transition row (world tokenizer.old)).to }
+    ensures world { result ≢ State.Error →
+        world tokenizer.new ≡ (cell_before_transition row (world tokenizer.old)).world }
+{
+    behind_part(tokenizer, row)
+}
+
+/// What a state of a row only takes.
+pub fn stays(row: Row, place: Place) -> Option<Stay>
+    ensures { IfSome result
+        (λ stay. TakesEach stay (StateName.GfmTable (state_at row place)) (row_transition row place)) }
+{
+    match place {
+        Place::Data => Some(Stay::Plain),
+        _ => None,
+    }
+}
+
+/// Calls a state of a row.
+pub fn call(tokenizer: &mut Tokenizer, row: Row, place: Place) -> State
+    requires { IsAt NeedsNothing (StateName.GfmTable (state_at row place)) (world tokenizer.old) }
+    ensures to { result ≢ State.Error → result ≡ (row_transition row place (world tokenizer.old)).to }
+    ensures world { result ≢ State.Error → world tokenizer.new ≡ (row_transition row place (world tokenizer.old)).world }
+{
+    match place {
+        Place::Start => start(tokenizer, row),
+        Place::Break => at_break(tokenizer, row),
+        Place::Data => data(tokenizer, row),
+        Place::Escape => escape(tokenizer, row),
+        Place::CellBefore => cell_before(tokenizer, row),
+    }
+}
