@@ -7,3 +7,5 @@ pub mod DelimiterSteps
 pub mod CellLemmas
 pub mod DelimiterColumns
 pub mod HeadLemmas
+pub mod CellsWalk
+pub mod CellsLemmas

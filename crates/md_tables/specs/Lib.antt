@@ -3,3 +3,4 @@ pub mod RowRule
 pub mod Delimiter
 pub mod DelimiterRule
 pub mod Head
+pub mod Cells

@@ -1,6 +1,7 @@
 // Tables: their rows, read a line at a time.
 #![tactic(auto)]
 
+pub mod cells;
 pub mod delimiter;
 pub mod head;
 pub mod row;

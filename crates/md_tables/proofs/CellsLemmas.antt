@@ -1,0 +1,277 @@
+-- What cells in rows keep: points, and all that stands outside of rows. Each row is told by its own events.
+use Rattle.std.proofs.Common.{◌≡◌, ℕ, Bool, true, false, cond, ◌&&◌, List, [], ◌∷◌, ◌++◌, drop, Option, Some, None, refl, sym, ◌∙◌}
+use Rattle.std.proofs.Common.{ap, append_assoc, append-nil}
+use Rattle.std.specs.List.{All}
+use Rattle.std.proofs.lemmas.Bool.{and_parts}
+use Rattle.std.proofs.lemmas.List.Elements.{All-append, All-cons, All-head, All-nil, All-tail}
+use Rattle.md_engine.specs.declared.event.Event.{Event}
+use Rattle.md_engine.specs.declared.event.Kind.{Kind}
+use Rattle.md_engine.specs.declared.event.Kind.TheVariants.{Enter, Exit}
+use Rattle.md_engine.specs.declared.event.Name.{Name}
+use Rattle.md_engine.specs.declared.event.Name.TheVariants as n
+use Rattle.md_engine.specs.declared.event.Point.{Point}
+use Rattle.md_leaves.proofs.SpannedLemmas.{AtPoint, one-point}
+use Rattle.md_seam.specs.Events.Nested.{enter, exit, is_enter, is_exit}
+use Rattle.md_seam.specs.Parts.{ArePlaced}
+use Rattle.md_engine.specs.Place.{IsPlaced}
+use Rattle.md_tables.specs.Cells.{Step, begins_divider, begins_inner, begins_row, cell_name, celled, divider_step}
+use Rattle.md_tables.specs.Cells.{ends_divider, ends_inner, ends_row, ends_with, first_is, front_step, goes_on, has_white}
+use Rattle.md_tables.specs.Cells.{inner_name, inner_step, inside_step, is_divider, is_last, is_row, is_white}
+use Rattle.md_tables.specs.Cells.{last_step, outside_step, passed, piece_step, row_ends, row_kind, step, within_step}
+use Rattle.md_tables.specs.declared.cells.RowKind.{RowKind}
+use Rattle.md_tables.specs.declared.cells.RowKind.TheVariants.{Delimiter, Text}
+use Rattle.md_tables.specs.declared.cells.Stage.{Stage}
+use Rattle.md_tables.specs.declared.cells.Stage.TheVariants.{Behind, Front, Gap, Inner, Last, Outside, Within}
+
+-- Points.
+
+-- What is given for an event stands where it does.
+abbrev StandThere : (Point → Type 0) → List Event → Type 0
+StandThere P es = All (AtPoint P) es
+
+two-points : (P : Point → Type 0) (e f : Event) → P e.point → P f.point → StandThere P (e ∷ f ∷ [])
+two-points P e f h k = All-cons (AtPoint P) e (f ∷ []) h (one-point P f k)
+
+three-points : (P : Point → Type 0) (e f g : Event) → P e.point → P f.point → P g.point → StandThere P (e ∷ f ∷ g ∷ [])
+three-points P e f g h k m = All-cons (AtPoint P) e (f ∷ g ∷ []) h (two-points P f g k m)
+
+ends-points : (P : Point → Type 0) (stage : Stage) (e : Event) → P e.point → StandThere P (ends_with stage e)
+ends-points P Outside e h = one-point P e h
+ends-points P (Front k) e h = one-point P e h
+ends-points P (Within k) e h = two-points P (exit (cell_name k) e.point) e h h
+ends-points P (Inner k) e h = one-point P e h
+ends-points P Gap e h = one-point P e h
+ends-points P (Last k) e h = one-point P e h
+ends-points P Behind e h = one-point P e h
+
+front-points : (P : Point → Type 0) (k : RowKind) (e : Event) → P e.point → StandThere P (front_step k e).given
+front-points P k e h = go (begins_divider e) (begins_inner k e)
+  where
+    go : (x y : Bool) →
+        StandThere P
+        (cond x (record { given = enter (cell_name k) e.point ∷ e ∷ []; stage = Within k })
+        (cond y
+        (record { given = enter (cell_name k) e.point ∷ enter (inner_name k) e.point ∷ e ∷ []; stage = Inner k })
+        (passed e (Front k)))).given
+    go true y = two-points P (enter (cell_name k) e.point) e h h
+    go false true = three-points P (enter (cell_name k) e.point) (enter (inner_name k) e.point) e h h h
+    go false false = one-point P e h
+
+divider-points : (P : Point → Type 0) (k : RowKind) (e : Event) (x : Bool) → P e.point →
+    StandThere P (divider_step k e x).given
+divider-points P k e true h = one-point P e h
+divider-points P k e false h =
+    three-points P (exit (cell_name k) e.point) (enter (cell_name k) e.point) e h h h
+
+within-points : (P : Point → Type 0) (k : RowKind) (e : Event) (es : List Event) → P e.point →
+    StandThere P (within_step k e es).given
+within-points P k e es h = go (begins_divider e) (begins_inner k e)
+  where
+    go : (x y : Bool) →
+        StandThere P
+        (cond x (divider_step k e (is_last es))
+        (cond y (record { given = enter (inner_name k) e.point ∷ e ∷ []; stage = Inner k }) (passed e (Within k)))).given
+    go true y = divider-points P k e (is_last es) h
+    go false true = two-points P (enter (inner_name k) e.point) e h h
+    go false false = one-point P e h
+
+piece-points : (P : Point → Type 0) (k : RowKind) (e : Event) (x : Bool) → P e.point →
+    StandThere P (piece_step k e x).given
+piece-points P Text e true h = All-nil (AtPoint P)
+piece-points P Delimiter e true h = one-point P e h
+piece-points P Text e false h = two-points P e (exit (inner_name Text) e.point) h h
+piece-points P Delimiter e false h = two-points P e (exit (inner_name Delimiter) e.point) h h
+
+inner-points : (P : Point → Type 0) (k : RowKind) (e : Event) (es : List Event) → P e.point →
+    StandThere P (inner_step k e es).given
+inner-points P k e es h = go (ends_inner k e)
+  where
+    go : (x : Bool) → StandThere P (cond x (piece_step k e (goes_on k es)) (passed e (Inner k))).given
+    go true = piece-points P k e (goes_on k es) h
+    go false = one-point P e h
+
+last-points : (P : Point → Type 0) (k : RowKind) (e : Event) → P e.point → StandThere P (last_step k e).given
+last-points P k e h = go (ends_divider e)
+  where
+    go : (x : Bool) →
+        StandThere P
+        (cond x (record { given = e ∷ exit (cell_name k) e.point ∷ []; stage = Behind }) (passed e (Last k))).given
+    go true = two-points P e (exit (cell_name k) e.point) h h
+    go false = one-point P e h
+
+outside-points : (P : Point → Type 0) (e : Event) (o : Option RowKind) → P e.point →
+    StandThere P (outside_step e o).given
+outside-points P e None h = one-point P e h
+outside-points P e (Some k) h = one-point P e h
+
+inside-points : (P : Point → Type 0) (stage : Stage) (e : Event) (es : List Event) → P e.point →
+    StandThere P (inside_step stage e es).given
+inside-points P Outside e es h = outside-points P e (begins_row e) h
+inside-points P (Front k) e es h = front-points P k e h
+inside-points P (Within k) e es h = within-points P k e es h
+inside-points P (Inner k) e es h = inner-points P k e es h
+inside-points P Gap e es h = All-nil (AtPoint P)
+inside-points P (Last k) e es h = last-points P k e h
+inside-points P Behind e es h = one-point P e h
+
+step-points : (P : Point → Type 0) (stage : Stage) (e : Event) (es : List Event) → P e.point →
+    StandThere P (step stage e es).given
+step-points P stage e es h = go (ends_row e)
+  where
+    go : (x : Bool) →
+        StandThere P (cond x (record { given = ends_with stage e; stage = Outside }) (inside_step stage e es)).given
+    go true = ends-points P stage e h
+    go false = inside-points P stage e es h
+
+celled-points : (P : Point → Type 0) (stage : Stage) (es : List Event) → StandThere P es → StandThere P (celled stage es)
+unfolding celled
+celled-points P stage [] h = All-nil (AtPoint P)
+celled-points P stage (e ∷ es) h =
+    All-append (AtPoint P) (step stage e es).given (celled (step stage e es).stage es)
+    (step-points P stage e es (All-head (AtPoint P) e es h))
+    (celled-points P (step stage e es).stage es (All-tail (AtPoint P) e es h))
+
+-- placed events stay placed
+pub celled-placed : (text : List ℕ) (events : List Event) → ArePlaced text events → ArePlaced text (celled Outside events)
+celled-placed text events h = celled-points (IsPlaced text) Outside events h
+
+-- Outside of rows.
+
+-- events of no row
+abbrev pub AreOutside : List Event → Type 0
+AreOutside [] = Unit {0}
+AreOutside (e ∷ es) = (is_row e.name ≡ false) × AreOutside es
+
+outside-kind : (name : Name) → is_row name ≡ false → row_kind name ≡ None
+outside-kind name h = go (row_kind name) h
+  where
+    go : (o : Option RowKind) → (elim o [ None ↦ false | Some k ↦ true ]) ≡ false → o ≡ None
+    go None h = refl
+    go (Some k) h = cc
+
+outside-step : (e : Event) (es : List Event) → is_row e.name ≡ false → step Outside e es ≡ passed e Outside
+outside-step e es h = by e.kind
+  where
+    none : row_kind e.name ≡ None
+    none = outside-kind e.name h
+
+    by : (k : Kind) →
+        cond (is_exit k && is_row e.name) (record { given = ends_with Outside e; stage = Outside })
+        (outside_step e (cond (is_enter k) (row_kind e.name) None)) ≡
+        passed e Outside
+    by Enter = rw none refl
+    by Exit = rw h refl
+
+-- they stay as they are, in front of any others
+pub celled-outside : (xs es : List Event) → AreOutside xs → celled Outside (xs ++ es) ≡ xs ++ celled Outside es
+unfolding celled
+celled-outside [] es h = refl
+celled-outside (e ∷ xs) es h =
+    rw (outside-step e (xs ++ es) h.0) (ap (λ (l : List Event). e ∷ l) (celled-outside xs es h.1))
+
+-- Row by row.
+
+-- the end of a row is no whitespace, no pipe, and nothing that a cell holds
+row-dark : (name : Name) → is_row name ≡ true → is_white name ≡ false
+row-dark n.SpaceOrTab h = let no : false ≡ true = h in cc
+row-dark _ h = refl
+
+row-whole : (name : Name) → is_row name ≡ true → is_divider name ≡ false
+row-whole n.GfmTableCellDivider h = let no : false ≡ true = h in cc
+row-whole _ h = refl
+
+row-end : (e : Event) → ends_row e ≡ true → is_row e.name ≡ true
+row-end e h = (and_parts (is_exit e.kind) (is_row e.name) h).1
+
+-- looks ahead do not go beyond it
+record Looks (xs ys : List Event) : Type 0 where
+  pub last : is_last xs ≡ is_last ys
+  pub on : (k : RowKind) → goes_on k xs ≡ goes_on k ys
+
+white-looks : (es rest : List Event) (e : Event) → ends_row e ≡ true →
+    has_white (es ++ e ∷ rest) ≡ has_white (es ++ e ∷ [])
+white-looks [] [] e h = refl
+white-looks [] (f ∷ rest) e h = rw (row-dark e.name (row-end e h)) refl
+white-looks (a ∷ []) rest e h = refl
+white-looks (a ∷ b ∷ es) rest e h = refl
+
+first-looks : (test : Event → Bool) (es rest : List Event) (e : Event) →
+    first_is test (es ++ e ∷ rest) ≡ first_is test (es ++ e ∷ [])
+first-looks test [] rest e = refl
+first-looks test (a ∷ es) rest e = refl
+
+-- what stands behind whitespace there
+behind-looks : (test : Event → Bool) (es rest : List Event) (e : Event) → ends_row e ≡ true →
+    has_white (es ++ e ∷ []) ≡ true →
+    first_is test (drop 2 (es ++ e ∷ rest)) ≡ first_is test (drop 2 (es ++ e ∷ []))
+behind-looks test [] rest e h white = cc
+behind-looks test (a ∷ []) rest e h white =
+    let dark = row-dark e.name (row-end e h) in
+    let light = (and_parts (is_white a.name) (is_white e.name) white).1 in
+    let no : false ≡ true = sym dark ∙ light in cc
+behind-looks test (a ∷ b ∷ es) rest e h white = first-looks test es rest e
+
+row-looks : (es rest : List Event) (e : Event) → ends_row e ≡ true →
+    row_ends (es ++ e ∷ rest) ≡ row_ends (es ++ e ∷ [])
+row-looks es rest e h = rw (white-looks es rest e h) (go (has_white (es ++ e ∷ [])) refl)
+  where
+    go : (x : Bool) → has_white (es ++ e ∷ []) ≡ x →
+        first_is ends_row (cond x (drop 2 (es ++ e ∷ rest)) (es ++ e ∷ rest)) ≡
+        first_is ends_row (cond x (drop 2 (es ++ e ∷ [])) (es ++ e ∷ []))
+    go true white = behind-looks ends_row es rest e h white
+    go false white = first-looks ends_row es rest e
+
+last-looks : (es rest : List Event) (e : Event) → ends_row e ≡ true →
+    is_last (es ++ e ∷ rest) ≡ is_last (es ++ e ∷ [])
+last-looks [] rest e h =
+    let no_pipe : ends_divider e ≡ false = rw (row-whole e.name (row-end e h)) (no-and (is_exit e.kind)) in
+    rw no_pipe refl
+  where
+    no-and : (x : Bool) → x && false ≡ false
+    no-and true = refl
+    no-and false = refl
+last-looks (a ∷ es) rest e h = ap (λ (x : Bool). ends_divider a && x) (row-looks es rest e h)
+
+on-looks : (k : RowKind) (es rest : List Event) (e : Event) → ends_row e ≡ true →
+    goes_on k (es ++ e ∷ rest) ≡ goes_on k (es ++ e ∷ [])
+on-looks Text es rest e h = rw (white-looks es rest e h) (go (has_white (es ++ e ∷ [])) refl)
+  where
+    go : (x : Bool) → has_white (es ++ e ∷ []) ≡ x →
+        x && first_is (begins_inner Text) (drop 2 (es ++ e ∷ rest)) ≡
+        x && first_is (begins_inner Text) (drop 2 (es ++ e ∷ []))
+    go true white = behind-looks (begins_inner Text) es rest e h white
+    go false white = refl
+on-looks Delimiter es rest e h = first-looks (begins_inner Delimiter) es rest e
+
+-- so a step does not either
+step-looks : (stage : Stage) (x : Event) (es fs : List Event) → Looks es fs → step stage x es ≡ step stage x fs
+step-looks stage x es fs looks =
+    ap (λ (s : Step). cond (ends_row x) (record { given = ends_with stage x; stage = Outside }) s) (go stage)
+  where
+    go : (t : Stage) → inside_step t x es ≡ inside_step t x fs
+    go Outside = refl
+    go (Front k) = refl
+    go (Within k) = rw looks.last refl
+    go (Inner k) = rw (looks.on k) refl
+    go Gap = refl
+    go (Last k) = refl
+    go Behind = refl
+
+-- events in which no row ends
+abbrev pub AreWithin : List Event → Type 0
+AreWithin [] = Unit {0}
+AreWithin (e ∷ es) = (ends_row e ≡ false) × AreWithin es
+
+-- What is given for a row does not hang on what follows it, and behind it the walk stands outside.
+pub celled-row : (stage : Stage) (es rest : List Event) (e : Event) → AreWithin es → ends_row e ≡ true →
+    celled stage (es ++ e ∷ rest) ≡ celled stage (es ++ e ∷ []) ++ celled Outside rest
+unfolding celled
+celled-row stage [] rest e all h = rw (h, append-nil) refl
+celled-row stage (x ∷ es) rest e all h =
+    let same : step stage x (es ++ e ∷ rest) ≡ step stage x (es ++ e ∷ []) =
+    step-looks stage x (es ++ e ∷ rest) (es ++ e ∷ [])
+    (record { last = last-looks es rest e h; on = λ k. on-looks k es rest e h }) in
+    let s : Step = step stage x (es ++ e ∷ []) in
+    ap (λ (t : Step). t.given ++ celled t.stage (es ++ e ∷ rest)) same
+    ∙ ap (λ (l : List Event). s.given ++ l) (celled-row s.stage es rest e all.1 h)
+    ∙ sym (append_assoc s.given (celled s.stage (es ++ e ∷ [])) (celled Outside rest))
