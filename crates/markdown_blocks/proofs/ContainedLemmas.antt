@@ -120,6 +120,7 @@ lines-unlazy (held_leaf.LazyText at) lines = cc
 lines-unlazy held_leaf.Code lines = refl
 lines-unlazy (held_leaf.Fence marker size indent) lines = refl
 lines-unlazy (held_leaf.Html kind) lines = refl
+lines-unlazy held_leaf.Table lines = refl
 
 -- it may be gone on
 pub lines-open : (still : HeldLeaf) → has_lines still ≡ true → may_go_on still ≡ true
@@ -129,6 +130,7 @@ lines-open (held_leaf.LazyText at) lines = cc
 lines-open held_leaf.Code lines = refl
 lines-open (held_leaf.Fence marker size indent) lines = refl
 lines-open (held_leaf.Html kind) lines = refl
+lines-open held_leaf.Table lines = refl
 
 -- none such is met where its containers did not go on
 pub ended-open : (still : HeldLeaf) → may_go_on (met_by false still) ≡ false

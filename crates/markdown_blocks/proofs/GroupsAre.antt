@@ -7,13 +7,14 @@ use Rattle.md_engine.specs.declared.configuration.ParseOptions.{ParseOptions}
 use Rattle.md_engine.specs.declared.event.Point.{Point}
 use Rattle.md_engine.specs.declared.tokenizer.held_leaf.HeldLeaf.{HeldLeaf}
 use Rattle.md_engine.specs.declared.tokenizer.held_leaf.HeldLeaf.TheVariants as held_leaf
+use Rattle.md_engine.specs.declared.tokenizer.held_leaf.OpenText.{OpenText}
 use Rattle.md_engine.specs.declared.tokenizer.held_leaf.Progress.{Progress}
 use Rattle.md_engine.specs.declared.tokenizer.held_leaf.Progress.TheVariants.{Fresh}
 use Rattle.md_engine.specs.Progress.{is_whole}
 use Rattle.md_definition.specs.Rest.{trim_start}
 use Rattle.md_definition.specs.State.{Container, Kept, kept, texts}
 use Rattle.md_leaves.specs.HeadingSetext.{may_turn}
-use Rattle.md_parts.specs.Progress.{progress, progress_of, step, steps}
+use Rattle.md_parts.specs.Progress.{open_text, progress, progress_of, step, steps}
 use Rattle.markdown_blocks.specs.Change as change
 use Rattle.markdown_blocks.specs.Change.{Change, is_none}
 use Rattle.markdown_blocks.specs.Fronted.{contained, rest_from, rest_line}
@@ -255,7 +256,7 @@ further-may options bytes line row is f = go row.kind refl f
         (laws l).meets options row.on is.rest (kind-starts options row.on is.rest l (sym is.kind ∙ e)) f
 
 -- a line that goes on text is one alone: no line goes on it
-pub turned-alone : (options : ParseOptions) (bytes : List ℕ) (at : Progress) (row next : Row) (rows : List Row) →
+pub turned-alone : (options : ParseOptions) (bytes : List ℕ) (at : OpenText) (row next : Row) (rows : List Row) →
     row.on ≡ held_leaf.Text at → is_further row.kind row.on ≡ true → AreSpan options bytes row (next ∷ rows) → ⊥
 turned-alone options bytes at row next rows on f are =
     let is : IsSpanLine options bytes row = are.0 in
@@ -606,7 +607,7 @@ pub under-leaves : (options : ParseOptions) (bytes line : List ℕ) (row under :
     under.on ≡ row.behind → is_further under.kind under.on ≡ true → Leaves options bytes row [] (line, is, e)
 unfolding steps
 under-leaves options bytes line row under is e below on f =
-    let at : Progress = step (progress_of row.on) (trim_start is.rest.bytes) in
+    let at : OpenText = open_text (step (progress_of row.on) (trim_start is.rest.bytes)) in
     let text : under.on ≡ held_leaf.Text at = on ∙ is.behind ∙ ap (line_behind options row.on is.rest) e in
     let further : (leaf below.name).further (held_leaf.Text at) ≡ true =
     ap (leaf below.name).further (sym text) ∙ line-further options bytes under below true f in
@@ -623,8 +624,8 @@ text-span : (options : ParseOptions) (bytes line : List ℕ) (p : Point) (row : 
 text-span options bytes line p row q below rows gs is e after ending first are =
     go (is_further below.kind below.on) refl rows are
   where
-    at : Progress
-    at = step (progress_of row.on) (trim_start is.is.rest.bytes)
+    at : OpenText
+    at = open_text (step (progress_of row.on) (trim_start is.is.rest.bytes))
 
     text : row.behind ≡ held_leaf.Text at
     text = is.is.behind ∙ ap (line_behind options row.on is.is.rest) e

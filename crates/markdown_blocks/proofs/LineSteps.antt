@@ -73,6 +73,7 @@ context-none (held_leaf.LazyText at) unlazy = cc
 context-none held_leaf.Code unlazy = refl
 context-none (held_leaf.Fence marker size indent) unlazy = refl
 context-none (held_leaf.Html kind) unlazy = refl
+context-none held_leaf.Table unlazy = refl
 
 -- no definitions stand at the front of what is no text
 pub front-unlazy : (options : ParseOptions) (bs : Blocks) (open_leaf : Leaf) →

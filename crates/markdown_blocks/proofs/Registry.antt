@@ -6,7 +6,7 @@ use Rattle.std.specs.Prelude.{◌==◌}
 use Rattle.std.specs.Option.{is_some}
 use Rattle.md_engine.specs.Progress.{is_whole}
 use Rattle.md_engine.specs.declared.tokenizer.held_leaf.HeldLeaf.TheVariants as held_leaf
-use Rattle.md_engine.specs.declared.tokenizer.held_leaf.Progress.{Progress}
+use Rattle.md_engine.specs.declared.tokenizer.held_leaf.OpenText.{OpenText}
 use Rattle.markdown_blocks.specs.Registry.{IsOpenSpan, insider, shuts_out}
 use Rattle.md_engine.specs.declared.tokenizer.held_leaf.HeldLeaf.{HeldLeaf}
 use Rattle.std.specs.Option.{option_or}
@@ -180,6 +180,7 @@ free-open (held_leaf.LazyText at) = refl
 free-open held_leaf.Code = refl
 free-open (held_leaf.Fence m size indent) = refl
 free-open (held_leaf.Html kind) = refl
+free-open held_leaf.Table = refl
 
 -- The underline of a setext heading: something stands on it,
 setext-filled : (options : ParseOptions) (on : HeldLeaf) (r : Rest) → setext_leaf.starts options on r ≡ true →
@@ -206,7 +207,7 @@ setext-turns = record {
     shallow true lines = refl
     shallow false lines = refl
 
-pub text-turns : (at : Progress) (l : LeafName) → (leaf l).further (held_leaf.Text at) ≡ true → TurnsText l
+pub text-turns : (at : OpenText) (l : LeafName) → (leaf l).further (held_leaf.Text at) ≡ true → TurnsText l
 text-turns at l e = subst TurnsText (sym (further-text at l e)) setext-turns
 
 -- where one starts, no leaf does that is tried before it
@@ -232,7 +233,7 @@ setext-taken options on r starts =
         (cond s (Some HeadingSetext) (cond (break_leaf.starts options on r) (Some ThematicBreak) None)))))
 
 -- where one stands that has nothing to turn none starts at all
-pub lost-none : (options : ParseOptions) (at : Progress) (r : Rest) (depth : ℕ) →
+pub lost-none : (options : ParseOptions) (at : OpenText) (r : Rest) (depth : ℕ) →
     may_turn options (held_leaf.Text at) ≡ false → underline_depth options r ≡ Some depth →
     leaf_at options (held_leaf.Text at) r ≡ None
 lost-none options at r depth may some =
@@ -258,7 +259,7 @@ lost-none options at r depth may some =
     lost =
         and_right (is_ruled options r) (not (turns_nothing options on && is_underline (trim_start r.bytes)))
         (go options.constructs.heading_setext (has_small_indent options r) (is_underline (trim_start r.bytes))
-        (options.constructs.definition && is_whole at) is may)
+        (options.constructs.definition && is_whole at.progress) is may)
       where
         go : (x s u w : Bool) → (x && s && u) ≡ true → not w ≡ false → not ((x && w) && u) ≡ false
         go true true true true e k = refl
@@ -331,7 +332,7 @@ unfolding fence_at
 fence-none options r far = rw far refl
 
 -- So one that starts where a line is lazy for text starts where none is open.
-pub text-starts : (options : ParseOptions) (at : Progress) (r : Rest) (l : LeafName) →
+pub text-starts : (options : ParseOptions) (at : OpenText) (r : Rest) (l : LeafName) →
     leaf_at options (held_leaf.LazyText at) r ≡ Some l → leaf_at options held_leaf.None r ≡ Some l
 text-starts options at r l found = go (code_leaf.starts options held_leaf.None r) refl
   where
@@ -717,6 +718,7 @@ insider-none (held_leaf.LazyText at) e = refl
 insider-none held_leaf.Code e = cc
 insider-none (held_leaf.Fence m size indent) e = cc
 insider-none (held_leaf.Html kind) e = cc
+insider-none held_leaf.Table e = cc
 
 -- nor is a container shut out there
 pub shuts_out-none : (on : HeldLeaf) → has_lines on ≡ false → shuts_out on ≡ false
@@ -727,6 +729,7 @@ shuts_out-none (held_leaf.LazyText at) e = refl
 shuts_out-none held_leaf.Code e = cc
 shuts_out-none (held_leaf.Fence m size indent) e = cc
 shuts_out-none (held_leaf.Html kind) e = cc
+shuts_out-none held_leaf.Table e = cc
 
 -- One that is asked first does not always end on its line, it is asked of that leaf, and its line goes on that one.
 record IsInsider (on : HeldLeaf) (l : LeafName) : Type 0 where

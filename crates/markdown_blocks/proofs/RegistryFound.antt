@@ -6,7 +6,7 @@ use Rattle.md_engine.specs.declared.tokenizer.held_leaf.HeldLeaf.TheVariants as 
 use Rattle.std.specs.Prelude.{not}
 use Rattle.std.specs.Prelude.{ℕ, ◌&&◌, if◌then◌else◌, Option, None, Some}
 use Rattle.md_engine.specs.declared.configuration.ParseOptions.{ParseOptions}
-use Rattle.md_engine.specs.declared.tokenizer.held_leaf.Progress.{Progress}
+use Rattle.md_engine.specs.declared.tokenizer.held_leaf.OpenText.{OpenText}
 use Rattle.md_definition.specs.Leaves.{ParagraphContext, Text, is_text, starts, table_at, underline_depth, underlined}
 use Rattle.md_definition.specs.Leaves.{underlined_by, with_line}
 use Rattle.md_definition.specs.Definition.{cut_definitions}
@@ -18,7 +18,7 @@ use Rattle.md_definition.specs.Tree.{Blocks, Heading}
 use Rattle.md_definition.specs.State.{then_block}
 use Rattle.md_parts.proofs.ProgressLemmas.{progress-cut}
 use Rattle.md_parts.specs.Progress.{is_none_left}
-use Rattle.md_parts.specs.Progress.{progress}
+use Rattle.md_parts.specs.Progress.{open_text, progress}
 use Rattle.markdown_blocks.proofs.HeadingSetext.Found.{none-underlined}
 use Rattle.markdown_blocks.specs.Leaf.HeadingSetext.{depth_of, setext_leaf}
 use Rattle.markdown_blocks.specs.Leaf.Paragraph.{then_front}
@@ -51,6 +51,7 @@ not-text options (held_leaf.LazyText at) against r same free = refl
 not-text options held_leaf.Code against r same free = refl
 not-text options (held_leaf.Fence marker size indent) against r same free = refl
 not-text options (held_leaf.Html kind) against r same free = refl
+not-text options held_leaf.Table against r same free = refl
 
 -- so does one that has nothing to turn
 not-lost : (options : ParseOptions) (on : HeldLeaf) (against : ParagraphContext) (r : Rest) → IsAgainst against on →
@@ -65,6 +66,7 @@ not-lost options on against r same free = go (has_small_indent options r) (turns
     by held_leaf.Code same = refl
     by (held_leaf.Fence marker size indent) same = refl
     by (held_leaf.Html kind) same = refl
+    by held_leaf.Table same = refl
 
     go : (x y : Bool) → y ≡ false → (x && y && is_underline (trim_start r.bytes)) ≡ false
     go true true e = cc
@@ -84,20 +86,20 @@ starts-found options on against r same free dark built =
 
 -- what is held of these lines, and as what a lazy line meets it
 abbrev pub text_on : List Kept → HeldLeaf
-text_on lines = held_leaf.Text (progress (texts lines))
+text_on lines = held_leaf.Text (open_text (progress (texts lines)))
 
 abbrev pub lazy_on : List Kept → HeldLeaf
-lazy_on lines = held_leaf.LazyText (progress (texts lines))
+lazy_on lines = held_leaf.LazyText (open_text (progress (texts lines)))
 
 -- where no underline stands, so it is there
-unturned-starts : (options : ParseOptions) (at : Progress) (r : Rest) → underline_depth options r ≡ None →
+unturned-starts : (options : ParseOptions) (at : OpenText) (r : Rest) → underline_depth options r ≡ None →
     setext_leaf.starts options (held_leaf.Text at) r ≡ false → is_blank r.bytes ≡ false →
     starts options Text r ≡ came_of options r (leaf_at options (held_leaf.Text at) r)
 unfolding starts
 unturned-starts options at r none unturned dark =
     leaves-found options (held_leaf.Text at) Text r refl unturned
     (go options.constructs.heading_setext (has_small_indent options r) (is_underline (trim_start r.bytes))
-    (options.constructs.definition && is_whole at) (none-underlined options r none)) dark
+    (options.constructs.definition && is_whole at.progress) (none-underlined options r none)) dark
   where
     go : (x s u w : Bool) → (x && s && u) ≡ false → (s && (x && w) && u) ≡ false
     go true true true true e = cc

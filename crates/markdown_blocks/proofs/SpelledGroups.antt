@@ -36,7 +36,7 @@ use Rattle.md_engine.specs.declared.event.Event.{Event}
 use Rattle.md_engine.specs.declared.event.Name.{Name}
 use Rattle.md_engine.specs.declared.event.Name.TheVariants as n
 use Rattle.md_engine.specs.declared.event.Point.{Point}
-use Rattle.md_engine.specs.declared.tokenizer.held_leaf.Progress.{Progress}
+use Rattle.md_engine.specs.declared.tokenizer.held_leaf.OpenText.{OpenText}
 use Rattle.md_seam.specs.Events.Nested.{enter, exit}
 use Rattle.md_definition.specs.Rest.{Rest, is_blank}
 use Rattle.md_seam.specs.Events.Spelled.{Around, Reading, read, role}
@@ -73,7 +73,7 @@ use Rattle.markdown_blocks.proofs.ContainerNames.{container-facts}
 use Rattle.markdown_blocks.proofs.SpelledPaths.{AreShapes, around-same, close_containers-between}
 use Rattle.markdown_blocks.proofs.SpelledPaths.{close_containers-one, enters, longer-longer, open_path, reading-open}
 use Rattle.markdown_blocks.proofs.SpelledPaths.{reading-renewed, reading-with, with_spot}
-use Rattle.md_parts.specs.Progress.{progress_of, step as further}
+use Rattle.md_parts.specs.Progress.{open_text, progress_of, step as further}
 use Rattle.md_leaves.specs.HeadingSetext.{may_turn}
 
 -- Events.
@@ -326,7 +326,7 @@ starts-alike options bytes stays closes p row gs last shapes starts =
     }
 
 -- behind what turns a text no leaf is open, so no line goes on it
-turn-alone : (options : ParseOptions) (bytes : List ℕ) (at : Progress) (l : LeafName) (under : Row) (rows : List Row) →
+turn-alone : (options : ParseOptions) (bytes : List ℕ) (at : OpenText) (l : LeafName) (under : Row) (rows : List Row) →
     (leaf l).further (held_leaf.Text at) ≡ true → IsLineOf options bytes (leaf l) under →
     AreBehind options bytes (leaf l) under rows → rows ≡ []
 turn-alone options bytes at l under [] further is are = refl
@@ -337,7 +337,7 @@ turn-alone options bytes at l under (next ∷ rows) further is are =
     absurd (cc)
 
 -- it is a line of the text, not one behind its end
-pub turn-inside : (options : ParseOptions) (bytes : List ℕ) (at : Progress) (l : LeafName) (p : Point) (under : Row) →
+pub turn-inside : (options : ParseOptions) (bytes : List ℕ) (at : OpenText) (l : LeafName) (p : Point) (under : Row) →
     (leaf l).further (held_leaf.Text at) ≡ true → IsLineOf options bytes (leaf l) under →
     LinePrefix bytes [] p under.first under.front → nat_lt p.index (length bytes) ≡ true
 turn-inside options bytes at l p under further is front =
@@ -373,8 +373,8 @@ turn-lines options bytes line p row gs last is text joins =
     reads : ReadsSpan options bytes joins.name q first under gs last
     reads = joins.starts.reads
 
-    at : Progress
-    at = further (progress_of row.on) (trim_start is.rest.bytes)
+    at : OpenText
+    at = open_text (further (progress_of row.on) (trim_start is.rest.bytes))
 
     on : under.on ≡ held_leaf.Text at
     on = joins.on ∙ is.behind ∙ ap (line_behind options row.on is.rest) text

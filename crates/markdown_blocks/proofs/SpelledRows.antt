@@ -34,7 +34,7 @@ use Rattle.std.specs.Prelude.{None, Option, Some}
 use Rattle.md_engine.specs.declared.configuration.ParseOptions.{ParseOptions}
 use Rattle.md_engine.specs.declared.event.Event.{Event}
 use Rattle.md_engine.specs.declared.event.Point.{Point}
-use Rattle.md_engine.specs.declared.tokenizer.held_leaf.Progress.{Progress}
+use Rattle.md_engine.specs.declared.tokenizer.held_leaf.OpenText.{OpenText}
 use Rattle.md_definition.specs.Preamble.{rest_at}
 use Rattle.md_definition.specs.Rest.{Rest}
 use Rattle.md_seam.specs.Events.Spelled.{Reading, read, spelled, unread}
@@ -146,7 +146,7 @@ text-whole options bytes o row rows (Some under) none are turned left =
 
 -- a leaf that takes lazy lines is text
 lazy-open : (open_leaf : Leaf) → takes_lazy (kind_of_leaf open_leaf) ≡ true →
-    (at : Progress) × (kind_of_leaf open_leaf ≡ held_leaf.Text at)
+    (at : OpenText) × (kind_of_leaf open_leaf ≡ held_leaf.Text at)
 lazy-open (OpenParagraph lines) lazy = (progress (texts lines), refl)
 lazy-open _ lazy = cc
 

@@ -37,7 +37,7 @@ use Rattle.markdown_blocks.proofs.OpenSpan.{Begun, ComesShallow, OpenSpan, Turns
 use Rattle.markdown_blocks.proofs.Registry.{insider-open, laws, leaf-begun, open-span, text-laws, text-turns}
 use Rattle.markdown_blocks.proofs.ShallowBlocks.{shallow-then}
 use Rattle.md_parts.proofs.ProgressLemmas.{progress-snoc}
-use Rattle.md_parts.specs.Progress.{progress, progress_of, steps, text_behind}
+use Rattle.md_parts.specs.Progress.{open_text, progress, progress_of, steps, text_behind}
 use Rattle.md_parts.specs.Progress as stepped
 
 -- Where a line goes on the leaf that is open: it is one of several lines, or text that the line turns.
@@ -358,11 +358,11 @@ held-progress _ = refl
 
 -- with one line more
 one-longer : (open_leaf : Leaf) (r : Rest) →
-    held_leaf.Text (progress (texts (held_of open_leaf ++ kept r ∷ []))) ≡ text_behind (kind_of_leaf open_leaf) r.bytes
+    held_leaf.Text (open_text (progress (texts (held_of open_leaf ++ kept r ∷ [])))) ≡ text_behind (kind_of_leaf open_leaf) r.bytes
 one-longer open_leaf r =
-    ap (λ (lines : List (List ℕ)). held_leaf.Text (progress lines)) (map-append (λ k. k.text) (held_of open_leaf) (kept r ∷ []))
-    ∙ ap held_leaf.Text (progress-snoc (texts (held_of open_leaf)) (trim_start r.bytes))
-    ∙ ap (λ (at : Progress). held_leaf.Text (stepped.step at (trim_start r.bytes))) (sym (held-progress open_leaf))
+    ap (λ (lines : List (List ℕ)). held_leaf.Text (open_text (progress lines))) (map-append (λ k. k.text) (held_of open_leaf) (kept r ∷ []))
+    ∙ ap (λ (at : Progress). held_leaf.Text (open_text at)) (progress-snoc (texts (held_of open_leaf)) (trim_start r.bytes))
+    ∙ ap (λ (at : Progress). held_leaf.Text (open_text (stepped.step at (trim_start r.bytes)))) (sym (held-progress open_leaf))
 
 still-longer : (p : Path) (r : Rest) → still_of (longer p (kept r ∷ [])) ≡ text_behind (still_of p) r.bytes
 still-longer (At s) r = one-longer s.leaf r
@@ -386,7 +386,7 @@ still-line options on bs r begins fresh = go (line_kind options on r) refl
         ap kind_of_leaf (came-leaf bs ((leaf l).comes options NoLeaf r)) ∙ (begun-leaf options on r begins l e).holds
     go TextRow e =
         one-longer NoLeaf r
-        ∙ ap (λ (at : Progress). held_leaf.Text (stepped.step at (trim_start r.bytes))) (sym (fresh e))
+        ∙ ap (λ (at : Progress). held_leaf.Text (open_text (stepped.step at (trim_start r.bytes)))) (sym (fresh e))
 
 still-new_line : (options : ParseOptions) (on : HeldLeaf) (cs : List Container) (r : Rest) (bs : Blocks) →
     is_further (line_kind options on r) on ≡ false → (line_kind options on r ≡ TextRow → IsFresh on) →
@@ -446,7 +446,7 @@ still-step options p r built plain =
     go true y e f =
         still-longer (renewed c.change.stays p) c.rest
         ∙ ap (λ (s : Spot). text_behind (kind_of_leaf s.leaf) c.rest.bytes) (renewed-spot c.change.stays p)
-        ∙ ap (λ (at : Progress). held_leaf.Text (stepped.step at (trim_start c.rest.bytes))) (sym (lazy-on e))
+        ∙ ap (λ (at : Progress). held_leaf.Text (open_text (stepped.step at (trim_start c.rest.bytes)))) (sym (lazy-on e))
         ∙ sym (text-left options c.on c.rest kind (lazy-text (still_of p) c.change.opens kind e))
     go false true e f = still-further options p c (goes-on options p r plain f)
     go false false e f =

@@ -6,7 +6,7 @@ use Rattle.std.proofs.lemmas.Bool.{and_parts}
 use Rattle.md_engine.specs.declared.configuration.ParseOptions.{ParseOptions}
 use Rattle.md_engine.specs.declared.tokenizer.held_leaf.HeldLeaf.{HeldLeaf}
 use Rattle.md_engine.specs.declared.tokenizer.held_leaf.HeldLeaf.TheVariants as held_leaf
-use Rattle.md_engine.specs.declared.tokenizer.held_leaf.Progress.{Progress}
+use Rattle.md_engine.specs.declared.tokenizer.held_leaf.OpenText.{OpenText}
 use Rattle.md_engine.specs.declared.tokenizer.held_leaf.Progress.TheVariants.{Fresh}
 use Rattle.md_engine.specs.Progress.{is_whole}
 use Rattle.md_definition.specs.Rest.{Rest, has_small_indent, trim_start}
@@ -113,9 +113,9 @@ contained-closed options cs still r text some =
     go (c ∷ opens) e = refl
 
 -- Where an underline turns a text, definitions leave something of it.
-pub turn-left : (options : ParseOptions) (at : Progress) → may_turn options (held_leaf.Text at) ≡ true →
-    options.constructs.definition ≡ true → is_whole at ≡ false
-turn-left options at may on = go options.constructs.definition (is_whole at) on may
+pub turn-left : (options : ParseOptions) (at : OpenText) → may_turn options (held_leaf.Text at) ≡ true →
+    options.constructs.definition ≡ true → is_whole at.progress ≡ false
+turn-left options at may on = go options.constructs.definition (is_whole at.progress) on may
   where
     go : (x y : Bool) → x ≡ true → not (x && y) ≡ true → y ≡ false
     go true false on may = refl

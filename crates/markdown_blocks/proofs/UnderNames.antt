@@ -3,12 +3,12 @@ use Rattle.std.proofs.Common.{◌≡◌, true, refl, ap}
 use Rattle.md_engine.specs.declared.configuration.ParseOptions.{ParseOptions}
 use Rattle.md_engine.specs.declared.tokenizer.held_leaf.HeldLeaf.{HeldLeaf}
 use Rattle.md_engine.specs.declared.tokenizer.held_leaf.HeldLeaf.TheVariants as held_leaf
-use Rattle.md_engine.specs.declared.tokenizer.held_leaf.Progress.{Progress}
+use Rattle.md_engine.specs.declared.tokenizer.held_leaf.OpenText.{OpenText}
 use Rattle.md_definition.specs.Rest.{Rest}
 use Rattle.markdown_blocks.specs.Registry.{CodeFurther, CodeIndented, Fence, FenceFurther, HeadingAtx, HeadingSetext}
 use Rattle.markdown_blocks.specs.Registry.{HtmlFlow, HtmlFurther, LeafName, ThematicBreak, leaf}
 
-pub further-text : (at : Progress) (l : LeafName) → (leaf l).further (held_leaf.Text at) ≡ true → l ≡ HeadingSetext
+pub further-text : (at : OpenText) (l : LeafName) → (leaf l).further (held_leaf.Text at) ≡ true → l ≡ HeadingSetext
 further-text at CodeIndented f = cc
 further-text at CodeFurther f = cc
 further-text at Fence f = cc
@@ -20,6 +20,6 @@ further-text at HeadingSetext f = refl
 further-text at ThematicBreak f = cc
 
 -- no leaf is open behind it
-pub under-shuts : (at : Progress) (l : LeafName) → (leaf l).further (held_leaf.Text at) ≡ true →
+pub under-shuts : (at : OpenText) (l : LeafName) → (leaf l).further (held_leaf.Text at) ≡ true →
     (options : ParseOptions) (on : HeldLeaf) (r : Rest) → (leaf l).holds options on r ≡ held_leaf.None
 under-shuts at l f options on r = ap (λ (l : LeafName). (leaf l).holds options on r) (further-text at l f)

@@ -5,7 +5,7 @@ use Rattle.md_engine.specs.declared.configuration.ParseOptions.{ParseOptions}
 use Rattle.md_engine.specs.declared.event.Content.{Content}
 use Rattle.md_engine.specs.declared.event.Point.{Point}
 use Rattle.md_engine.specs.declared.tokenizer.held_leaf.HeldLeaf.TheVariants as held_leaf
-use Rattle.md_engine.specs.declared.tokenizer.held_leaf.Progress.{Progress}
+use Rattle.md_engine.specs.declared.tokenizer.held_leaf.OpenText.{OpenText}
 use Rattle.markdown_blocks.specs.Fronted.{rest_line}
 use Rattle.markdown_blocks.specs.HeldLeaf.{has_lines}
 use Rattle.markdown_blocks.specs.Leaf.HeadingSetext.{setext_leaf, underline_line}
@@ -32,7 +32,7 @@ underline-no_content wants line p =
     (λ q. (refl, refl), λ q. (refl, refl)) line p)
 
 -- so none stands in a line that goes on text
-pub further-quiet : (options : ParseOptions) (bytes line : List ℕ) (row : Row) (l : LeafName) (at : Progress) →
+pub further-quiet : (options : ParseOptions) (bytes line : List ℕ) (row : Row) (l : LeafName) (at : OpenText) →
     IsRow options bytes line row → row.kind ≡ LeafRow l → row.on ≡ held_leaf.Text at → is_further row.kind row.on ≡ true →
     HasNoContent row
 further-quiet options bytes line row l at is kind on further wants w =

@@ -7,7 +7,7 @@ use Rattle.std.specs.Prelude.{◌≡◌, Bool, true, false, if◌then◌else◌}
 use Rattle.md_engine.specs.declared.tokenizer.held_leaf.HeldLeaf.{HeldLeaf}
 use Rattle.md_engine.specs.declared.tokenizer.held_leaf.HeldLeaf.TheVariants as held_leaf
 use Rattle.md_definition.specs.Leaves.{Came, Finished, Opened}
-use Rattle.md_definition.specs.State.{Leaf, NoLeaf, OpenCode, OpenFence, OpenHtml}
+use Rattle.md_definition.specs.State.{Leaf, NoLeaf, OpenCode, OpenFence, OpenHtml, OpenTable}
 use Rattle.markdown_blocks.specs.Leaf.Paragraph.{IsTextOr, held_or}
 use Rattle.markdown_blocks.specs.Registry.{IsOpenSpan}
 
@@ -49,6 +49,7 @@ abbrev pub kind_of_other : Leaf → HeldLeaf
 kind_of_other (OpenCode lines) = held_leaf.Code
 kind_of_other (OpenFence o lines) = held_leaf.Fence o.marker o.size o.indent
 kind_of_other (OpenHtml kind lines) = held_leaf.Html kind
+kind_of_other (OpenTable delimiter rows) = held_leaf.Table
 kind_of_other leaf = held_leaf.None
 
 abbrev pub kind_of_leaf : Leaf → HeldLeaf

@@ -27,7 +27,7 @@ use crate::state::State;
 use crate::stay::Stay;
 use crate::tokenizer::container::name::{first_kind, name_of};
 pub use crate::tokenizer::container::{Container, ContainerKind};
-pub use crate::tokenizer::held_leaf::{HeldLeaf, HtmlKind, Progress};
+pub use crate::tokenizer::held_leaf::{HeldLeaf, HtmlKind, OpenText, Progress};
 use std::alloc::Global;
 use std::mem;
 

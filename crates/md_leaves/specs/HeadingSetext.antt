@@ -34,13 +34,13 @@ is_text _ = false
 
 -- whether an underline that meets this leaf turns it: it is such text, and something is left behind its definitions
 abbrev pub may_turn : ParseOptions → HeldLeaf → Bool
-may_turn options (held_leaf.Text at) = not (options.constructs.definition && is_whole at)
+may_turn options (held_leaf.Text text) = not (options.constructs.definition && is_whole text.progress)
 may_turn options _ = false
 
 -- whether it is such text, and nothing of it is left that an underline could turn, so that one is a line of the text
 abbrev pub turns_nothing : ParseOptions → HeldLeaf → Bool
-turns_nothing options (held_leaf.Text at) =
-    options.constructs.heading_setext && (options.constructs.definition && is_whole at)
+turns_nothing options (held_leaf.Text text) =
+    options.constructs.heading_setext && (options.constructs.definition && is_whole text.progress)
 turns_nothing options _ = false
 
 abbrev pub without_marker : Scratch → Scratch

@@ -57,7 +57,7 @@ pub fn may_turn(options: &ParseOptions, leaf: HeldLeaf) -> bool
     ensures { result ≡ may_turn options.now leaf }
 {
     match leaf {
-        HeldLeaf::Text(at) => !(options.constructs.definition && is_whole(at)),
+        HeldLeaf::Text(text) => !(options.constructs.definition && is_whole(text.progress)),
         _ => false,
     }
 }
@@ -68,8 +68,10 @@ pub fn turns_nothing(options: &ParseOptions, leaf: HeldLeaf) -> bool
     ensures { result ≡ turns_nothing options.now leaf }
 {
     match leaf {
-        HeldLeaf::Text(at) => {
-            options.constructs.heading_setext && options.constructs.definition && is_whole(at)
+        HeldLeaf::Text(text) => {
+            options.constructs.heading_setext
+                && options.constructs.definition
+                && is_whole(text.progress)
         }
         _ => false,
     }

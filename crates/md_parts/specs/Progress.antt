@@ -10,6 +10,7 @@ use Rattle.md_definition.specs.Lines.{begins_with}
 use Rattle.md_definition.specs.Rest.{is_blank, is_parted, trim_start}
 use Rattle.md_engine.specs.declared.tokenizer.held_leaf.HeldLeaf.{HeldLeaf}
 use Rattle.md_engine.specs.declared.tokenizer.held_leaf.HeldLeaf.TheVariants as held_leaf
+use Rattle.md_engine.specs.declared.tokenizer.held_leaf.OpenText.{OpenText}
 use Rattle.md_engine.specs.declared.tokenizer.held_leaf.Progress.{Progress}
 use Rattle.md_engine.specs.declared.tokenizer.held_leaf.Progress.TheVariants.{BeforeDestination, Fresh, InLabel}
 use Rattle.md_engine.specs.declared.tokenizer.held_leaf.Progress.TheVariants.{InTitle, Left, Untitled}
@@ -110,10 +111,14 @@ is_none_left (line ∷ lines) = false
 
 -- how far those of an open text have come; where none is open, one may begin
 abbrev pub progress_of : HeldLeaf → Progress
-progress_of (held_leaf.Text at) = at
-progress_of (held_leaf.LazyText at) = at
+progress_of (held_leaf.Text text) = text.progress
+progress_of (held_leaf.LazyText text) = text.progress
 progress_of _ = Fresh
+
+-- what is kept of a text, by how far its definitions have come
+abbrev pub open_text : Progress → OpenText
+open_text at = record { progress = at; columns = 0; indent = 0 }
 
 -- what is held of a text behind one more line, where the line meets this leaf
 abbrev pub text_behind : HeldLeaf → List ℕ → HeldLeaf
-text_behind on line = held_leaf.Text (step (progress_of on) (trim_start line))
+text_behind on line = held_leaf.Text (open_text (step (progress_of on) (trim_start line)))

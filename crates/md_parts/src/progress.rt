@@ -4,7 +4,7 @@
 ghost use Rattle.std.specs.Prelude.{◌≡◌};
 ghost use Rattle.md_parts.specs.Progress as progress;
 
-use md_engine::tokenizer::{HeldLeaf, Progress};
+use md_engine::tokenizer::{HeldLeaf, OpenText, Progress};
 use plain_grammars::ahead::{after_optional, begins_with};
 use plain_grammars::bytes::{is_blank, is_parted, trim_start};
 use plain_grammars::definition::{Enclosed, destination_at, title_closer, up_to_mark};
@@ -160,7 +160,7 @@ fn progress_of(leaf: HeldLeaf) -> Progress
     ensures { result ≡ progress.progress_of leaf }
 {
     match leaf {
-        HeldLeaf::Text(at) | HeldLeaf::LazyText(at) => at,
+        HeldLeaf::Text(text) | HeldLeaf::LazyText(text) => text.progress,
         _ => Progress::Fresh,
     }
 }
@@ -171,8 +171,13 @@ fn progress_of(leaf: HeldLeaf) -> Progress
 pub fn text_behind(leaf: HeldLeaf, line: &[u8]) -> HeldLeaf
     ensures { result ≡ progress.text_behind leaf line.now }
 {
-    match progress_of(leaf) {
-        Progress::Left => HeldLeaf::Text(Progress::Left),
-        at => HeldLeaf::Text(step(at, trim_start(line))),
-    }
+    let progress = match progress_of(leaf) {
+        Progress::Left => Progress::Left,
+        at => step(at, trim_start(line)),
+    };
+    HeldLeaf::Text(OpenText {
+        progress,
+        columns: 0,
+        indent: 0,
+    })
 }

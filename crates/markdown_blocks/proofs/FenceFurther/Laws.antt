@@ -21,6 +21,7 @@ fence-lines (held_leaf.LazyText at) e = absurd (cc)
 fence-lines held_leaf.Code e = refl
 fence-lines (held_leaf.Fence m size indent) e = refl
 fence-lines (held_leaf.Html kind) e = refl
+fence-lines held_leaf.Table e = refl
 
 -- All that the frame asks of a further line: it goes on the block that it meets, and does not always end it.
 pub fence_further-laws : LeafLaws fence_further

@@ -161,6 +161,7 @@ lazy-none (held_leaf.LazyText at) e = absurd (cc)
 lazy-none held_leaf.Code e = refl
 lazy-none (held_leaf.Fence m size indent) e = refl
 lazy-none (held_leaf.Html kind) e = refl
+lazy-none held_leaf.Table e = refl
 
 not-lazy : (on : HeldLeaf) (x y : Bool) → is_fence on ≡ x →
     takes_lazy (cond x (cond y held_leaf.None on) held_leaf.None) ≡ false

@@ -7,7 +7,7 @@ use Rattle.md_engine.specs.declared.configuration.ParseOptions.{ParseOptions}
 use Rattle.md_engine.specs.declared.event.Point.{Point}
 use Rattle.md_engine.specs.declared.tokenizer.held_leaf.HeldLeaf.{HeldLeaf}
 use Rattle.md_engine.specs.declared.tokenizer.held_leaf.HeldLeaf.TheVariants as held_leaf
-use Rattle.md_engine.specs.declared.tokenizer.held_leaf.Progress.{Progress}
+use Rattle.md_engine.specs.declared.tokenizer.held_leaf.OpenText.{OpenText}
 use Rattle.md_engine.specs.Meaning.{Cell}
 use Rattle.md_definition.specs.Html.{HtmlKind, Basic, Cdata, Comment, Complete, Declaration, Instruction, Raw}
 use Rattle.md_definition.specs.Html.{html_ends, html_kind, kind_after}
@@ -73,7 +73,7 @@ html-indented options on r e = rw e (go options.constructs.html_flow)
     go false = refl
 
 -- Where a line is lazy for text it starts as where none is open.
-pub html-lazy : (options : ParseOptions) (at : Progress) (r : Rest) →
+pub html-lazy : (options : ParseOptions) (at : OpenText) (r : Rest) →
     html_leaf.starts options (held_leaf.LazyText at) r ≡ html_leaf.starts options held_leaf.None r
 unfolding html_at
 html-lazy options at r = go (options.constructs.html_flow && has_small_indent options r) (kind_begun r)

@@ -4,7 +4,7 @@ use Rattle.std.specs.Prelude.{Some}
 use Rattle.md_engine.specs.declared.configuration.ParseOptions.{ParseOptions}
 use Rattle.md_engine.specs.declared.event.Point.{Point}
 use Rattle.md_engine.specs.declared.tokenizer.held_leaf.HeldLeaf.TheVariants as held_leaf
-use Rattle.md_engine.specs.declared.tokenizer.held_leaf.Progress.{Progress}
+use Rattle.md_engine.specs.declared.tokenizer.held_leaf.OpenText.{OpenText}
 use Rattle.md_definition.specs.Rest.{trim_start}
 use Rattle.md_parts.specs.Progress.{progress_of, step}
 use Rattle.markdown_blocks.specs.Leaf.HeadingSetext.{setext_leaf}
@@ -29,7 +29,7 @@ pub record Turns (options : ParseOptions) (bytes : List ℕ) (last under : Row) 
 
 -- behind a line of text, text is open
 pub text-open : (options : ParseOptions) (bytes : List ℕ) (row : Row) (rows : List Row) →
-    AreLines options bytes row rows → (at : Progress) × ((last_row row rows).behind ≡ held_leaf.Text at)
+    AreLines options bytes row rows → (at : OpenText) × ((last_row row rows).behind ≡ held_leaf.Text at)
 text-open options bytes row [] h =
     (step (progress_of row.on) (trim_start h.1.rest.bytes), h.1.behind ∙ ap (line_behind options row.on h.1.rest) h.2)
 text-open options bytes row (next ∷ rows) h = text-open options bytes next rows h.7
@@ -37,7 +37,7 @@ text-open options bytes row (next ∷ rows) h = text-open options bytes next row
 -- so a line that goes on it goes on text, and is one
 pub under-text : (options : ParseOptions) (bytes : List ℕ) (row : Row) (rows : List Row) (under : Row) →
     AreLines options bytes row rows → (is : IsUnder options bytes (last_row row rows) under) →
-    (at : Progress) × ((leaf is.name).further (held_leaf.Text at) ≡ true)
+    (at : OpenText) × ((leaf is.name).further (held_leaf.Text at) ≡ true)
 under-text options bytes row rows under h is =
     let text = text-open options bytes row rows h in (
       text.0,

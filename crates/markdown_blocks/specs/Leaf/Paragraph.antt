@@ -7,7 +7,7 @@ use Rattle.std.specs.Prelude.{ℕ, List, [], ◌∷◌}
 use Rattle.md_engine.specs.declared.configuration.ParseOptions.{ParseOptions}
 use Rattle.md_definition.specs.State.{Kept, Leaf, OpenParagraph, cut, shut_paragraph, texts, then_definitions}
 use Rattle.md_definition.specs.Tree.{Blocks, Paragraph}
-use Rattle.md_parts.specs.Progress.{progress}
+use Rattle.md_parts.specs.Progress.{open_text, progress}
 use Rattle.markdown_blocks.specs.TextLeaf.{TextLeaf}
 
 abbrev pub paragraph_leaf : TextLeaf
@@ -35,7 +35,7 @@ left_of options leaf = (cut options (texts (held_of leaf))).1
 -- As what an open leaf is held, and whether it may be open: an open text is held with how far the definitions at its
 -- front have come, and has a line at least. Of any other leaf it is as this says.
 abbrev pub held_or : (Leaf → HeldLeaf) → Leaf → HeldLeaf
-held_or other (OpenParagraph lines) = held_leaf.Text (progress (texts lines))
+held_or other (OpenParagraph lines) = held_leaf.Text (open_text (progress (texts lines)))
 held_or other leaf = other leaf
 
 abbrev pub IsTextOr : (Leaf → Type 0) → Leaf → Type 0

@@ -37,16 +37,27 @@ pub enum Progress {
     Left,
 }
 
+/// What is kept of an open text from line to line.
+#[derive(Clone, Copy)]
+pub struct OpenText {
+    /// How far the definitions at its front have come.
+    pub progress: Progress,
+    /// How many cells its last line has as the head of a table (GFM 4.10); 0 where that line is no head.
+    pub columns: usize,
+    /// How many columns of whitespace stand in front of its last line.
+    pub indent: usize,
+}
+
 /// The leaf block that is open: what the next line goes on, or ends. Of a leaf of several lines this holds what is kept
 /// of it from line to line.
 #[derive(Clone, Copy)]
 pub enum HeldLeaf {
     /// None: the last one has ended.
     None,
-    /// Lines of text, which are read once it ends: how far the definitions at its front have come.
-    Text(Progress),
+    /// Lines of text, which are read once it ends.
+    Text(OpenText),
     /// The same, as a lazy line meets it: not all containers went on. Between two lines none is held so.
-    LazyText(Progress),
+    LazyText(OpenText),
     /// Indented code.
     Code,
     /// Fenced code or math: the byte of its marker, how many of it, and the columns in front of them.
@@ -59,4 +70,6 @@ pub enum HeldLeaf {
     Html {
         kind: HtmlKind,
     },
+    /// A table.
+    Table,
 }
