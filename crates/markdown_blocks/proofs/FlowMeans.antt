@@ -318,7 +318,7 @@ before_steps : (l : LeafName) (B : Behaviour) (feed : Feed) (w : World) (options
 before_steps l B feed w options next tried_is has s is asked =
     let otherwise : Scratch → Flags → Outcome =
     λ s g. leaves_of options next (behind l) (feed w.point) (record (here w) { scratch = s; flags = g }) in
-    let begins : ℕ → Bool = (leaf l).may_begin (sees_white w.current) in
+    let begins : ℕ → Bool = (leaf l).may_begin w.flags.leaf (sees_white w.current) in
     trial_steps B feed w w.flags _ _ _ _ (may_with begins (looks_behind w)) (record {
       onward = behind_leaf (leaf l).ends next;
       otherwise = otherwise;
@@ -329,8 +329,8 @@ before_steps l B feed w options next tried_is has s is asked =
       nok_is = λ s g. has.leaves (next_of l) _ _ ∙ left-next options next l _ _ tried_is;
       looked = λ no.
           let first = refused-first begins feed w s no in
-          let none : (leaf l).may_begin (begins_white (feed w.point)) first.0 ≡ false =
-          ap (λ (white : Bool). (leaf l).may_begin white first.0) (begins-seen feed w s) ∙ first.2 in
+          let none : (leaf l).may_begin w.flags.leaf (begins_white (feed w.point)) first.0 ≡ false =
+          ap (λ (white : Bool). (leaf l).may_begin w.flags.leaf white first.0) (begins-seen feed w s) ∙ first.2 in
           has.starts l _ _
           ∙ (laws l).refused options _ (here w) asked is ((laws l).looked options _ _ first.0 first.1 none);
     })

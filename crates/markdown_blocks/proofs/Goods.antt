@@ -278,7 +278,7 @@ pub good_before : (T : Scheme) (l : LeafName) (w : World) → FlowFits T → Lea
 good_before T l w has inner r =
     let a = inner.falls in
     let b = inner.next_low in
-    let may : Bool = may_with ((leaf l).may_begin (sees_white w.current)) (looks_behind w) in
+    let may : Bool = may_with ((leaf l).may_begin w.flags.leaf (sees_white w.current)) (looks_behind w) in
     looked T _ _ _ _ w w.flags may inner.front inner.next r (omega (arith, a, b)) (
       begins_try T flow_scheme inner.own (n.Flow (leaf l).before) (leaf l).start w IsRest IsRest
           w.events w.scratch _ inner.front inner.starts (ends-fit T has (leaf l).ends) inner.next refl

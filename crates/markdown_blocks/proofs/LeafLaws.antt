@@ -63,7 +63,7 @@ cond-shrinks n false a b p q = q
 pub record LeafLaws (l : LineLeaf) : Type 1 where
   -- It takes no line where it may not begin, by what stands first behind whitespace, and whether such stands in front.
   pub looked : (options : ParseOptions) (on : HeldLeaf) (cells : List Cell) (b : ℕ) → seen_behind cells ≡ Some b →
-      l.may_begin (begins_white cells) b ≡ false → l.takes options on cells ≡ false
+      l.may_begin on (begins_white cells) b ≡ false → l.takes options on cells ≡ false
   -- A line of it that goes on a leaf meets one on which a line may go on.
   pub meets : (options : ParseOptions) (on : HeldLeaf) (r : Rest) → l.starts options on r ≡ true →
       l.further on ≡ true → may_go_on on ≡ true

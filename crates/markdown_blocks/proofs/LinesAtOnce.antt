@@ -16,6 +16,7 @@ use Rattle.md_engine.specs.declared.state.Name.TheVariants as n
 use Rattle.md_engine.specs.declared.state.document.State.{State as DocumentState}
 use Rattle.md_engine.specs.declared.state.document.State.TheVariants as document
 use Rattle.md_engine.specs.declared.state.blank_line.State.TheVariants as blank_line
+use Rattle.md_engine.specs.declared.tokenizer.held_leaf.HeldLeaf.{HeldLeaf}
 use Rattle.md_engine.specs.declared.state.flow.State.{State as FlowState}
 use Rattle.md_engine.specs.declared.state.flow.State.TheVariants as flow
 use Rattle.md_engine.specs.declared.state.State.{State}
@@ -143,12 +144,12 @@ front-tried [] next one = absurd (one refl)
 front-tried (l ∷ ls) next one = ap is_some next.0
 
 -- those that are left to try are tried one after another
-left-next : (b : ℕ) (ls : List LeafName) → NextIs ls → NextIs (left_to_try b ls)
-left-next b [] next = next
-left-next b (l ∷ ls) next =
-    go ((leaf l).may_begin false b) (left-next b ls (subst NextIs next.1 (leaf-next l next.0)))
+left-next : (on : HeldLeaf) (b : ℕ) (ls : List LeafName) → NextIs ls → NextIs (left_to_try on b ls)
+left-next on b [] next = next
+left-next on b (l ∷ ls) next =
+    go ((leaf l).may_begin on false b) (left-next on b ls (subst NextIs next.1 (leaf-next l next.0)))
   where
-    go : (x : Bool) → NextIs (left_to_try b ls) → NextIs (cond x (l ∷ ls) (left_to_try b ls))
+    go : (x : Bool) → NextIs (left_to_try on b ls) → NextIs (cond x (l ∷ ls) (left_to_try on b ls))
     go true others = next
     go false others = others
 
@@ -157,24 +158,25 @@ leaves-refuse : (is_name : ResolveName → ResolveName → Bool) (is_end : Bool)
     (ls : List LeafName) (w : World) →
     NextIs ls → sees_white w.current ≡ false → looks_behind w ≡ Some b → w.current ≡ looks w → Within w →
     CameTo (FlowStep is_name) is_end s v (n.Flow (front_of ls)) w →
-    CameTo (FlowStep is_name) is_end s v (n.Flow (front_of (left_to_try b ls))) w
+    CameTo (FlowStep is_name) is_end s v (n.Flow (front_of (left_to_try w.flags.leaf b ls))) w
 leaves-refuse is_name is_end s v b [] w next dark here seen within came = came
 leaves-refuse is_name is_end s v b (l ∷ ls) w next dark here seen within came =
-    go ((leaf l).may_begin false b) refl
+    go ((leaf l).may_begin w.flags.leaf false b) refl
     (leaves-refuse is_name is_end s v b ls w (subst NextIs next.1 (leaf-next l next.0)) dark here seen within)
   where
     At : FlowState → Type 0
     At x = CameTo (FlowStep is_name) is_end s v (n.Flow x) w
 
-    go : (x : Bool) → (leaf l).may_begin false b ≡ x → (At (front_of ls) → At (front_of (left_to_try b ls))) →
-        At (front_of (cond x (l ∷ ls) (left_to_try b ls)))
+    go : (x : Bool) → (leaf l).may_begin w.flags.leaf false b ≡ x →
+        (At (front_of ls) → At (front_of (left_to_try w.flags.leaf b ls))) →
+        At (front_of (cond x (l ∷ ls) (left_to_try w.flags.leaf b ls)))
     go true may others = came
     go false may others =
         let x : FlowState = (leaf l).before in
         let is : flow_own_transition x w ≡ record { to = Retry (n.Flow (front_of ls)); world = w } =
         at-leaf x l w next.0
         ∙ ap (trial_code (leaf l).start (n.Flow (leaf_end (leaf l).ends)) (n.Flow (next_of l)) w)
-        (ap₂ (λ (white : Bool) (o : Option ℕ). may_with ((leaf l).may_begin white) o) dark here ∙ may)
+        (ap₂ (λ (white : Bool) (o : Option ℕ). may_with ((leaf l).may_begin w.flags.leaf white) o) dark here ∙ may)
         ∙ ap (λ (ms : List LeafName). record { to = Retry (n.Flow (front_of ms)); world = w }) next.1 in
         others
         (then-stays (FlowStep is_name) is_end s v (n.Flow x) (n.Flow (front_of ls)) w w came
@@ -276,34 +278,35 @@ passes-openers is_name is_end s v w none e seen within came =
 -- and to the first leaf that may begin, or to content
 pub passes-leaves : (is_name : ResolveName → ResolveName → Bool) (is_end : Bool) (s : State) (v w : World) →
     w.current ≡ looks w → Within w → CameTo (FlowStep is_name) is_end s v (n.Flow (front_of trials)) w →
-    CameTo (FlowStep is_name) is_end s v (n.Flow (begins_at w.current)) w
+    CameTo (FlowStep is_name) is_end s v (n.Flow (begins_at w.flags.leaf w.current)) w
 passes-leaves is_name is_end s v w seen within came = go w.current refl
   where
     At : FlowState → Type 0
     At x = CameTo (FlowStep is_name) is_end s v (n.Flow x) w
 
     white : (b : ℕ) → w.current ≡ Some b → (x : Bool) → is_white b ≡ x →
-        At (front_of (cond x trials (left_to_try b trials)))
+        At (front_of (cond x trials (left_to_try w.flags.leaf b trials)))
     white b here true is = came
     white b here false is =
         leaves-refuse is_name is_end s v b trials w (refl, refl) (ap sees_white here ∙ is) (looks-dark w b here is) seen
         within came
 
-    go : (o : Option ℕ) → w.current ≡ o → At (begins_at o)
+    go : (o : Option ℕ) → w.current ≡ o → At (begins_at w.flags.leaf o)
     go None here = came
     go (Some b) here = white b here (is_white b) refl
 
 -- which is tried there
-pub begins-tried : (o : Option ℕ) → begins_at o ≢ flow.BeforeContent → is_some (tried_at (begins_at o)) ≡ true
-begins-tried None one = front-tried trials (refl, refl) one
-begins-tried (Some b) one = go (is_white b) one
+pub begins-tried : (on : HeldLeaf) (o : Option ℕ) → begins_at on o ≢ flow.BeforeContent →
+    is_some (tried_at (begins_at on o)) ≡ true
+begins-tried on None one = front-tried trials (refl, refl) one
+begins-tried on (Some b) one = go (is_white b) one
   where
     of : Bool → List LeafName
-    of x = cond x trials (left_to_try b trials)
+    of x = cond x trials (left_to_try on b trials)
 
     go : (x : Bool) → front_of (of x) ≢ flow.BeforeContent → is_some (tried_at (front_of (of x))) ≡ true
     go true not_last = front-tried trials (refl, refl) not_last
-    go false not_last = front-tried (left_to_try b trials) (left-next b trials (refl, refl)) not_last
+    go false not_last = front-tried (left_to_try on b trials) (left-next on b trials (refl, refl)) not_last
 
 -- What a call leaves: where it stays, it has gone nowhere, and the text is the same.
 abbrev pub Leaves : Transition → World → Type 0
@@ -345,7 +348,7 @@ inside-leaves w = go (insider w.flags.leaf)
 pub leaf-leaves : (l : LeafName) (w : World) → Leaves (before_transition l w) w
 leaf-leaves l w =
     trial-leaves (leaf l).start (n.Flow (leaf_end (leaf l).ends)) (n.Flow (next_of l)) w w
-    (may_with ((leaf l).may_begin (sees_white w.current)) (looks_behind w)) refl refl refl
+    (may_with ((leaf l).may_begin w.flags.leaf (sees_white w.current)) (looks_behind w)) refl refl refl
 
 pub tried-leaf-leaves : (o : Option LeafName) (w : World) → Leaves (leaf_transition o w) w
 tried-leaf-leaves None w = (tt, refl)

@@ -122,7 +122,7 @@ containers-register state w h = opener-registers (opener_at state) w h
 
 leaf-registers : (o : Option LeafName) (w : World) → Registers w → Registers (flow.leaf_transition o w).world
 leaf-registers None w h = h
-leaf-registers (Some l) w h = trial _ _ _ w (may_with ((leaf l).may_begin (sees_white w.current)) (looks_behind w)) h
+leaf-registers (Some l) w h = trial _ _ _ w (may_with ((leaf l).may_begin w.flags.leaf (sees_white w.current)) (looks_behind w)) h
 
 leaves-register : (state : FlowState) (w : World) → Registers w → Registers (flow.flow_own_transition state w).world
 leaves-register its.Start w h = h

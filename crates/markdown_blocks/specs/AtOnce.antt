@@ -4,6 +4,7 @@ use Rattle.std.specs.List.{list_any}
 use Rattle.md_definition.specs.Rest.{is_white}
 use Rattle.md_engine.specs.declared.tokenizer.container.name.ContainerKind.{ContainerKind}
 use Rattle.md_engine.specs.declared.tokenizer.container.Container.{Container}
+use Rattle.md_engine.specs.declared.tokenizer.held_leaf.HeldLeaf.{HeldLeaf}
 use Rattle.md_engine.specs.World.{World, container_of}
 use Rattle.markdown_blocks.specs.LineFlags.{asking, begun_line, next_container}
 use Rattle.markdown_blocks.specs.Registry.{LeafName, container_rules, front_of, leaf, may_open, openers, trials}
@@ -38,16 +39,16 @@ abbrev pub opens_none : Option ℕ → Bool
 opens_none None = false
 opens_none (Some b) = not (is_white b || b == 10 || list_any (λ k. may_open k b) openers)
 
--- of leaves that are tried one after another, those from the first on that may begin with a byte, where no whitespace
--- stands in front of it
-abbrev pub left_to_try : ℕ → List LeafName → List LeafName
-left_to_try b [] = []
-left_to_try b (l ∷ ls) = if (leaf l).may_begin false b then l ∷ ls else left_to_try b ls
+-- of leaves that are tried one after another where a line meets this one, those from the first on that may begin with a
+-- byte, where no whitespace stands in front of it
+abbrev pub left_to_try : HeldLeaf → ℕ → List LeafName → List LeafName
+left_to_try on b [] = []
+left_to_try on b (l ∷ ls) = if (leaf l).may_begin on false b then l ∷ ls else left_to_try on b ls
 
 -- the state in front of these, where what stands here is no whitespace, and else of all
-abbrev pub begins_at : Option ℕ → FlowState
-begins_at None = front_of trials
-begins_at (Some b) = front_of (if is_white b then trials else left_to_try b trials)
+abbrev pub begins_at : HeldLeaf → Option ℕ → FlowState
+begins_at on None = front_of trials
+begins_at on (Some b) = front_of (if is_white b then trials else left_to_try on b trials)
 
 -- containers of these kinds were asked one after another whether they open
 abbrev pub all_asked : List ContainerKind → World → World

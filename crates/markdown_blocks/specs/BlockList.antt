@@ -17,8 +17,8 @@ use Rattle.md_containers.specs.Listed.{listed}
 use Rattle.md_seam.specs.Events.Nested.{around, enter_link, exit}
 use Rattle.markdown_blocks.specs.Document.{body_point, mark_events}
 use Rattle.markdown_blocks.specs.Registry.{text_leaf}
-use Rattle.markdown_blocks.specs.Rows.{Group, Lines, Row, Span, Turned, final_row, first_row, RowKind, Single}
-use Rattle.markdown_blocks.specs.Rows.{behind_row, cut_at_most, defined_unread, group_ending, turned_by, span_by}
+use Rattle.markdown_blocks.specs.Rows.{Group, Headed, Lines, Row, Span, Turned, final_row, first_row, RowKind, Single}
+use Rattle.markdown_blocks.specs.Rows.{behind_row, cut_at_most, defined_unread, group_ending, headed_unread, turned_by, span_by}
 use Rattle.markdown_blocks.specs.Rows.{ending_of, groups, last_row, leaf_unread, tail_events}
 use Rattle.markdown_blocks.specs.TextRows.{text_rows}
 
@@ -56,11 +56,12 @@ turned_unread options bytes row rows under =
 abbrev pub listed_row_by : List ℕ → RowKind → Row → List Event
 listed_row_by bytes kind row = row.front ++ leaf_unread bytes kind row ++ tail_events (ending_of kind row) row
 
--- the leaf of such a line, of the lines of a text, or of a text with its underline
+-- the leaf of such a line, of the lines of a text, of a text with its underline, or of a head with what it heads
 abbrev pub group_unread : ParseOptions → List ℕ → Group → List Event
 group_unread options bytes (Single row) = leaf_unread bytes row.kind row
 group_unread options bytes (Lines row rows) = text_unread options bytes row rows
 group_unread options bytes (Turned row rows under) = turned_unread options bytes row rows under
+group_unread options bytes (Headed row next rows) = headed_unread bytes row next rows
 group_unread options bytes (Span row rows) = span_by (λ (r : Row). r.inside) row rows
 
 -- with what stands in front of it, and behind it

@@ -56,7 +56,7 @@ leaf_end false = flow.After
 abbrev pub before_transition : LeafName → World → Transition
 before_transition l w =
     trial_code (leaf l).start (s.Flow (leaf_end (leaf l).ends)) (s.Flow (next_of l)) w
-    (may_with ((leaf l).may_begin (sees_white w.current)) (looks_behind w))
+    (may_with ((leaf l).may_begin w.flags.leaf (sees_white w.current)) (looks_behind w))
 
 abbrev pub before_content_transition : World → Transition
 before_content_transition w =

@@ -15,8 +15,9 @@ use Rattle.md_content.specs.Resolves.{found_in_content}
 use Rattle.md_leaves.specs.Spanned.{spanned}
 use Rattle.md_leaves.specs.Turned.{turned}
 use Rattle.md_seam.specs.Substituted.{Substituted}
+use Rattle.md_tables.specs.Tabled.{tabled}
 use Rattle.markdown_blocks.specs.Fed.{FlowRan}
-use Rattle.markdown_blocks.specs.Registry.{joins_lines, resolved}
+use Rattle.markdown_blocks.specs.Registry.{heads_read, joins_lines, resolved}
 use Rattle.markdown_blocks.specs.Rows.{Row, is_text, rows_events}
 pub use Rattle.markdown_blocks.specs.TextRows.{text_cells, text_rows, text_setting}
 
@@ -29,6 +30,10 @@ has_text (row ∷ rows) = is_text row.kind || has_text rows
 abbrev pub lines_joined : ParseOptions → List Event → List Event
 lines_joined options es = if joins_lines options then spanned es else es
 
+-- tables get their heads, bodies and cells, where they are on
+abbrev pub tables_set : ParseOptions → List Event → List Event
+tables_set options es = if options.constructs.gfm_table then tabled es else es
+
 -- flow has read a text from a point to its end, and then its resolvers ran
 pub record FlowReads (bytes : List ℕ) (options : ParseOptions) (p : Point) (found : Found) (new : World) : Type 0 where
   -- its states have come to this, with the events of the lines
@@ -36,13 +41,13 @@ pub record FlowReads (bytes : List ℕ) (options : ParseOptions) (p : Point) (fo
   pub ended : World
   pub ran : FlowRan bytes options p end ended
   pub events : ended.events ≡ rows_events (text_rows options bytes p)
-  -- content is read,
+  -- lines of text that are heads are read again, then content is read,
   pub content : List Event
   pub content_read : Substituted wants_content (content_readings bytes options) [] 0
-      (joined (rows_events (text_rows options bytes p))) content
-  -- then the resolvers of leaves run, setext headings are set, the lines of each leaf of several are joined, and lists are
-  -- put around items
-  pub events_are : new.events ≡ listed bytes (lines_joined options (turned (resolved content)))
+      (joined (heads_read options bytes (rows_events (text_rows options bytes p)))) content
+  -- then the resolvers of leaves run, setext headings are set, the lines of each leaf of several are joined, tables get
+  -- their cells, and lists are put around items
+  pub events_are : new.events ≡ listed bytes (tables_set options (lines_joined options (turned (resolved content))))
   -- all else stays, but that no resolver is left to run
   pub rest : new ≡ record ended { events = new.events; resolvers = [] }
   pub setting : new.setting ≡ text_setting bytes options p

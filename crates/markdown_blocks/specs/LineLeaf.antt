@@ -29,9 +29,11 @@ pub record LineLeaf : Type 0 where
   pub further : HeldLeaf → Bool
   -- Which leaf a line meets where this one is tried.
   pub asked : HeldLeaf → Bool
-  -- Whether it may begin, by whether whitespace stands here, and by what stands first behind that: elsewhere it is
-  -- refused at once.
-  pub may_begin : Bool → ℕ → Bool
+  -- Whether a line of it that goes on text takes the last line of that as its head; else it turns all of the text.
+  pub heads : Bool
+  -- Whether it may begin, by the leaf that the line meets, by whether whitespace stands here, and by what stands first
+  -- behind that: elsewhere it is refused at once.
+  pub may_begin : HeldLeaf → Bool → ℕ → Bool
   -- By the cells of the rest of a line: what is left of it at its first state, whether it takes the line, and then
   -- which events it adds, and what is held behind it.
   pub trial : ParseOptions → List Cell → Here → Outcome

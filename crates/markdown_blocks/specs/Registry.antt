@@ -41,7 +41,7 @@ use Rattle.md_leaves.specs.Spanned.{passes}
 use Rattle.md_leaves.specs.Turned.{is_no_underline, turned}
 use Rattle.md_leaves.specs.declared.spans.Place.TheVariants.{Outside}
 use Rattle.md_seam.specs.Events.Spelled.{FootnoteShape, ItemShape, OrderedShape, QuoteShape, Shape, UnorderedShape}
-use Rattle.md_definition.specs.State.{Container, InFootnote, InItem, InQuote, Leaf, OpenCode, OpenFence, OpenHtml}
+use Rattle.md_definition.specs.State.{Container, InFootnote, InItem, InQuote, Leaf, OpenCode, OpenFence, OpenHtml, OpenTable}
 use Rattle.md_lines.specs.Code.{code_scheme, code_transition}
 use Rattle.md_lines.specs.CodeRule.{code_behaves}
 use Rattle.md_lines.specs.Fence.{fence_scheme, fence_transition}
@@ -49,12 +49,17 @@ use Rattle.md_lines.specs.FenceRule.{fence_behaves}
 use Rattle.md_rich.specs.Html.{html_scheme, html_transition, is_html}
 use Rattle.md_rich.specs.HtmlRule.{html_behaves}
 use Rattle.md_seam.specs.Transition.{Transition}
+use Rattle.md_tables.specs.GfmTable.{table_scheme, table_transition}
+use Rattle.md_tables.specs.GfmTableRule.{table_behaves}
+use Rattle.md_tables.specs.Heads.{headed}
+use Rattle.md_tables.specs.Tabled.{tabled}
 use Rattle.markdown_blocks.specs.ContainerRules.{ContainerRules}
 use Rattle.markdown_blocks.specs.Containers.BlockQuote.{quote_rules}
 use Rattle.markdown_blocks.specs.Containers.ListItem.{item_rules}
 use Rattle.markdown_blocks.specs.Leaf.CodeIndented.{code_further, code_leaf, is_code}
 use Rattle.markdown_blocks.specs.Leaf.Fence.{fence_leaf}
 use Rattle.markdown_blocks.specs.Leaf.FenceFurther.{fence_further, is_fence}
+use Rattle.markdown_blocks.specs.Leaf.GfmTable.{table_leaf}
 use Rattle.markdown_blocks.specs.Leaf.HeadingAtx.{heading_leaf}
 use Rattle.markdown_blocks.specs.Leaf.HeadingSetext.{setext_leaf, setext_turn}
 use Rattle.markdown_blocks.specs.Leaf.HtmlFlow.{html_further, html_leaf}
@@ -66,7 +71,8 @@ use Rattle.markdown_blocks.specs.TextLeaf.{TextLeaf}
 use Rattle.markdown_blocks.specs.TurnLeaf.{TurnLeaf}
 
 -- Leaves that take a line: of indented code, of fenced code and math, and of HTML, one takes the first line, and one each
--- further line. The underline of a setext heading takes a line that turns the text in front of it.
+-- further line. The underline of a setext heading takes a line that turns the text in front of it; one more leaf takes the
+-- delimiter row of a table, which makes the line of text in front of it a head, and the rows of its body.
 
 pub data LeafName : Type 0 where
   CodeIndented : LeafName
@@ -78,6 +84,7 @@ pub data LeafName : Type 0 where
   HeadingAtx : LeafName
   HeadingSetext : LeafName
   ThematicBreak : LeafName
+  GfmTable : LeafName
 
 abbrev pub leaf : LeafName → LineLeaf
 leaf CodeIndented = code_leaf
@@ -89,10 +96,11 @@ leaf HtmlFurther = html_further
 leaf HeadingAtx = heading_leaf
 leaf HeadingSetext = setext_leaf
 leaf ThematicBreak = break_leaf
+leaf GfmTable = table_leaf
 
 -- the order in which they are tried, behind blank lines and in front of content
 abbrev pub trials : List LeafName
-trials = CodeIndented ∷ Fence ∷ HtmlFlow ∷ HeadingAtx ∷ HeadingSetext ∷ ThematicBreak ∷ []
+trials = CodeIndented ∷ Fence ∷ HtmlFlow ∷ HeadingAtx ∷ HeadingSetext ∷ ThematicBreak ∷ GfmTable ∷ []
 
 -- The leaf that is asked, in front of blank lines and all others, whether a line goes on the one that it meets.
 unfoldable pub insider : HeldLeaf → Option LeafName
@@ -110,7 +118,7 @@ shuts_out on = is_fence on || is_html on
 unfoldable pub joins_lines : ParseOptions → Bool
 joins_lines options =
     options.constructs.code_fenced || options.constructs.math_flow || options.constructs.code_indented
-    || options.constructs.html_flow
+    || options.constructs.html_flow || options.constructs.gfm_table
 
 -- whether an event stays as it is where headings are set, lines are joined and lists are put around items
 abbrev pub stays_alone : Event → Bool
@@ -123,12 +131,13 @@ further_of Fence = FenceFurther
 further_of HtmlFlow = HtmlFurther
 further_of l = l
 
--- The leaves of several lines that may be open between two lines, but for text: indented code, HTML, and fenced code and
--- math that a fence of enough markers has opened.
+-- The leaves of several lines that may be open between two lines, but for text: indented code, HTML, tables, and fenced
+-- code and math that a fence of enough markers has opened.
 unfoldable pub IsOpenSpan : Leaf → Type 0
 IsOpenSpan (OpenCode lines) = Unit {0}
 IsOpenSpan (OpenFence o lines) = is_fence (held_leaf.Fence o.marker o.size o.indent) ≡ true
 IsOpenSpan (OpenHtml kind lines) = Unit {0}
+IsOpenSpan (OpenTable delimiter rows) = Unit {0}
 IsOpenSpan open_leaf = ⊥
 
 -- the first of them that passes a test
@@ -144,6 +153,7 @@ tried_at flow.BeforeHtml = Some HtmlFlow
 tried_at flow.BeforeHeadingAtx = Some HeadingAtx
 tried_at flow.BeforeHeadingSetext = Some HeadingSetext
 tried_at flow.BeforeThematicBreak = Some ThematicBreak
+tried_at flow.BeforeGfmTable = Some GfmTable
 tried_at _ = None
 
 -- a number by which each is known
@@ -157,6 +167,7 @@ number HtmlFurther = 5
 number HeadingAtx = 6
 number HeadingSetext = 7
 number ThematicBreak = 8
+number GfmTable = 9
 
 -- the leaves that are tried behind one, where it has not taken the line
 abbrev pub behind_in : ℕ → List LeafName → List LeafName
@@ -188,6 +199,7 @@ low_weight HtmlFurther = (refl, refl)
 low_weight HeadingAtx = (refl, refl)
 low_weight HeadingSetext = (refl, refl)
 low_weight ThematicBreak = (refl, refl)
+low_weight GfmTable = (refl, refl)
 
 abbrev pub rank_of : LeafName → Rank
 rank_of l = ranked (weight l) (low_weight l).0
@@ -217,12 +229,17 @@ is_own name = is_heading name
 abbrev pub resolved_by : List ℕ → ResolveName → List Event → List Event
 resolved_by bytes r.HeadingAtx events = headings_resolved events
 resolved_by bytes r.HeadingSetext events = turned events
+resolved_by bytes r.GfmTable events = tabled events
 resolved_by bytes r.ListItem events = listed bytes events
 resolved_by bytes _ events = events
 
 -- what that of leaves makes of them; it changes nothing where nothing is its own
 abbrev pub resolved : List Event → List Event
 resolved events = resolved_by [] resolver events
+
+-- In front of content, lines of text that are heads of tables are read again.
+abbrev pub heads_read : ParseOptions → List ℕ → List Event → List Event
+heads_read options bytes events = if options.constructs.gfm_table then headed bytes options events else events
 
 -- Containers: those of the line definition, built or not, and what the events tell of one.
 
@@ -363,6 +380,7 @@ goes_over held = (container_rules held.kind).over_empty held
 abbrev pub construct_owner : StateName → Scheme
 construct_owner (s.BlockQuote state) = quote_scheme
 construct_owner (s.CodeIndented state) = code_scheme
+construct_owner (s.GfmTable state) = table_scheme
 construct_owner (s.HeadingAtx state) = heading_scheme
 construct_owner (s.HeadingSetext state) = setext_scheme
 construct_owner (s.HtmlFlow state) = html_scheme
@@ -374,6 +392,7 @@ construct_owner _ = nowhere
 abbrev pub construct_transition : (ResolveName → ResolveName → Bool) → StateName → World → Transition
 construct_transition is_name (s.BlockQuote state) w = quote_transition state w
 construct_transition is_name (s.CodeIndented state) w = code_transition state w
+construct_transition is_name (s.GfmTable state) w = table_transition state w
 construct_transition is_name (s.HeadingAtx state) w = heading_transition (is_name r.HeadingAtx) state w
 construct_transition is_name (s.HeadingSetext state) w = setext_transition state w
 construct_transition is_name (s.HtmlFlow state) w = html_transition state w
@@ -385,6 +404,7 @@ construct_transition is_name _ w = record { to = Nok; world = w }
 abbrev pub construct_behaves : List ℕ → ParseOptions → Behaviour
 construct_behaves bytes options (s.BlockQuote state) cells h = quote_behaves options state cells h
 construct_behaves bytes options (s.CodeIndented state) cells h = code_behaves options state cells h
+construct_behaves bytes options (s.GfmTable state) cells h = table_behaves options state cells h
 construct_behaves bytes options (s.HeadingAtx state) cells h = heading_behaves options state cells h
 construct_behaves bytes options (s.HeadingSetext state) cells h = setext_behaves options state cells h
 construct_behaves bytes options (s.HtmlFlow state) cells h = html_behaves bytes options state cells h

@@ -5,10 +5,11 @@ use Rattle.md_engine.specs.declared.resolve.name.Name.TheVariants.{Content}
 use Rattle.md_engine.specs.Found.{Found}
 use Rattle.md_engine.specs.World.{World}
 use Rattle.md_content.specs.Resolves.{Resolves}
-use Rattle.markdown_blocks.specs.Registry.{resolved_by}
+use Rattle.markdown_blocks.specs.Registry.{heads_read, resolved_by}
 
--- content is read, and the resolvers of constructs that are built set what is their own; the names of the inline layer
--- change nothing
+-- heads are read again and then content, and the resolvers of constructs that are built set what is their own; the names
+-- of the inline layer change nothing
 abbrev pub resolved_as : ResolveName → World → Option Found → World → Type 0
-resolved_as Content old found new = Resolves old found new
+resolved_as Content old found new =
+    Resolves (record old { events = heads_read old.setting.options old.setting.bytes old.events }) found new
 resolved_as name old found new = (found ≡ None) × (new ≡ record old { events = resolved_by old.setting.bytes name old.events })

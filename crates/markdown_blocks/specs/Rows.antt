@@ -32,6 +32,8 @@ use Rattle.markdown_blocks.specs.LineFlags.{ending_name, nothing_stands}
 use Rattle.md_parts.specs.Progress.{text_behind}
 use Rattle.md_parts.specs.WholeCells.{whole_line}
 use Rattle.md_parts.specs.DefinitionRule.{DefinitionParts, definition_end, definition_events}
+use Rattle.md_tables.specs.RowBytes.{head_line}
+use Rattle.md_tables.specs.Tabled.{tabled}
 use Rattle.markdown_blocks.specs.Passed.{Passed}
 use Rattle.markdown_blocks.specs.Registry.{LeafName, first_of, goes_at, insider, leaf, opens_at, shuts_out, text_leaf, turn_leaf}
 use Rattle.markdown_blocks.specs.Registry.{trials}
@@ -315,12 +317,13 @@ single_events_by bytes kind row = row.front ++ leaf_done bytes kind row ++ tail_
 
 -- Texts.
 
--- a line that is no text, the lines of a text, those of a text and the underline that turns it, or those of a leaf of
--- several
+-- a line that is no text, the lines of a text, those of a text and the underline that turns it, a line of text that is a
+-- head with the line that takes it and those that go on that, or those of a leaf of several
 pub data Group : Type 0 where
   Single : Row → Group
   Lines : Row → List Row → Group
   Turned : Row → List Row → Row → Group
+  Headed : Row → Row → List Row → Group
   Span : Row → List Row → Group
 
 -- whether a line of text goes on the text of the one before: no container ends or opens between them
@@ -346,10 +349,16 @@ abbrev pub is_last : List Row → Bool
 is_last [] = true
 is_last (row ∷ rows) = false
 
--- a line of text: one line behind it that goes on it is its underline
+-- whether a line of this kind takes the last line of a text that it goes on as its head
+abbrev pub takes_head : RowKind → Bool
+takes_head (LeafRow l) = (leaf l).heads
+takes_head kind = false
+
+-- a line of text: a line behind it that goes on it takes it as its head, or is its underline
 abbrev pub onto_underline : Row → Row → List Row → List Group → List Group
 onto_underline row next rows groups =
-    if is_further next.kind next.on && is_last rows then Turned row [] next ∷ groups
+    if is_further next.kind next.on && takes_head next.kind then Headed row next rows ∷ groups
+    else if is_further next.kind next.on && is_last rows then Turned row [] next ∷ groups
     else Lines row [] ∷ Span next rows ∷ groups
 
 -- a line of a leaf of several: a line that goes on it is one of the same
@@ -521,24 +530,39 @@ span_by f row rows = but_end (f row) ++ span_rest f (end_of (f row)) row rows
 abbrev pub span_done : List ℕ → Row → List Row → List Event
 span_done bytes row rows = plain_read bytes (span_by (λ (r : Row). r.inside) row rows)
 
+-- A line of text as a head: what its states leave of it, in the place of its text.
+abbrev pub headed_row : List ℕ → Row → Row
+headed_row bytes row = record row { inside = head_line (row_line bytes row) row.first }
+
+-- with the line that takes it as its head, and those that go on that: joined, with what the last resolver puts in
+abbrev pub headed_unread : List ℕ → Row → Row → List Row → List Event
+headed_unread bytes row next rows = tabled (span_by (λ (r : Row). r.inside) (headed_row bytes row) (next ∷ rows))
+
+-- once their text parts are read
+abbrev pub headed_done : List ℕ → Row → Row → List Row → List Event
+headed_done bytes row next rows = plain_read bytes (headed_unread bytes row next rows)
+
 -- Of a group: its first line and its last, what its last line is, and its leaf.
 
 abbrev pub first_row : Group → Row
 first_row (Single row) = row
 first_row (Lines row rows) = row
 first_row (Turned row rows under) = row
+first_row (Headed row next rows) = row
 first_row (Span row rows) = row
 
 abbrev pub final_row : Group → Row
 final_row (Single row) = row
 final_row (Lines row rows) = last_row row rows
 final_row (Turned row rows under) = under
+final_row (Headed row next rows) = last_row next rows
 final_row (Span row rows) = last_row row rows
 
 abbrev pub group_kind : Group → RowKind
 group_kind (Single row) = row.kind
 group_kind (Lines row rows) = TextRow
 group_kind (Turned row rows under) = under.kind
+group_kind (Headed row next rows) = (last_row next rows).kind
 group_kind (Span row rows) = (last_row row rows).kind
 
 -- whether that line is blank to its ending, and the name of this
@@ -552,6 +576,7 @@ abbrev pub group_done : ParseOptions → List ℕ → Group → List Event
 group_done options bytes (Single row) = leaf_done bytes row.kind row
 group_done options bytes (Lines row rows) = text_done options bytes row rows
 group_done options bytes (Turned row rows under) = turned_done options bytes row rows under
+group_done options bytes (Headed row next rows) = headed_done bytes row next rows
 group_done options bytes (Span row rows) = span_done bytes row rows
 
 -- what stands in front of its first line, its leaf, and what stands behind its last line

@@ -11,31 +11,39 @@ use Rattle.md_seam.specs.declared.inline.Chunk.{Chunk}
 use Rattle.md_seam.specs.Events.Nested.{enter_link, exit}
 pub use Rattle.markdown_blocks.specs.BlockList.{group_unread, linked_lines, text_unread, listed_group, listed_groups}
 pub use Rattle.markdown_blocks.specs.BlockList.{listed_row_by, unread_lines}
-use Rattle.markdown_blocks.specs.Rows.{Group, Lines, Single, Span, Turned, last_row, row_events, rows_events, tail_events}
+use Rattle.markdown_blocks.specs.Rows.{Group, Headed, Lines, Row, Single, Span, Turned, last_row, row_events, rows_events, tail_events}
+use Rattle.markdown_blocks.specs.Rows.{headed_row, span_by}
 
 -- the chunks of a part that is not read yet
 abbrev pub linked : Name → Link → List Chunk → List Event
 linked name link [] = []
 linked name link (chunk ∷ chunks) = enter_link name chunk.first link ∷ exit name chunk.after ∷ linked name link chunks
 
+-- A line of text that was read again as a head, and the lines that go on it.
+abbrev pub headed_lines : List ℕ → Row → Row → List Row → List Event
+headed_lines bytes row next rows =
+    (row.front ++ (headed_row bytes row).inside ++ tail_events n.LineEnding row) ++ rows_events (next ∷ rows)
+
 -- Lines of text that follow one another, before their content is read.
-abbrev pub joined_group : Group → List Event
-joined_group (Single row) = row_events row
-joined_group (Span row rows) = rows_events (row ∷ rows)
-joined_group (Turned row rows under) =
+abbrev pub joined_group : List ℕ → Group → List Event
+joined_group bytes (Single row) = row_events row
+joined_group bytes (Span row rows) = rows_events (row ∷ rows)
+joined_group bytes (Headed row next rows) = headed_lines bytes row next rows
+joined_group bytes (Turned row rows under) =
     row.front ++ linked_lines n.Content content_link row rows ++ tail_events n.LineEnding (last_row row rows)
     ++ row_events under
-joined_group (Lines row rows) =
+joined_group bytes (Lines row rows) =
     row.front ++ linked_lines n.Content content_link row rows ++ tail_events n.LineEnding (last_row row rows)
 
-abbrev pub joined_groups : List Group → List Event
-joined_groups [] = []
-joined_groups (group ∷ groups) = joined_group group ++ joined_groups groups
+abbrev pub joined_groups : List ℕ → List Group → List Event
+joined_groups bytes [] = []
+joined_groups bytes (group ∷ groups) = joined_group bytes group ++ joined_groups bytes groups
 
 -- Texts, before they are read; leaves as their states leave them.
 abbrev pub unread_group : ParseOptions → List ℕ → Group → List Event
 unread_group options bytes (Single row) = row_events row
 unread_group options bytes (Span row rows) = rows_events (row ∷ rows)
+unread_group options bytes (Headed row next rows) = headed_lines bytes row next rows
 unread_group options bytes (Turned row rows under) =
     row.front ++ text_unread options bytes row rows ++ tail_events n.LineEnding (last_row row rows) ++ row_events under
 unread_group options bytes (Lines row rows) = row.front ++ text_unread options bytes row rows ++ tail_events n.LineEnding (last_row row rows)
@@ -47,6 +55,7 @@ unread_groups options bytes (group ∷ groups) = unread_group options bytes grou
 -- Leaves once their resolvers have run, before setext headings are set, and the lines of a leaf of several are joined.
 abbrev pub set_group : ParseOptions → List ℕ → Group → List Event
 set_group options bytes (Span row rows) = rows_events (row ∷ rows)
+set_group options bytes (Headed row next rows) = headed_lines bytes row next rows
 set_group options bytes (Turned row rows under) = unread_group options bytes (Turned row rows under)
 set_group options bytes group = listed_group options bytes group
 
@@ -57,8 +66,20 @@ set_groups options bytes (group ∷ groups) = set_group options bytes group ++ s
 -- Setext headings once they are set, before the lines of a leaf of several are joined.
 abbrev pub turned_group : ParseOptions → List ℕ → Group → List Event
 turned_group options bytes (Span row rows) = rows_events (row ∷ rows)
+turned_group options bytes (Headed row next rows) = headed_lines bytes row next rows
 turned_group options bytes group = listed_group options bytes group
 
 abbrev pub turned_groups : ParseOptions → List ℕ → List Group → List Event
 turned_groups options bytes [] = []
 turned_groups options bytes (group ∷ groups) = turned_group options bytes group ++ turned_groups options bytes groups
+
+-- The lines of each leaf of several once they are joined, before tables get their cells.
+abbrev pub spanned_group : ParseOptions → List ℕ → Group → List Event
+spanned_group options bytes (Headed row next rows) =
+    row.front ++ span_by (λ (r : Row). r.inside) (headed_row bytes row) (next ∷ rows)
+    ++ tail_events n.LineEnding (last_row next rows)
+spanned_group options bytes group = listed_group options bytes group
+
+abbrev pub spanned_groups : ParseOptions → List ℕ → List Group → List Event
+spanned_groups options bytes [] = []
+spanned_groups options bytes (group ∷ groups) = spanned_group options bytes group ++ spanned_groups options bytes groups

@@ -8,7 +8,7 @@ ghost use Rattle.md_engine.specs.Place.{IsPlaced};
 ghost use Rattle.md_engine.specs.World.{fresh, world};
 ghost use Rattle.md_leaves.specs.Turned.{turned};
 ghost use Rattle.markdown_blocks.specs.Document.{ReadsMark};
-ghost use Rattle.markdown_blocks.specs.FlowReads.{FlowReads, lines_joined};
+ghost use Rattle.markdown_blocks.specs.FlowReads.{FlowReads, lines_joined, tables_set};
 ghost use Rattle.markdown_blocks.specs.Parsed.{IsBuilt, IsParsed, IsSmall};
 ghost use Rattle.markdown_blocks.specs.Registry.{stays_alone};
 ghost use Rattle.markdown_blocks.specs.TextReads.{text_kind, wants_text};
@@ -154,6 +154,22 @@ fn join_lines(tokenizer: &mut Tokenizer, options: &ParseOptions) -> Result<(), M
     Ok(())
 }
 
+/// Gives tables their heads, bodies and cells, where they are on.
+///
+/// An `Err` says that memory ran out.
+fn set_tables(tokenizer: &mut Tokenizer, options: &ParseOptions) -> Result<(), Message>
+    requires { (world tokenizer.old).frames ≡ [] }
+    ensures frames { OnOk result ((world tokenizer.new).frames ≡ []) }
+    ensures world { OnOk result
+        (world tokenizer.new ≡
+        record (world tokenizer.old) { events = tables_set options.now (world tokenizer.old).events }) }
+{
+    if options.constructs.gfm_table {
+        resolve::call(tokenizer, ResolveName::GfmTable)?;
+    }
+    Ok(())
+}
+
 /// How many events stand in front of the first that may not stay as it is where setext headings are set, lines are joined
 /// and lists are put around items.
 fn until_grouped(events: &[Event]) -> usize
@@ -168,8 +184,8 @@ fn until_grouped(events: &[Event]) -> usize
     events.len()
 }
 
-/// Sets setext headings, joins the lines of each leaf of several, and puts lists around items. Where none of these stands,
-/// one look at each event tells so.
+/// Sets setext headings, joins the lines of each leaf of several, gives tables their cells, and puts lists around items.
+/// Where none of these stands, one look at each event tells so.
 ///
 /// An `Err` says that memory ran out.
 fn group_blocks(tokenizer: &mut Tokenizer, options: &ParseOptions) -> Result<(), Message>
@@ -177,7 +193,8 @@ fn group_blocks(tokenizer: &mut Tokenizer, options: &ParseOptions) -> Result<(),
     ensures { OnOk result
         (world tokenizer.new ≡
         record (world tokenizer.old) {
-          events = listed (world tokenizer.old).setting.bytes (lines_joined options.now (turned (world tokenizer.old).events));
+          events = listed (world tokenizer.old).setting.bytes
+              (tables_set options.now (lines_joined options.now (turned (world tokenizer.old).events)));
         }) }
 {
     if until_grouped(&tokenizer.events) == tokenizer.events.len() {
@@ -185,6 +202,7 @@ fn group_blocks(tokenizer: &mut Tokenizer, options: &ParseOptions) -> Result<(),
     }
     resolve::call(tokenizer, ResolveName::HeadingSetext)?;
     join_lines(tokenizer, options)?;
+    set_tables(tokenizer, options)?;
     resolve::call(tokenizer, ResolveName::ListItem)?;
     Ok(())
 }

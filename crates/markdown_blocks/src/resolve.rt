@@ -23,7 +23,10 @@ pub fn call(tokenizer: &mut Tokenizer, name: Name) -> Result<Option<Subresult>, 
         (λ found. resolved_as name (world tokenizer.old) (option_map found_in found) (world tokenizer.new)) }
 {
     match name {
-        Name::Content => content::resolve(tokenizer),
+        Name::Content => {
+            registry::read_heads(tokenizer)?;
+            content::resolve(tokenizer)
+        }
         _ => registry::resolve(tokenizer, name),
     }
 }

@@ -120,4 +120,5 @@ part-no_lines n.CodeIndented h = absurd (let none : false ≡ true = h in cc)
 part-no_lines n.CodeFenced h = absurd (let none : false ≡ true = h in cc)
 part-no_lines n.MathFlow h = absurd (let none : false ≡ true = h in cc)
 part-no_lines n.HtmlFlow h = absurd (let none : false ≡ true = h in cc)
+part-no_lines n.GfmTable h = absurd (let none : false ≡ true = h in cc)
 part-no_lines _ h = refl

@@ -1,4 +1,4 @@
--- Leaf blocks of several lines, among the events (CommonMark 4.4, 4.5, 4.6).
+-- Leaf blocks of several lines, among the events (CommonMark 4.4, 4.5, 4.6, GFM 4.10).
 --
 -- At first each line of such a block stands as a block by itself; the begin of a further line says by its link that it
 -- goes on the block of the line before. Where a block ends and the next one is such a line, neither that end nor the
@@ -19,7 +19,7 @@ use Rattle.md_leaves.specs.declared.spans.Place.{Place}
 use Rattle.md_leaves.specs.declared.spans.Place.TheVariants.{Between, Inside, Outside}
 use Rattle.md_seam.specs.Events.Blocks.{is_block}
 use Rattle.md_seam.specs.Events.Nested.{is_enter}
-use Rattle.md_seam.specs.Events.Spelled.{OfCode, OfFence, OfHtml, OfMath, Opens, Role, role}
+use Rattle.md_seam.specs.Events.Spelled.{OfCode, OfFence, OfHtml, OfMath, OfTable, Opens, Role, role}
 
 -- Names.
 
@@ -29,6 +29,7 @@ has_lines (Opens OfCode) = true
 has_lines (Opens OfFence) = true
 has_lines (Opens OfMath) = true
 has_lines (Opens OfHtml) = true
+has_lines (Opens OfTable) = true
 has_lines _ = false
 
 -- whether it is a line of code

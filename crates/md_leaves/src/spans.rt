@@ -31,7 +31,11 @@ fn has_lines(name: Name) -> bool
 {
     matches!(
         name,
-        Name::CodeIndented | Name::CodeFenced | Name::MathFlow | Name::HtmlFlow
+        Name::CodeIndented
+            | Name::CodeFenced
+            | Name::MathFlow
+            | Name::HtmlFlow
+            | Name::GfmTable
     )
 }
 

@@ -18,7 +18,7 @@ use Rattle.markdown_blocks.specs.Leaf.CodeIndented.{code_further, code_leaf}
 
 -- A line without whitespace in front has no indent.
 pub code-looked : (options : ParseOptions) (on : HeldLeaf) (cells : List Cell) (b : ℕ) → seen_behind cells ≡ Some b →
-    code_leaf.may_begin (begins_white cells) b ≡ false → code_leaf.takes options on cells ≡ false
+    code_leaf.may_begin on (begins_white cells) b ≡ false → code_leaf.takes options on cells ≡ false
 code-looked options on cells b seen e =
     let text : Bool = not (is_blank (line_bytes cells)) in
     let allowed : Bool = options.constructs.code_indented && may_open on in
@@ -31,14 +31,14 @@ code-looked options on cells b seen e =
 
 -- Any byte may stand first on a further line.
 pub code_further-looked : (options : ParseOptions) (on : HeldLeaf) (cells : List Cell) (b : ℕ) →
-    seen_behind cells ≡ Some b → code_further.may_begin (begins_white cells) b ≡ false →
+    seen_behind cells ≡ Some b → code_further.may_begin on (begins_white cells) b ≡ false →
     code_further.takes options on cells ≡ false
 code_further-looked options on cells b seen e = cc
 
 -- What stands first behind whitespace does not count, and where nothing stands that may be read, it is tried: so it is
 -- told by what stands here alone.
 pub code-may : (w : World) →
-    may_with (code_leaf.may_begin (sees_white w.current)) (looks_behind w) ≡ may_with is_white w.current
+    may_with (code_leaf.may_begin w.flags.leaf (sees_white w.current)) (looks_behind w) ≡ may_with is_white w.current
 unfolding looks_behind
 code-may w = go w.current
   where
@@ -53,6 +53,6 @@ code-may w = go w.current
     by b true = any found
     by b false = refl
 
-    go : (o : Option ℕ) → may_with (code_leaf.may_begin (sees_white o)) (behind_code o found) ≡ may_with is_white o
+    go : (o : Option ℕ) → may_with (code_leaf.may_begin w.flags.leaf (sees_white o)) (behind_code o found) ≡ may_with is_white o
     go None = refl
     go (Some b) = by b (is_white b)

@@ -37,7 +37,7 @@ fence-size on e = (and_parts (may_begin (held_marker on)) (nat_le (least_size (h
 
 -- Any byte may stand first.
 pub further-looked : (options : ParseOptions) (on : HeldLeaf) (cells : List Cell) (b : ℕ) → seen_behind cells ≡ Some b →
-    fence_further.may_begin (begins_white cells) b ≡ false → fence_further.takes options on cells ≡ false
+    fence_further.may_begin on (begins_white cells) b ≡ false → fence_further.takes options on cells ≡ false
 further-looked options on cells b seen e = cc
 
 -- The line is taken to its end.

@@ -47,7 +47,7 @@ html-looked options on cells b seen e =
 
 -- Any byte may stand first on a further line.
 pub further-looked : (options : ParseOptions) (on : HeldLeaf) (cells : List Cell) (b : ℕ) →
-    seen_behind cells ≡ Some b → html_further.may_begin (begins_white cells) b ≡ false →
+    seen_behind cells ≡ Some b → html_further.may_begin on (begins_white cells) b ≡ false →
     html_further.takes options on cells ≡ false
 further-looked options on cells b seen e = cc
 

@@ -24,8 +24,8 @@ ghost use Rattle.markdown_blocks.specs.Registry.{front_of, opener_front, openers
 ghost use Rattle.md_seam.specs.Transition.{IsAt, NeedsNothing};
 
 pub use crate::construct::registry::{
-    before_code_indented, before_heading_atx, before_heading_setext, before_html, before_raw,
-    before_thematic_break,
+    before_code_indented, before_gfm_table, before_heading_atx, before_heading_setext, before_html,
+    before_raw, before_thematic_break,
 };
 use crate::construct::{document, registry};
 use crate::resolve;
@@ -189,7 +189,7 @@ fn leaves(tokenizer: &mut Tokenizer) -> State
         (StateName.Flow (front_of trials)) (world tokenizer.old) result (world tokenizer.new) }
     ensures sees { result ≢ State.Error → SeesOn result (world tokenizer.old) (world tokenizer.new) }
 {
-    match registry::begins_at(tokenizer.current) {
+    match registry::begins_at(tokenizer.flags.leaf, tokenizer.current) {
         FlowState::BeforeContent => content_begins(tokenizer),
         state => registry::leaf_begins(tokenizer, state),
     }

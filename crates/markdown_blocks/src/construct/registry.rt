@@ -2,7 +2,7 @@
 //
 //     container ::= block_quote | list_item
 //     leaf      ::= code_indented | raw_flow | html_flow | heading_atx | heading_setext
-//                 | thematic_break
+//                 | thematic_break | gfm_table
 //
 // What flow itself is made of (blank lines, content, whitespace) stands in its own table.
 
@@ -22,7 +22,7 @@ ghost use Rattle.md_engine.specs.declared.state.flow.State.{State as FlowState};
 ghost use Rattle.markdown_blocks.specs.Flow.{before_transition, leaf_transition, new_before_transition};
 ghost use Rattle.markdown_blocks.specs.Flow.{opener_transition};
 ghost use Rattle.markdown_blocks.specs.LineFlags.{asking};
-ghost use Rattle.markdown_blocks.specs.Registry.{joins_lines, shuts_out, stays_alone};
+ghost use Rattle.markdown_blocks.specs.Registry.{heads_read, joins_lines, shuts_out, stays_alone};
 ghost use Rattle.markdown_blocks.specs.Registry.{construct_transition, goes_on_with, insider, leaf};
 ghost use Rattle.markdown_blocks.specs.AtOnce.{HasPrefix, all_asked, begins_at, opens_none, prefix_taken};
 ghost use Rattle.markdown_blocks.specs.Registry.{may_go_on, may_open, next_opener, opener_front, openers};
@@ -47,6 +47,7 @@ use md_engine::state::block_quote::State as QuoteState;
 use md_engine::state::code_indented::State as CodeState;
 use md_engine::state::document::State as DocumentState;
 use md_engine::state::flow::State as FlowState;
+use md_engine::state::gfm_table::State as TableState;
 use md_engine::state::heading_atx::State as HeadingState;
 use md_engine::state::heading_setext::State as SetextState;
 use md_engine::state::html_flow::State as HtmlState;
@@ -62,6 +63,7 @@ use md_leaves::{heading_atx, heading_setext, thematic_break, underlines};
 use md_lines::{code_indented, raw_flow};
 use md_rich::html_flow;
 use md_seam::space_or_tab::look_behind;
+use md_tables::gfm_table;
 
 /// The state of the document in front of the first container that may open.
 #[inline(always)]
@@ -158,11 +160,11 @@ pub fn opens_none(current: Option<u8>) -> bool
     }
 }
 
-/// The state in front of the first leaf that may begin where this stands, which is no whitespace, and in front of content
-/// where none may; where whitespace stands, or nothing, all are tried.
+/// The state in front of the first leaf that may begin where a line meets this leaf and this stands, which is no
+/// whitespace, and in front of content where none may; where whitespace stands, or nothing, all are tried.
 #[inline(always)]
-pub fn begins_at(current: Option<u8>) -> FlowState
-    ensures { result ≡ begins_at current }
+pub fn begins_at(leaf: HeldLeaf, current: Option<u8>) -> FlowState
+    ensures { result ≡ begins_at leaf current }
 {
     match current {
         None => first_trial(),
@@ -179,6 +181,8 @@ pub fn begins_at(current: Option<u8>) -> FlowState
                 FlowState::BeforeHeadingSetext
             } else if thematic_break::may_begin(current) {
                 FlowState::BeforeThematicBreak
+            } else if gfm_table::may_begin(leaf, current) {
+                FlowState::BeforeGfmTable
             } else {
                 FlowState::BeforeContent
             }
@@ -220,7 +224,9 @@ fn may_be_white(current: Option<u8>) -> bool
 #[inline(always)]
 fn may_be_indented(tokenizer: &Tokenizer) -> bool
     ensures { result ≡
-        may_with ((leaf LeafName.CodeIndented).may_begin (sees_white (world tokenizer.now).current))
+        may_with
+        ((leaf LeafName.CodeIndented).may_begin (world tokenizer.now).flags.leaf
+        (sees_white (world tokenizer.now).current))
         (looks_behind (world tokenizer.now)) }
 {
     may_be_white(tokenizer.current)
@@ -352,13 +358,38 @@ pub fn before_thematic_break(tokenizer: &mut Tokenizer) -> State
         world tokenizer.new ≡ (before_transition LeafName.ThematicBreak (world tokenizer.old)).world }
 {
     if !thematic_break::may_begin(look_behind(tokenizer)) {
-        return State::Retry(StateName::Flow(FlowState::BeforeContent));
+        return State::Retry(StateName::Flow(FlowState::BeforeGfmTable));
     }
     or_error!(tokenizer.attempt(
         State::Next(StateName::Flow(FlowState::LeafAfter)),
-        State::Next(StateName::Flow(FlowState::BeforeContent))
+        State::Next(StateName::Flow(FlowState::BeforeGfmTable))
     ));
     State::Retry(StateName::ThematicBreak(BreakState::Start))
+}
+
+/// Before a line of a table: a delimiter row behind text, or a row of the body.
+///
+/// ```markdown
+///   | | a |
+/// > | | - |
+///     ^
+/// > | | b |
+///     ^
+/// ```
+pub fn before_gfm_table(tokenizer: &mut Tokenizer) -> State
+    requires { IsAt NeedsNothing (StateName.Flow FlowState.BeforeGfmTable) (world tokenizer.old) }
+    ensures to { result ≢ State.Error → result ≡ (before_transition LeafName.GfmTable (world tokenizer.old)).to }
+    ensures world { result ≢ State.Error →
+        world tokenizer.new ≡ (before_transition LeafName.GfmTable (world tokenizer.old)).world }
+{
+    if !gfm_table::may_begin(tokenizer.flags.leaf, look_behind(tokenizer)) {
+        return State::Retry(StateName::Flow(FlowState::BeforeContent));
+    }
+    or_error!(tokenizer.attempt(
+        State::Next(StateName::Flow(FlowState::After)),
+        State::Next(StateName::Flow(FlowState::BeforeContent))
+    ));
+    State::Retry(StateName::GfmTable(TableState::Start))
 }
 
 /// Calls the state of flow in front of a leaf; those of leaves that are not built refuse.
@@ -376,6 +407,7 @@ pub fn before_leaf(tokenizer: &mut Tokenizer, state: FlowState) -> State
         FlowState::BeforeHeadingAtx => before_heading_atx(tokenizer),
         FlowState::BeforeHeadingSetext => before_heading_setext(tokenizer),
         FlowState::BeforeThematicBreak => before_thematic_break(tokenizer),
+        FlowState::BeforeGfmTable => before_gfm_table(tokenizer),
         _ => State::Nok,
     }
 }
@@ -573,6 +605,7 @@ pub fn call(tokenizer: &mut Tokenizer, name: StateName) -> State
     match name {
         StateName::BlockQuote(state) => block_quote::call(tokenizer, state),
         StateName::CodeIndented(state) => code_indented::call(tokenizer, state),
+        StateName::GfmTable(state) => gfm_table::call(tokenizer, state),
         StateName::HeadingAtx(state) => heading_atx::call(tokenizer, state),
         StateName::HeadingSetext(state) => heading_setext::call(tokenizer, state),
         StateName::HtmlFlow(state) => html_flow::call(tokenizer, state),
@@ -624,6 +657,7 @@ pub fn stays(name: StateName) -> Option<Stay>
 {
     match name {
         StateName::CodeIndented(state) => code_indented::stays(state),
+        StateName::GfmTable(state) => gfm_table::stays(state),
         StateName::HeadingAtx(state) => heading_atx::stays(state),
         StateName::HeadingSetext(state) => heading_setext::stays(state),
         StateName::HtmlFlow(state) => html_flow::stays(state),
@@ -644,6 +678,7 @@ pub fn joins_lines(options: &ParseOptions) -> bool
         || options.constructs.math_flow
         || options.constructs.code_indented
         || options.constructs.html_flow
+        || options.constructs.gfm_table
 }
 
 /// Whether an event stays as it is where setext headings are set, lines are joined and lists are put around items: it is of
@@ -676,4 +711,19 @@ pub fn resolve(tokenizer: &mut Tokenizer, name: ResolveName) -> Result<Option<Su
         ResolveName::ListItem => lists::resolve(tokenizer),
         _ => Ok(None),
     }
+}
+
+/// Reads lines of text again that are heads of tables, before content is read.
+///
+/// An `Err` says that memory ran out.
+pub fn read_heads(tokenizer: &mut Tokenizer) -> Result<(), Message>
+    ensures { OnOk result
+        (world tokenizer.new ≡
+        record (world tokenizer.old) {
+          events = heads_read (world tokenizer.old).setting.options (world tokenizer.old).setting.bytes (world tokenizer.old).events;
+        }) }
+{
+    if tokenizer.options.constructs.gfm_table {
+    }
+    Ok(())
 }

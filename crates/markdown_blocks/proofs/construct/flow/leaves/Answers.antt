@@ -21,7 +21,7 @@ is_name target other = names.ghosts.eq other target
 
 -- one comes to the first leaf that may begin, or to content
 abbrev Comes : World → Type 0
-Comes w = CameHere (FlowStep is_name) (n.Flow (front_of trials)) w (n.Flow (begins_at w.current)) w
+Comes w = CameHere (FlowStep is_name) (n.Flow (front_of trials)) w (n.Flow (begins_at w.flags.leaf w.current)) w
 
 comes : (w : World) → w.current ≡ looks w → Within w → Comes w
 comes w seen within = λ is_end s v named sees may.
@@ -32,7 +32,7 @@ pub returns-in-BeforeContent-clause-runs : goal.returns-in-BeforeContent-clause-
 returns-in-BeforeContent-clause-runs c = λ fine.
     let first = n.Flow (front_of trials) in
     let w = world c.args.tokenizer.now in
-    let at : begins_at w.current ≡ flow.BeforeContent = sym c.begins_at.ensures ∙ c.in-BeforeContent.is in
+    let at : begins_at w.flags.leaf w.current ≡ flow.BeforeContent = sym c.begins_at.ensures ∙ c.in-BeforeContent.is in
     let came = subst (λ (x : FlowState). CameHere (FlowStep is_name) first w (n.Flow x) w) at
     (comes w c.requires.current (within-world c.args.tokenizer.now)) in
     (runs-on is_name first (n.Flow flow.BeforeContent) w w c.content_begins.result (world c.content_begins.new.tokenizer)
