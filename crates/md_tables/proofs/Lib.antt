@@ -4,6 +4,8 @@ pub mod RowSteps
 pub mod DelimiterGoods
 pub mod DelimiterLemmas
 pub mod DelimiterSteps
+pub mod GfmTableGoods
+pub mod GfmTableSteps
 pub mod CellLemmas
 pub mod DelimiterColumns
 pub mod HeadLemmas
