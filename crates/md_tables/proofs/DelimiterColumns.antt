@@ -13,6 +13,7 @@ use Rattle.md_leaves.proofs.TitleTexts.{tail}
 use Rattle.md_tables.specs.Delimiter.{Aligns, Dash, Divides, Mark, Other, Stops, White, mark_of}
 use Rattle.md_tables.specs.DelimiterRule.{Behind, Counts, Dashes, Fails, Front, Goes, Left, Marks, Move, Open, Place, counted}
 use Rattle.md_tables.specs.DelimiterRule.{fits, led, met, move}
+use Rattle.md_tables.specs.GfmTableLine.{are_columns}
 use Rattle.md_tables.proofs.CellLemmas.{cell-is, dark-next, dark-rest, ends_cell, ends_dark, tail-blank, trimmed-begins}
 use Rattle.md_tables.proofs.CellLemmas.{trimmed-dark, trimmed-whole}
 use Rattle.md_tables.proofs.DelimiterLemmas.{told-as, white-mark}
@@ -367,11 +368,6 @@ trim-same : (t : List ℕ) → begins is_white t ≡ false → ends_dark t ≡ t
 trim-same t b e = ap trim_end (start-same t b) ∙ end-same t e
 
 -- The line definition.
-
--- whether there are as many
-abbrev pub are_columns : Option ℕ → ℕ → Bool
-are_columns None n = false
-are_columns (Some m) n = nat_eq m n
 
 columns-by : (row : List ℕ) (n : ℕ) →
     are_columns (delimiter_columns row) n ≡

@@ -6,6 +6,7 @@ pub mod DelimiterLemmas
 pub mod DelimiterSteps
 pub mod GfmTableGoods
 pub mod GfmTableSteps
+pub mod GfmTableWhole
 pub mod CellLemmas
 pub mod DelimiterColumns
 pub mod HeadLemmas

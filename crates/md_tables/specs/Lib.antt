@@ -4,5 +4,6 @@ pub mod Delimiter
 pub mod DelimiterRule
 pub mod GfmTable
 pub mod GfmTableRule
+pub mod GfmTableLine
 pub mod Head
 pub mod Cells
