@@ -326,7 +326,7 @@ fits-blank p s (w ∷ ws) h =
     go Dashes e on = rw e (on Behind)
     go Behind e on = rw e (on Behind)
 
-led-same : (m : Move) (s : Scratch) (f g : Place → Scratch → Bool) → ((q : Place) (t : Scratch) → f q t ≡ g q t) →
+pub led-same : (m : Move) (s : Scratch) (f g : Place → Scratch → Bool) → ((q : Place) (t : Scratch) → f q t ≡ g q t) →
     led m s f ≡ led m s g
 led-same (Goes q) s f g h = h q s
 led-same Counts s f g h = h Dashes (counted s)
@@ -354,7 +354,7 @@ no-tail k [] h blank = refl
 no-tail k (x ∷ ws) h blank =
     let no : true ≡ false = sym h ∙ ends-behind k x ws ∙ blank-light x ws blank in cc
 
-start-same : (t : List ℕ) → begins is_white t ≡ false → trim_start t ≡ t
+pub start-same : (t : List ℕ) → begins is_white t ≡ false → trim_start t ≡ t
 start-same [] h = refl
 start-same (b ∷ bs) h = rw h refl
 

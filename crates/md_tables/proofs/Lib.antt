@@ -7,6 +7,7 @@ pub mod DelimiterSteps
 pub mod GfmTableGoods
 pub mod GfmTableSteps
 pub mod GfmTableWhole
+pub mod GfmTableBytes
 pub mod CellLemmas
 pub mod DelimiterColumns
 pub mod HeadLemmas
