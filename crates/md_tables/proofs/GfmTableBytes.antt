@@ -19,9 +19,9 @@ use Rattle.md_seam.specs.Events.Places.{past_byte}
 use Rattle.md_seam.proofs.AheadLemmas.{white-no_ending}
 use Rattle.md_seam.proofs.FeedLines.{byte_cells, bytes_of, cell, columns_more, next_column, spread, tab_cells}
 use Rattle.md_seam.proofs.FeedLines.{tab_end, tab_end-last, tab_end-next, tab_end-stop}
-use Rattle.md_tables.specs.Delimiter.{White, mark_of}
-use Rattle.md_tables.specs.DelimiterRule.{Apart, Behind, Colon, Dashes, Filler, Front, Left, Move, Open, Pipe, Place, Run}
-use Rattle.md_tables.specs.DelimiterRule.{Space, begun, closes, fits, goes_on, led, move, opens, runs}
+use Rattle.md_tables.specs.Delimiter.{mark_of}
+use Rattle.md_tables.specs.DelimiterRule.{Apart, Behind, Colon, Dashes, Filler, Front, Left, Open, Pipe, Place, Run}
+use Rattle.md_tables.specs.DelimiterRule.{Space, begun, closes, fits, goes_on, move, opens, runs}
 use Rattle.md_tables.specs.GfmTable.{asking_columns}
 use Rattle.md_tables.specs.GfmTableLine.{are_columns, delimiter_runs, is_row_of, row_runs}
 use Rattle.md_tables.specs.RowRule as row
