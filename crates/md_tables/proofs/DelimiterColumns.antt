@@ -1,6 +1,6 @@
 -- What ends a delimiter row by its states is a delimiter row by the line definition, with as many columns.
 use Rattle.std.proofs.Common.{◌≡◌, ℕ, suc, ◌+◌, ◌<◌, Bool, true, false, cond, ◌&&◌, ◌||◌, nat_eq, List, [], ◌∷◌, ◌++◌}
-use Rattle.std.proofs.Common.{Option, Some, None, length, map, refl, sym, ◌∙◌, ap, ap₂, arith, append-nil}
+use Rattle.std.proofs.Common.{Some, None, length, map, refl, sym, ◌∙◌, ap, ap₂, arith, append-nil}
 use Rattle.std.specs.List.{list_all, list_any, onto_first}
 use Rattle.std.proofs.lemmas.Bool.{and_parts, eqb-true}
 use Rattle.std.proofs.lemmas.List.{length-map}
@@ -13,6 +13,7 @@ use Rattle.md_leaves.proofs.TitleTexts.{tail}
 use Rattle.md_tables.specs.Delimiter.{Aligns, Dash, Divides, Mark, Other, Stops, White, mark_of}
 use Rattle.md_tables.specs.DelimiterRule.{Behind, Counts, Dashes, Fails, Front, Goes, Left, Marks, Move, Open, Place, counted}
 use Rattle.md_tables.specs.DelimiterRule.{fits, led, met, move}
+use Rattle.md_tables.specs.GfmTableLine.{are_columns}
 use Rattle.md_tables.proofs.CellLemmas.{cell-is, dark-next, dark-rest, ends_cell, ends_dark, tail-blank, trimmed-begins}
 use Rattle.md_tables.proofs.CellLemmas.{trimmed-dark, trimmed-whole}
 use Rattle.md_tables.proofs.DelimiterLemmas.{told-as, white-mark}
@@ -325,7 +326,7 @@ fits-blank p s (w ∷ ws) h =
     go Dashes e on = rw e (on Behind)
     go Behind e on = rw e (on Behind)
 
-led-same : (m : Move) (s : Scratch) (f g : Place → Scratch → Bool) → ((q : Place) (t : Scratch) → f q t ≡ g q t) →
+pub led-same : (m : Move) (s : Scratch) (f g : Place → Scratch → Bool) → ((q : Place) (t : Scratch) → f q t ≡ g q t) →
     led m s f ≡ led m s g
 led-same (Goes q) s f g h = h q s
 led-same Counts s f g h = h Dashes (counted s)
@@ -353,7 +354,7 @@ no-tail k [] h blank = refl
 no-tail k (x ∷ ws) h blank =
     let no : true ≡ false = sym h ∙ ends-behind k x ws ∙ blank-light x ws blank in cc
 
-start-same : (t : List ℕ) → begins is_white t ≡ false → trim_start t ≡ t
+pub start-same : (t : List ℕ) → begins is_white t ≡ false → trim_start t ≡ t
 start-same [] h = refl
 start-same (b ∷ bs) h = rw h refl
 
@@ -367,11 +368,6 @@ trim-same : (t : List ℕ) → begins is_white t ≡ false → ends_dark t ≡ t
 trim-same t b e = ap trim_end (start-same t b) ∙ end-same t e
 
 -- The line definition.
-
--- whether there are as many
-abbrev pub are_columns : Option ℕ → ℕ → Bool
-are_columns None n = false
-are_columns (Some m) n = nat_eq m n
 
 columns-by : (row : List ℕ) (n : ℕ) →
     are_columns (delimiter_columns row) n ≡

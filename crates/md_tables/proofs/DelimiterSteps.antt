@@ -14,6 +14,7 @@ use Rattle.md_engine.specs.declared.state.State.{State}
 use Rattle.md_engine.specs.declared.state.State.TheVariants.{Next}
 use Rattle.md_engine.specs.declared.tokenizer.Frame.{Frame}
 use Rattle.md_engine.specs.declared.tokenizer.Scratch.{Scratch}
+use Rattle.md_engine.specs.declared.tokenizer.held_leaf.HeldLeaf.TheVariants as held_leaf
 use Rattle.md_engine.specs.Meaning.{Accepts, Behaviour, Cell, Feed, Here, Refuses, Steps, goes, here}
 use Rattle.md_engine.specs.Scheme.{After, spot}
 use Rattle.md_engine.specs.World.{World, after}
@@ -266,7 +267,7 @@ start_steps B feed w x has s r e = rw two (go x e)
         begins B feed _ _ w
         (white_on (record w { events = h.events }) (small_indent w.setting.options) its.HeadDelimiterBefore true).world
         (row_opens w.point) frame refl refl
-        (has.each its.HeadDelimiterStart _ _ ∙ rw white refl ∙ sym (has.each its.HeadDelimiterBefore _ _)
+        (has.each its.HeadDelimiterStart Start _ _ ∙ rw white refl ∙ sym (has.each its.HeadDelimiterBefore Before _ _)
         ∙ white-tried B feed frame h.events (feed w.point) h 0 (small_indent w.setting.options) has.white white
         (small-some w.setting.options) (omega arith) refl)
     go false k =
@@ -274,7 +275,7 @@ start_steps B feed w x has s r e = rw two (go x e)
         moves B feed _ _ w
         (white_on (record w { events = h.events }) (small_indent w.setting.options) its.HeadDelimiterBefore false).world
         (row_opens w.point) refl refl
-        (has.each its.HeadDelimiterStart _ _ ∙ rw none refl ∙ sym (has.each its.HeadDelimiterBefore _ _))
+        (has.each its.HeadDelimiterStart Start _ _ ∙ rw none refl ∙ sym (has.each its.HeadDelimiterBefore Before _ _))
 
 -- where no whitespace stands, what is left behind some
 dark-here : (feed : Feed) (w : World) (place : Place) (x : Mark) → Sees feed w → mark w.current ≡ x → (x ≡ White → ⊥) →
@@ -292,48 +293,48 @@ before_steps : (B : Behaviour) (options : ParseOptions) (feed : Feed) (w : World
     Steps B feed (Next (n.GfmTable its.HeadDelimiterBefore)) w (before_code w x).to (before_code w x).world
 before_steps B options feed w Dash has s e =
     turned_steps B feed _ _ w
-    (has.each its.HeadDelimiterBefore _ _ ∙ places-meet feed w Front Open Dash (here w) s e refl refl
-    ∙ sym (dark-here feed w Open Dash s e (λ k. cc)) ∙ sym (has.each its.HeadDelimiterValueBefore _ _))
+    (has.each its.HeadDelimiterBefore Before _ _ ∙ places-meet feed w Front Open Dash (here w) s e refl refl
+    ∙ sym (dark-here feed w Open Dash s e (λ k. cc)) ∙ sym (has.each its.HeadDelimiterValueBefore ValueBefore _ _))
 before_steps B options feed w Aligns has s e =
     turned_steps B feed _ _ w
-    (has.each its.HeadDelimiterBefore _ _ ∙ places-meet feed w Front Open Aligns (here w) s e refl refl
-    ∙ sym (dark-here feed w Open Aligns s e (λ k. cc)) ∙ sym (has.each its.HeadDelimiterValueBefore _ _))
+    (has.each its.HeadDelimiterBefore Before _ _ ∙ places-meet feed w Front Open Aligns (here w) s e refl refl
+    ∙ sym (dark-here feed w Open Aligns s e (λ k. cc)) ∙ sym (has.each its.HeadDelimiterValueBefore ValueBefore _ _))
 before_steps B options feed w Divides has s e =
     mark_steps B feed _ w w.events [] Front Open Divides Pipe parts.GfmTableCellDivider its.HeadDelimiterCellBefore
-    OfPipe s e refl (no-events w) (has.each its.HeadDelimiterBefore _ _) (has.each its.HeadDelimiterCellBefore)
+    OfPipe s e refl (no-events w) (has.each its.HeadDelimiterBefore Before _ _) (has.each its.HeadDelimiterCellBefore CellBefore)
 before_steps B options feed w Stops has s e =
-    refused_steps B feed _ w (has.each its.HeadDelimiterBefore _ _ ∙ stops-here feed w Front (here w) s e refl)
+    refused_steps B feed _ w (has.each its.HeadDelimiterBefore Before _ _ ∙ stops-here feed w Front (here w) s e refl)
 before_steps B options feed w White has s e =
-    refused_steps B feed _ w (has.each its.HeadDelimiterBefore _ _ ∙ fails-here feed w Front White (here w) s e refl refl)
+    refused_steps B feed _ w (has.each its.HeadDelimiterBefore Before _ _ ∙ fails-here feed w Front White (here w) s e refl refl)
 before_steps B options feed w Other has s e =
-    refused_steps B feed _ w (has.each its.HeadDelimiterBefore _ _ ∙ fails-here feed w Front Other (here w) s e refl refl)
+    refused_steps B feed _ w (has.each its.HeadDelimiterBefore Before _ _ ∙ fails-here feed w Front Other (here w) s e refl refl)
 
 value_before_steps : (B : Behaviour) (options : ParseOptions) (feed : Feed) (w : World) (x : Mark) →
     HasDelimiter B options → Sees feed w → mark w.current ≡ x →
     Steps B feed (Next (n.GfmTable its.HeadDelimiterValueBefore)) w (value_before_code w x).to (value_before_code w x).world
 value_before_steps B options feed w Stops has s e =
     turned_steps B feed _ _ w
-    (has.each its.HeadDelimiterValueBefore _ _ ∙ dark-here feed w Open Stops s e (λ k. cc)
+    (has.each its.HeadDelimiterValueBefore ValueBefore _ _ ∙ dark-here feed w Open Stops s e (λ k. cc)
     ∙ ends-meet feed w Open Behind (here w) s e refl ∙ sym (dark-here feed w Behind Stops s e (λ k. cc))
-    ∙ sym (has.each its.HeadDelimiterCellAfter _ _))
+    ∙ sym (has.each its.HeadDelimiterCellAfter CellAfter _ _))
 value_before_steps B options feed w Aligns has s e =
     mark_steps B feed _ w w.events [] Open Left Aligns Colon parts.GfmTableDelimiterMarker
     its.HeadDelimiterLeftAlignmentAfter OfColon s e refl (no-events w)
-    (has.each its.HeadDelimiterValueBefore _ _ ∙ dark-here feed w Open Aligns s e (λ k. cc))
-    (has.each its.HeadDelimiterLeftAlignmentAfter)
+    (has.each its.HeadDelimiterValueBefore ValueBefore _ _ ∙ dark-here feed w Open Aligns s e (λ k. cc))
+    (has.each its.HeadDelimiterLeftAlignmentAfter LeftAfter)
 value_before_steps B options feed w Dash has s e =
     turned_steps B feed _ _ w
-    (has.each its.HeadDelimiterValueBefore _ _ ∙ dark-here feed w Open Dash s e (λ k. cc)
-    ∙ places-meet feed w Open Left Dash (here w) s e refl refl ∙ sym (has.each its.HeadDelimiterLeftAlignmentAfter _ _))
+    (has.each its.HeadDelimiterValueBefore ValueBefore _ _ ∙ dark-here feed w Open Dash s e (λ k. cc)
+    ∙ places-meet feed w Open Left Dash (here w) s e refl refl ∙ sym (has.each its.HeadDelimiterLeftAlignmentAfter LeftAfter _ _))
 value_before_steps B options feed w White has s e =
-    refused_steps B feed _ w (has.each its.HeadDelimiterValueBefore _ _ ∙ white-stands feed w Open s e)
+    refused_steps B feed _ w (has.each its.HeadDelimiterValueBefore ValueBefore _ _ ∙ white-stands feed w Open s e)
 value_before_steps B options feed w Divides has s e =
     refused_steps B feed _ w
-    (has.each its.HeadDelimiterValueBefore _ _ ∙ dark-here feed w Open Divides s e (λ k. cc)
+    (has.each its.HeadDelimiterValueBefore ValueBefore _ _ ∙ dark-here feed w Open Divides s e (λ k. cc)
     ∙ fails-here feed w Open Divides (here w) s e refl refl)
 value_before_steps B options feed w Other has s e =
     refused_steps B feed _ w
-    (has.each its.HeadDelimiterValueBefore _ _ ∙ dark-here feed w Open Other s e (λ k. cc)
+    (has.each its.HeadDelimiterValueBefore ValueBefore _ _ ∙ dark-here feed w Open Other s e (λ k. cc)
     ∙ fails-here feed w Open Other (here w) s e refl refl)
 
 left_after_steps : (B : Behaviour) (options : ParseOptions) (feed : Feed) (w : World) (x : Mark) →
@@ -347,7 +348,7 @@ left_after_steps B options feed w Dash has s e =
     let cs : List Cell = feed (after w.setting w.point) in
     let is : begun saw.byte ≡ Filler = rw (t.white, t.pipe, t.colon) refl in
     moves B feed _ _ w (filled w).world (enter parts.GfmTableDelimiterFiller w.point ∷ []) refl refl
-    (has.each its.HeadDelimiterLeftAlignmentAfter _ _
+    (has.each its.HeadDelimiterLeftAlignmentAfter LeftAfter _ _
     ∙ ap (λ (y : List Cell). in_row Apart Left y (here w)) saw.next
     ∙ row-begins Left c cs (here w) Counts (ap (move Left) saw.is) t.stop
     ∙ ap
@@ -358,21 +359,21 @@ left_after_steps B options feed w Dash has s e =
       point = after w.setting w.point;
       scratch = counted w.scratch;
     })) is
-    ∙ sym (has.each its.HeadDelimiterFiller _ _))
+    ∙ sym (has.each its.HeadDelimiterFiller InFiller _ _))
 left_after_steps B options feed w Stops has s e =
-    refused_steps B feed _ w (has.each its.HeadDelimiterLeftAlignmentAfter _ _ ∙ stops-here feed w Left (here w) s e refl)
+    refused_steps B feed _ w (has.each its.HeadDelimiterLeftAlignmentAfter LeftAfter _ _ ∙ stops-here feed w Left (here w) s e refl)
 left_after_steps B options feed w White has s e =
     refused_steps B feed _ w
-    (has.each its.HeadDelimiterLeftAlignmentAfter _ _ ∙ fails-here feed w Left White (here w) s e refl refl)
+    (has.each its.HeadDelimiterLeftAlignmentAfter LeftAfter _ _ ∙ fails-here feed w Left White (here w) s e refl refl)
 left_after_steps B options feed w Divides has s e =
     refused_steps B feed _ w
-    (has.each its.HeadDelimiterLeftAlignmentAfter _ _ ∙ fails-here feed w Left Divides (here w) s e refl refl)
+    (has.each its.HeadDelimiterLeftAlignmentAfter LeftAfter _ _ ∙ fails-here feed w Left Divides (here w) s e refl refl)
 left_after_steps B options feed w Aligns has s e =
     refused_steps B feed _ w
-    (has.each its.HeadDelimiterLeftAlignmentAfter _ _ ∙ fails-here feed w Left Aligns (here w) s e refl refl)
+    (has.each its.HeadDelimiterLeftAlignmentAfter LeftAfter _ _ ∙ fails-here feed w Left Aligns (here w) s e refl refl)
 left_after_steps B options feed w Other has s e =
     refused_steps B feed _ w
-    (has.each its.HeadDelimiterLeftAlignmentAfter _ _ ∙ fails-here feed w Left Other (here w) s e refl refl)
+    (has.each its.HeadDelimiterLeftAlignmentAfter LeftAfter _ _ ∙ fails-here feed w Left Other (here w) s e refl refl)
 
 -- the dashes of a cell end with what is no dash
 filler-ends : (feed : Feed) (w : World) (h : Here) (o : Option ℕ) → is_dash (mark o) ≡ false →
@@ -395,7 +396,7 @@ filler-here : (B : Behaviour) (options : ParseOptions) (feed : Feed) (w : World)
     in_row Apart Dashes (feed w.point)
     (record (here w) { events = w.events ++ exit parts.GfmTableDelimiterFiller w.point ∷ [] })
 filler-here B options feed w x has s e dash =
-    has.each its.HeadDelimiterFiller _ _
+    has.each its.HeadDelimiterFiller InFiller _ _
     ∙ rw s.next (filler-ends feed w (here w) w.current (ap is_dash e ∙ dash))
 
 unfilled_steps : (B : Behaviour) (options : ParseOptions) (feed : Feed) (w : World) (x : Mark) →
@@ -405,7 +406,7 @@ unfilled_steps : (B : Behaviour) (options : ParseOptions) (feed : Feed) (w : Wor
     Steps B feed (Next (n.GfmTable its.HeadDelimiterFiller)) w (unfilled w).to (unfilled w).world
 unfilled_steps B options feed w x has s e dash same =
     moves B feed _ _ w (unfilled w).world (exit parts.GfmTableDelimiterFiller w.point ∷ []) refl refl
-    (filler-here B options feed w x has s e dash ∙ same ∙ sym (has.each its.HeadDelimiterRightAlignmentAfter _ _))
+    (filler-here B options feed w x has s e dash ∙ same ∙ sym (has.each its.HeadDelimiterRightAlignmentAfter RightAfter _ _))
 
 filler_steps : (B : Behaviour) (options : ParseOptions) (feed : Feed) (w : World) (x : Mark) → HasDelimiter B options →
     Sees feed w → mark w.current ≡ x →
@@ -414,15 +415,15 @@ filler_steps B options feed w Dash has s e =
     let saw = sees-mark feed w Dash s e refl in
     let t = told-as saw.byte Dash saw.is in
     passes B feed _ _ w (filler_code w Dash).world refl refl
-    (has.each its.HeadDelimiterFiller _ _ ∙ ap (λ (y : List Cell). in_row Filler Dashes y (here w)) saw.next
+    (has.each its.HeadDelimiterFiller InFiller _ _ ∙ ap (λ (y : List Cell). in_row Filler Dashes y (here w)) saw.next
     ∙ row-goes Filler Dashes (cell_here feed w saw.byte) (feed (after w.setting w.point)) (here w) (Goes Dashes)
     (ap (move Dashes) saw.is) t.stop t.dash
-    ∙ sym (has.each its.HeadDelimiterFiller _ _))
+    ∙ sym (has.each its.HeadDelimiterFiller InFiller _ _))
 filler_steps B options feed w Aligns has s e =
     let events : List Event = w.events ++ exit parts.GfmTableDelimiterFiller w.point ∷ [] in
     mark_steps B feed _ w events (exit parts.GfmTableDelimiterFiller w.point ∷ []) Dashes Behind Aligns Colon
     parts.GfmTableDelimiterMarker its.HeadDelimiterRightAlignmentAfter OfColon s e refl refl
-    (filler-here B options feed w Aligns has s e refl) (has.each its.HeadDelimiterRightAlignmentAfter)
+    (filler-here B options feed w Aligns has s e refl) (has.each its.HeadDelimiterRightAlignmentAfter RightAfter)
 filler_steps B options feed w Stops has s e =
     unfilled_steps B options feed w Stops has s e refl (ends-meet feed w Dashes Behind _ s e refl)
 filler_steps B options feed w White has s e =
@@ -435,13 +436,25 @@ filler_steps B options feed w Other has s e =
 -- at the end of the line a row that fits ends
 row-fits : (feed : Feed) (w : World) (h : Here) → Sees feed w → mark w.current ≡ Stops → is_counted h.scratch ≡ true →
     in_row Apart Behind (feed w.point) h ≡
-    Accepts (record h { events = h.events ++ row_closes h.point; scratch = uncounted h.scratch }) (feed w.point)
+    Accepts
+        (record h {
+          events = h.events ++ row_closes h.point;
+          scratch = uncounted h.scratch;
+          flags = record h.flags { leaf = held_leaf.Table };
+        })
+        (feed w.point)
 unfolding in_row
 row-fits feed w h s e counts = go w.current e s.next
   where
     go : (o : Option ℕ) → mark o ≡ Stops → feed w.point ≡ ahead feed w o →
         in_row Apart Behind (feed w.point) h ≡
-        Accepts (record h { events = h.events ++ row_closes h.point; scratch = uncounted h.scratch }) (feed w.point)
+        Accepts
+        (record h {
+          events = h.events ++ row_closes h.point;
+          scratch = uncounted h.scratch;
+          flags = record h.flags { leaf = held_leaf.Table };
+        })
+        (feed w.point)
     go None k at = rw (at, counts, append-nil) refl
     go (Some b) k at = let t = told-as b Stops k in rw (at, t.stop, counts, append-nil) refl
 
@@ -460,16 +473,19 @@ ends_steps : (B : Behaviour) (options : ParseOptions) (feed : Feed) (w : World) 
     Steps B feed (Next (n.GfmTable its.HeadDelimiterCellAfter)) w (ends_code w x).to (ends_code w x).world
 ends_steps B options feed w true has s e counts =
     let two : (ends_code w true).world ≡
-    record w { events = w.events ++ row_closes w.point; scratch = uncounted w.scratch } =
-    ap (λ (es : List Event). record w { events = es; scratch = uncounted w.scratch }) (append_assoc w.events _ _) in
+    closed (w.events ++ row_closes w.point) = ap closed (append_assoc w.events _ _) in
     rw two
-    (moves B feed _ _ w (record w { events = w.events ++ row_closes w.point; scratch = uncounted w.scratch })
-    (row_closes w.point) refl refl
-    (has.each its.HeadDelimiterCellAfter _ _ ∙ dark-here feed w Behind Stops s e (λ k. cc)
+    (moves B feed _ _ w (closed (w.events ++ row_closes w.point)) (row_closes w.point) refl refl
+    (has.each its.HeadDelimiterCellAfter CellAfter _ _ ∙ dark-here feed w Behind Stops s e (λ k. cc)
     ∙ row-fits feed w (here w) s e counts))
+  where
+    closed : List Event → World
+    closed es =
+        record w { events = es; scratch = uncounted w.scratch; flags = record w.flags { leaf = held_leaf.Table } }
+
 ends_steps B options feed w false has s e counts =
     refused_steps B feed _ w
-    (has.each its.HeadDelimiterCellAfter _ _ ∙ dark-here feed w Behind Stops s e (λ k. cc)
+    (has.each its.HeadDelimiterCellAfter CellAfter _ _ ∙ dark-here feed w Behind Stops s e (λ k. cc)
     ∙ row-short feed w (here w) s e counts)
 
 cell_after_steps : (B : Behaviour) (options : ParseOptions) (feed : Feed) (w : World) (x : Mark) →
@@ -479,21 +495,21 @@ cell_after_steps B options feed w Stops has s e = ends_steps B options feed w _ 
 cell_after_steps B options feed w Divides has s e =
     mark_steps B feed _ w w.events [] Behind Open Divides Pipe parts.GfmTableCellDivider its.HeadDelimiterCellBefore
     OfPipe s e refl (no-events w)
-    (has.each its.HeadDelimiterCellAfter _ _ ∙ dark-here feed w Behind Divides s e (λ k. cc))
-    (has.each its.HeadDelimiterCellBefore)
+    (has.each its.HeadDelimiterCellAfter CellAfter _ _ ∙ dark-here feed w Behind Divides s e (λ k. cc))
+    (has.each its.HeadDelimiterCellBefore CellBefore)
 cell_after_steps B options feed w White has s e =
-    refused_steps B feed _ w (has.each its.HeadDelimiterCellAfter _ _ ∙ white-stands feed w Behind s e)
+    refused_steps B feed _ w (has.each its.HeadDelimiterCellAfter CellAfter _ _ ∙ white-stands feed w Behind s e)
 cell_after_steps B options feed w Aligns has s e =
     refused_steps B feed _ w
-    (has.each its.HeadDelimiterCellAfter _ _ ∙ dark-here feed w Behind Aligns s e (λ k. cc)
+    (has.each its.HeadDelimiterCellAfter CellAfter _ _ ∙ dark-here feed w Behind Aligns s e (λ k. cc)
     ∙ fails-here feed w Behind Aligns (here w) s e refl refl)
 cell_after_steps B options feed w Dash has s e =
     refused_steps B feed _ w
-    (has.each its.HeadDelimiterCellAfter _ _ ∙ dark-here feed w Behind Dash s e (λ k. cc)
+    (has.each its.HeadDelimiterCellAfter CellAfter _ _ ∙ dark-here feed w Behind Dash s e (λ k. cc)
     ∙ fails-here feed w Behind Dash (here w) s e refl refl)
 cell_after_steps B options feed w Other has s e =
     refused_steps B feed _ w
-    (has.each its.HeadDelimiterCellAfter _ _ ∙ dark-here feed w Behind Other s e (λ k. cc)
+    (has.each its.HeadDelimiterCellAfter CellAfter _ _ ∙ dark-here feed w Behind Other s e (λ k. cc)
     ∙ fails-here feed w Behind Other (here w) s e refl refl)
 
 -- each state of a delimiter row takes one step of what it means
@@ -504,11 +520,11 @@ delimiter_steps B feed _ w K Start has s at = start_steps B feed w _ has s at.0.
 delimiter_steps B feed _ w K Before has s at = before_steps B _ feed w _ has s refl
 delimiter_steps B feed _ w K CellBefore has s at =
     white_steps B _ feed _ w Open its.HeadDelimiterValueBefore _ has InOpen s at.0.rest refl
-    (has.each its.HeadDelimiterCellBefore _ _) (has.each its.HeadDelimiterValueBefore)
+    (has.each its.HeadDelimiterCellBefore CellBefore _ _) (has.each its.HeadDelimiterValueBefore ValueBefore)
 delimiter_steps B feed _ w K ValueBefore has s at = value_before_steps B _ feed w _ has s refl
 delimiter_steps B feed _ w K LeftAfter has s at = left_after_steps B _ feed w _ has s refl
 delimiter_steps B feed _ w K InFiller has s at = filler_steps B _ feed w _ has s refl
 delimiter_steps B feed _ w K RightAfter has s at =
     white_steps B _ feed _ w Behind its.HeadDelimiterCellAfter _ has InBehind s at.0.rest refl
-    (has.each its.HeadDelimiterRightAlignmentAfter _ _) (has.each its.HeadDelimiterCellAfter)
+    (has.each its.HeadDelimiterRightAlignmentAfter RightAfter _ _) (has.each its.HeadDelimiterCellAfter CellAfter)
 delimiter_steps B feed _ w K CellAfter has s at = cell_after_steps B _ feed w _ has s refl

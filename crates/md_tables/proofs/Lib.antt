@@ -4,6 +4,10 @@ pub mod RowSteps
 pub mod DelimiterGoods
 pub mod DelimiterLemmas
 pub mod DelimiterSteps
+pub mod GfmTableGoods
+pub mod GfmTableSteps
+pub mod GfmTableWhole
+pub mod GfmTableBytes
 pub mod CellLemmas
 pub mod DelimiterColumns
 pub mod HeadLemmas

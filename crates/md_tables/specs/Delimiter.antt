@@ -9,12 +9,14 @@ use Rattle.md_engine.specs.declared.state.gfm_table.State.{State as TableState}
 use Rattle.md_engine.specs.declared.state.gfm_table.State.TheVariants as its
 use Rattle.md_engine.specs.declared.state.State.TheVariants.{Ok, Nok, Next, Retry}
 use Rattle.md_engine.specs.declared.tokenizer.Scratch.{Scratch}
+use Rattle.md_engine.specs.declared.tokenizer.held_leaf.HeldLeaf.TheVariants as held_leaf
 use Rattle.md_engine.specs.Scheme.{After, Ends, Rank, Scheme, Spot, cells_before, ranked}
 use Rattle.md_engine.specs.World.{World}
 use Rattle.md_definition.specs.Ascii.{colon, hyphen, line_feed, pipe}
 use Rattle.md_definition.specs.Rest.{is_white}
+use Rattle.md_leaves.specs.Further.{further_link}
 use Rattle.md_seam.specs.Spaces.{IsRest, any_size, sees_white, small_indent, white_then}
-use Rattle.md_seam.specs.Transition.{Transition, entered, exited, taken}
+use Rattle.md_seam.specs.Transition.{Transition, entered, entered_link, exited, taken}
 
 -- without what it keeps
 abbrev pub uncounted : Scratch → Scratch
@@ -59,7 +61,7 @@ marked w name next = record {
 
 -- where a row begins, and ends
 abbrev pub row_entered : World → World
-row_entered w = entered (entered w GfmTable) GfmTableDelimiterRow
+row_entered w = entered (entered_link w GfmTable further_link) GfmTableDelimiterRow
 
 abbrev pub row_exited : World → World
 row_exited w = exited (exited w GfmTableDelimiterRow) GfmTable
@@ -114,9 +116,15 @@ filler_code w White = unfilled w
 filler_code w Divides = unfilled w
 filler_code w Other = unfilled w
 
--- by whether the cells are as many as those of the head, and a colon or a pipe was met
+-- by whether the cells are as many as those of the head, and a colon or a pipe was met: a table is open behind it
 abbrev pub ends_code : World → Bool → Transition
-ends_code w true = record { to = Ok; world = record (row_exited w) { scratch = uncounted w.scratch } }
+ends_code w true = record {
+  to = Ok;
+  world = record (row_exited w) {
+    scratch = uncounted w.scratch;
+    flags = record w.flags { leaf = held_leaf.Table };
+  };
+}
 ends_code w false = refused w
 
 abbrev pub is_counted : Scratch → Bool

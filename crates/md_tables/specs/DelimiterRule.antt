@@ -9,14 +9,16 @@ use Rattle.md_engine.specs.declared.state.Name.TheVariants as n
 use Rattle.md_engine.specs.declared.state.gfm_table.State.{State as TableState}
 use Rattle.md_engine.specs.declared.state.gfm_table.State.TheVariants as its
 use Rattle.md_engine.specs.declared.tokenizer.Scratch.{Scratch}
+use Rattle.md_engine.specs.declared.tokenizer.held_leaf.HeldLeaf.TheVariants as held_leaf
 use Rattle.md_engine.specs.Meaning.{Accepts, Behaviour, Cell, Here, Outcome, Refuses}
 use Rattle.md_definition.specs.Ascii.{colon, hyphen, pipe}
 use Rattle.md_definition.specs.Rest.{is_white}
+use Rattle.md_leaves.specs.Further.{further_link}
 use Rattle.md_seam.specs.Ahead.{HasWhite, begins_white, from_ending, line_bytes, line_cells, line_end, white_end}
 use Rattle.md_seam.specs.Ahead.{white_rest}
-use Rattle.md_seam.specs.Events.Nested.{enter, exit}
+use Rattle.md_seam.specs.Events.Nested.{enter, enter_link, exit}
 use Rattle.md_seam.specs.Spaces.{calmed, small_indent}
-use Rattle.md_tables.specs.Delimiter.{Aligns, Dash, Divides, Mark, White, is_counted, mark_of, uncounted}
+use Rattle.md_tables.specs.Delimiter.{Aligns, Dash, Divides, IsOfDelimiter, Mark, White, is_counted, mark_of, uncounted}
 
 -- where in a row a place lies
 pub data Place : Type 0 where
@@ -127,12 +129,12 @@ runs run (c ∷ cs) p =
     else closes run p ++ opens (begun c.byte) p ++ runs (begun c.byte) cs c.after
 
 abbrev pub row_opens : Point → List Event
-row_opens p = enter GfmTable p ∷ enter GfmTableDelimiterRow p ∷ []
+row_opens p = enter_link GfmTable p further_link ∷ enter GfmTableDelimiterRow p ∷ []
 
 abbrev pub row_closes : Point → List Event
 row_closes p = exit GfmTableDelimiterRow p ∷ exit GfmTable p ∷ []
 
--- a row to the end of the line, if it fits
+-- a row to the end of the line, if it fits: a table is open behind it
 unfoldable pub in_row : Run → Place → List Cell → Here → Outcome
 in_row run place cells h =
     let p = line_end cells h.point in
@@ -142,6 +144,7 @@ in_row run place cells h =
       events = h.events ++ runs run (line_cells cells) h.point ++ row_closes p;
       point = p;
       scratch = uncounted h.scratch;
+      flags = record h.flags { leaf = held_leaf.Table };
     })
     (from_ending cells)
     else Refuses (uncounted h.scratch) h.flags
@@ -179,5 +182,5 @@ delimiter_behaves options _ cells h = Refuses (uncounted h.scratch) h.flags
 
 pub record HasDelimiter (B : Behaviour) (options : ParseOptions) : Type 0 where
   pub white : HasWhite B
-  pub each : (state : TableState) (cells : List Cell) (h : Here) →
+  pub each : (state : TableState) → IsOfDelimiter state → (cells : List Cell) (h : Here) →
       B (n.GfmTable state) cells h ≡ delimiter_behaves options state cells h

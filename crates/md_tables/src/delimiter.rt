@@ -5,7 +5,8 @@
 //
 // A row has a colon or a pipe, and as many cells as the head: how many that is, is in the scratch (`size_b`) when it
 // begins. It is a `GfmTable` of its own around `GfmTableDelimiterRow`, and in that `GfmTableCellDivider`, `SpaceOrTab`,
-// `GfmTableDelimiterMarker` and `GfmTableDelimiterFiller`; a resolver puts the head in front, and makes cells of these.
+// `GfmTableDelimiterMarker` and `GfmTableDelimiterFiller`; it is linked to the line before, which is the head. Behind it
+// a table is open. Resolvers join the lines of one, and make cells of these.
 
 ghost use Rattle.std.specs.Prelude.{◌≡◌, ◌≢◌, ◌<◌, IfSome, length};
 ghost use Rattle.md_engine.specs.World.{world};
@@ -25,7 +26,8 @@ use md_engine::or_error;
 use md_engine::state::gfm_table::State as TableState;
 use md_engine::state::{Name as StateName, State};
 use md_engine::stay::Stay;
-use md_engine::tokenizer::{Scratch, Tokenizer};
+use md_engine::tokenizer::{HeldLeaf, Scratch, Tokenizer};
+use md_leaves::further::FURTHER;
 use md_seam::space_or_tab::{is_space_or_tab, small_indent, space_or_tab_min_max};
 
 /// Without what a delimiter row keeps.
@@ -89,7 +91,7 @@ pub fn start(tokenizer: &mut Tokenizer) -> State
     ensures to { result ≢ State.Error → result ≡ (start_transition (world tokenizer.old)).to }
     ensures world { result ≢ State.Error → world tokenizer.new ≡ (start_transition (world tokenizer.old)).world }
 {
-    or_error!(tokenizer.enter(Name::GfmTable));
+    or_error!(tokenizer.enter_link(Name::GfmTable, FURTHER));
     or_error!(tokenizer.enter(Name::GfmTableDelimiterRow));
     let max = small_indent(tokenizer);
     behind_white(tokenizer, max, TableState::HeadDelimiterBefore)
@@ -250,6 +252,7 @@ pub fn cell_after(tokenizer: &mut Tokenizer) -> State
             or_error!(tokenizer.exit(Name::GfmTableDelimiterRow));
             or_error!(tokenizer.exit(Name::GfmTable));
             tokenizer.scratch = uncounted(scratch);
+            tokenizer.flags.leaf = HeldLeaf::Table;
             State::Ok
         }
         Some(b'|') => take_mark(

@@ -3,5 +3,6 @@
 
 pub mod cells;
 pub mod delimiter;
+pub mod gfm_table;
 pub mod head;
 pub mod row;

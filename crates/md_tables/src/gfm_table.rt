@@ -1,0 +1,94 @@
+// Tables (GFM 4.10), a line at a time.
+//
+//     gfm_table ::= head_row eol delimiter_row *( eol body_row )
+//
+// The head is the last line of a text: that it is one shows with the delimiter row behind it, which has as many cells. So
+// a line that meets text is tried as a delimiter row, and one that meets a table as a row of the body. The head itself is
+// read again, once all lines are known.
+
+ghost use Rattle.std.specs.Prelude.{◌≡◌, ◌≢◌, IfSome};
+ghost use Rattle.md_engine.specs.World.{world};
+ghost use Rattle.md_engine.specs.declared.state.Name.{Name as StateName};
+ghost use Rattle.md_engine.specs.declared.state.State.{State};
+ghost use Rattle.md_engine.specs.declared.state.gfm_table.State.{State as TableState};
+ghost use Rattle.md_seam.specs.Stays.{TakesEach};
+ghost use Rattle.md_seam.specs.Transition.{IsAt};
+ghost use Rattle.md_tables.specs.GfmTable.{TableNeeds, may_head, start_transition, table_transition};
+
+use crate::delimiter;
+use crate::row::{self, Place, Row};
+use md_engine::configuration::ParseOptions;
+use md_engine::state::gfm_table::State as TableState;
+use md_engine::state::{Name as StateName, State};
+use md_engine::stay::Stay;
+use md_engine::tokenizer::{HeldLeaf, OpenText, Tokenizer};
+use plain_grammars::columns::is_small;
+
+/// Whether the last line of this text may be the head of a table.
+fn may_head(options: &ParseOptions, text: OpenText) -> bool
+    ensures { result ≡ may_head options.now text }
+{
+    options.constructs.gfm_table && 0 < text.columns && is_small(options, text.indent)
+}
+
+/// Before a line of a table, behind its head.
+///
+/// ```markdown
+///   | | a |
+/// > | | - |
+///     ^
+/// > | | b |
+///     ^
+/// ```
+pub fn start(tokenizer: &mut Tokenizer) -> State
+    requires { IsAt TableNeeds (StateName.GfmTable TableState.Start) (world tokenizer.old) }
+    ensures to { result ≡ (start_transition (world tokenizer.old)).to }
+    ensures world { world tokenizer.new ≡ (start_transition (world tokenizer.old)).world }
+{
+    match tokenizer.flags.leaf {
+        HeldLeaf::Text(text) => {
+            if may_head(tokenizer.options, text) {
+                tokenizer.scratch.size_b = text.columns;
+                State::Retry(StateName::GfmTable(TableState::HeadDelimiterStart))
+            } else {
+                State::Nok
+            }
+        }
+        HeldLeaf::Table => State::Retry(StateName::GfmTable(TableState::BodyRowStart)),
+        _ => State::Nok,
+    }
+}
+
+/// What a state of a table only takes.
+pub fn stays(state: TableState) -> Option<Stay>
+    ensures { IfSome result (λ stay. TakesEach stay (StateName.GfmTable state) (table_transition state)) }
+{
+    match state {
+        TableState::HeadRowData => row::stays(Row::Head, Place::Data),
+        TableState::BodyRowData => row::stays(Row::Body, Place::Data),
+        TableState::HeadDelimiterFiller => delimiter::stays(state),
+        _ => None,
+    }
+}
+
+/// Calls a state of a table.
+pub fn call(tokenizer: &mut Tokenizer, state: TableState) -> State
+    requires { IsAt TableNeeds (StateName.GfmTable state) (world tokenizer.old) }
+    ensures to { result ≢ State.Error → result ≡ (table_transition state (world tokenizer.old)).to }
+    ensures world { result ≢ State.Error → world tokenizer.new ≡ (table_transition state (world tokenizer.old)).world }
+{
+    match state {
+        TableState::Start => start(tokenizer),
+        TableState::HeadRowBefore => row::call(tokenizer, Row::Head, Place::Start),
+        TableState::HeadRowBreak => row::call(tokenizer, Row::Head, Place::Break),
+        TableState::HeadRowData => row::call(tokenizer, Row::Head, Place::Data),
+        TableState::HeadRowEscape => row::call(tokenizer, Row::Head, Place::Escape),
+        TableState::HeadRowCellBefore => row::call(tokenizer, Row::Head, Place::CellBefore),
+        TableState::BodyRowStart => row::call(tokenizer, Row::Body, Place::Start),
+        TableState::BodyRowBreak => row::call(tokenizer, Row::Body, Place::Break),
+        TableState::BodyRowData => row::call(tokenizer, Row::Body, Place::Data),
+        TableState::BodyRowEscape => row::call(tokenizer, Row::Body, Place::Escape),
+        TableState::BodyRowCellBefore => row::call(tokenizer, Row::Body, Place::CellBefore),
+        _ => delimiter::call(tokenizer, state),
+    }
+}
