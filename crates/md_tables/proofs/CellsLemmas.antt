@@ -26,7 +26,7 @@ use Rattle.md_tables.specs.declared.cells.Stage.TheVariants.{Behind, Front, Gap,
 -- Points.
 
 -- What is given for an event stands where it does.
-abbrev StandThere : (Point → Type 0) → List Event → Type 0
+abbrev pub StandThere : (Point → Type 0) → List Event → Type 0
 StandThere P es = All (AtPoint P) es
 
 two-points : (P : Point → Type 0) (e f : Event) → P e.point → P f.point → StandThere P (e ∷ f ∷ [])
@@ -114,7 +114,7 @@ inside-points P Gap e es h = All-nil (AtPoint P)
 inside-points P (Last k) e es h = last-points P k e h
 inside-points P Behind e es h = one-point P e h
 
-step-points : (P : Point → Type 0) (stage : Stage) (e : Event) (es : List Event) → P e.point →
+pub step-points : (P : Point → Type 0) (stage : Stage) (e : Event) (es : List Event) → P e.point →
     StandThere P (step stage e es).given
 step-points P stage e es h = go (ends_row e)
   where

@@ -7,5 +7,5 @@ pub mod DelimiterSteps
 pub mod CellLemmas
 pub mod DelimiterColumns
 pub mod HeadLemmas
-pub mod CellsWalk
+pub mod TabledWalk
 pub mod CellsLemmas

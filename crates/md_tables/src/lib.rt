@@ -5,3 +5,4 @@ pub mod cells;
 pub mod delimiter;
 pub mod head;
 pub mod row;
+pub mod tables;
