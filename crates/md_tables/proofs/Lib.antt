@@ -9,3 +9,5 @@ pub mod DelimiterColumns
 pub mod HeadLemmas
 pub mod TabledWalk
 pub mod CellsLemmas
+pub mod TabledLines
+pub mod TabledNests

@@ -11,12 +11,12 @@ use Rattle.md_engine.specs.Place.{IsPlaced}
 use Rattle.md_leaves.proofs.SpannedLemmas.{AtPoint, one-point}
 use Rattle.md_seam.specs.Events.Nested.{enter, exit}
 use Rattle.md_seam.specs.Parts.{ArePlaced}
-use Rattle.md_tables.specs.Tabled.{begins_table, behind, given, in_front, mark_of, next, passes, tabled, tabled_from}
+use Rattle.md_tables.specs.Tabled.{begins_table, behind, given, in_front, bound_of, next, passes, tabled, tabled_from}
 use Rattle.md_tables.specs.Tabled.{with_cells}
 use Rattle.md_tables.specs.declared.cells.Stage.{Stage}
 use Rattle.md_tables.specs.declared.cells.Stage.TheVariants as row
-use Rattle.md_tables.specs.declared.tables.Mark.{Mark}
-use Rattle.md_tables.specs.declared.tables.Mark.TheVariants.{BeginsRow, BeginsTable, EndsDelimiter, EndsTable, Other}
+use Rattle.md_tables.specs.declared.tables.Bound.{Bound}
+use Rattle.md_tables.specs.declared.tables.Bound.TheVariants.{BeginsRow, BeginsTable, EndsDelimiter, EndsTable, Other}
 use Rattle.md_tables.specs.declared.tables.Section.{Section}
 use Rattle.md_tables.specs.declared.tables.Section.TheVariants.{Between, Body, Head, Outside}
 use Rattle.md_tables.proofs.CellsLemmas.{StandThere, step-points}
@@ -30,9 +30,9 @@ outside-stage stage (e ∷ es) = refl
 
 -- there an event that does not begin a table is given as it is
 pub passes-given : (e : Event) (es : List Event) → passes Outside e ≡ true → tabled (e ∷ es) ≡ e ∷ tabled es
-passes-given e es h = go (mark_of e) h
+passes-given e es h = go (bound_of e) h
   where
-    go : (m : Mark) → not (begins_table m) ≡ true →
+    go : (m : Bound) → not (begins_table m) ≡ true →
         (in_front Outside m e.point ++ (e ∷ []) ++ behind Outside m e.point)
         ++ tabled_from (next Outside m) row.Outside es
         ≡ e ∷ tabled es
@@ -105,13 +105,13 @@ walk-copied section now stage after events old new all at many is same there cou
 pub walk-stepped : (section now : Section) (stage after : Stage) (events old new all : List Event) (at : ℕ)
     (d : Event) → at < length events →
     new ≡ old ++ given section stage (get_or events at d) (drop (at + 1) events) →
-    now ≡ next section (mark_of (get_or events at d)) →
+    now ≡ next section (bound_of (get_or events at d)) →
     after ≡ (with_cells section stage (get_or events at d) (drop (at + 1) events)).stage →
     old ++ tabled_from section stage (drop at events) ≡ all → new ++ tabled_from now after (drop (at + 1) events) ≡ all
 walk-stepped section now stage after events old new all at d within is same there so_far =
     rw (is, same, there)
     (append_assoc old (given section stage (get_or events at d) (drop (at + 1) events))
-    (tabled_from (next section (mark_of (get_or events at d)))
+    (tabled_from (next section (bound_of (get_or events at d)))
     (with_cells section stage (get_or events at d) (drop (at + 1) events)).stage (drop (at + 1) events))
     ∙ ap (λ (l : List Event). old ++ tabled_from section stage l) (sym (drop_more events at d within)) ∙ so_far)
 
@@ -125,13 +125,13 @@ walk-done section stage events given all at end so_far =
 -- Points.
 
 -- What is given for an event stands where it does.
-front-points : (P : Point → Type 0) (section : Section) (m : Mark) (p : Point) → P p →
+front-points : (P : Point → Type 0) (section : Section) (m : Bound) (p : Point) → P p →
     StandThere P (in_front section m p)
 front-points P Between BeginsRow p h = one-point P (enter n.GfmTableBody p) h
 front-points P Body EndsTable p h = one-point P (exit n.GfmTableBody p) h
 front-points P _ _ p h = All-nil (AtPoint P)
 
-behind-points : (P : Point → Type 0) (section : Section) (m : Mark) (p : Point) → P p →
+behind-points : (P : Point → Type 0) (section : Section) (m : Bound) (p : Point) → P p →
     StandThere P (behind section m p)
 behind-points P Outside BeginsTable p h = one-point P (enter n.GfmTableHead p) h
 behind-points P Head EndsDelimiter p h = one-point P (exit n.GfmTableHead p) h
@@ -147,18 +147,18 @@ cells-points P Body stage e es h = step-points P stage e es h
 pub given-points : (P : Point → Type 0) (section : Section) (stage : Stage) (e : Event) (es : List Event) → P e.point →
     StandThere P (given section stage e es)
 given-points P section stage e es h =
-    let front = in_front section (mark_of e) e.point in
+    let front = in_front section (bound_of e) e.point in
     let itself = (with_cells section stage e es).given in
-    All-append (AtPoint P) (front ++ itself) (behind section (mark_of e) e.point)
-    (All-append (AtPoint P) front itself (front-points P section (mark_of e) e.point h)
+    All-append (AtPoint P) (front ++ itself) (behind section (bound_of e) e.point)
+    (All-append (AtPoint P) front itself (front-points P section (bound_of e) e.point h)
     (cells-points P section stage e es h))
-    (behind-points P section (mark_of e) e.point h)
+    (behind-points P section (bound_of e) e.point h)
 
 tabled-points : (P : Point → Type 0) (section : Section) (stage : Stage) (es : List Event) → StandThere P es →
     StandThere P (tabled_from section stage es)
 tabled-points P section stage [] h = All-nil (AtPoint P)
 tabled-points P section stage (e ∷ es) h =
-    let now = next section (mark_of e) in
+    let now = next section (bound_of e) in
     let after = (with_cells section stage e es).stage in
     All-append (AtPoint P) (given section stage e es) (tabled_from now after es)
     (given-points P section stage e es (All-head (AtPoint P) e es h))

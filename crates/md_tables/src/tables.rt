@@ -16,7 +16,7 @@ ghost use Rattle.std.specs.Option.{option_map};
 ghost use Rattle.md_engine.specs.Found.{found_in};
 ghost use Rattle.md_engine.specs.World.{world};
 ghost use Rattle.md_seam.specs.Parts.{ArePlaced};
-ghost use Rattle.md_tables.specs.Tabled.{behind, given, in_front, mark_of, next, passes, tabled, with_cells};
+ghost use Rattle.md_tables.specs.Tabled.{behind, given, in_front, bound_of, next, passes, tabled, with_cells};
 
 use crate::cells;
 use crate::cells::{Stage, plain};
@@ -29,7 +29,7 @@ use plain_grammars::memory::push;
 
 /// What an event is to the head and the body of a table.
 #[derive(Clone, Copy)]
-pub enum Mark {
+pub enum Bound {
     BeginsTable,
     EndsTable,
     /// A row of the head or the body begins.
@@ -52,27 +52,27 @@ pub enum Section {
 
 /// What an event is to the head and the body of a table.
 #[inline(always)]
-fn mark_of(event: &Event) -> Mark
-    ensures { result ≡ mark_of event.now }
+fn bound_of(event: &Event) -> Bound
+    ensures { result ≡ bound_of event.now }
 {
     match (event.kind, event.name) {
-        (Kind::Enter, Name::GfmTable) => Mark::BeginsTable,
-        (Kind::Exit, Name::GfmTable) => Mark::EndsTable,
-        (Kind::Enter, Name::GfmTableRow) => Mark::BeginsRow,
-        (Kind::Exit, Name::GfmTableDelimiterRow) => Mark::EndsDelimiter,
-        _ => Mark::Other,
+        (Kind::Enter, Name::GfmTable) => Bound::BeginsTable,
+        (Kind::Exit, Name::GfmTable) => Bound::EndsTable,
+        (Kind::Enter, Name::GfmTableRow) => Bound::BeginsRow,
+        (Kind::Exit, Name::GfmTableDelimiterRow) => Bound::EndsDelimiter,
+        _ => Bound::Other,
     }
 }
 
 /// The section of a table behind an event.
-fn next(section: Section, mark: Mark) -> Section
-    ensures { result ≡ next section mark }
+fn next(section: Section, bound: Bound) -> Section
+    ensures { result ≡ next section bound }
 {
-    match (section, mark) {
-        (Section::Outside, Mark::BeginsTable) => Section::Head,
-        (_, Mark::EndsTable) => Section::Outside,
-        (Section::Head, Mark::EndsDelimiter) => Section::Between,
-        (Section::Between, Mark::BeginsRow) => Section::Body,
+    match (section, bound) {
+        (Section::Outside, Bound::BeginsTable) => Section::Head,
+        (_, Bound::EndsTable) => Section::Outside,
+        (Section::Head, Bound::EndsDelimiter) => Section::Between,
+        (Section::Between, Bound::BeginsRow) => Section::Body,
         _ => section,
     }
 }
@@ -82,7 +82,7 @@ fn next(section: Section, mark: Mark) -> Section
 fn passes(section: Section, event: &Event) -> bool
     ensures { result ≡ passes section event.now }
 {
-    matches!(section, Section::Outside) && !matches!(mark_of(event), Mark::BeginsTable)
+    matches!(section, Section::Outside) && !matches!(bound_of(event), Bound::BeginsTable)
 }
 
 /// How many events stand in front of the first that does not pass a section as it is.
@@ -116,18 +116,18 @@ impl Walk {
     }
 
     /// Begins or ends the body in front of an event.
-    fn put_in_front(&mut self, mark: Mark, point: Point) -> Result<(), Message>
+    fn put_in_front(&mut self, bound: Bound, point: Point) -> Result<(), Message>
         ensures given { OnOk result
-            (self.new.rows.given.items ≡ self.old.rows.given.items ++ in_front self.old.section mark point) }
+            (self.new.rows.given.items ≡ self.old.rows.given.items ++ in_front self.old.section bound point) }
         ensures section { self.new.section ≡ self.old.section }
         ensures stage { self.new.rows.stage ≡ self.old.rows.stage }
     {
-        match (self.section, mark) {
-            (Section::Between, Mark::BeginsRow) => push(
+        match (self.section, bound) {
+            (Section::Between, Bound::BeginsRow) => push(
                 &mut self.rows.given,
                 plain(Kind::Enter, Name::GfmTableBody, point),
             ),
-            (Section::Body, Mark::EndsTable) => push(
+            (Section::Body, Bound::EndsTable) => push(
                 &mut self.rows.given,
                 plain(Kind::Exit, Name::GfmTableBody, point),
             ),
@@ -136,18 +136,18 @@ impl Walk {
     }
 
     /// Begins or ends the head behind an event.
-    fn put_behind(&mut self, mark: Mark, point: Point) -> Result<(), Message>
+    fn put_behind(&mut self, bound: Bound, point: Point) -> Result<(), Message>
         ensures given { OnOk result
-            (self.new.rows.given.items ≡ self.old.rows.given.items ++ behind self.old.section mark point) }
+            (self.new.rows.given.items ≡ self.old.rows.given.items ++ behind self.old.section bound point) }
         ensures section { self.new.section ≡ self.old.section }
         ensures stage { self.new.rows.stage ≡ self.old.rows.stage }
     {
-        match (self.section, mark) {
-            (Section::Outside, Mark::BeginsTable) => push(
+        match (self.section, bound) {
+            (Section::Outside, Bound::BeginsTable) => push(
                 &mut self.rows.given,
                 plain(Kind::Enter, Name::GfmTableHead, point),
             ),
-            (Section::Head, Mark::EndsDelimiter) => push(
+            (Section::Head, Bound::EndsDelimiter) => push(
                 &mut self.rows.given,
                 plain(Kind::Exit, Name::GfmTableHead, point),
             ),
@@ -176,15 +176,15 @@ impl Walk {
         ensures given { OnOk result
             (self.new.rows.given.items ≡
             self.old.rows.given.items ++ given self.old.section self.old.rows.stage event behind.now) }
-        ensures section { OnOk result (self.new.section ≡ next self.old.section (mark_of event)) }
+        ensures section { OnOk result (self.new.section ≡ next self.old.section (bound_of event)) }
         ensures stage { OnOk result
             (self.new.rows.stage ≡ (with_cells self.old.section self.old.rows.stage event behind.now).stage) }
     {
-        let mark = mark_of(&event);
-        self.put_in_front(mark, event.point)?;
+        let bound = bound_of(&event);
+        self.put_in_front(bound, event.point)?;
         self.put(event, behind)?;
-        self.put_behind(mark, event.point)?;
-        self.section = next(self.section, mark);
+        self.put_behind(bound, event.point)?;
+        self.section = next(self.section, bound);
         Ok(())
     }
 }
