@@ -26,7 +26,7 @@ use Rattle.md_tables.specs.declared.cells.Stage.TheVariants.{Behind, Front, Gap,
 -- Points.
 
 -- What is given for an event stands where it does.
-abbrev StandThere : (Point → Type 0) → List Event → Type 0
+abbrev pub StandThere : (Point → Type 0) → List Event → Type 0
 StandThere P es = All (AtPoint P) es
 
 two-points : (P : Point → Type 0) (e f : Event) → P e.point → P f.point → StandThere P (e ∷ f ∷ [])
@@ -114,7 +114,7 @@ inside-points P Gap e es h = All-nil (AtPoint P)
 inside-points P (Last k) e es h = last-points P k e h
 inside-points P Behind e es h = one-point P e h
 
-step-points : (P : Point → Type 0) (stage : Stage) (e : Event) (es : List Event) → P e.point →
+pub step-points : (P : Point → Type 0) (stage : Stage) (e : Event) (es : List Event) → P e.point →
     StandThere P (step stage e es).given
 step-points P stage e es h = go (ends_row e)
   where
@@ -149,7 +149,7 @@ outside-kind name h = go (row_kind name) h
     go None h = refl
     go (Some k) h = cc
 
-outside-step : (e : Event) (es : List Event) → is_row e.name ≡ false → step Outside e es ≡ passed e Outside
+pub outside-step : (e : Event) (es : List Event) → is_row e.name ≡ false → step Outside e es ≡ passed e Outside
 outside-step e es h = by e.kind
   where
     none : row_kind e.name ≡ None
@@ -184,7 +184,7 @@ row-end : (e : Event) → ends_row e ≡ true → is_row e.name ≡ true
 row-end e h = (and_parts (is_exit e.kind) (is_row e.name) h).1
 
 -- looks ahead do not go beyond it
-record Looks (xs ys : List Event) : Type 0 where
+pub record Looks (xs ys : List Event) : Type 0 where
   pub last : is_last xs ≡ is_last ys
   pub on : (k : RowKind) → goes_on k xs ≡ goes_on k ys
 
@@ -221,7 +221,7 @@ row-looks es rest e h = rw (white-looks es rest e h) (go (has_white (es ++ e ∷
     go true white = behind-looks ends_row es rest e h white
     go false white = first-looks ends_row es rest e
 
-last-looks : (es rest : List Event) (e : Event) → ends_row e ≡ true →
+pub last-looks : (es rest : List Event) (e : Event) → ends_row e ≡ true →
     is_last (es ++ e ∷ rest) ≡ is_last (es ++ e ∷ [])
 last-looks [] rest e h =
     let no_pipe : ends_divider e ≡ false = rw (row-whole e.name (row-end e h)) (no-and (is_exit e.kind)) in
@@ -232,7 +232,7 @@ last-looks [] rest e h =
     no-and false = refl
 last-looks (a ∷ es) rest e h = ap (λ (x : Bool). ends_divider a && x) (row-looks es rest e h)
 
-on-looks : (k : RowKind) (es rest : List Event) (e : Event) → ends_row e ≡ true →
+pub on-looks : (k : RowKind) (es rest : List Event) (e : Event) → ends_row e ≡ true →
     goes_on k (es ++ e ∷ rest) ≡ goes_on k (es ++ e ∷ [])
 on-looks Text es rest e h = rw (white-looks es rest e h) (go (has_white (es ++ e ∷ [])) refl)
   where
@@ -244,7 +244,7 @@ on-looks Text es rest e h = rw (white-looks es rest e h) (go (has_white (es ++ e
 on-looks Delimiter es rest e h = first-looks (begins_inner Delimiter) es rest e
 
 -- so a step does not either
-step-looks : (stage : Stage) (x : Event) (es fs : List Event) → Looks es fs → step stage x es ≡ step stage x fs
+pub step-looks : (stage : Stage) (x : Event) (es fs : List Event) → Looks es fs → step stage x es ≡ step stage x fs
 step-looks stage x es fs looks =
     ap (λ (s : Step). cond (ends_row x) (record { given = ends_with stage x; stage = Outside }) s) (go stage)
   where

@@ -11,5 +11,7 @@ pub mod GfmTableBytes
 pub mod CellLemmas
 pub mod DelimiterColumns
 pub mod HeadLemmas
-pub mod CellsWalk
+pub mod TabledWalk
 pub mod CellsLemmas
+pub mod TabledLines
+pub mod TabledNests

@@ -7,3 +7,5 @@ pub mod GfmTableRule
 pub mod GfmTableLine
 pub mod Head
 pub mod Cells
+pub mod Tabled
+pub mod TableLines

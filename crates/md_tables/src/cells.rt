@@ -1,12 +1,12 @@
-// The cells of rows, in one walk over the events.
+// The cells of a row, in one walk over its events.
 //
 // The states of a row tell its pipes, its whitespace and its words. A cell begins with the pipe in front of it, and the
 // first one where no pipe stands there with what stands first; the last pipe of a row ends its last cell. The words of a
 // cell are one text, with the whitespace between them. In a delimiter row the colons and dashes of a cell are its value.
 
-ghost use Rattle.std.specs.Prelude.{◌≡◌, ◌++◌, ◌∷◌, [], IfOk, None, OnOk};
+ghost use Rattle.std.specs.Prelude.{◌≡◌, ◌++◌, ◌∷◌, [], None, OnOk};
 ghost use Rattle.md_seam.specs.Events.Nested.{enter, exit};
-ghost use Rattle.md_tables.specs.Cells.{begins_divider, begins_inner, begins_row, cell_name, celled, ends_divider};
+ghost use Rattle.md_tables.specs.Cells.{begins_divider, begins_inner, begins_row, cell_name, ends_divider};
 ghost use Rattle.md_tables.specs.Cells.{ends_inner, ends_row, goes_on, has_white, inner_name, is_inner, is_last};
 ghost use Rattle.md_tables.specs.Cells.{divider_step, ends_with, front_step, gap_step, inner_step, inside_step, last_step};
 ghost use Rattle.md_tables.specs.Cells.{outside_step, piece_step, row_ends, step, within_step};
@@ -161,7 +161,7 @@ fn inner_name(kind: RowKind) -> Name
 }
 
 /// An event without a link.
-fn plain(kind: Kind, name: Name, point: Point) -> Event
+pub(crate) fn plain(kind: Kind, name: Name, point: Point) -> Event
     ensures { result ≡ record { kind = kind; name = name; point = point; link = None } }
 {
     Event {
@@ -174,14 +174,14 @@ fn plain(kind: Kind, name: Name, point: Point) -> Event
 
 /// A walk over the events: what is given for those so far, and where it stands.
 #[derive(Drop)]
-struct Walk {
-    given: Vec<Event>,
-    stage: Stage,
+pub(crate) struct Walk {
+    pub(crate) given: Vec<Event>,
+    pub(crate) stage: Stage,
 }
 
 impl Walk {
     /// Passes an event as it is.
-    fn pass(&mut self, event: Event, stage: Stage) -> Result<(), Message>
+    pub(crate) fn pass(&mut self, event: Event, stage: Stage) -> Result<(), Message>
         ensures given { OnOk result (self.new.given.items ≡ self.old.given.items ++ event ∷ []) }
         ensures stage { self.new.stage ≡ stage }
     {
@@ -382,7 +382,7 @@ impl Walk {
     }
 
     /// Goes on with an event, in front of these.
-    fn step(&mut self, event: Event, behind: &[Event]) -> Result<(), Message>
+    pub(crate) fn step(&mut self, event: Event, behind: &[Event]) -> Result<(), Message>
         ensures given { OnOk result
             (self.new.given.items ≡ self.old.given.items ++ (step self.old.stage event behind.now).given) }
         ensures stage { OnOk result (self.new.stage ≡ (step self.old.stage event behind.now).stage) }
@@ -393,21 +393,4 @@ impl Walk {
             self.inside(event, behind)
         }
     }
-}
-
-/// The events with cells in their rows, written into `spare`, which is empty.
-pub fn put_cells(events: &[Event], spare: Vec<Event>) -> Result<Vec<Event>, Message>
-    requires { spare.items ≡ [] }
-    ensures { IfOk result (λ all. all.items ≡ celled Stage.Outside events.now) }
-{
-    let mut walk = Walk {
-        given: spare,
-        stage: Stage::Outside,
-    };
-    let mut at = 0;
-    while at < events.len() {
-        walk.step(events[at], &events[at + 1..])?;
-        at += 1;
-    }
-    Ok(walk.given)
 }

@@ -6,3 +6,4 @@ pub mod delimiter;
 pub mod gfm_table;
 pub mod head;
 pub mod row;
+pub mod tables;

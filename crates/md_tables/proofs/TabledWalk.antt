@@ -1,0 +1,169 @@
+-- The walk that gives tables their heads, bodies and cells. The points of events stay.
+use Rattle.std.proofs.Common.{◌≡◌, ℕ, suc, ◌+◌, ◌<◌, ◌≤◌, Bool, true, false, cond, not, List, [], ◌∷◌, ◌++◌}
+use Rattle.std.proofs.Common.{take, drop, get_or, length, refl, sym, ◌∙◌, ap, append-nil, append_assoc, arith}
+use Rattle.std.specs.List.{All, prefix_len}
+use Rattle.std.proofs.lemmas.List.{drop-drop, drop_all, drop_more, take_all}
+use Rattle.std.proofs.lemmas.List.Elements.{All-append, All-head, All-nil, All-tail}
+use Rattle.md_engine.specs.declared.event.Event.{Event}
+use Rattle.md_engine.specs.declared.event.Name.TheVariants as n
+use Rattle.md_engine.specs.declared.event.Point.{Point}
+use Rattle.md_engine.specs.Place.{IsPlaced}
+use Rattle.md_leaves.proofs.SpannedLemmas.{AtPoint, one-point}
+use Rattle.md_seam.specs.Events.Nested.{enter, exit}
+use Rattle.md_seam.specs.Parts.{ArePlaced}
+use Rattle.md_tables.specs.Tabled.{begins_table, behind, given, in_front, bound_of, next, passes, tabled, tabled_from}
+use Rattle.md_tables.specs.Tabled.{with_cells}
+use Rattle.md_tables.specs.declared.cells.Stage.{Stage}
+use Rattle.md_tables.specs.declared.cells.Stage.TheVariants as row
+use Rattle.md_tables.specs.declared.tables.Bound.{Bound}
+use Rattle.md_tables.specs.declared.tables.Bound.TheVariants.{BeginsRow, BeginsTable, EndsDelimiter, EndsTable, Other}
+use Rattle.md_tables.specs.declared.tables.Section.{Section}
+use Rattle.md_tables.specs.declared.tables.Section.TheVariants.{Between, Body, Head, Outside}
+use Rattle.md_tables.proofs.CellsLemmas.{StandThere, step-points}
+
+-- Events that pass.
+
+-- outside of tables it does not matter where in a row one is
+pub outside-stage : (stage : Stage) (es : List Event) → tabled_from Outside stage es ≡ tabled es
+outside-stage stage [] = refl
+outside-stage stage (e ∷ es) = refl
+
+-- there an event that does not begin a table is given as it is
+pub passes-given : (e : Event) (es : List Event) → passes Outside e ≡ true → tabled (e ∷ es) ≡ e ∷ tabled es
+passes-given e es h = go (bound_of e) h
+  where
+    go : (m : Bound) → not (begins_table m) ≡ true →
+        (in_front Outside m e.point ++ (e ∷ []) ++ behind Outside m e.point)
+        ++ tabled_from (next Outside m) row.Outside es
+        ≡ e ∷ tabled es
+    go BeginsTable k = absurd (let no : false ≡ true = k in cc)
+    go EndsTable k = refl
+    go BeginsRow k = refl
+    go EndsDelimiter k = refl
+    go Other k = refl
+
+-- and so are all in front of the next table
+outside-run : (es : List Event) →
+    tabled es ≡ take (prefix_len (passes Outside) es) es ++ tabled (drop (prefix_len (passes Outside) es) es)
+outside-run [] = refl
+outside-run (e ∷ es) = go (passes Outside e) refl (outside-run es)
+  where
+    go : (x : Bool) → passes Outside e ≡ x →
+        tabled es ≡ take (prefix_len (passes Outside) es) es ++ tabled (drop (prefix_len (passes Outside) es) es) →
+        tabled (e ∷ es)
+        ≡ take (cond x (1 + prefix_len (passes Outside) es) 0) (e ∷ es)
+        ++ tabled (drop (cond x (1 + prefix_len (passes Outside) es) 0) (e ∷ es))
+    go false h k = refl
+    go true h k =
+        passes-given e es h ∙ ap (λ (l : List Event). e ∷ l) k
+        ∙ ap (λ (n : ℕ). take n (e ∷ es) ++ tabled (drop n (e ∷ es)))
+        (let one : suc (prefix_len (passes Outside) es) ≡ 1 + prefix_len (passes Outside) es = omega arith in one)
+
+-- in a table none passes so
+none-pass : (section : Section) (es : List Event) → ((e : Event) → passes section e ≡ false) →
+    prefix_len (passes section) es ≡ 0
+none-pass section [] h = refl
+none-pass section (e ∷ es) h = rw (h e) refl
+
+passed-run : (section : Section) (stage : Stage) (es : List Event) →
+    tabled_from section stage es
+    ≡ take (prefix_len (passes section) es) es
+    ++ tabled_from section stage (drop (prefix_len (passes section) es) es)
+passed-run Outside stage es =
+    outside-stage stage es ∙ outside-run es
+    ∙ ap (λ (l : List Event). take (prefix_len (passes Outside) es) es ++ l)
+    (sym (outside-stage stage (drop (prefix_len (passes Outside) es) es)))
+passed-run Head stage es = rw (none-pass Head es (λ e. refl)) refl
+passed-run Between stage es = rw (none-pass Between es (λ e. refl)) refl
+passed-run Body stage es = rw (none-pass Body es (λ e. refl)) refl
+
+-- where no table stands, events stay as they are
+pub tabled-none : (events : List Event) → prefix_len (passes Outside) events ≡ length events → tabled events ≡ events
+tabled-none events all =
+    outside-run events
+    ∙ ap (λ (n : ℕ). take n events ++ tabled (drop n events)) all
+    ∙ ap (λ (l : List Event). take (length events) events ++ tabled l)
+    (drop_all (length events) events (let le : length events ≤ length events = omega arith in le))
+    ∙ append-nil (take (length events) events) ∙ take_all (length events) events (omega arith)
+
+-- The walk goes on with events that pass,
+pub walk-copied : (section now : Section) (stage after : Stage) (events old new all : List Event) (at many : ℕ) →
+    new ≡ old ++ take many (drop at events) → now ≡ section → after ≡ stage →
+    many ≡ prefix_len (passes section) (drop at events) →
+    old ++ tabled_from section stage (drop at events) ≡ all →
+    new ++ tabled_from now after (drop (at + many) events) ≡ all
+walk-copied section now stage after events old new all at many is same there count so_far =
+    rw (is, same, there)
+    (append_assoc old (take many (drop at events)) (tabled_from section stage (drop (at + many) events))
+    ∙ ap (λ (l : List Event). old ++ (take many (drop at events) ++ tabled_from section stage l))
+    (sym (drop-drop many at events))
+    ∙ ap
+    (λ (n : ℕ). old ++ (take n (drop at events) ++ tabled_from section stage (drop n (drop at events)))) count
+    ∙ ap (λ (l : List Event). old ++ l) (sym (passed-run section stage (drop at events))) ∙ so_far)
+
+-- and with the event behind them.
+pub walk-stepped : (section now : Section) (stage after : Stage) (events old new all : List Event) (at : ℕ)
+    (d : Event) → at < length events →
+    new ≡ old ++ given section stage (get_or events at d) (drop (at + 1) events) →
+    now ≡ next section (bound_of (get_or events at d)) →
+    after ≡ (with_cells section stage (get_or events at d) (drop (at + 1) events)).stage →
+    old ++ tabled_from section stage (drop at events) ≡ all → new ++ tabled_from now after (drop (at + 1) events) ≡ all
+walk-stepped section now stage after events old new all at d within is same there so_far =
+    rw (is, same, there)
+    (append_assoc old (given section stage (get_or events at d) (drop (at + 1) events))
+    (tabled_from (next section (bound_of (get_or events at d)))
+    (with_cells section stage (get_or events at d) (drop (at + 1) events)).stage (drop (at + 1) events))
+    ∙ ap (λ (l : List Event). old ++ tabled_from section stage l) (sym (drop_more events at d within)) ∙ so_far)
+
+-- At the end all is given.
+pub walk-done : (section : Section) (stage : Stage) (events given all : List Event) (at : ℕ) → length events ≤ at →
+    given ++ tabled_from section stage (drop at events) ≡ all → given ≡ all
+walk-done section stage events given all at end so_far =
+    sym (append-nil given)
+    ∙ ap (λ (l : List Event). given ++ tabled_from section stage l) (sym (drop_all at events end)) ∙ so_far
+
+-- Points.
+
+-- What is given for an event stands where it does.
+front-points : (P : Point → Type 0) (section : Section) (m : Bound) (p : Point) → P p →
+    StandThere P (in_front section m p)
+front-points P Between BeginsRow p h = one-point P (enter n.GfmTableBody p) h
+front-points P Body EndsTable p h = one-point P (exit n.GfmTableBody p) h
+front-points P _ _ p h = All-nil (AtPoint P)
+
+behind-points : (P : Point → Type 0) (section : Section) (m : Bound) (p : Point) → P p →
+    StandThere P (behind section m p)
+behind-points P Outside BeginsTable p h = one-point P (enter n.GfmTableHead p) h
+behind-points P Head EndsDelimiter p h = one-point P (exit n.GfmTableHead p) h
+behind-points P _ _ p h = All-nil (AtPoint P)
+
+cells-points : (P : Point → Type 0) (section : Section) (stage : Stage) (e : Event) (es : List Event) → P e.point →
+    StandThere P (with_cells section stage e es).given
+cells-points P Outside stage e es h = one-point P e h
+cells-points P Head stage e es h = step-points P stage e es h
+cells-points P Between stage e es h = step-points P stage e es h
+cells-points P Body stage e es h = step-points P stage e es h
+
+pub given-points : (P : Point → Type 0) (section : Section) (stage : Stage) (e : Event) (es : List Event) → P e.point →
+    StandThere P (given section stage e es)
+given-points P section stage e es h =
+    let front = in_front section (bound_of e) e.point in
+    let itself = (with_cells section stage e es).given in
+    All-append (AtPoint P) (front ++ itself) (behind section (bound_of e) e.point)
+    (All-append (AtPoint P) front itself (front-points P section (bound_of e) e.point h)
+    (cells-points P section stage e es h))
+    (behind-points P section (bound_of e) e.point h)
+
+tabled-points : (P : Point → Type 0) (section : Section) (stage : Stage) (es : List Event) → StandThere P es →
+    StandThere P (tabled_from section stage es)
+tabled-points P section stage [] h = All-nil (AtPoint P)
+tabled-points P section stage (e ∷ es) h =
+    let now = next section (bound_of e) in
+    let after = (with_cells section stage e es).stage in
+    All-append (AtPoint P) (given section stage e es) (tabled_from now after es)
+    (given-points P section stage e es (All-head (AtPoint P) e es h))
+    (tabled-points P now after es (All-tail (AtPoint P) e es h))
+
+-- placed events stay placed
+pub tabled-placed : (text : List ℕ) (events : List Event) → ArePlaced text events → ArePlaced text (tabled events)
+tabled-placed text events h = tabled-points (IsPlaced text) Outside row.Outside events h
