@@ -4,3 +4,4 @@ pub mod Delimiter
 pub mod DelimiterRule
 pub mod Head
 pub mod Cells
+pub mod RowCells
