@@ -9,3 +9,6 @@ pub mod DelimiterColumns
 pub mod HeadLemmas
 pub mod CellsWalk
 pub mod CellsLemmas
+pub mod WhiteEnds
+pub mod RowCellLemmas
+pub mod RowWalk

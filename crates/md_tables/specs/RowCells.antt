@@ -76,8 +76,8 @@ text_part said (b ∷ bs) p =
 abbrev pub cell_inside : (Point → Point → List Event) → List ℕ → Point → List Event
 cell_inside said cell p =
     let q = past_text (white_front cell) p in
-    white_part (white_front cell) p ++ text_part said (trim cell) q
-    ++ white_part (white_back (trim_start cell)) (past_text (trim cell) q)
+    white_part (white_front cell) p
+    ++ (text_part said (trim cell) q ++ white_part (white_back (trim_start cell)) (past_text (trim cell) q))
 
 -- a pipe
 abbrev pub pipe_part : Point → List Event
@@ -100,7 +100,7 @@ cells_events said piped (Ends cell) p =
 cells_events said piped (Shut cell white) p =
     let q = past_pipe piped p in
     let end = past_text cell q in
-    around n.GfmTableCell p (past_byte pipe end) (first_pipe piped p ++ cell_inside said cell q ++ pipe_part end)
+    around n.GfmTableCell p (past_byte pipe end) (first_pipe piped p ++ (cell_inside said cell q ++ pipe_part end))
     ++ white_part white (past_byte pipe end)
 cells_events said piped (Divides cell cells) p =
     let q = past_pipe piped p in
