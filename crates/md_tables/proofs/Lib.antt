@@ -12,3 +12,4 @@ pub mod CellsLemmas
 pub mod WhiteEnds
 pub mod RowCellLemmas
 pub mod RowWalk
+pub mod RowTexts

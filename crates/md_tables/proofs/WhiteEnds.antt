@@ -31,7 +31,7 @@ blank-both [] ys h = h
 blank-both (x ∷ xs) ys h = ap (λ (t : Bool). is_white x && t) (blank-both xs ys h)
 
 -- what is blank ends with whitespace
-blank-light : (x : ℕ) (ws : List ℕ) → is_blank (x ∷ ws) ≡ true → ends_dark (x ∷ ws) ≡ false
+pub blank-light : (x : ℕ) (ws : List ℕ) → is_blank (x ∷ ws) ≡ true → ends_dark (x ∷ ws) ≡ false
 blank-light x [] h = let white = (and_parts (is_white x) true h).0 in rw white refl
 blank-light x (w ∷ ws) h = blank-light w ws (and_parts (is_white x) (is_blank (w ∷ ws)) h).1
 
