@@ -13,3 +13,5 @@ pub mod WhiteEnds
 pub mod RowCellLemmas
 pub mod RowWalk
 pub mod RowTexts
+pub mod RowBytes
+pub mod RowRead
