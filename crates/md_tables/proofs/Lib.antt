@@ -15,3 +15,4 @@ pub mod RowWalk
 pub mod RowTexts
 pub mod RowBytes
 pub mod RowRead
+pub mod RowSpread
