@@ -32,7 +32,7 @@ use Rattle.markdown_blocks.specs.LineFlags.{ending_name, nothing_stands}
 use Rattle.md_parts.specs.Progress.{text_behind}
 use Rattle.md_parts.specs.WholeCells.{whole_line}
 use Rattle.md_parts.specs.DefinitionRule.{DefinitionParts, definition_end, definition_events}
-use Rattle.md_tables.specs.RowBytes.{head_line}
+use Rattle.md_tables.specs.GfmTableLine.{head_line}
 use Rattle.md_tables.specs.Tabled.{tabled}
 use Rattle.markdown_blocks.specs.Passed.{Passed}
 use Rattle.markdown_blocks.specs.Registry.{LeafName, first_of, goes_at, insider, leaf, opens_at, shuts_out, text_leaf, turn_leaf}

@@ -15,3 +15,10 @@ pub mod TabledWalk
 pub mod CellsLemmas
 pub mod TabledLines
 pub mod TabledNests
+pub mod WhiteEnds
+pub mod RowCellLemmas
+pub mod RowWalk
+pub mod RowTexts
+pub mod RowBytes
+pub mod RowRead
+pub mod RowSpread

@@ -2,7 +2,7 @@
 --
 -- A line that meets text may be a delimiter row, which makes the last line of the text a head; one that meets a table
 -- may be one more row of it.
-use Rattle.std.specs.Prelude.{refl, ℕ, Bool, true, false, ◌&&◌, nat_lt}
+use Rattle.std.specs.Prelude.{refl, ℕ, Bool, true, false, ◌&&◌, ◌||◌, ◌==◌, nat_lt}
 use Rattle.md_engine.specs.declared.configuration.ParseOptions.{ParseOptions}
 use Rattle.md_engine.specs.declared.state.Name.{Name as StateName}
 use Rattle.md_engine.specs.declared.state.Name.TheVariants as n
@@ -15,6 +15,7 @@ use Rattle.md_engine.specs.declared.tokenizer.held_leaf.HeldLeaf.TheVariants as 
 use Rattle.md_engine.specs.declared.tokenizer.held_leaf.OpenText.{OpenText}
 use Rattle.md_engine.specs.Scheme.{Scheme, nowhere, of_owners, ranked}
 use Rattle.md_engine.specs.World.{World}
+use Rattle.md_definition.specs.Ascii.{colon, hyphen, pipe}
 use Rattle.md_definition.specs.Rest.{is_small}
 use Rattle.md_seam.specs.Spaces.{rest_ready}
 use Rattle.md_seam.specs.Transition.{Transition}
@@ -26,6 +27,12 @@ use Rattle.md_tables.specs.declared.row.Row.TheVariants.{Head, Body}
 -- whether the last line of this text may be the head of a table: it has cells, and a small indent
 abbrev pub may_head : ParseOptions → OpenText → Bool
 may_head options text = options.constructs.gfm_table && nat_lt 0 text.columns && is_small options text.indent
+
+-- whether a line of a table may begin where the line meets this leaf, by what stands first behind its indent
+abbrev pub may_begin : HeldLeaf → ℕ → Bool
+may_begin (held_leaf.Text text) b = nat_lt 0 text.columns && (b == hyphen || b == colon || b == pipe)
+may_begin held_leaf.Table b = true
+may_begin _ b = false
 
 -- so many cells are asked of the delimiter row
 abbrev pub asking_columns : ℕ → Scratch → Scratch

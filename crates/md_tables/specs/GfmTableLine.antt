@@ -3,20 +3,20 @@
 use Rattle.std.specs.Prelude.{ℕ, Bool, true, false, ◌&&◌, ◌==◌, if◌then◌else◌, List, [], ◌∷◌, ◌++◌, Option, Some, None}
 use Rattle.md_engine.specs.declared.configuration.ParseOptions.{ParseOptions}
 use Rattle.md_engine.specs.declared.event.Event.{Event}
-use Rattle.md_engine.specs.declared.event.Name.TheVariants.{SpaceOrTab}
+use Rattle.md_engine.specs.declared.event.Name.TheVariants.{GfmTable, SpaceOrTab}
 use Rattle.md_engine.specs.declared.event.Point.{Point}
 use Rattle.md_engine.specs.declared.tokenizer.held_leaf.HeldLeaf.{HeldLeaf}
 use Rattle.md_engine.specs.declared.tokenizer.held_leaf.HeldLeaf.TheVariants as held_leaf
 use Rattle.md_engine.specs.declared.tokenizer.TheConstants.Scratch.{REST}
 use Rattle.md_engine.specs.Meaning.{Cell}
 use Rattle.md_seam.specs.Ahead.{begins_white, line_bytes, line_cells, line_end, white_end, white_rest}
-use Rattle.md_seam.specs.Events.Nested.{pair}
+use Rattle.md_seam.specs.Events.Nested.{around, pair}
 use Rattle.md_seam.specs.Events.Places.{past_byte, past_text}
 use Rattle.md_seam.specs.Spaces.{small_indent}
 use Rattle.md_tables.specs.DelimiterRule as delimiter
 use Rattle.md_tables.specs.GfmTable.{asking_columns, may_head}
 use Rattle.md_tables.specs.RowRule as row
-use Rattle.md_tables.specs.declared.row.Row.TheVariants.{Body}
+use Rattle.md_tables.specs.declared.row.Row.TheVariants.{Body, Head}
 
 -- whether a row has so many cells
 abbrev pub are_columns : Option ℕ → ℕ → Bool
@@ -81,6 +81,12 @@ delimiter_line line p =
 
 abbrev pub row_line : List ℕ → Point → List Event
 row_line line p = row.row_opens Body p ++ row_runs row.Apart line p ++ row.row_closes Body (past_text line p)
+
+-- that of a head, which is a table of one row at first
+abbrev pub head_line : List ℕ → Point → List Event
+head_line line p =
+    let q = past_text line p in
+    around GfmTable p q (row.row_opens Head p ++ row_runs row.Apart line p ++ row.row_closes Head q)
 
 abbrev pub table_line : HeldLeaf → List ℕ → Point → List Event
 table_line held_leaf.Table line p = row_line line p

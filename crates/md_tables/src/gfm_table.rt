@@ -13,7 +13,8 @@ ghost use Rattle.md_engine.specs.declared.state.State.{State};
 ghost use Rattle.md_engine.specs.declared.state.gfm_table.State.{State as TableState};
 ghost use Rattle.md_seam.specs.Stays.{TakesEach};
 ghost use Rattle.md_seam.specs.Transition.{IsAt};
-ghost use Rattle.md_tables.specs.GfmTable.{TableNeeds, may_head, start_transition, table_transition};
+ghost use Rattle.md_seam.specs.Look.{may_with};
+ghost use Rattle.md_tables.specs.GfmTable.{TableNeeds, may_begin, may_head, start_transition, table_transition};
 
 use crate::delimiter;
 use crate::row::{self, Place, Row};
@@ -29,6 +30,21 @@ fn may_head(options: &ParseOptions, text: OpenText) -> bool
     ensures { result ≡ may_head options.now text }
 {
     options.constructs.gfm_table && 0 < text.columns && is_small(options, text.indent)
+}
+
+/// Whether a line of a table may begin where the line meets this leaf, by what stands first behind its indent, if that is
+/// known.
+pub fn may_begin(leaf: HeldLeaf, first: Option<u8>) -> bool
+    ensures { result ≡ may_with (may_begin leaf) first }
+{
+    let Some(byte) = first else {
+        return true;
+    };
+    match leaf {
+        HeldLeaf::Text(text) => 0 < text.columns && matches!(byte, b'-' | b':' | b'|'),
+        HeldLeaf::Table => true,
+        _ => false,
+    }
 }
 
 /// Before a line of a table, behind its head.

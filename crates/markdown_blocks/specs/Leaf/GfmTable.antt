@@ -12,7 +12,7 @@ use Rattle.md_definition.specs.Rest.{Rest, has_small_indent, trim}
 use Rattle.md_definition.specs.State.{Kept, Leaf, OpenParagraph, OpenTable}
 use Rattle.md_definition.specs.Table.{delimiter_columns, row_cells}
 use Rattle.md_definition.specs.Tree.{Table}
-use Rattle.md_tables.specs.GfmTable.{may_head}
+use Rattle.md_tables.specs.GfmTable.{may_begin, may_head}
 use Rattle.md_tables.specs.GfmTableLine.{are_columns, table_adds, table_line, table_takes}
 use Rattle.md_tables.specs.GfmTableRule.{table_at}
 use Rattle.markdown_blocks.specs.LineLeaf.{LineLeaf}
@@ -51,7 +51,8 @@ table_leaf = record {
   stays_blank = false;
   further = may_be_table;
   asked = λ on. true;
-  may_begin = λ white b. true;
+  heads = true;
+  may_begin = λ on white b. may_begin on b;
   trial = table_at;
   takes = table_takes;
   adds = table_adds;
