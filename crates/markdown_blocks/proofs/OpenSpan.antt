@@ -57,7 +57,7 @@ pub record TurnsText (l : LeafName) : Type 0 where
       is_blank r.bytes ≡ false
   pub shallow : (lines : List (List ℕ)) (r : Rest) → is_shallow (turn_leaf.block lines r) ≡ true
 
--- these leaves go on none of several lines
+-- these leaves go on none of several lines of which another leaf is asked first
 abbrev pub AllBegin : List LeafName → Type 0
 AllBegin [] = Unit {0}
-AllBegin (l ∷ ls) = ((on : HeldLeaf) → has_lines on ≡ true → (leaf l).further on ≡ false) × AllBegin ls
+AllBegin (l ∷ ls) = ((on : HeldLeaf) (m : LeafName) → insider on ≡ Some m → (leaf l).further on ≡ false) × AllBegin ls

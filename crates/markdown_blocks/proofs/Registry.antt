@@ -77,12 +77,13 @@ use Rattle.markdown_blocks.specs.LineLeaf.{LineLeaf}
 use Rattle.markdown_blocks.specs.Leaf.CodeIndented.{code_further, code_leaf, is_code}
 use Rattle.markdown_blocks.specs.Leaf.Fence.{fence_leaf, opening_at}
 use Rattle.markdown_blocks.specs.Leaf.FenceFurther.{fence_further, is_fence, opening_of}
+use Rattle.markdown_blocks.specs.Leaf.GfmTable.{may_be_table, table_leaf}
 use Rattle.markdown_blocks.specs.Leaf.HeadingAtx.{heading_leaf}
 use Rattle.markdown_blocks.specs.Leaf.HeadingSetext.{setext_leaf}
 use Rattle.markdown_blocks.specs.Leaf.ThematicBreak.{break_leaf, is_ruled}
 use Rattle.markdown_blocks.specs.Parsed.{IsBuilt}
 use Rattle.markdown_blocks.specs.Registry.{CodeFurther, CodeIndented, Fence, FenceFurther, HeadingAtx, HeadingSetext}
-use Rattle.markdown_blocks.specs.Registry.{HtmlFlow}
+use Rattle.markdown_blocks.specs.Registry.{GfmTable, HtmlFlow}
 use Rattle.markdown_blocks.specs.Registry.{HtmlFurther, LeafName}
 use Rattle.markdown_blocks.specs.Registry.{ThematicBreak, behind}
 use Rattle.markdown_blocks.specs.Registry.{construct_owner}
@@ -108,6 +109,9 @@ use Rattle.markdown_blocks.proofs.Fence.Registers.{fence-registers}
 use Rattle.markdown_blocks.proofs.FenceFurther.Definition.{opening-fence}
 use Rattle.markdown_blocks.proofs.FenceFurther.Laws.{fence_further-laws}
 use Rattle.markdown_blocks.proofs.FenceSpan.Laws.{fence-span}
+use Rattle.markdown_blocks.proofs.GfmTable.Laws.{table-laws}
+use Rattle.markdown_blocks.proofs.GfmTable.Registers.{table-registers}
+use Rattle.markdown_blocks.proofs.GfmTable.Span.{table-begins, table-span}
 use Rattle.markdown_blocks.proofs.Goods.{Anywhere, ContainerFits, IsWithin}
 use Rattle.markdown_blocks.proofs.HtmlFlow.Found.{html-enabled, html-found, html-goes, html-held, html-indented, html-lazy}
 use Rattle.markdown_blocks.proofs.HtmlFlow.Laws.{html-laws, html_further-laws}
@@ -117,6 +121,8 @@ use Rattle.md_definition.specs.Html.{HtmlKind, html_ends}
 use Rattle.md_rich.specs.Html.{ends_in_front, is_html}
 use Rattle.md_rich.specs.HtmlLine as rule
 use Rattle.md_rich.specs.HtmlRule.{left}
+use Rattle.md_tables.proofs.GfmTableGoods.{TableFits, table_does}
+use Rattle.md_tables.proofs.GfmTableSteps.{table_steps}
 use Rattle.md_rich.proofs.HtmlGoods.{HtmlFits, html_does}
 use Rattle.md_rich.proofs.HtmlSteps.{html_steps}
 use Rattle.markdown_blocks.specs.Leaf.HtmlFlow.{begins_as, html_further, html_leaf, kind_begun}
@@ -158,6 +164,7 @@ laws HtmlFurther = html_further-laws
 laws HeadingAtx = heading-laws
 laws HeadingSetext = setext-laws
 laws ThematicBreak = break-laws
+laws GfmTable = table-laws
 
 -- the leaf that takes the rest of a line, if one does
 abbrev pub leaf_at : ParseOptions → HeldLeaf → Rest → Option LeafName
@@ -207,8 +214,9 @@ setext-turns = record {
     shallow true lines = refl
     shallow false lines = refl
 
-pub text-turns : (at : OpenText) (l : LeafName) → (leaf l).further (held_leaf.Text at) ≡ true → TurnsText l
-text-turns at l e = subst TurnsText (sym (further-text at l e)) setext-turns
+pub text-turns : (at : OpenText) (l : LeafName) → (leaf l).further (held_leaf.Text at) ≡ true → (leaf l).heads ≡ false →
+    TurnsText l
+text-turns at l e h = subst TurnsText (sym (further-text at l e h)) setext-turns
 
 -- where one starts, no leaf does that is tried before it
 pub setext-taken : (options : ParseOptions) (on : HeldLeaf) (r : Rest) → setext_leaf.starts options on r ≡ true →
@@ -230,21 +238,26 @@ setext-taken options on r starts =
         (cond x (Some Fence)
         (cond h (Some HtmlFlow)
         (cond y (Some HeadingAtx)
-        (cond s (Some HeadingSetext) (cond (break_leaf.starts options on r) (Some ThematicBreak) None)))))
+        (cond s (Some HeadingSetext)
+        (cond (break_leaf.starts options on r) (Some ThematicBreak)
+        (cond (table_leaf.starts options on r) (Some GfmTable) None))))))
 
 -- where one stands that has nothing to turn none starts at all
 pub lost-none : (options : ParseOptions) (at : OpenText) (r : Rest) (depth : ℕ) →
     may_turn options (held_leaf.Text at) ≡ false → underline_depth options r ≡ Some depth →
-    leaf_at options (held_leaf.Text at) r ≡ None
-lost-none options at r depth may some =
+    table_leaf.starts options (held_leaf.Text at) r ≡ false → leaf_at options (held_leaf.Text at) r ≡ None
+lost-none options at r depth may some no_table =
     ap₂
     (λ (c x : Bool).
     to c x (html_leaf.starts options on r) (heading_leaf.starts options on r) (setext_leaf.starts options on r)
-    (break_leaf.starts options on r)) none.code none.fence
+    (break_leaf.starts options on r) (table_leaf.starts options on r)) none.code none.fence
     ∙ ap₂
-    (λ (h y : Bool). to false false h y (setext_leaf.starts options on r) (break_leaf.starts options on r)) none.html
-    none.heading
-    ∙ ap₂ (to false false false false) (starts-by options on r false may) lost
+    (λ (h y : Bool).
+    to false false h y (setext_leaf.starts options on r) (break_leaf.starts options on r)
+    (table_leaf.starts options on r)) none.html none.heading
+    ∙ ap₂ (λ (s z : Bool). to false false false false s z (table_leaf.starts options on r))
+    (starts-by options on r false may) lost
+    ∙ ap (to false false false false false false) no_table
   where
     on : HeldLeaf
     on = held_leaf.Text at
@@ -268,23 +281,24 @@ lost-none options at r depth may some =
         go true false u w e k = cc
         go false s u w e k = cc
 
-    to : Bool → Bool → Bool → Bool → Bool → Bool → Option LeafName
-    to c x h y s z =
+    to : Bool → Bool → Bool → Bool → Bool → Bool → Bool → Option LeafName
+    to c x h y s z t =
         cond c (Some CodeIndented)
         (cond x (Some Fence)
         (cond h (Some HtmlFlow)
-        (cond y (Some HeadingAtx) (cond s (Some HeadingSetext) (cond z (Some ThematicBreak) None)))))
+        (cond y (Some HeadingAtx)
+        (cond s (Some HeadingSetext) (cond z (Some ThematicBreak) (cond t (Some GfmTable) None))))))
 
--- where none does, of the leaves of the line definition these alone are built, in this order
+-- where none does, and no line of a table, of the leaves of the line definition these alone are built, in this order
 pub leaves-found : (options : ParseOptions) (on : HeldLeaf) (against : ParagraphContext) (r : Rest) →
-    IsAgainst against on → setext_leaf.starts options on r ≡ false →
+    IsAgainst against on → setext_leaf.starts options on r ≡ false → table_leaf.starts options on r ≡ false →
     (has_small_indent options r && turns_nothing options on && is_underline (trim_start r.bytes)) ≡ false →
     is_blank r.bytes ≡ false →
     option_or (code_at options against r)
     (option_or (fence_at options r)
     (option_or (html_at options against r) (option_or (heading_at options r) (break_at options r)))) ≡
     came_of options r (leaf_at options on r)
-leaves-found options on against r same unturned no_underline dark =
+leaves-found options on against r same unturned no_table no_underline dark =
     ap₂ (λ (x y : Option Came). option_or x y)
     (code-found options on against r (free-open on ∙ sym (ap is_free same)) dark)
     (ap₂ (λ (x y : Option Came). option_or x y) (fence-found options r)
@@ -292,27 +306,28 @@ leaves-found options on against r same unturned no_underline dark =
     (ap₂ (λ (x y : Option Came). option_or x y) (heading-found options r) (break-found options on r no_underline))))
     ∙ go (code_leaf.starts options on r) (fence_leaf.starts options on r) (html_leaf.starts options on r)
     (heading_leaf.starts options on r) (break_leaf.starts options on r)
-    ∙ ap
-    (λ (s : Bool).
+    ∙ ap₂
+    (λ (s t : Bool).
     came_of options r
     (to (code_leaf.starts options on r) (fence_leaf.starts options on r) (html_leaf.starts options on r)
-    (heading_leaf.starts options on r) s (break_leaf.starts options on r))) (sym unturned)
+    (heading_leaf.starts options on r) s (break_leaf.starts options on r) t)) (sym unturned) (sym no_table)
   where
     -- a leaf, if it starts
     one : Bool → LeafName → Option Came
     one x l = cond x (Some ((leaf l).comes options NoLeaf r)) None
 
-    to : Bool → Bool → Bool → Bool → Bool → Bool → Option LeafName
-    to c x h y s z =
+    to : Bool → Bool → Bool → Bool → Bool → Bool → Bool → Option LeafName
+    to c x h y s z t =
         cond c (Some CodeIndented)
         (cond x (Some Fence)
         (cond h (Some HtmlFlow)
-        (cond y (Some HeadingAtx) (cond s (Some HeadingSetext) (cond z (Some ThematicBreak) None)))))
+        (cond y (Some HeadingAtx)
+        (cond s (Some HeadingSetext) (cond z (Some ThematicBreak) (cond t (Some GfmTable) None))))))
 
     go : (c x h y z : Bool) →
         option_or (one c CodeIndented)
         (option_or (one x Fence) (option_or (one h HtmlFlow) (option_or (one y HeadingAtx) (one z ThematicBreak)))) ≡
-        came_of options r (to c x h y false z)
+        came_of options r (to c x h y false z false)
     go true x h y z = refl
     go false true h y z = refl
     go false false true y z = refl
@@ -447,15 +462,24 @@ leaf-begun HeadingAtx options on r h begins = record {
 leaf-begun HeadingSetext options on r h begins = absurd (setext-begins options on r h begins)
 leaf-begun ThematicBreak options on r h begins =
     record { holds = refl; built = tt; shallow = λ bs shallow. shallow-then bs Break shallow refl }
+leaf-begun GfmTable options on r h begins = absurd (table-begins options on r h begins)
 
--- those that are tried go on none of several lines
+-- those that are tried go on none of several lines of which another is asked first
 pub trials-begin : AllBegin trials
-trials-begin =
-    (λ on h. refl, (λ on h. refl, (λ on h. refl, (λ on h. refl, (setext-lines, (λ on h. refl, tt))))))
+unfolding insider
+trials-begin = (
+  λ on m h. refl,
+  (λ on m h. refl, (λ on m h. refl, (λ on m h. refl, (setext-lines, (λ on m h. refl, (table-lines, tt)))))),
+)
   where
-    setext-lines : (on : HeldLeaf) → has_lines on ≡ true → is_text on ≡ false
-    setext-lines (held_leaf.Text at) h = cc
-    setext-lines _ h = refl
+    setext-lines : (on : HeldLeaf) (m : LeafName) → insider on ≡ Some m → is_text on ≡ false
+    setext-lines (held_leaf.Text at) m h = cc
+    setext-lines _ m h = refl
+
+    table-lines : (on : HeldLeaf) (m : LeafName) → insider on ≡ Some m → may_be_table on ≡ false
+    table-lines (held_leaf.Text at) m h = cc
+    table-lines held_leaf.Table m h = cc
+    table-lines _ m h = refl
 
 -- behind a line of a fence no other leaf of several lines is open,
 fence-left : (t : HeldLeaf → Bool) (options : ParseOptions) (on : HeldLeaf) (r : Rest) → t held_leaf.None ≡ false →
@@ -501,6 +525,14 @@ code-not_html = (refl, λ kind. refl)
 fence-none_html : NotHtml is_fence
 fence-none_html = (refl, λ kind. refl)
 
+table-not_html : NotHtml may_be_table
+table-not_html = (refl, λ kind. refl)
+
+fence-not_table : (on : HeldLeaf) → is_fence on ≡ true → may_be_table on ≡ false
+fence-not_table (held_leaf.Text at) f = cc
+fence-not_table held_leaf.Table f = cc
+fence-not_table _ f = refl
+
 -- and text is open behind no line of a leaf: a line might go on it lazily
 text-lazy : (on : HeldLeaf) → is_text on ≡ true → takes_lazy on ≡ true
 text-lazy (held_leaf.Text at) e = refl
@@ -538,6 +570,20 @@ further-is HtmlFurther HtmlFurther options on r e = refl
 further-is HeadingAtx HtmlFurther options on r e = cc
 further-is ThematicBreak HtmlFurther options on r e = cc
 further-is HeadingSetext HtmlFurther options on r e = cc
+further-is GfmTable CodeFurther options on r e = cc
+further-is GfmTable FenceFurther options on r e = cc
+further-is GfmTable HtmlFurther options on r e = cc
+further-is GfmTable GfmTable options on r e = refl
+further-is CodeIndented GfmTable options on r e = cc
+further-is CodeFurther GfmTable options on r e = cc
+further-is Fence GfmTable options on r e = cc
+further-is FenceFurther GfmTable options on r e =
+    absurd (fence-left may_be_table options on r refl (fence-not_table on) e)
+further-is HtmlFlow GfmTable options on r e = absurd (html-left may_be_table (kind_begun r) r.bytes table-not_html e)
+further-is HtmlFurther GfmTable options on r e = absurd (further-left may_be_table on r.bytes table-not_html e)
+further-is HeadingAtx GfmTable options on r e = cc
+further-is HeadingSetext GfmTable options on r e = cc
+further-is ThematicBreak GfmTable options on r e = cc
 further-is l CodeIndented options on r e = cc
 further-is l Fence options on r e = cc
 further-is l HtmlFlow options on r e = cc
@@ -557,6 +603,7 @@ further-further HtmlFurther = refl
 further-further HeadingAtx = refl
 further-further HeadingSetext = refl
 further-further ThematicBreak = refl
+further-further GfmTable = refl
 
 -- no further line begins a block, so of the lines of one that does there is nothing to say
 further-span : (first l : LineLeaf) → SpanLaws first l →
@@ -593,6 +640,7 @@ span-laws HtmlFurther e = further-span html_leaf html_further html-span html-beg
 span-laws HeadingAtx e = absurd (cc)
 span-laws HeadingSetext e = setext-span
 span-laws ThematicBreak e = absurd (cc)
+span-laws GfmTable e = table-span
 
 -- Where a leaf is tried behind others, it is asked whichever leaf the line meets.
 
@@ -601,7 +649,10 @@ AreAsked [] = Unit {0}
 AreAsked (l ∷ ls) = ((on : HeldLeaf) → (leaf l).asked on ≡ true) × AreAsked ls
 
 pub trials-asked : AreAsked trials
-trials-asked = (λ on. refl, (λ on. refl, (λ on. refl, (λ on. refl, (λ on. refl, (λ on. refl, tt))))))
+trials-asked = (
+  λ on. refl,
+  (λ on. refl, (λ on. refl, (λ on. refl, (λ on. refl, (λ on. refl, (λ on. refl, tt)))))),
+)
 
 pub trial-asked : (state : FlowState) (l : LeafName) → tried_at state ≡ Some l → (on : HeldLeaf) →
     (leaf l).asked on ≡ true
@@ -611,6 +662,7 @@ trial-asked flow.BeforeHtml HtmlFlow e on = refl
 trial-asked flow.BeforeHeadingAtx HeadingAtx e on = refl
 trial-asked flow.BeforeHeadingSetext HeadingSetext e on = refl
 trial-asked flow.BeforeThematicBreak ThematicBreak e on = refl
+trial-asked flow.BeforeGfmTable GfmTable e on = refl
 trial-asked _ _ e on = cc
 
 -- where the lines of one are read, from the one that begins it, they are joined
@@ -620,7 +672,7 @@ unfolding joins_lines
 lines-join CodeIndented e options on r starts begins =
     rw (code-rest options on r starts).enabled (third options.constructs.code_fenced options.constructs.math_flow)
   where
-    third : (x y : Bool) → (x || y || true || options.constructs.html_flow) ≡ true
+    third : (x y : Bool) → (x || y || true || options.constructs.html_flow || options.constructs.gfm_table) ≡ true
     third true y = refl
     third false true = refl
     third false false = refl
@@ -628,7 +680,8 @@ lines-join CodeFurther e options on r starts begins = absurd (code-begins option
 lines-join Fence e options on r starts begins = go options.constructs.code_fenced refl options.constructs.math_flow refl
   where
     go : (x : Bool) → options.constructs.code_fenced ≡ x → (y : Bool) → options.constructs.math_flow ≡ y →
-        (x || y || options.constructs.code_indented || options.constructs.html_flow) ≡ true
+        (x || y || options.constructs.code_indented || options.constructs.html_flow || options.constructs.gfm_table) ≡
+        true
     go true f y g = refl
     go false f true g = refl
     go false f false g = let none = ap is_some (fence-off options r f g) in absurd (cc)
@@ -637,7 +690,7 @@ lines-join HtmlFlow e options on r starts begins =
     rw (html-enabled options on r starts)
     (last options.constructs.code_fenced options.constructs.math_flow options.constructs.code_indented)
   where
-    last : (x y z : Bool) → (x || y || z || true) ≡ true
+    last : (x y z : Bool) → (x || y || z || true || options.constructs.gfm_table) ≡ true
     last true y z = refl
     last false true z = refl
     last false false true = refl
@@ -646,6 +699,7 @@ lines-join HtmlFurther e options on r starts begins = absurd (html-begins option
 lines-join HeadingAtx e options on r starts begins = absurd (cc)
 lines-join HeadingSetext e options on r starts begins = absurd (setext-begins options on r starts begins)
 lines-join ThematicBreak e options on r starts begins = absurd (cc)
+lines-join GfmTable e options on r starts begins = absurd (table-begins options on r starts begins)
 
 -- In the table of flow.
 
@@ -657,6 +711,7 @@ tried-before flow.BeforeHtml HtmlFlow e = refl
 tried-before flow.BeforeHeadingAtx HeadingAtx e = refl
 tried-before flow.BeforeHeadingSetext HeadingSetext e = refl
 tried-before flow.BeforeThematicBreak ThematicBreak e = refl
+tried-before flow.BeforeGfmTable GfmTable e = refl
 tried-before _ _ e = cc
 
 -- whether a leaf is tried at the state in front of it: one that takes further lines alone is not
@@ -680,7 +735,8 @@ leaf-next HtmlFlow is = (refl, refl)
 leaf-next HtmlFurther is = absurd (cc)
 leaf-next HeadingAtx is = (refl, refl)
 leaf-next HeadingSetext is = (refl, refl)
-leaf-next ThematicBreak is = tt
+leaf-next ThematicBreak is = (refl, refl)
+leaf-next GfmTable is = tt
 
 -- what the table has of a leaf: that its first state is ready at rest, of a lower level than flow; and that its trial is
 -- left there, whatever the text is
@@ -707,6 +763,8 @@ leaf-states HeadingAtx =
 leaf-states HeadingSetext =
     record { level = omega arith; ready = λ x K is. is; starts = λ bytes options next cells h. refl }
 leaf-states ThematicBreak =
+    record { level = omega arith; ready = λ x K is. is; starts = λ bytes options next cells h. refl }
+leaf-states GfmTable =
     record { level = omega arith; ready = λ x K is. is; starts = λ bytes options next cells h. refl }
 
 -- none is asked first where no leaf of several lines is open
@@ -957,6 +1015,9 @@ code_fits = record { white = white_fits; each = λ state. fits flow_owner (n.Cod
 fence_fits : FenceFits flow_table_scheme
 fence_fits = record { white = white_fits; each = λ state. fits flow_owner (n.RawFlow state) }
 
+table_fits : TableFits flow_table_scheme
+table_fits = record { white = white_fits; each = λ state. fits flow_owner (n.GfmTable state) }
+
 html_fits : HtmlFits flow_table_scheme
 html_fits = record { each = λ state. fits flow_owner (n.HtmlFlow state) }
 
@@ -980,6 +1041,7 @@ pub construct-does : (is_name : ResolveName → ResolveName → Bool) (name : St
     Does flow_table_scheme name w (construct_transition is_name name w)
 construct-does is_name (n.BlockQuote state) w c at = quote_does flow_table_scheme state w quote_fits c at
 construct-does is_name (n.CodeIndented state) w c at = code_does flow_table_scheme state w code_fits c at
+construct-does is_name (n.GfmTable state) w c at = table_does flow_table_scheme state w table_fits c at
 construct-does is_name (n.HeadingAtx state) w c at =
     heading_does flow_table_scheme (is_name r.HeadingAtx) state w heading_fits c at
 construct-does is_name (n.HeadingSetext state) w c at = setext_does flow_table_scheme state w setext_fits c at
@@ -1002,6 +1064,9 @@ construct-steps is_name feed next (n.BlockQuote state) w s c at =
 construct-steps is_name feed next (n.CodeIndented state) w s c at =
     code_steps _ feed state w
     (record { white = white_has w.setting.bytes w.setting.options next; each = λ _ _ _. refl }) s at.0
+construct-steps is_name feed next (n.GfmTable state) w s c at =
+    table_steps _ feed state w _
+    (record { white = white_has w.setting.bytes w.setting.options next; each = λ _ _ _. refl }) s at
 construct-steps is_name feed next (n.HeadingAtx state) w s c at =
     heading_steps _ feed (is_name r.HeadingAtx) state w _
     (record { white = white_has w.setting.bytes w.setting.options next; each = λ _ _ _. refl }) s at
@@ -1031,6 +1096,7 @@ pub construct-registers : (name : StateName) (w : World) → Registers w →
     Registers (construct_transition same_name name w).world
 construct-registers (n.BlockQuote state) w h = quote-registers state w h
 construct-registers (n.CodeIndented state) w h = code-registers state w h
+construct-registers (n.GfmTable state) w h = table-registers state w h
 construct-registers (n.HeadingAtx state) w h = heading-registers state w h
 construct-registers (n.HeadingSetext state) w h = setext-registers state w h
 construct-registers (n.HtmlFlow state) w h = html-registers state w h
