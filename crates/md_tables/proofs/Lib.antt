@@ -6,6 +6,5 @@ pub mod DelimiterLemmas
 pub mod DelimiterSteps
 pub mod CellLemmas
 pub mod DelimiterColumns
-pub mod HeadLemmas
 pub mod CellsWalk
 pub mod CellsLemmas

@@ -2,5 +2,4 @@ pub mod Row
 pub mod RowRule
 pub mod Delimiter
 pub mod DelimiterRule
-pub mod Head
 pub mod Cells

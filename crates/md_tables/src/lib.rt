@@ -3,5 +3,4 @@
 
 pub mod cells;
 pub mod delimiter;
-pub mod head;
 pub mod row;
