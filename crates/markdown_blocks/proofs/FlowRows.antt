@@ -37,8 +37,8 @@ use Rattle.md_engine.specs.World.{Flags, closed_events, container_of}
 use Rattle.md_containers.specs.Interrupts.{is_interrupted}
 use Rattle.md_containers.specs.Interrupts.{interrupts as by_flags}
 use Rattle.md_content.specs.Chunks.{content_link}
-use Rattle.md_parts.specs.Progress.{text_behind}
-use Rattle.md_parts.specs.WholeCells.{whole_line}
+use Rattle.md_parts.specs.OpenText.{text_behind}
+use Rattle.md_parts.specs.WholeCells.{whole_rest}
 use Rattle.md_seam.specs.Ahead.{from_ending, line_bytes, line_end}
 use Rattle.md_seam.specs.Events.Nested.{enter, enter_link, exit, pair}
 use Rattle.md_definition.specs.Rest.{is_blank}
@@ -160,7 +160,7 @@ leaves-are options next [] cells h asked few is flag going =
     (record h {
       events = h.events ++ added_by options h.flags.leaf cells h.point TextRow;
       point = line_end cells h.point;
-      flags = record h.flags { leaf = text_behind h.flags.leaf (whole_line h.point cells); blank = blank };
+      flags = record h.flags { leaf = text_behind h.flags.leaf (whole_rest h.point cells); blank = blank };
     })) flag
 leaves-are options next (l ∷ ls) cells h asked few is flag going =
     go ((leaf l).takes options h.flags.leaf cells) refl

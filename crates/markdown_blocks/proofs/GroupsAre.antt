@@ -14,7 +14,8 @@ use Rattle.md_engine.specs.Progress.{is_whole}
 use Rattle.md_definition.specs.Rest.{trim_start}
 use Rattle.md_definition.specs.State.{Container, Kept, kept, texts}
 use Rattle.md_leaves.specs.HeadingSetext.{may_turn}
-use Rattle.md_parts.specs.Progress.{open_text, progress, progress_of, step, steps}
+use Rattle.md_parts.specs.OpenText.{open_text}
+use Rattle.md_parts.specs.Progress.{progress, progress_of, step, steps}
 use Rattle.markdown_blocks.specs.Change as change
 use Rattle.markdown_blocks.specs.Change.{Change, is_none}
 use Rattle.markdown_blocks.specs.Fronted.{contained, rest_from, rest_line}
@@ -607,7 +608,7 @@ pub under-leaves : (options : ParseOptions) (bytes line : List ℕ) (row under :
     under.on ≡ row.behind → is_further under.kind under.on ≡ true → Leaves options bytes row [] (line, is, e)
 unfolding steps
 under-leaves options bytes line row under is e below on f =
-    let at : OpenText = open_text (step (progress_of row.on) (trim_start is.rest.bytes)) in
+    let at : OpenText = open_text (step (progress_of row.on) (trim_start is.rest.bytes)) (kept is.rest) in
     let text : under.on ≡ held_leaf.Text at = on ∙ is.behind ∙ ap (line_behind options row.on is.rest) e in
     let further : (leaf below.name).further (held_leaf.Text at) ≡ true =
     ap (leaf below.name).further (sym text) ∙ line-further options bytes under below true f in
@@ -625,7 +626,7 @@ text-span options bytes line p row q below rows gs is e after ending first are =
     go (is_further below.kind below.on) refl rows are
   where
     at : OpenText
-    at = open_text (step (progress_of row.on) (trim_start is.is.rest.bytes))
+    at = open_text (step (progress_of row.on) (trim_start is.is.rest.bytes)) (kept is.is.rest)
 
     text : row.behind ≡ held_leaf.Text at
     text = is.is.behind ∙ ap (line_behind options row.on is.is.rest) e

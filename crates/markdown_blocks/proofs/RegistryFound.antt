@@ -18,7 +18,7 @@ use Rattle.md_definition.specs.Tree.{Blocks, Heading}
 use Rattle.md_definition.specs.State.{then_block}
 use Rattle.md_parts.proofs.ProgressLemmas.{progress-cut}
 use Rattle.md_parts.specs.Progress.{is_none_left}
-use Rattle.md_parts.specs.Progress.{open_text, progress}
+use Rattle.markdown_blocks.specs.Leaf.Paragraph.{open_lines}
 use Rattle.markdown_blocks.proofs.HeadingSetext.Found.{none-underlined}
 use Rattle.markdown_blocks.specs.Leaf.HeadingSetext.{depth_of, setext_leaf}
 use Rattle.markdown_blocks.specs.Leaf.Paragraph.{then_front}
@@ -86,10 +86,10 @@ starts-found options on against r same free dark built =
 
 -- what is held of these lines, and as what a lazy line meets it
 abbrev pub text_on : List Kept → HeldLeaf
-text_on lines = held_leaf.Text (open_text (progress (texts lines)))
+text_on lines = held_leaf.Text (open_lines lines)
 
 abbrev pub lazy_on : List Kept → HeldLeaf
-lazy_on lines = held_leaf.LazyText (open_text (progress (texts lines)))
+lazy_on lines = held_leaf.LazyText (open_lines lines)
 
 -- where no underline stands, so it is there
 unturned-starts : (options : ParseOptions) (at : OpenText) (r : Rest) → underline_depth options r ≡ None →

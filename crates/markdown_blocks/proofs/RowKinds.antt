@@ -7,7 +7,7 @@ use Rattle.md_engine.specs.declared.tokenizer.held_leaf.HeldLeaf.{HeldLeaf}
 use Rattle.md_engine.specs.declared.tokenizer.Line.{Line}
 use Rattle.md_engine.specs.Meaning.{Cell}
 use Rattle.md_definition.specs.Rest.{Rest}
-use Rattle.md_parts.specs.Progress.{text_behind}
+use Rattle.md_parts.specs.OpenText.{text_behind}
 use Rattle.md_seam.proofs.FeedLines.{Stops}
 use Rattle.md_seam.proofs.RestCells.{RestAt, rest_cells}
 use Rattle.md_definition.proofs.TextsLemmas.{NoEnding}
@@ -66,4 +66,4 @@ behind-rest options on said text behind r p stop BlankRow is none k short same =
 behind-rest options on said text behind r p stop (LeafRow l) is none k short same =
     (laws l).keeps_is options on said text behind r p stop is none k short (kind-starts options on r l (sym same))
 behind-rest options on said text behind r p stop TextRow is none k short same =
-    ap (text_behind on) (whole-rest said r p stop none is.cut (let column = is.column in omega (arith, column)) k)
+    ap (text_behind on) (whole-rest said r p stop none is.cut is.column k)

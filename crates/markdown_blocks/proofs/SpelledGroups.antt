@@ -73,7 +73,8 @@ use Rattle.markdown_blocks.proofs.ContainerNames.{container-facts}
 use Rattle.markdown_blocks.proofs.SpelledPaths.{AreShapes, around-same, close_containers-between}
 use Rattle.markdown_blocks.proofs.SpelledPaths.{close_containers-one, enters, longer-longer, open_path, reading-open}
 use Rattle.markdown_blocks.proofs.SpelledPaths.{reading-renewed, reading-with, with_spot}
-use Rattle.md_parts.specs.Progress.{open_text, progress_of, step as further}
+use Rattle.md_parts.specs.OpenText.{open_text}
+use Rattle.md_parts.specs.Progress.{progress_of, step as further}
 use Rattle.md_leaves.specs.HeadingSetext.{may_turn}
 
 -- Events.
@@ -374,7 +375,7 @@ turn-lines options bytes line p row gs last is text joins =
     reads = joins.starts.reads
 
     at : OpenText
-    at = open_text (further (progress_of row.on) (trim_start is.rest.bytes))
+    at = open_text (further (progress_of row.on) (trim_start is.rest.bytes)) (kept is.rest)
 
     on : under.on ≡ held_leaf.Text at
     on = joins.on ∙ is.behind ∙ ap (line_behind options row.on is.rest) text

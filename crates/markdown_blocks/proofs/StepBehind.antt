@@ -1,6 +1,6 @@
 -- What is open behind one line: its containers, the kind of the leaf, and that it is such as may be open.
 use Rattle.std.proofs.Common.{◌≡◌, ℕ, ◌+◌, ◌≤◌, Bool, true, false, cond, ◌&&◌, List, [], ◌∷◌, ◌++◌}
-use Rattle.std.proofs.Common.{length, refl, ap, sym, ◌∙◌, subst, append-nil, arith}
+use Rattle.std.proofs.Common.{length, refl, ap, ap₂, sym, ◌∙◌, subst, append-nil, arith}
 use Rattle.std.proofs.lemmas.Bool.{and_parts}
 use Rattle.std.proofs.lemmas.List.{map-append}
 use Rattle.md_engine.specs.declared.configuration.ParseOptions.{ParseOptions}
@@ -19,7 +19,7 @@ use Rattle.markdown_blocks.proofs.TextProgress.{IsFresh, contained-progress, unl
 use Rattle.markdown_blocks.specs.Change.{is_none, open_behind}
 use Rattle.markdown_blocks.specs.Fronted.{Contained}
 use Rattle.markdown_blocks.specs.HeldLeaf.{IsBuiltLeaf, has_lines, kind_of_leaf, left_by, may_go_on, takes_lazy}
-use Rattle.markdown_blocks.specs.Leaf.Paragraph.{held_of, then_front}
+use Rattle.markdown_blocks.specs.Leaf.Paragraph.{held_of, of_last, open_lines, then_front}
 use Rattle.markdown_blocks.specs.Parsed.{IsBuilt}
 use Rattle.markdown_blocks.specs.Registry.{LeafName, further_of, leaf, text_leaf, turn_leaf}
 use Rattle.markdown_blocks.specs.Rows.{BlankRow, LeafRow, RowKind, TextRow, is_further, is_lazy, is_text, line_behind}
@@ -37,7 +37,9 @@ use Rattle.markdown_blocks.proofs.OpenSpan.{Begun, ComesShallow, OpenSpan, Turns
 use Rattle.markdown_blocks.proofs.Registry.{insider-open, laws, leaf-begun, open-span, text-laws, text-turns}
 use Rattle.markdown_blocks.proofs.ShallowBlocks.{shallow-then}
 use Rattle.md_parts.proofs.ProgressLemmas.{progress-snoc}
-use Rattle.md_parts.specs.Progress.{open_text, progress, progress_of, steps, text_behind}
+use Rattle.md_parts.specs.Head.{head_columns}
+use Rattle.md_parts.specs.OpenText.{open_text, text_behind}
+use Rattle.md_parts.specs.Progress.{progress, progress_of, steps}
 use Rattle.md_parts.specs.Progress as stepped
 
 -- Where a line goes on the leaf that is open: it is one of several lines, or text that the line turns.
@@ -111,7 +113,7 @@ text-takes options r lines goes = go (line_kind options (text_on lines) r) refl 
     go BlankRow e f = absurd (cc)
     go TextRow e f = absurd (cc)
     go (LeafRow l) e f =
-        let turns : TurnsText l = text-turns (progress (texts lines)) l f in
+        let turns : TurnsText l = text-turns (open_lines lines) l f in
         let left : List (List ℕ) = (cut options (texts lines)).1 in
         let comes : (leaf l).comes options (text_leaf.held lines) r ≡
         Finished (turn_leaf.block left r) = turns.comes options lines r in
@@ -345,7 +347,7 @@ containers-step options p r built plain =
 -- The leaf that is open behind a line.
 
 text-left : (options : ParseOptions) (on : HeldLeaf) (r : Rest) (kind : RowKind) → is_text kind ≡ true →
-    line_behind options on r kind ≡ text_behind on r.bytes
+    line_behind options on r kind ≡ text_behind on r
 text-left options on r BlankRow e = cc
 text-left options on r (LeafRow l) e = cc
 text-left options on r TextRow e = refl
@@ -356,15 +358,29 @@ unfolding steps
 held-progress (OpenParagraph lines) = refl
 held-progress _ = refl
 
+-- and of the last of them its numbers
+last-is : (number : Kept → ℕ) (lines : List Kept) (k : Kept) → of_last number (lines ++ k ∷ []) ≡ number k
+last-is number [] k = refl
+last-is number (first ∷ []) k = refl
+last-is number (first ∷ next ∷ lines) k = last-is number (next ∷ lines) k
+
 -- with one line more
 one-longer : (open_leaf : Leaf) (r : Rest) →
-    held_leaf.Text (open_text (progress (texts (held_of open_leaf ++ kept r ∷ [])))) ≡ text_behind (kind_of_leaf open_leaf) r.bytes
+    held_leaf.Text (open_lines (held_of open_leaf ++ kept r ∷ [])) ≡ text_behind (kind_of_leaf open_leaf) r
 one-longer open_leaf r =
-    ap (λ (lines : List (List ℕ)). held_leaf.Text (open_text (progress lines))) (map-append (λ k. k.text) (held_of open_leaf) (kept r ∷ []))
-    ∙ ap (λ (at : Progress). held_leaf.Text (open_text at)) (progress-snoc (texts (held_of open_leaf)) (trim_start r.bytes))
-    ∙ ap (λ (at : Progress). held_leaf.Text (open_text (stepped.step at (trim_start r.bytes)))) (sym (held-progress open_leaf))
+    ap₂ (λ (columns indent : ℕ). held_leaf.Text
+    (record { progress = progress (texts longer_lines); columns = columns; indent = indent }))
+    (last-is (λ k. head_columns k.text) (held_of open_leaf) (kept r))
+    (last-is (λ k. k.indent) (held_of open_leaf) (kept r))
+    ∙ ap (λ (at : Progress). held_leaf.Text (open_text at (kept r)))
+    (ap progress (map-append (λ k. k.text) (held_of open_leaf) (kept r ∷ []))
+    ∙ progress-snoc (texts (held_of open_leaf)) (trim_start r.bytes)
+    ∙ ap (λ (at : Progress). stepped.step at (trim_start r.bytes)) (sym (held-progress open_leaf)))
+  where
+    longer_lines : List Kept
+    longer_lines = held_of open_leaf ++ kept r ∷ []
 
-still-longer : (p : Path) (r : Rest) → still_of (longer p (kept r ∷ [])) ≡ text_behind (still_of p) r.bytes
+still-longer : (p : Path) (r : Rest) → still_of (longer p (kept r ∷ [])) ≡ text_behind (still_of p) r
 still-longer (At s) r = one-longer s.leaf r
 still-longer (Within before container p) r = still-longer p r
 
@@ -386,7 +402,7 @@ still-line options on bs r begins fresh = go (line_kind options on r) refl
         ap kind_of_leaf (came-leaf bs ((leaf l).comes options NoLeaf r)) ∙ (begun-leaf options on r begins l e).holds
     go TextRow e =
         one-longer NoLeaf r
-        ∙ ap (λ (at : Progress). held_leaf.Text (open_text (stepped.step at (trim_start r.bytes)))) (sym (fresh e))
+        ∙ ap (λ (at : Progress). held_leaf.Text (open_text (stepped.step at (trim_start r.bytes)) (kept r))) (sym (fresh e))
 
 still-new_line : (options : ParseOptions) (on : HeldLeaf) (cs : List Container) (r : Rest) (bs : Blocks) →
     is_further (line_kind options on r) on ≡ false → (line_kind options on r ≡ TextRow → IsFresh on) →
@@ -445,8 +461,8 @@ still-step options p r built plain =
         still_of (path_by options p c x y) ≡ line_behind options c.on c.rest kind
     go true y e f =
         still-longer (renewed c.change.stays p) c.rest
-        ∙ ap (λ (s : Spot). text_behind (kind_of_leaf s.leaf) c.rest.bytes) (renewed-spot c.change.stays p)
-        ∙ ap (λ (at : Progress). held_leaf.Text (open_text (stepped.step at (trim_start c.rest.bytes)))) (sym (lazy-on e))
+        ∙ ap (λ (s : Spot). text_behind (kind_of_leaf s.leaf) c.rest) (renewed-spot c.change.stays p)
+        ∙ ap (λ (at : Progress). held_leaf.Text (open_text (stepped.step at (trim_start c.rest.bytes)) (kept c.rest))) (sym (lazy-on e))
         ∙ sym (text-left options c.on c.rest kind (lazy-text (still_of p) c.change.opens kind e))
     go false true e f = still-further options p c (goes-on options p r plain f)
     go false false e f =

@@ -1,14 +1,15 @@
--- The text of a line by its cells is its bytes: a tab counts once, and what is left of a tab that a prefix has cut does not
--- count.
-use Rattle.std.proofs.Common.{◌≡◌, ℕ, zero, suc, ◌≤◌, false, nat_eq, List, [], ◌∷◌, ◌++◌, append-nil, refl, ap, sym}
+-- A line by its cells is its rest: of its text a tab counts once, and what is left of a tab that a prefix has cut does not
+-- count; where it begins, its point tells.
+use Rattle.std.proofs.Common.{◌≡◌, ℕ, zero, suc, ◌+◌, ◌-◌, ◌≤◌, Bool, true, false, cond, nat_eq, nat_lt, List, [], ◌∷◌, ◌++◌}
+use Rattle.std.proofs.Common.{append-nil, refl, ap, ap₂, sym}
 use Rattle.std.proofs.Common.{◌∙◌, arith}
 use Rattle.std.proofs.lemmas.Bool.Decides.{nat_tests}
-use Rattle.md_definition.specs.Rest.{Rest}
+use Rattle.md_definition.specs.Rest.{Rest, tab_columns}
 use Rattle.md_definition.proofs.TextsLemmas.{NoEnding}
 use Rattle.md_engine.specs.declared.event.Point.{Point}
 use Rattle.md_engine.specs.declared.tokenizer.Line.{Line}
 use Rattle.md_engine.specs.Meaning.{Cell}
-use Rattle.md_parts.specs.WholeCells.{whole_cells, whole_line}
+use Rattle.md_parts.specs.WholeCells.{rest_here, whole_cells, whole_line, whole_rest}
 use Rattle.md_parts.proofs.LineCells.{further, lines-first}
 use Rattle.md_parts.proofs.SpreadLines.{spread-last, spread-whole, tab-none, whole_cells-append}
 use Rattle.md_seam.specs.Ahead.{from_ending, line_cells, point_after}
@@ -50,8 +51,27 @@ rest-bytes line (suc n) bytes p none cut one =
     ∙ ap (λ (e : Point). whole_cells e rest) (tab-end line n 32 p p))
     ∙ spread-bytes line bytes q none refl (omega arith)
 
-pub whole-rest : (line : Line) (r : Rest) (p : Point) (stop : List Cell) → NoEnding r.bytes → Cut r.spaces p →
+rest-line_bytes : (line : Line) (r : Rest) (p : Point) (stop : List Cell) → NoEnding r.bytes → Cut r.spaces p →
     1 ≤ p.column → Stops stop → whole_line p (rest_cells line r p ++ stop) ≡ r.bytes
-whole-rest line r p stop none cut one stops =
+rest-line_bytes line r p stop none cut one stops =
     ap (λ (l : List Cell). bytes_of (whole_cells p l)) (rest-line line r p stop none stops)
     ∙ rest-bytes line r.spaces r.bytes p none cut one
+
+-- how many columns of a tab are left in front of it, its point tells
+cut-spaces : (spaces column : ℕ) (p : Point) → p.column ≡ column + 1 → Cut spaces p →
+    cond (nat_lt 0 p.vs) (tab_columns (p.column - 1)) 0 ≡ spaces
+cut-spaces zero column p at cut = rw cut refl
+cut-spaces (suc n) column p at cut =
+    let more_columns = cut.0 in
+    let within : nat_lt 0 p.vs ≡ true = grind (arith, nat_tests) in
+    ap (λ (x : Bool). cond x (tab_columns (p.column - 1)) 0) within ∙ omega (arith, at, cut.1)
+
+rest-begun : (r : Rest) (p : Point) → p.column ≡ r.column + 1 → Cut r.spaces p → rest_here p r.bytes ≡ r
+rest-begun r p at cut =
+    ap₂ (λ (column spaces : ℕ). record { column = column; spaces = spaces; bytes = r.bytes }) (omega (arith, at))
+    (cut-spaces r.spaces r.column p at cut)
+
+pub whole-rest : (line : Line) (r : Rest) (p : Point) (stop : List Cell) → NoEnding r.bytes → Cut r.spaces p →
+    p.column ≡ r.column + 1 → Stops stop → whole_rest p (rest_cells line r p ++ stop) ≡ r
+whole-rest line r p stop none cut at stops =
+    ap (rest_here p) (rest-line_bytes line r p stop none cut (omega arith) stops) ∙ rest-begun r p at cut

@@ -29,8 +29,8 @@ use Rattle.md_definition.specs.Rest.{Rest, is_blank}
 use Rattle.md_definition.specs.State.{Container}
 use Rattle.markdown_blocks.specs.Laid.{Break, laid}
 use Rattle.markdown_blocks.specs.LineFlags.{ending_name, nothing_stands}
-use Rattle.md_parts.specs.Progress.{text_behind}
-use Rattle.md_parts.specs.WholeCells.{whole_line}
+use Rattle.md_parts.specs.OpenText.{text_behind}
+use Rattle.md_parts.specs.WholeCells.{whole_rest}
 use Rattle.md_parts.specs.DefinitionRule.{DefinitionParts, definition_end, definition_events}
 use Rattle.md_tables.specs.GfmTableLine.{head_line}
 use Rattle.md_tables.specs.Tabled.{tabled}
@@ -86,7 +86,7 @@ line_kind options on r =
 abbrev pub line_behind : ParseOptions → HeldLeaf → Rest → RowKind → HeldLeaf
 line_behind options on r BlankRow = held_leaf.None
 line_behind options on r (LeafRow l) = (leaf l).holds options on r
-line_behind options on r TextRow = text_behind on r.bytes
+line_behind options on r TextRow = text_behind on r
 
 -- By its cells.
 abbrev pub row_kind : ParseOptions → HeldLeaf → List Cell → RowKind
@@ -97,7 +97,7 @@ row_kind options on cells =
 abbrev pub leaf_behind : ParseOptions → HeldLeaf → List Cell → Point → RowKind → HeldLeaf
 leaf_behind options on cells p BlankRow = held_leaf.None
 leaf_behind options on cells p (LeafRow l) = (leaf l).keeps options on cells p
-leaf_behind options on cells p TextRow = text_behind on (whole_line p cells)
+leaf_behind options on cells p TextRow = text_behind on (whole_rest p cells)
 
 -- by the bytes of a blank line, its whitespace
 abbrev pub blank_line : List ℕ → Point → List Event

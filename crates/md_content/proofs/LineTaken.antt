@@ -7,7 +7,7 @@ use Rattle.std.proofs.Math.Logic.{∥∥₁_elim}
 use Rattle.std.proofs.Props.{props}
 use Rattle.std.proofs.lemmas.Bool.{eqb-true}
 use Rattle.std.proofs.lemmas.Bool.Decides.{nat_tests}
-use Rattle.std.proofs.lemmas.List.{get_or_past, get_or-drop, take_more}
+use Rattle.std.proofs.lemmas.List.{get_or_past, get_or-drop, length-take, take_more}
 use Rattle.md_engine.specs.declared.event.Point.{Point}
 use Rattle.md_engine.specs.declared.tokenizer.Scratch.{Scratch}
 use Rattle.md_engine.specs.Meaning.{Cell}
@@ -188,3 +188,9 @@ taken-slice bytes s p h = go (nat_le s.start (whole_from p)) refl
     go false e =
         let none : whole_from p - s.start ≡ 0 = grind (arith, nat_tests) in
         ap (λ (n : ℕ). take n (drop s.start bytes)) none ∙ sym (ap (bytes_on bytes s.start) none)
+
+-- and no longer than it
+pub slice-bound : (bytes : List ℕ) (from to : ℕ) → length (slice_range bytes from to) ≤ length bytes
+slice-bound bytes from to =
+    let rest = drop from bytes in
+    omega (arith, length-take (to - from) rest, length-drop from bytes)

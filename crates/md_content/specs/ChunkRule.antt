@@ -5,34 +5,40 @@ use Rattle.md_engine.specs.declared.state.Name.TheVariants as n
 use Rattle.md_engine.specs.declared.state.content.State.{State as ContentState}
 use Rattle.md_engine.specs.declared.state.content.State.TheVariants as its
 use Rattle.md_engine.specs.Meaning.{Accepts, Behaviour, Cell, Here, Outcome, Refuses}
-use Rattle.md_content.specs.Chunks.{content_link, line_taken, unbegun}
-use Rattle.md_parts.specs.Progress.{text_behind}
-use Rattle.md_parts.specs.WholeCells.{whole_line}
+use Rattle.md_content.specs.Chunks.{content_link, rest_taken, unbegun}
+use Rattle.md_definition.specs.Rest.{Rest}
+use Rattle.md_parts.specs.OpenText.{text_behind}
+use Rattle.md_parts.specs.WholeCells.{rest_here, whole_line}
 use Rattle.md_seam.specs.Ahead.{from_ending, line_end}
 use Rattle.md_seam.specs.Events.Nested.{enter_link, exit}
 
--- the rest of a line, behind these bytes of it; a text is open then, which is told all of the line
-unfoldable pub inside_chunk : List ℕ → List Cell → Here → Outcome
+-- a rest with these bytes behind it
+abbrev pub longer : Rest → List ℕ → Rest
+longer r bytes = record r { bytes = r.bytes ++ bytes }
+
+-- the rest of a line, behind this much of it; a text is open then, which is told all of the line
+unfoldable pub inside_chunk : Rest → List Cell → Here → Outcome
 inside_chunk front cells h =
     let p = line_end cells h.point in
     Accepts
     (record h {
       events = h.events ++ exit parts.Content p ∷ [];
       point = p;
-      flags = record h.flags { leaf = text_behind h.flags.leaf (front ++ whole_line h.point cells) };
+      flags = record h.flags { leaf = text_behind h.flags.leaf (longer front (whole_line h.point cells)) };
     })
     (from_ending cells)
 
 -- the whole line
 unfoldable pub chunk_at : List Cell → Here → Outcome
 chunk_at cells h =
-    inside_chunk [] cells (record h { events = h.events ++ enter_link parts.Content h.point content_link ∷ [] })
+    inside_chunk (rest_here h.point []) cells
+    (record h { events = h.events ++ enter_link parts.Content h.point content_link ∷ [] })
 
 -- what is left at each state, by the text of which the line is a part
 abbrev pub chunk_behaves : List ℕ → ContentState → List Cell → Here → Outcome
 chunk_behaves bytes its.ChunkStart cells h = chunk_at cells h
 chunk_behaves bytes its.ChunkInside cells h =
-    inside_chunk (line_taken bytes h.scratch h.point) cells (record h { scratch = unbegun h.scratch })
+    inside_chunk (rest_taken bytes h.scratch h.point) cells (record h { scratch = unbegun h.scratch })
 chunk_behaves bytes _ cells h = Refuses h.scratch h.flags
 
 pub record HasChunk (B : Behaviour) (bytes : List ℕ) : Type 0 where

@@ -1,5 +1,7 @@
 -- A line of content, before it is read.
-use Rattle.std.specs.Prelude.{refl, ℕ, zero, suc, ◌+◌, ◌-◌, ◌≤◌, Bool, true, false, List, [], ◌∷◌, ◌++◌, slice_index}
+use Rattle.std.specs.Prelude.{refl, ℕ, zero, suc, ◌+◌, ◌-◌, ◌≤◌, Bool, true, false, nat_lt, List, [], ◌∷◌, ◌++◌}
+use Rattle.std.specs.Prelude.{slice_index}
+use Rattle.md_definition.specs.Rest.{Rest}
 use Rattle.md_engine.specs.declared.event.Point.{Point}
 use Rattle.md_engine.specs.declared.event.Link.{Link}
 use Rattle.md_engine.specs.declared.event.Content.TheVariants as content
@@ -14,7 +16,7 @@ use Rattle.md_engine.specs.declared.state.State.TheVariants.{Ok, Nok, Next, Retr
 use Rattle.md_engine.specs.declared.tokenizer.Scratch.{Scratch}
 use Rattle.md_engine.specs.Scheme.{After, Ends, Rank, Scheme, Spot, ranked}
 use Rattle.md_engine.specs.World.{World, registered_before}
-use Rattle.md_parts.specs.Progress.{text_behind}
+use Rattle.md_parts.specs.OpenText.{begun_rest, text_behind}
 use Rattle.md_seam.specs.Lent.{whole_from}
 use Rattle.md_seam.specs.Spaces.{IsRest, ends_line, rest_ready}
 use Rattle.md_seam.specs.Transition.{Transition, entered_link, exited, taken}
@@ -31,12 +33,16 @@ bytes_on bytes from (suc n) = bytes_on bytes from n ++ slice_index bytes (from +
 abbrev pub line_taken : List ℕ → Scratch → Point → List ℕ
 line_taken bytes s p = bytes_on bytes s.start (whole_from p - s.start)
 
+-- and as the rest that began there, in its column and perhaps within a tab
+abbrev pub rest_taken : List ℕ → Scratch → Point → Rest
+rest_taken bytes s p = begun_rest s.size s.seen (line_taken bytes s p)
+
 -- where a line began, and no more
 abbrev pub begun : Point → Scratch → Scratch
-begun p s = record s { start = whole_from p }
+begun p s = record s { start = whole_from p; size = p.column - 1; seen = nat_lt 0 p.vs }
 
 abbrev pub unbegun : Scratch → Scratch
-unbegun s = record s { start = 0 }
+unbegun s = record s { start = 0; size = 0; seen = false }
 
 abbrev pub chunk_start_transition : World → Transition
 chunk_start_transition w =
@@ -53,7 +59,7 @@ chunk_inside_code is_name w true =
       world = record (exited w parts.Content) {
         resolvers = registered_before is_name w.resolvers ContentResolver;
         scratch = unbegun w.scratch;
-        flags = record w.flags { leaf = text_behind w.flags.leaf (line_taken w.setting.bytes w.scratch w.point) };
+        flags = record w.flags { leaf = text_behind w.flags.leaf (rest_taken w.setting.bytes w.scratch w.point) };
       };
     }
 chunk_inside_code is_name w false = record { to = Next (n.Content its.ChunkInside); world = taken w }

@@ -9,7 +9,7 @@
 // The prefixes of containers in front of a line belong to no line of the content (CommonMark 5.1). So each line begins
 // behind those in front of it, and ends behind its ending, before those of the next line: its end is that of its chunk.
 
-ghost use Rattle.std.specs.Prelude.{◌≡◌, ◌≢◌, ℕ, ◌≤◌, ◌&&◌, Bool, false, IfNone, IfOk, IfSome, List, [], length};
+ghost use Rattle.std.specs.Prelude.{◌≡◌, ◌≢◌, ℕ, ◌^◌, ◌<◌, ◌≤◌, ◌&&◌, Bool, false, IfNone, IfOk, IfSome, List, [], length};
 ghost use Rattle.std.specs.List.{prefix_len};
 ghost use Rattle.std.specs.Option.{option_map};
 ghost use Rattle.md_engine.specs.Found.{found_in};
@@ -20,6 +20,8 @@ ghost use Rattle.md_engine.specs.declared.state.State.{State};
 ghost use Rattle.md_engine.specs.declared.state.content.State.{State as ContentState};
 ghost use Rattle.md_content.specs.States.{content_scheme, content_transition};
 ghost use Rattle.md_content.specs.Chunks.{chunk_inside_code, chunk_start_transition, chunk_transition, line_taken};
+ghost use Rattle.md_content.specs.Chunks.{rest_taken};
+ghost use Rattle.md_parts.specs.OpenText.{text_behind};
 ghost use Rattle.md_content.specs.ContentReads.{content_events, is_piece_end, settled};
 ghost use Rattle.md_content.specs.Joined.{GoesOnAt, JoinsAt, goes_on, is_content, is_of_prefix, joined};
 ghost use Rattle.md_content.specs.Resolves.{Resolves, is_all_read};
@@ -43,8 +45,8 @@ use md_engine::state::{Name as StateName, State};
 use md_engine::stay::Stay;
 use md_engine::subtokenize::Subresult;
 use md_engine::table::{Table, flush, push};
-use md_engine::tokenizer::Tokenizer;
-use md_parts::progress::text_behind;
+use md_engine::tokenizer::{HeldLeaf, Scratch, Tokenizer};
+use md_parts::open_text::text_behind;
 use md_parts::{definition, destination, label, space_or_tab_eol, title};
 use md_seam::inline::Chunk;
 use md_seam::moving::move_down;
@@ -66,7 +68,8 @@ fn whole_from(tokenizer: &Tokenizer) -> usize
 
 /// What was taken of a line. A byte within which the point lies counts, and not one within which the line began.
 fn line_taken<'a>(tokenizer: &Tokenizer<'a>) -> &'a [u8]
-    ensures { let w = world tokenizer.now in result.now ≡ line_taken w.setting.bytes w.scratch w.point }
+    ensures value { let w = world tokenizer.now in result.now ≡ line_taken w.setting.bytes w.scratch w.point }
+    ensures bound { length result.now < 2 ^ 61 }
 {
     between(
         tokenizer.bytes,
@@ -75,7 +78,16 @@ fn line_taken<'a>(tokenizer: &Tokenizer<'a>) -> &'a [u8]
     )
 }
 
-/// Before a line.
+/// What is held of the open text behind the line that ends here.
+fn text_with_line(tokenizer: &Tokenizer) -> HeldLeaf
+    ensures { let w = world tokenizer.now in
+        result ≡ text_behind w.flags.leaf (rest_taken w.setting.bytes w.scratch w.point) }
+{
+    let Scratch { size, seen, .. } = tokenizer.scratch;
+    text_behind(tokenizer.flags.leaf, size, seen, line_taken(tokenizer))
+}
+
+/// Before a line. Its column from 0, and whether it begins within a tab, tell how far it is indented.
 ///
 /// ```markdown
 /// > | a
@@ -93,6 +105,8 @@ pub fn chunk_start(tokenizer: &mut Tokenizer) -> State
     };
     or_error!(tokenizer.enter_link(Name::Content, link));
     tokenizer.scratch.start = whole_from(tokenizer);
+    tokenizer.scratch.size = tokenizer.point.column.saturating_sub(1);
+    tokenizer.scratch.seen = tokenizer.point.vs > 0;
     State::Retry(StateName::Content(ContentState::ChunkInside))
 }
 
@@ -117,8 +131,10 @@ pub fn chunk_inside(tokenizer: &mut Tokenizer) -> State
         None | Some(b'\n') => {
             or_error!(tokenizer.exit(Name::Content));
             or_error!(tokenizer.register_resolver_before(ResolveName::Content));
-            tokenizer.flags.leaf = text_behind(tokenizer.flags.leaf, line_taken(tokenizer));
+            tokenizer.flags.leaf = text_with_line(tokenizer);
             tokenizer.scratch.start = 0;
+            tokenizer.scratch.size = 0;
+            tokenizer.scratch.seen = false;
             State::Ok
         }
         _ => {

@@ -28,3 +28,6 @@ pub mod DefinitionSteps
 pub mod DefinitionWhole
 pub mod DefinitionLines
 pub mod DefinitionLemmas
+pub mod Pieces
+pub mod HeadLemmas
+pub mod OpenTextLemmas

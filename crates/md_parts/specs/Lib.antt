@@ -12,3 +12,5 @@ pub mod Title
 pub mod TitleRule
 pub mod WholeCells
 pub mod Progress
+pub mod Head
+pub mod OpenText

@@ -10,7 +10,6 @@ use Rattle.md_definition.specs.Lines.{begins_with}
 use Rattle.md_definition.specs.Rest.{is_blank, is_parted, trim_start}
 use Rattle.md_engine.specs.declared.tokenizer.held_leaf.HeldLeaf.{HeldLeaf}
 use Rattle.md_engine.specs.declared.tokenizer.held_leaf.HeldLeaf.TheVariants as held_leaf
-use Rattle.md_engine.specs.declared.tokenizer.held_leaf.OpenText.{OpenText}
 use Rattle.md_engine.specs.declared.tokenizer.held_leaf.Progress.{Progress}
 use Rattle.md_engine.specs.declared.tokenizer.held_leaf.Progress.TheVariants.{BeforeDestination, Fresh, InLabel}
 use Rattle.md_engine.specs.declared.tokenizer.held_leaf.Progress.TheVariants.{InTitle, Left, Untitled}
@@ -114,11 +113,3 @@ abbrev pub progress_of : HeldLeaf → Progress
 progress_of (held_leaf.Text text) = text.progress
 progress_of (held_leaf.LazyText text) = text.progress
 progress_of _ = Fresh
-
--- what is kept of a text, by how far its definitions have come
-abbrev pub open_text : Progress → OpenText
-open_text at = record { progress = at; columns = 0; indent = 0 }
-
--- what is held of a text behind one more line, where the line meets this leaf
-abbrev pub text_behind : HeldLeaf → List ℕ → HeldLeaf
-text_behind on line = held_leaf.Text (open_text (step (progress_of on) (trim_start line)))

@@ -4,7 +4,7 @@
 ghost use Rattle.std.specs.Prelude.{◌≡◌};
 ghost use Rattle.md_parts.specs.Progress as progress;
 
-use md_engine::tokenizer::{HeldLeaf, OpenText, Progress};
+use md_engine::tokenizer::{HeldLeaf, Progress};
 use plain_grammars::ahead::{after_optional, begins_with};
 use plain_grammars::bytes::{is_blank, is_parted, trim_start};
 use plain_grammars::definition::{Enclosed, destination_at, title_closer, up_to_mark};
@@ -141,7 +141,7 @@ fn begins_title(line: &[u8]) -> bool
 ///   | d"
 /// ```
 #[tactic(auto, unfolding(crate::specs::Progress::step))]
-fn step(at: Progress, line: &[u8]) -> Progress
+pub fn step(at: Progress, line: &[u8]) -> Progress
     ensures { result ≡ progress.step at line.now }
 {
     match at {
@@ -156,28 +156,11 @@ fn step(at: Progress, line: &[u8]) -> Progress
 }
 
 /// How far the definitions of an open text have come. Where none is open, one may begin.
-fn progress_of(leaf: HeldLeaf) -> Progress
+pub fn progress_of(leaf: HeldLeaf) -> Progress
     ensures { result ≡ progress.progress_of leaf }
 {
     match leaf {
         HeldLeaf::Text(text) | HeldLeaf::LazyText(text) => text.progress,
         _ => Progress::Fresh,
     }
-}
-
-/// What is held of a text behind one more line, where the line meets this leaf. Where something is left already, the
-/// line is not looked at.
-#[tactic(auto, unfolding(crate::specs::Progress::step))]
-pub fn text_behind(leaf: HeldLeaf, line: &[u8]) -> HeldLeaf
-    ensures { result ≡ progress.text_behind leaf line.now }
-{
-    let progress = match progress_of(leaf) {
-        Progress::Left => Progress::Left,
-        at => step(at, trim_start(line)),
-    };
-    HeldLeaf::Text(OpenText {
-        progress,
-        columns: 0,
-        indent: 0,
-    })
 }

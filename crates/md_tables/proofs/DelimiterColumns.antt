@@ -1,7 +1,7 @@
 -- What ends a delimiter row by its states is a delimiter row by the line definition, with as many columns.
 use Rattle.std.proofs.Common.{◌≡◌, ℕ, suc, ◌+◌, ◌<◌, Bool, true, false, cond, ◌&&◌, ◌||◌, nat_eq, List, [], ◌∷◌, ◌++◌}
-use Rattle.std.proofs.Common.{Some, None, length, map, refl, sym, ◌∙◌, ap, ap₂, arith, append-nil}
-use Rattle.std.specs.List.{list_all, list_any, onto_first}
+use Rattle.std.proofs.Common.{Option, Some, None, length, map, refl, sym, ◌∙◌, ap, ap₂, arith, append-nil}
+use Rattle.std.specs.List.{list_all, list_any}
 use Rattle.std.proofs.lemmas.Bool.{and_parts, eqb-true}
 use Rattle.std.proofs.lemmas.List.{length-map}
 use Rattle.std.proofs.lemmas.Bool.Decides.{nat_tests}
@@ -10,6 +10,7 @@ use Rattle.md_definition.specs.Bytes.{after_optional, begins, is_end}
 use Rattle.md_definition.specs.Rest.{is_blank, is_white, trim, trim_end, trim_start}
 use Rattle.md_definition.specs.Table.{delimiter_columns, is_delimiter, pieces, row_cells}
 use Rattle.md_leaves.proofs.TitleTexts.{tail}
+use Rattle.md_parts.proofs.Pieces.{Parted, onto-parted, pieces-parted}
 use Rattle.md_tables.specs.Delimiter.{Aligns, Dash, Divides, Mark, Other, Stops, White, mark_of}
 use Rattle.md_tables.specs.DelimiterRule.{Behind, Counts, Dashes, Fails, Front, Goes, Left, Marks, Move, Open, Place, counted}
 use Rattle.md_tables.specs.DelimiterRule.{fits, led, met, move}
@@ -20,29 +21,6 @@ use Rattle.md_tables.proofs.DelimiterLemmas.{told-as, white-mark}
 use Rattle.md_tables.proofs.RowSteps.{white-apart}
 
 -- The pieces of a row.
-
--- a first one, and the others
-pub record Parted (row : List (List ℕ)) : Type 0 where
-  pub first : List ℕ
-  pub others : List (List ℕ)
-  pub is : row ≡ first ∷ others
-
-pub onto-parted : (b : ℕ) (row : List (List ℕ)) (p : Parted row) → onto_first b row ≡ (b ∷ p.first) ∷ p.others
-onto-parted b row p = rw p.is refl
-
-pub pieces-parted : (escaped : Bool) (row : List ℕ) → Parted (pieces escaped row)
-unfolding pieces
-pieces-parted true [] = record { first = []; others = []; is = refl }
-pieces-parted false [] = record { first = []; others = []; is = refl }
-pieces-parted true (b ∷ bs) =
-    let p = pieces-parted false bs in record { first = b ∷ p.first; others = p.others; is = onto-parted b _ p }
-pieces-parted false (b ∷ bs) = go (nat_eq b 124) refl (is_end bs) refl (pieces-parted (nat_eq b 92) bs)
-  where
-    go : (x : Bool) → nat_eq b 124 ≡ x → (y : Bool) → is_end bs ≡ y → Parted (pieces (nat_eq b 92) bs) →
-        Parted (pieces false (b ∷ bs))
-    go true e true k p = record { first = p.first; others = p.others; is = rw (e, k) p.is }
-    go true e false k p = record { first = []; others = pieces (nat_eq b 92) bs; is = rw (e, k) refl }
-    go false e y k p = record { first = b ∷ p.first; others = p.others; is = rw e (onto-parted b _ p) }
 
 -- behind a byte that neither divides nor escapes
 pieces-plain : (b : ℕ) (bs : List ℕ) → nat_eq b 124 ≡ false → nat_eq b 92 ≡ false → (p : Parted (pieces false bs)) →

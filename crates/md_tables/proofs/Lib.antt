@@ -10,7 +10,6 @@ pub mod GfmTableWhole
 pub mod GfmTableBytes
 pub mod CellLemmas
 pub mod DelimiterColumns
-pub mod HeadLemmas
 pub mod TabledWalk
 pub mod CellsLemmas
 pub mod TabledLines

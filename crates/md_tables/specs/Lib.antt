@@ -5,7 +5,6 @@ pub mod DelimiterRule
 pub mod GfmTable
 pub mod GfmTableRule
 pub mod GfmTableLine
-pub mod Head
 pub mod Cells
 pub mod Tabled
 pub mod TableLines

@@ -4,6 +4,5 @@
 pub mod cells;
 pub mod delimiter;
 pub mod gfm_table;
-pub mod head;
 pub mod row;
 pub mod tables;

@@ -6,6 +6,8 @@ use Rattle.md_engine.specs.declared.event.Point.{Point}
 use Rattle.md_engine.specs.declared.tokenizer.held_leaf.HeldLeaf.TheVariants as held_leaf
 use Rattle.md_engine.specs.declared.tokenizer.held_leaf.OpenText.{OpenText}
 use Rattle.md_definition.specs.Rest.{trim_start}
+use Rattle.md_definition.specs.State.{kept}
+use Rattle.md_parts.specs.OpenText.{open_text}
 use Rattle.md_parts.specs.Progress.{progress_of, step}
 use Rattle.markdown_blocks.specs.Leaf.HeadingSetext.{setext_leaf}
 use Rattle.markdown_blocks.specs.Registry.{HeadingSetext, leaf}
@@ -31,7 +33,10 @@ pub record Turns (options : ParseOptions) (bytes : List ℕ) (last under : Row) 
 pub text-open : (options : ParseOptions) (bytes : List ℕ) (row : Row) (rows : List Row) →
     AreLines options bytes row rows → (at : OpenText) × ((last_row row rows).behind ≡ held_leaf.Text at)
 text-open options bytes row [] h =
-    (step (progress_of row.on) (trim_start h.1.rest.bytes), h.1.behind ∙ ap (line_behind options row.on h.1.rest) h.2)
+    (
+      open_text (step (progress_of row.on) (trim_start h.1.rest.bytes)) (kept h.1.rest),
+      h.1.behind ∙ ap (line_behind options row.on h.1.rest) h.2,
+    )
 text-open options bytes row (next ∷ rows) h = text-open options bytes next rows h.7
 
 -- so a line that goes on it goes on text, and is one

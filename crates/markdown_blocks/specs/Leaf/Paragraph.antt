@@ -7,7 +7,9 @@ use Rattle.std.specs.Prelude.{ℕ, List, [], ◌∷◌}
 use Rattle.md_engine.specs.declared.configuration.ParseOptions.{ParseOptions}
 use Rattle.md_definition.specs.State.{Kept, Leaf, OpenParagraph, cut, shut_paragraph, texts, then_definitions}
 use Rattle.md_definition.specs.Tree.{Blocks, Paragraph}
-use Rattle.md_parts.specs.Progress.{open_text, progress}
+use Rattle.md_engine.specs.declared.tokenizer.held_leaf.OpenText.{OpenText}
+use Rattle.md_parts.specs.Head.{head_columns}
+use Rattle.md_parts.specs.Progress.{progress}
 use Rattle.markdown_blocks.specs.TextLeaf.{TextLeaf}
 
 abbrev pub paragraph_leaf : TextLeaf
@@ -32,10 +34,25 @@ then_front options bs _ = bs
 abbrev pub left_of : ParseOptions → Leaf → List (List ℕ)
 left_of options leaf = (cut options (texts (held_of leaf))).1
 
--- As what an open leaf is held, and whether it may be open: an open text is held with how far the definitions at its
--- front have come, and has a line at least. Of any other leaf it is as this says.
+-- a number of the last of these lines; 0 where there is none
+abbrev pub of_last : (Kept → ℕ) → List Kept → ℕ
+of_last number [] = 0
+of_last number (k ∷ []) = number k
+of_last number (k ∷ next ∷ ks) = of_last number (next ∷ ks)
+
+-- what is kept of an open text of these lines: how far the definitions at its front have come, how many cells its last
+-- line has as the head of a table, and the indent of that line
+abbrev pub open_lines : List Kept → OpenText
+open_lines lines = record {
+  progress = progress (texts lines);
+  columns = of_last (λ k. head_columns k.text) lines;
+  indent = of_last (λ k. k.indent) lines;
+}
+
+-- As what an open leaf is held, and whether it may be open: an open text is held with what is kept of its lines, and has
+-- a line at least. Of any other leaf it is as this says.
 abbrev pub held_or : (Leaf → HeldLeaf) → Leaf → HeldLeaf
-held_or other (OpenParagraph lines) = held_leaf.Text (open_text (progress (texts lines)))
+held_or other (OpenParagraph lines) = held_leaf.Text (open_lines lines)
 held_or other leaf = other leaf
 
 abbrev pub IsTextOr : (Leaf → Type 0) → Leaf → Type 0

@@ -1,12 +1,12 @@
 -- The head of a table (GFM 4.10).
-use Rattle.std.specs.Prelude.{ℕ, ◌+◌, Bool, ◌&&◌, ◌==◌, not, if◌then◌else◌, List, [], ◌∷◌, length, Option, Some, None}
+use Rattle.std.specs.Prelude.{ℕ, ◌+◌, Bool, ◌&&◌, ◌==◌, not, if◌then◌else◌, List, [], ◌∷◌, length}
 use Rattle.md_definition.specs.Ascii.{backslash, pipe}
 use Rattle.md_definition.specs.Bytes.{is_end}
 use Rattle.md_definition.specs.Table.{is_head, row_cells}
 
--- how many cells a line has as a head, if it may be one
-abbrev pub head_columns : List ℕ → Option ℕ
-head_columns line = if is_head line then Some (length (row_cells line)) else None
+-- how many cells a line has as a head; 0 if it may be none
+abbrev pub head_columns : List ℕ → ℕ
+head_columns line = if is_head line then length (row_cells line) else 0
 
 -- whether a pipe divides: no backslash takes it, and something stands behind it
 abbrev pub divides : ℕ → Bool → Bool → Bool

@@ -2,8 +2,9 @@
 
 ghost use Rattle.std.specs.Prelude.{◌≡◌, false, length};
 ghost use Rattle.md_definition.specs.Table.{row_cells};
-ghost use Rattle.md_tables.specs.Head.{divided, head_columns, pieces_len};
+ghost use Rattle.md_parts.specs.Head.{divided, head_columns, pieces_len};
 
+use memchr::memchr;
 use plain_grammars::ahead::after_optional;
 use plain_grammars::bytes::trim;
 use plain_grammars::table::is_head;
@@ -41,13 +42,19 @@ fn cells_len(line: &[u8]) -> usize
     pieces_len(after_optional(b'|', trim(line)))
 }
 
-/// How many cells a line has as a head, if it may be one.
-pub fn head_columns(line: &[u8]) -> Option<usize>
+/// How many cells a line has as a head, if it has a pipe; 0 if it may be no head.
+fn columns_between(line: &[u8]) -> usize
     ensures { result ≡ head_columns line.now }
 {
-    if is_head(line) {
-        Some(cells_len(line))
-    } else {
-        None
+    if is_head(line) { cells_len(line) } else { 0 }
+}
+
+/// How many cells a line has as a head; 0 if it may be none. Most lines have no pipe, and so one cell.
+pub fn head_columns(line: &[u8]) -> usize
+    ensures { result ≡ head_columns line.now }
+{
+    match memchr(b'|', line) {
+        None => 1,
+        Some(_) => columns_between(line),
     }
 }

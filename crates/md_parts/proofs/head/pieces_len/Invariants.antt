@@ -1,6 +1,6 @@
 use Rattle.std.proofs.Common.{◌≡◌, ◌≤◌, ◌+◌, false, length}
-use Rattle.md_tables.specs.Head.{pieces_len}
-use Rattle.md_tables.proofs.head.pieces_len.Given as goal
+use Rattle.md_parts.specs.Head.{pieces_len}
+use Rattle.md_parts.proofs.head.pieces_len.Given as goal
 
 abbrev pub invariant-loop-rest : goal.invariant-loop-rest
 invariant-loop-rest l =

@@ -1,0 +1,51 @@
+// What is kept of an open text from line to line: how far the definitions at its front have come, which an underline
+// asks (CommonMark 4.7), and its last line as the head of a table, which a delimiter row asks (GFM 4.10).
+
+ghost use Rattle.std.specs.Prelude.{◌≡◌, ◌^◌, ◌<◌, length};
+ghost use Rattle.md_definition.specs.Rest.{indent};
+ghost use Rattle.md_parts.specs.OpenText.{begun_rest, text_behind};
+ghost use Rattle.md_parts.specs.Progress as stepped;
+
+use crate::head::head_columns;
+use crate::progress::{progress_of, step};
+use md_engine::tokenizer::{HeldLeaf, OpenText, Progress};
+use plain_grammars::bytes::trim_start;
+use plain_grammars::columns::{tab_columns, white_columns};
+
+/// The columns of whitespace in front of a line that begins at this column, from 0, perhaps within a tab.
+fn indent(column: usize, cut: bool, line: &[u8]) -> usize
+    requires { length line.now < 2 ^ 61 }
+    ensures { result ≡ indent (begun_rest column cut line.now) }
+{
+    if cut {
+        tab_columns(column) + white_columns(0, line)
+    } else {
+        white_columns(column % 4, line)
+    }
+}
+
+/// How far the definitions of a text have come behind one more line. Where something is left already, the line is not
+/// looked at.
+#[tactic(auto, unfolding(crate::specs::Progress::step))]
+fn further(leaf: HeldLeaf, text: &[u8]) -> Progress
+    ensures { result ≡ stepped.step (stepped.progress_of leaf) text.now }
+{
+    match progress_of(leaf) {
+        Progress::Left => Progress::Left,
+        at => step(at, text),
+    }
+}
+
+/// What is held of a text behind one more line, which begins at this column, from 0, perhaps within a tab; the line meets
+/// this leaf.
+pub fn text_behind(leaf: HeldLeaf, column: usize, cut: bool, line: &[u8]) -> HeldLeaf
+    requires { length line.now < 2 ^ 61 }
+    ensures { result ≡ text_behind leaf (begun_rest column cut line.now) }
+{
+    let text = trim_start(line);
+    HeldLeaf::Text(OpenText {
+        progress: further(leaf, text),
+        columns: head_columns(text),
+        indent: indent(column, cut, line),
+    })
+}
