@@ -1,5 +1,5 @@
--- Tables: an outline shows their rows and cells as they come. Each cell begins with an empty line, which its text fills,
--- and the line of the table counts the cells of its head.
+-- Tables: an outline shows their rows and cells as they come. Each cell begins with an empty line, which its text
+-- fills, and the line of the table counts the cells of its head.
 use Rattle.std.proofs.Common.{◌≡◌, ℕ, ◌+◌, Bool, true, false, cond, List, [], ◌∷◌, ◌++◌, length, slice_range, refl, sym}
 use Rattle.std.proofs.Common.{◌∙◌, ap, subst, append_assoc}
 use Rattle.std.specs.Prelude.{Option, Some, None, option_map}

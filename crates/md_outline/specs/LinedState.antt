@@ -1,5 +1,6 @@
 -- What an outline shows of a leaf block of several lines that is open.
-use Rattle.std.specs.Prelude.{ℕ, ◌+◌, ◌-◌, Bool, true, false, List, [], ◌∷◌, length, take, set, get_or, Option, option_map}
+use Rattle.std.specs.Prelude.{ℕ, ◌+◌, ◌-◌, Bool, true, false, List, [], ◌∷◌, length, take, set, get_or, Option}
+use Rattle.std.specs.Prelude.{option_map}
 use Rattle.md_definition.specs.declared.outline.Word.{Word}
 use Rattle.md_definition.specs.declared.outline.Word.TheVariants as word
 use Rattle.md_definition.specs.Outline.{Entry, entry}

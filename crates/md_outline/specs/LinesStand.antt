@@ -1,7 +1,7 @@
 -- Leaf blocks of several lines as an outline can show them: each has its parts in the order of the grammar, and one
--- piece of text a line at the most. Setext headings and definitions are such leaf blocks, of whose texts each line is one
--- piece, and tables (`TableSpots`); what is asked of an ATX heading is that container prefixes stand in front of its text
--- or behind it.
+-- piece of text a line at the most. Setext headings and definitions are such leaf blocks, of whose texts each line is
+-- one piece, and so are tables (`TableSpots`); what is asked of an ATX heading is that container prefixes stand in front
+-- of its text or behind it.
 --
 -- A walk over the events by their roles, which knows where in such a leaf block it is.
 use Rattle.std.specs.Prelude.{◌≡◌, ◌==◌, ℕ, true, false, if◌then◌else◌, nat_lt, List, [], ◌∷◌, length, slice_range}

@@ -11,8 +11,8 @@
 -- - A leaf block of several lines (`has_lines`): `is_unlisted` and `shown_as` here, `role_of` in code; its lines are
 --   shown as they come (`LinedState`), where they may (`LinesStand`), and `LinedLemmas` has what is proved of it. A
 --   setext heading is one, whose lines are those of its text, shown as those of a paragraph (`TitledLemmas`), and so is
---   a definition, whose lines are those of its label, its destination and its title (`DefinedLemmas`), and a table, whose
---   lines are those of its rows and their cells (`TableSpots`, `TableState`, `TabledLemmas`).
+--   a definition, whose lines are those of its label, its destination and its title (`DefinedLemmas`), and a table,
+--   whose lines are those of its rows and their cells (`TableSpots`, `TableState`, `TabledLemmas`).
 -- - A text that tells a leaf block something: the same, and `told_as` here, `Note` in code.
 use Rattle.std.specs.Prelude.{ℕ, Bool, true, false, List, None}
 use Rattle.md_definition.specs.declared.outline.Word.TheVariants as word
@@ -70,8 +70,8 @@ has_lines OfDefinition = true
 has_lines OfTable = true
 has_lines _ = false
 
--- the plain ones, and those of such leaf blocks, their parts, and the texts of headings, definitions and tables: all that
--- are shown, but those of lists
+-- the plain ones, and those of such leaf blocks, their parts, and the texts of headings, definitions and tables: all
+-- that are shown, but those of lists
 abbrev pub is_unlisted : spelled.Role → Bool
 is_unlisted (Opens OfCode) = true
 is_unlisted (Opens OfFence) = true

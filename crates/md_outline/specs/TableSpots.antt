@@ -1,13 +1,13 @@
--- Tables as an outline can show them: a head row, behind that the delimiter row, and then further rows. A row has its
--- cells one behind the other, and a cell has one text at the most. Line endings and container prefixes stand between the
--- rows.
+-- Tables as an outline can show them (GFM 4.10): a head row, behind that the delimiter row, and then further rows. A row
+-- has its cells one behind the other, and a cell has one text at the most. Line endings and container prefixes stand
+-- between the rows.
 --
 -- Where in a table one is, and what may stand there, is a matter of the roles of the events alone.
 use Rattle.std.specs.Prelude.{Option, Some, None}
 use Rattle.md_engine.specs.declared.event.Kind.{Kind}
 use Rattle.md_engine.specs.declared.event.Kind.TheVariants.{Enter, Exit}
-use Rattle.md_seam.specs.Events.Spelled.{AsCell, AsDelimiter, Holds, IsCell, IsEnding, IsPrefix, IsQuiet, IsRow, OfTable}
-use Rattle.md_seam.specs.Events.Spelled.{Opens, Role, Tells}
+use Rattle.md_seam.specs.Events.Spelled.{AsCell, AsDelimiter, Holds, IsCell, IsEnding, IsPrefix, IsQuiet, IsRow}
+use Rattle.md_seam.specs.Events.Spelled.{OfTable, Opens, Role, Tells}
 
 -- The rows of a table that have cells.
 pub data Row : Type 0 where
