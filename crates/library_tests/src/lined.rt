@@ -41,6 +41,25 @@ fn name(letter: u8) -> Name {
     }
 }
 
+// What a letter behind a dot begins or ends, in a table.
+fn table_name(letter: u8) -> Name {
+    match letter.to_ascii_uppercase() {
+        b'T' => Name::GfmTable,
+        b'H' => Name::GfmTableHead,
+        b'B' => Name::GfmTableBody,
+        b'R' => Name::GfmTableRow,
+        b'C' => Name::GfmTableCell,
+        b'D' => Name::GfmTableCellDivider,
+        b'X' => Name::GfmTableCellText,
+        b'E' => Name::GfmTableDelimiterRow,
+        b'F' => Name::GfmTableDelimiterCell,
+        b'V' => Name::GfmTableDelimiterCellValue,
+        b'M' => Name::GfmTableDelimiterMarker,
+        b'L' => Name::GfmTableDelimiterFiller,
+        _ => Name::SpaceOrTab,
+    }
+}
+
 // The point in front of a byte, of which a tab was cut at `vs` columns.
 fn point(text: &[u8], index: usize, vs: usize) -> Point {
     let mut point = Point {
@@ -68,14 +87,15 @@ fn point(text: &[u8], index: usize, vs: usize) -> Point {
 }
 
 // The events of a list: each a letter and the byte it stands at, as a letter from `a` on. A digit behind that says how
-// many columns of a tab there were taken.
+// many columns of a tab there were taken. A letter with a dot in front is one of a table.
 fn all(alloc: Global, text: &[u8], list: &str) -> Result<Vec<Event>, AllocError> {
     let mut events = Vec::new(alloc);
     for part in list.split(' ') {
-        let (letter, index, vs) = match part.as_bytes() {
-            [letter, index] => (*letter, *index, b'0'),
-            [letter, index, vs] => (*letter, *index, *vs),
-            _ => (b'W', b'a', b'0'),
+        let (letter, name, index, vs) = match part.as_bytes() {
+            [b'.', letter, index] => (*letter, table_name(*letter), *index, b'0'),
+            [letter, index] => (*letter, name(*letter), *index, b'0'),
+            [letter, index, vs] => (*letter, name(*letter), *index, *vs),
+            _ => (b'W', Name::SpaceOrTab, b'a', b'0'),
         };
         events.push(Event {
             kind: if letter.is_ascii_uppercase() {
@@ -83,7 +103,7 @@ fn all(alloc: Global, text: &[u8], list: &str) -> Result<Vec<Event>, AllocError>
             } else {
                 Kind::Exit
             },
-            name: name(letter),
+            name,
             point: point(
                 text,
                 usize::from(index.saturating_sub(b'a')),
@@ -95,8 +115,9 @@ fn all(alloc: Global, text: &[u8], list: &str) -> Result<Vec<Event>, AllocError>
     Ok(events)
 }
 
-// The outline of such events: a leaf block as a word, what its fence says behind `i` and `m`, the parts of a definition
-// behind `l`, `u` and `t`, and each line of text between bars, behind a dot for each virtual space.
+// The outline of such events: a leaf block as a word, a table with a plus for each column, what a fence says behind `i`
+// and `m`, the parts of a definition behind `l`, `u` and `t`, the cells of a row behind `c`, a delimiter row behind `-`,
+// and each line of text between bars, behind a dot for each virtual space.
 fn shown(alloc: Global, text: &str, list: &str) -> Result<String, Message> {
     let Ok(events) = all(alloc, text.as_bytes(), list) else {
         return Err(Message);
@@ -132,6 +153,14 @@ fn add(shown: &mut String, word: Word, spaces: usize, text: &str) -> Result<(), 
         Word::Quote => shown.push_str("q"),
         Word::Paragraph => shown.push_str("p"),
         Word::Definition => shown.push_str("d"),
+        Word::Table(columns) => {
+            shown.push_str("table")?;
+            for _ in 0..columns {
+                shown.push_str("+")?;
+            }
+            Ok(())
+        }
+        Word::Row => shown.push_str("r"),
         _ => {
             shown.push_str(match word {
                 Word::Info => "i",
@@ -139,6 +168,8 @@ fn add(shown: &mut String, word: Word, spaces: usize, text: &str) -> Result<(), 
                 Word::Label => "l",
                 Word::Destination => "u",
                 Word::Title => "t",
+                Word::Cell => "c",
+                Word::Delimiter => "-",
                 _ => "",
             })?;
             shown.push_str("|")?;
@@ -225,6 +256,42 @@ fn shows_definitions(rt: HostRuntime) {
             "> [\n> a\n> ]: b",
             "Qa Oa oc Dc Ad Ld le Oe og Lh li Oi ok ak En eo do qo",
             "qdl||l|a|l||u|b|",
+        ),
+    ] {
+        check(&rt, rt.alloc(), text, list, want);
+    }
+}
+
+// GFM 4.10
+#[test]
+fn shows_tables(rt: HostRuntime) {
+    for (text, list, want) in [
+        (
+            "a | b\n-|-\nc",
+            ".Ta .Ha .Ra .Ca .Xa .xb Wb wc .cc .Cc .Dc .dd Wd we .Xe .xf .cf .rf Lf lg .Eg .Fg .Vg .Lg .lh .vh .fh .Fh .Dh \
+             .di .Vi .Li .lj .vj .fj .ej .hj Lj lk .Bk .Rk .Ck .Xk .xl .cl .rl .bl .tl",
+            "table++rc|a|c|b|-|-|-|rc|c|",
+        ),
+        // One column, and no body; the text has no outer spaces
+        (
+            "a\n :-: \n\nb",
+            ".Ta .Ha .Ra .Ca .Xa .xb .cb .rb Lb lc .Ec Wc wd .Fd .Vd .Md .me .Le .lf .Mf .mg .vg Wg wh .fh .eh .hh .th Lh li Bi \
+             bj Pj pk",
+            "table+rc|a|-|:-:|p|b|",
+        ),
+        // A row of an empty cell
+        (
+            "a | b\n-|-\n|",
+            ".Ta .Ha .Ra .Ca .Xa .xb Wb wc .cc .Cc .Dc .dd Wd we .Xe .xf .cf .rf Lf lg .Eg .ej .hj Lj lk .Bk .Rk .Ck .Dk .dl \
+             .cl .rl .bl .tl",
+            "table++rc|a|c|b|-|-|-|rc||",
+        ),
+        // The prefixes of a quote between its rows
+        (
+            "> a\n> -\n> b\n> c",
+            "Qa Oa oc .Tc .Hc .Rc .Cc .Xc .xd .cd .rd Ld le Oe og .Eg .eh .hh Lh li Oi ok .Bk .Rk .Ck .Xk .xl .cl .rl Ll lm \
+             Om oo .Ro .Co .Xo .xp .cp .rp .bp .tp qp",
+            "qtable+rc|a|-|-|rc|b|rc|c|",
         ),
     ] {
         check(&rt, rt.alloc(), text, list, want);

@@ -11,9 +11,9 @@ use Rattle.md_seam.specs.declared.inline.Chunk.{Chunk}
 use Rattle.md_seam.specs.Events.Inline.{line_end, plain_chunk}
 use Rattle.md_seam.specs.Events.Nested.{around, enter, exit, pair}
 use Rattle.md_seam.specs.Events.Places.{past_byte, past_text, same_place}
-use Rattle.md_seam.specs.Events.Spelled.{AsDestination, AsHeading, AsInfo, AsLabel, AsLine, AsMeta, AsTitle, IsFence}
-use Rattle.md_seam.specs.Events.Spelled.{IsQuiet, IsTitle, OfCode, OfDefinition, OfFence, OfHeadingSetext, OfHtml}
-use Rattle.md_seam.specs.Events.Spelled.{OfMath, Opens, Role, Tells, role}
+use Rattle.md_seam.specs.Events.Spelled.{AsCell, AsDelimiter, AsDestination, AsHeading, AsInfo, AsLabel, AsLine, AsMeta}
+use Rattle.md_seam.specs.Events.Spelled.{AsTitle, IsCell, IsFence, IsQuiet, IsRow, IsTitle, OfCode, OfDefinition}
+use Rattle.md_seam.specs.Events.Spelled.{OfFence, OfHeadingSetext, OfHtml, OfMath, OfTable, Opens, Role, Tells, role}
 use Rattle.md_seam.proofs.SpelledLemmas.{Quiet, Roles}
 use Rattle.md_outline.specs.LinesStand.{Outside, Site}
 use Rattle.md_outline.specs.Outlined.{has_unlisted_name}
@@ -94,8 +94,11 @@ unlisted-plain (Opens OfMath) h = refl
 unlisted-plain (Opens OfHtml) h = refl
 unlisted-plain (Opens OfHeadingSetext) h = refl
 unlisted-plain (Opens OfDefinition) h = refl
+unlisted-plain (Opens OfTable) h = refl
 unlisted-plain IsFence h = refl
 unlisted-plain IsTitle h = refl
+unlisted-plain IsRow h = refl
+unlisted-plain IsCell h = refl
 unlisted-plain (Tells AsLine) h = refl
 unlisted-plain (Tells AsInfo) h = refl
 unlisted-plain (Tells AsMeta) h = refl
@@ -103,6 +106,8 @@ unlisted-plain (Tells AsHeading) h = refl
 unlisted-plain (Tells AsLabel) h = refl
 unlisted-plain (Tells AsDestination) h = refl
 unlisted-plain (Tells AsTitle) h = refl
+unlisted-plain (Tells AsCell) h = refl
+unlisted-plain (Tells AsDelimiter) h = refl
 unlisted-plain x h = h
 
 pub plain-cons : (bytes : List ℕ) (e : Event) (es : List Event) → is_plain (role e.name) ≡ true →

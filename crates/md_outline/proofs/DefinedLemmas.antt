@@ -23,8 +23,8 @@ use Rattle.md_seam.specs.Events.Spelled.{byte_at, columns_left, finished, first_
 use Rattle.md_seam.specs.Events.Spelled.{read_exit, text_to}
 use Rattle.md_seam.specs.Events.Spelled as spelled
 use Rattle.md_seam.proofs.PlacesLemmas.{Some_line, some-split}
-use Rattle.md_outline.specs.DefinitionState.{label_told, part_ended, part_parted, part_word}
-use Rattle.md_outline.specs.LinedState.{without_end}
+use Rattle.md_outline.specs.DefinitionState.{part_ended, part_parted, part_word}
+use Rattle.md_outline.specs.LinedState.{now_told, without_end}
 use Rattle.md_outline.specs.LinesStand.{DestinationLeft, LabelPart, Left, MayHaveDestination, MayHaveTitle, NoneLeft, Part}
 use Rattle.md_outline.specs.LinesStand.{TitleLeft, TitlePart}
 use Rattle.md_outline.specs.Outlined.{begins_line, parts_by}
@@ -438,7 +438,7 @@ label-told is_parted piece destination label line s r is lines =
             words = is.words;
             untold = is.untold;
             leaf = is.leaf;
-            lined = ap label_told is.lined;
+            lined = ap now_told is.lined;
           };
           all =
               ap (λ es. es ++ end) lines

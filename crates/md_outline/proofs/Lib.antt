@@ -13,6 +13,8 @@ pub mod OutlineDepths
 pub mod OutlineLemmas
 pub mod RoleLemmas
 pub mod SiteTexts
+pub mod TabledLemmas
+pub mod TablesPass
 pub mod TextCuts
 pub mod TextPieces
 pub mod TitledLemmas

@@ -1,5 +1,5 @@
--- Leaf blocks of several lines: an outline shows their lines as they come. Of setext headings `TitledLemmas` has it, and
--- of definitions `DefinedLemmas`.
+-- Leaf blocks of several lines: an outline shows their lines as they come. Of setext headings `TitledLemmas` has it, of
+-- definitions `DefinedLemmas`, and of tables `TabledLemmas`.
 use Rattle.std.proofs.Common.{◌≡◌, ℕ, ◌+◌, Bool, true, false, cond, ◌==◌, List, [], ◌∷◌, ◌++◌, length}
 use Rattle.std.proofs.Common.{slice_range, refl, sym, ◌∙◌, ap, subst, append_assoc, arith}
 use Rattle.std.specs.Prelude.{Option, Some, None, nat_lt, option_map}
@@ -15,8 +15,9 @@ use Rattle.md_definition.specs.Outline.{part_entry}
 use Rattle.md_definition.specs.State.{then_block}
 use Rattle.md_definition.specs.Texts.{first_byte}
 use Rattle.md_definition.specs.Tree.{Line}
-use Rattle.md_seam.specs.Events.Spelled.{AsDestination, AsHeading, AsInfo, AsLabel, AsLine, AsMarkers, AsMeta, AsTitle}
-use Rattle.md_seam.specs.Events.Spelled.{CodeLeaf, FenceLeaf, Holds, HtmlLeaf, IsEnding, IsFence, IsPrefix, IsQuiet}
+use Rattle.md_seam.specs.Events.Spelled.{AsCell, AsDelimiter, AsDestination, AsHeading, AsInfo, AsLabel, AsLine}
+use Rattle.md_seam.specs.Events.Spelled.{AsMarkers, AsMeta, AsTitle, CodeLeaf, FenceLeaf, Holds, HtmlLeaf, IsCell}
+use Rattle.md_seam.specs.Events.Spelled.{IsEnding, IsFence, IsPrefix, IsQuiet, IsRow, OfTable}
 use Rattle.md_seam.specs.Events.Spelled.{IsTitle, LeafKind, MathLeaf, OfCode, OfDefinition, OfFence, OfHeadingSetext}
 use Rattle.md_seam.specs.Events.Spelled.{OfHtml, OfMath, OpenLeaf, Opens, OrderedShape}
 use Rattle.md_seam.specs.Events.Spelled.{Reading, Tells, Text, no_heading}
@@ -31,7 +32,9 @@ use Rattle.md_outline.specs.LinesStand.{AtEnd, AtEnding, AtInfo, AtLine, AtMarke
 use Rattle.md_outline.specs.LinesStand.{AtTitle, BehindTitle, BehindUnderline, InAtxText, InEnd, InMarkers, InText}
 use Rattle.md_outline.specs.LinesStand.{InTitle, InUnderline, LinesStand, MayStand, Outside, SameText, Site}
 use Rattle.md_outline.specs.LinesStand.{AtLabel, AtTitleText, BehindPart, BehindTitleText}
-use Rattle.md_outline.specs.LinesStand.{InDestination, InPart, InParted, LabelPart, TitlePart, site_by, text_site}
+use Rattle.md_outline.specs.LinesStand.{InDestination, InPart, InParted, InTable, LabelPart, TitlePart, site_by}
+use Rattle.md_outline.specs.LinesStand.{table_site, text_site}
+use Rattle.md_outline.specs.TableSpots.{Spot, spot_by}
 use Rattle.md_outline.specs.ListsBegin.{AllTold, MayFollow, Stage, stage_by}
 use Rattle.md_outline.specs.Outlined.{is_unparted, parts_by}
 use Rattle.md_outline.specs.OutlineSteps.{OutlineState, fence_begun, head_marked, line_ended, state_by}
@@ -45,12 +48,13 @@ use Rattle.md_outline.specs.declared.outline.role.Purpose.TheVariants as purpose
 use Rattle.md_outline.specs.declared.outline.role.Role.TheVariants as role
 use Rattle.md_outline.proofs.ClosedTrees.{HaveWords, depth_of, shown, shown-then, words-then}
 use Rattle.md_outline.proofs.DefinedLemmas as defined
-use Rattle.md_outline.proofs.LinedLines.{end-taken, head-told}
+use Rattle.md_outline.proofs.LinedLines.{end-taken, head-told, on-last}
 use Rattle.md_outline.proofs.ListLemmas.{AgreesAt, agrees-stage, lines-closed}
 use Rattle.md_outline.proofs.OutlineAgrees.{Agrees, TextIs, agrees-begun, agrees-ending, agrees-title, apart}
 use Rattle.md_outline.proofs.OutlineAgrees.{text-lines}
 use Rattle.md_outline.proofs.SiteTexts.{Keeps, NoText, TextFrom, begins-texts, from-here, no-span, prefix-enter}
 use Rattle.md_outline.proofs.SiteTexts.{prefix-exit, text-ends}
+use Rattle.md_outline.proofs.TabledLemmas as tabled
 use Rattle.md_outline.proofs.TitledLemmas as titled
 use Rattle.md_outline.proofs.TitledLemmas.{gap-line, heading-begins, heading-ends, title-begins, title-ends, title-line}
 use Rattle.md_outline.proofs.TitledLemmas.{title-on, title-prefix, underline-ends, unmarked-keeps}
@@ -182,6 +186,7 @@ AgreesIn (BehindPart left) s r = defined.Behind left s r × NoText s r
 AgreesIn InDestination s r = defined.InDestinationText s r × ((q : Point) × TextFrom q s r)
 AgreesIn AtTitleText s r = defined.AtText TitlePart s r × NoText s r
 AgreesIn BehindTitleText s r = defined.BehindText s r × NoText s r
+AgreesIn (InTable spot) s r = tabled.AgreesSpot spot s r
 
 -- It begins.
 
@@ -403,11 +408,6 @@ meta-told kind info line s r h m =
     (λ markers. meta-leaf kind markers info line h) (λ depth markers. meta-lines kind depth markers info line.text h) m
 
 -- a line
-on-last : {A : Type 0} (f : A → A) (xs : List A) (x : A) → on_last f (xs ++ x ∷ []) ≡ xs ++ f x ∷ []
-on-last f [] x = refl
-on-last f (y ∷ []) x = refl
-on-last f (y ∷ z ∷ xs) x = ap (λ ys. y ∷ ys) (on-last f (z ∷ xs) x)
-
 last-left : {A : Type 0} (xs : List A) (x : A) → without_last (xs ++ x ∷ []) ≡ xs
 last-left [] x = refl
 last-left (y ∷ []) x = refl
@@ -682,6 +682,12 @@ has-fences : (kind : LeafKind) → HasInfo kind → HasFences kind
 has-fences OfFence h = tt
 has-fences _ h = absurd h
 
+-- behind an event in a table
+table-agrees : (spot : Option Spot) (s : OutlineState) (r : Reading) → tabled.AgreesBehind spot s r →
+    AgreesWithin (table_site spot) AllTold s r
+table-agrees None s r is = is
+table-agrees (Some spot) s r is = is
+
 -- a text of it ends
 text-agrees : (bytes : List ℕ) (kind : LeafKind) (y x : spelled.Purpose) (p : Point) (s : OutlineState)
     (r : Reading) → SameText y x → InTextOf kind y s r × ((q : Point) × TextFrom q s r) →
@@ -721,6 +727,9 @@ agrees-in : (bytes : List ℕ) (site : Site) (kind : Kind) (x : spelled.Role) (p
     (r : Reading) → parts_by bytes kind x p s.text ≡ true → MayStand bytes site kind x p → AgreesIn site s r →
     AgreesWithin (site_by bytes site kind x p) AllTold (state_by bytes kind (shown_as x) p s) (read_by bytes kind x p r)
 agrees-in bytes Outside kind x p s r parts may is = absurd is
+agrees-in bytes (InTable spot) kind x p s r parts may is =
+    table-agrees (spot_by spot kind x) (state_by bytes kind (shown_as x) p s) (read_by bytes kind x p r)
+    (tabled.agrees-spot bytes spot kind x p s r may is)
 agrees-in bytes (AtMarkers k) Enter IsQuiet p s r parts may is = is
 agrees-in bytes (AtMarkers k) Exit IsQuiet p s r parts may is = is
 agrees-in bytes (InMarkers k q) Enter IsQuiet p s r parts may is = is
@@ -967,6 +976,8 @@ agrees-site bytes Outside AllTold Enter (Opens OfHeadingSetext) p s r h k d may 
     heading-begins bytes p s r (no-span bytes OfHeadingSetext p s.text refl k) is
 agrees-site bytes Outside AllTold Enter (Opens OfDefinition) p s r h k d may stands is =
     defined.definition-begins bytes p s r (no-span bytes OfDefinition p s.text refl k) is
+agrees-site bytes Outside AllTold Enter (Opens OfTable) p s r h k d may stands is =
+    tabled.table-begins bytes p s r (no-span bytes OfTable p s.text refl k) is
 agrees-site bytes Outside AllTold Enter (Tells AsHeading) p s r h k d may stands is =
     (agrees-begun p s r (apart bytes Enter (Tells AsHeading) p s.text (λ t. refl) k) is, refl)
 agrees-site bytes Outside stage Enter (Opens OfCode) p s r h k d may stands is = absurd may
@@ -975,6 +986,7 @@ agrees-site bytes Outside stage Enter (Opens OfMath) p s r h k d may stands is =
 agrees-site bytes Outside stage Enter (Opens OfHtml) p s r h k d may stands is = absurd may
 agrees-site bytes Outside stage Enter (Opens OfHeadingSetext) p s r h k d may stands is = absurd may
 agrees-site bytes Outside stage Enter (Opens OfDefinition) p s r h k d may stands is = absurd may
+agrees-site bytes Outside stage Enter (Opens OfTable) p s r h k d may stands is = absurd may
 agrees-site bytes Outside stage Enter (Tells AsHeading) p s r h k d may stands is = absurd may
 agrees-site bytes Outside stage Exit (Opens OfCode) p s r h k d may stands is = absurd stands
 agrees-site bytes Outside stage Exit (Opens OfFence) p s r h k d may stands is = absurd stands
@@ -982,15 +994,20 @@ agrees-site bytes Outside stage Exit (Opens OfMath) p s r h k d may stands is = 
 agrees-site bytes Outside stage Exit (Opens OfHtml) p s r h k d may stands is = absurd stands
 agrees-site bytes Outside stage Exit (Opens OfHeadingSetext) p s r h k d may stands is = absurd stands
 agrees-site bytes Outside stage Exit (Opens OfDefinition) p s r h k d may stands is = absurd stands
+agrees-site bytes Outside stage Exit (Opens OfTable) p s r h k d may stands is = absurd stands
 agrees-site bytes Outside stage Exit (Tells AsHeading) p s r h k d may stands is = absurd stands
 agrees-site bytes Outside stage kind IsFence p s r h k d may stands is = absurd stands
 agrees-site bytes Outside stage kind IsTitle p s r h k d may stands is = absurd stands
+agrees-site bytes Outside stage kind IsRow p s r h k d may stands is = absurd stands
+agrees-site bytes Outside stage kind IsCell p s r h k d may stands is = absurd stands
 agrees-site bytes Outside stage kind (Tells AsLine) p s r h k d may stands is = absurd stands
 agrees-site bytes Outside stage kind (Tells AsInfo) p s r h k d may stands is = absurd stands
 agrees-site bytes Outside stage kind (Tells AsMeta) p s r h k d may stands is = absurd stands
 agrees-site bytes Outside stage kind (Tells AsLabel) p s r h k d may stands is = absurd stands
 agrees-site bytes Outside stage kind (Tells AsDestination) p s r h k d may stands is = absurd stands
 agrees-site bytes Outside stage kind (Tells AsTitle) p s r h k d may stands is = absurd stands
+agrees-site bytes Outside stage kind (Tells AsCell) p s r h k d may stands is = absurd stands
+agrees-site bytes Outside stage kind (Tells AsDelimiter) p s r h k d may stands is = absurd stands
 agrees-site bytes Outside stage kind x p s r h k d may stands is = agrees-stage bytes stage kind x p s r h k d may is
 agrees-site bytes site AllTold kind x p s r h k d may stands is =
     subst

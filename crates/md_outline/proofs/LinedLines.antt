@@ -1,4 +1,4 @@
--- Lines of an outline that are told something, or taken away.
+-- Lines of an outline that are told something, or taken away, and the last of a list.
 use Rattle.std.proofs.Common.{◌≡◌, ℕ, ◌+◌, ◌-◌, ◌<◌, List, [], ◌∷◌, ◌++◌, length, map, take, get_or, refl, sym, ◌∙◌, ap}
 use Rattle.std.proofs.Common.{arith}
 use Rattle.std.specs.Prelude.{set}
@@ -7,6 +7,7 @@ use Rattle.md_definition.specs.declared.outline.OutlineLine.{OutlineLine}
 use Rattle.md_definition.specs.declared.outline.Word.{Word}
 use Rattle.md_definition.specs.declared.outline.Word.TheVariants as word
 use Rattle.md_definition.specs.Outline.{Entry, entry, entry_of}
+use Rattle.md_seam.specs.Events.Spelled.{on_last}
 use Rattle.md_outline.specs.LinedState.{with_head, without_end}
 
 -- the line of a word is told more
@@ -43,3 +44,9 @@ pub end-taken : (lines : List Entry) (e : Entry) → without_end (lines ++ e ∷
 end-taken lines e =
     let long : length (lines ++ e ∷ []) ≡ length lines + 1 = length-append lines (e ∷ []) in
     take_at lines (e ∷ []) (length (lines ++ e ∷ []) - 1) (omega (arith, long))
+
+-- the last item of a list is changed
+pub on-last : {A : Type 0} (f : A → A) (xs : List A) (x : A) → on_last f (xs ++ x ∷ []) ≡ xs ++ f x ∷ []
+on-last f [] x = refl
+on-last f (y ∷ []) x = refl
+on-last f (y ∷ z ∷ xs) x = ap (λ ys. y ∷ ys) (on-last f (z ∷ xs) x)

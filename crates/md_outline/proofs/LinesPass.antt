@@ -11,9 +11,10 @@ use Rattle.md_engine.specs.declared.event.Name.{Name}
 use Rattle.md_engine.specs.declared.event.Name.TheVariants as n
 use Rattle.md_engine.specs.declared.event.Point.{Point}
 use Rattle.md_seam.specs.Events.Nested.{around, enter, exit, pair}
-use Rattle.md_seam.specs.Events.Spelled.{AsDestination, AsHeading, AsInfo, AsLabel, AsLine, AsMarkers, AsMeta, AsTitle}
-use Rattle.md_seam.specs.Events.Spelled.{IsEnding, IsFence, IsPrefix, IsQuiet, IsTitle, LeafKind, OfCode, OfDefinition}
-use Rattle.md_seam.specs.Events.Spelled.{OfFence, OfHeadingSetext, OfHtml, OfMath, Opens, Role, Tells, role}
+use Rattle.md_seam.specs.Events.Spelled.{AsCell, AsDelimiter, AsDestination, AsHeading, AsInfo, AsLabel, AsLine}
+use Rattle.md_seam.specs.Events.Spelled.{AsMarkers, AsMeta, AsTitle, IsCell, IsEnding, IsFence, IsPrefix, IsQuiet, IsRow}
+use Rattle.md_seam.specs.Events.Spelled.{IsTitle, LeafKind, OfCode, OfDefinition, OfFence, OfHeadingSetext, OfHtml}
+use Rattle.md_seam.specs.Events.Spelled.{OfMath, OfTable, Opens, Role, Tells, role}
 use Rattle.md_seam.proofs.SpelledLemmas.{Between, Quiet, QuietOrEnding, QuietOrPrefix, Roles}
 use Rattle.md_outline.specs.LinesStand.{AtEnd, AtEnding, AtLine, AtTitle, BehindTitle, BehindUnderline, HasLines}
 use Rattle.md_outline.specs.LinesStand.{InAtxText, InTitle, InUnderline, LinesStand, MayStand, Outside, Site}
@@ -67,15 +68,20 @@ keeps-plain bytes (Opens OfMath) h kind p = absurd (true≢false (sym h))
 keeps-plain bytes (Opens OfHtml) h kind p = absurd (true≢false (sym h))
 keeps-plain bytes (Opens OfHeadingSetext) h kind p = absurd (true≢false (sym h))
 keeps-plain bytes (Opens OfDefinition) h kind p = absurd (true≢false (sym h))
+keeps-plain bytes (Opens OfTable) h kind p = absurd (true≢false (sym h))
 keeps-plain bytes (Tells AsHeading) h kind p = absurd (true≢false (sym h))
 keeps-plain bytes IsFence h kind p = absurd (true≢false (sym h))
 keeps-plain bytes IsTitle h kind p = absurd (true≢false (sym h))
+keeps-plain bytes IsRow h kind p = absurd (true≢false (sym h))
+keeps-plain bytes IsCell h kind p = absurd (true≢false (sym h))
 keeps-plain bytes (Tells AsLine) h kind p = absurd (true≢false (sym h))
 keeps-plain bytes (Tells AsInfo) h kind p = absurd (true≢false (sym h))
 keeps-plain bytes (Tells AsMeta) h kind p = absurd (true≢false (sym h))
 keeps-plain bytes (Tells AsLabel) h kind p = absurd (true≢false (sym h))
 keeps-plain bytes (Tells AsDestination) h kind p = absurd (true≢false (sym h))
 keeps-plain bytes (Tells AsTitle) h kind p = absurd (true≢false (sym h))
+keeps-plain bytes (Tells AsCell) h kind p = absurd (true≢false (sym h))
+keeps-plain bytes (Tells AsDelimiter) h kind p = absurd (true≢false (sym h))
 keeps-plain bytes x h Enter p = (tt, refl)
 keeps-plain bytes x h Exit p = (tt, refl)
 

@@ -16,9 +16,9 @@ use Rattle.md_definition.specs.declared.outline.Word.{Word}
 use Rattle.md_definition.specs.declared.outline.Word.TheVariants as word
 use Rattle.md_definition.specs.Outline.{Entry, outline}
 use Rattle.md_seam.specs.Events.Nested.{Balanced}
-use Rattle.md_seam.specs.Events.Spelled.{AsDestination, AsHeading, AsInfo, AsLabel, AsLine, AsMeta, AsTitle, Holds}
-use Rattle.md_seam.specs.Events.Spelled.{IsFence, IsPrefix, IsTitle, OfCode, OfDefinition, OfFence}
-use Rattle.md_seam.specs.Events.Spelled.{OfHeadingSetext, OfHtml}
+use Rattle.md_seam.specs.Events.Spelled.{AsCell, AsDelimiter, AsDestination, AsHeading, AsInfo, AsLabel, AsLine, AsMeta}
+use Rattle.md_seam.specs.Events.Spelled.{AsTitle, Holds, IsCell, IsFence, IsPrefix, IsRow, IsTitle, OfCode}
+use Rattle.md_seam.specs.Events.Spelled.{OfDefinition, OfFence, OfHeadingSetext, OfHtml, OfTable}
 use Rattle.md_seam.specs.Events.Spelled.{OfMath, OpenLeaf, Opens, OrderedShape, Reading, Shape, Tells, Text}
 use Rattle.md_seam.specs.Events.Spelled.{UnorderedShape, after_prefix, at_ending, before_prefix, begun, block_around}
 use Rattle.md_seam.specs.Events.Spelled.{block_of, byte_at, finished, left, next_line, on_leaf, read, read_by}
@@ -33,8 +33,8 @@ use Rattle.md_outline.specs.OutlineSteps.{BeginsBetween, IsCutAt, OutlineState, 
 use Rattle.md_outline.specs.OutlineSteps.{state_after, state_by, told_at, told_leaf}
 use Rattle.md_outline.specs.LinesStand.{LinesStand, Outside, Site, site_by}
 use Rattle.md_outline.specs.DefinitionState.{part_word}
-use Rattle.md_outline.specs.OutlineSteps.{head_marked, is_titled, label_ended, marked_at, piece_shown, title_told}
-use Rattle.md_outline.specs.OutlineSteps.{told}
+use Rattle.md_outline.specs.OutlineSteps.{delimiter_ended, head_marked, is_titled, label_ended, marked_at}
+use Rattle.md_outline.specs.OutlineSteps.{piece_shown, title_told, told}
 use Rattle.md_outline.specs.ParagraphState.{begin_entries}
 use Rattle.md_outline.specs.Roles.{is_shown, is_told, is_unlisted, shown_as}
 use Rattle.md_outline.specs.TextLines.{text_entries}
@@ -48,6 +48,7 @@ use Rattle.md_outline.proofs.LinedLemmas.{AgreesWithin, agrees-site, sites-close
 use Rattle.md_outline.proofs.LinedLemmas.{span-headed, span-line}
 use Rattle.md_outline.proofs.OutlineDepths.{all-closed}
 use Rattle.md_outline.proofs.RoleLemmas.{ByRole, by-role}
+use Rattle.md_outline.proofs.TabledLemmas.{span-cell}
 use Rattle.md_outline.proofs.TextCuts.{utf8-part}
 
 -- The text that is read is that of the events.
@@ -80,6 +81,8 @@ span-told bytes purpose.Line i (Some span) s e = refl
 span-told bytes purpose.Label i (Some span) s e = refl
 span-told bytes purpose.Destination i (Some span) s e = refl
 span-told bytes purpose.DefinitionTitle i (Some span) s e = refl
+span-told bytes purpose.Cell i (Some span) s e = refl
+span-told bytes purpose.Delimiter i (Some span) s e = refl
 span-told bytes purpose.Marker i (Some span) s e =
     span-marked s.untold (slice_range bytes span.from i) (record s { text = None })
 
@@ -128,7 +131,10 @@ span-step bytes Enter (Opens OfMath) p s h = refl
 span-step bytes Enter (Opens OfHtml) p s h = refl
 span-step bytes Enter (Opens OfHeadingSetext) p s h = refl
 span-step bytes Enter (Opens OfDefinition) p s h = refl
+span-step bytes Enter (Opens OfTable) p s h = refl
 span-step bytes Enter IsTitle p s h = refl
+span-step bytes Enter IsRow p s h = refl
+span-step bytes Enter IsCell p s h = span-cell s
 span-step bytes Enter (Tells AsHeading) p s h = refl
 span-step bytes Enter IsFence p s h = span-fenced s.lined s
 span-step bytes Enter (Tells AsLine) p s h = refl
@@ -137,13 +143,18 @@ span-step bytes Enter (Tells AsMeta) p s h = refl
 span-step bytes Enter (Tells AsLabel) p s h = refl
 span-step bytes Enter (Tells AsDestination) p s h = refl
 span-step bytes Enter (Tells AsTitle) p s h = refl
+span-step bytes Enter (Tells AsCell) p s h = refl
+span-step bytes Enter (Tells AsDelimiter) p s h = refl
 span-step bytes Exit (Opens OfCode) p s h = refl
 span-step bytes Exit (Opens OfFence) p s h = refl
 span-step bytes Exit (Opens OfMath) p s h = refl
 span-step bytes Exit (Opens OfHtml) p s h = refl
 span-step bytes Exit (Opens OfHeadingSetext) p s h = refl
 span-step bytes Exit (Opens OfDefinition) p s h = refl
+span-step bytes Exit (Opens OfTable) p s h = refl
 span-step bytes Exit IsTitle p s h = refl
+span-step bytes Exit IsRow p s h = refl
+span-step bytes Exit IsCell p s h = refl
 span-step bytes Exit (Tells AsHeading) p s h = span-told bytes purpose.Title p.index s.text s refl
 span-step bytes Exit IsFence p s h = refl
 span-step bytes Exit (Tells AsLine) p s h = span-told bytes purpose.Line p.index s.text s refl
@@ -152,6 +163,8 @@ span-step bytes Exit (Tells AsMeta) p s h = span-told bytes (purpose.Part word.M
 span-step bytes Exit (Tells AsLabel) p s h = span-told bytes purpose.Label p.index s.text s refl
 span-step bytes Exit (Tells AsDestination) p s h = span-told bytes purpose.Destination p.index s.text s refl
 span-step bytes Exit (Tells AsTitle) p s h = span-told bytes purpose.DefinitionTitle p.index s.text s refl
+span-step bytes Exit (Tells AsCell) p s h = span-told bytes purpose.Cell p.index s.text s refl
+span-step bytes Exit (Tells AsDelimiter) p s h = span-told bytes purpose.Delimiter p.index s.text s refl
 span-step bytes Enter x p s h = by-role (SameSpan bytes Enter p s) x (span-enter bytes p s) h
 span-step bytes Exit x p s h = by-role (SameSpan bytes Exit p s) x (span-exit bytes p s) h
 
@@ -293,6 +306,16 @@ pub label-end : (bytes part : List ℕ) (span : Span) (end : ℕ) (text : Option
 label-end bytes part span end text x s next is same cut epart reads =
     reads (part-is_text bytes part span end text is cut epart)
     ∙ ap (λ t. label_ended span.is_parted t (record s { text = None })) epart
+    ∙ sym (ap (λ t. told_at bytes x end t s) is ∙ ap (λ z. told_at bytes z end (Some span) s) same)
+
+-- the delimiter row of a table ends
+pub delimiter-end : (bytes part : List ℕ) (span : Span) (end : ℕ) (text : Option Span) (x : Purpose)
+    (s next : OutlineState) → text ≡ Some span → x ≡ purpose.Delimiter → IsCutAt bytes text end →
+    part ≡ slice_range bytes span.from end →
+    (IsUtf8 part → next ≡ delimiter_ended part (record s { text = None })) → next ≡ told_at bytes x end text s
+delimiter-end bytes part span end text x s next is same cut epart reads =
+    reads (part-is_text bytes part span end text is cut epart)
+    ∙ ap (λ t. delimiter_ended t (record s { text = None })) epart
     ∙ sym (ap (λ t. told_at bytes x end t s) is ∙ ap (λ z. told_at bytes z end (Some span) s) same)
 
 -- a run of markers ends

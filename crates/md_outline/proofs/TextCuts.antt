@@ -1,17 +1,17 @@
 -- Parts of UTF-8 texts: a text that is cut beside bytes of ASCII or behind its mark, and its lines.
 use Rattle.std.proofs.Common.{◌≡◌, ℕ, suc, ◌+◌, ◌-◌, ◌<◌, ◌≤◌, Bool, true, false, cond, ◌&&◌, ◌||◌, ◌==◌, not, List, []}
 use Rattle.std.proofs.Common.{◌∷◌, ◌++◌, length, take, drop, get_or, slice_range, inl, inr, ◌⊎◌, Result, Ok, Err, refl}
-use Rattle.std.proofs.Common.{sym, ◌∙◌, ap, subst, append_assoc, append-nil, arith}
+use Rattle.std.proofs.Common.{sym, ◌∙◌, ap, subst, append_assoc, append-nil, arith, reverse}
 use Rattle.std.specs.Prelude.{nat_lt, MatchResult}
 use Rattle.std.specs.Result.{result_unwrap_or}
 use Rattle.std.specs.Borrow.{Bor}
-use Rattle.std.specs.List.{list_any, onto_first, prefix_len}
+use Rattle.std.specs.List.{list_any, onto_first, prefix_len, suffix_len}
 use Rattle.std.specs.Str.{IsUtf8, IsCharBoundary}
 use Rattle.std.proofs.Math.Utf8.{encode}
 use Rattle.std.proofs.lemmas.Bool.{and_parts, cases_lt, eq-eqb, eqb-true, ltb-true, true≢false}
 use Rattle.std.proofs.lemmas.Bool.Decides.{nat_tests}
-use Rattle.std.proofs.lemmas.List.{drop_all, length-drop, take_all}
-use Rattle.std.proofs.lemmas.List.Sums.{prefix_len_stops}
+use Rattle.std.proofs.lemmas.List.{drop_all, get_or-reverse, length-drop, take_all}
+use Rattle.std.proofs.lemmas.List.Sums.{prefix_len_passes, prefix_len_stops, suffix_len-le-length}
 use Rattle.std.proofs.lemmas.Str.{IsCharBoundary-after_ascii, IsCharBoundary-before_ascii, IsCharBoundary-end}
 use Rattle.std.proofs.lemmas.Str.{IsCharBoundary-past_char, IsCharBoundary-start, IsUtf8-between, IsUtf8-drop}
 use Rattle.std.proofs.lemmas.Str.{IsUtf8-nil, IsUtf8-take}
@@ -20,7 +20,7 @@ use Rattle.md_definition.specs.Lines.{begins_with, ends_line, is_ending}
 use Rattle.md_definition.specs.Preamble.{has_mark}
 use Rattle.md_definition.specs.Outline.{Entry, entries, entry_with}
 use Rattle.md_seam.specs.Events.Places.{last_line}
-use Rattle.md_definition.specs.Rest.{is_blank, is_white, trim_start}
+use Rattle.md_definition.specs.Rest.{is_blank, is_white, trim_end, trim_start}
 use Rattle.md_seam.specs.Events.Spelled.{without_last}
 use Rattle.md_definition.specs.Texts.{split_lines, trim_each, trim_further}
 use Rattle.md_seam.proofs.PlacesLemmas.{Some_line, last-next, some-split}
@@ -148,6 +148,32 @@ utf8-trim (b ∷ bytes) u = go (is_white b) refl (utf8-trim bytes)
         let ascii : b < 128 = grind (arith, nat_tests) in
         let one : 1 + prefix_len is_white bytes ≡ suc (prefix_len is_white bytes) = omega arith in
         rw one (trimmed (utf8-tail b bytes u ascii))
+
+-- nor without those behind it
+pub utf8-trim_end : (text : List ℕ) → IsUtf8 text → IsUtf8 (trim_end text)
+utf8-trim_end text u = go (cases_lt at (length text))
+  where
+    white : ℕ
+    white = suffix_len is_white text
+
+    at : ℕ
+    at = length text - white
+
+    ascii : (b : ℕ) → is_white b ≡ true → b < 128
+    ascii b e = grind (arith, nat_tests)
+
+    first : at < length text → is_white (get_or text at 0) ≡ true
+    first lt =
+        let within = suffix_len-le-length is_white text in
+        let inside : white - 1 < length text = omega (arith, lt, within) in
+        let place : length text - 1 - (white - 1) ≡ at = omega (arith, lt, within) in
+        sym (ap is_white (get_or-reverse text (white - 1) 0 inside ∙ ap (λ k. get_or text k 0) place))
+        ∙ prefix_len_passes is_white (reverse text) (white - 1) 0 (omega (arith, lt, within))
+
+    go : (at < length text) ⊎ (length text ≤ at) → IsUtf8 (trim_end text)
+    go (inl lt) =
+        IsUtf8-take text at u (IsCharBoundary-before_ascii text at lt (ascii (get_or text at 0) (first lt)))
+    go (inr le) = subst IsUtf8 (sym (take_all at text le)) u
 
 -- what is lent of some bytes as a text
 pub text-lent : {E : Type 0} (r : Result (Bor (List ℕ)) E) (d : Bor (List ℕ)) (bytes : List ℕ) (Q : E → Type 0) →

@@ -1,5 +1,5 @@
 -- What an outline shows of the parts of a definition: each begins with an empty line, which its text fills.
-use Rattle.std.specs.Prelude.{ℕ, Bool, true, false, if◌then◌else◌, List, [], ◌∷◌, ◌++◌, Option, Some, None, option_map}
+use Rattle.std.specs.Prelude.{ℕ, Bool, true, false, if◌then◌else◌, List, [], ◌∷◌, ◌++◌, Option, Some, None}
 use Rattle.md_definition.specs.declared.outline.Word.{Word}
 use Rattle.md_definition.specs.declared.outline.Word.TheVariants as word
 use Rattle.md_definition.specs.Outline.{Entry, entry_with}
@@ -31,7 +31,3 @@ part_parted w false depth text lines = without_end lines ++ first_full_as w dept
 -- the text of its destination
 abbrev pub destination_told : ℕ → List ℕ → List Entry → List Entry
 destination_told depth text lines = without_end lines ++ entry_with depth word.Destination text ∷ []
-
--- its label is told
-abbrev pub label_told : Option Lined → Option Lined
-label_told lined = option_map (λ (l : Lined). record l { is_fenced = true }) lined

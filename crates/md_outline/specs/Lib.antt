@@ -9,4 +9,6 @@ pub mod Outlined
 pub mod OutlineSteps
 pub mod ParagraphState
 pub mod Roles
+pub mod TableSpots
+pub mod TableState
 pub mod TextLines

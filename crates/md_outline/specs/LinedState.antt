@@ -1,16 +1,19 @@
 -- What an outline shows of a leaf block of several lines that is open.
-use Rattle.std.specs.Prelude.{ℕ, ◌+◌, ◌-◌, Bool, true, false, List, [], ◌∷◌, length, take, set, get_or}
+use Rattle.std.specs.Prelude.{ℕ, ◌+◌, ◌-◌, Bool, true, false, List, [], ◌∷◌, length, take, set, get_or, Option}
+use Rattle.std.specs.Prelude.{option_map}
 use Rattle.md_definition.specs.declared.outline.Word.{Word}
 use Rattle.md_definition.specs.declared.outline.Word.TheVariants as word
 use Rattle.md_definition.specs.Outline.{Entry, entry}
 use Rattle.md_seam.specs.Events.Spelled.{underline_depth}
 use Rattle.md_outline.specs.declared.outline.lined.Form.{Form}
 use Rattle.md_outline.specs.declared.outline.lined.Form.TheVariants as form
+use Rattle.md_outline.specs.declared.outline.lined.Lined.{Lined}
 
 -- how its lines come, by its word
 abbrev pub form_of : Word → Form
 form_of (word.Heading n) = form.Heading
 form_of word.Definition = form.Definition
+form_of (word.Table columns) = form.Table
 form_of _ = form.Lines
 
 abbrev pub is_heading : Form → Bool
@@ -31,6 +34,10 @@ first_lines depth _ = []
 
 abbrev pub begin_lines : ℕ → Word → List Entry
 begin_lines depth w = entry depth w ∷ first_lines (depth + 1) w
+
+-- it has told its label, or its delimiter row
+abbrev pub now_told : Option Lined → Option Lined
+now_told lined = option_map (λ (l : Lined). record l { is_fenced = true }) lined
 
 -- its first fence, or its underline, has this marker
 abbrev pub marked_word : ℕ → Word → Word

@@ -1,9 +1,11 @@
 -- Leaf blocks of several lines as an outline can show them: each has its parts in the order of the grammar, and one
--- piece of text a line at the most. Setext headings and definitions are such leaf blocks, of whose texts each line is one
--- piece; what is asked of an ATX heading is that container prefixes stand in front of its text or behind it.
+-- piece of text a line at the most. Setext headings and definitions are such leaf blocks, of whose texts each line is
+-- one piece, and so are tables (`TableSpots`); what is asked of an ATX heading is that container prefixes stand in front
+-- of its text or behind it.
 --
 -- A walk over the events by their roles, which knows where in such a leaf block it is.
 use Rattle.std.specs.Prelude.{◌≡◌, ◌==◌, ℕ, true, false, if◌then◌else◌, nat_lt, List, [], ◌∷◌, length, slice_range}
+use Rattle.std.specs.Prelude.{Option, Some, None}
 use Rattle.std.specs.List.{list_any}
 use Rattle.md_engine.specs.declared.event.Event.{Event}
 use Rattle.md_engine.specs.declared.event.Kind.{Kind}
@@ -11,10 +13,11 @@ use Rattle.md_engine.specs.declared.event.Kind.TheVariants.{Enter, Exit}
 use Rattle.md_engine.specs.declared.event.Point.{Point}
 use Rattle.md_definition.specs.Lines.{is_ending}
 use Rattle.md_definition.specs.Texts.{first_byte}
-use Rattle.md_seam.specs.Events.Spelled.{AsDestination, AsHeading, AsInfo, AsLabel, AsLine, AsMarkers, AsMeta, AsTitle}
-use Rattle.md_seam.specs.Events.Spelled.{IsEnding, IsFence, IsPrefix, IsQuiet, IsTitle, LeafKind, OfCode, OfDefinition}
-use Rattle.md_seam.specs.Events.Spelled.{OfFence, OfHeadingSetext, OfHtml, OfMath, Opens, Purpose, Role, Tells}
-use Rattle.md_seam.specs.Events.Spelled.{byte_at, role}
+use Rattle.md_seam.specs.Events.Spelled.{AsCell, AsDelimiter, AsDestination, AsHeading, AsInfo, AsLabel, AsLine}
+use Rattle.md_seam.specs.Events.Spelled.{AsMarkers, AsMeta, AsTitle, IsCell, IsEnding, IsFence, IsPrefix, IsQuiet, IsRow}
+use Rattle.md_seam.specs.Events.Spelled.{IsTitle, LeafKind, OfCode, OfDefinition, OfFence, OfHeadingSetext, OfHtml}
+use Rattle.md_seam.specs.Events.Spelled.{OfMath, OfTable, Opens, Purpose, Role, Tells, byte_at, role}
+use Rattle.md_outline.specs.TableSpots.{AtHead, MayBe, Spot, spot_by}
 
 -- The parts of a definition that may have several lines.
 pub data Part : Type 0 where
@@ -67,6 +70,8 @@ pub data Site : Type 0 where
   -- in its title, in front of its text and behind that
   AtTitleText : Site
   BehindTitleText : Site
+  -- in a table
+  InTable : Spot → Site
 
 -- where a leaf block begins: indented code and HTML with a line
 abbrev pub begun_site : LeafKind → Site
@@ -76,6 +81,7 @@ begun_site OfMath = AtMarkers OfMath
 begun_site OfHtml = AtLine OfHtml
 begun_site OfHeadingSetext = AtTitle
 begun_site OfDefinition = AtLabel
+begun_site OfTable = InTable AtHead
 begun_site kind = Outside
 
 -- behind a line ending, which opens a line if the text goes on
@@ -90,6 +96,11 @@ text_site kind _ = AtEnding kind
 abbrev pub part_site : Part → Site
 part_site LabelPart = BehindPart DestinationLeft
 part_site TitlePart = BehindTitleText
+
+-- behind an event in a table
+abbrev pub table_site : Option Spot → Site
+table_site None = Outside
+table_site (Some spot) = InTable spot
 
 -- where one is behind an event
 abbrev pub site_by : List ℕ → Site → Kind → Role → Point → Site
@@ -127,6 +138,7 @@ site_by bytes InDestination Exit (Tells x) p = BehindPart TitleLeft
 site_by bytes AtTitleText Enter (Tells x) p = InPart TitlePart p
 site_by bytes AtTitleText Exit IsTitle p = BehindPart NoneLeft
 site_by bytes BehindTitleText Exit IsTitle p = BehindPart NoneLeft
+site_by bytes (InTable spot) kind x p = table_site (spot_by spot kind x)
 site_by bytes site kind x p = site
 
 -- which leaf blocks have fences, and which an `info`
@@ -178,16 +190,22 @@ MayStand bytes Outside Exit (Opens OfMath) p = ⊥
 MayStand bytes Outside Exit (Opens OfHtml) p = ⊥
 MayStand bytes Outside Exit (Opens OfHeadingSetext) p = ⊥
 MayStand bytes Outside Exit (Opens OfDefinition) p = ⊥
+MayStand bytes Outside Exit (Opens OfTable) p = ⊥
 MayStand bytes Outside Exit (Tells AsHeading) p = ⊥
 MayStand bytes Outside kind IsFence p = ⊥
 MayStand bytes Outside kind IsTitle p = ⊥
+MayStand bytes Outside kind IsRow p = ⊥
+MayStand bytes Outside kind IsCell p = ⊥
 MayStand bytes Outside kind (Tells AsLine) p = ⊥
 MayStand bytes Outside kind (Tells AsInfo) p = ⊥
 MayStand bytes Outside kind (Tells AsMeta) p = ⊥
 MayStand bytes Outside kind (Tells AsLabel) p = ⊥
 MayStand bytes Outside kind (Tells AsDestination) p = ⊥
 MayStand bytes Outside kind (Tells AsTitle) p = ⊥
+MayStand bytes Outside kind (Tells AsCell) p = ⊥
+MayStand bytes Outside kind (Tells AsDelimiter) p = ⊥
 MayStand bytes Outside kind x p = Unit {0}
+MayStand bytes (InTable spot) kind x p = MayBe spot kind x
 MayStand bytes site kind IsQuiet p = Unit {0}
 MayStand bytes (AtMarkers kind) Enter IsFence p = Unit {0}
 MayStand bytes (AtMarkers kind) Enter (Tells AsMarkers) p = Unit {0}

@@ -13,11 +13,12 @@ use Rattle.md_definition.specs.declared.outline.Word.TheVariants as word
 use Rattle.md_seam.specs.Events.Spelled.{OpenLeaf}
 use Rattle.md_seam.specs.Events.Spelled as spelled
 use Rattle.md_outline.specs.Between.{is_between}
-use Rattle.md_outline.specs.DefinitionState.{destination_told, label_told, part_ended, part_parted, part_word}
+use Rattle.md_outline.specs.DefinitionState.{destination_told, part_ended, part_parted, part_word}
 use Rattle.md_outline.specs.LinedState.{begin_lines, closed_word, filled_line, form_of, has_own_lines, is_heading}
-use Rattle.md_outline.specs.LinedState.{marked_word, with_head, without_end}
+use Rattle.md_outline.specs.LinedState.{marked_word, now_told, with_head, without_end}
 use Rattle.md_outline.specs.ParagraphState.{begin_entries}
 use Rattle.md_outline.specs.Roles.{leaf_entries, leaf_of, noted, shown_as}
+use Rattle.md_outline.specs.TableState.{cell_told, counted_word, with_cell, with_delimiter, with_row}
 use Rattle.md_outline.specs.TextLines.{full_entries, text_entries}
 use Rattle.md_outline.specs.declared.outline.Reading.{Reading}
 use Rattle.md_outline.specs.declared.outline.Span.{Span}
@@ -115,10 +116,27 @@ line_ended bytes end (Some lined) None s =
 -- the label of a definition ends: its last lines are shown, and its destination, which is empty yet
 abbrev pub label_ended : Bool → List ℕ → OutlineState → OutlineState
 label_ended is_parted text s = record s {
-  lined = label_told s.lined;
+  lined = now_told s.lined;
   lines =
       part_ended word.Label is_parted (s.depth + 1) text s.lines ++ entry (s.depth + 1) word.Destination ∷ [];
 }
+
+-- a cell of a table is counted if it is one of the head: one in front of the delimiter row
+abbrev pub counted_at : Option Lined → OutlineState → OutlineState
+counted_at None s = s
+counted_at (Some lined) s =
+    if lined.is_fenced then s else record s { lines = with_head counted_word lined.place s.lines }
+
+-- a cell begins
+abbrev pub with_empty : OutlineState → OutlineState
+with_empty s = record s { lines = with_cell s.depth s.lines }
+
+abbrev pub cell_begun : OutlineState → OutlineState
+cell_begun s = with_empty (counted_at s.lined s)
+
+-- the delimiter row of a table ends
+abbrev pub delimiter_ended : List ℕ → OutlineState → OutlineState
+delimiter_ended text s = record s { lined = now_told s.lined; lines = with_delimiter s.depth text s.lines }
 
 -- a text has ended, with this piece
 abbrev pub told : Purpose → Bool → List ℕ → OutlineState → OutlineState
@@ -133,6 +151,8 @@ told purpose.Label is_shown text s = label_ended is_shown text s
 told purpose.Destination is_shown text s = record s { lines = destination_told (s.depth + 1) text s.lines }
 told purpose.DefinitionTitle is_shown text s =
     record s { lines = part_ended word.Title is_shown (s.depth + 1) text s.lines }
+told purpose.Cell is_shown text s = record s { lines = cell_told s.depth text s.lines }
+told purpose.Delimiter is_shown text s = delimiter_ended text s
 told purpose.Marker is_shown text s = told_marker text s
 told purpose.Digits is_shown text s = s
 
@@ -176,6 +196,8 @@ state_enter bytes (role.Lined w) p s = record s {
 }
 state_enter bytes role.Fence p s = fence_begun s.lined s
 state_enter bytes role.Title p s = record s { lines = s.lines ++ entry (s.depth + 1) word.Title ∷ [] }
+state_enter bytes role.Row p s = record s { lines = with_row s.depth s.lines }
+state_enter bytes role.Cell p s = cell_begun s
 state_enter bytes (role.Text purpose) p s = record s {
   text = Some
       (record { from = spelled.byte_at p; is_parted = false });
@@ -195,6 +217,8 @@ state_exit bytes (role.Leaf leaf) p s = leaf_ended s.leaf s
 state_exit bytes (role.Lined w) p s = record s { lined = None }
 state_exit bytes role.Fence p s = s
 state_exit bytes role.Title p s = s
+state_exit bytes role.Row p s = s
+state_exit bytes role.Cell p s = s
 state_exit bytes role.Ending p s = line_ended bytes p.index s.lined s.text s
 state_exit bytes (role.Text purpose) p s = told_at bytes purpose p.index s.text s
 state_exit bytes role.Quiet p s = s

@@ -11,15 +11,17 @@
 -- - A leaf block of several lines (`has_lines`): `is_unlisted` and `shown_as` here, `role_of` in code; its lines are
 --   shown as they come (`LinedState`), where they may (`LinesStand`), and `LinedLemmas` has what is proved of it. A
 --   setext heading is one, whose lines are those of its text, shown as those of a paragraph (`TitledLemmas`), and so is
---   a definition, whose lines are those of its label, its destination and its title (`DefinedLemmas`).
+--   a definition, whose lines are those of its label, its destination and its title (`DefinedLemmas`), and a table,
+--   whose lines are those of its rows and their cells (`TableSpots`, `TableState`, `TabledLemmas`).
 -- - A text that tells a leaf block something: the same, and `told_as` here, `Note` in code.
 use Rattle.std.specs.Prelude.{ℕ, Bool, true, false, List, None}
 use Rattle.md_definition.specs.declared.outline.Word.TheVariants as word
 use Rattle.md_definition.specs.Outline.{Entry, block_entries}
-use Rattle.md_seam.specs.Events.Spelled.{AsDestination, AsDigits, AsHeading, AsInfo, AsItemMarker, AsLabel, AsLine}
-use Rattle.md_seam.specs.Events.Spelled.{AsMarkers, AsMeta, AsParagraph, AsTitle, BreakLeaf, HeadingAtxLeaf, Holds}
-use Rattle.md_seam.specs.Events.Spelled.{IsEnding, IsFence, IsPrefix, IsQuiet, IsTitle, ItemShape, LeafKind, OfBreak}
-use Rattle.md_seam.specs.Events.Spelled.{OfCode, OfDefinition, OfFence, OfHeadingAtx, OfHeadingSetext, OfHtml, OfMath}
+use Rattle.md_seam.specs.Events.Spelled.{AsCell, AsDelimiter, AsDestination, AsDigits, AsHeading, AsInfo, AsItemMarker}
+use Rattle.md_seam.specs.Events.Spelled.{AsLabel, AsLine, AsMarkers, AsMeta, AsParagraph, AsTitle, BreakLeaf}
+use Rattle.md_seam.specs.Events.Spelled.{HeadingAtxLeaf, Holds, IsCell, IsEnding, IsFence, IsPrefix, IsQuiet, IsRow}
+use Rattle.md_seam.specs.Events.Spelled.{IsTitle, ItemShape, LeafKind, OfBreak, OfCode, OfDefinition, OfFence}
+use Rattle.md_seam.specs.Events.Spelled.{OfHeadingAtx, OfHeadingSetext, OfHtml, OfMath, OfTable}
 use Rattle.md_seam.specs.Events.Spelled.{OpenLeaf, Opens, OrderedShape, QuoteShape}
 use Rattle.md_seam.specs.Events.Spelled.{Tells, UnorderedShape, block_of}
 use Rattle.md_seam.specs.Events.Spelled as spelled
@@ -65,10 +67,11 @@ has_lines OfMath = true
 has_lines OfHtml = true
 has_lines OfHeadingSetext = true
 has_lines OfDefinition = true
+has_lines OfTable = true
 has_lines _ = false
 
--- the plain ones, and those of such leaf blocks, their parts, and the texts of headings and of definitions: all that are
--- shown, but those of lists
+-- the plain ones, and those of such leaf blocks, their parts, and the texts of headings, definitions and tables: all
+-- that are shown, but those of lists
 abbrev pub is_unlisted : spelled.Role → Bool
 is_unlisted (Opens OfCode) = true
 is_unlisted (Opens OfFence) = true
@@ -76,8 +79,11 @@ is_unlisted (Opens OfMath) = true
 is_unlisted (Opens OfHtml) = true
 is_unlisted (Opens OfHeadingSetext) = true
 is_unlisted (Opens OfDefinition) = true
+is_unlisted (Opens OfTable) = true
 is_unlisted IsFence = true
 is_unlisted IsTitle = true
+is_unlisted IsRow = true
+is_unlisted IsCell = true
 is_unlisted (Tells AsHeading) = true
 is_unlisted (Tells AsLine) = true
 is_unlisted (Tells AsInfo) = true
@@ -85,6 +91,8 @@ is_unlisted (Tells AsMeta) = true
 is_unlisted (Tells AsLabel) = true
 is_unlisted (Tells AsDestination) = true
 is_unlisted (Tells AsTitle) = true
+is_unlisted (Tells AsCell) = true
+is_unlisted (Tells AsDelimiter) = true
 is_unlisted x = is_plain x
 
 -- all that an outline shows
@@ -124,14 +132,19 @@ shown_as (Opens OfMath) = role.Lined (word.Math false)
 shown_as (Opens OfHtml) = role.Lined word.Html
 shown_as (Opens OfHeadingSetext) = role.Lined (word.Heading 0)
 shown_as (Opens OfDefinition) = role.Lined word.Definition
+shown_as (Opens OfTable) = role.Lined (word.Table 0)
 shown_as IsFence = role.Fence
 shown_as IsTitle = role.Title
+shown_as IsRow = role.Row
+shown_as IsCell = role.Cell
 shown_as (Tells AsInfo) = role.Text (purpose.Part word.Info)
 shown_as (Tells AsMeta) = role.Text (purpose.Part word.Meta)
 shown_as (Tells AsLine) = role.Text purpose.Line
 shown_as (Tells AsLabel) = role.Text purpose.Label
 shown_as (Tells AsDestination) = role.Text purpose.Destination
 shown_as (Tells AsTitle) = role.Text purpose.DefinitionTitle
+shown_as (Tells AsCell) = role.Text purpose.Cell
+shown_as (Tells AsDelimiter) = role.Text purpose.Delimiter
 shown_as IsEnding = role.Ending
 shown_as _ = role.Quiet
 

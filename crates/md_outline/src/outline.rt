@@ -5,7 +5,8 @@ ghost use Rattle.std.specs.Str.{IsUtf8};
 ghost use Rattle.md_seam.specs.Events.Spelled as spelled;
 ghost use Rattle.md_outline.specs.Outlined.{Outlines};
 ghost use Rattle.md_outline.specs.DefinitionState.{part_word};
-ghost use Rattle.md_outline.specs.OutlineSteps.{IsCutAt, fence_begun, head_marked, is_titled, label_ended, leaf_ended};
+ghost use Rattle.md_outline.specs.OutlineSteps.{IsCutAt, cell_begun, counted_at, delimiter_ended, fence_begun};
+ghost use Rattle.md_outline.specs.OutlineSteps.{head_marked, is_titled, label_ended, leaf_ended};
 ghost use Rattle.md_outline.specs.OutlineSteps.{line_ended, parted_at, state_by, state_enter, state_exit, state_of};
 ghost use Rattle.md_outline.specs.OutlineSteps.{title_told, told_at, told_leaf, told_marker};
 ghost use Rattle.md_outline.specs.Roles.{shown_as};
@@ -17,6 +18,7 @@ mod lined;
 mod lines;
 mod paragraph;
 mod role;
+mod table;
 
 use crate::outline::definition::{fill_destination, part_of, push_part_end, push_part_piece};
 use crate::outline::lined::{
@@ -25,6 +27,7 @@ use crate::outline::lined::{
 use crate::outline::lines::{first_of, next, part, push, push_lines};
 use crate::outline::paragraph::{push_block, push_piece};
 use crate::outline::role::{Leaf, Note, Purpose, Role, push_leaf, role_of};
+use crate::outline::table::{count_column, fill_cell, push_cell, push_delimiter, push_row};
 pub use md_definition::outline::{OutlineLine, Word};
 use md_engine::event::{Event, Kind, Point};
 use md_engine::message::Message;
@@ -150,6 +153,40 @@ impl<'a> Reading<'a> {
         push(&mut self.lines, next(self.depth)?, Word::Destination, "")
     }
 
+    /// Counts a cell of a table, which is a column more if it is one of the head: one in front of the delimiter row.
+    fn count_cell(&mut self) -> Result<(), Message>
+        ensures bytes { self.new.bytes ≡ self.old.bytes }
+        ensures read { OnOk result (state_of self.new ≡ counted_at (state_of self.old).lined (state_of self.old)) }
+    {
+        match self.lined {
+            Some(lined) if !lined.is_fenced => count_column(&mut self.lines, lined.place),
+            _ => Ok(()),
+        }
+    }
+
+    /// Reads the begin of a cell.
+    fn begin_cell(&mut self) -> Result<(), Message>
+        ensures bytes { self.new.bytes ≡ self.old.bytes }
+        ensures read { OnOk result (state_of self.new ≡ cell_begun (state_of self.old)) }
+    {
+        self.count_cell()?;
+        push_cell(&mut self.lines, self.depth)
+    }
+
+    /// Reads the delimiter row of a table.
+    fn end_delimiter(&mut self, text: &'a [u8]) -> Result<(), Message>
+        ensures bytes { self.new.bytes ≡ self.old.bytes }
+        ensures read { OnOk result (IsUtf8 text.now → state_of self.new ≡ delimiter_ended text.now (state_of self.old)) }
+    {
+        if let Some(lined) = self.lined {
+            self.lined = Some(Lined {
+                is_fenced: true,
+                ..lined
+            });
+        }
+        push_delimiter(&mut self.lines, self.depth, text)
+    }
+
     /// Tells a leaf block of several lines the markers of its first fence, or of its underline.
     fn mark_lined(&mut self, text: &[u8])
         ensures bytes { self.new.bytes ≡ self.old.bytes }
@@ -239,6 +276,8 @@ impl<'a> Reading<'a> {
                     text,
                 )
             }
+            Purpose::Cell => fill_cell(&mut self.lines, self.depth, text),
+            Purpose::Delimiter => self.end_delimiter(text),
             Purpose::Marker => {
                 self.mark(text);
                 Ok(())
@@ -313,6 +352,8 @@ impl<'a> Reading<'a> {
             }
             Role::Fence => self.begin_fence(),
             Role::Title => push(&mut self.lines, next(self.depth)?, Word::Title, "")?,
+            Role::Row => push_row(&mut self.lines, self.depth)?,
+            Role::Cell => self.begin_cell()?,
             Role::Text(_) => {
                 self.spaces = spaces_at(point);
                 self.text = Some(Span {
@@ -347,7 +388,7 @@ impl<'a> Reading<'a> {
             }
             Role::Ending => self.end_line(point.index),
             Role::Text(purpose) => self.end_text(purpose, point.index),
-            Role::Fence | Role::Title | Role::Quiet => Ok(()),
+            Role::Fence | Role::Title | Role::Row | Role::Cell | Role::Quiet => Ok(()),
         }
     }
 

@@ -1,6 +1,6 @@
 // What an outline knows of a leaf block of several lines that is open, and what it shows of it: indented code, fenced
-// code, math, HTML, setext headings and definitions. Its lines are shown as they come, and the line of its word is told
-// later what its fences or its underline say.
+// code, math, HTML, setext headings, definitions and tables. Its lines are shown as they come, and the line of its word
+// is told later what its fences, its underline or its cells say.
 
 ghost use Rattle.std.specs.Prelude.{◌≡◌, ◌+◌, ◌∷◌, [], ◌++◌, if◌then◌else◌, OnOk};
 ghost use Rattle.std.specs.Str.{IsUtf8};
@@ -24,6 +24,8 @@ pub enum Form {
     Heading,
     /// As those of its parts: a definition.
     Definition,
+    /// As its rows and their cells: a table.
+    Table,
 }
 
 /// A leaf block of several lines that is open.
@@ -31,7 +33,7 @@ pub enum Form {
 pub struct Lined {
     /// The line of the outline that has its word.
     pub place: usize,
-    /// Whether it has told its markers, so that a further fence closes it, or its label.
+    /// Whether it has told its markers, so that a further fence closes it, or its label, or its delimiter row.
     pub is_fenced: bool,
     pub form: Form,
 }
@@ -59,6 +61,7 @@ pub fn form_of(word: Word) -> Form
     match word {
         Word::Heading(_) => Form::Heading,
         Word::Definition => Form::Definition,
+        Word::Table(_) => Form::Table,
         _ => Form::Lines,
     }
 }

@@ -1,10 +1,10 @@
 // The lines of a text, as an outline shows them.
 
 ghost use Rattle.std.specs.Prelude.{◌≡◌, ◌≤◌, ◌+◌, ◌-◌, ◌∷◌, [], ◌++◌, true, length, slice_range, IfOk, OnOk};
-ghost use Rattle.std.specs.List.{prefix_len};
+ghost use Rattle.std.specs.List.{prefix_len, suffix_len};
 ghost use Rattle.std.specs.Str.{IsUtf8};
 ghost use Rattle.md_definition.specs.Outline.{entries_of, entry_with};
-ghost use Rattle.md_definition.specs.Rest.{is_white, trim_start};
+ghost use Rattle.md_definition.specs.Rest.{is_white, trim, trim_start};
 ghost use Rattle.md_definition.specs.Texts.{first_byte, split_lines, trim_each};
 ghost use Rattle.md_seam.specs.Events.Places.{last_line};
 ghost use Rattle.md_outline.specs.TextLines.{after_ending, first_as, first_full_as, full_as, line_len, lines_as};
@@ -36,6 +36,18 @@ pub fn white_len(bytes: &[u8]) -> usize
 {
     bytes
         .iter()
+        .take_while(|byte| is_space_or_tab(**byte))
+        .count()
+}
+
+/// How many spaces and tabs stand at the end.
+fn white_end_len(bytes: &[u8]) -> usize
+    ensures value { result ≡ suffix_len is_white bytes.now }
+    ensures bound { result ≤ length bytes.now }
+{
+    bytes
+        .iter()
+        .rev()
         .take_while(|byte| is_space_or_tab(**byte))
         .count()
 }
@@ -93,6 +105,15 @@ pub fn line_text(line: &[u8]) -> &str
 {
     let (_, rest) = line.split_at(white_len(line));
     text_of(rest)
+}
+
+/// The text of a line without outer spaces and tabs.
+pub fn trimmed_text(line: &[u8]) -> &str
+    ensures { IsUtf8 line.now → result.now ≡ trim line.now }
+{
+    let (_, rest) = line.split_at(white_len(line));
+    let (text, _) = rest.split_at(rest.len() - white_end_len(rest));
+    text_of(text)
 }
 
 /// Adds a line to an outline.

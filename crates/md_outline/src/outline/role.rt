@@ -40,6 +40,10 @@ pub enum Purpose {
     Destination,
     /// The title of a definition.
     DefinitionTitle,
+    /// The text of a cell of a table.
+    Cell,
+    /// The delimiter row of a table.
+    Delimiter,
     /// The marker of an item, which a list is shown with.
     Marker,
     /// The digits of an item, which are not shown.
@@ -70,6 +74,10 @@ pub enum Role<'a> {
     Fence,
     /// The title of a definition, also an empty one.
     Title,
+    /// A row of a table.
+    Row,
+    /// A cell of one, also an empty one.
+    Cell,
     /// A line ending, which may open a line of one.
     Ending,
     Text(Purpose),
@@ -105,6 +113,11 @@ pub fn role_of<'a>(name: Name) -> Role<'a>
         Name::DefinitionDestinationString => Role::Text(Purpose::Destination),
         Name::DefinitionTitle => Role::Title,
         Name::DefinitionTitleString => Role::Text(Purpose::DefinitionTitle),
+        Name::GfmTable => Role::Lined(Word::Table(0)),
+        Name::GfmTableRow => Role::Row,
+        Name::GfmTableCell => Role::Cell,
+        Name::GfmTableCellText => Role::Text(Purpose::Cell),
+        Name::GfmTableDelimiterRow => Role::Text(Purpose::Delimiter),
         Name::CodeIndented => Role::Lined(Word::Code),
         Name::CodeFenced => Role::Lined(Word::Fence {
             marker: 0,

@@ -4,7 +4,8 @@ use Rattle.md_definition.specs.declared.outline.Word.TheVariants as word
 use Rattle.md_outline.specs.DefinitionState.{destination_told, part_ended}
 use Rattle.md_outline.specs.LinedState.{filled_line, without_end}
 use Rattle.md_outline.specs.OutlineSteps.{state_of}
-use Rattle.md_outline.proofs.OutlineLemmas.{block-end, label-end, markers-end, on_ok-map, part-end, title-end}
+use Rattle.md_outline.specs.TableState.{cell_told}
+use Rattle.md_outline.proofs.OutlineLemmas.{block-end, delimiter-end, label-end, markers-end, on_ok-map, part-end, title-end}
 use Rattle.md_outline.specs.declared.outline.role.Purpose.TheVariants as purpose
 use Rattle.md_outline.proofs.outline.Reading.end_text.Goals as goal
 
@@ -91,3 +92,23 @@ returns-in-DefinitionTitle-clause-read c =
     (entries_of c.args.self.now.lines.items))
     c.in-Some.is c.in-DefinitionTitle.is cut c.part-text.ensures reads refl)
     c.push_part_end.ensures
+
+pub returns-in-Cell-clause-read : goal.returns-in-Cell-clause-read
+returns-in-Cell-clause-read c =
+    on_ok-map c.fill_cell.result
+    (λ reads cut.
+    part-end c.args.self.now.bytes.now c.part-text.result.now c.in-Some.span c.args.end c.args.self.now.text
+    c.args.purpose purpose.Cell
+    (state_of c.args.self.now) (entries_of c.fill_cell.new.lines.items)
+    (λ text. cell_told c.args.self.now.depth text (entries_of c.args.self.now.lines.items))
+    c.in-Some.is c.in-Cell.is cut c.part-text.ensures reads refl)
+    c.fill_cell.ensures
+
+pub returns-in-Delimiter-clause-read : goal.returns-in-Delimiter-clause-read
+returns-in-Delimiter-clause-read c =
+    on_ok-map c.end_delimiter.result
+    (λ reads cut.
+    delimiter-end c.args.self.now.bytes.now c.part-text.result.now c.in-Some.span c.args.end
+    c.args.self.now.text c.args.purpose (state_of c.args.self.now) (state_of c.end_delimiter.new.self)
+    c.in-Some.is c.in-Delimiter.is cut c.part-text.ensures reads)
+    c.end_delimiter.ensures.read
