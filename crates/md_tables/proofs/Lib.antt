@@ -11,3 +11,4 @@ pub mod TabledWalk
 pub mod CellsLemmas
 pub mod TabledLines
 pub mod TabledNests
+pub mod RowNests
