@@ -10,5 +10,5 @@ pub mod HeadLemmas
 pub mod TabledWalk
 pub mod CellsLemmas
 pub mod TabledLines
-pub mod TabledNests
 pub mod RowNests
+pub mod TabledNests
