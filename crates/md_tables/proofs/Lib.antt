@@ -12,3 +12,4 @@ pub mod CellsLemmas
 pub mod TabledLines
 pub mod RowNests
 pub mod TabledNests
+pub mod RunPairs
