@@ -1,4 +1,4 @@
--- What cells in rows keep: points, and all that stands outside of rows. Each row is told by its own events.
+-- What cells in rows keep: points, and what stands outside of rows. Each row is told by its own events.
 use Rattle.std.proofs.Common.{◌≡◌, ℕ, Bool, true, false, cond, ◌&&◌, List, [], ◌∷◌, ◌++◌, drop, Option, Some, None, refl, sym, ◌∙◌}
 use Rattle.std.proofs.Common.{ap, append_assoc, append-nil}
 use Rattle.std.specs.List.{All}
@@ -123,24 +123,7 @@ step-points P stage e es h = go (ends_row e)
     go true = ends-points P stage e h
     go false = inside-points P stage e es h
 
-celled-points : (P : Point → Type 0) (stage : Stage) (es : List Event) → StandThere P es → StandThere P (celled stage es)
-unfolding celled
-celled-points P stage [] h = All-nil (AtPoint P)
-celled-points P stage (e ∷ es) h =
-    All-append (AtPoint P) (step stage e es).given (celled (step stage e es).stage es)
-    (step-points P stage e es (All-head (AtPoint P) e es h))
-    (celled-points P (step stage e es).stage es (All-tail (AtPoint P) e es h))
-
--- placed events stay placed
-pub celled-placed : (text : List ℕ) (events : List Event) → ArePlaced text events → ArePlaced text (celled Outside events)
-celled-placed text events h = celled-points (IsPlaced text) Outside events h
-
 -- Outside of rows.
-
--- events of no row
-abbrev pub AreOutside : List Event → Type 0
-AreOutside [] = Unit {0}
-AreOutside (e ∷ es) = (is_row e.name ≡ false) × AreOutside es
 
 outside-kind : (name : Name) → is_row name ≡ false → row_kind name ≡ None
 outside-kind name h = go (row_kind name) h
@@ -149,6 +132,7 @@ outside-kind name h = go (row_kind name) h
     go None h = refl
     go (Some k) h = cc
 
+-- an event of no row stays as it is
 pub outside-step : (e : Event) (es : List Event) → is_row e.name ≡ false → step Outside e es ≡ passed e Outside
 outside-step e es h = by e.kind
   where
@@ -161,13 +145,6 @@ outside-step e es h = by e.kind
         passed e Outside
     by Enter = rw none refl
     by Exit = rw h refl
-
--- they stay as they are, in front of any others
-pub celled-outside : (xs es : List Event) → AreOutside xs → celled Outside (xs ++ es) ≡ xs ++ celled Outside es
-unfolding celled
-celled-outside [] es h = refl
-celled-outside (e ∷ xs) es h =
-    rw (outside-step e (xs ++ es) h.0) (ap (λ (l : List Event). e ∷ l) (celled-outside xs es h.1))
 
 -- Row by row.
 
@@ -256,22 +233,3 @@ step-looks stage x es fs looks =
     go Gap = refl
     go (Last k) = refl
     go Behind = refl
-
--- events in which no row ends
-abbrev pub AreWithin : List Event → Type 0
-AreWithin [] = Unit {0}
-AreWithin (e ∷ es) = (ends_row e ≡ false) × AreWithin es
-
--- What is given for a row does not hang on what follows it, and behind it the walk stands outside.
-pub celled-row : (stage : Stage) (es rest : List Event) (e : Event) → AreWithin es → ends_row e ≡ true →
-    celled stage (es ++ e ∷ rest) ≡ celled stage (es ++ e ∷ []) ++ celled Outside rest
-unfolding celled
-celled-row stage [] rest e all h = rw (h, append-nil) refl
-celled-row stage (x ∷ es) rest e all h =
-    let same : step stage x (es ++ e ∷ rest) ≡ step stage x (es ++ e ∷ []) =
-    step-looks stage x (es ++ e ∷ rest) (es ++ e ∷ [])
-    (record { last = last-looks es rest e h; on = λ k. on-looks k es rest e h }) in
-    let s : Step = step stage x (es ++ e ∷ []) in
-    ap (λ (t : Step). t.given ++ celled t.stage (es ++ e ∷ rest)) same
-    ∙ ap (λ (l : List Event). s.given ++ l) (celled-row s.stage es rest e all.1 h)
-    ∙ sym (append_assoc s.given (celled s.stage (es ++ e ∷ [])) (celled Outside rest))

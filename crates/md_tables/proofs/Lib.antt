@@ -13,6 +13,7 @@ pub mod DelimiterColumns
 pub mod TabledWalk
 pub mod CellsLemmas
 pub mod TabledLines
+pub mod RowNests
 pub mod TabledNests
 pub mod WhiteEnds
 pub mod RowCellLemmas
@@ -21,3 +22,4 @@ pub mod RowTexts
 pub mod RowBytes
 pub mod RowRead
 pub mod RowSpread
+pub mod RunPairs

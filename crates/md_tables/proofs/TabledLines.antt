@@ -10,8 +10,8 @@ use Rattle.md_engine.specs.declared.event.Name.TheVariants as n
 use Rattle.md_engine.specs.declared.event.Point.{Point}
 use Rattle.md_seam.specs.Events.Nested.{around, enter, exit}
 use Rattle.md_tables.specs.Cells.{Step, celled, ends_row, ends_with, is_row, step}
-use Rattle.md_tables.specs.TableLines.{Table, TableLine, TableRow, body_given, head_celled, lines_celled, lines_events}
-use Rattle.md_tables.specs.TableLines.{row_celled, row_events, row_name, table_begin, table_events, table_given}
+use Rattle.md_tables.specs.TableLines.{Table, TableLine, TableRow, body_given, head_celled, lines_celled, lines_read}
+use Rattle.md_tables.specs.TableLines.{row_celled, row_read, row_name, table_begin, table_read, table_given}
 use Rattle.md_tables.specs.Tabled.{behind, bound_by, bound_of, given, in_front, next, passes, tabled, tabled_from}
 use Rattle.md_tables.specs.Tabled.{with_cells}
 use Rattle.md_tables.specs.declared.cells.RowKind.{RowKind}
@@ -42,6 +42,9 @@ tabled-passes [] es h = refl
 tabled-passes (e ∷ xs) es h =
     passes-given e (xs ++ es) h.0 ∙ ap (λ (l : List Event). e ∷ l) (tabled-passes xs es h.1)
 
+pub tabled-same : (es : List Event) → AreUntabled es → tabled es ≡ es
+tabled-same es h = ap tabled (sym (append-nil es)) ∙ tabled-passes es [] h ∙ append-nil es
+
 -- Names.
 
 -- whether events are of a table, or of a row of one
@@ -68,7 +71,7 @@ free-bound Exit n.GfmTable h = absurd (let no : true ≡ false = h in cc)
 free-bound Exit n.GfmTableDelimiterRow h = absurd (let no : true ≡ false = h in cc)
 free-bound Exit _ h = refl
 
-free-row : (name : Name) → of_tables name ≡ false → is_row name ≡ false
+pub free-row : (name : Name) → of_tables name ≡ false → is_row name ≡ false
 free-row n.GfmTableRow h = absurd (let no : true ≡ false = h in cc)
 free-row n.GfmTableDelimiterRow h = absurd (let no : true ≡ false = h in cc)
 free-row _ h = refl
@@ -169,20 +172,20 @@ tabled-rest section k r es within h =
 
 -- Rows: that of the head,
 pub tabled-head_row : (r : TableRow) (es : List Event) → AreFree r.inside →
-    tabled_from Head row.Outside (row_events Text r ++ es) ≡ row_celled Text r ++ tabled_from Head row.Outside es
+    tabled_from Head row.Outside (row_read Text r ++ es) ≡ row_celled Text r ++ tabled_from Head row.Outside es
 tabled-head_row r es h =
     ap (λ (l : List Event). enter n.GfmTableRow r.begins ∷ l) (tabled-rest Head Text r es refl h)
 
 -- the delimiter row, behind which the head ends,
 pub tabled-delimiter_row : (r : TableRow) (es : List Event) → AreFree r.inside →
-    tabled_from Head row.Outside (row_events Delimiter r ++ es)
+    tabled_from Head row.Outside (row_read Delimiter r ++ es)
     ≡ row_celled Delimiter r ++ exit n.GfmTableHead r.ends ∷ tabled_from Between row.Outside es
 tabled-delimiter_row r es h =
     ap (λ (l : List Event). enter n.GfmTableDelimiterRow r.begins ∷ l) (tabled-rest Head Delimiter r es refl h)
 
 -- the first row of the body, in front of which that begins,
 pub tabled-first_row : (r : TableRow) (es : List Event) → AreFree r.inside →
-    tabled_from Between row.Outside (row_events Text r ++ es)
+    tabled_from Between row.Outside (row_read Text r ++ es)
     ≡ enter n.GfmTableBody r.begins ∷ row_celled Text r ++ tabled_from Body row.Outside es
 tabled-first_row r es h =
     ap (λ (l : List Event). enter n.GfmTableBody r.begins ∷ enter n.GfmTableRow r.begins ∷ l)
@@ -190,7 +193,7 @@ tabled-first_row r es h =
 
 -- and a further one.
 pub tabled-further_row : (r : TableRow) (es : List Event) → AreFree r.inside →
-    tabled_from Body row.Outside (row_events Text r ++ es) ≡ row_celled Text r ++ tabled_from Body row.Outside es
+    tabled_from Body row.Outside (row_read Text r ++ es) ≡ row_celled Text r ++ tabled_from Body row.Outside es
 tabled-further_row r es h =
     ap (λ (l : List Event). enter n.GfmTableRow r.begins ∷ l) (tabled-rest Body Text r es refl h)
 
@@ -210,38 +213,38 @@ pub record IsFreeTable (t : Table) : Type 0 where
   pub body : AreFreeLines t.body
 
 line-split : (k : RowKind) (l : TableLine) (xs es : List Event) →
-    (l.between ++ (row_events k l.row ++ xs)) ++ es ≡ l.between ++ (row_events k l.row ++ (xs ++ es))
+    (l.between ++ (row_read k l.row ++ xs)) ++ es ≡ l.between ++ (row_read k l.row ++ (xs ++ es))
 line-split k l xs es =
-    append_assoc l.between (row_events k l.row ++ xs) es
-    ∙ ap (λ (m : List Event). l.between ++ m) (append_assoc (row_events k l.row) xs es)
+    append_assoc l.between (row_read k l.row ++ xs) es
+    ∙ ap (λ (m : List Event). l.between ++ m) (append_assoc (row_read k l.row) xs es)
 
 -- further lines of a body
 pub tabled-lines : (ls : List TableLine) (es : List Event) → AreFreeLines ls →
-    tabled_from Body row.Outside (lines_events ls ++ es) ≡ lines_celled ls ++ tabled_from Body row.Outside es
+    tabled_from Body row.Outside (lines_read ls ++ es) ≡ lines_celled ls ++ tabled_from Body row.Outside es
 tabled-lines [] es h = refl
 tabled-lines (l ∷ ls) es h =
     let rest : List Event = tabled_from Body row.Outside es in
-    ap (tabled_from Body row.Outside) (line-split Text l (lines_events ls) es)
-    ∙ tabled-between Body l.between (row_events Text l.row ++ (lines_events ls ++ es)) refl h.0.0
+    ap (tabled_from Body row.Outside) (line-split Text l (lines_read ls) es)
+    ∙ tabled-between Body l.between (row_read Text l.row ++ (lines_read ls ++ es)) refl h.0.0
     ∙ ap (λ (m : List Event). l.between ++ m)
-    (tabled-further_row l.row (lines_events ls ++ es) h.0.1
+    (tabled-further_row l.row (lines_read ls ++ es) h.0.1
     ∙ ap (λ (m : List Event). row_celled Text l.row ++ m) (tabled-lines ls es h.1)
     ∙ sym (append_assoc (row_celled Text l.row) (lines_celled ls) rest))
     ∙ sym (append_assoc l.between (row_celled Text l.row ++ lines_celled ls) rest)
 
 -- what stands behind the head, to the end of the table
 pub tabled-body : (ls : List TableLine) (q : Point) (es : List Event) → AreFreeLines ls →
-    tabled_from Between row.Outside (lines_events ls ++ exit n.GfmTable q ∷ es)
+    tabled_from Between row.Outside (lines_read ls ++ exit n.GfmTable q ∷ es)
     ≡ body_given ls q ++ exit n.GfmTable q ∷ tabled es
 tabled-body [] q es h = refl
 tabled-body (l ∷ ls) q es h =
     let end : Event = exit n.GfmTable q in
     let close : Event = exit n.GfmTableBody q in
     let inside : List Event = row_celled Text l.row ++ lines_celled ls in
-    ap (tabled_from Between row.Outside) (line-split Text l (lines_events ls) (end ∷ es))
-    ∙ tabled-between Between l.between (row_events Text l.row ++ (lines_events ls ++ end ∷ es)) refl h.0.0
+    ap (tabled_from Between row.Outside) (line-split Text l (lines_read ls) (end ∷ es))
+    ∙ tabled-between Between l.between (row_read Text l.row ++ (lines_read ls ++ end ∷ es)) refl h.0.0
     ∙ ap (λ (m : List Event). l.between ++ m)
-    (tabled-first_row l.row (lines_events ls ++ end ∷ es) h.0.1
+    (tabled-first_row l.row (lines_read ls ++ end ∷ es) h.0.1
     ∙ ap (λ (m : List Event). enter n.GfmTableBody l.row.begins ∷ row_celled Text l.row ++ m)
     (tabled-lines ls (end ∷ es) h.1)
     ∙ ap (λ (m : List Event). enter n.GfmTableBody l.row.begins ∷ m)
@@ -261,23 +264,23 @@ given-split a b c y rest x e =
 
 -- A table, in front of any events.
 pub tabled-table : (t : Table) (es : List Event) → IsFreeTable t →
-    tabled (table_events t ++ es) ≡ table_given t ++ tabled es
+    tabled (table_read t ++ es) ≡ table_given t ++ tabled es
 tabled-table t es h =
     let end : Event = exit n.GfmTable t.ends in
-    let lines : List Event = lines_events t.body in
+    let lines : List Event = lines_read t.body in
     let behind_head : List Event = body_given t.body t.ends ++ end ∷ tabled es in
     let d : TableRow = t.delimiter.row in
     ap (λ (l : List Event). table_begin t ∷ enter n.GfmTableHead t.begins ∷ l)
     (ap (tabled_from Head row.Outside)
-    (append_assoc (row_events Text t.head)
-    (t.delimiter.between ++ (row_events Delimiter d ++ (lines ++ end ∷ []))) es
-    ∙ ap (λ (l : List Event). row_events Text t.head ++ l)
+    (append_assoc (row_read Text t.head)
+    (t.delimiter.between ++ (row_read Delimiter d ++ (lines ++ end ∷ []))) es
+    ∙ ap (λ (l : List Event). row_read Text t.head ++ l)
     (line-split Delimiter t.delimiter (lines ++ end ∷ []) es
-    ∙ ap (λ (l : List Event). t.delimiter.between ++ (row_events Delimiter d ++ l))
+    ∙ ap (λ (l : List Event). t.delimiter.between ++ (row_read Delimiter d ++ l))
     (append_assoc lines (end ∷ []) es)))
-    ∙ tabled-head_row t.head (t.delimiter.between ++ (row_events Delimiter d ++ (lines ++ end ∷ es))) h.head
+    ∙ tabled-head_row t.head (t.delimiter.between ++ (row_read Delimiter d ++ (lines ++ end ∷ es))) h.head
     ∙ ap (λ (l : List Event). row_celled Text t.head ++ l)
-    (tabled-between Head t.delimiter.between (row_events Delimiter d ++ (lines ++ end ∷ es)) refl h.delimiter.0
+    (tabled-between Head t.delimiter.between (row_read Delimiter d ++ (lines ++ end ∷ es)) refl h.delimiter.0
     ∙ ap (λ (l : List Event). t.delimiter.between ++ l)
     (tabled-delimiter_row d (lines ++ end ∷ es) h.delimiter.1
     ∙ ap (λ (l : List Event). row_celled Delimiter d ++ exit n.GfmTableHead d.ends ∷ l)

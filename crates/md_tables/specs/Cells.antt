@@ -159,7 +159,7 @@ abbrev pub step : Stage → Event → List Event → Step
 step stage e es =
     if ends_row e then record { given = ends_with stage e; stage = Outside } else inside_step stage e es
 
--- All of them.
+-- The events of a row, from a stage on.
 unfoldable pub celled : Stage → List Event → List Event
 celled stage [] = []
 celled stage (e ∷ es) = (step stage e es).given ++ celled (step stage e es).stage es

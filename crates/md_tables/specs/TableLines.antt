@@ -37,8 +37,8 @@ abbrev pub row_name : RowKind → Name
 row_name Text = n.GfmTableRow
 row_name Delimiter = n.GfmTableDelimiterRow
 
-abbrev pub row_events : RowKind → TableRow → List Event
-row_events k r = around (row_name k) r.begins r.ends r.inside
+abbrev pub row_read : RowKind → TableRow → List Event
+row_read k r = around (row_name k) r.begins r.ends r.inside
 
 -- with its cells, which are told by its own events
 abbrev pub row_celled : RowKind → TableRow → List Event
@@ -46,9 +46,9 @@ row_celled k r = enter (row_name k) r.begins ∷ celled (Front k) (r.inside ++ e
 
 -- Lines.
 
-abbrev pub lines_events : List TableLine → List Event
-lines_events [] = []
-lines_events (l ∷ ls) = l.between ++ (row_events Text l.row ++ lines_events ls)
+abbrev pub lines_read : List TableLine → List Event
+lines_read [] = []
+lines_read (l ∷ ls) = l.between ++ (row_read Text l.row ++ lines_read ls)
 
 abbrev pub lines_celled : List TableLine → List Event
 lines_celled [] = []
@@ -61,12 +61,12 @@ abbrev pub table_begin : Table → Event
 table_begin t = record { kind = Enter; name = n.GfmTable; point = t.begins; link = t.link }
 
 -- as it is read
-abbrev pub table_events : Table → List Event
-table_events t =
+abbrev pub table_read : Table → List Event
+table_read t =
     table_begin t
-    ∷ row_events Text t.head
+    ∷ row_read Text t.head
     ++ (t.delimiter.between
-    ++ (row_events Delimiter t.delimiter.row ++ (lines_events t.body ++ exit n.GfmTable t.ends ∷ [])))
+    ++ (row_read Delimiter t.delimiter.row ++ (lines_read t.body ++ exit n.GfmTable t.ends ∷ [])))
 
 -- what stands in its head
 abbrev pub head_celled : Table → List Event
