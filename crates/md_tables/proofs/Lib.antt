@@ -9,3 +9,9 @@ pub mod DelimiterColumns
 pub mod HeadLemmas
 pub mod CellsWalk
 pub mod CellsLemmas
+pub mod HeadStates
+pub mod HeadRuns
+pub mod HeadsWalk
+pub mod HeadsLemmas
+pub mod RunsLemmas
+pub mod HeadPoints

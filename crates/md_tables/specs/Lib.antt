@@ -4,3 +4,5 @@ pub mod Delimiter
 pub mod DelimiterRule
 pub mod Head
 pub mod Cells
+pub mod HeadStates
+pub mod Heads

@@ -4,4 +4,5 @@
 pub mod cells;
 pub mod delimiter;
 pub mod head;
+pub mod heads;
 pub mod row;
