@@ -23,3 +23,9 @@ pub mod RowBytes
 pub mod RowRead
 pub mod RowSpread
 pub mod RunPairs
+pub mod HeadStates
+pub mod HeadRuns
+pub mod HeadsWalk
+pub mod HeadsLemmas
+pub mod RunsLemmas
+pub mod HeadPoints

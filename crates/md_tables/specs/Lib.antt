@@ -9,4 +9,5 @@ pub mod Cells
 pub mod Tabled
 pub mod TableLines
 pub mod RowCells
+pub mod HeadStates
 pub mod Heads

@@ -4,5 +4,6 @@
 pub mod cells;
 pub mod delimiter;
 pub mod gfm_table;
+pub mod heads;
 pub mod row;
 pub mod tables;

@@ -1,0 +1,99 @@
+-- Each state of the head of a table keeps what its table needs, and takes one step of what it means.
+use Rattle.std.proofs.Common.{◌≡◌, Bool, List, Option, Some, None, IfSome, refl}
+use Rattle.md_engine.specs.declared.state.Name.{Name as StateName}
+use Rattle.md_engine.specs.declared.state.Name.TheVariants as n
+use Rattle.md_engine.specs.declared.state.gfm_table.State.TheVariants as its
+use Rattle.md_engine.specs.declared.state.State.TheVariants.{Next}
+use Rattle.md_engine.specs.declared.stay.Stay.{Stay}
+use Rattle.md_engine.specs.Meaning.{Cell, Feed, Here, Steps}
+use Rattle.md_engine.specs.Run.{reading}
+use Rattle.md_engine.specs.Scheme.{Fits, stands}
+use Rattle.md_engine.specs.Standing.{MeansAt, StandsOn}
+use Rattle.md_engine.specs.Staying.{StaysOn}
+use Rattle.md_engine.specs.World.{Setting, World, looks}
+use Rattle.md_engine.proofs.Local.{fits}
+use Rattle.md_engine.proofs.StepOf.{Sees, sees, steps-as}
+use Rattle.md_seam.specs.Ahead.{HasWhite}
+use Rattle.md_seam.specs.Stays.{TakesEach}
+use Rattle.md_seam.proofs.SpacesGoods.{Does, WhiteFits, does-stands, white_does}
+use Rattle.md_seam.proofs.StaysLemmas.{stays-on}
+use Rattle.md_seam.proofs.WhiteSteps.{white_steps}
+use Rattle.md_tables.specs.HeadStates.{HeadStep, head_behaves, head_owner, head_scheme, head_transition}
+use Rattle.md_tables.specs.Row.{name_at, row_scheme}
+use Rattle.md_tables.specs.RowRule.{HasRow, row_behaves}
+use Rattle.md_tables.specs.declared.row.Place.{Place}
+use Rattle.md_tables.specs.declared.row.Place.TheVariants as place
+use Rattle.md_tables.specs.declared.row.Row.TheVariants.{Head}
+use Rattle.md_tables.proofs.RowGoods.{RowFits, row_does}
+use Rattle.md_tables.proofs.RowSteps.{row_steps}
+
+-- The table has a head row, and whitespace.
+
+white_fits : WhiteFits head_scheme
+white_fits = record { each = λ state. fits head_owner (n.SpaceOrTab state) }
+
+row_fits : RowFits head_scheme Head
+row_fits = record { white = white_fits; each = at }
+  where
+    at : (p : Place) → Fits head_scheme row_scheme (name_at Head p)
+    at place.Start = fits head_owner (name_at Head place.Start)
+    at place.Break = fits head_owner (name_at Head place.Break)
+    at place.Data = fits head_owner (name_at Head place.Data)
+    at place.Escape = fits head_owner (name_at Head place.Escape)
+    at place.CellBefore = fits head_owner (name_at Head place.CellBefore)
+
+pub head_does : (name : StateName) (w : World) → w.current ≡ looks w → stands head_scheme w (Next name) →
+    Does head_scheme name w (head_transition name w)
+head_does (n.GfmTable its.HeadRowBefore) w c r = row_does head_scheme Head place.Start w row_fits c r
+head_does (n.GfmTable its.HeadRowBreak) w c r = row_does head_scheme Head place.Break w row_fits c r
+head_does (n.GfmTable its.HeadRowData) w c r = row_does head_scheme Head place.Data w row_fits c r
+head_does (n.GfmTable its.HeadRowEscape) w c r = row_does head_scheme Head place.Escape w row_fits c r
+head_does (n.GfmTable its.HeadRowCellBefore) w c r = row_does head_scheme Head place.CellBefore w row_fits c r
+head_does (n.SpaceOrTab state) w c r = white_does head_scheme state w white_fits c r
+head_does name w c r = absurd r
+
+-- What is left at each state is what these say.
+
+has_white : HasWhite head_behaves
+has_white = record { each = λ _ _ _. refl }
+
+has_row : HasRow head_behaves Head
+has_row = record { white = has_white; each = at }
+  where
+    at : (p : Place) (cells : List Cell) (h : Here) → head_behaves (name_at Head p) cells h ≡ row_behaves Head p cells h
+    at place.Start cells h = refl
+    at place.Break cells h = refl
+    at place.Data cells h = refl
+    at place.Escape cells h = refl
+    at place.CellBefore cells h = refl
+
+head_steps : (feed : Feed) (name : StateName) (w : World) → Sees feed w → stands head_scheme w (Next name) →
+    Steps head_behaves feed (Next name) w (head_transition name w).to (head_transition name w).world
+head_steps feed (n.GfmTable its.HeadRowBefore) w s at = row_steps head_behaves feed Head place.Start w has_row s at.0
+head_steps feed (n.GfmTable its.HeadRowBreak) w s at = row_steps head_behaves feed Head place.Break w has_row s at.0
+head_steps feed (n.GfmTable its.HeadRowData) w s at = row_steps head_behaves feed Head place.Data w has_row s at.0
+head_steps feed (n.GfmTable its.HeadRowEscape) w s at = row_steps head_behaves feed Head place.Escape w has_row s at.0
+head_steps feed (n.GfmTable its.HeadRowCellBefore) w s at =
+    row_steps head_behaves feed Head place.CellBefore w has_row s at.0
+head_steps feed (n.SpaceOrTab state) w s at = white_steps head_behaves feed state w has_white s
+head_steps feed name w s at = absurd at
+
+-- each state of the head takes one step of what it means
+pub head_means : (under : Setting) (is_end : Bool) → MeansAt HeadStep head_scheme under head_behaves is_end
+head_means under is_end feed name w to new f called step =
+    steps-as head_behaves feed (Next name) _ to (reading w) _ new step.to_is step.new_is
+    (head_steps feed name (reading w) (sees feed w is_end f called.may) called.stands)
+
+-- and comes to where the table stands
+pub head_stands : StandsOn HeadStep head_scheme
+head_stands name w to new at step =
+    does-stands head_scheme name (reading w) (head_transition name (reading w)) to new step.to_is step.new_is
+    (head_does name (reading w) refl at)
+
+-- what only takes stays
+pub head-stays : (name : StateName) (o : Option Stay) → IfSome o (λ k. TakesEach k name (head_transition name)) →
+    IfSome o (λ k. StaysOn HeadStep head_scheme name k)
+head-stays name None h = tt
+head-stays name (Some k) h =
+    stays-on HeadStep head_scheme name k (head_transition name)
+    (λ w to new e k. record { to_is = e; new_is = k }) (head_does name) h
