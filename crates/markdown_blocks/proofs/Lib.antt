@@ -137,6 +137,7 @@ pub mod FenceSpan
 pub mod CodeIndented
 pub mod HtmlFlow
 pub mod HtmlSpan
+pub mod GfmTable
 pub mod HeadingAtx
 pub mod HeadingSetext
 pub mod MarkRuns

@@ -2,6 +2,7 @@
 pub mod CodeIndented
 pub mod Fence
 pub mod FenceFurther
+pub mod GfmTable
 pub mod HeadingAtx
 pub mod HeadingSetext
 pub mod HtmlFlow

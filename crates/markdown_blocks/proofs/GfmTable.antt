@@ -1,0 +1,7 @@
+-- Tables: a delimiter row, which turns the text in front of it, and further rows: what they come to, and their laws.
+pub mod Trial
+pub mod Cells
+pub mod Each
+pub mod Found
+pub mod Registers
+pub mod Laws
