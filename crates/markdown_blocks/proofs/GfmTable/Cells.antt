@@ -25,8 +25,10 @@ use Rattle.md_tables.specs.GfmTable.{may_head}
 use Rattle.md_tables.specs.GfmTableLine.{are_columns, delimiter_adds, delimiter_line, is_row_of, row_adds, row_line}
 use Rattle.md_tables.specs.RowRule as row
 use Rattle.md_tables.specs.declared.row.Row.TheVariants.{Body}
-use Rattle.md_tables.proofs.GfmTableBytes.{delimiter-spread, indent-runs, row-spread, row_of-columns, row_of-spread}
-use Rattle.md_tables.proofs.GfmTableBytes.{row_of-white}
+use Rattle.md_tables.proofs.DelimiterBytes.{row_of-columns, row_of-spread, row_of-white}
+use Rattle.md_tables.proofs.DelimiterSpread.{indent-runs}
+use Rattle.md_tables.proofs.DelimiterSpread as by_delimiter
+use Rattle.md_tables.proofs.RowSpread as by_row
 use Rattle.markdown_blocks.specs.Fronted.{rest_line}
 use Rattle.markdown_blocks.specs.Leaf.GfmTable.{table_leaf}
 use Rattle.markdown_blocks.proofs.MarkRuns.Fits.{Tells, line-fits}
@@ -80,7 +82,7 @@ delimiter-adds options said text behind r p stop is h k short small =
     (λ at cs. refl) r p stop one is.cut
     ∙ ap (λ (l : List Cell). delimiter.runs delimiter.Apart l p)
     (spread-line said (rest_line r) p stop (rest-no_ending r h) k)
-    ∙ delimiter-spread delimiter.Apart said (rest_line r) p one)
+    ∙ by_delimiter.spread-runs delimiter.Apart said (rest_line r) p one)
     (rest-line_end said r p stop h k one is.cut)
   where
     one : 1 ≤ p.column
@@ -94,7 +96,7 @@ row-adds said text behind r p stop is h k =
     (rest-same (List Event) (λ (l : List Cell). row.runs row.Apart (line_cells l) p) said (λ at cs. refl) r p stop one
     is.cut
     ∙ ap (λ (l : List Cell). row.runs row.Apart l p) (spread-line said (rest_line r) p stop (rest-no_ending r h) k)
-    ∙ row-spread row.Apart said (rest_line r) p one)
+    ∙ by_row.spread-runs row.Apart said (rest_line r) p one)
     (rest-line_end said r p stop h k one is.cut)
   where
     one : 1 ≤ p.column
