@@ -437,12 +437,12 @@ filler_steps B options feed w Other has s e =
 row-fits : (feed : Feed) (w : World) (h : Here) → Sees feed w → mark w.current ≡ Stops → is_counted h.scratch ≡ true →
     in_row Apart Behind (feed w.point) h ≡
     Accepts
-        (record h {
-          events = h.events ++ row_closes h.point;
-          scratch = uncounted h.scratch;
-          flags = record h.flags { leaf = held_leaf.Table };
-        })
-        (feed w.point)
+    (record h {
+      events = h.events ++ row_closes h.point;
+      scratch = uncounted h.scratch;
+      flags = record h.flags { leaf = held_leaf.Table };
+    })
+    (feed w.point)
 unfolding in_row
 row-fits feed w h s e counts = go w.current e s.next
   where
@@ -482,7 +482,6 @@ ends_steps B options feed w true has s e counts =
     closed : List Event → World
     closed es =
         record w { events = es; scratch = uncounted w.scratch; flags = record w.flags { leaf = held_leaf.Table } }
-
 ends_steps B options feed w false has s e counts =
     refused_steps B feed _ w
     (has.each its.HeadDelimiterCellAfter CellAfter _ _ ∙ dark-here feed w Behind Stops s e (λ k. cc)

@@ -78,10 +78,11 @@ good_head : (T : Scheme) (w : World) (text : OpenText) (x : Bool) → TableFits 
     rest_ready (spot w) (after_all T w.frames) → Does T (n.GfmTable its.Start) w (head_code w text x)
 good_head T w text true has r = (
   turns T table_scheme (n.GfmTable its.Start) (n.GfmTable its.HeadDelimiterStart) w w.events
-      (asking_columns text.columns w.scratch) (has.each its.Start) (has.each its.HeadDelimiterStart)
-      (record { size = omega (arith, rest-size w.scratch r.0); rest = ap uncounted r.0 },
-      later IsRest IsRest (spot w) (after_all T w.frames) w.point (asking_columns text.columns w.scratch)
-      (stays w.setting.limit w.point) r.1) (omega arith) (omega arith),
+      (asking_columns text.columns w.scratch) (has.each its.Start) (has.each its.HeadDelimiterStart) (
+        record { size = omega (arith, rest-size w.scratch r.0); rest = ap uncounted r.0 },
+        later IsRest IsRest (spot w) (after_all T w.frames) w.point (asking_columns text.columns w.scratch)
+            (stays w.setting.limit w.point) r.1,
+      ) (omega arith) (omega arith),
   refl,
 )
 good_head T w text false has r = good_refused T w r

@@ -72,7 +72,8 @@ asked-none columns s bytes x is e = ap (λ (t : Scratch). fits Front (asking_col
 unindented : (options : ParseOptions) (columns : ℕ) (cells : List Cell) (x : Bool) → begins_white cells ≡ false →
     delimiter_fits options columns cells ≡ x → is_row_of columns (line_bytes cells) ≡ x
 unindented options columns cells x none e =
-    sym (ap (λ (left : List Cell). is_row_of columns (line_bytes left)) (none-rest (small_indent options) cells none)) ∙ e
+    sym (ap (λ (left : List Cell). is_row_of columns (line_bytes left)) (none-rest (small_indent options) cells none))
+    ∙ e
 
 -- A delimiter row that fits is taken,
 delimiter-took : (options : ParseOptions) (columns : ℕ) (cells : List Cell) (h : Here) → IsRest h.scratch →
@@ -175,7 +176,8 @@ table-refused options cells h is e = go h.flags.leaf e
     head text true e = delimiter-refused options text.columns cells h is e
     head text false e = refl
 
-    go : (on : HeldLeaf) → table_takes options on cells ≡ false → table_by options on cells h ≡ Refuses h.scratch h.flags
+    go : (on : HeldLeaf) → table_takes options on cells ≡ false →
+        table_by options on cells h ≡ Refuses h.scratch h.flags
     go (held_leaf.Text text) e = head text (may_head options text) e
     go held_leaf.Table e = cc
     go _ e = refl

@@ -7,7 +7,9 @@ pub mod DelimiterSteps
 pub mod GfmTableGoods
 pub mod GfmTableSteps
 pub mod GfmTableWhole
-pub mod GfmTableBytes
+pub mod DelimiterBytes
+pub mod DelimiterSpread
+pub mod RowSpread
 pub mod CellLemmas
 pub mod DelimiterColumns
 pub mod TabledWalk

@@ -2,9 +2,9 @@
 //
 //     gfm_table ::= head_row eol delimiter_row *( eol body_row )
 //
-// The head is the last line of a text: that it is one shows with the delimiter row behind it, which has as many cells. So
-// a line that meets text is tried as a delimiter row, and one that meets a table as a row of the body. The head itself is
-// read again, once all lines are known.
+// The head is the last line of a text: that it is one shows with the delimiter row behind it, which has as many cells.
+// So a line that meets text is tried as a delimiter row, and one that meets a table as a row of the body. The head itself
+// is read again, once all lines are known.
 
 ghost use Rattle.std.specs.Prelude.{◌≡◌, ◌≢◌, IfSome};
 ghost use Rattle.md_engine.specs.World.{world};

@@ -1,5 +1,5 @@
 -- A line of a table by its cells: it stands where the line definition says, and adds what its bytes say.
-use Rattle.std.proofs.Common.{◌≡◌, ℕ, ◌<◌, ◌≤◌, ◌^◌, Bool, true, false, ◌&&◌, List, [], ◌∷◌, ◌++◌, length, refl, ap, ap₂}
+use Rattle.std.proofs.Common.{◌≡◌, ℕ, ◌<◌, ◌≤◌, ◌^◌, Bool, true, false, ◌&&◌, List, ◌++◌, length, refl, ap, ap₂}
 use Rattle.std.proofs.Common.{◌∙◌, arith}
 use Rattle.std.specs.Prelude.{nat_lt}
 use Rattle.std.proofs.lemmas.Bool.{and_parts}
@@ -15,8 +15,7 @@ use Rattle.md_engine.specs.Meaning.{Cell}
 use Rattle.md_definition.specs.Rest.{Rest, has_small_indent, is_small, trim, trim_start}
 use Rattle.md_definition.specs.Table.{delimiter_columns}
 use Rattle.md_definition.proofs.TextsLemmas.{NoEnding}
-use Rattle.md_seam.specs.Ahead.{line_cells, line_end}
-use Rattle.md_seam.specs.Events.Places.{past_text}
+use Rattle.md_seam.specs.Ahead.{line_cells}
 use Rattle.md_seam.specs.Spaces.{small_indent}
 use Rattle.md_seam.proofs.FeedLines.{Stops}
 use Rattle.md_seam.proofs.RestCells.{RestAt, rest_cells}
@@ -26,8 +25,10 @@ use Rattle.md_tables.specs.GfmTable.{may_head}
 use Rattle.md_tables.specs.GfmTableLine.{are_columns, delimiter_adds, delimiter_line, is_row_of, row_adds, row_line}
 use Rattle.md_tables.specs.RowRule as row
 use Rattle.md_tables.specs.declared.row.Row.TheVariants.{Body}
-use Rattle.md_tables.proofs.GfmTableBytes.{delimiter-spread, indent-runs, row-spread, row_of-columns, row_of-spread}
-use Rattle.md_tables.proofs.GfmTableBytes.{row_of-white}
+use Rattle.md_tables.proofs.DelimiterBytes.{row_of-columns, row_of-spread, row_of-white}
+use Rattle.md_tables.proofs.DelimiterSpread.{indent-runs}
+use Rattle.md_tables.proofs.DelimiterSpread as by_delimiter
+use Rattle.md_tables.proofs.RowSpread as by_row
 use Rattle.markdown_blocks.specs.Fronted.{rest_line}
 use Rattle.markdown_blocks.specs.Leaf.GfmTable.{table_leaf}
 use Rattle.markdown_blocks.proofs.MarkRuns.Fits.{Tells, line-fits}
@@ -51,8 +52,8 @@ pub table-fits : (options : ParseOptions) (on : HeldLeaf) (said : Line) (text be
     RestAt text behind r p → NoEnding r.bytes → Stops stop → length (rest_cells said r p ++ stop) < 2 ^ 63 →
     table_leaf.takes options on (rest_cells said r p ++ stop) ≡ table_leaf.starts options on r
 table-fits options (held_leaf.Text at) said text behind r p stop is h k short =
-    line-fits (is_row_of at.columns) (row-tells at.columns) (may_head options at) options said text behind r p stop is h k
-    short
+    line-fits (is_row_of at.columns) (row-tells at.columns) (may_head options at) options said text behind r p stop is h
+    k short
     ∙ go (may_head options at) refl
   where
     go : (x : Bool) → may_head options at ≡ x →
@@ -81,7 +82,7 @@ delimiter-adds options said text behind r p stop is h k short small =
     (λ at cs. refl) r p stop one is.cut
     ∙ ap (λ (l : List Cell). delimiter.runs delimiter.Apart l p)
     (spread-line said (rest_line r) p stop (rest-no_ending r h) k)
-    ∙ delimiter-spread delimiter.Apart said (rest_line r) p one)
+    ∙ by_delimiter.spread-runs delimiter.Apart said (rest_line r) p one)
     (rest-line_end said r p stop h k one is.cut)
   where
     one : 1 ≤ p.column
@@ -95,7 +96,7 @@ row-adds said text behind r p stop is h k =
     (rest-same (List Event) (λ (l : List Cell). row.runs row.Apart (line_cells l) p) said (λ at cs. refl) r p stop one
     is.cut
     ∙ ap (λ (l : List Cell). row.runs row.Apart l p) (spread-line said (rest_line r) p stop (rest-no_ending r h) k)
-    ∙ row-spread row.Apart said (rest_line r) p one)
+    ∙ by_row.spread-runs row.Apart said (rest_line r) p one)
     (rest-line_end said r p stop h k one is.cut)
   where
     one : 1 ≤ p.column

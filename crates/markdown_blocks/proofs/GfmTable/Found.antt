@@ -1,5 +1,5 @@
 -- Where the line definition has a table, how it goes on, and what is open behind a line of it.
-use Rattle.std.proofs.Common.{◌≡◌, ℕ, suc, ◌<◌, Bool, true, false, cond, ◌&&◌, ◌||◌, nat_eq, List, [], ◌∷◌, ◌++◌}
+use Rattle.std.proofs.Common.{◌≡◌, ℕ, suc, ◌<◌, Bool, true, false, cond, ◌&&◌, ◌||◌, nat_eq, List, [], ◌∷◌}
 use Rattle.std.proofs.Common.{length, map, reverse, Option, Some, None, refl, ap, ap₂, sym, ◌∙◌, subst, arith}
 use Rattle.std.specs.Prelude.{nat_lt}
 use Rattle.std.specs.Option.{is_some}
@@ -43,8 +43,8 @@ same-either m n = go (nat_eq m n) refl (nat_eq n m) refl
     go false e true f = grind (arith, nat_tests)
     go false e false f = refl
 
--- What is held of an open text is right of its last line: how many cells that has as a head, 0 where it is none, and its
--- indent.
+-- What is held of an open text is right of its last line: how many cells that has as a head, 0 where it is none, and
+-- its indent.
 pub record KnowsHead (text : OpenText) (k : Kept) : Type 0 where
   pub columns : text.columns ≡ cond (is_head k.text) (length (row_cells k.text)) 0
   pub indent : text.indent ≡ k.indent

@@ -1,6 +1,5 @@
 -- The states of tables register nothing.
 use Rattle.std.proofs.Common.{ℕ, Bool, true, false, ◌++◌, ◌∷◌, [], refl}
-use Rattle.md_engine.specs.declared.event.Name.{Name}
 use Rattle.md_engine.specs.declared.event.Name.TheVariants as n
 use Rattle.md_engine.specs.declared.state.gfm_table.State.{State as TableState}
 use Rattle.md_engine.specs.declared.state.gfm_table.State.TheVariants as its
