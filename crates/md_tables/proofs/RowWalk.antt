@@ -16,15 +16,37 @@ use Rattle.md_tables.specs.Cells.{begins_inner, celled, divider_step, ends_row, 
 use Rattle.md_tables.specs.Cells.{is_last, is_white as is_white_name, piece_step, row_ends}
 use Rattle.md_tables.specs.Row.{text_link}
 use Rattle.md_tables.specs.RowCells.{Cells, Divides, Ends, Shut, behind_pipe, cell_inside, cells_events, cells_of, line_cells, onto}
-use Rattle.md_tables.specs.RowCells.{row_events, row_runs, unread_text, white_front, white_part}
+use Rattle.md_tables.specs.RowCells.{row_events, row_runs, text_part, unread_text, white_front, white_part}
 use Rattle.md_tables.specs.RowRule.{Apart, Escaped, Pipe, Run, Text as TextRun, White, opens}
 use Rattle.md_tables.specs.declared.cells.RowKind.TheVariants.{Text}
 use Rattle.md_tables.specs.declared.cells.Stage.TheVariants.{Behind, Front, Gap, Inner, Last, Outside, Within}
-use Rattle.md_tables.proofs.RowCellLemmas.{behind_first, cells-begin, cells_left, first-onto, first_cell, left_in_text}
-use Rattle.md_tables.proofs.RowCellLemmas.{left_in_white, onto-left, text-ends, text-first, text-more, text_begins, text_left}
-use Rattle.md_tables.proofs.RowCellLemmas.{white-blank, white-ends, white-first, white-more, white_left}
+use Rattle.md_tables.proofs.RowCellLemmas.{behind_first, cells-begin, first-behind, first-onto, first_cell, left_of}
+use Rattle.md_tables.proofs.RowCellLemmas.{onto-left, text-ends, text-first, text-more, text_left, white-blank, white-ends}
+use Rattle.md_tables.proofs.RowCellLemmas.{white-first, white-more, white_left}
 use Rattle.md_tables.proofs.RowSteps.{white-apart}
 use Rattle.md_tables.proofs.WhiteEnds.{blank-first, dark-first, front-none, front-one, start-none}
+
+-- What is left of cells that hold texts: where the first begins, in the whitespace in front of its text, and in that.
+
+abbrev behind : Cells → Point → List Event
+behind cells p = behind_first n.GfmTableCell (text_part unread_text) cells p
+
+abbrev left_by : (List ℕ → Point → List Event) → Cells → Point → List Event
+left_by left cells p = left_of n.GfmTableCell (text_part unread_text) left cells p
+
+abbrev cells_left : Cells → Point → List Event
+cells_left cells p = left_by (cell_inside unread_text) cells p
+
+abbrev left_in_white : Cells → Point → List Event
+left_in_white cells p = left_by (white_left (text_part unread_text)) cells p
+
+abbrev left_in_text : Cells → Point → List Event
+left_in_text cells p = left_by text_left cells p
+
+onto-by : (left : List ℕ → Point → List Event) (b : ℕ) (cells : Cells) (p : Point) →
+    left_by left (onto b cells) p ≡
+    left (b ∷ first_cell cells) p ++ behind cells (past_text (first_cell cells) (past_byte b p))
+onto-by left b cells p = onto-left n.GfmTableCell (text_part unread_text) left b cells p
 
 -- What a byte does in a run.
 
@@ -116,13 +138,6 @@ cells-none : (escaped : Bool) → cells_of escaped [] ≡ Ends []
 unfolding cells_of
 cells-none true = refl
 cells-none false = refl
-
-first-behind : (bs : List ℕ) (cells : Cells) → first_cell (behind_pipe bs cells) ≡ []
-first-behind bs cells = go (is_blank bs)
-  where
-    go : (x : Bool) → first_cell (cond x (Shut [] bs) (Divides [] cells)) ≡ []
-    go true = refl
-    go false = refl
 
 -- the first cell is blank just where no word comes behind whitespace
 blank-white : (b : ℕ) (bs : List ℕ) → is_white b ≡ true →
@@ -280,7 +295,7 @@ record Walks (bs : List ℕ) (p : Point) : Type 0 where
 -- a pipe ends a cell and begins the next, or ends the last
 pipe-walk : (bs : List ℕ) (p : Point) → Walks bs (past_byte 124 p) →
     celled (Within Text) (pipe_runs bs p ++ row_end (124 ∷ bs) p) ≡
-    behind_first (behind_pipe bs (cells_of false bs)) p ++ row_end (124 ∷ bs) p
+    behind (behind_pipe bs (cells_of false bs)) p ++ row_end (124 ∷ bs) p
 unfolding celled
 pipe-walk bs p walks = go (is_blank bs) refl
   where
@@ -299,7 +314,7 @@ pipe-walk bs p walks = go (is_blank bs) refl
         ++ celled (divider_step Text (enter n.GfmTableCellDivider p) last).stage (exit n.GfmTableCellDivider q ∷ rest)
 
     wanted : Bool → List Event
-    wanted last = behind_first (cond last (Shut [] bs) (Divides [] cells)) p ++ row_end bs q
+    wanted last = behind (cond last (Shut [] bs) (Divides [] cells)) p ++ row_end bs q
 
     go : (x : Bool) → is_blank bs ≡ x → given (row_ends rest) ≡ wanted (is_blank bs)
     go true h =
@@ -314,7 +329,7 @@ pipe-walk bs p walks = go (is_blank bs) refl
         (λ (es : List Event).
         exit n.GfmTableCell p ∷ enter n.GfmTableCell p ∷ enter n.GfmTableCellDivider p
         ∷ exit n.GfmTableCellDivider q ∷ es) walks.start
-        ∙ sym (ap (λ (es : List Event). exit n.GfmTableCell p ∷ es ++ row_end bs q) (cells-begin true cells p))
+        ∙ sym (ap (λ (es : List Event). exit n.GfmTableCell p ∷ es ++ row_end bs q) (cells-begin n.GfmTableCell (text_part unread_text) true cells p))
         ∙ sym (ap wanted h)
 
 -- whitespace behind a word: a further word goes on with the text
@@ -325,7 +340,7 @@ unfolding celled
 text-walk escaped b bs p e walks =
     ap (λ (es : List Event). celled (Inner Text) (es ++ row_end (b ∷ bs) p)) (word-white escaped b bs p e)
     ∙ go (is_blank (first_cell cells)) refl
-    ∙ sym (ap (λ (es : List Event). es ++ row_end bs q) (onto-left text_left b cells p))
+    ∙ sym (ap (λ (es : List Event). es ++ row_end bs q) (onto-by text_left b cells p))
     ∙ sym (ap (λ (c : Cells). left_in_text c p ++ row_end bs q) (cells-white escaped b bs e))
   where
     q : Point
@@ -337,8 +352,8 @@ text-walk escaped b bs p e walks =
     rest : List Event
     rest = row_runs White bs q ++ row_end bs q
 
-    behind : List Event
-    behind = behind_first cells (past_text (first_cell cells) q)
+    after : List Event
+    after = behind cells (past_text (first_cell cells) q)
 
     given : Bool → List Event
     given on =
@@ -347,27 +362,27 @@ text-walk escaped b bs p e walks =
 
     go : (x : Bool) → is_blank (first_cell cells) ≡ x →
         given (text_goes_on Text (enter n.SpaceOrTab p ∷ rest)) ≡
-        (text_left (b ∷ first_cell cells) p ++ behind) ++ row_end bs q
+        (text_left (b ∷ first_cell cells) p ++ after) ++ row_end bs q
     go true h =
         ap given (text-goes_on bs q p ∙ ap not h)
         ∙ ap
         (λ (es : List Event). exit n.Data p ∷ exit n.GfmTableCellText p ∷ enter n.SpaceOrTab p ∷ es)
-        (walks.white ∙ ap (λ (es : List Event). (es ++ behind) ++ row_end bs q) (white-blank (first_cell cells) q h))
+        (walks.white ∙ ap (λ (es : List Event). (es ++ after) ++ row_end bs q) (white-blank (text_part unread_text) (λ r. refl) (first_cell cells) q h))
         ∙ sym
-        (ap (λ (es : List Event). (es ++ behind) ++ row_end bs q)
+        (ap (λ (es : List Event). (es ++ after) ++ row_end bs q)
         (text-ends (b ∷ first_cell cells) p (blank-first b (first_cell cells) e ∙ h)))
     go false h =
         ap given (text-goes_on bs q p ∙ ap not h) ∙ walks.gap h
         ∙ sym
-        (ap (λ (es : List Event). (es ++ behind) ++ row_end bs q)
+        (ap (λ (es : List Event). (es ++ after) ++ row_end bs q)
         (text-more b (first_cell cells) p (blank-first b (first_cell cells) e ∙ h)))
 
 -- a further byte of a word
 text-on : (b : ℕ) (cells : Cells) (p : Point) → is_white b ≡ false →
     left_in_text (onto b cells) p ≡ left_in_text cells (past_byte b p)
 text-on b cells p e =
-    onto-left text_left b cells p
-    ∙ ap (λ (es : List Event). es ++ behind_first cells (past_text (first_cell cells) (past_byte b p)))
+    onto-by text_left b cells p
+    ∙ ap (λ (es : List Event). es ++ behind cells (past_text (first_cell cells) (past_byte b p)))
     (text-more b (first_cell cells) p (dark-first b (first_cell cells) e))
 
 -- By the byte.
@@ -396,19 +411,19 @@ white-walks b bs p e more = record {
       ap (λ (es : List Event). celled (Within Text) (es ++ end)) (white-opens b bs p e)
       ∙ ap (λ (es : List Event). enter n.SpaceOrTab p ∷ es) more.white
       ∙ sym
-      (ap (λ (c : Cells). cells_left c p ++ end) same ∙ ap (λ (es : List Event). es ++ end) (onto-left (cell_inside unread_text) b cells p)
-      ∙ ap (λ (es : List Event). (es ++ behind) ++ end) (white-first b (first_cell cells) p e));
+      (ap (λ (c : Cells). cells_left c p ++ end) same ∙ ap (λ (es : List Event). es ++ end) (onto-by (cell_inside unread_text) b cells p)
+      ∙ ap (λ (es : List Event). (es ++ after) ++ end) (white-first (text_part unread_text) b (first_cell cells) p e));
   white =
       ap (λ (es : List Event). celled (Within Text) (es ++ end)) (white-on b bs p e) ∙ more.white
       ∙ sym
-      (ap (λ (c : Cells). left_in_white c p ++ end) same ∙ ap (λ (es : List Event). es ++ end) (onto-left white_left b cells p)
-      ∙ ap (λ (es : List Event). (es ++ behind) ++ end) (white-more b (first_cell cells) p e));
+      (ap (λ (c : Cells). left_in_white c p ++ end) same ∙ ap (λ (es : List Event). es ++ end) (onto-by (white_left (text_part unread_text)) b cells p)
+      ∙ ap (λ (es : List Event). (es ++ after) ++ end) (white-more (text_part unread_text) b (first_cell cells) p e));
   text = λ escaped. text-walk escaped b bs p e more;
   gap = λ h.
       ap (λ (es : List Event). celled Gap (es ++ end)) (white-on b bs p e) ∙ more.gap (sym (blank-white b bs e) ∙ h)
       ∙ sym
-      (ap (λ (c : Cells). left_in_text c p ++ end) same ∙ ap (λ (es : List Event). es ++ end) (onto-left text_left b cells p)
-      ∙ ap (λ (es : List Event). (es ++ behind) ++ end)
+      (ap (λ (c : Cells). left_in_text c p ++ end) same ∙ ap (λ (es : List Event). es ++ end) (onto-by text_left b cells p)
+      ∙ ap (λ (es : List Event). (es ++ after) ++ end)
       (text-more b (first_cell cells) p
       (blank-first b (first_cell cells) e ∙ sym (blank-white b bs e) ∙ h)));
 }
@@ -419,8 +434,8 @@ white-walks b bs p e more = record {
     end : List Event
     end = row_end (b ∷ bs) p
 
-    behind : List Event
-    behind = behind_first cells (past_text (first_cell cells) (past_byte b p))
+    after : List Event
+    after = behind cells (past_text (first_cell cells) (past_byte b p))
 
     same : cells_of false (b ∷ bs) ≡ onto b cells
     same = cells-white false b bs e
@@ -433,7 +448,7 @@ pipe-walks bs p more = record {
       ∙ sym (shown (cell_inside unread_text));
   white =
       ap (λ (es : List Event). celled (Within Text) (es ++ end)) (pipe-white bs p)
-      ∙ ap (λ (es : List Event). exit n.SpaceOrTab p ∷ es) (pipe-walk bs p more) ∙ sym (shown white_left);
+      ∙ ap (λ (es : List Event). exit n.SpaceOrTab p ∷ es) (pipe-walk bs p more) ∙ sym (shown (white_left (text_part unread_text)));
   text = λ escaped. of escaped;
   gap = λ h. let no : true ≡ false = sym (blank-pipe bs) ∙ h in cc;
 }
@@ -446,12 +461,12 @@ pipe-walks bs p more = record {
 
     shown : (left : List ℕ → Point → List Event) →
         (left (first_cell (cells_of false (124 ∷ bs))) p
-        ++ behind_first (cells_of false (124 ∷ bs)) (past_text (first_cell (cells_of false (124 ∷ bs))) p))
+        ++ behind (cells_of false (124 ∷ bs)) (past_text (first_cell (cells_of false (124 ∷ bs))) p))
         ++ end ≡
-        (left [] p ++ behind_first cells p) ++ end
+        (left [] p ++ behind cells p) ++ end
     shown left =
-        ap (λ (c : Cells). (left (first_cell c) p ++ behind_first c (past_text (first_cell c) p)) ++ end) (cells-pipe bs)
-        ∙ ap (λ (x : List ℕ). (left x p ++ behind_first cells (past_text x p)) ++ end) (first-behind bs (cells_of false bs))
+        ap (λ (c : Cells). (left (first_cell c) p ++ behind c (past_text (first_cell c) p)) ++ end) (cells-pipe bs)
+        ∙ ap (λ (x : List ℕ). (left x p ++ behind cells (past_text x p)) ++ end) (first-behind bs (cells_of false bs))
 
     of : (escaped : Bool) →
         celled (Inner Text) (row_runs (word escaped) (124 ∷ bs) p ++ end) ≡ left_in_text (cells_of escaped (124 ∷ bs)) p ++ end
@@ -473,16 +488,16 @@ word-walks b bs p e k more = record {
       ap (λ (es : List Event). celled (Within Text) (es ++ end)) (word-opens b bs p e k)
       ∙ ap (λ (es : List Event). enter n.GfmTableCellText p ∷ enter_link n.Data p text_link ∷ es) inside
       ∙ sym
-      (ap (λ (c : Cells). cells_left c p ++ end) same ∙ ap (λ (es : List Event). es ++ end) (onto-left (cell_inside unread_text) b cells p)
-      ∙ ap (λ (es : List Event). (es ++ behind) ++ end) (text-first b (first_cell cells) p e));
+      (ap (λ (c : Cells). cells_left c p ++ end) same ∙ ap (λ (es : List Event). es ++ end) (onto-by (cell_inside unread_text) b cells p)
+      ∙ ap (λ (es : List Event). (es ++ after) ++ end) (text-first b (first_cell cells) p e));
   white =
       ap (λ (es : List Event). celled (Within Text) (es ++ end)) (white-word b bs p e k)
       ∙ ap
       (λ (es : List Event).
       exit n.SpaceOrTab p ∷ enter n.GfmTableCellText p ∷ enter_link n.Data p text_link ∷ es) inside
       ∙ sym
-      (ap (λ (c : Cells). left_in_white c p ++ end) same ∙ ap (λ (es : List Event). es ++ end) (onto-left white_left b cells p)
-      ∙ ap (λ (es : List Event). (es ++ behind) ++ end) (white-ends b (first_cell cells) p e));
+      (ap (λ (c : Cells). left_in_white c p ++ end) same ∙ ap (λ (es : List Event). es ++ end) (onto-by (white_left (text_part unread_text)) b cells p)
+      ∙ ap (λ (es : List Event). (es ++ after) ++ end) (white-ends (text_part unread_text) b (first_cell cells) p e ∙ ap (λ (es : List Event). exit n.SpaceOrTab p ∷ es) (text-first b (first_cell cells) p e)));
   text = λ escaped. of escaped;
   gap = λ h. ap (λ (es : List Event). celled Gap (es ++ end)) (white-word b bs p e k) ∙ inside ∙ sym on;
 }
@@ -496,8 +511,8 @@ word-walks b bs p e k more = record {
     end : List Event
     end = row_end (b ∷ bs) p
 
-    behind : List Event
-    behind = behind_first cells (past_text (first_cell cells) q)
+    after : List Event
+    after = behind cells (past_text (first_cell cells) q)
 
     same : cells_of false (b ∷ bs) ≡ onto b cells
     same = cells-other b bs k
@@ -558,7 +573,7 @@ row-starts (b ∷ bs) p some dark = go (nat_eq b 124) refl
         enter n.GfmTableCell p ∷ enter n.GfmTableCellDivider p ∷ exit n.GfmTableCellDivider q ∷ es) (walks bs q).start
         ∙ sym
         (ap (λ (t : Bool). wanted t (cond t bs (b ∷ bs))) k
-        ∙ ap₂ (λ (es fs : List Event). es ++ fs) (cells-begin true (cells_of false bs) p) end_is)
+        ∙ ap₂ (λ (es fs : List Event). es ++ fs) (cells-begin n.GfmTableCell (text_part unread_text) true (cells_of false bs) p) end_is)
     go false k =
         let cells = cells_of (nat_eq b 92) bs in
         let first = enter_link n.Data p text_link in
@@ -569,11 +584,11 @@ row-starts (b ∷ bs) p some dark = go (nat_eq b 124) refl
         ∙ sym
         (ap (λ (t : Bool). wanted t (cond t bs (b ∷ bs))) k
         ∙ ap (λ (c : Cells). cells_events unread_text false c p ++ end) (cells-other b bs k)
-        ∙ ap (λ (es : List Event). es ++ end) (cells-begin false (onto b cells) p)
-        ∙ ap (λ (es : List Event). enter n.GfmTableCell p ∷ es ++ end) (onto-left (cell_inside unread_text) b cells p)
+        ∙ ap (λ (es : List Event). es ++ end) (cells-begin n.GfmTableCell (text_part unread_text) false (onto b cells) p)
+        ∙ ap (λ (es : List Event). enter n.GfmTableCell p ∷ es ++ end) (onto-by (cell_inside unread_text) b cells p)
         ∙ ap
         (λ (es : List Event).
-        enter n.GfmTableCell p ∷ (es ++ behind_first cells (past_text (first_cell cells) (past_byte b p))) ++ end)
+        enter n.GfmTableCell p ∷ (es ++ behind cells (past_text (first_cell cells) (past_byte b p))) ++ end)
         (text-first b (first_cell cells) p dark))
 
 -- in the whitespace in front of it

@@ -5,3 +5,4 @@ pub mod DelimiterRule
 pub mod Head
 pub mod Cells
 pub mod RowCells
+pub mod DelimiterCells
