@@ -16,3 +16,5 @@ pub mod RowTexts
 pub mod RowBytes
 pub mod RowRead
 pub mod RowSpread
+pub mod PipeWalk
+pub mod DelimiterWalk

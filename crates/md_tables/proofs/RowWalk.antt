@@ -2,7 +2,7 @@
 use Rattle.std.proofs.Common.{◌≡◌, ℕ, Bool, true, false, cond, ◌&&◌, nat_eq, List, [], ◌∷◌, ◌++◌, refl, sym, ◌∙◌, ap, ap₂}
 use Rattle.std.proofs.Common.{append_assoc, append-nil, drop, subst}
 use Rattle.std.specs.Prelude.{not}
-use Rattle.std.proofs.lemmas.Bool.{eqb-true}
+use Rattle.std.proofs.lemmas.Bool.{and_parts, eqb-true}
 use Rattle.md_engine.specs.declared.event.Event.{Event}
 use Rattle.md_engine.specs.declared.event.Name.TheVariants as n
 use Rattle.md_engine.specs.declared.event.Point.{Point}
@@ -20,6 +20,7 @@ use Rattle.md_tables.specs.RowCells.{row_events, row_runs, text_part, unread_tex
 use Rattle.md_tables.specs.RowRule.{Apart, Escaped, Pipe, Run, Text as TextRun, White, opens}
 use Rattle.md_tables.specs.declared.cells.RowKind.TheVariants.{Text}
 use Rattle.md_tables.specs.declared.cells.Stage.TheVariants.{Behind, Front, Gap, Inner, Last, Outside, Within}
+use Rattle.md_tables.proofs.PipeWalk.{dark-looks, pipe-walk, pipe_runs, white-behind}
 use Rattle.md_tables.proofs.RowCellLemmas.{behind_first, cells-begin, first-behind, first-onto, first_cell, left_of}
 use Rattle.md_tables.proofs.RowCellLemmas.{onto-left, text-ends, text-first, text-more, text_left, white-blank, white-ends}
 use Rattle.md_tables.proofs.RowCellLemmas.{white-first, white-more, white_left}
@@ -68,22 +69,21 @@ word-white true b bs p e = rw e refl
 word-white false b bs p e = rw e refl
 
 -- the runs that a pipe begins
-abbrev pipe_runs : List ℕ → Point → List Event
-pipe_runs bs p =
-    enter n.GfmTableCellDivider p ∷ exit n.GfmTableCellDivider (past_byte 124 p) ∷ row_runs Apart bs (past_byte 124 p)
+abbrev piped : List ℕ → Point → List Event
+piped bs p = pipe_runs (row_runs Apart bs (past_byte 124 p)) p
 
 pipe-alone : (bs : List ℕ) (p : Point) → row_runs Pipe bs p ≡ exit n.GfmTableCellDivider p ∷ row_runs Apart bs p
 pipe-alone [] p = refl
 pipe-alone (b ∷ bs) p = refl
 
-pipe-opens : (bs : List ℕ) (p : Point) → row_runs Apart (124 ∷ bs) p ≡ pipe_runs bs p
+pipe-opens : (bs : List ℕ) (p : Point) → row_runs Apart (124 ∷ bs) p ≡ piped bs p
 pipe-opens bs p = ap (λ (es : List Event). enter n.GfmTableCellDivider p ∷ es) (pipe-alone bs (past_byte 124 p))
 
-pipe-white : (bs : List ℕ) (p : Point) → row_runs White (124 ∷ bs) p ≡ exit n.SpaceOrTab p ∷ pipe_runs bs p
+pipe-white : (bs : List ℕ) (p : Point) → row_runs White (124 ∷ bs) p ≡ exit n.SpaceOrTab p ∷ piped bs p
 pipe-white bs p =
     ap (λ (es : List Event). exit n.SpaceOrTab p ∷ enter n.GfmTableCellDivider p ∷ es) (pipe-alone bs (past_byte 124 p))
 
-pipe-text : (bs : List ℕ) (p : Point) → row_runs TextRun (124 ∷ bs) p ≡ exit n.Data p ∷ pipe_runs bs p
+pipe-text : (bs : List ℕ) (p : Point) → row_runs TextRun (124 ∷ bs) p ≡ exit n.Data p ∷ piped bs p
 pipe-text bs p =
     ap (λ (es : List Event). exit n.Data p ∷ enter n.GfmTableCellDivider p ∷ es) (pipe-alone bs (past_byte 124 p))
 
@@ -189,7 +189,7 @@ white-run (b ∷ bs) p = go (is_white b) refl (nat_eq b 124) refl (white-run bs 
     }
     go false e true k more = record {
       at = p;
-      behind = pipe_runs bs p ++ row_end (124 ∷ bs) p;
+      behind = piped bs p ++ row_end (124 ∷ bs) p;
       is =
           ap (λ (c : ℕ). row_runs White (c ∷ bs) p ++ row_end (c ∷ bs) p) (eqb-true b 124 k)
           ∙ ap (λ (es : List Event). es ++ row_end (124 ∷ bs) p) (pipe-white bs p);
@@ -206,11 +206,6 @@ white-run (b ∷ bs) p = go (is_white b) refl (nat_eq b 124) refl (white-run bs 
       ends = sym (dark-first b bs e);
       on = sym (ap not (blank-word b bs e k));
     }
-
--- what begins with a word begins with no whitespace
-dark-looks : (e : Event) (es : List Event) → is_white_name e.name ≡ false → has_white (e ∷ es) ≡ false
-dark-looks e [] h = refl
-dark-looks e (f ∷ es) h = rw h refl
 
 -- a pipe is the last where whitespace alone stands behind it
 last-pipe : (bs : List ℕ) (p : Point) → row_ends (row_runs Apart bs p ++ row_end bs p) ≡ is_blank bs
@@ -245,37 +240,18 @@ text-goes_on bs p q =
 
 -- The walk.
 
--- behind the last pipe whitespace passes
-white-behind : (bs : List ℕ) (p : Point) → is_blank bs ≡ true →
-    celled Behind (row_runs White bs p ++ row_end bs p) ≡ exit n.SpaceOrTab (past_text bs p) ∷ row_end bs p
-unfolding celled
-white-behind [] p h = refl
-white-behind (b ∷ bs) p h = go (is_white b) refl (λ k. white-behind bs (past_byte b p) k)
-  where
-    go : (x : Bool) → is_white b ≡ x →
-        (is_blank bs ≡ true →
-        celled Behind (row_runs White bs (past_byte b p) ++ row_end (b ∷ bs) p) ≡
-        exit n.SpaceOrTab (past_text (b ∷ bs) p) ∷ row_end (b ∷ bs) p) →
-        celled Behind (row_runs White (b ∷ bs) p ++ row_end (b ∷ bs) p) ≡
-        exit n.SpaceOrTab (past_text (b ∷ bs) p) ∷ row_end (b ∷ bs) p
-    go true e more =
-        ap (λ (es : List Event). celled Behind (es ++ row_end (b ∷ bs) p)) (white-on b bs p e)
-        ∙ more (sym (blank-first b bs e) ∙ h)
-    go false e more = let no : false ≡ true = sym (dark-first b bs e) ∙ h in cc
+-- whitespace alone is one run
+white-alone : (bs : List ℕ) (p : Point) → is_blank bs ≡ true → row_runs White bs p ≡ exit n.SpaceOrTab (past_text bs p) ∷ []
+white-alone [] p h = refl
+white-alone (b ∷ bs) p h =
+    let both = and_parts (is_white b) (is_blank bs) h in
+    white-on b bs p both.0 ∙ white-alone bs (past_byte b p) both.1
 
-row-behind : (bs : List ℕ) (p : Point) → is_blank bs ≡ true →
-    celled Behind (row_runs Apart bs p ++ row_end bs p) ≡ white_part bs p ++ row_end bs p
-unfolding celled
-row-behind [] p h = refl
-row-behind (b ∷ bs) p h = go (is_white b) refl
-  where
-    go : (x : Bool) → is_white b ≡ x →
-        celled Behind (row_runs Apart (b ∷ bs) p ++ row_end (b ∷ bs) p) ≡ white_part (b ∷ bs) p ++ row_end (b ∷ bs) p
-    go true e =
-        ap (λ (es : List Event). celled Behind (es ++ row_end (b ∷ bs) p)) (white-opens b bs p e)
-        ∙ ap (λ (es : List Event). enter n.SpaceOrTab p ∷ es)
-        (white-behind bs (past_byte b p) (sym (blank-first b bs e) ∙ h))
-    go false e = let no : false ≡ true = sym (dark-first b bs e) ∙ h in cc
+blank-runs : (bs : List ℕ) (p : Point) → is_blank bs ≡ true → row_runs Apart bs p ≡ white_part bs p
+blank-runs [] p h = refl
+blank-runs (b ∷ bs) p h =
+    let both = and_parts (is_white b) (is_blank bs) h in
+    white-opens b bs p both.0 ∙ ap (λ (es : List Event). enter n.SpaceOrTab p ∷ es) (white-alone bs (past_byte b p) both.1)
 
 -- What the walk gives for what is left of a row, by where it stands.
 record Walks (bs : List ℕ) (p : Point) : Type 0 where
@@ -293,44 +269,20 @@ record Walks (bs : List ℕ) (p : Point) : Type 0 where
       celled Gap (row_runs White bs p ++ row_end bs p) ≡ left_in_text (cells_of false bs) p ++ row_end bs p
 
 -- a pipe ends a cell and begins the next, or ends the last
-pipe-walk : (bs : List ℕ) (p : Point) → Walks bs (past_byte 124 p) →
-    celled (Within Text) (pipe_runs bs p ++ row_end (124 ∷ bs) p) ≡
+piped-walk : (bs : List ℕ) (p : Point) → Walks bs (past_byte 124 p) →
+    celled (Within Text) (piped bs p ++ row_end (124 ∷ bs) p) ≡
     behind (behind_pipe bs (cells_of false bs)) p ++ row_end (124 ∷ bs) p
 unfolding celled
-pipe-walk bs p walks = go (is_blank bs) refl
+piped-walk bs p walks =
+    pipe-walk Text (text_part unread_text) bs (cells_of false bs) p (row_runs Apart bs q ++ row_end bs q) (row_end bs q)
+    (last-pipe bs q)
+    (λ h.
+    ap (λ (es : List Event). celled Behind (es ++ row_end bs q)) (blank-runs bs q h)
+    ∙ white-behind bs q (row_end bs q) refl)
+    walks.start
   where
     q : Point
     q = past_byte 124 p
-
-    rest : List Event
-    rest = row_runs Apart bs q ++ row_end bs q
-
-    cells : Cells
-    cells = cells_of false bs
-
-    given : Bool → List Event
-    given last =
-        (divider_step Text (enter n.GfmTableCellDivider p) last).given
-        ++ celled (divider_step Text (enter n.GfmTableCellDivider p) last).stage (exit n.GfmTableCellDivider q ∷ rest)
-
-    wanted : Bool → List Event
-    wanted last = behind (cond last (Shut [] bs) (Divides [] cells)) p ++ row_end bs q
-
-    go : (x : Bool) → is_blank bs ≡ x → given (row_ends rest) ≡ wanted (is_blank bs)
-    go true h =
-        ap given (last-pipe bs q ∙ h)
-        ∙ ap
-        (λ (es : List Event).
-        enter n.GfmTableCellDivider p ∷ exit n.GfmTableCellDivider q ∷ exit n.GfmTableCell q ∷ es) (row-behind bs q h)
-        ∙ sym (ap wanted h)
-    go false h =
-        ap given (last-pipe bs q ∙ h)
-        ∙ ap
-        (λ (es : List Event).
-        exit n.GfmTableCell p ∷ enter n.GfmTableCell p ∷ enter n.GfmTableCellDivider p
-        ∷ exit n.GfmTableCellDivider q ∷ es) walks.start
-        ∙ sym (ap (λ (es : List Event). exit n.GfmTableCell p ∷ es ++ row_end bs q) (cells-begin n.GfmTableCell (text_part unread_text) true cells p))
-        ∙ sym (ap wanted h)
 
 -- whitespace behind a word: a further word goes on with the text
 text-walk : (escaped : Bool) (b : ℕ) (bs : List ℕ) (p : Point) → is_white b ≡ true → Walks bs (past_byte b p) →
@@ -444,11 +396,11 @@ pipe-walks : (bs : List ℕ) (p : Point) → Walks bs (past_byte 124 p) → Walk
 unfolding celled
 pipe-walks bs p more = record {
   start =
-      ap (λ (es : List Event). celled (Within Text) (es ++ end)) (pipe-opens bs p) ∙ pipe-walk bs p more
+      ap (λ (es : List Event). celled (Within Text) (es ++ end)) (pipe-opens bs p) ∙ piped-walk bs p more
       ∙ sym (shown (cell_inside unread_text));
   white =
       ap (λ (es : List Event). celled (Within Text) (es ++ end)) (pipe-white bs p)
-      ∙ ap (λ (es : List Event). exit n.SpaceOrTab p ∷ es) (pipe-walk bs p more) ∙ sym (shown (white_left (text_part unread_text)));
+      ∙ ap (λ (es : List Event). exit n.SpaceOrTab p ∷ es) (piped-walk bs p more) ∙ sym (shown (white_left (text_part unread_text)));
   text = λ escaped. of escaped;
   gap = λ h. let no : true ≡ false = sym (blank-pipe bs) ∙ h in cc;
 }
@@ -477,7 +429,7 @@ pipe-walks bs p more = record {
         ∙ ap (λ (es : List Event). es ++ end) (text-on 124 (cells_of false bs) p refl))
     of false =
         ap (λ (es : List Event). celled (Inner Text) (es ++ end)) (pipe-text bs p)
-        ∙ ap (λ (es : List Event). exit n.Data p ∷ exit n.GfmTableCellText p ∷ es) (pipe-walk bs p more)
+        ∙ ap (λ (es : List Event). exit n.Data p ∷ exit n.GfmTableCellText p ∷ es) (piped-walk bs p more)
         ∙ sym (shown text_left)
 
 word-walks : (b : ℕ) (bs : List ℕ) (p : Point) → is_white b ≡ false → nat_eq b 124 ≡ false →
