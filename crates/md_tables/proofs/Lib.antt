@@ -23,7 +23,6 @@ pub mod RowWalk
 pub mod RowTexts
 pub mod RowBytes
 pub mod RowRead
-pub mod RowSpread
 pub mod RunPairs
 pub mod HeadStates
 pub mod HeadRuns
@@ -31,3 +30,5 @@ pub mod HeadsWalk
 pub mod HeadsLemmas
 pub mod RunsLemmas
 pub mod HeadPoints
+pub mod PipeWalk
+pub mod DelimiterWalk

@@ -2,7 +2,7 @@
 use Rattle.std.proofs.Common.{◌≡◌, ℕ, Bool, true, false, cond, ◌&&◌, nat_eq, List, [], ◌∷◌, ◌++◌, refl, sym, ◌∙◌, ap, ap₂}
 use Rattle.std.proofs.Common.{append_assoc, append-nil, drop, subst}
 use Rattle.std.specs.Prelude.{not}
-use Rattle.std.proofs.lemmas.Bool.{eqb-true}
+use Rattle.std.proofs.lemmas.Bool.{and_parts, eqb-true}
 use Rattle.md_engine.specs.declared.event.Event.{Event}
 use Rattle.md_engine.specs.declared.event.Name.TheVariants as n
 use Rattle.md_engine.specs.declared.event.Point.{Point}
@@ -16,15 +16,38 @@ use Rattle.md_tables.specs.Cells.{begins_inner, celled, divider_step, ends_row, 
 use Rattle.md_tables.specs.Cells.{is_last, is_white as is_white_name, piece_step, row_ends}
 use Rattle.md_tables.specs.Row.{text_link}
 use Rattle.md_tables.specs.RowCells.{Cells, Divides, Ends, Shut, behind_pipe, cell_inside, cells_events, cells_of, line_cells, onto}
-use Rattle.md_tables.specs.RowCells.{row_events, row_runs, unread_text, white_front, white_part}
+use Rattle.md_tables.specs.RowCells.{row_events, row_runs, text_part, unread_text, white_front, white_part}
 use Rattle.md_tables.specs.RowRule.{Apart, Escaped, Pipe, Run, Text as TextRun, White, opens}
 use Rattle.md_tables.specs.declared.cells.RowKind.TheVariants.{Text}
 use Rattle.md_tables.specs.declared.cells.Stage.TheVariants.{Behind, Front, Gap, Inner, Last, Outside, Within}
-use Rattle.md_tables.proofs.RowCellLemmas.{behind_first, cells-begin, cells_left, first-onto, first_cell, left_in_text}
-use Rattle.md_tables.proofs.RowCellLemmas.{left_in_white, onto-left, text-ends, text-first, text-more, text_begins, text_left}
-use Rattle.md_tables.proofs.RowCellLemmas.{white-blank, white-ends, white-first, white-more, white_left}
+use Rattle.md_tables.proofs.PipeWalk.{dark-looks, pipe-walk, pipe_runs, white-behind}
+use Rattle.md_tables.proofs.RowCellLemmas.{behind_first, cells-begin, first-behind, first-onto, first_cell, left_of}
+use Rattle.md_tables.proofs.RowCellLemmas.{onto-left, text-ends, text-first, text-more, text_left, white-blank, white-ends}
+use Rattle.md_tables.proofs.RowCellLemmas.{white-first, white-more, white_left}
 use Rattle.md_tables.proofs.RowSteps.{white-apart}
 use Rattle.md_tables.proofs.WhiteEnds.{blank-first, dark-first, front-none, front-one, start-none}
+
+-- What is left of cells that hold texts: where the first begins, in the whitespace in front of its text, and in that.
+
+abbrev behind : Cells → Point → List Event
+behind cells p = behind_first n.GfmTableCell (text_part unread_text) cells p
+
+abbrev left_by : (List ℕ → Point → List Event) → Cells → Point → List Event
+left_by left cells p = left_of n.GfmTableCell (text_part unread_text) left cells p
+
+abbrev cells_left : Cells → Point → List Event
+cells_left cells p = left_by (cell_inside unread_text) cells p
+
+abbrev left_in_white : Cells → Point → List Event
+left_in_white cells p = left_by (white_left (text_part unread_text)) cells p
+
+abbrev left_in_text : Cells → Point → List Event
+left_in_text cells p = left_by text_left cells p
+
+onto-by : (left : List ℕ → Point → List Event) (b : ℕ) (cells : Cells) (p : Point) →
+    left_by left (onto b cells) p ≡
+    left (b ∷ first_cell cells) p ++ behind cells (past_text (first_cell cells) (past_byte b p))
+onto-by left b cells p = onto-left n.GfmTableCell (text_part unread_text) left b cells p
 
 -- What a byte does in a run.
 
@@ -46,22 +69,21 @@ word-white true b bs p e = rw e refl
 word-white false b bs p e = rw e refl
 
 -- the runs that a pipe begins
-abbrev pipe_runs : List ℕ → Point → List Event
-pipe_runs bs p =
-    enter n.GfmTableCellDivider p ∷ exit n.GfmTableCellDivider (past_byte 124 p) ∷ row_runs Apart bs (past_byte 124 p)
+abbrev piped : List ℕ → Point → List Event
+piped bs p = pipe_runs (row_runs Apart bs (past_byte 124 p)) p
 
 pipe-alone : (bs : List ℕ) (p : Point) → row_runs Pipe bs p ≡ exit n.GfmTableCellDivider p ∷ row_runs Apart bs p
 pipe-alone [] p = refl
 pipe-alone (b ∷ bs) p = refl
 
-pipe-opens : (bs : List ℕ) (p : Point) → row_runs Apart (124 ∷ bs) p ≡ pipe_runs bs p
+pipe-opens : (bs : List ℕ) (p : Point) → row_runs Apart (124 ∷ bs) p ≡ piped bs p
 pipe-opens bs p = ap (λ (es : List Event). enter n.GfmTableCellDivider p ∷ es) (pipe-alone bs (past_byte 124 p))
 
-pipe-white : (bs : List ℕ) (p : Point) → row_runs White (124 ∷ bs) p ≡ exit n.SpaceOrTab p ∷ pipe_runs bs p
+pipe-white : (bs : List ℕ) (p : Point) → row_runs White (124 ∷ bs) p ≡ exit n.SpaceOrTab p ∷ piped bs p
 pipe-white bs p =
     ap (λ (es : List Event). exit n.SpaceOrTab p ∷ enter n.GfmTableCellDivider p ∷ es) (pipe-alone bs (past_byte 124 p))
 
-pipe-text : (bs : List ℕ) (p : Point) → row_runs TextRun (124 ∷ bs) p ≡ exit n.Data p ∷ pipe_runs bs p
+pipe-text : (bs : List ℕ) (p : Point) → row_runs TextRun (124 ∷ bs) p ≡ exit n.Data p ∷ piped bs p
 pipe-text bs p =
     ap (λ (es : List Event). exit n.Data p ∷ enter n.GfmTableCellDivider p ∷ es) (pipe-alone bs (past_byte 124 p))
 
@@ -117,13 +139,6 @@ unfolding cells_of
 cells-none true = refl
 cells-none false = refl
 
-first-behind : (bs : List ℕ) (cells : Cells) → first_cell (behind_pipe bs cells) ≡ []
-first-behind bs cells = go (is_blank bs)
-  where
-    go : (x : Bool) → first_cell (cond x (Shut [] bs) (Divides [] cells)) ≡ []
-    go true = refl
-    go false = refl
-
 -- the first cell is blank just where no word comes behind whitespace
 blank-white : (b : ℕ) (bs : List ℕ) → is_white b ≡ true →
     is_blank (first_cell (cells_of false (b ∷ bs))) ≡ is_blank (first_cell (cells_of false bs))
@@ -174,7 +189,7 @@ white-run (b ∷ bs) p = go (is_white b) refl (nat_eq b 124) refl (white-run bs 
     }
     go false e true k more = record {
       at = p;
-      behind = pipe_runs bs p ++ row_end (124 ∷ bs) p;
+      behind = piped bs p ++ row_end (124 ∷ bs) p;
       is =
           ap (λ (c : ℕ). row_runs White (c ∷ bs) p ++ row_end (c ∷ bs) p) (eqb-true b 124 k)
           ∙ ap (λ (es : List Event). es ++ row_end (124 ∷ bs) p) (pipe-white bs p);
@@ -191,11 +206,6 @@ white-run (b ∷ bs) p = go (is_white b) refl (nat_eq b 124) refl (white-run bs 
       ends = sym (dark-first b bs e);
       on = sym (ap not (blank-word b bs e k));
     }
-
--- what begins with a word begins with no whitespace
-dark-looks : (e : Event) (es : List Event) → is_white_name e.name ≡ false → has_white (e ∷ es) ≡ false
-dark-looks e [] h = refl
-dark-looks e (f ∷ es) h = rw h refl
 
 -- a pipe is the last where whitespace alone stands behind it
 last-pipe : (bs : List ℕ) (p : Point) → row_ends (row_runs Apart bs p ++ row_end bs p) ≡ is_blank bs
@@ -230,37 +240,18 @@ text-goes_on bs p q =
 
 -- The walk.
 
--- behind the last pipe whitespace passes
-white-behind : (bs : List ℕ) (p : Point) → is_blank bs ≡ true →
-    celled Behind (row_runs White bs p ++ row_end bs p) ≡ exit n.SpaceOrTab (past_text bs p) ∷ row_end bs p
-unfolding celled
-white-behind [] p h = refl
-white-behind (b ∷ bs) p h = go (is_white b) refl (λ k. white-behind bs (past_byte b p) k)
-  where
-    go : (x : Bool) → is_white b ≡ x →
-        (is_blank bs ≡ true →
-        celled Behind (row_runs White bs (past_byte b p) ++ row_end (b ∷ bs) p) ≡
-        exit n.SpaceOrTab (past_text (b ∷ bs) p) ∷ row_end (b ∷ bs) p) →
-        celled Behind (row_runs White (b ∷ bs) p ++ row_end (b ∷ bs) p) ≡
-        exit n.SpaceOrTab (past_text (b ∷ bs) p) ∷ row_end (b ∷ bs) p
-    go true e more =
-        ap (λ (es : List Event). celled Behind (es ++ row_end (b ∷ bs) p)) (white-on b bs p e)
-        ∙ more (sym (blank-first b bs e) ∙ h)
-    go false e more = let no : false ≡ true = sym (dark-first b bs e) ∙ h in cc
+-- whitespace alone is one run
+white-alone : (bs : List ℕ) (p : Point) → is_blank bs ≡ true → row_runs White bs p ≡ exit n.SpaceOrTab (past_text bs p) ∷ []
+white-alone [] p h = refl
+white-alone (b ∷ bs) p h =
+    let both = and_parts (is_white b) (is_blank bs) h in
+    white-on b bs p both.0 ∙ white-alone bs (past_byte b p) both.1
 
-row-behind : (bs : List ℕ) (p : Point) → is_blank bs ≡ true →
-    celled Behind (row_runs Apart bs p ++ row_end bs p) ≡ white_part bs p ++ row_end bs p
-unfolding celled
-row-behind [] p h = refl
-row-behind (b ∷ bs) p h = go (is_white b) refl
-  where
-    go : (x : Bool) → is_white b ≡ x →
-        celled Behind (row_runs Apart (b ∷ bs) p ++ row_end (b ∷ bs) p) ≡ white_part (b ∷ bs) p ++ row_end (b ∷ bs) p
-    go true e =
-        ap (λ (es : List Event). celled Behind (es ++ row_end (b ∷ bs) p)) (white-opens b bs p e)
-        ∙ ap (λ (es : List Event). enter n.SpaceOrTab p ∷ es)
-        (white-behind bs (past_byte b p) (sym (blank-first b bs e) ∙ h))
-    go false e = let no : false ≡ true = sym (dark-first b bs e) ∙ h in cc
+blank-runs : (bs : List ℕ) (p : Point) → is_blank bs ≡ true → row_runs Apart bs p ≡ white_part bs p
+blank-runs [] p h = refl
+blank-runs (b ∷ bs) p h =
+    let both = and_parts (is_white b) (is_blank bs) h in
+    white-opens b bs p both.0 ∙ ap (λ (es : List Event). enter n.SpaceOrTab p ∷ es) (white-alone bs (past_byte b p) both.1)
 
 -- What the walk gives for what is left of a row, by where it stands.
 record Walks (bs : List ℕ) (p : Point) : Type 0 where
@@ -278,44 +269,20 @@ record Walks (bs : List ℕ) (p : Point) : Type 0 where
       celled Gap (row_runs White bs p ++ row_end bs p) ≡ left_in_text (cells_of false bs) p ++ row_end bs p
 
 -- a pipe ends a cell and begins the next, or ends the last
-pipe-walk : (bs : List ℕ) (p : Point) → Walks bs (past_byte 124 p) →
-    celled (Within Text) (pipe_runs bs p ++ row_end (124 ∷ bs) p) ≡
-    behind_first (behind_pipe bs (cells_of false bs)) p ++ row_end (124 ∷ bs) p
+piped-walk : (bs : List ℕ) (p : Point) → Walks bs (past_byte 124 p) →
+    celled (Within Text) (piped bs p ++ row_end (124 ∷ bs) p) ≡
+    behind (behind_pipe bs (cells_of false bs)) p ++ row_end (124 ∷ bs) p
 unfolding celled
-pipe-walk bs p walks = go (is_blank bs) refl
+piped-walk bs p walks =
+    pipe-walk Text (text_part unread_text) bs (cells_of false bs) p (row_runs Apart bs q ++ row_end bs q) (row_end bs q)
+    (last-pipe bs q)
+    (λ h.
+    ap (λ (es : List Event). celled Behind (es ++ row_end bs q)) (blank-runs bs q h)
+    ∙ white-behind bs q (row_end bs q) refl)
+    walks.start
   where
     q : Point
     q = past_byte 124 p
-
-    rest : List Event
-    rest = row_runs Apart bs q ++ row_end bs q
-
-    cells : Cells
-    cells = cells_of false bs
-
-    given : Bool → List Event
-    given last =
-        (divider_step Text (enter n.GfmTableCellDivider p) last).given
-        ++ celled (divider_step Text (enter n.GfmTableCellDivider p) last).stage (exit n.GfmTableCellDivider q ∷ rest)
-
-    wanted : Bool → List Event
-    wanted last = behind_first (cond last (Shut [] bs) (Divides [] cells)) p ++ row_end bs q
-
-    go : (x : Bool) → is_blank bs ≡ x → given (row_ends rest) ≡ wanted (is_blank bs)
-    go true h =
-        ap given (last-pipe bs q ∙ h)
-        ∙ ap
-        (λ (es : List Event).
-        enter n.GfmTableCellDivider p ∷ exit n.GfmTableCellDivider q ∷ exit n.GfmTableCell q ∷ es) (row-behind bs q h)
-        ∙ sym (ap wanted h)
-    go false h =
-        ap given (last-pipe bs q ∙ h)
-        ∙ ap
-        (λ (es : List Event).
-        exit n.GfmTableCell p ∷ enter n.GfmTableCell p ∷ enter n.GfmTableCellDivider p
-        ∷ exit n.GfmTableCellDivider q ∷ es) walks.start
-        ∙ sym (ap (λ (es : List Event). exit n.GfmTableCell p ∷ es ++ row_end bs q) (cells-begin true cells p))
-        ∙ sym (ap wanted h)
 
 -- whitespace behind a word: a further word goes on with the text
 text-walk : (escaped : Bool) (b : ℕ) (bs : List ℕ) (p : Point) → is_white b ≡ true → Walks bs (past_byte b p) →
@@ -325,7 +292,7 @@ unfolding celled
 text-walk escaped b bs p e walks =
     ap (λ (es : List Event). celled (Inner Text) (es ++ row_end (b ∷ bs) p)) (word-white escaped b bs p e)
     ∙ go (is_blank (first_cell cells)) refl
-    ∙ sym (ap (λ (es : List Event). es ++ row_end bs q) (onto-left text_left b cells p))
+    ∙ sym (ap (λ (es : List Event). es ++ row_end bs q) (onto-by text_left b cells p))
     ∙ sym (ap (λ (c : Cells). left_in_text c p ++ row_end bs q) (cells-white escaped b bs e))
   where
     q : Point
@@ -337,8 +304,8 @@ text-walk escaped b bs p e walks =
     rest : List Event
     rest = row_runs White bs q ++ row_end bs q
 
-    behind : List Event
-    behind = behind_first cells (past_text (first_cell cells) q)
+    after : List Event
+    after = behind cells (past_text (first_cell cells) q)
 
     given : Bool → List Event
     given on =
@@ -347,27 +314,27 @@ text-walk escaped b bs p e walks =
 
     go : (x : Bool) → is_blank (first_cell cells) ≡ x →
         given (text_goes_on Text (enter n.SpaceOrTab p ∷ rest)) ≡
-        (text_left (b ∷ first_cell cells) p ++ behind) ++ row_end bs q
+        (text_left (b ∷ first_cell cells) p ++ after) ++ row_end bs q
     go true h =
         ap given (text-goes_on bs q p ∙ ap not h)
         ∙ ap
         (λ (es : List Event). exit n.Data p ∷ exit n.GfmTableCellText p ∷ enter n.SpaceOrTab p ∷ es)
-        (walks.white ∙ ap (λ (es : List Event). (es ++ behind) ++ row_end bs q) (white-blank (first_cell cells) q h))
+        (walks.white ∙ ap (λ (es : List Event). (es ++ after) ++ row_end bs q) (white-blank (text_part unread_text) (λ r. refl) (first_cell cells) q h))
         ∙ sym
-        (ap (λ (es : List Event). (es ++ behind) ++ row_end bs q)
+        (ap (λ (es : List Event). (es ++ after) ++ row_end bs q)
         (text-ends (b ∷ first_cell cells) p (blank-first b (first_cell cells) e ∙ h)))
     go false h =
         ap given (text-goes_on bs q p ∙ ap not h) ∙ walks.gap h
         ∙ sym
-        (ap (λ (es : List Event). (es ++ behind) ++ row_end bs q)
+        (ap (λ (es : List Event). (es ++ after) ++ row_end bs q)
         (text-more b (first_cell cells) p (blank-first b (first_cell cells) e ∙ h)))
 
 -- a further byte of a word
 text-on : (b : ℕ) (cells : Cells) (p : Point) → is_white b ≡ false →
     left_in_text (onto b cells) p ≡ left_in_text cells (past_byte b p)
 text-on b cells p e =
-    onto-left text_left b cells p
-    ∙ ap (λ (es : List Event). es ++ behind_first cells (past_text (first_cell cells) (past_byte b p)))
+    onto-by text_left b cells p
+    ∙ ap (λ (es : List Event). es ++ behind cells (past_text (first_cell cells) (past_byte b p)))
     (text-more b (first_cell cells) p (dark-first b (first_cell cells) e))
 
 -- By the byte.
@@ -396,19 +363,19 @@ white-walks b bs p e more = record {
       ap (λ (es : List Event). celled (Within Text) (es ++ end)) (white-opens b bs p e)
       ∙ ap (λ (es : List Event). enter n.SpaceOrTab p ∷ es) more.white
       ∙ sym
-      (ap (λ (c : Cells). cells_left c p ++ end) same ∙ ap (λ (es : List Event). es ++ end) (onto-left (cell_inside unread_text) b cells p)
-      ∙ ap (λ (es : List Event). (es ++ behind) ++ end) (white-first b (first_cell cells) p e));
+      (ap (λ (c : Cells). cells_left c p ++ end) same ∙ ap (λ (es : List Event). es ++ end) (onto-by (cell_inside unread_text) b cells p)
+      ∙ ap (λ (es : List Event). (es ++ after) ++ end) (white-first (text_part unread_text) b (first_cell cells) p e));
   white =
       ap (λ (es : List Event). celled (Within Text) (es ++ end)) (white-on b bs p e) ∙ more.white
       ∙ sym
-      (ap (λ (c : Cells). left_in_white c p ++ end) same ∙ ap (λ (es : List Event). es ++ end) (onto-left white_left b cells p)
-      ∙ ap (λ (es : List Event). (es ++ behind) ++ end) (white-more b (first_cell cells) p e));
+      (ap (λ (c : Cells). left_in_white c p ++ end) same ∙ ap (λ (es : List Event). es ++ end) (onto-by (white_left (text_part unread_text)) b cells p)
+      ∙ ap (λ (es : List Event). (es ++ after) ++ end) (white-more (text_part unread_text) b (first_cell cells) p e));
   text = λ escaped. text-walk escaped b bs p e more;
   gap = λ h.
       ap (λ (es : List Event). celled Gap (es ++ end)) (white-on b bs p e) ∙ more.gap (sym (blank-white b bs e) ∙ h)
       ∙ sym
-      (ap (λ (c : Cells). left_in_text c p ++ end) same ∙ ap (λ (es : List Event). es ++ end) (onto-left text_left b cells p)
-      ∙ ap (λ (es : List Event). (es ++ behind) ++ end)
+      (ap (λ (c : Cells). left_in_text c p ++ end) same ∙ ap (λ (es : List Event). es ++ end) (onto-by text_left b cells p)
+      ∙ ap (λ (es : List Event). (es ++ after) ++ end)
       (text-more b (first_cell cells) p
       (blank-first b (first_cell cells) e ∙ sym (blank-white b bs e) ∙ h)));
 }
@@ -419,8 +386,8 @@ white-walks b bs p e more = record {
     end : List Event
     end = row_end (b ∷ bs) p
 
-    behind : List Event
-    behind = behind_first cells (past_text (first_cell cells) (past_byte b p))
+    after : List Event
+    after = behind cells (past_text (first_cell cells) (past_byte b p))
 
     same : cells_of false (b ∷ bs) ≡ onto b cells
     same = cells-white false b bs e
@@ -429,11 +396,11 @@ pipe-walks : (bs : List ℕ) (p : Point) → Walks bs (past_byte 124 p) → Walk
 unfolding celled
 pipe-walks bs p more = record {
   start =
-      ap (λ (es : List Event). celled (Within Text) (es ++ end)) (pipe-opens bs p) ∙ pipe-walk bs p more
+      ap (λ (es : List Event). celled (Within Text) (es ++ end)) (pipe-opens bs p) ∙ piped-walk bs p more
       ∙ sym (shown (cell_inside unread_text));
   white =
       ap (λ (es : List Event). celled (Within Text) (es ++ end)) (pipe-white bs p)
-      ∙ ap (λ (es : List Event). exit n.SpaceOrTab p ∷ es) (pipe-walk bs p more) ∙ sym (shown white_left);
+      ∙ ap (λ (es : List Event). exit n.SpaceOrTab p ∷ es) (piped-walk bs p more) ∙ sym (shown (white_left (text_part unread_text)));
   text = λ escaped. of escaped;
   gap = λ h. let no : true ≡ false = sym (blank-pipe bs) ∙ h in cc;
 }
@@ -446,12 +413,12 @@ pipe-walks bs p more = record {
 
     shown : (left : List ℕ → Point → List Event) →
         (left (first_cell (cells_of false (124 ∷ bs))) p
-        ++ behind_first (cells_of false (124 ∷ bs)) (past_text (first_cell (cells_of false (124 ∷ bs))) p))
+        ++ behind (cells_of false (124 ∷ bs)) (past_text (first_cell (cells_of false (124 ∷ bs))) p))
         ++ end ≡
-        (left [] p ++ behind_first cells p) ++ end
+        (left [] p ++ behind cells p) ++ end
     shown left =
-        ap (λ (c : Cells). (left (first_cell c) p ++ behind_first c (past_text (first_cell c) p)) ++ end) (cells-pipe bs)
-        ∙ ap (λ (x : List ℕ). (left x p ++ behind_first cells (past_text x p)) ++ end) (first-behind bs (cells_of false bs))
+        ap (λ (c : Cells). (left (first_cell c) p ++ behind c (past_text (first_cell c) p)) ++ end) (cells-pipe bs)
+        ∙ ap (λ (x : List ℕ). (left x p ++ behind cells (past_text x p)) ++ end) (first-behind bs (cells_of false bs))
 
     of : (escaped : Bool) →
         celled (Inner Text) (row_runs (word escaped) (124 ∷ bs) p ++ end) ≡ left_in_text (cells_of escaped (124 ∷ bs)) p ++ end
@@ -462,7 +429,7 @@ pipe-walks bs p more = record {
         ∙ ap (λ (es : List Event). es ++ end) (text-on 124 (cells_of false bs) p refl))
     of false =
         ap (λ (es : List Event). celled (Inner Text) (es ++ end)) (pipe-text bs p)
-        ∙ ap (λ (es : List Event). exit n.Data p ∷ exit n.GfmTableCellText p ∷ es) (pipe-walk bs p more)
+        ∙ ap (λ (es : List Event). exit n.Data p ∷ exit n.GfmTableCellText p ∷ es) (piped-walk bs p more)
         ∙ sym (shown text_left)
 
 word-walks : (b : ℕ) (bs : List ℕ) (p : Point) → is_white b ≡ false → nat_eq b 124 ≡ false →
@@ -473,16 +440,16 @@ word-walks b bs p e k more = record {
       ap (λ (es : List Event). celled (Within Text) (es ++ end)) (word-opens b bs p e k)
       ∙ ap (λ (es : List Event). enter n.GfmTableCellText p ∷ enter_link n.Data p text_link ∷ es) inside
       ∙ sym
-      (ap (λ (c : Cells). cells_left c p ++ end) same ∙ ap (λ (es : List Event). es ++ end) (onto-left (cell_inside unread_text) b cells p)
-      ∙ ap (λ (es : List Event). (es ++ behind) ++ end) (text-first b (first_cell cells) p e));
+      (ap (λ (c : Cells). cells_left c p ++ end) same ∙ ap (λ (es : List Event). es ++ end) (onto-by (cell_inside unread_text) b cells p)
+      ∙ ap (λ (es : List Event). (es ++ after) ++ end) (text-first b (first_cell cells) p e));
   white =
       ap (λ (es : List Event). celled (Within Text) (es ++ end)) (white-word b bs p e k)
       ∙ ap
       (λ (es : List Event).
       exit n.SpaceOrTab p ∷ enter n.GfmTableCellText p ∷ enter_link n.Data p text_link ∷ es) inside
       ∙ sym
-      (ap (λ (c : Cells). left_in_white c p ++ end) same ∙ ap (λ (es : List Event). es ++ end) (onto-left white_left b cells p)
-      ∙ ap (λ (es : List Event). (es ++ behind) ++ end) (white-ends b (first_cell cells) p e));
+      (ap (λ (c : Cells). left_in_white c p ++ end) same ∙ ap (λ (es : List Event). es ++ end) (onto-by (white_left (text_part unread_text)) b cells p)
+      ∙ ap (λ (es : List Event). (es ++ after) ++ end) (white-ends (text_part unread_text) b (first_cell cells) p e ∙ ap (λ (es : List Event). exit n.SpaceOrTab p ∷ es) (text-first b (first_cell cells) p e)));
   text = λ escaped. of escaped;
   gap = λ h. ap (λ (es : List Event). celled Gap (es ++ end)) (white-word b bs p e k) ∙ inside ∙ sym on;
 }
@@ -496,8 +463,8 @@ word-walks b bs p e k more = record {
     end : List Event
     end = row_end (b ∷ bs) p
 
-    behind : List Event
-    behind = behind_first cells (past_text (first_cell cells) q)
+    after : List Event
+    after = behind cells (past_text (first_cell cells) q)
 
     same : cells_of false (b ∷ bs) ≡ onto b cells
     same = cells-other b bs k
@@ -558,7 +525,7 @@ row-starts (b ∷ bs) p some dark = go (nat_eq b 124) refl
         enter n.GfmTableCell p ∷ enter n.GfmTableCellDivider p ∷ exit n.GfmTableCellDivider q ∷ es) (walks bs q).start
         ∙ sym
         (ap (λ (t : Bool). wanted t (cond t bs (b ∷ bs))) k
-        ∙ ap₂ (λ (es fs : List Event). es ++ fs) (cells-begin true (cells_of false bs) p) end_is)
+        ∙ ap₂ (λ (es fs : List Event). es ++ fs) (cells-begin n.GfmTableCell (text_part unread_text) true (cells_of false bs) p) end_is)
     go false k =
         let cells = cells_of (nat_eq b 92) bs in
         let first = enter_link n.Data p text_link in
@@ -569,11 +536,11 @@ row-starts (b ∷ bs) p some dark = go (nat_eq b 124) refl
         ∙ sym
         (ap (λ (t : Bool). wanted t (cond t bs (b ∷ bs))) k
         ∙ ap (λ (c : Cells). cells_events unread_text false c p ++ end) (cells-other b bs k)
-        ∙ ap (λ (es : List Event). es ++ end) (cells-begin false (onto b cells) p)
-        ∙ ap (λ (es : List Event). enter n.GfmTableCell p ∷ es ++ end) (onto-left (cell_inside unread_text) b cells p)
+        ∙ ap (λ (es : List Event). es ++ end) (cells-begin n.GfmTableCell (text_part unread_text) false (onto b cells) p)
+        ∙ ap (λ (es : List Event). enter n.GfmTableCell p ∷ es ++ end) (onto-by (cell_inside unread_text) b cells p)
         ∙ ap
         (λ (es : List Event).
-        enter n.GfmTableCell p ∷ (es ++ behind_first cells (past_text (first_cell cells) (past_byte b p))) ++ end)
+        enter n.GfmTableCell p ∷ (es ++ behind cells (past_text (first_cell cells) (past_byte b p))) ++ end)
         (text-first b (first_cell cells) p dark))
 
 -- in the whitespace in front of it

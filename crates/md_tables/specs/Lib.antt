@@ -11,3 +11,4 @@ pub mod TableLines
 pub mod RowCells
 pub mod HeadStates
 pub mod Heads
+pub mod DelimiterCells

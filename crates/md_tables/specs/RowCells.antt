@@ -6,13 +6,14 @@
 use Rattle.std.specs.Prelude.{ℕ, Bool, true, false, ◌==◌, if◌then◌else◌, List, [], ◌∷◌, ◌++◌, take, drop, length}
 use Rattle.std.specs.List.{prefix_len}
 use Rattle.md_engine.specs.declared.event.Event.{Event}
+use Rattle.md_engine.specs.declared.event.Name.{Name}
 use Rattle.md_engine.specs.declared.event.Name.TheVariants as n
 use Rattle.md_engine.specs.declared.event.Point.{Point}
 use Rattle.md_definition.specs.Ascii.{backslash, pipe}
 use Rattle.md_definition.specs.Bytes.{after_optional}
 use Rattle.md_definition.specs.Lines.{begins_with}
 use Rattle.md_definition.specs.Rest.{is_blank, is_white, trim, trim_end, trim_start}
-use Rattle.md_seam.specs.declared.inline.PartKind.TheVariants as part
+use Rattle.md_seam.specs.declared.inline.PartKind.TheVariants as kind
 use Rattle.md_seam.specs.Events.Inline.{plain_events}
 use Rattle.md_seam.specs.Events.Nested.{around, enter_link, exit, pair}
 use Rattle.md_seam.specs.Events.Places.{past_byte, past_text}
@@ -65,12 +66,16 @@ text_part said [] p = []
 text_part said (b ∷ bs) p =
     let q = past_text (b ∷ bs) p in around n.GfmTableCellText p q (said p q)
 
--- what a cell holds
-abbrev pub cell_inside : (Point → Point → List Event) → List ℕ → Point → List Event
-cell_inside said cell p =
+-- what a cell holds: this part, if it holds more than whitespace, with the whitespace around it
+abbrev pub cell_by : (List ℕ → Point → List Event) → List ℕ → Point → List Event
+cell_by part cell p =
     let q = past_text (white_front cell) p in
     white_part (white_front cell) p
-    ++ (text_part said (trim cell) q ++ white_part (white_back (trim_start cell)) (past_text (trim cell) q))
+    ++ (part (trim cell) q ++ white_part (white_back (trim_start cell)) (past_text (trim cell) q))
+
+-- where that is a text
+abbrev pub cell_inside : (Point → Point → List Event) → List ℕ → Point → List Event
+cell_inside said cell p = cell_by (text_part said) cell p
 
 -- a pipe
 abbrev pub pipe_part : Point → List Event
@@ -85,35 +90,42 @@ abbrev pub past_pipe : Bool → Point → Point
 past_pipe true p = past_byte pipe p
 past_pipe false p = p
 
--- the cells from a point on; `piped` says that a pipe stands in front of the first
-abbrev pub cells_events : (Point → Point → List Event) → Bool → Cells → Point → List Event
-cells_events said piped (Ends cell) p =
+-- the cells from a point on, by their name and what they hold; `piped` says that a pipe stands in front of the first
+abbrev pub cells_by : Name → (List ℕ → Point → List Event) → Bool → Cells → Point → List Event
+cells_by name part piped (Ends cell) p =
     let q = past_pipe piped p in
-    around n.GfmTableCell p (past_text cell q) (first_pipe piped p ++ cell_inside said cell q)
-cells_events said piped (Shut cell white) p =
+    around name p (past_text cell q) (first_pipe piped p ++ cell_by part cell q)
+cells_by name part piped (Shut cell white) p =
     let q = past_pipe piped p in
     let end = past_text cell q in
-    around n.GfmTableCell p (past_byte pipe end) (first_pipe piped p ++ (cell_inside said cell q ++ pipe_part end))
+    around name p (past_byte pipe end) (first_pipe piped p ++ (cell_by part cell q ++ pipe_part end))
     ++ white_part white (past_byte pipe end)
-cells_events said piped (Divides cell cells) p =
+cells_by name part piped (Divides cell cells) p =
     let q = past_pipe piped p in
-    around n.GfmTableCell p (past_text cell q) (first_pipe piped p ++ cell_inside said cell q)
-    ++ cells_events said true cells (past_text cell q)
+    around name p (past_text cell q) (first_pipe piped p ++ cell_by part cell q)
+    ++ cells_by name part true cells (past_text cell q)
+
+-- where they hold texts
+abbrev pub cells_events : (Point → Point → List Event) → Bool → Cells → Point → List Event
+cells_events said piped cells p = cells_by n.GfmTableCell (text_part said) piped cells p
 
 -- the cells of a line that begins with no whitespace
 abbrev pub line_cells : List ℕ → Cells
 line_cells line = cells_of false (after_optional pipe line)
 
 -- a row on a line that is not blank, with the whitespace in front of it
-abbrev pub row_events : (Point → Point → List Event) → List ℕ → Point → List Event
-row_events said line p =
+abbrev pub row_by : Name → (List ℕ → Point → List Event) → List ℕ → Point → List Event
+row_by name part line p =
     white_part (white_front line) p
-    ++ cells_events said (begins_with pipe (trim_start line)) (line_cells (trim_start line))
+    ++ cells_by name part (begins_with pipe (trim_start line)) (line_cells (trim_start line))
     (past_text (white_front line) p)
+
+abbrev pub row_events : (Point → Point → List Event) → List ℕ → Point → List Event
+row_events said line p = row_by n.GfmTableCell (text_part said) line p
 
 -- What is said of a text: that it is read later, and what the plain layer reads in it.
 abbrev pub unread_text : Point → Point → List Event
 unread_text p q = enter_link n.Data p text_link ∷ exit n.Data q ∷ []
 
 abbrev pub read_text : List ℕ → Point → Point → List Event
-read_text bytes p q = plain_events bytes (record { kind = part.Text; chunks = (record { first = p; after = q }) ∷ [] })
+read_text bytes p q = plain_events bytes (record { kind = kind.Text; chunks = (record { first = p; after = q }) ∷ [] })
