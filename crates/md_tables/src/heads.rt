@@ -4,7 +4,7 @@
 // the states of a head row. The walk looks at each event as it passes it, and else at most once from the line of text in
 // front of it. So it is linear.
 
-ghost use Rattle.std.specs.Prelude.{◌≡◌, ◌≢◌, ◌++◌, IfOk, IfSome, []};
+ghost use Rattle.std.specs.Prelude.{◌≡◌, ◌≢◌, ◌++◌, IfOk, IfSome, OnOk, []};
 ghost use Rattle.md_engine.specs.Place.{IsPlaced};
 ghost use Rattle.md_engine.specs.Scheme.{stands};
 ghost use Rattle.md_engine.specs.World.{looks, world};
@@ -222,4 +222,28 @@ pub fn put_heads(
         }
     }
     Ok(given)
+}
+
+/// Reads lines of text again that are the heads of tables. Where no line of a table stands behind another nothing is
+/// copied.
+///
+/// After an `Err` the parse has failed, and the tokenizer is only dropped.
+pub fn resolve(tokenizer: &mut Tokenizer) -> Result<(), Message>
+    requires { (world tokenizer.old).frames ≡ [] }
+    ensures { OnOk result
+        (world tokenizer.new ≡
+        record (world tokenizer.old) {
+          events = headed (world tokenizer.old).setting.bytes (world tokenizer.old).setting.options
+              (world tokenizer.old).events;
+        }) }
+{
+    if !has_delimiter(&tokenizer.events) {
+        return Ok(());
+    }
+    let (alloc, bytes, options) = (tokenizer.alloc, tokenizer.bytes, tokenizer.options);
+    let events = tokenizer.take_events();
+    let spare = tokenizer.take_spare();
+    let with_heads = put_heads(alloc, bytes, options, &events, spare)?;
+    tokenizer.set_events(with_heads, events);
+    Ok(())
 }

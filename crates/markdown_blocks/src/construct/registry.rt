@@ -63,7 +63,7 @@ use md_leaves::{heading_atx, heading_setext, thematic_break, underlines};
 use md_lines::{code_indented, raw_flow};
 use md_rich::html_flow;
 use md_seam::space_or_tab::look_behind;
-use md_tables::gfm_table;
+use md_tables::{gfm_table, heads, tables};
 
 /// The state of the document in front of the first container that may open.
 #[inline(always)]
@@ -708,6 +708,7 @@ pub fn resolve(tokenizer: &mut Tokenizer, name: ResolveName) -> Result<Option<Su
     match name {
         ResolveName::HeadingAtx => heading_atx::resolve(tokenizer),
         ResolveName::HeadingSetext => heading_setext::resolve(tokenizer),
+        ResolveName::GfmTable => tables::resolve(tokenizer),
         ResolveName::ListItem => lists::resolve(tokenizer),
         _ => Ok(None),
     }
@@ -717,6 +718,7 @@ pub fn resolve(tokenizer: &mut Tokenizer, name: ResolveName) -> Result<Option<Su
 ///
 /// An `Err` says that memory ran out.
 pub fn read_heads(tokenizer: &mut Tokenizer) -> Result<(), Message>
+    requires { (world tokenizer.old).frames ≡ [] }
     ensures { OnOk result
         (world tokenizer.new ≡
         record (world tokenizer.old) {
@@ -724,6 +726,7 @@ pub fn read_heads(tokenizer: &mut Tokenizer) -> Result<(), Message>
         }) }
 {
     if tokenizer.options.constructs.gfm_table {
+        heads::resolve(tokenizer)?;
     }
     Ok(())
 }
