@@ -76,9 +76,13 @@ free-row n.GfmTableRow h = absurd (let no : true ≡ false = h in cc)
 free-row n.GfmTableDelimiterRow h = absurd (let no : true ≡ false = h in cc)
 free-row _ h = refl
 
+-- no table begins with them
+pub free-passes : (e : Event) → of_tables e.name ≡ false → passes Outside e ≡ true
+free-passes e h = rw (free-bound e.kind e.name h) refl
+
 pub free-untabled : (es : List Event) → AreFree es → AreUntabled es
 free-untabled [] h = tt
-free-untabled (e ∷ es) h = (rw (free-bound e.kind e.name h.0) refl, free-untabled es h.1)
+free-untabled (e ∷ es) h = (free-passes e h.0, free-untabled es h.1)
 
 -- In a table.
 
