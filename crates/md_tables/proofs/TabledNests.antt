@@ -18,7 +18,7 @@ use Rattle.md_tables.specs.declared.cells.Stage.TheVariants as row
 use Rattle.md_tables.specs.declared.tables.Section.{Section}
 use Rattle.md_tables.specs.declared.tables.Section.TheVariants.{Outside}
 use Rattle.md_tables.proofs.RowNests.{ArePairs, row-balanced}
-use Rattle.md_tables.proofs.TabledLines.{AreFreeLines, IsFreeLine, IsFreeTable, tabled-table}
+use Rattle.md_tables.proofs.TabledLines.{AreFreeLines, IsFreeTable, tabled-table}
 use Rattle.md_tables.proofs.TabledWalk.{given-kept}
 
 -- Points.
