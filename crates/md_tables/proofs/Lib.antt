@@ -18,3 +18,4 @@ pub mod RowRead
 pub mod RowSpread
 pub mod PipeWalk
 pub mod DelimiterWalk
+pub mod DelimiterRead
