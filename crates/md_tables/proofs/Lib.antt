@@ -13,3 +13,13 @@ pub mod TabledLines
 pub mod RowNests
 pub mod TabledNests
 pub mod RunPairs
+pub mod WhiteEnds
+pub mod RowCellLemmas
+pub mod RowWalk
+pub mod RowTexts
+pub mod RowBytes
+pub mod RowRead
+pub mod RowSpread
+pub mod PipeWalk
+pub mod DelimiterWalk
+pub mod DelimiterRead

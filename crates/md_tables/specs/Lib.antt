@@ -6,3 +6,5 @@ pub mod Head
 pub mod Cells
 pub mod Tabled
 pub mod TableLines
+pub mod RowCells
+pub mod DelimiterCells

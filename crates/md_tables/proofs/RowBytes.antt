@@ -1,0 +1,109 @@
+-- The bytes of a row: its cells with the pipes between them are its line, and each cell is its text with the whitespace
+-- around it.
+use Rattle.std.proofs.Common.{◌≡◌, ℕ, ◌+◌, Bool, true, false, cond, nat_eq, List, [], ◌∷◌, ◌++◌, length, take, drop}
+use Rattle.std.proofs.Common.{slice_range, refl, sym, ◌∙◌, ap, append_assoc}
+use Rattle.std.specs.List.{prefix_len}
+use Rattle.std.proofs.lemmas.Bool.{eqb-true}
+use Rattle.std.proofs.lemmas.List.{take-append-drop}
+use Rattle.std.proofs.lemmas.List.Sums.{list_all-from_AllPass}
+use Rattle.md_engine.specs.declared.event.Point.{Point}
+use Rattle.md_definition.specs.Bytes.{after_optional}
+use Rattle.md_definition.specs.Lines.{begins_with}
+use Rattle.md_definition.specs.Rest.{is_blank, is_white, trim, trim_start}
+use Rattle.md_leaves.proofs.TitleTexts.{front-passes}
+use Rattle.md_seam.specs.Events.Places.{past_text}
+use Rattle.md_seam.proofs.FeedLines.{drop-past, past_text-whole, slice-front}
+use Rattle.md_seam.proofs.InlineLemmas.{past-index}
+use Rattle.md_tables.specs.RowCells.{Cells, Divides, Ends, Shut, behind_pipe, cells_of, line_cells, onto, white_back}
+use Rattle.md_tables.specs.RowCells.{white_front}
+use Rattle.md_tables.proofs.WhiteEnds.{end-whole}
+
+-- The bytes of cells.
+
+-- a pipe in front of a cell, if there is one
+abbrev pub pipe_bytes : Bool → List ℕ
+pipe_bytes true = 124 ∷ []
+pipe_bytes false = []
+
+abbrev pub cells_bytes : Bool → Cells → List ℕ
+cells_bytes piped (Ends cell) = pipe_bytes piped ++ cell
+cells_bytes piped (Shut cell white) = pipe_bytes piped ++ (cell ++ 124 ∷ white)
+cells_bytes piped (Divides cell cells) = pipe_bytes piped ++ (cell ++ cells_bytes true cells)
+
+onto-bytes : (b : ℕ) (cells : Cells) → cells_bytes false (onto b cells) ≡ b ∷ cells_bytes false cells
+onto-bytes b (Ends cell) = refl
+onto-bytes b (Shut cell white) = refl
+onto-bytes b (Divides cell cells) = refl
+
+piped-bytes : (cells : Cells) → cells_bytes true cells ≡ 124 ∷ cells_bytes false cells
+piped-bytes (Ends cell) = refl
+piped-bytes (Shut cell white) = refl
+piped-bytes (Divides cell cells) = refl
+
+behind-bytes : (bs : List ℕ) (cells : Cells) → cells_bytes false cells ≡ bs →
+    cells_bytes false (behind_pipe bs cells) ≡ 124 ∷ bs
+behind-bytes bs cells e = go (is_blank bs)
+  where
+    go : (x : Bool) → cells_bytes false (cond x (Shut [] bs) (Divides [] cells)) ≡ 124 ∷ bs
+    go true = refl
+    go false = piped-bytes cells ∙ ap (λ (xs : List ℕ). 124 ∷ xs) e
+
+-- those of bytes are these bytes
+pub bytes-of : (escaped : Bool) (bs : List ℕ) → cells_bytes false (cells_of escaped bs) ≡ bs
+unfolding cells_of
+bytes-of true [] = refl
+bytes-of false [] = refl
+bytes-of true (b ∷ bs) = onto-bytes b (cells_of false bs) ∙ ap (λ (xs : List ℕ). b ∷ xs) (bytes-of false bs)
+bytes-of false (b ∷ bs) = go (nat_eq b 124) refl (λ x. bytes-of x bs)
+  where
+    go : (y : Bool) → nat_eq b 124 ≡ y → ((x : Bool) → cells_bytes false (cells_of x bs) ≡ bs) →
+        cells_bytes false (cond y (behind_pipe bs (cells_of false bs)) (onto b (cells_of (nat_eq b 92) bs))) ≡ b ∷ bs
+    go true k more =
+        behind-bytes bs (cells_of false bs) (more false) ∙ ap (λ (c : ℕ). c ∷ bs) (sym (eqb-true b 124 k))
+    go false k more = onto-bytes b (cells_of (nat_eq b 92) bs) ∙ ap (λ (xs : List ℕ). b ∷ xs) (more (nat_eq b 92))
+
+-- and so are those of a line, with the pipe in front of them
+pub line-bytes : (line : List ℕ) → cells_bytes (begins_with 124 line) (line_cells line) ≡ line
+line-bytes [] = bytes-of false []
+line-bytes (b ∷ bs) = go (nat_eq b 124) refl
+  where
+    go : (y : Bool) → nat_eq b 124 ≡ y → cells_bytes y (cells_of false (cond y bs (b ∷ bs))) ≡ b ∷ bs
+    go true k =
+        piped-bytes (cells_of false bs) ∙ ap (λ (xs : List ℕ). 124 ∷ xs) (bytes-of false bs)
+        ∙ ap (λ (c : ℕ). c ∷ bs) (sym (eqb-true b 124 k))
+    go false k = bytes-of false (b ∷ bs)
+
+-- The bytes of a cell.
+
+pub front-whole : (x : List ℕ) → x ≡ white_front x ++ trim_start x
+front-whole x = sym (take-append-drop (prefix_len is_white x) x)
+
+pub front-blank : (x : List ℕ) → is_blank (white_front x) ≡ true
+front-blank x = list_all-from_AllPass is_white (white_front x) (front-passes is_white x)
+
+pub cell-whole : (x : List ℕ) → x ≡ white_front x ++ (trim x ++ white_back (trim_start x))
+cell-whole x = front-whole x ∙ ap (λ (xs : List ℕ). white_front x ++ xs) (end-whole (trim_start x))
+
+-- Where they stand.
+
+-- these bytes stand at a point of a text, and no tab is cut there
+pub record Stands (bytes : List ℕ) (p : Point) (xs : List ℕ) : Type 0 where
+  pub behind : List ℕ
+  pub text : drop p.index bytes ≡ xs ++ behind
+  pub whole : p.vs ≡ 0
+
+pub stands-first : (bytes : List ℕ) (p : Point) (xs ys : List ℕ) → Stands bytes p (xs ++ ys) →
+    slice_range bytes p.index (past_text xs p).index ≡ xs
+stands-first bytes p xs ys is =
+    slice-front bytes p.index (past_text xs p).index xs (ys ++ is.behind) (is.text ∙ append_assoc xs ys is.behind)
+    (past-index xs p)
+
+pub stands-next : (bytes : List ℕ) (p : Point) (xs ys : List ℕ) → Stands bytes p (xs ++ ys) →
+    Stands bytes (past_text xs p) ys
+stands-next bytes p xs ys is = record {
+  behind = is.behind;
+  text =
+      ap (λ (i : ℕ). drop i bytes) (past-index xs p)
+      ∙ drop-past bytes p.index xs (ys ++ is.behind) (is.text ∙ append_assoc xs ys is.behind);
+  whole = past_text-whole xs p is.whole;
+}
