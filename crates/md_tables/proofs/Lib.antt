@@ -12,7 +12,6 @@ pub mod CellsLemmas
 pub mod TabledLines
 pub mod RowNests
 pub mod TabledNests
-pub mod RunPairs
 pub mod WhiteEnds
 pub mod RowCellLemmas
 pub mod RowWalk
@@ -23,3 +22,4 @@ pub mod RowSpread
 pub mod PipeWalk
 pub mod DelimiterWalk
 pub mod DelimiterRead
+pub mod TableRows
