@@ -1,20 +1,16 @@
--- What cells in rows keep: points, and what stands outside of rows. Each row is told by its own events.
-use Rattle.std.proofs.Common.{◌≡◌, ℕ, Bool, true, false, cond, ◌&&◌, List, [], ◌∷◌, ◌++◌, drop, Option, Some, None, refl, sym, ◌∙◌}
-use Rattle.std.proofs.Common.{ap, append_assoc, append-nil}
+-- What cells in rows keep of the events, and what stands outside of rows. Each row is told by its own events.
+use Rattle.std.proofs.Common.{◌≡◌, Bool, true, false, cond, ◌&&◌, List, [], ◌∷◌, ◌++◌, drop, Option, Some, None, refl, sym, ◌∙◌}
+use Rattle.std.proofs.Common.{ap}
 use Rattle.std.specs.List.{All}
 use Rattle.std.proofs.lemmas.Bool.{and_parts}
-use Rattle.std.proofs.lemmas.List.Elements.{All-append, All-cons, All-head, All-nil, All-tail}
+use Rattle.std.proofs.lemmas.List.Elements.{All-cons, All-nil}
 use Rattle.md_engine.specs.declared.event.Event.{Event}
 use Rattle.md_engine.specs.declared.event.Kind.{Kind}
 use Rattle.md_engine.specs.declared.event.Kind.TheVariants.{Enter, Exit}
 use Rattle.md_engine.specs.declared.event.Name.{Name}
 use Rattle.md_engine.specs.declared.event.Name.TheVariants as n
-use Rattle.md_engine.specs.declared.event.Point.{Point}
-use Rattle.md_leaves.proofs.SpannedLemmas.{AtPoint, one-point}
 use Rattle.md_seam.specs.Events.Nested.{enter, exit, is_enter, is_exit}
-use Rattle.md_seam.specs.Parts.{ArePlaced}
-use Rattle.md_engine.specs.Place.{IsPlaced}
-use Rattle.md_tables.specs.Cells.{Step, begins_divider, begins_inner, begins_row, cell_name, celled, divider_step}
+use Rattle.md_tables.specs.Cells.{Step, begins_divider, begins_inner, begins_row, cell_name, divider_step}
 use Rattle.md_tables.specs.Cells.{ends_divider, ends_inner, ends_row, ends_with, first_is, front_step, goes_on, has_white}
 use Rattle.md_tables.specs.Cells.{inner_name, inner_step, inside_step, is_divider, is_last, is_row, is_white}
 use Rattle.md_tables.specs.Cells.{last_step, outside_step, passed, piece_step, row_ends, row_kind, step, within_step}
@@ -23,105 +19,132 @@ use Rattle.md_tables.specs.declared.cells.RowKind.TheVariants.{Delimiter, Text}
 use Rattle.md_tables.specs.declared.cells.Stage.{Stage}
 use Rattle.md_tables.specs.declared.cells.Stage.TheVariants.{Behind, Front, Gap, Inner, Last, Outside, Within}
 
--- Points.
+-- What is put around events.
 
--- What is given for an event stands where it does.
-abbrev pub StandThere : (Point → Type 0) → List Event → Type 0
-StandThere P es = All (AtPoint P) es
+-- the names of the parts of a table that are put around others
+abbrev pub is_put : Name → Bool
+is_put n.GfmTableHead = true
+is_put n.GfmTableBody = true
+is_put n.GfmTableCell = true
+is_put n.GfmTableCellText = true
+is_put n.GfmTableDelimiterCell = true
+is_put n.GfmTableDelimiterCellValue = true
+is_put _ = false
 
-two-points : (P : Point → Type 0) (e f : Event) → P e.point → P f.point → StandThere P (e ∷ f ∷ [])
-two-points P e f h k = All-cons (AtPoint P) e (f ∷ []) h (one-point P f k)
+-- what holds of an event goes on to hold of one of these that is put where it stands
+abbrev pub GoesOver : (Event → Type 0) → Type 0
+GoesOver P = (kind : Kind) (name : Name) (e : Event) → is_put name ≡ true → P e →
+    P (record { kind = kind; name = name; point = e.point; link = None })
 
-three-points : (P : Point → Type 0) (e f g : Event) → P e.point → P f.point → P g.point → StandThere P (e ∷ f ∷ g ∷ [])
-three-points P e f g h k m = All-cons (AtPoint P) e (f ∷ g ∷ []) h (two-points P f g k m)
+put-cell : (P : Event → Type 0) → GoesOver P → (k : RowKind) (kind : Kind) (e : Event) → P e →
+    P (record { kind = kind; name = cell_name k; point = e.point; link = None })
+put-cell P over Text kind e h = over kind n.GfmTableCell e refl h
+put-cell P over Delimiter kind e h = over kind n.GfmTableDelimiterCell e refl h
 
-ends-points : (P : Point → Type 0) (stage : Stage) (e : Event) → P e.point → StandThere P (ends_with stage e)
-ends-points P Outside e h = one-point P e h
-ends-points P (Front k) e h = one-point P e h
-ends-points P (Within k) e h = two-points P (exit (cell_name k) e.point) e h h
-ends-points P (Inner k) e h = one-point P e h
-ends-points P Gap e h = one-point P e h
-ends-points P (Last k) e h = one-point P e h
-ends-points P Behind e h = one-point P e h
+put-inner : (P : Event → Type 0) → GoesOver P → (k : RowKind) (kind : Kind) (e : Event) → P e →
+    P (record { kind = kind; name = inner_name k; point = e.point; link = None })
+put-inner P over Text kind e h = over kind n.GfmTableCellText e refl h
+put-inner P over Delimiter kind e h = over kind n.GfmTableDelimiterCellValue e refl h
 
-front-points : (P : Point → Type 0) (k : RowKind) (e : Event) → P e.point → StandThere P (front_step k e).given
-front-points P k e h = go (begins_divider e) (begins_inner k e)
+pub one-kept : (P : Event → Type 0) (e : Event) → P e → All P (e ∷ [])
+one-kept P e h = All-cons P e [] h (All-nil P)
+
+two-kept : (P : Event → Type 0) (e f : Event) → P e → P f → All P (e ∷ f ∷ [])
+two-kept P e f h k = All-cons P e (f ∷ []) h (one-kept P f k)
+
+three-kept : (P : Event → Type 0) (e f g : Event) → P e → P f → P g → All P (e ∷ f ∷ g ∷ [])
+three-kept P e f g h k m = All-cons P e (f ∷ g ∷ []) h (two-kept P f g k m)
+
+-- so it holds of all that is given for an event
+ends-kept : (P : Event → Type 0) (over : GoesOver P) (stage : Stage) (e : Event) → P e → All P (ends_with stage e)
+ends-kept P over Outside e h = one-kept P e h
+ends-kept P over (Front k) e h = one-kept P e h
+ends-kept P over (Within k) e h = two-kept P (exit (cell_name k) e.point) e (put-cell P over k Exit e h) h
+ends-kept P over (Inner k) e h = one-kept P e h
+ends-kept P over Gap e h = one-kept P e h
+ends-kept P over (Last k) e h = one-kept P e h
+ends-kept P over Behind e h = one-kept P e h
+
+front-kept : (P : Event → Type 0) (over : GoesOver P) (k : RowKind) (e : Event) → P e → All P (front_step k e).given
+front-kept P over k e h = go (begins_divider e) (begins_inner k e)
   where
     go : (x y : Bool) →
-        StandThere P
+        All P
         (cond x (record { given = enter (cell_name k) e.point ∷ e ∷ []; stage = Within k })
         (cond y
         (record { given = enter (cell_name k) e.point ∷ enter (inner_name k) e.point ∷ e ∷ []; stage = Inner k })
         (passed e (Front k)))).given
-    go true y = two-points P (enter (cell_name k) e.point) e h h
-    go false true = three-points P (enter (cell_name k) e.point) (enter (inner_name k) e.point) e h h h
-    go false false = one-point P e h
+    go true y = two-kept P (enter (cell_name k) e.point) e (put-cell P over k Enter e h) h
+    go false true = three-kept P (enter (cell_name k) e.point) (enter (inner_name k) e.point) e (put-cell P over k Enter e h)
+        (put-inner P over k Enter e h) h
+    go false false = one-kept P e h
 
-divider-points : (P : Point → Type 0) (k : RowKind) (e : Event) (x : Bool) → P e.point →
-    StandThere P (divider_step k e x).given
-divider-points P k e true h = one-point P e h
-divider-points P k e false h =
-    three-points P (exit (cell_name k) e.point) (enter (cell_name k) e.point) e h h h
+divider-kept : (P : Event → Type 0) (over : GoesOver P) (k : RowKind) (e : Event) (x : Bool) → P e →
+    All P (divider_step k e x).given
+divider-kept P over k e true h = one-kept P e h
+divider-kept P over k e false h =
+    three-kept P (exit (cell_name k) e.point) (enter (cell_name k) e.point) e (put-cell P over k Exit e h)
+    (put-cell P over k Enter e h) h
 
-within-points : (P : Point → Type 0) (k : RowKind) (e : Event) (es : List Event) → P e.point →
-    StandThere P (within_step k e es).given
-within-points P k e es h = go (begins_divider e) (begins_inner k e)
+within-kept : (P : Event → Type 0) (over : GoesOver P) (k : RowKind) (e : Event) (es : List Event) → P e →
+    All P (within_step k e es).given
+within-kept P over k e es h = go (begins_divider e) (begins_inner k e)
   where
     go : (x y : Bool) →
-        StandThere P
+        All P
         (cond x (divider_step k e (is_last es))
         (cond y (record { given = enter (inner_name k) e.point ∷ e ∷ []; stage = Inner k }) (passed e (Within k)))).given
-    go true y = divider-points P k e (is_last es) h
-    go false true = two-points P (enter (inner_name k) e.point) e h h
-    go false false = one-point P e h
+    go true y = divider-kept P over k e (is_last es) h
+    go false true = two-kept P (enter (inner_name k) e.point) e (put-inner P over k Enter e h) h
+    go false false = one-kept P e h
 
-piece-points : (P : Point → Type 0) (k : RowKind) (e : Event) (x : Bool) → P e.point →
-    StandThere P (piece_step k e x).given
-piece-points P Text e true h = All-nil (AtPoint P)
-piece-points P Delimiter e true h = one-point P e h
-piece-points P Text e false h = two-points P e (exit (inner_name Text) e.point) h h
-piece-points P Delimiter e false h = two-points P e (exit (inner_name Delimiter) e.point) h h
+piece-kept : (P : Event → Type 0) (over : GoesOver P) (k : RowKind) (e : Event) (x : Bool) → P e →
+    All P (piece_step k e x).given
+piece-kept P over Text e true h = All-nil P
+piece-kept P over Delimiter e true h = one-kept P e h
+piece-kept P over Text e false h = two-kept P e (exit (inner_name Text) e.point) h (put-inner P over Text Exit e h)
+piece-kept P over Delimiter e false h = two-kept P e (exit (inner_name Delimiter) e.point) h (put-inner P over Delimiter Exit e h)
 
-inner-points : (P : Point → Type 0) (k : RowKind) (e : Event) (es : List Event) → P e.point →
-    StandThere P (inner_step k e es).given
-inner-points P k e es h = go (ends_inner k e)
+inner-kept : (P : Event → Type 0) (over : GoesOver P) (k : RowKind) (e : Event) (es : List Event) → P e →
+    All P (inner_step k e es).given
+inner-kept P over k e es h = go (ends_inner k e)
   where
-    go : (x : Bool) → StandThere P (cond x (piece_step k e (goes_on k es)) (passed e (Inner k))).given
-    go true = piece-points P k e (goes_on k es) h
-    go false = one-point P e h
+    go : (x : Bool) → All P (cond x (piece_step k e (goes_on k es)) (passed e (Inner k))).given
+    go true = piece-kept P over k e (goes_on k es) h
+    go false = one-kept P e h
 
-last-points : (P : Point → Type 0) (k : RowKind) (e : Event) → P e.point → StandThere P (last_step k e).given
-last-points P k e h = go (ends_divider e)
+last-kept : (P : Event → Type 0) (over : GoesOver P) (k : RowKind) (e : Event) → P e → All P (last_step k e).given
+last-kept P over k e h = go (ends_divider e)
   where
     go : (x : Bool) →
-        StandThere P
+        All P
         (cond x (record { given = e ∷ exit (cell_name k) e.point ∷ []; stage = Behind }) (passed e (Last k))).given
-    go true = two-points P e (exit (cell_name k) e.point) h h
-    go false = one-point P e h
+    go true = two-kept P e (exit (cell_name k) e.point) h (put-cell P over k Exit e h)
+    go false = one-kept P e h
 
-outside-points : (P : Point → Type 0) (e : Event) (o : Option RowKind) → P e.point →
-    StandThere P (outside_step e o).given
-outside-points P e None h = one-point P e h
-outside-points P e (Some k) h = one-point P e h
+outside-kept : (P : Event → Type 0) (over : GoesOver P) (e : Event) (o : Option RowKind) → P e →
+    All P (outside_step e o).given
+outside-kept P over e None h = one-kept P e h
+outside-kept P over e (Some k) h = one-kept P e h
 
-inside-points : (P : Point → Type 0) (stage : Stage) (e : Event) (es : List Event) → P e.point →
-    StandThere P (inside_step stage e es).given
-inside-points P Outside e es h = outside-points P e (begins_row e) h
-inside-points P (Front k) e es h = front-points P k e h
-inside-points P (Within k) e es h = within-points P k e es h
-inside-points P (Inner k) e es h = inner-points P k e es h
-inside-points P Gap e es h = All-nil (AtPoint P)
-inside-points P (Last k) e es h = last-points P k e h
-inside-points P Behind e es h = one-point P e h
+inside-kept : (P : Event → Type 0) (over : GoesOver P) (stage : Stage) (e : Event) (es : List Event) → P e →
+    All P (inside_step stage e es).given
+inside-kept P over Outside e es h = outside-kept P over e (begins_row e) h
+inside-kept P over (Front k) e es h = front-kept P over k e h
+inside-kept P over (Within k) e es h = within-kept P over k e es h
+inside-kept P over (Inner k) e es h = inner-kept P over k e es h
+inside-kept P over Gap e es h = All-nil P
+inside-kept P over (Last k) e es h = last-kept P over k e h
+inside-kept P over Behind e es h = one-kept P e h
 
-pub step-points : (P : Point → Type 0) (stage : Stage) (e : Event) (es : List Event) → P e.point →
-    StandThere P (step stage e es).given
-step-points P stage e es h = go (ends_row e)
+pub step-kept : (P : Event → Type 0) (over : GoesOver P) (stage : Stage) (e : Event) (es : List Event) → P e →
+    All P (step stage e es).given
+step-kept P over stage e es h = go (ends_row e)
   where
     go : (x : Bool) →
-        StandThere P (cond x (record { given = ends_with stage e; stage = Outside }) (inside_step stage e es)).given
-    go true = ends-points P stage e h
-    go false = inside-points P stage e es h
+        All P (cond x (record { given = ends_with stage e; stage = Outside }) (inside_step stage e es)).given
+    go true = ends-kept P over stage e h
+    go false = inside-kept P over stage e es h
 
 -- Outside of rows.
 

@@ -11,18 +11,20 @@ use Rattle.md_definition.specs.Lines.{begins_with}
 use Rattle.md_definition.specs.Rest.{is_blank, is_white, trim_end, trim_start}
 use Rattle.md_seam.specs.Events.Nested.{enter, exit}
 use Rattle.md_seam.specs.Events.Places.{past_byte, past_text}
+use Rattle.md_seam.proofs.InlineLemmas.{past_text-append}
 use Rattle.md_seam.proofs.RestLines.{trim-white}
 use Rattle.md_tables.specs.Cells.{celled, ends_row, first_is, is_white as is_white_name, row_ends}
 use Rattle.md_tables.specs.Delimiter.{Aligns, Dash, Divides as Pipes, Mark, Other, Stops, White, mark_of}
 use Rattle.md_tables.specs.DelimiterCells.{delimiter_events, delimiter_runs, value_part}
 use Rattle.md_tables.specs.DelimiterRule.{Apart, Behind as BehindCell, Colon, Dashes, Filler, Front as FrontOfRow, Left, Open}
-use Rattle.md_tables.specs.DelimiterRule.{Pipe, Place, Run, Space, begun, closes, counted, fits, goes_on, met, opens}
+use Rattle.md_tables.specs.DelimiterRule.{Pipe, Place, Run, Space, begun, closes, counted, fits, goes_on, led, met, move, opens}
 use Rattle.md_tables.specs.RowCells.{Cells, Divides, Ends, Shut, behind_pipe, cell_by, cells_by, cells_of, line_cells, onto}
 use Rattle.md_tables.specs.RowCells.{white_back, white_front, white_part}
 use Rattle.md_tables.specs.declared.cells.RowKind.TheVariants.{Delimiter}
 use Rattle.md_tables.specs.declared.cells.Stage.TheVariants.{Behind, Front, Inner, Within}
-use Rattle.md_tables.proofs.DelimiterLemmas.{Told, told-as}
+use Rattle.md_tables.proofs.DelimiterLemmas.{Told, told}
 use Rattle.md_tables.proofs.PipeWalk.{dark-looks, pipe-walk, pipe_runs, white-behind}
+use Rattle.md_tables.proofs.RowBytes.{front-whole}
 use Rattle.md_tables.proofs.RowCellLemmas.{behind_first, cells-begin, dark-cell, first-behind, first-onto, first_cell}
 use Rattle.md_tables.proofs.RowCellLemmas.{left_of, onto-left, white-blank, white-ends, white-first, white-more, white_left}
 use Rattle.md_tables.proofs.RowSteps.{white-apart}
@@ -56,6 +58,23 @@ blank-runs [] p h = refl
 blank-runs (b ∷ bs) p h =
     let both = and_parts (is_white b) (is_blank bs) h in
     space-opens b bs p both.0 ∙ ap (λ (es : List Event). enter n.SpaceOrTab p ∷ es) (space-alone bs (past_byte b p) both.1)
+
+-- and ends in front of what is none
+space-front : (bs : List ℕ) (p : Point) →
+    delimiter_runs Space bs p ≡
+    exit n.SpaceOrTab (past_text (white_front bs) p)
+    ∷ delimiter_runs Apart (trim_start bs) (past_text (white_front bs) p)
+space-front [] p = refl
+space-front (b ∷ bs) p = go (is_white b) refl (space-front bs (past_byte b p))
+  where
+    by : List ℕ → List ℕ → List Event
+    by w t = exit n.SpaceOrTab (past_text w p) ∷ delimiter_runs Apart t (past_text w p)
+
+    go : (x : Bool) → is_white b ≡ x →
+        delimiter_runs Space bs (past_byte b p) ≡ by (b ∷ white_front bs) (trim_start bs) →
+        delimiter_runs Space (b ∷ bs) p ≡ by (white_front (b ∷ bs)) (trim_start (b ∷ bs))
+    go true e more = space-on b bs p e ∙ more ∙ sym (ap₂ by (front-one b bs e) (trim-white b bs e))
+    go false e more = space-ends b bs p e ∙ sym (ap₂ by (front-none b bs e) (start-none b bs e))
 
 -- the runs that a pipe begins
 abbrev piped : List ℕ → Point → List Event
@@ -523,3 +542,284 @@ cell-value into b bs p at dark pipe slash same more = record {
 
     starts : celled (Within Delimiter) (delimiter_runs Apart (b ∷ bs) p ++ end) ≡ cells_left (cells_of false (b ∷ bs)) p ++ end
     starts = go into at same more
+
+-- or with whitespace,
+space-more : (b : ℕ) (bs : List ℕ) (p : Point) → Told b White →
+    celled (Within Delimiter) (delimiter_runs Space bs (past_byte b p) ++ row_end (b ∷ bs) p) ≡
+    left_in_space (cells_of false bs) (past_byte b p) ++ row_end (b ∷ bs) p →
+    celled (Within Delimiter) (delimiter_runs Space (b ∷ bs) p ++ row_end (b ∷ bs) p) ≡
+    left_in_space (cells_of false (b ∷ bs)) p ++ row_end (b ∷ bs) p
+space-more b bs p t more =
+    ap (λ (es : List Event). celled (Within Delimiter) (es ++ row_end (b ∷ bs) p)) (space-on b bs p t.white) ∙ more
+    ∙ sym
+    (ap (λ (c : Cells). left_in_space c p ++ row_end (b ∷ bs) p)
+    (cells-other b bs t.pipe (white-apart b 92 t.white refl))
+    ∙ ap (λ (es : List Event). es ++ row_end (b ∷ bs) p)
+    (onto-by (white_left value_part) b (cells_of false bs) p _
+    (white-more value_part b (first_cell (cells_of false bs)) p t.white)))
+
+cell-space : (b : ℕ) (bs : List ℕ) (p : Point) → Told b White → AtCell bs (past_byte b p) → AtCell (b ∷ bs) p
+unfolding celled
+cell-space b bs p t more = record {
+  start =
+      ap (λ (es : List Event). celled (Within Delimiter) (es ++ row_end (b ∷ bs) p)) (space-opens b bs p t.white)
+      ∙ ap (λ (es : List Event). enter n.SpaceOrTab p ∷ es) more.space
+      ∙ sym
+      (ap (λ (c : Cells). cells_left c p ++ row_end (b ∷ bs) p)
+      (cells-other b bs t.pipe (white-apart b 92 t.white refl))
+      ∙ ap (λ (es : List Event). es ++ row_end (b ∷ bs) p)
+      (onto-by (cell_by value_part) b (cells_of false bs) p _
+      (white-first value_part b (first_cell (cells_of false bs)) p t.white)));
+  space = space-more b bs p t more.space;
+}
+
+-- or it is empty, at the end of the row
+cell-none : (p : Point) → AtCell [] p
+unfolding celled
+cell-none p = record {
+  start = sym (ap (λ (c : Cells). cells_left c p ++ row_end [] p) cells-none);
+  space = sym (ap (λ (c : Cells). left_in_space c p ++ row_end [] p) cells-none);
+}
+
+-- Behind what a cell holds.
+
+behind-none : (p : Point) → BehindValue [] p
+behind-none p = record {
+  blank = ap (λ (c : Cells). is_blank (first_cell c)) cells-none;
+  run = run-none Colon p IsColon;
+  space = (cell-none p).space;
+}
+
+behind-space : (b : ℕ) (bs : List ℕ) (p : Point) → Told b White → BehindValue bs (past_byte b p) → BehindValue (b ∷ bs) p
+behind-space b bs p t more = record {
+  blank =
+      ap (λ (c : Cells). is_blank (first_cell c)) (cells-other b bs t.pipe (white-apart b 92 t.white refl))
+      ∙ ap is_blank (first-onto b (cells_of false bs))
+      ∙ blank-first b (first_cell (cells_of false bs)) t.white ∙ more.blank;
+  run = run-space Colon b bs p IsColon t more;
+  space = space-more b bs p t more.space;
+}
+
+behind-pipe : (bs : List ℕ) (p : Point) → AtCell bs (past_byte 124 p) → BehindValue (124 ∷ bs) p
+unfolding celled
+behind-pipe bs p walks = record {
+  blank = ap is_blank (ap first_cell (cells-pipe bs) ∙ first-behind bs (cells_of false bs));
+  run = run-pipe Colon bs p IsColon walks;
+  space =
+      ap (λ (es : List Event). celled (Within Delimiter) (es ++ row_end (124 ∷ bs) p))
+      (space-ends 124 bs p refl ∙ ap (λ (es : List Event). exit n.SpaceOrTab p ∷ es) (pipe-opens bs p))
+      ∙ ap (λ (es : List Event). exit n.SpaceOrTab p ∷ es) (piped-walk bs p walks)
+      ∙ sym
+      (ap (λ (c : Cells). left_in_space c p ++ row_end (124 ∷ bs) p) (cells-pipe bs)
+      ∙ ap (λ (es : List Event). es ++ row_end (124 ∷ bs) p) (pipe-by (white_left value_part) bs p));
+}
+
+-- By the byte: what may not stand there does not.
+
+-- what is known of the bytes behind one
+abbrev Walked : List ℕ → Type 0
+Walked bs = (place : Place) (s : Scratch) (q : Point) → fits place s bs ≡ true → WalksAt place bs q
+
+-- what a byte leads to
+abbrev leads : Place → Scratch → List ℕ → Mark → Bool
+leads place s bs x = led (move place x) s (λ q t. fits q t bs)
+
+-- a colon, and dashes
+begun-colon : (b : ℕ) → Told b Aligns → begun b ≡ Colon
+begun-colon b t = rw (t.white, t.pipe, t.colon) refl
+
+begun-dash : (b : ℕ) → Told b Dash → begun b ≡ Filler
+begun-dash b t = rw (t.white, t.pipe, t.colon) refl
+
+colon-slash : (b : ℕ) → nat_eq b 58 ≡ true → nat_eq b 92 ≡ false
+colon-slash b e = rw (eqb-true b 58 e) refl
+
+dash-slash : (b : ℕ) → nat_eq b 45 ≡ true → nat_eq b 92 ≡ false
+dash-slash b e = rw (eqb-true b 45 e) refl
+
+as-pipe : (P : ℕ → Type 0) (b : ℕ) → Told b Pipes → P 124 → P b
+as-pipe P b t h = subst P (sym (eqb-true b 124 t.pipe)) h
+
+open-by : (s : Scratch) (b : ℕ) (bs : List ℕ) (p : Point) (x : Mark) → Told b x → leads Open s bs x ≡ true → Walked bs →
+    AtCell (b ∷ bs) p
+open-by s b bs p Stops t h on = let no : false ≡ true = h in cc
+open-by s b bs p White t h on = cell-space b bs p t (on Open s (past_byte b p) h)
+open-by s b bs p Pipes t h on = let no : false ≡ true = h in cc
+open-by s b bs p Aligns t h on =
+    cell-value Colon b bs p IsColon t.white t.pipe (colon-slash b t.colon) (begun-colon b t)
+    (on Left (met s) (past_byte b p) h)
+open-by s b bs p Dash t h on =
+    cell-value Filler b bs p IsFiller t.white t.pipe (dash-slash b t.dash) (begun-dash b t)
+    (on Dashes (counted s) (past_byte b p) h)
+open-by s b bs p Other t h on = let no : false ≡ true = h in cc
+
+left-by : (s : Scratch) (b : ℕ) (bs : List ℕ) (p : Point) (x : Mark) → Told b x → leads Left s bs x ≡ true → Walked bs →
+    InRun Colon (b ∷ bs) p
+left-by s b bs p Dash t h on =
+    run-turns Colon Filler b bs p IsColon IsFiller t.white t.pipe (dash-slash b t.dash) refl (begun-dash b t)
+    (on Dashes (counted s) (past_byte b p) h)
+left-by s b bs p Stops t h on = let no : false ≡ true = h in cc
+left-by s b bs p White t h on = let no : false ≡ true = h in cc
+left-by s b bs p Pipes t h on = let no : false ≡ true = h in cc
+left-by s b bs p Aligns t h on = let no : false ≡ true = h in cc
+left-by s b bs p Other t h on = let no : false ≡ true = h in cc
+
+dashes-by : (s : Scratch) (b : ℕ) (bs : List ℕ) (p : Point) (x : Mark) → Told b x → leads Dashes s bs x ≡ true →
+    Walked bs → InRun Filler (b ∷ bs) p
+dashes-by s b bs p Stops t h on = let no : false ≡ true = h in cc
+dashes-by s b bs p White t h on = run-space Filler b bs p IsFiller t (on BehindCell s (past_byte b p) h)
+dashes-by s b bs p Pipes t h on =
+    as-pipe (λ (c : ℕ). InRun Filler (c ∷ bs) p) b t
+    (run-pipe Filler bs p IsFiller (on Open (met s) (past_byte 124 p) h))
+dashes-by s b bs p Aligns t h on =
+    run-turns Filler Colon b bs p IsFiller IsColon t.white t.pipe (colon-slash b t.colon) t.dash (begun-colon b t)
+    (on BehindCell (met s) (past_byte b p) h).run
+dashes-by s b bs p Dash t h on =
+    run-more b bs p t.white t.pipe (dash-slash b t.dash) t.dash (on Dashes s (past_byte b p) h)
+dashes-by s b bs p Other t h on = let no : false ≡ true = h in cc
+
+behind-by : (s : Scratch) (b : ℕ) (bs : List ℕ) (p : Point) (x : Mark) → Told b x → leads BehindCell s bs x ≡ true →
+    Walked bs → BehindValue (b ∷ bs) p
+behind-by s b bs p White t h on = behind-space b bs p t (on BehindCell s (past_byte b p) h)
+behind-by s b bs p Pipes t h on =
+    as-pipe (λ (c : ℕ). BehindValue (c ∷ bs) p) b t (behind-pipe bs p (on Open (met s) (past_byte 124 p) h))
+behind-by s b bs p Stops t h on = let no : false ≡ true = h in cc
+behind-by s b bs p Aligns t h on = let no : false ≡ true = h in cc
+behind-by s b bs p Dash t h on = let no : false ≡ true = h in cc
+behind-by s b bs p Other t h on = let no : false ≡ true = h in cc
+
+walked : (bs : List ℕ) → Walked bs
+walked bs FrontOfRow s p h = tt
+walked [] Open s p h = cell-none p
+walked [] Left s p h = let no : false ≡ true = h in cc
+walked [] Dashes s p h = run-none Filler p IsFiller
+walked [] BehindCell s p h = behind-none p
+walked (b ∷ bs) Open s p h = open-by s b bs p (mark_of b) (told b) h (walked bs)
+walked (b ∷ bs) Left s p h = left-by s b bs p (mark_of b) (told b) h (walked bs)
+walked (b ∷ bs) Dashes s p h = dashes-by s b bs p (mark_of b) (told b) h (walked bs)
+walked (b ∷ bs) BehindCell s p h = behind-by s b bs p (mark_of b) (told b) h (walked bs)
+
+-- A whole row.
+
+-- where no whitespace stands in front of it
+row-starts : (s : Scratch) (line : List ℕ) (p : Point) → fits FrontOfRow s line ≡ true →
+    celled (Front Delimiter) (delimiter_runs Apart line p ++ row_end line p) ≡
+    cells_by n.GfmTableDelimiterCell value_part (begins_with 124 line) (line_cells line) p ++ row_end line p
+unfolding celled
+row-starts s [] p h = let no : false ≡ true = h in cc
+row-starts s (b ∷ bs) p h = go (mark_of b) (told b) h
+  where
+    end : List Event
+    end = row_end (b ∷ bs) p
+
+    Row : ℕ → Type 0
+    Row c =
+        celled (Front Delimiter) (delimiter_runs Apart (c ∷ bs) p ++ row_end (c ∷ bs) p) ≡
+        cells_by n.GfmTableDelimiterCell value_part (begins_with 124 (c ∷ bs)) (line_cells (c ∷ bs)) p ++ row_end (c ∷ bs) p
+
+    -- behind a pipe
+    piped_row : AtCell bs (past_byte 124 p) → Row 124
+    piped_row more =
+        let q = past_byte 124 p in
+        ap (λ (es : List Event). celled (Front Delimiter) (es ++ row_end bs q)) (pipe-opens bs p)
+        ∙ ap
+        (λ (es : List Event).
+        enter n.GfmTableDelimiterCell p ∷ enter n.GfmTableCellDivider p ∷ exit n.GfmTableCellDivider q ∷ es) more.start
+        ∙ sym
+        (ap (λ (es : List Event). es ++ row_end bs q)
+        (cells-begin n.GfmTableDelimiterCell value_part true (cells_of false bs) p))
+
+    -- from the first cell on
+    plain_row : (into : Run) → IsValue into → begun b ≡ into → nat_eq b 124 ≡ false → is_white b ≡ false →
+        AtCell (b ∷ bs) p → Row b
+    plain_row into at same pipe dark more =
+        shown into at same
+        ∙ ap (λ (es : List Event). enter n.GfmTableDelimiterCell p ∷ es) more.start
+        ∙ sym
+        (ap
+        (λ (t : Bool).
+        cells_by n.GfmTableDelimiterCell value_part t (cells_of false (cond t bs (b ∷ bs))) p ++ end) pipe
+        ∙ ap (λ (es : List Event). es ++ end)
+        (cells-begin n.GfmTableDelimiterCell value_part false (cells_of false (b ∷ bs)) p))
+      where
+        turns : (into : Run) → begun b ≡ into →
+            delimiter_runs Apart (b ∷ bs) p ≡ opens into p ++ delimiter_runs into bs (past_byte b p)
+        turns into same = ap (λ (r : Run). opens r p ++ delimiter_runs r bs (past_byte b p)) same
+
+        shown : (into : Run) → IsValue into → begun b ≡ into →
+            celled (Front Delimiter) (delimiter_runs Apart (b ∷ bs) p ++ end) ≡
+            enter n.GfmTableDelimiterCell p ∷ celled (Within Delimiter) (delimiter_runs Apart (b ∷ bs) p ++ end)
+        shown _ IsColon same =
+            ap (λ (es : List Event). celled (Front Delimiter) (es ++ end)) (turns Colon same)
+            ∙ sym
+            (ap (λ (es : List Event). enter n.GfmTableDelimiterCell p ∷ celled (Within Delimiter) (es ++ end))
+            (turns Colon same))
+        shown _ IsFiller same =
+            ap (λ (es : List Event). celled (Front Delimiter) (es ++ end)) (turns Filler same)
+            ∙ sym
+            (ap (λ (es : List Event). enter n.GfmTableDelimiterCell p ∷ celled (Within Delimiter) (es ++ end))
+            (turns Filler same))
+
+    go : (x : Mark) → Told b x → leads FrontOfRow s bs x ≡ true → Row b
+    go Pipes t h = as-pipe Row b t (piped_row (walked bs Open (met s) (past_byte 124 p) h))
+    go Aligns t h =
+        plain_row Colon IsColon (begun-colon b t) t.pipe t.white (open-by s b bs p Aligns t h (walked bs))
+    go Dash t h =
+        plain_row Filler IsFiller (begun-dash b t) t.pipe t.white (open-by s b bs p Dash t h (walked bs))
+    go Stops t h = let no : false ≡ true = h in cc
+    go White t h = let no : false ≡ true = h in cc
+    go Other t h = let no : false ≡ true = h in cc
+
+-- The walk gives for the runs of a delimiter row, behind the whitespace in front of it, the row with its cells.
+pub delimiter-celled : (s : Scratch) (line : List ℕ) (p : Point) → fits FrontOfRow s (trim_start line) ≡ true →
+    celled (Front Delimiter)
+    ((white_part (white_front line) p ++ delimiter_runs Apart (trim_start line) (past_text (white_front line) p))
+    ++ exit n.GfmTableDelimiterRow (past_text line p) ∷ []) ≡
+    delimiter_events line p ++ exit n.GfmTableDelimiterRow (past_text line p) ∷ []
+unfolding celled
+delimiter-celled s line p h =
+    ap (celled (Front Delimiter)) (append_assoc (white_part (white_front line) p) _ _)
+    ∙ go (white_front line)
+    ∙ sym (append_assoc (white_part (white_front line) p) _ _)
+  where
+    q : Point
+    q = past_text (white_front line) p
+
+    end : List Event
+    end = exit n.GfmTableDelimiterRow (past_text line p) ∷ []
+
+    same : past_text line p ≡ past_text (trim_start line) q
+    same = ap (λ (l : List ℕ). past_text l p) (front-whole line) ∙ past_text-append (white_front line) (trim_start line) p
+
+    rest : celled (Front Delimiter) (delimiter_runs Apart (trim_start line) q ++ end) ≡
+        cells_by n.GfmTableDelimiterCell value_part (begins_with 124 (trim_start line)) (line_cells (trim_start line)) q ++ end
+    rest =
+        subst
+        (λ (r : Point).
+        celled (Front Delimiter) (delimiter_runs Apart (trim_start line) q ++ exit n.GfmTableDelimiterRow r ∷ []) ≡
+        cells_by n.GfmTableDelimiterCell value_part (begins_with 124 (trim_start line)) (line_cells (trim_start line)) q
+        ++ exit n.GfmTableDelimiterRow r ∷ []) (sym same) (row-starts s (trim_start line) q h)
+
+    go : (w : List ℕ) →
+        celled (Front Delimiter) (white_part w p ++ (delimiter_runs Apart (trim_start line) q ++ end)) ≡
+        white_part w p
+        ++ (cells_by n.GfmTableDelimiterCell value_part (begins_with 124 (trim_start line)) (line_cells (trim_start line)) q
+        ++ end)
+    go [] = rest
+    go (b ∷ w) = ap (λ (es : List Event). white_part (b ∷ w) p ++ es) rest
+
+-- which are the runs of the whole line
+pub front-runs : (line : List ℕ) (p : Point) →
+    delimiter_runs Apart line p ≡
+    white_part (white_front line) p ++ delimiter_runs Apart (trim_start line) (past_text (white_front line) p)
+front-runs [] p = refl
+front-runs (b ∷ bs) p = go (is_white b) refl
+  where
+    by : List ℕ → List ℕ → List Event
+    by w t = white_part w p ++ delimiter_runs Apart t (past_text w p)
+
+    go : (x : Bool) → is_white b ≡ x → delimiter_runs Apart (b ∷ bs) p ≡ by (white_front (b ∷ bs)) (trim_start (b ∷ bs))
+    go true e =
+        space-opens b bs p e ∙ ap (λ (es : List Event). enter n.SpaceOrTab p ∷ es) (space-front bs (past_byte b p))
+        ∙ sym (ap₂ by (front-one b bs e) (trim-white b bs e))
+    go false e = sym (ap₂ by (front-none b bs e) (start-none b bs e))

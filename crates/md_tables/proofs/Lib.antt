@@ -32,3 +32,5 @@ pub mod RunsLemmas
 pub mod HeadPoints
 pub mod PipeWalk
 pub mod DelimiterWalk
+pub mod DelimiterRead
+pub mod TableRows

@@ -1,5 +1,5 @@
 -- A row nests with its cells: its parts stand side by side, and cells and what they hold are put around whole parts.
-use Rattle.std.proofs.Common.{◌≡◌, Bool, true, false, ◌&&◌, List, [], ◌∷◌, ◌++◌, drop, refl, sym, ◌∙◌, ap, ap₂, subst}
+use Rattle.std.proofs.Common.{◌≡◌, Bool, true, false, ◌&&◌, List, [], ◌∷◌, ◌++◌, refl, sym, ◌∙◌, ap, ap₂, subst}
 use Rattle.std.specs.Prelude.{Option}
 use Rattle.std.proofs.lemmas.Bool.{and_parts}
 use Rattle.md_engine.specs.declared.event.Event.{Event}
@@ -10,7 +10,7 @@ use Rattle.md_engine.specs.declared.event.Name.{Name}
 use Rattle.md_engine.specs.declared.event.Name.TheVariants as n
 use Rattle.md_engine.specs.declared.event.Point.{Point}
 use Rattle.md_seam.specs.Events.Nested.{Balanced, Matches, enter, exit, open_after}
-use Rattle.md_tables.specs.Cells.{Step, begins_inner, cell_name, celled, divider_step, first_is, goes_on, has_white}
+use Rattle.md_tables.specs.Cells.{Step, begins_inner, cell_name, celled, first_is, goes_on}
 use Rattle.md_tables.specs.Cells.{inner_name, is_divider, is_inner, is_row, is_white, passed, piece_step, row_ends, step}
 use Rattle.md_tables.specs.TableLines.{TableRow, row_celled, row_name}
 use Rattle.md_tables.specs.declared.cells.RowKind.{RowKind}
@@ -264,7 +264,7 @@ record DelimiterNests (outer : List Name) (es : List Event) : Type 0 where
 
 delimiter-piece : (outer : List Name) (es : List Event) → Nests Delimiter outer es →
     (first_is (begins_inner Delimiter) es ≡ true →
-      Closes outer (in_inner Delimiter outer) (celled (Inner Delimiter) es)) →
+    Closes outer (in_inner Delimiter outer) (celled (Inner Delimiter) es)) →
     PieceNests Delimiter outer es
 delimiter-piece outer es h more name p link hi dark =
     go (goes_on Delimiter es) refl
@@ -309,7 +309,7 @@ delimiter-nests : (outer : List Name) (q : Point) (xs : List Pair) → HoldNoRow
 delimiter-nests outer q [] h =
     let rest : Nests Delimiter outer (exit n.GfmTableDelimiterRow q ∷ []) = end-nests Delimiter outer q in
     let none : false ≡ true →
-        Closes outer (in_inner Delimiter outer) (celled (Inner Delimiter) (exit n.GfmTableDelimiterRow q ∷ [])) =
+    Closes outer (in_inner Delimiter outer) (celled (Inner Delimiter) (exit n.GfmTableDelimiterRow q ∷ [])) =
     λ k. absurd (let no : false ≡ true = k in cc) in
     record { rest = rest; piece = delimiter-piece outer (exit n.GfmTableDelimiterRow q ∷ []) rest none; more = none }
 delimiter-nests outer q (x ∷ xs) h =
@@ -337,8 +337,7 @@ pairs-told (a ∷ b ∷ es) h =
     record { name = a.name; begins = a.point; ends = b.point; link = a.link; other = b.link } in
     let first : a ≡ begin_of x = ap (λ (k : Kind). record a { kind = k }) h.0 in
     let second : b ≡ end_of x =
-    ap₂ (λ (k : Kind) (name : Name). record b { kind = k; name = name }) h.1 (sym h.2) in
-    (
+    ap₂ (λ (k : Kind) (name : Name). record b { kind = k; name = name }) h.1 (sym h.2) in (
       x ∷ rest.0,
       ap₂ (λ (e : Event) (l : List Event). e ∷ l) first (ap₂ (λ (e : Event) (l : List Event). e ∷ l) second rest.1),
     )

@@ -10,20 +10,19 @@ use Rattle.md_engine.specs.declared.event.Name.TheVariants as n
 use Rattle.md_engine.specs.declared.event.Point.{Point}
 use Rattle.md_seam.specs.Events.Nested.{around, enter, exit}
 use Rattle.md_tables.specs.Cells.{Step, celled, ends_row, ends_with, is_row, step}
-use Rattle.md_tables.specs.TableLines.{Table, TableLine, TableRow, body_given, head_celled, lines_celled, lines_read}
+use Rattle.md_tables.specs.TableLines.{Table, TableLine, TableRow, body_given, lines_celled, lines_read}
 use Rattle.md_tables.specs.TableLines.{row_celled, row_read, row_name, table_begin, table_read, table_given}
-use Rattle.md_tables.specs.Tabled.{behind, bound_by, bound_of, given, in_front, next, passes, tabled, tabled_from}
-use Rattle.md_tables.specs.Tabled.{with_cells}
+use Rattle.md_tables.specs.Tabled.{behind, bound_by, bound_of, next, passes, tabled, tabled_from}
 use Rattle.md_tables.specs.declared.cells.RowKind.{RowKind}
 use Rattle.md_tables.specs.declared.cells.RowKind.TheVariants.{Delimiter, Text}
 use Rattle.md_tables.specs.declared.cells.Stage.{Stage}
 use Rattle.md_tables.specs.declared.cells.Stage.TheVariants as row
 use Rattle.md_tables.specs.declared.tables.Bound.{Bound}
-use Rattle.md_tables.specs.declared.tables.Bound.TheVariants.{BeginsRow, BeginsTable, EndsDelimiter, EndsTable, Other}
+use Rattle.md_tables.specs.declared.tables.Bound.TheVariants.{EndsDelimiter, Other}
 use Rattle.md_tables.specs.declared.tables.Section.{Section}
 use Rattle.md_tables.specs.declared.tables.Section.TheVariants.{Between, Body, Head, Outside}
 use Rattle.md_tables.proofs.CellsLemmas.{last-looks, on-looks, outside-step, step-looks}
-use Rattle.md_tables.proofs.TabledWalk.{outside-stage, passes-given}
+use Rattle.md_tables.proofs.TabledWalk.{passes-given}
 
 -- Events outside of tables.
 
@@ -76,9 +75,13 @@ free-row n.GfmTableRow h = absurd (let no : true ≡ false = h in cc)
 free-row n.GfmTableDelimiterRow h = absurd (let no : true ≡ false = h in cc)
 free-row _ h = refl
 
+-- no table begins with them
+pub free-passes : (e : Event) → of_tables e.name ≡ false → passes Outside e ≡ true
+free-passes e h = rw (free-bound e.kind e.name h) refl
+
 pub free-untabled : (es : List Event) → AreFree es → AreUntabled es
 free-untabled [] h = tt
-free-untabled (e ∷ es) h = (rw (free-bound e.kind e.name h.0) refl, free-untabled es h.1)
+free-untabled (e ∷ es) h = (free-passes e h.0, free-untabled es h.1)
 
 -- In a table.
 

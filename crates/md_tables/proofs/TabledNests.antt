@@ -1,5 +1,6 @@
 -- Tables that got their heads, bodies and cells nest, and the points of their events never go back.
 use Rattle.std.proofs.Common.{◌≡◌, List, [], ◌∷◌, ◌++◌, refl, sym, ◌∙◌, ap, append-nil, append_assoc, subst}
+use Rattle.std.specs.List.{All}
 use Rattle.std.proofs.lemmas.List.Elements.{All-head, All-tail}
 use Rattle.md_engine.specs.declared.event.Event.{Event}
 use Rattle.md_engine.specs.declared.event.Name.TheVariants as n
@@ -16,18 +17,15 @@ use Rattle.md_tables.specs.declared.cells.Stage.{Stage}
 use Rattle.md_tables.specs.declared.cells.Stage.TheVariants as row
 use Rattle.md_tables.specs.declared.tables.Section.{Section}
 use Rattle.md_tables.specs.declared.tables.Section.TheVariants.{Outside}
-use Rattle.md_tables.proofs.CellsLemmas.{StandThere}
 use Rattle.md_tables.proofs.RowNests.{ArePairs, row-balanced}
-use Rattle.md_tables.proofs.TabledLines.{AreFreeLines, IsFreeLine, IsFreeTable, tabled-table}
-use Rattle.md_tables.proofs.TabledWalk.{given-points}
+use Rattle.md_tables.proofs.TabledLines.{AreFreeLines, IsFreeTable, tabled-table}
+use Rattle.md_tables.proofs.TabledWalk.{given-kept}
 
 -- Points.
 
 -- events that all stand at a point go forward from it, to it
-abbrev Stay : Point → List Event → Type 0
-Stay p es = StandThere (λ q. q ≡ p) es
-
-stay-forward : (p : Point) (es rest : List Event) → Stay p es → Forward p rest → Forward p (es ++ rest)
+stay-forward : (p : Point) (es rest : List Event) → All (AtPoint (λ q. q ≡ p)) es → Forward p rest →
+    Forward p (es ++ rest)
 stay-forward p [] rest h f = f
 stay-forward p (e ∷ es) rest h f =
     let here : e.point ≡ p = All-head (AtPoint (λ q. q ≡ p)) e es h in
@@ -42,7 +40,7 @@ tabled_from-forward section stage p (e ∷ es) f =
     let after : Stage = (with_cells section stage e es).stage in
     forward-from p e.point (given section stage e es ++ tabled_from now after es) f.0
     (stay-forward e.point (given section stage e es) (tabled_from now after es)
-    (given-points (λ q. q ≡ e.point) section stage e es refl)
+    (given-kept (AtPoint (λ q. q ≡ e.point)) (λ kind name f put k. k) section stage e es refl)
     (tabled_from-forward now after e.point es f.1))
 
 pub tabled-forward : (p : Point) (es : List Event) → Forward p es → Forward p (tabled es)

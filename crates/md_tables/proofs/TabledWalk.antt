@@ -1,14 +1,14 @@
--- The walk that gives tables their heads, bodies and cells. The points of events stay.
+-- The walk that gives tables their heads, bodies and cells. What holds of events goes on to hold.
 use Rattle.std.proofs.Common.{◌≡◌, ℕ, suc, ◌+◌, ◌<◌, ◌≤◌, Bool, true, false, cond, not, List, [], ◌∷◌, ◌++◌}
 use Rattle.std.proofs.Common.{take, drop, get_or, length, refl, sym, ◌∙◌, ap, append-nil, append_assoc, arith}
 use Rattle.std.specs.List.{All, prefix_len}
 use Rattle.std.proofs.lemmas.List.{drop-drop, drop_all, drop_more, take_all}
 use Rattle.std.proofs.lemmas.List.Elements.{All-append, All-head, All-nil, All-tail}
 use Rattle.md_engine.specs.declared.event.Event.{Event}
+use Rattle.md_engine.specs.declared.event.Kind.TheVariants.{Enter, Exit}
 use Rattle.md_engine.specs.declared.event.Name.TheVariants as n
-use Rattle.md_engine.specs.declared.event.Point.{Point}
 use Rattle.md_engine.specs.Place.{IsPlaced}
-use Rattle.md_leaves.proofs.SpannedLemmas.{AtPoint, one-point}
+use Rattle.md_leaves.proofs.SpannedLemmas.{AtPoint}
 use Rattle.md_seam.specs.Events.Nested.{enter, exit}
 use Rattle.md_seam.specs.Parts.{ArePlaced}
 use Rattle.md_tables.specs.Tabled.{begins_table, behind, given, in_front, bound_of, next, passes, tabled, tabled_from}
@@ -19,7 +19,7 @@ use Rattle.md_tables.specs.declared.tables.Bound.{Bound}
 use Rattle.md_tables.specs.declared.tables.Bound.TheVariants.{BeginsRow, BeginsTable, EndsDelimiter, EndsTable, Other}
 use Rattle.md_tables.specs.declared.tables.Section.{Section}
 use Rattle.md_tables.specs.declared.tables.Section.TheVariants.{Between, Body, Head, Outside}
-use Rattle.md_tables.proofs.CellsLemmas.{StandThere, step-points}
+use Rattle.md_tables.proofs.CellsLemmas.{GoesOver, one-kept, step-kept}
 
 -- Events that pass.
 
@@ -122,48 +122,55 @@ walk-done section stage events given all at end so_far =
     sym (append-nil given)
     ∙ ap (λ (l : List Event). given ++ tabled_from section stage l) (sym (drop_all at events end)) ∙ so_far
 
--- Points.
+-- What holds of events goes on to hold.
 
--- What is given for an event stands where it does.
-front-points : (P : Point → Type 0) (section : Section) (m : Bound) (p : Point) → P p →
-    StandThere P (in_front section m p)
-front-points P Between BeginsRow p h = one-point P (enter n.GfmTableBody p) h
-front-points P Body EndsTable p h = one-point P (exit n.GfmTableBody p) h
-front-points P _ _ p h = All-nil (AtPoint P)
+front-kept : (P : Event → Type 0) → GoesOver P → (section : Section) (b : Bound) (e : Event) → P e →
+    All P (in_front section b e.point)
+front-kept P over Between BeginsRow e h =
+    one-kept P (enter n.GfmTableBody e.point) (over Enter n.GfmTableBody e refl h)
+front-kept P over Body EndsTable e h =
+    one-kept P (exit n.GfmTableBody e.point) (over Exit n.GfmTableBody e refl h)
+front-kept P over _ _ e h = All-nil P
 
-behind-points : (P : Point → Type 0) (section : Section) (m : Bound) (p : Point) → P p →
-    StandThere P (behind section m p)
-behind-points P Outside BeginsTable p h = one-point P (enter n.GfmTableHead p) h
-behind-points P Head EndsDelimiter p h = one-point P (exit n.GfmTableHead p) h
-behind-points P _ _ p h = All-nil (AtPoint P)
+behind-kept : (P : Event → Type 0) → GoesOver P → (section : Section) (b : Bound) (e : Event) → P e →
+    All P (behind section b e.point)
+behind-kept P over Outside BeginsTable e h =
+    one-kept P (enter n.GfmTableHead e.point) (over Enter n.GfmTableHead e refl h)
+behind-kept P over Head EndsDelimiter e h =
+    one-kept P (exit n.GfmTableHead e.point) (over Exit n.GfmTableHead e refl h)
+behind-kept P over _ _ e h = All-nil P
 
-cells-points : (P : Point → Type 0) (section : Section) (stage : Stage) (e : Event) (es : List Event) → P e.point →
-    StandThere P (with_cells section stage e es).given
-cells-points P Outside stage e es h = one-point P e h
-cells-points P Head stage e es h = step-points P stage e es h
-cells-points P Between stage e es h = step-points P stage e es h
-cells-points P Body stage e es h = step-points P stage e es h
+cells-kept : (P : Event → Type 0) → GoesOver P → (section : Section) (stage : Stage) (e : Event) (es : List Event) →
+    P e → All P (with_cells section stage e es).given
+cells-kept P over Outside stage e es h = one-kept P e h
+cells-kept P over Head stage e es h = step-kept P over stage e es h
+cells-kept P over Between stage e es h = step-kept P over stage e es h
+cells-kept P over Body stage e es h = step-kept P over stage e es h
 
-pub given-points : (P : Point → Type 0) (section : Section) (stage : Stage) (e : Event) (es : List Event) → P e.point →
-    StandThere P (given section stage e es)
-given-points P section stage e es h =
+-- of all that is given for an event, if it does of that,
+pub given-kept : (P : Event → Type 0) → GoesOver P → (section : Section) (stage : Stage) (e : Event) (es : List Event) →
+    P e → All P (given section stage e es)
+given-kept P over section stage e es h =
     let front = in_front section (bound_of e) e.point in
     let itself = (with_cells section stage e es).given in
-    All-append (AtPoint P) (front ++ itself) (behind section (bound_of e) e.point)
-    (All-append (AtPoint P) front itself (front-points P section (bound_of e) e.point h)
-    (cells-points P section stage e es h))
-    (behind-points P section (bound_of e) e.point h)
+    All-append P (front ++ itself) (behind section (bound_of e) e.point)
+    (All-append P front itself (front-kept P over section (bound_of e) e h) (cells-kept P over section stage e es h))
+    (behind-kept P over section (bound_of e) e h)
 
-tabled-points : (P : Point → Type 0) (section : Section) (stage : Stage) (es : List Event) → StandThere P es →
-    StandThere P (tabled_from section stage es)
-tabled-points P section stage [] h = All-nil (AtPoint P)
-tabled-points P section stage (e ∷ es) h =
+tabled_from-kept : (P : Event → Type 0) → GoesOver P → (section : Section) (stage : Stage) (es : List Event) →
+    All P es → All P (tabled_from section stage es)
+tabled_from-kept P over section stage [] h = All-nil P
+tabled_from-kept P over section stage (e ∷ es) h =
     let now = next section (bound_of e) in
     let after = (with_cells section stage e es).stage in
-    All-append (AtPoint P) (given section stage e es) (tabled_from now after es)
-    (given-points P section stage e es (All-head (AtPoint P) e es h))
-    (tabled-points P now after es (All-tail (AtPoint P) e es h))
+    All-append P (given section stage e es) (tabled_from now after es)
+    (given-kept P over section stage e es (All-head P e es h))
+    (tabled_from-kept P over now after es (All-tail P e es h))
+
+-- and of all events
+pub tabled-kept : (P : Event → Type 0) → GoesOver P → (es : List Event) → All P es → All P (tabled es)
+tabled-kept P over es h = tabled_from-kept P over Outside row.Outside es h
 
 -- placed events stay placed
 pub tabled-placed : (text : List ℕ) (events : List Event) → ArePlaced text events → ArePlaced text (tabled events)
-tabled-placed text events h = tabled-points (IsPlaced text) Outside row.Outside events h
+tabled-placed text events h = tabled-kept (AtPoint (IsPlaced text)) (λ kind name e put k. k) events h

@@ -1,5 +1,5 @@
 -- A table line by line: its events as they are read, and as they are given with head, body and cells.
-use Rattle.std.specs.Prelude.{List, [], ◌∷◌, ◌++◌, Option}
+use Rattle.std.specs.Prelude.{ℕ, List, [], ◌∷◌, ◌++◌, Option}
 use Rattle.md_engine.specs.declared.event.Event.{Event}
 use Rattle.md_engine.specs.declared.event.Kind.TheVariants.{Enter}
 use Rattle.md_engine.specs.declared.event.Link.{Link}
@@ -7,7 +7,12 @@ use Rattle.md_engine.specs.declared.event.Name.{Name}
 use Rattle.md_engine.specs.declared.event.Name.TheVariants as n
 use Rattle.md_engine.specs.declared.event.Point.{Point}
 use Rattle.md_seam.specs.Events.Nested.{around, enter, exit}
+use Rattle.md_seam.specs.Events.Places.{past_text}
 use Rattle.md_tables.specs.Cells.{celled}
+use Rattle.md_tables.specs.DelimiterCells.{delimiter_runs}
+use Rattle.md_tables.specs.DelimiterRule as delimiter
+use Rattle.md_tables.specs.RowCells.{row_runs}
+use Rattle.md_tables.specs.RowRule as text
 use Rattle.md_tables.specs.declared.cells.RowKind.{RowKind}
 use Rattle.md_tables.specs.declared.cells.RowKind.TheVariants.{Delimiter, Text}
 use Rattle.md_tables.specs.declared.cells.Stage.TheVariants.{Front}
@@ -84,3 +89,13 @@ table_given t =
     table_begin t
     ∷ around n.GfmTableHead t.begins t.delimiter.row.ends (head_celled t)
     ++ (body_given t.body t.ends ++ exit n.GfmTable t.ends ∷ [])
+
+-- The rows of lines.
+
+-- of the head and the body
+abbrev pub text_row : List ℕ → Point → TableRow
+text_row line p = record { begins = p; ends = past_text line p; inside = row_runs text.Apart line p }
+
+abbrev pub delimiter_row : List ℕ → Point → TableRow
+delimiter_row line p =
+    record { begins = p; ends = past_text line p; inside = delimiter_runs delimiter.Apart line p }

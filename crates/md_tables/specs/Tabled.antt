@@ -61,9 +61,7 @@ next section _ = section
 -- what is given for the event itself: in a table, with the cells of its row
 abbrev pub with_cells : Section → Stage → Event → List Event → Step
 with_cells Outside stage e es = passed e row.Outside
-with_cells Head stage e es = step stage e es
-with_cells Between stage e es = step stage e es
-with_cells Body stage e es = step stage e es
+with_cells _ stage e es = step stage e es
 
 abbrev pub given : Section → Stage → Event → List Event → List Event
 given section stage e es =

@@ -1,8 +1,9 @@
 // The cells of a row, in one walk over its events.
 //
 // The states of a row tell its pipes, its whitespace and its words. A cell begins with the pipe in front of it, and the
-// first one where no pipe stands there with what stands first; the last pipe of a row ends its last cell. The words of a
-// cell are one text, with the whitespace between them. In a delimiter row the colons and dashes of a cell are its value.
+// first one where no pipe stands there with what stands first; the last pipe of a row ends its last cell. The words of
+// a cell are one text, with the whitespace between them. In a delimiter row the colons and dashes of a cell are its
+// value.
 
 ghost use Rattle.std.specs.Prelude.{◌≡◌, ◌++◌, ◌∷◌, [], None, OnOk};
 ghost use Rattle.md_seam.specs.Events.Nested.{enter, exit};

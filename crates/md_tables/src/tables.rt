@@ -7,8 +7,8 @@
 //       GfmTableBody         if there are rows behind the head, to the end of the table
 //         GfmTableRow ..
 //
-// The walk looks at each event as it passes it, and in a row at up to four behind it. Outside of tables the events up to
-// the next table are copied at once.
+// The walk looks at each event as it passes it, and in a row at up to four behind it. Outside of tables the events up
+// to the next table are copied at once, and where no table stands nothing is.
 
 ghost use Rattle.std.specs.Prelude.{◌≡◌, ℕ, ◌≤◌, ◌++◌, ◌∷◌, [], IfOk, List, None, OnOk, length};
 ghost use Rattle.std.specs.List.{prefix_len};
