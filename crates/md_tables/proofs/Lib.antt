@@ -11,11 +11,13 @@ pub mod CellsWalk
 pub mod CellsLemmas
 pub mod WhiteEnds
 pub mod RowCellLemmas
+pub mod RowRuns
 pub mod RowWalk
 pub mod RowTexts
 pub mod RowBytes
 pub mod RowRead
 pub mod RowSpread
 pub mod PipeWalk
+pub mod DelimiterRuns
 pub mod DelimiterWalk
 pub mod DelimiterRead
