@@ -21,3 +21,4 @@ pub mod PipeWalk
 pub mod DelimiterRuns
 pub mod DelimiterWalk
 pub mod DelimiterRead
+pub mod RowBecomes
