@@ -191,10 +191,10 @@ marks-total p q s b bs e same n =
 white-slash : (b : ℕ) → is_white b ≡ true → nat_eq b 92 ≡ false
 white-slash b e = white-apart b 92 e refl
 
-colon-slash : (b : ℕ) → nat_eq b 58 ≡ true → nat_eq b 92 ≡ false
+pub colon-slash : (b : ℕ) → nat_eq b 58 ≡ true → nat_eq b 92 ≡ false
 colon-slash b e = rw (eqb-true b 58 e) refl
 
-dash-slash : (b : ℕ) → nat_eq b 45 ≡ true → nat_eq b 92 ≡ false
+pub dash-slash : (b : ℕ) → nat_eq b 45 ≡ true → nat_eq b 92 ≡ false
 dash-slash b e = rw (eqb-true b 45 e) refl
 
 -- by what the byte is

@@ -25,258 +25,17 @@ use Rattle.md_tables.specs.declared.cells.Stage.TheVariants.{Behind, Front, Inne
 use Rattle.md_tables.proofs.DelimiterLemmas.{Told, told}
 use Rattle.md_tables.proofs.PipeWalk.{dark-looks, pipe-walk, pipe_runs, white-behind}
 use Rattle.md_tables.proofs.RowBytes.{front-whole}
+use Rattle.md_tables.proofs.DelimiterColumns.{colon-slash, dash-slash}
+use Rattle.md_tables.proofs.RowCellLemmas.{cells-none, cells-pipe, cells-plain}
 use Rattle.md_tables.proofs.RowCellLemmas.{behind_first, cells-begin, dark-cell, first-behind, first-onto, first_cell}
 use Rattle.md_tables.proofs.RowCellLemmas.{left_of, onto-left, white-blank, white-ends, white-first, white-more, white_left}
 use Rattle.md_tables.proofs.RowSteps.{white-apart}
 use Rattle.md_tables.proofs.WhiteEnds.{blank-first, dark-first, end-blank, end-more, front-none, front-one, start-none}
-
--- What a byte does in a run.
-
-space-opens : (b : ℕ) (bs : List ℕ) (p : Point) → is_white b ≡ true →
-    delimiter_runs Apart (b ∷ bs) p ≡ enter n.SpaceOrTab p ∷ delimiter_runs Space bs (past_byte b p)
-space-opens b bs p e = rw e refl
-
-space-on : (b : ℕ) (bs : List ℕ) (p : Point) → is_white b ≡ true →
-    delimiter_runs Space (b ∷ bs) p ≡ delimiter_runs Space bs (past_byte b p)
-space-on b bs p e = rw e refl
-
--- behind whitespace the next run begins as between two
-space-ends : (b : ℕ) (bs : List ℕ) (p : Point) → is_white b ≡ false →
-    delimiter_runs Space (b ∷ bs) p ≡ exit n.SpaceOrTab p ∷ delimiter_runs Apart (b ∷ bs) p
-space-ends b bs p e = rw e refl
-
--- whitespace alone is one run
-space-alone : (bs : List ℕ) (p : Point) → is_blank bs ≡ true →
-    delimiter_runs Space bs p ≡ exit n.SpaceOrTab (past_text bs p) ∷ []
-space-alone [] p h = refl
-space-alone (b ∷ bs) p h =
-    let both = and_parts (is_white b) (is_blank bs) h in
-    space-on b bs p both.0 ∙ space-alone bs (past_byte b p) both.1
-
-blank-runs : (bs : List ℕ) (p : Point) → is_blank bs ≡ true → delimiter_runs Apart bs p ≡ white_part bs p
-blank-runs [] p h = refl
-blank-runs (b ∷ bs) p h =
-    let both = and_parts (is_white b) (is_blank bs) h in
-    space-opens b bs p both.0 ∙ ap (λ (es : List Event). enter n.SpaceOrTab p ∷ es) (space-alone bs (past_byte b p) both.1)
-
--- and ends in front of what is none
-space-front : (bs : List ℕ) (p : Point) →
-    delimiter_runs Space bs p ≡
-    exit n.SpaceOrTab (past_text (white_front bs) p)
-    ∷ delimiter_runs Apart (trim_start bs) (past_text (white_front bs) p)
-space-front [] p = refl
-space-front (b ∷ bs) p = go (is_white b) refl (space-front bs (past_byte b p))
-  where
-    by : List ℕ → List ℕ → List Event
-    by w t = exit n.SpaceOrTab (past_text w p) ∷ delimiter_runs Apart t (past_text w p)
-
-    go : (x : Bool) → is_white b ≡ x →
-        delimiter_runs Space bs (past_byte b p) ≡ by (b ∷ white_front bs) (trim_start bs) →
-        delimiter_runs Space (b ∷ bs) p ≡ by (white_front (b ∷ bs)) (trim_start (b ∷ bs))
-    go true e more = space-on b bs p e ∙ more ∙ sym (ap₂ by (front-one b bs e) (trim-white b bs e))
-    go false e more = space-ends b bs p e ∙ sym (ap₂ by (front-none b bs e) (start-none b bs e))
-
--- the runs that a pipe begins
-abbrev piped : List ℕ → Point → List Event
-piped bs p = pipe_runs (delimiter_runs Apart bs (past_byte 124 p)) p
-
-pipe-alone : (bs : List ℕ) (p : Point) →
-    delimiter_runs Pipe bs p ≡ exit n.GfmTableCellDivider p ∷ delimiter_runs Apart bs p
-pipe-alone [] p = refl
-pipe-alone (b ∷ bs) p = refl
-
-pipe-opens : (bs : List ℕ) (p : Point) → delimiter_runs Apart (124 ∷ bs) p ≡ piped bs p
-pipe-opens bs p = ap (λ (es : List Event). enter n.GfmTableCellDivider p ∷ es) (pipe-alone bs (past_byte 124 p))
-
--- a run of a cell ends in front of one
-value-pipe : (run : Run) (bs : List ℕ) (p : Point) → goes_on run 124 ≡ false →
-    delimiter_runs run (124 ∷ bs) p ≡ closes run p ++ piped bs p
-value-pipe run bs p e =
-    rw e
-    (append_assoc (closes run p) (enter n.GfmTableCellDivider p ∷ []) (delimiter_runs Pipe bs (past_byte 124 p))
-    ∙ ap (λ (es : List Event). closes run p ++ es) (pipe-opens bs p))
-
--- What a cell holds.
-
--- what is left of it in a run, and behind it
-abbrev value_left : Run → List ℕ → Point → List Event
-value_left run x p =
-    let q = past_text (trim_end x) p in
-    delimiter_runs run (trim_end x) p ++ exit n.GfmTableDelimiterCellValue q ∷ white_part (white_back x) q
-
-value-first : (b : ℕ) (x : List ℕ) (p : Point) → is_white b ≡ false →
-    cell_by value_part (b ∷ x) p ≡
-    enter n.GfmTableDelimiterCellValue p ∷ opens (begun b) p ++ value_left (begun b) x (past_byte b p)
-value-first b x p dark = dark-cell value_part b x p dark ∙ simp append_assoc refl
-
-value-more : (run : Run) (b : ℕ) (x : List ℕ) (p : Point) → is_white b ≡ false → goes_on run b ≡ true →
-    value_left run (b ∷ x) p ≡ value_left run x (past_byte b p)
-value-more run b x p dark on =
-    let e = end-more b x (dark-first b x dark) in
-    ap₂
-    (λ (t w : List ℕ).
-    delimiter_runs run t p ++ exit n.GfmTableDelimiterCellValue (past_text t p) ∷ white_part w (past_text t p)) e.0 e.1
-    ∙ ap
-    (λ (t : Bool).
-    let q = past_text (trim_end x) (past_byte b p) in
-    cond t (delimiter_runs run (trim_end x) (past_byte b p))
-    (closes run p ++ opens (begun b) p ++ delimiter_runs (begun b) (trim_end x) (past_byte b p))
-    ++ exit n.GfmTableDelimiterCellValue q ∷ white_part (white_back x) q) on
-
-value-turns : (run : Run) (b : ℕ) (x : List ℕ) (p : Point) → is_white b ≡ false → goes_on run b ≡ false →
-    value_left run (b ∷ x) p ≡ (closes run p ++ opens (begun b) p) ++ value_left (begun b) x (past_byte b p)
-value-turns run b x p dark on =
-    let e = end-more b x (dark-first b x dark) in
-    let q = past_text (trim_end x) (past_byte b p) in
-    ap₂
-    (λ (t w : List ℕ).
-    delimiter_runs run t p ++ exit n.GfmTableDelimiterCellValue (past_text t p) ∷ white_part w (past_text t p)) e.0 e.1
-    ∙ ap
-    (λ (t : Bool).
-    cond t (delimiter_runs run (trim_end x) (past_byte b p))
-    (closes run p ++ opens (begun b) p ++ delimiter_runs (begun b) (trim_end x) (past_byte b p))
-    ++ exit n.GfmTableDelimiterCellValue q ∷ white_part (white_back x) q) on
-    ∙ append_assoc (closes run p ++ opens (begun b) p) (delimiter_runs (begun b) (trim_end x) (past_byte b p))
-    (exit n.GfmTableDelimiterCellValue q ∷ white_part (white_back x) q)
-
-value-ends : (run : Run) (x : List ℕ) (p : Point) → is_blank x ≡ true →
-    value_left run x p ≡ closes run p ++ exit n.GfmTableDelimiterCellValue p ∷ white_part x p
-value-ends run x p h =
-    let e = end-blank x h in
-    ap₂
-    (λ (t w : List ℕ).
-    delimiter_runs run t p ++ exit n.GfmTableDelimiterCellValue (past_text t p) ∷ white_part w (past_text t p)) e.0 e.1
-
--- What is left of cells: where the first begins, in the whitespace in front of what it holds, and in a run of that.
-
-abbrev behind : Cells → Point → List Event
-behind cells p = behind_first n.GfmTableDelimiterCell value_part cells p
-
-abbrev left_by : (List ℕ → Point → List Event) → Cells → Point → List Event
-left_by left cells p = left_of n.GfmTableDelimiterCell value_part left cells p
-
-abbrev cells_left : Cells → Point → List Event
-cells_left cells p = left_by (cell_by value_part) cells p
-
-abbrev left_in_space : Cells → Point → List Event
-left_in_space cells p = left_by (white_left value_part) cells p
-
-abbrev left_in_value : Run → Cells → Point → List Event
-left_in_value run cells p = left_by (value_left run) cells p
-
--- a byte in front
-onto-by : (left : List ℕ → Point → List Event) (b : ℕ) (cells : Cells) (p : Point) (es : List Event) →
-    left (b ∷ first_cell cells) p ≡ es →
-    left_by left (onto b cells) p ≡ es ++ behind cells (past_text (first_cell cells) (past_byte b p))
-onto-by left b cells p es e =
-    onto-left n.GfmTableDelimiterCell value_part left b cells p
-    ∙ ap (λ (xs : List Event). xs ++ behind cells (past_text (first_cell cells) (past_byte b p))) e
-
--- and a pipe
-pipe-by : (left : List ℕ → Point → List Event) (bs : List ℕ) (p : Point) →
-    left_by left (behind_pipe bs (cells_of false bs)) p ≡ left [] p ++ behind (behind_pipe bs (cells_of false bs)) p
-pipe-by left bs p =
-    ap (λ (x : List ℕ). left x p ++ behind (behind_pipe bs (cells_of false bs)) (past_text x p))
-    (first-behind bs (cells_of false bs))
-
-cells-other : (b : ℕ) (bs : List ℕ) → nat_eq b 124 ≡ false → nat_eq b 92 ≡ false →
-    cells_of false (b ∷ bs) ≡ onto b (cells_of false bs)
-unfolding cells_of
-cells-other b bs k m = rw (k, m) refl
-
-cells-pipe : (bs : List ℕ) → cells_of false (124 ∷ bs) ≡ behind_pipe bs (cells_of false bs)
-unfolding cells_of
-cells-pipe bs = refl
-
-cells-none : cells_of false [] ≡ Ends []
-unfolding cells_of
-cells-none = refl
-
--- Looks ahead.
-
--- the end of the row
-abbrev row_end : List ℕ → Point → List Event
-row_end bs p = exit n.GfmTableDelimiterRow (past_text bs p) ∷ []
-
--- what begins there is no whitespace, and not the end of the row
-record Begun (es : List Event) : Type 0 where
-  pub first : Event
-  pub after : List Event
-  pub is : es ≡ first ∷ after
-  pub no_row : ends_row first ≡ false
-  pub no_white : is_white_name first.name ≡ false
-
-run-begun : (b : ℕ) (bs : List ℕ) (p : Point) → is_white b ≡ false → Begun (delimiter_runs Apart (b ∷ bs) p ++ row_end (b ∷ bs) p)
-run-begun b bs p e = go (nat_eq b 124) refl (nat_eq b 58) refl
-  where
-    go : (x : Bool) → nat_eq b 124 ≡ x → (y : Bool) → nat_eq b 58 ≡ y →
-        Begun (delimiter_runs Apart (b ∷ bs) p ++ row_end (b ∷ bs) p)
-    go true k y m = record {
-      first = enter n.GfmTableCellDivider p;
-      after = delimiter_runs Pipe bs (past_byte b p) ++ row_end (b ∷ bs) p;
-      is = rw (e, k) refl;
-      no_row = refl;
-      no_white = refl;
-    }
-    go false k true m = record {
-      first = enter n.GfmTableDelimiterMarker p;
-      after = delimiter_runs Colon bs (past_byte b p) ++ row_end (b ∷ bs) p;
-      is = rw (e, k, m) refl;
-      no_row = refl;
-      no_white = refl;
-    }
-    go false k false m = record {
-      first = enter n.GfmTableDelimiterFiller p;
-      after = delimiter_runs Filler bs (past_byte b p) ++ row_end (b ∷ bs) p;
-      is = rw (e, k, m) refl;
-      no_row = refl;
-      no_white = refl;
-    }
-
--- whitespace that goes on: where it ends, and whether the row ends behind it
-record SpaceRun (bs : List ℕ) (p : Point) : Type 0 where
-  pub at : Point
-  pub after : List Event
-  pub is : delimiter_runs Space bs p ++ row_end bs p ≡ exit n.SpaceOrTab at ∷ after
-  pub ends : first_is ends_row after ≡ is_blank bs
-
-space-run : (bs : List ℕ) (p : Point) → SpaceRun bs p
-space-run [] p = record { at = p; after = row_end [] p; is = refl; ends = refl }
-space-run (b ∷ bs) p = go (is_white b) refl (space-run bs (past_byte b p))
-  where
-    go : (x : Bool) → is_white b ≡ x → SpaceRun bs (past_byte b p) → SpaceRun (b ∷ bs) p
-    go true e more = record {
-      at = more.at;
-      after = more.after;
-      is = ap (λ (es : List Event). es ++ row_end (b ∷ bs) p) (space-on b bs p e) ∙ more.is;
-      ends = more.ends ∙ sym (blank-first b bs e);
-    }
-    go false e more =
-        let next = run-begun b bs p e in
-        record {
-          at = p;
-          after = delimiter_runs Apart (b ∷ bs) p ++ row_end (b ∷ bs) p;
-          is = ap (λ (es : List Event). es ++ row_end (b ∷ bs) p) (space-ends b bs p e);
-          ends = ap (first_is ends_row) next.is ∙ next.no_row ∙ sym (dark-first b bs e);
-        }
-
--- a pipe is the last where whitespace alone stands behind it
-last-pipe : (bs : List ℕ) (p : Point) → row_ends (delimiter_runs Apart bs p ++ row_end bs p) ≡ is_blank bs
-last-pipe [] p = refl
-last-pipe (b ∷ bs) p = go (is_white b) refl
-  where
-    go : (x : Bool) → is_white b ≡ x → row_ends (delimiter_runs Apart (b ∷ bs) p ++ row_end (b ∷ bs) p) ≡ is_blank (b ∷ bs)
-    go true e =
-        let run = space-run bs (past_byte b p) in
-        ap (λ (es : List Event). row_ends (es ++ row_end (b ∷ bs) p)) (space-opens b bs p e)
-        ∙ ap (λ (es : List Event). row_ends (enter n.SpaceOrTab p ∷ es)) run.is
-        ∙ run.ends ∙ sym (blank-first b bs e)
-    go false e =
-        let next = run-begun b bs p e in
-        ap row_ends next.is
-        ∙ ap (λ (t : Bool). first_is ends_row (cond t (drop 2 (next.first ∷ next.after)) (next.first ∷ next.after)))
-        (dark-looks next.first next.after next.no_white)
-        ∙ next.no_row ∙ sym (dark-first b bs e)
+use Rattle.md_tables.proofs.DelimiterRuns.{space-opens, space-on, space-ends, space-alone, blank-runs, space-front}
+use Rattle.md_tables.proofs.DelimiterRuns.{front-runs, piped, pipe-alone, pipe-opens, value-pipe, value_left}
+use Rattle.md_tables.proofs.DelimiterRuns.{value-first, value-more, value-turns, value-ends, behind, left_by}
+use Rattle.md_tables.proofs.DelimiterRuns.{cells_left, left_in_space, left_in_value, onto-by, pipe-by, row_end, Begun}
+use Rattle.md_tables.proofs.DelimiterRuns.{run-begun, SpaceRun, space-run, last-pipe}
 
 -- The walk.
 
@@ -331,8 +90,8 @@ data IsValue : Run → Type 0 where
 -- it ends with the row,
 run-none : (run : Run) (p : Point) → IsValue run → InRun run [] p
 unfolding celled
-run-none _ p IsColon = sym (ap (λ (c : Cells). left_in_value Colon c p ++ row_end [] p) cells-none)
-run-none _ p IsFiller = sym (ap (λ (c : Cells). left_in_value Filler c p ++ row_end [] p) cells-none)
+run-none _ p IsColon = sym (ap (λ (c : Cells). left_in_value Colon c p ++ row_end [] p) (cells-none false))
+run-none _ p IsFiller = sym (ap (λ (c : Cells). left_in_value Filler c p ++ row_end [] p) (cells-none false))
 
 -- in front of a pipe,
 run-pipe : (run : Run) (bs : List ℕ) (p : Point) → IsValue run → AtCell bs (past_byte 124 p) → InRun run (124 ∷ bs) p
@@ -381,7 +140,7 @@ run-space run b bs p is t more = go run is
     wanted : (run : Run) → left_in_value run (cells_of false (b ∷ bs)) p ++ end ≡
         ((closes run p ++ exit n.GfmTableDelimiterCellValue p ∷ white_part (b ∷ first_cell cells) p) ++ after) ++ end
     wanted run =
-        ap (λ (c : Cells). left_in_value run c p ++ end) (cells-other b bs t.pipe (white-apart b 92 t.white refl))
+        ap (λ (c : Cells). left_in_value run c p ++ end) (cells-plain b bs t.pipe (white-apart b 92 t.white refl))
         ∙ ap (λ (es : List Event). es ++ end)
         (onto-by (value_left run) b cells p _
         (value-ends run (b ∷ first_cell cells) p (blank-first b (first_cell cells) t.white ∙ more.blank)))
@@ -435,7 +194,7 @@ run-turns run into b bs p is at dark pipe slash off same more = go run into is a
         left_in_value run (cells_of false (b ∷ bs)) p ++ end ≡
         (((closes run p ++ opens into p) ++ value_left into (first_cell cells) q) ++ after) ++ end
     wanted run into off same =
-        ap (λ (c : Cells). left_in_value run c p ++ end) (cells-other b bs pipe slash)
+        ap (λ (c : Cells). left_in_value run c p ++ end) (cells-plain b bs pipe slash)
         ∙ ap (λ (es : List Event). es ++ end)
         (onto-by (value_left run) b cells p _
         (value-turns run b (first_cell cells) p dark off
@@ -474,7 +233,7 @@ run-more : (b : ℕ) (bs : List ℕ) (p : Point) → is_white b ≡ false → na
 run-more b bs p dark pipe slash on more =
     ap (λ (es : List Event). celled (Inner Delimiter) (es ++ row_end (b ∷ bs) p)) goes ∙ more
     ∙ sym
-    (ap (λ (c : Cells). left_in_value Filler c p ++ row_end (b ∷ bs) p) (cells-other b bs pipe slash)
+    (ap (λ (c : Cells). left_in_value Filler c p ++ row_end (b ∷ bs) p) (cells-plain b bs pipe slash)
     ∙ ap (λ (es : List Event). es ++ row_end (b ∷ bs) p)
     (onto-by (value_left Filler) b (cells_of false bs) p _
     (value-more Filler b (first_cell (cells_of false bs)) p dark on)))
@@ -492,12 +251,12 @@ cell-value into b bs p at dark pipe slash same more = record {
       ap (λ (es : List Event). celled (Within Delimiter) (es ++ end)) (space-ends b bs p dark)
       ∙ ap (λ (es : List Event). exit n.SpaceOrTab p ∷ es) starts
       ∙ sym
-      (ap (λ (c : Cells). left_in_space c p ++ end) (cells-other b bs pipe slash)
+      (ap (λ (c : Cells). left_in_space c p ++ end) (cells-plain b bs pipe slash)
       ∙ ap (λ (es : List Event). es ++ end)
       (onto-by (white_left value_part) b cells p _ (white-ends value_part b (first_cell cells) p dark))
       ∙ sym
       (ap (λ (es : List Event). exit n.SpaceOrTab p ∷ es ++ end)
-      (ap (λ (c : Cells). cells_left c p) (cells-other b bs pipe slash)
+      (ap (λ (c : Cells). cells_left c p) (cells-plain b bs pipe slash)
       ∙ onto-by (cell_by value_part) b cells p _ refl)));
 }
   where
@@ -517,7 +276,7 @@ cell-value into b bs p at dark pipe slash same more = record {
         cells_left (cells_of false (b ∷ bs)) p ++ end ≡
         ((enter n.GfmTableDelimiterCellValue p ∷ opens into p ++ value_left into (first_cell cells) q) ++ after) ++ end
     wanted into same =
-        ap (λ (c : Cells). cells_left c p ++ end) (cells-other b bs pipe slash)
+        ap (λ (c : Cells). cells_left c p ++ end) (cells-plain b bs pipe slash)
         ∙ ap (λ (es : List Event). es ++ end)
         (onto-by (cell_by value_part) b cells p _
         (value-first b (first_cell cells) p dark
@@ -553,7 +312,7 @@ space-more b bs p t more =
     ap (λ (es : List Event). celled (Within Delimiter) (es ++ row_end (b ∷ bs) p)) (space-on b bs p t.white) ∙ more
     ∙ sym
     (ap (λ (c : Cells). left_in_space c p ++ row_end (b ∷ bs) p)
-    (cells-other b bs t.pipe (white-apart b 92 t.white refl))
+    (cells-plain b bs t.pipe (white-apart b 92 t.white refl))
     ∙ ap (λ (es : List Event). es ++ row_end (b ∷ bs) p)
     (onto-by (white_left value_part) b (cells_of false bs) p _
     (white-more value_part b (first_cell (cells_of false bs)) p t.white)))
@@ -566,7 +325,7 @@ cell-space b bs p t more = record {
       ∙ ap (λ (es : List Event). enter n.SpaceOrTab p ∷ es) more.space
       ∙ sym
       (ap (λ (c : Cells). cells_left c p ++ row_end (b ∷ bs) p)
-      (cells-other b bs t.pipe (white-apart b 92 t.white refl))
+      (cells-plain b bs t.pipe (white-apart b 92 t.white refl))
       ∙ ap (λ (es : List Event). es ++ row_end (b ∷ bs) p)
       (onto-by (cell_by value_part) b (cells_of false bs) p _
       (white-first value_part b (first_cell (cells_of false bs)) p t.white)));
@@ -577,15 +336,15 @@ cell-space b bs p t more = record {
 cell-none : (p : Point) → AtCell [] p
 unfolding celled
 cell-none p = record {
-  start = sym (ap (λ (c : Cells). cells_left c p ++ row_end [] p) cells-none);
-  space = sym (ap (λ (c : Cells). left_in_space c p ++ row_end [] p) cells-none);
+  start = sym (ap (λ (c : Cells). cells_left c p ++ row_end [] p) (cells-none false));
+  space = sym (ap (λ (c : Cells). left_in_space c p ++ row_end [] p) (cells-none false));
 }
 
 -- Behind what a cell holds.
 
 behind-none : (p : Point) → BehindValue [] p
 behind-none p = record {
-  blank = ap (λ (c : Cells). is_blank (first_cell c)) cells-none;
+  blank = ap (λ (c : Cells). is_blank (first_cell c)) (cells-none false);
   run = run-none Colon p IsColon;
   space = (cell-none p).space;
 }
@@ -593,7 +352,7 @@ behind-none p = record {
 behind-space : (b : ℕ) (bs : List ℕ) (p : Point) → Told b White → BehindValue bs (past_byte b p) → BehindValue (b ∷ bs) p
 behind-space b bs p t more = record {
   blank =
-      ap (λ (c : Cells). is_blank (first_cell c)) (cells-other b bs t.pipe (white-apart b 92 t.white refl))
+      ap (λ (c : Cells). is_blank (first_cell c)) (cells-plain b bs t.pipe (white-apart b 92 t.white refl))
       ∙ ap is_blank (first-onto b (cells_of false bs))
       ∙ blank-first b (first_cell (cells_of false bs)) t.white ∙ more.blank;
   run = run-space Colon b bs p IsColon t more;
@@ -630,12 +389,6 @@ begun-colon b t = rw (t.white, t.pipe, t.colon) refl
 
 begun-dash : (b : ℕ) → Told b Dash → begun b ≡ Filler
 begun-dash b t = rw (t.white, t.pipe, t.colon) refl
-
-colon-slash : (b : ℕ) → nat_eq b 58 ≡ true → nat_eq b 92 ≡ false
-colon-slash b e = rw (eqb-true b 58 e) refl
-
-dash-slash : (b : ℕ) → nat_eq b 45 ≡ true → nat_eq b 92 ≡ false
-dash-slash b e = rw (eqb-true b 45 e) refl
 
 as-pipe : (P : ℕ → Type 0) (b : ℕ) → Told b Pipes → P 124 → P b
 as-pipe P b t h = subst P (sym (eqb-true b 124 t.pipe)) h
@@ -807,19 +560,3 @@ delimiter-celled s line p h =
         ++ end)
     go [] = rest
     go (b ∷ w) = ap (λ (es : List Event). white_part (b ∷ w) p ++ es) rest
-
--- which are the runs of the whole line
-pub front-runs : (line : List ℕ) (p : Point) →
-    delimiter_runs Apart line p ≡
-    white_part (white_front line) p ++ delimiter_runs Apart (trim_start line) (past_text (white_front line) p)
-front-runs [] p = refl
-front-runs (b ∷ bs) p = go (is_white b) refl
-  where
-    by : List ℕ → List ℕ → List Event
-    by w t = white_part w p ++ delimiter_runs Apart t (past_text w p)
-
-    go : (x : Bool) → is_white b ≡ x → delimiter_runs Apart (b ∷ bs) p ≡ by (white_front (b ∷ bs)) (trim_start (b ∷ bs))
-    go true e =
-        space-opens b bs p e ∙ ap (λ (es : List Event). enter n.SpaceOrTab p ∷ es) (space-front bs (past_byte b p))
-        ∙ sym (ap₂ by (front-one b bs e) (trim-white b bs e))
-    go false e = sym (ap₂ by (front-none b bs e) (start-none b bs e))

@@ -19,11 +19,11 @@ pub mod RowNests
 pub mod TabledNests
 pub mod WhiteEnds
 pub mod RowCellLemmas
+pub mod RowRuns
 pub mod RowWalk
 pub mod RowTexts
 pub mod RowBytes
 pub mod RowRead
-pub mod RunPairs
 pub mod HeadStates
 pub mod HeadRuns
 pub mod HeadsWalk
@@ -31,6 +31,8 @@ pub mod HeadsLemmas
 pub mod RunsLemmas
 pub mod HeadPoints
 pub mod PipeWalk
+pub mod DelimiterRuns
 pub mod DelimiterWalk
 pub mod DelimiterRead
 pub mod TableRows
+pub mod RowBecomes

@@ -7,16 +7,16 @@ use Rattle.std.proofs.lemmas.Bool.{eqb-true}
 use Rattle.std.proofs.lemmas.List.{take-append-drop}
 use Rattle.std.proofs.lemmas.List.Sums.{list_all-from_AllPass}
 use Rattle.md_engine.specs.declared.event.Point.{Point}
-use Rattle.md_definition.specs.Bytes.{after_optional}
+use Rattle.md_definition.specs.Bytes.{begins}
 use Rattle.md_definition.specs.Lines.{begins_with}
 use Rattle.md_definition.specs.Rest.{is_blank, is_white, trim, trim_start}
 use Rattle.md_leaves.proofs.TitleTexts.{front-passes}
 use Rattle.md_seam.specs.Events.Places.{past_text}
 use Rattle.md_seam.proofs.FeedLines.{drop-past, past_text-whole, slice-front}
-use Rattle.md_seam.proofs.InlineLemmas.{past-index}
+use Rattle.md_seam.proofs.InlineLemmas.{past-index, past-vs}
 use Rattle.md_tables.specs.RowCells.{Cells, Divides, Ends, Shut, behind_pipe, cells_of, line_cells, onto, white_back}
 use Rattle.md_tables.specs.RowCells.{white_front}
-use Rattle.md_tables.proofs.WhiteEnds.{end-whole}
+use Rattle.md_tables.proofs.WhiteEnds.{end-whole, front-none, front-one}
 
 -- The bytes of cells.
 
@@ -106,4 +106,27 @@ stands-next bytes p xs ys is = record {
       ap (λ (i : ℕ). drop i bytes) (past-index xs p)
       ∙ drop-past bytes p.index xs (ys ++ is.behind) (is.text ∙ append_assoc xs ys is.behind);
   whole = past_text-whole xs p is.whole;
+}
+
+-- no tab is cut behind the whitespace in front of it
+start-whole : (line : List ℕ) (p : Point) → (begins is_white line ≡ false → p.vs ≡ 0) →
+    (past_text (white_front line) p).vs ≡ 0
+start-whole [] p h = h refl
+start-whole (b ∷ bs) p h = go (is_white b) refl
+  where
+    go : (x : Bool) → is_white b ≡ x → (past_text (white_front (b ∷ bs)) p).vs ≡ 0
+    go true e = ap (λ (w : List ℕ). (past_text w p).vs) (front-one b bs e) ∙ past-vs b (white_front bs) p
+    go false e = ap (λ (w : List ℕ). (past_text w p).vs) (front-none b bs e) ∙ h e
+
+-- behind it a line stands
+pub stands-line : (bytes line behind : List ℕ) (p : Point) → drop p.index bytes ≡ line ++ behind →
+    (begins is_white line ≡ false → p.vs ≡ 0) → Stands bytes (past_text (white_front line) p) (trim_start line)
+stands-line bytes line behind p text whole = record {
+  behind = behind;
+  text =
+      ap (λ (i : ℕ). drop i bytes) (past-index (white_front line) p)
+      ∙ drop-past bytes p.index (white_front line) (trim_start line ++ behind)
+      (text ∙ ap (λ (x : List ℕ). x ++ behind) (front-whole line)
+      ∙ append_assoc (white_front line) (trim_start line) behind);
+  whole = start-whole line p whole;
 }

@@ -10,8 +10,10 @@ use Rattle.md_seam.specs.Events.Nested.{enter, enter_link, exit}
 use Rattle.md_seam.specs.Events.Places.{past_byte, past_text}
 use Rattle.md_seam.proofs.RestLines.{trim-white}
 use Rattle.md_tables.specs.Row.{text_link}
-use Rattle.md_tables.specs.RowCells.{Cells, Divides, Ends, Shut, behind_pipe, cell_by, cell_inside, cells_by, first_pipe}
+use Rattle.md_tables.specs.RowCells.{Cells, Divides, Ends, Shut, behind_pipe, cell_by, cell_inside, cells_by, cells_of}
+use Rattle.md_tables.specs.RowCells.{first_pipe}
 use Rattle.md_tables.specs.RowCells.{onto, past_pipe, pipe_part, text_part, unread_text, white_back, white_front, white_part}
+use Rattle.md_tables.proofs.RowSteps.{white-apart}
 use Rattle.md_tables.proofs.WhiteEnds.{blank-first, dark-first, end-blank, end-more, front-none, front-one, start-none}
 
 -- The bytes of a cell.
@@ -163,3 +165,32 @@ first-behind bs cells = go (is_blank bs)
     go : (x : Bool) → first_cell (cond x (Shut [] bs) (Divides [] cells)) ≡ []
     go true = refl
     go false = refl
+
+-- What a byte does to the cells.
+
+pub cells-escaped : (b : ℕ) (bs : List ℕ) → cells_of true (b ∷ bs) ≡ onto b (cells_of false bs)
+unfolding cells_of
+cells-escaped b bs = refl
+
+pub cells-other : (b : ℕ) (bs : List ℕ) → nat_eq b 124 ≡ false → cells_of false (b ∷ bs) ≡ onto b (cells_of (nat_eq b 92) bs)
+unfolding cells_of
+cells-other b bs k = rw k refl
+
+pub cells-white : (escaped : Bool) (b : ℕ) (bs : List ℕ) → is_white b ≡ true → cells_of escaped (b ∷ bs) ≡ onto b (cells_of false bs)
+cells-white true b bs e = cells-escaped b bs
+cells-white false b bs e =
+    cells-other b bs (white-apart b 124 e refl) ∙ ap (λ (x : Bool). onto b (cells_of x bs)) (white-apart b 92 e refl)
+
+pub cells-pipe : (bs : List ℕ) → cells_of false (124 ∷ bs) ≡ behind_pipe bs (cells_of false bs)
+unfolding cells_of
+cells-pipe bs = refl
+
+pub cells-none : (escaped : Bool) → cells_of escaped [] ≡ Ends []
+unfolding cells_of
+cells-none true = refl
+cells-none false = refl
+
+-- where no backslash stands
+pub cells-plain : (b : ℕ) (bs : List ℕ) → nat_eq b 124 ≡ false → nat_eq b 92 ≡ false →
+    cells_of false (b ∷ bs) ≡ onto b (cells_of false bs)
+cells-plain b bs k m = cells-other b bs k ∙ ap (λ (x : Bool). onto b (cells_of x bs)) m

@@ -23,7 +23,7 @@ use Rattle.md_seam.proofs.SpelledLemmas.{roles-append}
 use Rattle.md_tables.specs.RowCells.{Cells, Divides, Ends, Shut, cell_inside, cells_events, first_pipe, line_cells, past_pipe}
 use Rattle.md_tables.specs.RowCells.{pipe_part, read_text, row_events, text_part, white_back, white_front, white_part}
 use Rattle.md_tables.proofs.RowBytes.{Stands, cell-whole, cells_bytes, front-whole, line-bytes, pipe_bytes, stands-first}
-use Rattle.md_tables.proofs.RowBytes.{stands-next}
+use Rattle.md_tables.proofs.RowBytes.{stands-line, stands-next}
 use Rattle.md_tables.proofs.RowTexts.{held-cells, held_in}
 use Rattle.md_tables.proofs.WhiteEnds.{front-none, front-one}
 
@@ -232,16 +232,6 @@ cells-read bytes r delimiter rows row piped (Divides cell cells) p is =
 
 -- A row.
 
--- no tab is cut behind the whitespace in front of it
-start-whole : (line : List ℕ) (p : Point) → (begins is_white line ≡ false → p.vs ≡ 0) →
-    (past_text (white_front line) p).vs ≡ 0
-start-whole [] p h = h refl
-start-whole (b ∷ bs) p h = go (is_white b) refl
-  where
-    go : (x : Bool) → is_white b ≡ x → (past_text (white_front (b ∷ bs)) p).vs ≡ 0
-    go true e = ap (λ (w : List ℕ). (past_text w p).vs) (front-one b bs e) ∙ past-vs b (white_front bs) p
-    go false e = ap (λ (w : List ℕ). (past_text w p).vs) (front-none b bs e) ∙ h e
-
 -- A row on a line adds its cells: no tab is cut where its first byte is no whitespace.
 pub row-read : (bytes : List ℕ) (r : Reading) (delimiter : List ℕ) (rows : List (List (List ℕ)))
     (line behind : List ℕ) (p end : Point) →
@@ -258,7 +248,8 @@ row-read bytes r delimiter rows line behind p end text whole none leaf =
     (read-from bytes empty empty (white_part (white_front line) p) _
     (read-quiet bytes empty (white_part (white_front line) p) (white-quiet (white_front line) p))
     ∙ cells-read bytes r delimiter rows [] (begins_with 124 (trim_start line)) (line_cells (trim_start line)) q
-    (subst (Stands bytes q) (sym (line-bytes (trim_start line))) here)
+    (subst (Stands bytes q) (sym (line-bytes (trim_start line)))
+    (stands-line bytes line behind p text whole))
     ∙ ap (in_row r delimiter rows) (held-cells line))
   where
     q : Point
@@ -276,17 +267,3 @@ row-read bytes r delimiter rows line behind p end text whole none leaf =
     begins : on_leaf at_row r ≡ empty
     begins =
         ap₂ (λ (o : Option OpenLeaf) (t : Option Text). record r { leaf = option_map at_row o; text = t }) leaf none
-
-    split : drop p.index bytes ≡ white_front line ++ (trim_start line ++ behind)
-    split =
-        text ∙ ap (λ (x : List ℕ). x ++ behind) (front-whole line)
-        ∙ append_assoc (white_front line) (trim_start line) behind
-
-    here : Stands bytes q (trim_start line)
-    here = record {
-      behind = behind;
-      text =
-          ap (λ (i : ℕ). drop i bytes) (past-index (white_front line) p)
-          ∙ drop-past bytes p.index (white_front line) (trim_start line ++ behind) split;
-      whole = start-whole line p whole;
-    }
