@@ -12,7 +12,7 @@ ghost use Rattle.md_engine.specs.declared.state.Name.{Name as StateName};
 ghost use Rattle.md_engine.specs.declared.state.State.{State};
 ghost use Rattle.md_seam.specs.Parts.{ArePlaced};
 ghost use Rattle.md_seam.specs.Stays.{TakesEach};
-ghost use Rattle.md_tables.specs.HeadStates.{head_scheme, head_transition};
+ghost use Rattle.md_tables.specs.HeadStates.{head_place, head_scheme, head_transition};
 ghost use Rattle.md_tables.specs.Heads.{begins_chunk, begins_further_row, has_delimiter, head_line, headed, is_head};
 ghost use Rattle.md_tables.specs.Heads.{meets_table, stops_look};
 
@@ -33,7 +33,21 @@ use md_seam::space_or_tab;
 use plain_grammars::memory::push;
 use std::alloc::Global;
 
-/// Calls a state of a head row.
+/// Where in the head a state stands.
+fn head_place(state: TableState) -> Option<Place>
+    ensures { result ≡ head_place state }
+{
+    match state {
+        TableState::HeadRowBefore => Some(Place::Start),
+        TableState::HeadRowBreak => Some(Place::Break),
+        TableState::HeadRowData => Some(Place::Data),
+        TableState::HeadRowEscape => Some(Place::Escape),
+        TableState::HeadRowCellBefore => Some(Place::CellBefore),
+        _ => None,
+    }
+}
+
+/// Calls a state of the table of heads.
 fn call_state(tokenizer: &mut Tokenizer, name: StateName) -> State
     requires current { (world tokenizer.old).current ≡ looks (world tokenizer.old) }
     requires stands { stands head_scheme (world tokenizer.old) (State.Next name) }
@@ -41,31 +55,10 @@ fn call_state(tokenizer: &mut Tokenizer, name: StateName) -> State
     ensures world { result ≢ State.Error → world tokenizer.new ≡ (head_transition name (world tokenizer.old)).world }
 {
     match name {
-        StateName::GfmTable(TableState::HeadRowBefore) => row::call(
-            tokenizer,
-            Row::Head,
-            Place::Start,
-        ),
-        StateName::GfmTable(TableState::HeadRowBreak) => row::call(
-            tokenizer,
-            Row::Head,
-            Place::Break,
-        ),
-        StateName::GfmTable(TableState::HeadRowData) => row::call(
-            tokenizer,
-            Row::Head,
-            Place::Data,
-        ),
-        StateName::GfmTable(TableState::HeadRowEscape) => row::call(
-            tokenizer,
-            Row::Head,
-            Place::Escape,
-        ),
-        StateName::GfmTable(TableState::HeadRowCellBefore) => row::call(
-            tokenizer,
-            Row::Head,
-            Place::CellBefore,
-        ),
+        StateName::GfmTable(state) => match head_place(state) {
+            Some(place) => row::call(tokenizer, Row::Head, place),
+            None => State::Nok,
+        },
         StateName::SpaceOrTab(state) => space_or_tab::call(tokenizer, state),
         _ => State::Nok,
     }
@@ -82,7 +75,7 @@ fn row_stays(state: TableState) -> Option<Stay>
     }
 }
 
-/// The states of the head of a table.
+/// The states by which the head of a table is read.
 struct HeadTable;
 
 impl Table for HeadTable {
@@ -115,7 +108,7 @@ impl Table for HeadTable {
     }
 }
 
-/// Adds the head that stands from a point up to the byte `end`, a table of one row.
+/// Adds the head whose line stands between two points, a table of one row.
 fn push_head(
     alloc: Global,
     bytes: &[u8],
