@@ -4,7 +4,9 @@
 // the states of a head row. The walk looks at each event as it passes it, and else at most once from the line of text in
 // front of it. So it is linear.
 
-ghost use Rattle.std.specs.Prelude.{◌≡◌, ◌≢◌, ◌++◌, IfOk, IfSome, []};
+ghost use Rattle.std.specs.Prelude.{◌≡◌, ◌≢◌, ◌++◌, IfOk, IfSome, None, []};
+ghost use Rattle.std.specs.Option.{option_map};
+ghost use Rattle.md_engine.specs.Found.{found_in};
 ghost use Rattle.md_engine.specs.Place.{IsPlaced};
 ghost use Rattle.md_engine.specs.Scheme.{stands};
 ghost use Rattle.md_engine.specs.World.{looks, world};
@@ -215,4 +217,30 @@ pub fn put_heads(
         }
     }
     Ok(given)
+}
+
+/// Puts each head in the place of its chunk. Where no line of a table goes on another nothing is copied.
+///
+/// After an `Err` the parse has failed, and the tokenizer is only dropped.
+pub fn resolve(tokenizer: &mut Tokenizer) -> Result<Option<Subresult>, Message>
+    requires { (world tokenizer.old).frames ≡ [] }
+    ensures world { IfOk result
+        (λ found. let w = world tokenizer.old in
+        world tokenizer.new ≡ record w { events = headed w.setting.bytes w.setting.options w.events }) }
+    ensures found { IfOk result (λ found. option_map found_in found ≡ None) }
+{
+    if !has_delimiter(&tokenizer.events) {
+        return Ok(None);
+    }
+    let events = tokenizer.take_events();
+    let spare = tokenizer.take_spare();
+    let headed = put_heads(
+        tokenizer.alloc,
+        tokenizer.bytes,
+        tokenizer.options,
+        &events,
+        spare,
+    )?;
+    tokenizer.set_events(headed, events);
+    Ok(None)
 }
