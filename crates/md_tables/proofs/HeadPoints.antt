@@ -120,8 +120,8 @@ all-around : (P : Event → Type 0) (e f : Event) (inside : List Event) → P e 
     All P (e ∷ inside ++ f ∷ [])
 all-around P e f inside begins each ends = All-cons P e (inside ++ f ∷ []) begins (All-push P inside f each ends)
 
--- each event has what those have that begin and end a row or a run of it, at a point from where its chunk begins to where
--- that ends
+-- each event has what those have that begin and end a row or a run of it, at a point from where its chunk begins to
+-- where that ends
 pub head-each : (P : Event → Type 0) (bytes : List ℕ) (options : ParseOptions) (p q : Point) → p.index ≤ q.index →
     ((t : Point) → p.index ≤ t.index → t.index ≤ q.index →
     P (enter n.GfmTable t) × P (enter n.GfmTableRow t) × P (exit n.GfmTableRow t) × P (exit n.GfmTable t)) →

@@ -1,5 +1,5 @@
--- The runs of a row, over its cells: their points go forward, what holds of each of their events, and that each part that
--- begins ends.
+-- The runs of a row, over its cells: their points go forward, what holds of each of their events, and that each part
+-- that begins ends.
 use Rattle.std.proofs.Common.{◌≡◌, ℕ, ◌≤◌, Bool, true, false, nat_eq, List, [], ◌∷◌, ◌++◌, refl, sym}
 use Rattle.std.proofs.Common.{append-nil, append_assoc, arith, subst}
 use Rattle.std.specs.Prelude.{IsTrue}

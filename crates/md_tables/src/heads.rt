@@ -1,8 +1,8 @@
 // The heads of tables, in one walk over the events.
 //
 // A line of text is one chunk until it is known that a delimiter row stands behind it. Then the line is read again, by
-// the states of a head row. The walk looks at each event as it passes it, and else at most once from the line of text in
-// front of it. So it is linear.
+// the states of a head row. The walk looks at each event as it passes it, and else at most once from the line of text
+// in front of it. So it is linear.
 
 ghost use Rattle.std.specs.Prelude.{◌≡◌, ◌≢◌, ◌++◌, IfOk, IfSome, None, []};
 ghost use Rattle.std.specs.Option.{option_map};
