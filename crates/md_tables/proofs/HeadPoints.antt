@@ -3,6 +3,8 @@
 use Rattle.std.proofs.Common.{◌≡◌, ℕ, zero, suc, ◌+◌, ◌%◌, ◌<◌, ◌≤◌, Bool, true, false, cond, not, ◌&&◌, nat_eq, nat_lt}
 use Rattle.std.proofs.Common.{List, [], ◌∷◌, ◌++◌, refl, sym, ◌∙◌, ap, arith, append-nil, append_assoc, subst}
 use Rattle.std.specs.Prelude.{IsTrue, slice_index}
+use Rattle.std.specs.List.{All}
+use Rattle.std.proofs.lemmas.List.Elements.{All-cons, All-nil, All-push}
 use Rattle.std.proofs.lemmas.Bool.Decides.{nat_tests}
 use Rattle.md_engine.specs.declared.configuration.ParseOptions.{ParseOptions}
 use Rattle.md_engine.specs.declared.event.Event.{Event}
@@ -22,9 +24,9 @@ use Rattle.md_seam.proofs.NestedLemmas.{at_or_before-refl, balanced-around, last
 use Rattle.md_seam.proofs.RestCells.{past_rest, rest_cells}
 use Rattle.md_seam.proofs.RestLines.{rest-line, rest-past}
 use Rattle.md_tables.specs.Heads.{cells_between, head_line, head_row}
-use Rattle.md_tables.specs.RowRule.{Apart, row_closes, row_opens, runs}
+use Rattle.md_tables.specs.RowRule.{Apart, Escaped, Pipe, Run, Text, White, closes, opens, row_closes, row_opens, runs}
 use Rattle.md_tables.specs.declared.row.Row.TheVariants.{Head}
-use Rattle.md_tables.proofs.RunsLemmas.{Onward, onward-end, runs-balanced, runs-forward}
+use Rattle.md_tables.proofs.RunsLemmas.{Onward, onward-end, onward-from, runs-balanced, runs-each, runs-forward}
 
 -- The cells of its line.
 
@@ -113,6 +115,48 @@ pub head-within : (bytes : List ℕ) (options : ParseOptions) (p q : Point) → 
     (line_end (cells_between bytes options p q) p).index ≤ q.index
 head-within bytes options p q le =
     onward-end q.index p (line_cells (cells_between bytes options p q)) (between-onward bytes options p q le)
+
+all-around : (P : Event → Type 0) (e f : Event) (inside : List Event) → P e → All P inside → P f →
+    All P (e ∷ inside ++ f ∷ [])
+all-around P e f inside begins each ends = All-cons P e (inside ++ f ∷ []) begins (All-push P inside f each ends)
+
+-- each event has what those have that begin and end a row or a run of it, at a point from where its chunk begins to
+-- where that ends
+pub head-each : (P : Event → Type 0) (bytes : List ℕ) (options : ParseOptions) (p q : Point) → p.index ≤ q.index →
+    ((t : Point) → p.index ≤ t.index → t.index ≤ q.index →
+    P (enter n.GfmTable t) × P (enter n.GfmTableRow t) × P (exit n.GfmTableRow t) × P (exit n.GfmTable t)) →
+    ((r : Run) (t : Point) → p.index ≤ t.index → t.index ≤ q.index → All P (opens r t) × All P (closes r t)) →
+    All P (head_line bytes options p q)
+unfolding head_line
+head-each P bytes options p q le around each =
+    let cells = cells_between bytes options p q in
+    let end = line_end cells p in
+    let line = between-onward bytes options p q le in
+    let begins = around p (omega arith) le in
+    let ends = around end (onward-from q.index p (line_cells cells) line) (onward-end q.index p (line_cells cells) line) in
+    all-around P (enter n.GfmTable p) (exit n.GfmTable end) (head_row cells p) begins.0
+    (all-around P (enter n.GfmTableRow p) (exit n.GfmTableRow end) (runs Apart (line_cells cells) p) begins.1
+    (runs-each P p.index q.index Apart (line_cells cells) p line (omega arith) each) ends.2)
+    ends.3
+
+-- so they lie from there to there
+pub head-between : (bytes : List ℕ) (options : ParseOptions) (p q : Point) → p.index ≤ q.index →
+    All (λ (e : Event). (p.index ≤ e.point.index) × (e.point.index ≤ q.index)) (head_line bytes options p q)
+head-between bytes options p q le =
+    head-each P bytes options p q le (λ t from to. ((from, to), (from, to), (from, to), (from, to))) runs_are
+  where
+    P : Event → Type 0
+    P e = (p.index ≤ e.point.index) × (e.point.index ≤ q.index)
+
+    one : (e : Event) → P e → All P (e ∷ [])
+    one e h = All-cons P e [] h (All-nil P)
+
+    runs_are : (r : Run) (t : Point) → p.index ≤ t.index → t.index ≤ q.index → All P (opens r t) × All P (closes r t)
+    runs_are Apart t from to = (All-nil P, All-nil P)
+    runs_are White t from to = (one _ (from, to), one _ (from, to))
+    runs_are Pipe t from to = (one _ (from, to), one _ (from, to))
+    runs_are Text t from to = (one _ (from, to), one _ (from, to))
+    runs_are Escaped t from to = (one _ (from, to), one _ (from, to))
 
 -- over the rest of a line, that is this
 pub head-over : (bytes : List ℕ) (options : ParseOptions) (p q : Point) (line : Line) (r : Rest) →

@@ -8,7 +8,9 @@ use Rattle.md_engine.specs.declared.event.Name.{Name}
 use Rattle.md_engine.specs.declared.event.Name.TheVariants as n
 use Rattle.md_leaves.specs.Spanned.{is_blank_ending, links_back}
 use Rattle.md_seam.specs.Events.Blocks.{is_block}
+use Rattle.md_seam.specs.Events.Inline.{is_line_ending}
 use Rattle.md_seam.specs.Events.Nested.{is_enter}
+use Rattle.md_seam.specs.Events.Prefix.{is_prefix}
 use Rattle.md_seam.specs.Events.Spelled.{role}
 use Rattle.md_tables.specs.Heads.{begins_chunk, begins_further_row, has_delimiter, head_line, headed}
 use Rattle.md_tables.specs.Heads.{is_chunk, is_head, is_table, meets_table, stops_look}
@@ -43,6 +45,23 @@ pub chunk-stops : (e : Event) → begins_chunk e ≡ true → (stops_look e ≡ 
 chunk-stops e is =
     let named = text-stops e.name (and_parts (is_enter e.kind) (is_chunk e.name) is).1 in
     (named.0, rw named.1 (and_right (is_enter e.kind) false refl))
+
+-- the ending of a line is passed, and the prefixes of containers
+prefix-named : (name : Name) → is_prefix name ≡ true → stops_as name ≡ false
+prefix-named n.SpaceOrTab is = refl
+prefix-named n.BlockQuotePrefix is = refl
+prefix-named n.BlockQuoteMarker is = refl
+prefix-named _ is = cc
+
+pub prefix-passed : (e : Event) → is_prefix e.name ≡ true → stops_look e ≡ false
+prefix-passed e is = prefix-named e.name is
+
+ending-named : (name : Name) → is_line_ending name ≡ true → stops_as name ≡ false
+ending-named n.LineEnding is = refl
+ending-named _ is = cc
+
+pub ending-passed : (e : Event) → is_line_ending e.name ≡ true → stops_look e ≡ false
+ending-passed e is = ending-named e.name is
 
 -- what is passed begins no text
 pub passed-none : (es : List Event) → list_any stops_look es ≡ false → list_any begins_chunk es ≡ false

@@ -1,7 +1,11 @@
--- The runs of a row, over its cells: their points go forward, and each part that begins ends.
+-- The runs of a row, over its cells: their points go forward, what holds of each of their events, and that each part
+-- that begins ends.
 use Rattle.std.proofs.Common.{◌≡◌, ℕ, ◌≤◌, Bool, true, false, nat_eq, List, [], ◌∷◌, ◌++◌, refl, sym}
-use Rattle.std.proofs.Common.{append-nil, append_assoc, subst}
+use Rattle.std.proofs.Common.{append-nil, append_assoc, arith, subst}
 use Rattle.std.specs.Prelude.{IsTrue}
+use Rattle.std.specs.List.{All}
+use Rattle.std.proofs.lemmas.Bool.Decides.{nat_tests}
+use Rattle.std.proofs.lemmas.List.Elements.{All-append}
 use Rattle.md_engine.specs.declared.event.Event.{Event}
 use Rattle.md_engine.specs.declared.event.Name.{Name}
 use Rattle.md_engine.specs.declared.event.Name.TheVariants as n
@@ -56,6 +60,39 @@ runs-forward end run (c ∷ cs) p rest h f =
         (subst (Forward p) (sym all)
         (closes-forward run p _
         (opens-forward (begun c.byte) p _ (after (begun c.byte)))))
+
+-- a point does not come behind one with a lower byte
+pub before-index : (p q : Point) → IsTrue (at_or_before p q) → p.index ≤ q.index
+before-index p q h = grind (arith, nat_tests)
+
+pub onward-start : (end : ℕ) (p : Point) (cells : List Cell) → Onward end p cells → p.index ≤ end
+onward-start end p [] h = h
+onward-start end p (c ∷ cs) h =
+    let first = before-index p c.after h.0 in let more = onward-start end c.after cs h.1 in omega (arith, first, more)
+
+pub onward-from : (end : ℕ) (p : Point) (cells : List Cell) → Onward end p cells → p.index ≤ (point_after cells p).index
+onward-from end p [] h = omega arith
+onward-from end p (c ∷ cs) h =
+    let first = before-index p c.after h.0 in let more = onward-from end c.after cs h.1 in omega (arith, first, more)
+
+-- each event of the runs has what those have that begin and end a run, at a point of the line
+pub runs-each : (P : Event → Type 0) (from end : ℕ) (run : Run) (cells : List Cell) (p : Point) → Onward end p cells →
+    from ≤ p.index →
+    ((r : Run) (t : Point) → from ≤ t.index → t.index ≤ end → All P (opens r t) × All P (closes r t)) →
+    All P (runs run cells p)
+runs-each P from end run [] p h le each = (each run p le h).1
+runs-each P from end run (c ∷ cs) p h le each =
+    let first = before-index p c.after h.0 in
+    go (λ r. runs-each P from end r cs c.after h.1 (omega (arith, le, first)) each) (goes_on run c.byte) refl
+  where
+    go : ((r : Run) → All P (runs r cs c.after)) → (t : Bool) → goes_on run c.byte ≡ t → All P (runs run (c ∷ cs) p)
+    go after true e = rw e (after (next run c.byte))
+    go after false e =
+        let within = onward-start end p (c ∷ cs) h in
+        rw e
+        (All-append P (closes run p ++ opens (begun c.byte) p) (runs (begun c.byte) cs c.after)
+        (All-append P (closes run p) (opens (begun c.byte) p) (each run p le within).1 (each (begun c.byte) p le within).0)
+        (after (begun c.byte)))
 
 -- Brackets.
 

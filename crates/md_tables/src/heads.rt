@@ -1,10 +1,12 @@
 // The heads of tables, in one walk over the events.
 //
 // A line of text is one chunk until it is known that a delimiter row stands behind it. Then the line is read again, by
-// the states of a head row. The walk looks at each event as it passes it, and else at most once from the line of text in
-// front of it. So it is linear.
+// the states of a head row. The walk looks at each event as it passes it, and else at most once from the line of text
+// in front of it. So it is linear.
 
-ghost use Rattle.std.specs.Prelude.{◌≡◌, ◌≢◌, ◌++◌, IfOk, IfSome, OnOk, []};
+ghost use Rattle.std.specs.Prelude.{◌≡◌, ◌≢◌, ◌++◌, IfOk, IfSome, None, []};
+ghost use Rattle.std.specs.Option.{option_map};
+ghost use Rattle.md_engine.specs.Found.{found_in};
 ghost use Rattle.md_engine.specs.Place.{IsPlaced};
 ghost use Rattle.md_engine.specs.Scheme.{stands};
 ghost use Rattle.md_engine.specs.World.{looks, world};
@@ -12,7 +14,7 @@ ghost use Rattle.md_engine.specs.declared.state.Name.{Name as StateName};
 ghost use Rattle.md_engine.specs.declared.state.State.{State};
 ghost use Rattle.md_seam.specs.Parts.{ArePlaced};
 ghost use Rattle.md_seam.specs.Stays.{TakesEach};
-ghost use Rattle.md_tables.specs.HeadStates.{head_scheme, head_transition};
+ghost use Rattle.md_tables.specs.HeadStates.{head_place, head_scheme, head_transition};
 ghost use Rattle.md_tables.specs.Heads.{begins_chunk, begins_further_row, has_delimiter, head_line, headed, is_head};
 ghost use Rattle.md_tables.specs.Heads.{meets_table, stops_look};
 
@@ -33,7 +35,21 @@ use md_seam::space_or_tab;
 use plain_grammars::memory::push;
 use std::alloc::Global;
 
-/// Calls a state of a head row.
+/// Where in the head a state stands.
+fn head_place(state: TableState) -> Option<Place>
+    ensures { result ≡ head_place state }
+{
+    match state {
+        TableState::HeadRowBefore => Some(Place::Start),
+        TableState::HeadRowBreak => Some(Place::Break),
+        TableState::HeadRowData => Some(Place::Data),
+        TableState::HeadRowEscape => Some(Place::Escape),
+        TableState::HeadRowCellBefore => Some(Place::CellBefore),
+        _ => None,
+    }
+}
+
+/// Calls a state of the table of heads.
 fn call_state(tokenizer: &mut Tokenizer, name: StateName) -> State
     requires current { (world tokenizer.old).current ≡ looks (world tokenizer.old) }
     requires stands { stands head_scheme (world tokenizer.old) (State.Next name) }
@@ -41,31 +57,10 @@ fn call_state(tokenizer: &mut Tokenizer, name: StateName) -> State
     ensures world { result ≢ State.Error → world tokenizer.new ≡ (head_transition name (world tokenizer.old)).world }
 {
     match name {
-        StateName::GfmTable(TableState::HeadRowBefore) => row::call(
-            tokenizer,
-            Row::Head,
-            Place::Start,
-        ),
-        StateName::GfmTable(TableState::HeadRowBreak) => row::call(
-            tokenizer,
-            Row::Head,
-            Place::Break,
-        ),
-        StateName::GfmTable(TableState::HeadRowData) => row::call(
-            tokenizer,
-            Row::Head,
-            Place::Data,
-        ),
-        StateName::GfmTable(TableState::HeadRowEscape) => row::call(
-            tokenizer,
-            Row::Head,
-            Place::Escape,
-        ),
-        StateName::GfmTable(TableState::HeadRowCellBefore) => row::call(
-            tokenizer,
-            Row::Head,
-            Place::CellBefore,
-        ),
+        StateName::GfmTable(state) => match head_place(state) {
+            Some(place) => row::call(tokenizer, Row::Head, place),
+            None => State::Nok,
+        },
         StateName::SpaceOrTab(state) => space_or_tab::call(tokenizer, state),
         _ => State::Nok,
     }
@@ -82,7 +77,7 @@ fn row_stays(state: TableState) -> Option<Stay>
     }
 }
 
-/// The states of the head of a table.
+/// The states by which the head of a table is read.
 struct HeadTable;
 
 impl Table for HeadTable {
@@ -115,7 +110,7 @@ impl Table for HeadTable {
     }
 }
 
-/// Adds the head that stands from a point up to the byte `end`, a table of one row.
+/// Adds the head whose line stands between two points, a table of one row.
 fn push_head(
     alloc: Global,
     bytes: &[u8],
@@ -224,26 +219,28 @@ pub fn put_heads(
     Ok(given)
 }
 
-/// Reads lines of text again that are the heads of tables. Where no line of a table stands behind another nothing is
-/// copied.
+/// Puts each head in the place of its chunk. Where no line of a table goes on another nothing is copied.
 ///
 /// After an `Err` the parse has failed, and the tokenizer is only dropped.
-pub fn resolve(tokenizer: &mut Tokenizer) -> Result<(), Message>
+pub fn resolve(tokenizer: &mut Tokenizer) -> Result<Option<Subresult>, Message>
     requires { (world tokenizer.old).frames ≡ [] }
-    ensures { OnOk result
-        (world tokenizer.new ≡
-        record (world tokenizer.old) {
-          events = headed (world tokenizer.old).setting.bytes (world tokenizer.old).setting.options
-              (world tokenizer.old).events;
-        }) }
+    ensures world { IfOk result
+        (λ found. let w = world tokenizer.old in
+        world tokenizer.new ≡ record w { events = headed w.setting.bytes w.setting.options w.events }) }
+    ensures found { IfOk result (λ found. option_map found_in found ≡ None) }
 {
     if !has_delimiter(&tokenizer.events) {
-        return Ok(());
+        return Ok(None);
     }
-    let (alloc, bytes, options) = (tokenizer.alloc, tokenizer.bytes, tokenizer.options);
     let events = tokenizer.take_events();
     let spare = tokenizer.take_spare();
-    let with_heads = put_heads(alloc, bytes, options, &events, spare)?;
-    tokenizer.set_events(with_heads, events);
-    Ok(())
+    let headed = put_heads(
+        tokenizer.alloc,
+        tokenizer.bytes,
+        tokenizer.options,
+        &events,
+        spare,
+    )?;
+    tokenizer.set_events(headed, events);
+    Ok(None)
 }
