@@ -18,7 +18,6 @@ use Rattle.md_definition.specs.Step.{is_open_text, lazy_by, leaf_line, leaf_line
 use Rattle.md_definition.specs.Step.{stopped, stopped_by}
 use Rattle.md_definition.specs.Step.{text_line, underline_or_text, with_lazy}
 use Rattle.md_definition.specs.Tree.{Blocks, End}
-use Rattle.md_parts.specs.Progress.{progress}
 use Rattle.md_definition.proofs.ColumnLemmas.{opened_by, step_by}
 use Rattle.md_definition.proofs.ContainerLemmas.{opens-leaves}
 use Rattle.md_definition.proofs.TakenLemmas.{LeavesFewer}
@@ -31,13 +30,15 @@ use Rattle.markdown_blocks.specs.Rows.{BlankRow, LeafRow, RowKind, TextRow, insi
 use Rattle.markdown_blocks.specs.Rows.{kind_of, line_kind}
 use Rattle.markdown_blocks.specs.HeldLeaf.{IsBuiltLeaf, kind_of_leaf, met_by}
 use Rattle.markdown_blocks.specs.Stands.{IsPlain, containers_of, still_of}
-use Rattle.markdown_blocks.specs.Leaf.Paragraph.{held_of, then_front}
+use Rattle.markdown_blocks.specs.Leaf.GfmTable.{may_be_table}
+use Rattle.markdown_blocks.specs.Leaf.Paragraph.{held_of, open_lines, then_front}
 use Rattle.markdown_blocks.proofs.ContainedLemmas.{change-opens, ended-open, lazy-some, lines-unlazy}
 use Rattle.markdown_blocks.proofs.KindLemmas.{kind-plain, kind-starts}
 use Rattle.markdown_blocks.proofs.OpenSpan.{AllBegin, OpenSpan}
 use Rattle.markdown_blocks.proofs.Registry.{IsAgainst, came_of, insider-none, laws, leaf_at, open-span, text-laws}
 use Rattle.markdown_blocks.proofs.Registry.{shuts_out-none, text-starts, trials-begin}
 use Rattle.markdown_blocks.proofs.RegistryFound.{lazy_on, starts-found, text-comes, text_came, text_on}
+use Rattle.markdown_blocks.proofs.TableStarts.{asked-untabled}
 
 -- Leaves of several lines.
 
@@ -132,29 +133,29 @@ asked-kind options on r l e =
     (λ (o : Option LeafName). inside_or (λ k. (leaf k).starts options on r) o (plain_kind options on r)) e
 
 -- and another goes on no leaf of several lines
-found-begins : (on : HeldLeaf) (test : LeafName → Bool) (ls : List LeafName) → has_lines on ≡ true → AllBegin ls →
-    is_further (kind_of (first_of test ls)) on ≡ false
-found-begins on test [] lines all = refl
-found-begins on test (l ∷ ls) lines all = go (test l) (found-begins on test ls lines all.1)
+found-begins : (on : HeldLeaf) (m : LeafName) (test : LeafName → Bool) (ls : List LeafName) → insider on ≡ Some m →
+    AllBegin ls → is_further (kind_of (first_of test ls)) on ≡ false
+found-begins on m test [] asked all = refl
+found-begins on m test (l ∷ ls) asked all = go (test l) (found-begins on m test ls asked all.1)
   where
     go : (x : Bool) → is_further (kind_of (first_of test ls)) on ≡ false →
         is_further (kind_of (cond x (Some l) (first_of test ls))) on ≡ false
-    go true below = all.0 on lines
+    go true below = all.0 on m asked
     go false below = below
 
-pub plain-begins : (options : ParseOptions) (on : HeldLeaf) (r : Rest) → has_lines on ≡ true →
+pub plain-begins : (options : ParseOptions) (on : HeldLeaf) (r : Rest) (m : LeafName) → insider on ≡ Some m →
     is_further (plain_kind options on r) on ≡ false
-plain-begins options on r lines = go (is_blank r.bytes)
+plain-begins options on r m asked = go (is_blank r.bytes)
   where
     go : (x : Bool) → is_further (cond x BlankRow (kind_of (leaf_at options on r))) on ≡ false
     go true = refl
-    go false = found-begins on (λ l. (leaf l).starts options on r) trials lines trials-begin
+    go false = found-begins on m (λ l. (leaf l).starts options on r) trials asked trials-begin
 
 -- a line where nothing is open, or what was open has ended and is no text
 fresh-plain : (options : ParseOptions) (on : HeldLeaf) (bs : Blocks) (r : Rest) → takes_lazy on ≡ false →
-    IsBuilt options → fresh_line options bs r ≡ spot_by options bs [] r (plain_kind options on r)
+    may_be_table on ≡ false → fresh_line options bs r ≡ spot_by options bs [] r (plain_kind options on r)
 unfolding fresh_line
-fresh-plain options on bs r unlazy built =
+fresh-plain options on bs r unlazy no_table =
     go (is_blank r.bytes) refl
   where
     by : (o : Option LeafName) → fresh_by bs r (came_of options r o) ≡ spot_by options bs [] r (kind_of o)
@@ -166,13 +167,13 @@ fresh-plain options on bs r unlazy built =
         spot_by options bs [] r (cond x BlankRow (kind_of (leaf_at options on r)))
     go true e = refl
     go false e =
-        ap (fresh_by bs r) (starts-found options on NoText r (context-none on unlazy) refl e built)
+        ap (fresh_by bs r) (starts-found options on NoText r (context-none on unlazy) refl no_table e)
         ∙ by (leaf_at options on r)
 
 pub fresh-found : (options : ParseOptions) (bs : Blocks) (r : Rest) → IsBuilt options →
     fresh_line options bs r ≡ spot_by options bs [] r (line_kind options held_leaf.None r)
 fresh-found options bs r built =
-    fresh-plain options held_leaf.None bs r refl built
+    fresh-plain options held_leaf.None bs r refl refl
     ∙ ap (spot_by options bs [] r) (sym (kind-plain options held_leaf.None r (insider-none held_leaf.None refl)))
 
 -- what an open leaf comes to with a line of this kind
@@ -449,8 +450,8 @@ span-stepped options bs r built open_leaf is =
         by bs (cond x (LeafRow is.name) (plain_kind options still r))
     go true = unlazy (LeafRow is.name) true is.further
     go false =
-        ap At (fresh-plain options still (shut options s) r unlazy_leaf built)
-        ∙ unlazy (plain_kind options still r) false (plain-begins options still r is.lines)
+        ap At (fresh-plain options still (shut options s) r unlazy_leaf (asked-untabled still is.name is.asked))
+        ∙ unlazy (plain_kind options still r) false (plain-begins options still r is.name is.asked)
 
 leaf-stepped : (options : ParseOptions) (bs : Blocks) (open_leaf : Leaf) (r : Rest) → IsBuilt options →
     IsBuiltLeaf open_leaf → IsStepped options bs r open_leaf
@@ -574,7 +575,7 @@ lazy-stepped options before c p r built leaf e plain =
             to false (came_of options r o) ≡ longer_by (text_on (k ∷ ks)) (kind_of o)
         by dark (Some l) found =
             plain_line ∙ ap (λ (x : Bool). other (kind_by held_leaf.None x)) dark
-            ∙ ap (λ (o : Option LeafName). other (kind_of o)) (text-starts options (progress (texts (k ∷ ks))) r l found)
+            ∙ ap (λ (o : Option LeafName). other (kind_of o)) (text-starts options (open_lines (k ∷ ks)) r l found)
         by dark None found =
             ap (Within before c)
             (at_spot-longer p (k ∷ ks) (kept r ∷ []) e
@@ -590,7 +591,7 @@ lazy-stepped options before c p r built leaf e plain =
             ∙ sym (ap (λ (x : Bool). longer_by (text_on (k ∷ ks)) (kind_by (lazy_on (k ∷ ks)) x)) b)
         go false b =
             ap (λ (x : Bool). to x (starts options LazyText r)) b
-            ∙ ap (to false) (starts-found options (lazy_on (k ∷ ks)) LazyText r refl refl b built)
+            ∙ ap (to false) (starts-found options (lazy_on (k ∷ ks)) LazyText r refl refl refl b)
             ∙ by b (leaf_at options (lazy_on (k ∷ ks)) r) refl
             ∙ sym (ap (λ (x : Bool). longer_by (text_on (k ∷ ks)) (kind_by (lazy_on (k ∷ ks)) x)) b)
 

@@ -17,9 +17,10 @@ use Rattle.md_definition.specs.Step.{came, spot_of, text_by, underline_or_text}
 use Rattle.md_definition.specs.Tree.{Blocks, Heading}
 use Rattle.md_definition.specs.State.{then_block}
 use Rattle.md_parts.proofs.ProgressLemmas.{progress-cut}
-use Rattle.md_parts.specs.Progress.{is_none_left}
+use Rattle.md_parts.specs.Progress.{is_none_left, progress}
 use Rattle.markdown_blocks.specs.Leaf.Paragraph.{open_lines}
 use Rattle.markdown_blocks.proofs.HeadingSetext.Found.{none-underlined}
+use Rattle.markdown_blocks.specs.Leaf.GfmTable.{may_be_table}
 use Rattle.markdown_blocks.specs.Leaf.HeadingSetext.{depth_of, setext_leaf}
 use Rattle.markdown_blocks.specs.Leaf.Paragraph.{then_front}
 use Rattle.markdown_blocks.specs.Parsed.{IsBuilt}
@@ -28,6 +29,7 @@ use Rattle.markdown_blocks.proofs.HeadingSetext.Found.{setext-found}
 use Rattle.markdown_blocks.proofs.KindLemmas.{first-passes}
 use Rattle.markdown_blocks.proofs.Registry.{IsAgainst, came_of, leaf_at, leaves-found, lost-none, setext-taken}
 use Rattle.markdown_blocks.proofs.Registry.{text-laws}
+use Rattle.markdown_blocks.proofs.TableStarts.{no-head, text-untabled, untabled}
 use Rattle.markdown_blocks.proofs.UnderNames.{further-text}
 use Rattle.md_leaves.specs.HeadingSetext.{may_turn, turns_nothing}
 use Rattle.md_leaves.specs.HeadingSetextRule.{is_underline}
@@ -43,7 +45,7 @@ table-off options bs lines r built = rw built.gfm_table refl
 -- Lines.
 
 -- an underline stands where text is open that the line is not lazy for
-not-text : (options : ParseOptions) (on : HeldLeaf) (against : ParagraphContext) (r : Rest) → IsAgainst against on →
+pub not-text : (options : ParseOptions) (on : HeldLeaf) (against : ParagraphContext) (r : Rest) → IsAgainst against on →
     is_text against ≡ false → setext_leaf.starts options on r ≡ false
 not-text options (held_leaf.Text at) against r same free = let bad : true ≡ false = sym (ap is_text same) ∙ free in cc
 not-text options held_leaf.None against r same free = refl
@@ -54,7 +56,7 @@ not-text options (held_leaf.Html kind) against r same free = refl
 not-text options held_leaf.Table against r same free = refl
 
 -- so does one that has nothing to turn
-not-lost : (options : ParseOptions) (on : HeldLeaf) (against : ParagraphContext) (r : Rest) → IsAgainst against on →
+pub not-lost : (options : ParseOptions) (on : HeldLeaf) (against : ParagraphContext) (r : Rest) → IsAgainst against on →
     is_text against ≡ false →
     (has_small_indent options r && turns_nothing options on && is_underline (trim_start r.bytes)) ≡ false
 not-lost options on against r same free = go (has_small_indent options r) (turns_nothing options on) (by on same)
@@ -73,14 +75,15 @@ not-lost options on against r same free = go (has_small_indent options r) (turns
     go true false e = refl
     go false y e = refl
 
--- The first leaf that starts on a line that is not blank, other than text, is the first of the registry that does.
+-- The first leaf that starts on a line that is not blank, other than text, is the first of the registry that does, where
+-- the line meets neither text nor a table.
 pub starts-found : (options : ParseOptions) (on : HeldLeaf) (against : ParagraphContext) (r : Rest) →
-    IsAgainst against on → is_text against ≡ false → is_blank r.bytes ≡ false → IsBuilt options →
+    IsAgainst against on → is_text against ≡ false → may_be_table on ≡ false → is_blank r.bytes ≡ false →
     starts options against r ≡ came_of options r (leaf_at options on r)
 unfolding starts
-starts-found options on against r same free dark built =
-    leaves-found options on against r same (not-text options on against r same free) (not-lost options on against r same free)
-    dark
+starts-found options on against r same free no_table dark =
+    leaves-found options on against r same (not-text options on against r same free) (untabled options on r no_table)
+    (not-lost options on against r same free) dark
 
 -- Where text is open.
 
@@ -93,11 +96,11 @@ lazy_on lines = held_leaf.LazyText (open_lines lines)
 
 -- where no underline stands, so it is there
 unturned-starts : (options : ParseOptions) (at : OpenText) (r : Rest) → underline_depth options r ≡ None →
-    setext_leaf.starts options (held_leaf.Text at) r ≡ false → is_blank r.bytes ≡ false →
+    setext_leaf.starts options (held_leaf.Text at) r ≡ false → is_blank r.bytes ≡ false → IsBuilt options →
     starts options Text r ≡ came_of options r (leaf_at options (held_leaf.Text at) r)
 unfolding starts
-unturned-starts options at r none unturned dark =
-    leaves-found options (held_leaf.Text at) Text r refl unturned
+unturned-starts options at r none unturned dark built =
+    leaves-found options (held_leaf.Text at) Text r refl unturned (text-untabled options at r built.gfm_table)
     (go options.constructs.heading_setext (has_small_indent options r) (is_underline (trim_start r.bytes))
     (options.constructs.definition && is_whole at.progress) (none-underlined options r none)) dark
   where
@@ -111,7 +114,7 @@ unturned-starts options at r none unturned dark =
     go false false u w e = refl
 
 -- where it may turn nothing no underline starts
-unturned-setext : (options : ParseOptions) (on : HeldLeaf) (r : Rest) → may_turn options on ≡ false →
+pub unturned-setext : (options : ParseOptions) (on : HeldLeaf) (r : Rest) → may_turn options on ≡ false →
     setext_leaf.starts options on r ≡ false
 unturned-setext options on r may =
     ap
@@ -119,7 +122,7 @@ unturned-setext options on r may =
     x && options.constructs.heading_setext && has_small_indent options r && is_underline (trim_start r.bytes)) may
 
 -- An underline turns what is left of the text behind the definitions at its front, where something is.
-turned-all : (options : ParseOptions) (bs : Blocks) (lines : List Kept) (r : Rest) (depth : ℕ) →
+pub turned-all : (options : ParseOptions) (bs : Blocks) (lines : List Kept) (r : Rest) (depth : ℕ) →
     is_none_left (cut options (texts lines)).1 ≡ false →
     underlined options bs lines r depth ≡
     spot_of (then_block (then_front options bs (text_leaf.held lines)) (Heading depth (cut options (texts lines)).1))
@@ -135,7 +138,7 @@ turned-all options bs lines r depth = go (cut options (texts lines)).1
     go (line ∷ left) some = refl
 
 -- Whether something is, how far the definitions have come tells.
-may-left : (options : ParseOptions) (k : Kept) (ks : List Kept) →
+pub may-left : (options : ParseOptions) (k : Kept) (ks : List Kept) →
     may_turn options (text_on (k ∷ ks)) ≡ not (is_none_left (cut options (texts (k ∷ ks))).1)
 may-left options k ks = go options.constructs.definition
   where
@@ -148,14 +151,14 @@ may-left options k ks = go options.constructs.definition
     go true = ap not (progress-cut lines)
     go false = refl
 
-not-not : (x y : Bool) → x ≡ not y → (z : Bool) → x ≡ z → y ≡ not z
+pub not-not : (x y : Bool) → x ≡ not y → (z : Bool) → x ≡ z → y ≡ not z
 not-not x true e true k = cc
 not-not x true e false k = refl
 not-not x false e true k = refl
 not-not x false e false k = cc
 
 -- An underline with nothing to turn is one more line of the text.
-turned-none : (options : ParseOptions) (bs : Blocks) (lines : List Kept) (r : Rest) (depth : ℕ) →
+pub turned-none : (options : ParseOptions) (bs : Blocks) (lines : List Kept) (r : Rest) (depth : ℕ) →
     is_none_left (cut options (texts lines)).1 ≡ true → underlined options bs lines r depth ≡ with_line bs lines r
 unfolding underlined
 turned-none options bs lines r depth = go (cut options (texts lines)).1
@@ -199,7 +202,8 @@ text-comes options bs k ks r dark built = go (may_turn options on) refl
     behind l e found false goes = refl
     behind l e found true goes =
         let starts = first-passes (λ m. (leaf m).starts options on r) trials l found in
-        let name : l ≡ HeadingSetext = further-text (progress (texts lines)) l goes in
+        let heads = no-head options (open_lines lines) r l built.gfm_table starts in
+        let name : l ≡ HeadingSetext = further-text (open_lines lines) l goes heads in
         let bad : true ≡ false = sym starts ∙ ap (λ (m : LeafName). (leaf m).starts options on r) name ∙ e in
         cc
 
@@ -218,7 +222,7 @@ text-comes options bs k ks r dark built = go (may_turn options on) refl
     -- no underline stands here
     other : underline_depth options r ≡ None → setext_leaf.starts options on r ≡ false → Done None
     other none e =
-        ap (text_by options bs lines r) (unturned-starts options (progress (texts lines)) r none e dark)
+        ap (text_by options bs lines r) (unturned-starts options (open_lines lines) r none e dark built)
         ∙ by e (leaf_at options on r) refl
 
     -- one may turn the text
@@ -241,7 +245,10 @@ text-comes options bs k ks r dark built = go (may_turn options on) refl
         ap (underline_or_text options bs lines r) none ∙ other none (unturned-setext options on r may)
     turns_none may (Some depth) found =
         ap (underline_or_text options bs lines r) found ∙ turned-none options bs lines r depth (left false may)
-        ∙ ap (text_came options bs lines r) (sym (lost-none options (progress (texts lines)) r depth may found))
+        ∙ ap (text_came options bs lines r)
+        (sym
+        (lost-none options (open_lines lines) r depth may found
+        (text-untabled options (open_lines lines) r built.gfm_table)))
 
     go : (x : Bool) → may_turn options on ≡ x → Done (underline_depth options r)
     go true may = turns may (setext_leaf.starts options on r) refl

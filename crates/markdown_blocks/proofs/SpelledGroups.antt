@@ -8,6 +8,7 @@ use Rattle.std.proofs.Common.{◌≡◌, ◌≢◌, ℕ, ◌<◌, Bool, true, fa
 use Rattle.std.proofs.lemmas.Bool.Decides.{nat_tests}
 use Rattle.std.specs.Prelude.{nat_lt}
 use Rattle.md_definition.specs.Leaves.{Finished, Opened}
+use Rattle.markdown_blocks.proofs.TableStarts.{row-no_head}
 use Rattle.markdown_blocks.proofs.TextProgress.{setext-may, turn-left}
 use Rattle.markdown_blocks.proofs.UnderNames.{further-text}
 use Rattle.markdown_blocks.specs.HeldLeaf.{kind_of_leaf, left_by, may_go_on, takes_lazy}
@@ -15,7 +16,7 @@ use Rattle.markdown_blocks.specs.Leaf.Paragraph.{then_front}
 use Rattle.markdown_blocks.specs.Registry.{further_of}
 use Rattle.markdown_blocks.specs.LineFlags.{ending_name}
 use Rattle.markdown_blocks.specs.Rows.{is_blank_row}
-use Rattle.markdown_blocks.specs.Rows.{is_further, onto_span, span_done}
+use Rattle.markdown_blocks.specs.Rows.{Headed, is_further, onto_span, span_done, takes_head}
 use Rattle.markdown_blocks.proofs.GroupsAre.{AreLines, IsUnder, shut-behind}
 use Rattle.markdown_blocks.proofs.Text.Facts.{kept-of}
 use Rattle.markdown_blocks.proofs.LineSteps.{front-unlazy, with_came}
@@ -328,21 +329,21 @@ starts-alike options bytes stays closes p row gs last shapes starts =
 
 -- behind what turns a text no leaf is open, so no line goes on it
 turn-alone : (options : ParseOptions) (bytes : List ℕ) (at : OpenText) (l : LeafName) (under : Row) (rows : List Row) →
-    (leaf l).further (held_leaf.Text at) ≡ true → IsLineOf options bytes (leaf l) under →
+    (leaf l).further (held_leaf.Text at) ≡ true → (leaf l).heads ≡ false → IsLineOf options bytes (leaf l) under →
     AreBehind options bytes (leaf l) under rows → rows ≡ []
-turn-alone options bytes at l under [] further is are = refl
-turn-alone options bytes at l under (next ∷ rows) further is are =
-    let left : next.on ≡ held_leaf.None = are.4 ∙ is.behind ∙ under-shuts at l further options under.on is.rest in
+turn-alone options bytes at l under [] further heads is are = refl
+turn-alone options bytes at l under (next ∷ rows) further heads is are =
+    let left : next.on ≡ held_leaf.None = are.4 ∙ is.behind ∙ under-shuts at l further heads options under.on is.rest in
     let may = (laws l).meets options next.on are.6.rest are.6.starts are.5 in
     let bad : true ≡ false = sym may ∙ ap may_go_on left in
     absurd (cc)
 
 -- it is a line of the text, not one behind its end
 pub turn-inside : (options : ParseOptions) (bytes : List ℕ) (at : OpenText) (l : LeafName) (p : Point) (under : Row) →
-    (leaf l).further (held_leaf.Text at) ≡ true → IsLineOf options bytes (leaf l) under →
+    (leaf l).further (held_leaf.Text at) ≡ true → (leaf l).heads ≡ false → IsLineOf options bytes (leaf l) under →
     LinePrefix bytes [] p under.first under.front → nat_lt p.index (length bytes) ≡ true
-turn-inside options bytes at l p under further is front =
-    let dark : is_blank is.rest.bytes ≡ false = (text-turns at l further).filled options under.on is.rest is.starts in
+turn-inside options bytes at l p under further heads is front =
+    let dark : is_blank is.rest.bytes ≡ false = (text-turns at l further heads).filled options under.on is.rest is.starts in
     let inside = text-behind bytes is.rest under.first under.end is.at (some-text is.rest dark) in
     let grow = fronts-grow bytes [] p under.first under.front front in
     let less : p.index < length bytes = omega (arith, inside, grow) in grind (arith, nat_tests)
@@ -353,7 +354,7 @@ turn-lines : (options : ParseOptions) (bytes line : List ℕ) (p : Path) (row : 
     JoinsSpan options bytes (longer p (kept is.rest ∷ [])) row gs last →
     StartsLines options bytes p row (onto_groups row TextRow gs) last
 turn-lines options bytes line p row gs last is text joins =
-    go reads.rows (turn-alone options bytes at joins.name under reads.rows further of reads.are) reads.groups_are
+    go reads.rows (turn-alone options bytes at joins.name under reads.rows further heads of reads.are) reads.groups_are
     reads.are reads.behind
   where
     under : Row
@@ -383,16 +384,20 @@ turn-lines options bytes line p row gs last is text joins =
     further : (leaf joins.name).further (held_leaf.Text at) ≡ true
     further = ap (leaf joins.name).further (sym on) ∙ joins.starts.further
 
+    -- no line of the text is a head
+    heads : (leaf joins.name).heads ≡ false
+    heads = row-no_head options bytes joins.starts.line under joins.name at joins.starts.is joins.starts.kind on
+
     come : first ≡ (leaf joins.name).comes options (spot q).leaf rest
     come =
         ap (λ (x : Bool). cond x ((leaf joins.name).comes options (spot q).leaf rest) (Opened (spot q).leaf))
-        (turn-inside options bytes at joins.name joins.after under further of joins.fronts)
+        (turn-inside options bytes at joins.name joins.after under further heads of joins.fronts)
 
     may : may_turn options under.on ≡ true
     may =
         setext-may options under.on of.rest
-        (subst (λ (l : LeafName). (leaf l).starts options under.on of.rest ≡ true) (further-text at joins.name further)
-        of.starts)
+        (subst (λ (l : LeafName). (leaf l).starts options under.on of.rest ≡ true)
+        (further-text at joins.name further heads) of.starts)
 
     left : options.constructs.definition ≡ true → is_whole (progress_of (still_of q)) ≡ false
     left defines =
@@ -413,10 +418,11 @@ turn-lines options bytes line p row gs last is text joins =
       below = reads.below;
       groups_are =
           ap (onto_groups row TextRow) e
-          ∙ ap
-          (λ (x : Bool).
-          cond (x && true) (Turned row [] under ∷ reads.below) (Lines row [] ∷ Span under [] ∷ reads.below))
-          joins.further;
+          ∙ ap₂
+          (λ (x y : Bool).
+          cond (x && y) (Headed row under [] ∷ reads.below)
+          (cond (x && true) (Turned row [] under ∷ reads.below) (Lines row [] ∷ Span under [] ∷ reads.below)))
+          joins.further (ap takes_head joins.starts.kind ∙ heads);
       reads = record {
         are = (line, is, text);
         turned = record {
@@ -424,7 +430,7 @@ turn-lines options bytes line p row gs last is text joins =
           is = joins.starts.is;
           name = joins.name;
           kind = joins.starts.kind;
-          open_leaf = (text-turns at joins.name further).ends;
+          open_leaf = (text-turns at joins.name further heads).ends;
           after = joins.after;
           after_is = joins.after_is;
           ending = joins.ending;
@@ -432,9 +438,10 @@ turn-lines options bytes line p row gs last is text joins =
           leaves = joins.leaves;
           on = joins.on;
           further = joins.further;
+          heads = ap takes_head joins.starts.kind ∙ heads;
           quiet =
               further-quiet options bytes joins.starts.line under joins.name at joins.starts.is joins.starts.kind on
-              joins.further;
+              joins.further (ap takes_head joins.starts.kind ∙ heads);
         };
         left = left;
         behind =

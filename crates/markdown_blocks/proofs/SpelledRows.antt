@@ -11,7 +11,7 @@ use Rattle.md_definition.proofs.TextsLemmas.{Both, Ending, LineFeed, Return, end
 use Rattle.md_definition.specs.Leaves.{Finished, Opened}
 use Rattle.markdown_blocks.proofs.SpelledGroups.{IsTurnLeft}
 use Rattle.markdown_blocks.specs.HeldLeaf.{kind_of_leaf, may_go_on}
-use Rattle.markdown_blocks.specs.Leaf.Paragraph.{then_front}
+use Rattle.markdown_blocks.specs.Leaf.Paragraph.{open_lines, then_front}
 use Rattle.markdown_blocks.specs.Registry.{further_of}
 use Rattle.markdown_blocks.specs.Rows.{group_done, is_further, is_last, onto_span}
 use Rattle.markdown_blocks.proofs.GroupsAre.{AreLines, kept-of, line-begins, line-of}
@@ -21,10 +21,11 @@ use Rattle.markdown_blocks.proofs.Registry.{text-turns}
 use Rattle.markdown_blocks.proofs.RowLeaf.{EndsOnLine}
 use Rattle.markdown_blocks.proofs.SpanLaws.{IsLineOf}
 use Rattle.markdown_blocks.proofs.StepBehind.{GoesOn, further-unlazy}
+use Rattle.markdown_blocks.proofs.TableStarts.{row-no_head}
 use Rattle.markdown_blocks.specs.Registry.{LeafName, leaf}
 use Rattle.md_definition.specs.Leaves.{Came}
 use Rattle.markdown_blocks.proofs.JoinedLemmas.{lines-first, text-onto, text_group}
-use Rattle.markdown_blocks.specs.Rows.{Span, Turned, onto_leaf}
+use Rattle.markdown_blocks.specs.Rows.{Headed, Span, Turned, onto_leaf, takes_head}
 use Rattle.std.proofs.lemmas.Bool.{and_parts}
 use Rattle.markdown_blocks.specs.Rows.{line_behind}
 use Rattle.markdown_blocks.specs.HeldLeaf.{takes_lazy}
@@ -78,7 +79,7 @@ use Rattle.markdown_blocks.proofs.SpelledGroups.{starts-read, came-none, came-op
 use Rattle.markdown_blocks.proofs.SpelledGroups.{kind-name, line-is, no-joins, other-kind, read-fronts, read-open}
 use Rattle.markdown_blocks.proofs.SpelledGroups.{reading-came, shown-leaf, single-reads, span-alike, span-rows}
 use Rattle.markdown_blocks.proofs.SpelledGroups.{starts-alike, starts-lines, still-line, text-kind, turn-inside}
-use Rattle.md_parts.specs.Progress.{progress, progress_of}
+use Rattle.md_parts.specs.Progress.{progress_of}
 
 -- The lines of a text, with the one that turns it if one does.
 
@@ -140,14 +141,14 @@ text-whole options bytes o row rows (Some under) none are turned left =
     (reading options o) refl refl
     ∙ sym
     (reading-turned options o (kept-of options bytes row rows are) turned.is.rest turned.name
-    (text-turns text.0 turned.name text.1) none)
+    (text-turns text.0 turned.name text.1 text.2) none)
 
 -- One line, and what follows.
 
 -- a leaf that takes lazy lines is text
 lazy-open : (open_leaf : Leaf) → takes_lazy (kind_of_leaf open_leaf) ≡ true →
     (at : OpenText) × (kind_of_leaf open_leaf ≡ held_leaf.Text at)
-lazy-open (OpenParagraph lines) lazy = (progress (texts lines), refl)
+lazy-open (OpenParagraph lines) lazy = (open_lines lines, refl)
 lazy-open _ lazy = cc
 
 abbrev MeansLine : ParseOptions → List ℕ → Path → Point → Row → List Group → Reading → Type 0
@@ -302,7 +303,7 @@ row-means options bytes p a line row gs last over built plain is in_text follows
     further_means : goes_further options c ≡ true →
         (l : LeafName) × StartsSpan options bytes l p a row (onto_groups row row.kind gs) last
     further_means f =
-        let goes : GoesOn options p c = goes-on options p (rest_from a line) plain f in
+        let goes : GoesOn options p c = goes-on options p (rest_from a line) built plain f in
         let l : LeafName = goes.is.name in
         let e : row.kind ≡ LeafRow l = kind-is ∙ goes.kind in
         let ends : (leaf l).ends ≡ false = goes.is.ends in
@@ -338,8 +339,10 @@ row-means options bytes p a line row gs last over built plain is in_text follows
             let front : LinePrefix bytes [] a row.first row.front =
             subst (λ (cs : List Container). LinePrefix bytes cs a row.first row.front)
             (ap (λ (x : Change). x.opens) is.change ∙ goes.opens) is.front in
+            let heads : (leaf goes.is.name).heads ≡ false = row-no_head options bytes (rest_line c.rest) row goes.is.name
+            text.0 is.is (kind-is ∙ goes.kind) (is.on ∙ goes.on ∙ text.1) in
             let inside : nat_lt a.index (length bytes) ≡ true = turn-inside options bytes text.0 goes.is.name a row further
-            (line-is-of goes.is.name (kind-is ∙ goes.kind) goes.is.ends) front in
+            heads (line-is-of goes.is.name (kind-is ∙ goes.kind) goes.is.ends) front in
             let bad : true ≡ false = sym inside ∙ in_text ∙ ap not e in
             cc
 
@@ -472,7 +475,9 @@ span-begins : (row below : Row) (rows : List Row) (gs : List Group) → is_furth
     onto_groups row TextRow (Span below rows ∷ gs) ≡ Lines row [] ∷ Span below rows ∷ gs
 span-begins row below rows gs e =
     ap
-    (λ (x : Bool). cond (x && is_last rows) (Turned row [] below ∷ gs) (Lines row [] ∷ Span below rows ∷ gs)) e
+    (λ (x : Bool).
+    cond (x && takes_head below.kind) (Headed row below rows ∷ gs)
+    (cond (x && is_last rows) (Turned row [] below ∷ gs) (Lines row [] ∷ Span below rows ∷ gs))) e
 
 leaf-begins : (ends : Bool) (row below : Row) (gs : List Group) → is_further below.kind below.on ≡ false →
     onto_groups row TextRow (onto_leaf ends below gs) ≡ Lines row [] ∷ onto_leaf ends below gs
@@ -481,6 +486,7 @@ leaf-begins false row below [] e = span-begins row below [] [] e
 leaf-begins false row below (Single next ∷ gs) e = span-begins row below [] (Single next ∷ gs) e
 leaf-begins false row below (Lines next rows ∷ gs) e = span-begins row below [] (Lines next rows ∷ gs) e
 leaf-begins false row below (Turned next rows under ∷ gs) e = span-begins row below [] (Turned next rows under ∷ gs) e
+leaf-begins false row below (Headed next more rows ∷ gs) e = span-begins row below [] (Headed next more rows ∷ gs) e
 leaf-begins false row below (Span next rows ∷ gs) e = go (is_further next.kind next.on)
   where
     go : (x : Bool) →
@@ -506,6 +512,7 @@ not-joined row below gs lazy begins = go below.kind lazy
         lines-first
         (λ (more : List Group). onto_groups row TextRow more ≡ Lines row [] ∷ more) below gs
         (λ turn more rest. text-begins turn row below more rest (opens (is_none below.change.opens) e))
+        (λ next more rest spans heads. refl)
 
 -- behind a line one may go on lazily if it is text
 behind-lazy : (options : ParseOptions) (bytes line : List ℕ) (row : Row) → f.IsRow options bytes line row →
@@ -532,6 +539,7 @@ not-spanned row below gs begins = go below.kind
     spans (Single next ∷ more) = apart [] (Single next ∷ more)
     spans (Lines next rows ∷ more) = apart [] (Lines next rows ∷ more)
     spans (Turned next rows under ∷ more) = apart [] (Turned next rows under ∷ more)
+    spans (Headed next under rows ∷ more) = apart [] (Headed next under rows ∷ more)
     spans (Span next rows ∷ more) = join (is_further next.kind next.on)
       where
         join : (x : Bool) →
@@ -554,6 +562,7 @@ not-spanned row below gs begins = go below.kind
     go (LeafRow l) = leaves (leaf l).ends
     go TextRow =
         lines-first (λ (more : List Group). onto_span row more ≡ Span row [] ∷ more) below gs text
+        (λ next more rest spans heads. refl)
 
 -- what follows a line, by what is read of the lines below
 follows-below : (options : ParseOptions) (bytes : List ℕ) (p : Path) (row below : Row) (gs : List Group) (q : Point)
@@ -592,7 +601,7 @@ follows-below options bytes p row below gs q line last built plain lazily still 
     far means =
     let c : Contained = contained_at options p (rest_from q line) in
     let kind_is = line-is options bytes (containers_of p) (still_of p) q line below is in
-    let goes : GoesOn options p c = goes-on options p (rest_from q line) plain
+    let goes : GoesOn options p c = goes-on options p (rest_from q line) built plain
     (sym (ap₂ is_further kind_is is.on) ∙ far) in
     let none : below.change.opens ≡ [] = ap (λ (x : Change). x.opens) is.change ∙ goes.opens in
     inr

@@ -36,6 +36,7 @@ use Rattle.markdown_blocks.proofs.LineSteps.{step-contained, with_came}
 use Rattle.markdown_blocks.proofs.OpenSpan.{Begun, ComesShallow, OpenSpan, TurnsText}
 use Rattle.markdown_blocks.proofs.Registry.{insider-open, laws, leaf-begun, open-span, text-laws, text-turns}
 use Rattle.markdown_blocks.proofs.ShallowBlocks.{shallow-then}
+use Rattle.markdown_blocks.proofs.TableStarts.{no-head}
 use Rattle.md_parts.proofs.ProgressLemmas.{progress-snoc}
 use Rattle.md_parts.specs.Head.{head_columns}
 use Rattle.md_parts.specs.OpenText.{open_text, text_behind}
@@ -97,23 +98,25 @@ span-takes options r open_leaf is goes = record {
 
     by : (x : Bool) → is_further (cond x (LeafRow is.name) (plain_kind options on r)) on ≡ true → x ≡ true
     by true e = refl
-    by false e = let begins = plain-begins options on r is.lines in cc
+    by false e = let begins = plain-begins options on r is.name is.asked in cc
 
     starts : (leaf is.name).starts options on r ≡ true
     starts =
         by ((leaf is.name).starts options on r) (ap (λ (kind : RowKind). is_further kind on) (sym asked) ∙ goes)
 
 -- one that goes on text turns it
-text-takes : (options : ParseOptions) (r : Rest) (lines : List Kept) →
+text-takes : (options : ParseOptions) (r : Rest) (lines : List Kept) → IsBuilt options →
     is_further (line_kind options (text_on lines) r) (text_on lines) ≡ true → Takes options (text_leaf.held lines) r
-text-takes options r lines goes = go (line_kind options (text_on lines) r) refl goes
+text-takes options r lines built goes = go (line_kind options (text_on lines) r) refl goes
   where
     go : (kind : RowKind) → line_kind options (text_on lines) r ≡ kind → is_further kind (text_on lines) ≡ true →
         Takes options (text_leaf.held lines) r
     go BlankRow e f = absurd (cc)
     go TextRow e f = absurd (cc)
     go (LeafRow l) e f =
-        let turns : TurnsText l = text-turns (open_lines lines) l f in
+        let starts : (leaf l).starts options (text_on lines) r ≡ true = kind-starts options (text_on lines) r l e in
+        let turns : TurnsText l = text-turns (open_lines lines) l f
+        (no-head options (open_lines lines) r l built.gfm_table starts) in
         let left : List (List ℕ) = (cut options (texts lines)).1 in
         let comes : (leaf l).comes options (text_leaf.held lines) r ≡
         Finished (turn_leaf.block left r) = turns.comes options lines r in
@@ -124,27 +127,28 @@ text-takes options r lines goes = go (line_kind options (text_on lines) r) refl 
           may = refl;
           further = f;
           kind = e;
-          starts = kind-starts options (text_on lines) r l e;
+          starts = starts;
           built = subst (λ (c : Came). IsBuiltLeaf (left_by c)) (sym comes) tt;
           shallow =
               subst ComesShallow (sym comes)
               (λ bs h. shallow-then bs (turn_leaf.block left r) h (turns.shallow left r));
         }
 
-takes : (options : ParseOptions) (r : Rest) (open_leaf : Leaf) → IsBuiltLeaf open_leaf →
+takes : (options : ParseOptions) (r : Rest) (open_leaf : Leaf) → IsBuilt options → IsBuiltLeaf open_leaf →
     is_further (line_kind options (kind_of_leaf open_leaf) r) (kind_of_leaf open_leaf) ≡ true →
     Takes options open_leaf r
-takes options r open_leaf plain =
+takes options r open_leaf built plain =
     text-laws.cases
     (λ (l : Leaf). is_further (line_kind options (kind_of_leaf l) r) (kind_of_leaf l) ≡ true → Takes options l r)
     (λ e. let none = none-further options held_leaf.None r refl in absurd (cc))
-    (λ k ks e. text-takes options r (k ∷ ks) e) (λ l is e. span-takes options r l (open-span l is) e) open_leaf plain
+    (λ k ks e. text-takes options r (k ∷ ks) built e) (λ l is e. span-takes options r l (open-span l is) e) open_leaf
+    plain
 
-pub goes-on : (options : ParseOptions) (p : Path) (r : Rest) → IsPlain p →
+pub goes-on : (options : ParseOptions) (p : Path) (r : Rest) → IsBuilt options → IsPlain p →
     goes_further options (contained_at options p r) ≡ true → GoesOn options p (contained_at options p r)
-goes-on options p r plain goes =
+goes-on options p r built plain goes =
     let met = contained-met options (containers_of p) (still_of p) r may in
-    let is : Takes options (spot p).leaf c.rest = takes options c.rest (spot p).leaf plain
+    let is : Takes options (spot p).leaf c.rest = takes options c.rest (spot p).leaf built plain
     (ap (λ (on : HeldLeaf). is_further (line_kind options on c.rest) on) (sym on) ∙ goes) in
     record {
       is = is;
@@ -237,7 +241,7 @@ plain-step options p r built plain =
 
     go : (x y : Bool) → goes_further options c ≡ y → IsPlain (path_by options p c x y)
     go true y e = plain-longer (renewed c.change.stays p) (kept c.rest) [] (plain-renewed c.change.stays p plain)
-    go false true e = plain-further options p c (goes-on options p r plain e)
+    go false true e = plain-further options p c (goes-on options p r built plain e)
     go false false e =
         plain-behind (kept_to options c.change.stays p) (new_line options c.on c.change.opens c.rest)
         (λ bs. plain-new_line options c.on c.change.opens c.rest bs e)
@@ -333,7 +337,7 @@ containers-step options p r built plain =
         ∙ ap (λ (l : List Container). c.change.stays ++ l)
         (sym (lazy-opens (still_of p) c.change.opens (line_kind options c.on c.rest) e))
     go false true e f =
-        let goes = goes-on options p r plain f in
+        let goes = goes-on options p r built plain f in
         containers-came options (renewed c.change.stays p)
         (come_by options (spot p).leaf c.rest (line_kind options c.on c.rest))
         ∙ all goes.closes ∙ sym (append-nil c.change.stays)
@@ -464,7 +468,7 @@ still-step options p r built plain =
         ∙ ap (λ (s : Spot). text_behind (kind_of_leaf s.leaf) c.rest) (renewed-spot c.change.stays p)
         ∙ ap (λ (at : Progress). held_leaf.Text (open_text (stepped.step at (trim_start c.rest.bytes)) (kept c.rest))) (sym (lazy-on e))
         ∙ sym (text-left options c.on c.rest kind (lazy-text (still_of p) c.change.opens kind e))
-    go false true e f = still-further options p c (goes-on options p r plain f)
+    go false true e f = still-further options p c (goes-on options p r built plain f)
     go false false e f =
         still-behind (kept_to options c.change.stays p) (new_line options c.on c.change.opens c.rest)
         (line_behind options c.on c.rest kind) (λ bs. still-new_line options c.on c.change.opens c.rest bs f (λ text. unlazy-on text e))

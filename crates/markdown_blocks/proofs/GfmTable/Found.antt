@@ -18,7 +18,7 @@ use Rattle.md_definition.specs.Table.{delimiter_columns, is_head, pieces, row_ce
 use Rattle.md_definition.specs.Bytes.{after_optional}
 use Rattle.md_definition.specs.Tree.{Blocks}
 use Rattle.md_tables.specs.GfmTableLine.{are_columns}
-use Rattle.md_tables.proofs.DelimiterColumns.{Parted, pieces-parted}
+use Rattle.md_parts.proofs.Pieces.{Parted, pieces-parted}
 use Rattle.markdown_blocks.specs.HeldLeaf.{kind_of_leaf, left_by, may_go_on}
 use Rattle.markdown_blocks.specs.Leaf.GfmTable.{first_cells, may_be_table, table_leaf}
 

@@ -99,6 +99,9 @@ comes-unlabelled registry.HtmlFurther options open_leaf r h = refl
 comes-unlabelled registry.HeadingAtx options open_leaf r h = refl
 comes-unlabelled registry.HeadingSetext options open_leaf r h = refl
 comes-unlabelled registry.ThematicBreak options open_leaf r h = refl
+comes-unlabelled registry.GfmTable options (OpenParagraph lines) r h = tt
+comes-unlabelled registry.GfmTable options (OpenTable delimiter rows) r h = tt
+comes-unlabelled registry.GfmTable options open_leaf r h = refl
 
 left-no-text : (c : Came) → IsUnlabelled c → IsNoText (left_by c)
 left-no-text (Opened open_leaf) h = h
@@ -136,6 +139,7 @@ leaf-unlabelled registry.HtmlFurther r = refl
 leaf-unlabelled registry.HeadingAtx r = refl
 leaf-unlabelled registry.HeadingSetext r = refl
 leaf-unlabelled registry.ThematicBreak r = refl
+leaf-unlabelled registry.GfmTable r = refl
 
 pub line-unlabelled : (kind : RowKind) (r : Rest) → shown_labels (block_of kind r) ≡ []
 line-unlabelled BlankRow r = refl

@@ -40,6 +40,7 @@ not-lines n.CodeFenced h = cc
 not-lines n.MathFlow h = cc
 not-lines n.HtmlFlow h = cc
 not-lines n.CodeFlowChunk h = cc
+not-lines n.GfmTable h = cc
 not-lines _ h = refl
 
 pub unspanned-of : (e : Event) → IsOfDefinition e → IsUnspanned e

@@ -1,0 +1,143 @@
+-- What the frame knows of a leaf of several lines that is open between two lines: a line of it is tried first or, as a row
+-- of a table, last.
+use Rattle.std.proofs.Common.{◌≡◌, ℕ, Bool, true, false, cond, ◌&&◌, ◌||◌, List, [], ◌∷◌, ◌++◌, refl, ap, ◌∙◌}
+use Rattle.std.specs.Prelude.{not, Option, Some, None}
+use Rattle.std.specs.Option.{is_some}
+use Rattle.md_engine.specs.declared.configuration.ParseOptions.{ParseOptions}
+use Rattle.md_engine.specs.declared.tokenizer.held_leaf.HeldLeaf.{HeldLeaf}
+use Rattle.md_engine.specs.declared.tokenizer.held_leaf.HeldLeaf.TheVariants as held_leaf
+use Rattle.md_definition.specs.Leaves.{Came, NoText, goes_on, starts}
+use Rattle.md_definition.specs.Rest.{Rest, is_blank}
+use Rattle.md_definition.specs.State.{Leaf, OpenTable, then_leaf}
+use Rattle.md_definition.specs.Step.{is_concrete}
+use Rattle.md_definition.specs.Table.{row_cells}
+use Rattle.md_definition.specs.Tree.{Blocks, Table}
+use Rattle.md_outline.specs.HeadingDepths.{are_shallow}
+use Rattle.markdown_blocks.specs.HeldLeaf.{IsBuiltLeaf, has_lines, kind_of_leaf, left_by}
+use Rattle.markdown_blocks.specs.Leaf.GfmTable.{may_be_table, table_leaf}
+use Rattle.markdown_blocks.specs.Registry.{GfmTable, LeafName, further_of, insider, leaf, shuts_out}
+use Rattle.markdown_blocks.specs.Rows.{BlankRow, LeafRow, RowKind, inside_or, kind_of, line_kind}
+use Rattle.markdown_blocks.proofs.GfmTable.Found.{table-goes}
+use Rattle.markdown_blocks.proofs.KindLemmas.{kind-plain}
+use Rattle.markdown_blocks.proofs.OpenSpan.{ComesShallow, OpenSpan}
+use Rattle.markdown_blocks.proofs.Registry.{came_of, insider-open, leaf_at}
+use Rattle.markdown_blocks.proofs.ShallowBlocks.{shallow-then}
+use Rattle.markdown_blocks.proofs.TableStarts.{asked-untabled, untabled}
+use Rattle.markdown_blocks.proofs.TablesFound.{or_table, other_at, table-last, untext-found}
+
+-- the kind of a line that goes on no leaf of several lines
+abbrev pub other_kind : ParseOptions → HeldLeaf → Rest → RowKind
+other_kind options on r = cond (is_blank r.bytes) BlankRow (kind_of (other_at options on r))
+
+pub record FurtherSpan (open_leaf : Leaf) : Type 0 where
+  pub name : LeafName
+  pub ends : (leaf name).ends ≡ false
+  pub same : further_of name ≡ name
+  pub further : (leaf name).further (kind_of_leaf open_leaf) ≡ true
+  pub lines : has_lines (kind_of_leaf open_leaf) ≡ true
+  -- containers open in it where the line definition lets them
+  pub concrete : is_concrete open_leaf ≡ shuts_out (kind_of_leaf open_leaf)
+  -- which lines go on it, and what it comes to with them
+  pub takes : ParseOptions → Rest → Bool
+  pub kind : (options : ParseOptions) (r : Rest) →
+      line_kind options (kind_of_leaf open_leaf) r ≡
+      cond (takes options r) (LeafRow name) (other_kind options (kind_of_leaf open_leaf) r)
+  pub goes : (options : ParseOptions) (r : Rest) →
+      goes_on options open_leaf r ≡ cond (takes options r) (Some ((leaf name).comes options open_leaf r)) None
+  -- that may be open, and an outline can show it
+  pub built : (options : ParseOptions) (r : Rest) → (leaf name).starts options (kind_of_leaf open_leaf) r ≡ true →
+      IsBuiltLeaf (left_by ((leaf name).comes options open_leaf r))
+  pub shallow : (options : ParseOptions) (r : Rest) → ComesShallow ((leaf name).comes options open_leaf r)
+  -- so can it where it is closed
+  pub closed : (options : ParseOptions) (bs : Blocks) → are_shallow bs ≡ true →
+      are_shallow (then_leaf options bs open_leaf) ≡ true
+
+-- Where no line of a table goes on, another leaf takes the line, or none.
+pub untabled-at : (options : ParseOptions) (on : HeldLeaf) (r : Rest) → may_be_table on ≡ false →
+    leaf_at options on r ≡ other_at options on r
+untabled-at options on r none =
+    table-last options on r ∙ ap (λ (t : Bool). or_table t (other_at options on r)) (untabled options on r none)
+    ∙ go (other_at options on r)
+  where
+    go : (o : Option LeafName) → or_table false o ≡ o
+    go None = refl
+    go (Some l) = refl
+
+-- One that is asked first: its line is tried in front of all others.
+pub asked-further : (open_leaf : Leaf) → OpenSpan open_leaf → FurtherSpan open_leaf
+asked-further open_leaf is = record {
+  name = is.name;
+  ends = insider-open on is.name is.asked;
+  same = is.same;
+  further = is.further;
+  lines = is.lines;
+  concrete = is.concrete;
+  takes = λ options r. (leaf is.name).starts options on r;
+  kind = λ options r.
+      ap
+      (λ (o : Option LeafName).
+      inside_or (λ l. (leaf l).starts options on r) o (cond (is_blank r.bytes) BlankRow (kind_of (leaf_at options on r))))
+      is.asked
+      ∙ ap
+      (λ (o : Option LeafName).
+      cond ((leaf is.name).starts options on r) (LeafRow is.name) (cond (is_blank r.bytes) BlankRow (kind_of o)))
+      (untabled-at options on r (asked-untabled on is.name is.asked));
+  goes = is.goes;
+  built = is.built;
+  shallow = is.shallow;
+  closed = is.closed;
+}
+  where
+    on : HeldLeaf
+    on = kind_of_leaf open_leaf
+
+-- A table goes on up to a blank line and to one that starts another leaf.
+pub table-further : (delimiter : List ℕ) (rows : List (List (List ℕ))) →
+    ((more : List (List (List ℕ))) → IsBuiltLeaf (OpenTable delimiter more)) → FurtherSpan (OpenTable delimiter rows)
+unfolding insider shuts_out
+table-further delimiter rows built = record {
+  name = GfmTable;
+  ends = refl;
+  same = refl;
+  further = refl;
+  lines = refl;
+  concrete = refl;
+  takes = takes;
+  kind = λ options r.
+      kind-plain options held_leaf.Table r refl
+      ∙ ap (λ (o : Option LeafName). cond (is_blank r.bytes) BlankRow (kind_of o))
+      (table-last options held_leaf.Table r)
+      ∙ kind (is_blank r.bytes) (other_at options held_leaf.Table r);
+  goes = λ options r. table-goes options delimiter rows r ∙ goes options r (is_blank r.bytes) refl;
+  built = λ options r starts. built (rows ++ row_cells r.bytes ∷ []);
+  shallow = λ options r bs h. h;
+  closed = λ options bs h. shallow-then bs (Table delimiter rows) h refl;
+}
+  where
+    takes : ParseOptions → Rest → Bool
+    takes options r = not (is_blank r.bytes) && not (is_some (other_at options held_leaf.Table r))
+
+    kind : (x : Bool) (o : Option LeafName) →
+        cond x BlankRow (kind_of (or_table true o)) ≡
+        cond (not x && not (is_some o)) (LeafRow GfmTable) (cond x BlankRow (kind_of o))
+    kind true o = refl
+    kind false None = refl
+    kind false (Some l) = refl
+
+    come : ParseOptions → Rest → Came
+    come options r = table_leaf.comes options (OpenTable delimiter rows) r
+
+    by : (options : ParseOptions) (r : Rest) (o : Option LeafName) →
+        cond (is_some (came_of options r o)) None (Some (come options r)) ≡
+        cond (not (is_some o)) (Some (come options r)) None
+    by options r None = refl
+    by options r (Some l) = refl
+
+    goes : (options : ParseOptions) (r : Rest) (x : Bool) → is_blank r.bytes ≡ x →
+        cond (x || is_some (starts options NoText r)) None (Some (come options r)) ≡
+        cond (not x && not (is_some (other_at options held_leaf.Table r))) (Some (come options r)) None
+    goes options r true e = refl
+    goes options r false e =
+        ap (λ (o : Option Came). cond (is_some o) None (Some (come options r)))
+        (untext-found options held_leaf.Table NoText r refl refl e)
+        ∙ by options r (other_at options held_leaf.Table r)

@@ -1,0 +1,411 @@
+-- What a line comes to where tables may be on: where text is open it may be a delimiter row, which makes the last line of
+-- the text the head of a table.
+use Rattle.std.proofs.Common.{◌≡◌, ℕ, Bool, true, false, cond, ◌&&◌, ◌||◌, List, [], ◌∷◌, ◌++◌, length, reverse, refl, ap}
+use Rattle.std.proofs.Common.{ap₂, sym, ◌∙◌, arith}
+use Rattle.std.specs.Prelude.{◌==◌, not, if◌then◌else◌, Option, Some, None}
+use Rattle.std.specs.List.{list_all, list_any}
+use Rattle.std.specs.Option.{option_or}
+use Rattle.std.proofs.lemmas.Bool.{and_parts, eqb-true}
+use Rattle.std.proofs.lemmas.List.{length-reverse, reverse-append, reverse-reverse}
+use Rattle.md_engine.specs.Progress.{is_whole}
+use Rattle.md_engine.specs.declared.configuration.ParseOptions.{ParseOptions}
+use Rattle.md_engine.specs.declared.tokenizer.held_leaf.HeldLeaf.{HeldLeaf}
+use Rattle.md_engine.specs.declared.tokenizer.held_leaf.HeldLeaf.TheVariants as held_leaf
+use Rattle.md_engine.specs.declared.tokenizer.held_leaf.OpenText.{OpenText}
+use Rattle.md_definition.specs.Ascii.{colon, equals_sign, hyphen, pipe}
+use Rattle.md_definition.specs.Leaves as definition
+use Rattle.md_definition.specs.Leaves.{Came, ParagraphContext, Text, break_at, code_at, fence_at, heading_at, html_at, is_free}
+use Rattle.md_definition.specs.Leaves.{is_text, starts, table_at, underline_depth, with_line}
+use Rattle.md_definition.specs.Rest.{Rest, has_small_indent, is_blank, trim, trim_start}
+use Rattle.md_definition.specs.State.{Kept, NoLeaf, OpenParagraph, Spot, cut, shut_paragraph, texts}
+use Rattle.md_definition.specs.Step.{came, row_or_text, text_by, underline_or_text}
+use Rattle.md_definition.specs.Table.{delimiter_columns, is_delimiter, row_cells}
+use Rattle.md_definition.specs.Tree.{Blocks}
+use Rattle.md_leaves.specs.HeadingSetext.{may_turn, turns_nothing}
+use Rattle.md_leaves.specs.HeadingSetextRule.{is_underline}
+use Rattle.md_lines.specs.Code.{may_open}
+use Rattle.md_parts.specs.Head.{head_columns}
+use Rattle.md_parts.specs.Progress.{is_none_left}
+use Rattle.md_seam.specs.Events.Spelled.{without_last}
+use Rattle.md_tables.specs.GfmTable.{may_head}
+use Rattle.md_tables.specs.GfmTableLine.{are_columns}
+use Rattle.markdown_blocks.specs.Context.{context_of}
+use Rattle.markdown_blocks.specs.Leaf.CodeIndented.{code_leaf}
+use Rattle.markdown_blocks.specs.Leaf.Fence.{fence_leaf}
+use Rattle.markdown_blocks.specs.Leaf.GfmTable.{table_leaf}
+use Rattle.markdown_blocks.specs.Leaf.HeadingAtx.{heading_leaf}
+use Rattle.markdown_blocks.specs.Leaf.HeadingSetext.{depth_of, setext_leaf}
+use Rattle.markdown_blocks.specs.Leaf.HtmlFlow.{html_leaf}
+use Rattle.markdown_blocks.specs.Leaf.Paragraph.{of_last, open_lines, then_front}
+use Rattle.markdown_blocks.specs.Leaf.ThematicBreak.{break_leaf}
+use Rattle.markdown_blocks.specs.Registry.{CodeIndented, Fence, GfmTable, HeadingAtx, HeadingSetext, HtmlFlow, LeafName}
+use Rattle.markdown_blocks.specs.Registry.{ThematicBreak, first_of, leaf, text_leaf}
+use Rattle.markdown_blocks.proofs.CodeIndented.Found.{code-found}
+use Rattle.markdown_blocks.proofs.Fence.Found.{fence-found}
+use Rattle.markdown_blocks.proofs.GfmTable.Found.{KnowsHead, table-found}
+use Rattle.markdown_blocks.proofs.HeadingAtx.Found.{heading-found}
+use Rattle.markdown_blocks.proofs.HeadingSetext.Found.{none-underlined, setext-found}
+use Rattle.markdown_blocks.proofs.HtmlFlow.Found.{html-found}
+use Rattle.markdown_blocks.proofs.KindLemmas.{first-passes}
+use Rattle.markdown_blocks.proofs.Registry.{IsAgainst, came_of, leaf_at, lost-none, setext-taken, text-laws}
+use Rattle.markdown_blocks.proofs.RegistryFound.{may-left, not-lost, not-not, not-text, text_on, turned-all, turned-none}
+use Rattle.markdown_blocks.proofs.RegistryFound.{unturned-setext}
+use Rattle.markdown_blocks.proofs.ThematicBreak.Found.{break-found}
+use Rattle.markdown_blocks.proofs.UnderNames.{further-text}
+
+-- Leaves that are tried in front of tables.
+
+abbrev pub other_trials : List LeafName
+other_trials = CodeIndented ∷ Fence ∷ HtmlFlow ∷ HeadingAtx ∷ HeadingSetext ∷ ThematicBreak ∷ []
+
+-- the first of them that takes the rest of a line
+abbrev pub other_at : ParseOptions → HeldLeaf → Rest → Option LeafName
+other_at options on r = first_of (λ l. (leaf l).starts options on r) other_trials
+
+-- where none of them does, a line of a table may be one
+abbrev pub or_table : Bool → Option LeafName → Option LeafName
+or_table t None = cond t (Some GfmTable) None
+or_table t (Some l) = Some l
+
+pub table-last : (options : ParseOptions) (on : HeldLeaf) (r : Rest) →
+    leaf_at options on r ≡ or_table (table_leaf.starts options on r) (other_at options on r)
+table-last options on r =
+    go (code_leaf.starts options on r) (fence_leaf.starts options on r) (html_leaf.starts options on r)
+    (heading_leaf.starts options on r) (setext_leaf.starts options on r) (break_leaf.starts options on r)
+    (table_leaf.starts options on r)
+  where
+    to : Bool → Bool → Bool → Bool → Bool → Bool → Option LeafName → Option LeafName
+    to c x h y s z last =
+        cond c (Some CodeIndented)
+        (cond x (Some Fence)
+        (cond h (Some HtmlFlow)
+        (cond y (Some HeadingAtx) (cond s (Some HeadingSetext) (cond z (Some ThematicBreak) last)))))
+
+    go : (c x h y s z t : Bool) →
+        to c x h y s z (cond t (Some GfmTable) None) ≡ or_table t (to c x h y s z None)
+    go true x h y s z t = refl
+    go false true h y s z t = refl
+    go false false true y s z t = refl
+    go false false false true s z t = refl
+    go false false false false true z t = refl
+    go false false false false false true t = refl
+    go false false false false false false t = refl
+
+-- indented code may begin by the leaf that the line meets, and by what the line stands against, or by neither
+free-open : (on : HeldLeaf) → may_open on ≡ is_free (context_of on)
+free-open held_leaf.None = refl
+free-open (held_leaf.Text at) = refl
+free-open (held_leaf.LazyText at) = refl
+free-open held_leaf.Code = refl
+free-open (held_leaf.Fence m size indent) = refl
+free-open (held_leaf.Html kind) = refl
+free-open held_leaf.Table = refl
+
+-- Where no underline starts, of the leaves of the line definition these alone are built, in this order.
+pub others-found : (options : ParseOptions) (on : HeldLeaf) (against : ParagraphContext) (r : Rest) →
+    IsAgainst against on → setext_leaf.starts options on r ≡ false →
+    (has_small_indent options r && turns_nothing options on && is_underline (trim_start r.bytes)) ≡ false →
+    is_blank r.bytes ≡ false → starts options against r ≡ came_of options r (other_at options on r)
+unfolding starts
+others-found options on against r same unturned no_underline dark =
+    ap₂ (λ (x y : Option Came). option_or x y)
+    (code-found options on against r (free-open on ∙ sym (ap is_free same)) dark)
+    (ap₂ (λ (x y : Option Came). option_or x y) (fence-found options r)
+    (ap₂ (λ (x y : Option Came). option_or x y) (html-found options on against r same)
+    (ap₂ (λ (x y : Option Came). option_or x y) (heading-found options r) (break-found options on r no_underline))))
+    ∙ go (code_leaf.starts options on r) (fence_leaf.starts options on r) (html_leaf.starts options on r)
+    (heading_leaf.starts options on r) (break_leaf.starts options on r)
+    ∙ ap
+    (λ (s : Bool).
+    came_of options r
+    (to (code_leaf.starts options on r) (fence_leaf.starts options on r) (html_leaf.starts options on r)
+    (heading_leaf.starts options on r) s (break_leaf.starts options on r))) (sym unturned)
+  where
+    -- a leaf, if it starts
+    one : Bool → LeafName → Option Came
+    one x l = cond x (Some ((leaf l).comes options NoLeaf r)) None
+
+    to : Bool → Bool → Bool → Bool → Bool → Bool → Option LeafName
+    to c x h y s z =
+        cond c (Some CodeIndented)
+        (cond x (Some Fence)
+        (cond h (Some HtmlFlow)
+        (cond y (Some HeadingAtx) (cond s (Some HeadingSetext) (cond z (Some ThematicBreak) None)))))
+
+    go : (c x h y z : Bool) →
+        option_or (one c CodeIndented)
+        (option_or (one x Fence) (option_or (one h HtmlFlow) (option_or (one y HeadingAtx) (one z ThematicBreak)))) ≡
+        came_of options r (to c x h y false z)
+    go true x h y z = refl
+    go false true h y z = refl
+    go false false true y z = refl
+    go false false false true z = refl
+    go false false false false true = refl
+    go false false false false false = refl
+
+-- so it is where the line meets no text,
+pub untext-found : (options : ParseOptions) (on : HeldLeaf) (against : ParagraphContext) (r : Rest) →
+    IsAgainst against on → is_text against ≡ false → is_blank r.bytes ≡ false →
+    starts options against r ≡ came_of options r (other_at options on r)
+untext-found options on against r same free dark =
+    others-found options on against r same (not-text options on against r same free)
+    (not-lost options on against r same free) dark
+
+-- and where it meets text, and is no underline
+text-others : (options : ParseOptions) (at : OpenText) (r : Rest) → underline_depth options r ≡ None →
+    setext_leaf.starts options (held_leaf.Text at) r ≡ false → is_blank r.bytes ≡ false →
+    starts options Text r ≡ came_of options r (other_at options (held_leaf.Text at) r)
+text-others options at r none unturned dark =
+    others-found options (held_leaf.Text at) Text r refl unturned
+    (go options.constructs.heading_setext (has_small_indent options r) (is_underline (trim_start r.bytes))
+    (options.constructs.definition && is_whole at.progress) (none-underlined options r none)) dark
+  where
+    go : (x s u w : Bool) → (x && s && u) ≡ false → (s && (x && w) && u) ≡ false
+    go true true true true e = cc
+    go true true true false e = refl
+    go true true false true e = refl
+    go true true false false e = refl
+    go true false u w e = refl
+    go false true u w e = refl
+    go false false u w e = refl
+
+-- none of them takes a line of text as its head
+abbrev AllHeadless : List LeafName → Type 0
+AllHeadless [] = Unit {0}
+AllHeadless (l ∷ ls) = ((leaf l).heads ≡ false) × AllHeadless ls
+
+first-headless : (test : LeafName → Bool) (ls : List LeafName) (l : LeafName) → AllHeadless ls →
+    first_of test ls ≡ Some l → (leaf l).heads ≡ false
+first-headless test [] l all e = cc
+first-headless test (k ∷ ls) l all e = go (test k) e (first-headless test ls l all.1)
+  where
+    go : (x : Bool) → cond x (Some k) (first_of test ls) ≡ Some l →
+        (first_of test ls ≡ Some l → (leaf l).heads ≡ false) → (leaf l).heads ≡ false
+    go true e more = let same : k ≡ l = cc in ap (λ (m : LeafName). (leaf m).heads) (sym same) ∙ all.0
+    go false e more = more e
+
+other-headless : (options : ParseOptions) (on : HeldLeaf) (r : Rest) (l : LeafName) →
+    other_at options on r ≡ Some l → (leaf l).heads ≡ false
+other-headless options on r l found =
+    first-headless (λ m. (leaf m).starts options on r) other_trials l
+    (refl, (refl, (refl, (refl, (refl, (refl, tt)))))) found
+
+-- An underline is no delimiter row: neither a colon nor a pipe stands in it.
+
+abbrev divides : ℕ → Bool
+divides b = (b == colon) || (b == pipe)
+
+all-undivided : (m : ℕ) (bytes : List ℕ) → divides m ≡ false → list_all (λ c. c == m) bytes ≡ true →
+    list_any divides bytes ≡ false
+all-undivided m [] other all = refl
+all-undivided m (b ∷ bytes) other all =
+    let both = and_parts (b == m) (list_all (λ c. c == m) bytes) all in
+    ap₂ (λ (x y : Bool). x || y) (ap divides (eqb-true b m both.0) ∙ other) (all-undivided m bytes other both.1)
+
+run-undivided : (m : ℕ) (bytes : List ℕ) → divides m ≡ false → definition.is_run m bytes ≡ true →
+    list_any divides bytes ≡ false
+run-undivided m [] other is = cc
+run-undivided m (b ∷ bytes) other is = all-undivided m (b ∷ bytes) other is
+
+underlined-columns : (options : ParseOptions) (r : Rest) (depth : ℕ) → underline_depth options r ≡ Some depth →
+    delimiter_columns (trim r.bytes) ≡ None
+unfolding underline_depth delimiter_columns
+underlined-columns options r depth e =
+    go (options.constructs.heading_setext && has_small_indent options r) (definition.is_run equals_sign text) refl
+    (definition.is_run hyphen text) refl e
+  where
+    text : List ℕ
+    text = trim r.bytes
+
+    none : list_any divides text ≡ false → delimiter_columns text ≡ None
+    none k =
+        ap
+        (λ (x : Bool). cond (x && list_all is_delimiter (row_cells text)) (Some (length (row_cells text))) None) k
+
+    go : (x y : Bool) → definition.is_run equals_sign text ≡ y → (z : Bool) → definition.is_run hyphen text ≡ z →
+        cond x (cond y (Some 1) (cond z (Some 2) None)) None ≡ Some depth → delimiter_columns text ≡ None
+    go true true p z q e = none (run-undivided equals_sign text refl p)
+    go true false p true q e = none (run-undivided hyphen text refl q)
+    go true false p false q e = cc
+    go false y p z q e = cc
+
+pub underlined-untabled : (options : ParseOptions) (at : OpenText) (r : Rest) (depth : ℕ) →
+    underline_depth options r ≡ Some depth → table_leaf.starts options (held_leaf.Text at) r ≡ false
+underlined-untabled options at r depth e =
+    ap (λ (o : Option ℕ). may_head options at && has_small_indent options r && are_columns o at.columns)
+    (underlined-columns options r depth e)
+    ∙ none (may_head options at) (has_small_indent options r)
+  where
+    none : (x y : Bool) → (x && y && false) ≡ false
+    none true true = refl
+    none true false = refl
+    none false y = refl
+
+-- Of lines of text, the last, and those in front of it.
+
+record Ended (lines : List Kept) : Type 0 where
+  last : Kept
+  before : List Kept
+  is : reverse lines ≡ last ∷ before
+
+ended : (k : Kept) (ks : List Kept) → Ended (k ∷ ks)
+ended k ks = go (reverse (k ∷ ks)) refl
+  where
+    go : (l : List Kept) → reverse (k ∷ ks) ≡ l → Ended (k ∷ ks)
+    go [] e =
+        let size : length (reverse (k ∷ ks)) ≡ length (k ∷ ks) = length-reverse (k ∷ ks) in
+        let none : length (reverse (k ∷ ks)) ≡ 0 = ap length e in
+        absurd (omega (arith, size, none))
+    go (last ∷ before) e = record { last = last; before = before; is = e }
+
+lines-are : (lines : List Kept) (k : Kept) (before : List Kept) → reverse lines ≡ k ∷ before →
+    lines ≡ reverse before ++ k ∷ []
+lines-are lines k before e = sym (reverse-reverse lines) ∙ ap reverse e ∙ reverse-append (k ∷ []) before
+
+last-is : (number : Kept → ℕ) (lines : List Kept) (k : Kept) → of_last number (lines ++ k ∷ []) ≡ number k
+last-is number [] k = refl
+last-is number (first ∷ []) k = refl
+last-is number (first ∷ next ∷ lines) k = last-is number (next ∷ lines) k
+
+front-is : (lines : List Kept) (k : Kept) → without_last (lines ++ k ∷ []) ≡ lines
+front-is [] k = refl
+front-is (first ∷ []) k = refl
+front-is (first ∷ next ∷ lines) k = ap (λ (l : List Kept). first ∷ l) (front-is (next ∷ lines) k)
+
+-- what is held of them is right of the last
+knows-head : (lines : List Kept) (k : Kept) (before : List Kept) → reverse lines ≡ k ∷ before →
+    KnowsHead (open_lines lines) k
+knows-head lines k before e = record {
+  columns =
+      ap (of_last (λ k. head_columns k.text)) (lines-are lines k before e)
+      ∙ last-is (λ k. head_columns k.text) (reverse before) k;
+  indent = ap (of_last (λ k. k.indent)) (lines-are lines k before e) ∙ last-is (λ k. k.indent) (reverse before) k;
+}
+
+-- What a line that is not blank comes to where text is open, by the leaf that takes it: it turns what is left of the text
+-- behind its definitions, or makes its last line a head, behind what the lines in front of that come to, or it begins a
+-- leaf behind the text.
+
+abbrev pub front_by : Bool → ParseOptions → Blocks → List Kept → Blocks
+front_by heads options bs lines =
+    if heads then text_leaf.behind options bs (texts (without_last lines))
+    else then_front options bs (text_leaf.held lines)
+
+abbrev pub text_came : ParseOptions → Blocks → List Kept → Rest → Option LeafName → Spot
+text_came options bs lines r None = with_line bs lines r
+text_came options bs lines r (Some l) =
+    if (leaf l).further (text_on lines) then came (front_by (leaf l).heads options bs lines)
+    ((leaf l).comes options (text_leaf.held lines) r)
+    else came (text_leaf.behind options bs (texts lines)) ((leaf l).comes options NoLeaf r)
+
+-- where no other leaf starts, it is a delimiter row, or one more line of the text
+table-came : (options : ParseOptions) (bs : Blocks) (k : Kept) (ks : List Kept) (r : Rest) →
+    row_or_text bs (k ∷ ks) r (table_at options bs (k ∷ ks) r) ≡
+    text_came options bs (k ∷ ks) r
+    (cond (table_leaf.starts options (text_on (k ∷ ks)) r) (Some GfmTable) None)
+table-came options bs k ks r =
+    ap (row_or_text bs lines r)
+    (table-found options bs lines is.last is.before (open_lines lines) r is.is
+    (knows-head lines is.last is.before is.is))
+    ∙ go (table_leaf.starts options (text_on lines) r)
+  where
+    lines : List Kept
+    lines = k ∷ ks
+
+    is : Ended lines
+    is = ended k ks
+
+    come : Came
+    come = table_leaf.comes options (OpenParagraph lines) r
+
+    fronts : reverse is.before ≡ without_last lines
+    fronts =
+        sym
+        (ap (λ (l : List Kept). without_last l) (lines-are lines is.last is.before is.is)
+        ∙ front-is (reverse is.before) is.last)
+
+    go : (x : Bool) →
+        row_or_text bs lines r
+        (cond x (Some (came (shut_paragraph options bs (texts (reverse is.before))) come)) None) ≡
+        text_came options bs lines r (cond x (Some GfmTable) None)
+    go true = ap (λ (l : List Kept). came (shut_paragraph options bs (texts l)) come) fronts
+    go false = refl
+
+pub text-comes : (options : ParseOptions) (bs : Blocks) (k : Kept) (ks : List Kept) (r : Rest) →
+    is_blank r.bytes ≡ false →
+    underline_or_text options bs (k ∷ ks) r (underline_depth options r) ≡
+    text_came options bs (k ∷ ks) r (leaf_at options (text_on (k ∷ ks)) r)
+text-comes options bs k ks r dark = go (may_turn options on) refl
+  where
+    lines : List Kept
+    lines = k ∷ ks
+
+    on : HeldLeaf
+    on = text_on lines
+
+    Done : Option ℕ → Type 0
+    Done o = underline_or_text options bs lines r o ≡ text_came options bs lines r (leaf_at options on r)
+
+    -- whether something is left
+    left : (x : Bool) → may_turn options on ≡ x → is_none_left (cut options (texts lines)).1 ≡ not x
+    left x e = not-not (may_turn options on) (is_none_left (cut options (texts lines)).1) (may-left options k ks) x e
+
+    -- a leaf begins behind the text
+    behind : (l : LeafName) → setext_leaf.starts options on r ≡ false → other_at options on r ≡ Some l → (x : Bool) →
+        (leaf l).further on ≡ x → x ≡ false
+    behind l e found false goes = refl
+    behind l e found true goes =
+        let starts = first-passes (λ m. (leaf m).starts options on r) other_trials l found in
+        let name : l ≡ HeadingSetext = further-text (open_lines lines) l goes (other-headless options on r l found) in
+        let bad : true ≡ false = sym starts ∙ ap (λ (m : LeafName). (leaf m).starts options on r) name ∙ e in
+        cc
+
+    by : setext_leaf.starts options on r ≡ false → (o : Option LeafName) → other_at options on r ≡ o →
+        text_by options bs lines r (came_of options r o) ≡
+        text_came options bs lines r (or_table (table_leaf.starts options on r) o)
+    by e None found = table-came options bs k ks r
+    by e (Some l) found =
+        ap (λ (x : Blocks). came x ((leaf l).comes options NoLeaf r)) (text-laws.shut options bs lines)
+        ∙ sym
+        (ap
+        (λ (x : Bool).
+        cond x
+        (came (front_by (leaf l).heads options bs lines) ((leaf l).comes options (text_leaf.held lines) r))
+        (came (text_leaf.behind options bs (texts lines)) ((leaf l).comes options NoLeaf r)))
+        (behind l e found ((leaf l).further on) refl))
+
+    -- no underline stands here
+    other : underline_depth options r ≡ None → setext_leaf.starts options on r ≡ false → Done None
+    other none e =
+        ap (text_by options bs lines r) (text-others options (open_lines lines) r none e dark)
+        ∙ by e (other_at options on r) refl
+        ∙ ap (text_came options bs lines r) (sym (table-last options on r))
+
+    -- one may turn the text
+    turns : may_turn options on ≡ true → (x : Bool) → setext_leaf.starts options on r ≡ x →
+        Done (underline_depth options r)
+    turns may true e =
+        ap (underline_or_text options bs lines r)
+        (setext-found options on r may ∙ ap (λ (t : Bool). cond t (Some (depth_of r)) None) e)
+        ∙ turned-all options bs lines r (depth_of r) (left true may)
+        ∙ ap (text_came options bs lines r) (sym (setext-taken options on r e))
+    turns may false e =
+        let none : underline_depth options r ≡ None =
+        setext-found options on r may ∙ ap (λ (t : Bool). cond t (Some (depth_of r)) None) e in
+        ap (underline_or_text options bs lines r) none ∙ other none e
+
+    -- nothing is left to turn
+    turns_none : may_turn options on ≡ false → (o : Option ℕ) → underline_depth options r ≡ o →
+        Done (underline_depth options r)
+    turns_none may None none =
+        ap (underline_or_text options bs lines r) none ∙ other none (unturned-setext options on r may)
+    turns_none may (Some depth) found =
+        ap (underline_or_text options bs lines r) found ∙ turned-none options bs lines r depth (left false may)
+        ∙ ap (text_came options bs lines r)
+        (sym
+        (lost-none options (open_lines lines) r depth may found
+        (underlined-untabled options (open_lines lines) r depth found)))
+
+    go : (x : Bool) → may_turn options on ≡ x → Done (underline_depth options r)
+    go true may = turns may (setext_leaf.starts options on r) refl
+    go false may = turns_none may (underline_depth options r) refl
