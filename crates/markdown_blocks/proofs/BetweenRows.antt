@@ -2,7 +2,7 @@
 use Rattle.md_engine.specs.declared.tokenizer.held_leaf.HeldLeaf.TheVariants as held_leaf
 use Rattle.md_engine.specs.declared.tokenizer.held_leaf.HeldLeaf.{HeldLeaf}
 use Rattle.std.proofs.Common.{◌≡◌, ℕ, true, List, [], ◌∷◌, ◌++◌, refl, sym, subst}
-use Rattle.markdown_blocks.specs.Rows.{Span, Turned}
+use Rattle.markdown_blocks.specs.Rows.{Headed, Span, Turned}
 use Rattle.std.specs.Prelude.{Option, Some, None}
 use Rattle.md_engine.specs.declared.configuration.ParseOptions.{ParseOptions}
 use Rattle.md_engine.specs.declared.event.Event.{Event}
@@ -70,12 +70,14 @@ first-between : (bytes : List ℕ) (group : Group) → OfGroup (RowBetween bytes
 first-between bytes (Single row) h = h
 first-between bytes (Lines row rows) h = h.0
 first-between bytes (Turned row rows under) h = h.0
+first-between bytes (Headed row next rows) h = h.0
 first-between bytes (Span row rows) h = h.0
 
 final-between : (bytes : List ℕ) (group : Group) → OfGroup (RowBetween bytes) group → RowBetween bytes (final_row group)
 final-between bytes (Single row) h = h
 final-between bytes (Lines row rows) h = last-each (RowBetween bytes) row rows h.0 h.1
 final-between bytes (Turned row rows under) h = h.2
+final-between bytes (Headed row next rows) h = last-each (RowBetween bytes) next rows h.1 h.2
 final-between bytes (Span row rows) h = last-each (RowBetween bytes) row rows h.0 h.1
 
 -- groups of such lines, the first of which begins between characters

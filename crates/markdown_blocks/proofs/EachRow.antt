@@ -2,7 +2,8 @@
 use Rattle.std.proofs.Common.{Bool, true, false, cond, ◌&&◌, List, [], ◌∷◌}
 use Rattle.markdown_blocks.specs.Rows.{BlankRow, Group, LeafRow, Lines, Row, RowKind, Single, TextRow, goes_on, groups}
 use Rattle.markdown_blocks.specs.Registry.{leaf}
-use Rattle.markdown_blocks.specs.Rows.{Span, Turned, is_further, is_last, last_row, onto_groups, onto_leaf, onto_span}
+use Rattle.markdown_blocks.specs.Rows.{Headed, Span, Turned, is_further, is_last, last_row, onto_groups, onto_leaf}
+use Rattle.markdown_blocks.specs.Rows.{onto_span, takes_head}
 
 abbrev pub EachRow : (Row → Type 0) → List Row → Type 0
 EachRow P [] = Unit {0}
@@ -12,6 +13,7 @@ abbrev pub OfGroup : (Row → Type 0) → Group → Type 0
 OfGroup P (Single row) = P row
 OfGroup P (Lines row rows) = P row × EachRow P rows
 OfGroup P (Turned row rows under) = P row × EachRow P rows × P under
+OfGroup P (Headed row next rows) = P row × P next × EachRow P rows
 OfGroup P (Span row rows) = P row × EachRow P rows
 
 abbrev pub EachGroup : (Row → Type 0) → List Group → Type 0
@@ -23,6 +25,7 @@ span-each P row [] h k = ((h, tt), k)
 span-each P row (Single below ∷ gs) h k = ((h, tt), k)
 span-each P row (Lines below rows ∷ gs) h k = ((h, tt), k)
 span-each P row (Turned below rows under ∷ gs) h k = ((h, tt), k)
+span-each P row (Headed below next rows ∷ gs) h k = ((h, tt), k)
 span-each P row (Span below rows ∷ gs) h k = go (is_further below.kind below.on)
   where
     go : (x : Bool) → EachGroup P (cond x (Span row (below ∷ rows) ∷ gs) (Span row [] ∷ Span below rows ∷ gs))
@@ -46,13 +49,17 @@ onto-each P row TextRow (Turned below rows under ∷ gs) h k = go (goes_on row b
         EachGroup P (cond x (Turned row (below ∷ rows) under ∷ gs) (Lines row [] ∷ Turned below rows under ∷ gs))
     go true = ((h, (k.0.0, k.0.1), k.0.2), k.1)
     go false = ((h, tt), k)
-onto-each P row TextRow (Span below rows ∷ gs) h k = go (is_further below.kind below.on) rows k
+onto-each P row TextRow (Headed below next rows ∷ gs) h k = ((h, tt), k)
+onto-each P row TextRow (Span below rows ∷ gs) h k = go (is_further below.kind below.on) (takes_head below.kind) rows k
   where
-    go : (x : Bool) (rows : List Row) → EachGroup P (Span below rows ∷ gs) →
-        EachGroup P (cond (x && is_last rows) (Turned row [] below ∷ gs) (Lines row [] ∷ Span below rows ∷ gs))
-    go true [] k = ((h, tt, k.0.0), k.1)
-    go true (next ∷ rows) k = ((h, tt), k)
-    go false rows k = ((h, tt), k)
+    go : (x y : Bool) (rows : List Row) → EachGroup P (Span below rows ∷ gs) →
+        EachGroup P
+        (cond (x && y) (Headed row below rows ∷ gs)
+        (cond (x && is_last rows) (Turned row [] below ∷ gs) (Lines row [] ∷ Span below rows ∷ gs)))
+    go true true rows k = ((h, k.0.0, k.0.1), k.1)
+    go true false [] k = ((h, tt, k.0.0), k.1)
+    go true false (next ∷ rows) k = ((h, tt), k)
+    go false y rows k = ((h, tt), k)
 onto-each P row TextRow (Lines below rows ∷ gs) h k = go (goes_on row below)
   where
     go : (x : Bool) → EachGroup P (cond x (Lines row (below ∷ rows) ∷ gs) (Lines row [] ∷ Lines below rows ∷ gs))

@@ -4,7 +4,8 @@ use Rattle.std.proofs.Common.{◌≡◌, ℕ, Bool, true, false, cond, ◌&&◌,
 use Rattle.std.proofs.Common.{append_assoc, subst}
 use Rattle.markdown_blocks.proofs.GroupsAre.{AreSpan}
 use Rattle.markdown_blocks.specs.Registry.{leaf}
-use Rattle.markdown_blocks.specs.Rows.{Span, Turned, is_blank_by, is_further, is_last, last_row, onto_leaf}
+use Rattle.markdown_blocks.specs.Rows.{Headed, Span, Turned, is_blank_by, is_further, is_last, last_row, onto_leaf}
+use Rattle.markdown_blocks.specs.Rows.{takes_head}
 use Rattle.std.specs.Prelude.{Option, Some, None, not}
 use Rattle.md_engine.specs.declared.configuration.ParseOptions.{ParseOptions}
 use Rattle.md_engine.specs.declared.event.Event.{Event}
@@ -32,6 +33,7 @@ use Rattle.markdown_blocks.proofs.RowFacts.{AreRows}
 use Rattle.markdown_blocks.proofs.FrontStands.{container-others, fronts-others}
 use Rattle.markdown_blocks.proofs.GroupFacts.{group-front, more-groups, single-stands, span-stands, turned-stands}
 use Rattle.markdown_blocks.proofs.LeafFacts.{StandFacts, spot_behind}
+use Rattle.markdown_blocks.proofs.TablesOff.{headed-off}
 use Rattle.markdown_blocks.proofs.Text.Stands.{text-stands}
 use Rattle.markdown_blocks.proofs.Underlines.{under-filled}
 
@@ -59,6 +61,7 @@ leaf-ended row false [] h k = (h, k)
 leaf-ended row false (Single below ∷ gs) h k = (h, k)
 leaf-ended row false (Lines below rows ∷ gs) h k = (h, k)
 leaf-ended row false (Turned below rows under ∷ gs) h k = (h, k)
+leaf-ended row false (Headed below next rows ∷ gs) h k = (h, k)
 leaf-ended row false (Span below rows ∷ gs) h k = go (is_further below.kind below.on)
   where
     go : (x : Bool) → EachEnded (cond x (Span row (below ∷ rows) ∷ gs) (Span row [] ∷ Span below rows ∷ gs))
@@ -77,13 +80,17 @@ onto-ended row TextRow (Turned below rows under ∷ gs) h k = go (goes_on row be
         EachEnded (cond x (Turned row (below ∷ rows) under ∷ gs) (Lines row [] ∷ Turned below rows under ∷ gs))
     go true = k
     go false = (h, k)
-onto-ended row TextRow (Span below rows ∷ gs) h k = go (is_further below.kind below.on) rows k
+onto-ended row TextRow (Headed below next rows ∷ gs) h k = (h, k)
+onto-ended row TextRow (Span below rows ∷ gs) h k = go (is_further below.kind below.on) (takes_head below.kind) rows k
   where
-    go : (x : Bool) (rows : List Row) → EachEnded (Span below rows ∷ gs) →
-        EachEnded (cond (x && is_last rows) (Turned row [] below ∷ gs) (Lines row [] ∷ Span below rows ∷ gs))
-    go true [] k = k
-    go true (next ∷ rows) k = (h, k)
-    go false rows k = (h, k)
+    go : (x y : Bool) (rows : List Row) → EachEnded (Span below rows ∷ gs) →
+        EachEnded
+        (cond (x && y) (Headed row below rows ∷ gs)
+        (cond (x && is_last rows) (Turned row [] below ∷ gs) (Lines row [] ∷ Span below rows ∷ gs)))
+    go true true rows k = k
+    go true false [] k = k
+    go true false (next ∷ rows) k = (h, k)
+    go false y rows k = (h, k)
 onto-ended row TextRow (Lines below rows ∷ gs) h k = go (goes_on row below)
   where
     go : (x : Bool) → EachEnded (cond x (Lines row (below ∷ rows) ∷ gs) (Lines row [] ∷ Lines below rows ∷ gs))
@@ -203,6 +210,7 @@ group-ends options bytes (Turned row rows under) gs are =
     (group_done options bytes (Turned row rows under)))
     (sym (under-filled options bytes row rows under are.0 are.1))
     (turned-stands options bytes row rows under are.0 are.1 are.5)
+group-ends options bytes (Headed row next rows) gs are = absurd (headed-off options bytes row next rows gs are)
 group-ends options bytes (Span row rows) gs are =
     subst
     (λ (blank : Bool).

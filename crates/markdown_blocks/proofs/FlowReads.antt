@@ -32,13 +32,13 @@ use Rattle.md_content.specs.Labels.{labels_in}
 use Rattle.md_content.proofs.LabelsLemmas.{labels-none}
 use Rattle.md_content.specs.Resolves.{Resolves, found_in_content}
 use Rattle.md_leaves.specs.Turned.{turned}
-use Rattle.markdown_blocks.specs.FlowReads.{lines_joined}
+use Rattle.markdown_blocks.specs.FlowReads.{lines_joined, tables_set}
 use Rattle.md_seam.specs.Substituted.{Substituted}
 use Rattle.markdown_blocks.specs.Fed.{FlowRan}
 use Rattle.markdown_blocks.specs.FlowReads.{FlowReads, has_text, text_cells, text_rows, text_setting}
 use Rattle.markdown_blocks.specs.Resolved.{resolved_as}
 use Rattle.markdown_blocks.specs.FlowRule.{flow_at}
-use Rattle.markdown_blocks.specs.Registry.{is_own, resolved, resolver}
+use Rattle.markdown_blocks.specs.Registry.{heads_read, is_own, resolved, resolver}
 use Rattle.markdown_blocks.specs.Rows.{BlankRow, LeafRow, Row, RowKind, TextRow, is_text, leaf_events, row_events}
 use Rattle.markdown_blocks.specs.Rows.{row_events_by, rows_events, tail_events}
 use Rattle.markdown_blocks.specs.States.{FlowStep, flow_behaves, flow_table_scheme}
@@ -47,9 +47,11 @@ use Rattle.markdown_blocks.proofs.EachRow.{EachRow}
 use Rattle.markdown_blocks.proofs.FlowLemmas.{flow_by_line}
 use Rattle.markdown_blocks.proofs.FlowRows.{flow_at-rows}
 use Rattle.markdown_blocks.proofs.FlowRuns.{flow_flush, flow_outcome, flow_push}
-use Rattle.markdown_blocks.proofs.ContentFacts.{content-alone, no_content-label}
+use Rattle.markdown_blocks.proofs.ContentFacts.{content-alone, no_content-label, nothing as nothing_wanted}
+use Rattle.markdown_blocks.proofs.ContentFacts.{nothing-wanted}
 use Rattle.markdown_blocks.proofs.FlowSteps.{IsFramed, content-same, reading-outside, rows-no_content, rows-outside}
 use Rattle.markdown_blocks.proofs.FlowSteps.{rows_at-framed}
+use Rattle.markdown_blocks.proofs.HeadsRead.{heads-none, heads-outside}
 use Rattle.markdown_blocks.proofs.JoinedLemmas.{EachNoContent, rows_at-no_content}
 use Rattle.markdown_blocks.proofs.OutsideFacts.{AreOutside, IsNoEnd, NoEnds}
 use Rattle.markdown_blocks.proofs.OutsideLemmas.{outside-same}
@@ -196,11 +198,12 @@ no-text (row ∷ rows) o =
 
 -- The steps behind the states, whether each resolver ran or not.
 
--- content is read
+-- lines of text that are heads are read again, and then content is read
 record ContentRead (bytes : List ℕ) (options : ParseOptions) (rows : List Row) (at : World) (found : Found)
     (new : World) : Type 0 where
   rest : new ≡ record at { events = new.events }
-  read : Substituted wants_content (content_readings bytes options) [] 0 (joined (rows_events rows)) new.events
+  read : Substituted wants_content (content_readings bytes options) [] 0
+      (joined (heads_read options bytes (rows_events rows))) new.events
   found_is : ((has_text rows ≡ false) × (found ≡ nothing)) ⊎ (found ≡ found_in_content bytes new.events)
   definitions : found.definitions ≡ labels_in bytes new.events
   footnotes : found.footnotes ≡ []
@@ -212,14 +215,17 @@ content-step : (bytes : List ℕ) (options : ParseOptions) (rows : List Row) (b 
     (b ≡ false → NoEnds is_content (rows_events rows)) → RanIf resolved_as r.Content b at nothing found new →
     ContentRead bytes options rows at found new
 content-step bytes options rows true at found new framed quiet events text set others h =
-    let resolves : Resolves at h.more new = h.resolved in
+    let resolves : Resolves (record at { events = heads_read at.setting.options at.setting.bytes at.events }) h.more new =
+    h.resolved in
     let A : List ℕ →
     Type 0 = λ l. Substituted wants_content (content_readings l at.setting.options) [] 0
-    (joined at.events) new.events in
+    (joined (heads_read at.setting.options l at.events)) new.events in
     let B : ParseOptions →
-    Type 0 = λ o. Substituted wants_content (content_readings bytes o) [] 0 (joined at.events) new.events in
+    Type 0 = λ o. Substituted wants_content (content_readings bytes o) [] 0
+    (joined (heads_read o bytes at.events)) new.events in
     let C : List Event →
-    Type 0 = λ l. Substituted wants_content (content_readings bytes options) [] 0 (joined l) new.events in
+    Type 0 = λ l. Substituted wants_content (content_readings bytes options) [] 0
+    (joined (heads_read options bytes l)) new.events in
     let found_so : found ≡ found_in_content bytes new.events =
     h.found_is ∙ ap (with_found nothing) resolves.found_is
     ∙ ap (λ (l : List ℕ). found_in_content l new.events) text in
@@ -234,10 +240,17 @@ content-step bytes options rows false at found new framed quiet events text set 
     let none : has_text rows ≡ false = no-text rows (others refl) in
     let same : new.events ≡ rows_events rows = ap (λ (w : World). w.events) h.1 ∙ events in
     let P : List Event →
-    Type 0 = λ l. Substituted wants_content (content_readings bytes options) [] 0 (joined (rows_events rows)) l in
+    Type 0 = λ l. Substituted wants_content (content_readings bytes options) [] 0
+    (joined (heads_read options bytes (rows_events rows))) l in
+    let Q : List Event →
+    Type 0 = λ l. Substituted wants_content (content_readings bytes options) [] 0 (joined l) (rows_events rows) in
+    let headless : heads_read options bytes (rows_events rows) ≡ rows_events rows =
+    heads-none options bytes (rows_events rows) (rows-no_content nothing_wanted nothing-wanted rows framed quiet none) in
     record {
       rest = h.1 ∙ ap (λ (l : List Event). record at { events = l }) (sym (ap (λ (w : World). w.events) h.1));
-      read = subst P (sym same) (content-same (content_readings bytes options) rows framed quiet none);
+      read =
+          subst P (sym same)
+          (subst Q (sym headless) (content-same (content_readings bytes options) rows framed quiet none));
       found_is = inl (none, h.0);
       definitions =
           ap (λ (x : Found). x.definitions) h.0
@@ -274,14 +287,14 @@ flushed-frames T end at found new f =
     resolved-frames (record f.at { resolvers = [] }) f.at.resolvers found new f.resolved ∙ f.none_left
 
 -- what flow has read of a text from a point on, once all of it was pushed and flushed, setext headings were set, the
--- lines of leaves were joined, and lists were put around items
+-- lines of leaves were joined, tables got their cells, and lists were put around items
 pub flow-reads : (bytes : List ℕ) (options : ParseOptions) (p : Point) (end : State) (at : World) (found : Found)
     (items lines : World) (more : Option Found) (new : World) →
     length bytes < 2 ^ 61 →
     Runs (FlowStep same_name) false (Next (s.Document document.ContainerExistingBefore))
     (reads_to (fresh bytes options p) (length bytes)) end at →
     Flushes (FlowStep same_name) resolved_as end at true found items →
-    lines ≡ record items { events = lines_joined options (turned items.events) } →
+    lines ≡ record items { events = tables_set options (lines_joined options (turned items.events)) } →
     resolved_as r.ListItem lines more new →
     FlowReads bytes options p found new
 flow-reads bytes options p end at found items lines more new small run f joining listing =
@@ -398,20 +411,21 @@ flow-reads bytes options p end at found items lines more new small run f joining
         let set : (found ≡ ran.mid_found) × (items ≡ record ran.mid { events = resolved ran.mid.events }) =
         own-step registers.own ran.mid ran.mid_found found items
         (λ e.
-        reading-outside bytes options (rows_events rows) ran.mid.events
-        (rows-outside rows framed (subst Q events (registers.no_own e))) read.read) ran.sets in
+        reading-outside bytes options (heads_read options bytes (rows_events rows)) ran.mid.events
+        (heads-outside options bytes (rows_events rows)
+        (rows-outside rows framed (subst Q events (registers.no_own e)))) read.read) ran.sets in
         let before : items ≡ record w { events = resolved ran.mid.events } = set.1
         ∙ ap (λ (x : World). record x { events = resolved ran.mid.events }) read.rest in
-        let joined_up : lines ≡ record w { events = lines_joined options (turned (resolved ran.mid.events)) } = joining
-        ∙ ap (λ (x : World). record x { events = lines_joined options (turned x.events) }) before in
+        let put : List Event → List Event = λ es. tables_set options (lines_joined options (turned es)) in
+        let joined_up : lines ≡ record w { events = put (resolved ran.mid.events) } = joining
+        ∙ ap (λ (x : World). record x { events = put x.events }) before in
         let text : lines.setting.bytes ≡ bytes = ap (λ (x : World). x.setting.bytes) joined_up
         ∙ ap (λ (x : Setting). x.bytes) setting in
         let all : new ≡
-        record w { events = listed bytes (lines_joined options (turned (resolved ran.mid.events))) } = listing.1
+        record w { events = listed bytes (put (resolved ran.mid.events)) } = listing.1
         ∙ ap (λ (x : World). record x { events = listed lines.setting.bytes x.events }) joined_up
-        ∙ ap (λ (l : List ℕ). record w { events = listed l (lines_joined options (turned (resolved ran.mid.events))) })
-        text in
-        let is : new.events ≡ listed bytes (lines_joined options (turned (resolved ran.mid.events))) =
+        ∙ ap (λ (l : List ℕ). record w { events = listed l (put (resolved ran.mid.events)) }) text in
+        let is : new.events ≡ listed bytes (put (resolved ran.mid.events)) =
         ap (λ (x : World). x.events) all in
         let F : Found →
         Type 0 = λ x. ((has_text rows ≡ false) × (x ≡ nothing)) ⊎ (x ≡ found_in_content bytes ran.mid.events) in
@@ -439,7 +453,7 @@ pub flow-reads-from : (is_name : ResolveName → ResolveName → Bool) (bytes : 
     length bytes < 2 ^ 61 →
     Runs (FlowStep is_name) false (Next (s.Document document.ContainerExistingBefore)) (reads_to start to) end at →
     Flushes (FlowStep is_name) resolved_as end at true found items →
-    lines ≡ record items { events = lines_joined options (turned items.events) } →
+    lines ≡ record items { events = tables_set options (lines_joined options (turned items.events)) } →
     resolved_as r.ListItem lines more new →
     FlowReads bytes options p found new
 flow-reads-from is_name bytes options p start to end at found items lines more new names same all small run f joining

@@ -5,7 +5,7 @@ use Rattle.markdown_blocks.proofs.Registry.{span-laws}
 use Rattle.std.specs.Prelude.{not, Some}
 use Rattle.md_engine.specs.declared.configuration.ParseOptions.{ParseOptions}
 use Rattle.md_definition.specs.Tree.{Block}
-use Rattle.markdown_blocks.specs.Rows.{Span, Turned, last_row, Group, Lines, Row, Single, final_row, first_row}
+use Rattle.markdown_blocks.specs.Rows.{Headed, Span, Turned, last_row, Group, Lines, Row, Single, final_row, first_row}
 use Rattle.markdown_blocks.specs.Rows.{TextRow, group_done, is_blank_row, leaf_done, leaf_unread}
 use Rattle.markdown_blocks.specs.Unread.{group_unread}
 use Rattle.markdown_blocks.proofs.GroupLemmas.{AreGroups, AreLines, HasFront}
@@ -13,6 +13,7 @@ use Rattle.markdown_blocks.proofs.GroupsAre.{IsLeft}
 use Rattle.markdown_blocks.proofs.LeafFacts.{StandFacts, stand-of}
 use Rattle.markdown_blocks.proofs.RowFacts.{IsRow}
 use Rattle.markdown_blocks.proofs.RowLeaf.{EndsOnLine, block_of, row-facts}
+use Rattle.markdown_blocks.proofs.TablesOff.{headed-off}
 use Rattle.markdown_blocks.proofs.Text.Stands.{text-stands}
 use Rattle.markdown_blocks.proofs.Turned.Stands as turned
 
@@ -85,6 +86,7 @@ group-leaf options bytes (Single row) gs are =
 group-leaf options bytes (Lines row rows) gs are = text-leaf options bytes row rows are.0
 group-leaf options bytes (Turned row rows under) gs are =
     turned-leaf options bytes row rows under are.0 are.1 are.5
+group-leaf options bytes (Headed row next rows) gs are = absurd (headed-off options bytes row next rows gs are)
 group-leaf options bytes (Span row rows) gs are = span-group options bytes row rows are.0 are.4
 
 pub group-front : (options : ParseOptions) (bytes : List ℕ) (group : Group) (gs : List Group) →
@@ -92,6 +94,7 @@ pub group-front : (options : ParseOptions) (bytes : List ℕ) (group : Group) (g
 group-front options bytes (Single row) gs are = are.0.front
 group-front options bytes (Lines row rows) gs are = are.2
 group-front options bytes (Turned row rows under) gs are = are.3
+group-front options bytes (Headed row next rows) gs are = are.3
 group-front options bytes (Span row rows) gs are = (span-begins options bytes row rows are.0).front
 
 pub more-groups : (options : ParseOptions) (bytes : List ℕ) (group : Group) (gs : List Group) →
@@ -99,4 +102,5 @@ pub more-groups : (options : ParseOptions) (bytes : List ℕ) (group : Group) (g
 more-groups options bytes (Single row) gs are = are.1
 more-groups options bytes (Lines row rows) gs are = are.3
 more-groups options bytes (Turned row rows under) gs are = are.4
+more-groups options bytes (Headed row next rows) gs are = are.4
 more-groups options bytes (Span row rows) gs are = are.2

@@ -2,7 +2,7 @@
 use Rattle.md_engine.specs.declared.tokenizer.held_leaf.HeldLeaf.{HeldLeaf}
 use Rattle.std.proofs.Common.{◌≡◌, ◌≢◌, ℕ, ◌<◌, ◌≤◌, Bool, true, false, cond, ◌&&◌, List, [], ◌∷◌, ◌++◌, length, drop}
 use Rattle.markdown_blocks.specs.BlockList.{lines_unread}
-use Rattle.markdown_blocks.specs.Rows.{Span, Turned}
+use Rattle.markdown_blocks.specs.Rows.{Headed, Span, Turned}
 use Rattle.std.proofs.Common.{slice_range, refl, ap, sym, ◌∙◌, subst, append_assoc, append-nil, arith, length-append}
 use Rattle.std.specs.Prelude.{◌==◌, Option, Some, None}
 use Rattle.std.specs.List.{list_all}
@@ -54,6 +54,7 @@ use Rattle.markdown_blocks.proofs.RowFacts.{AreRows, IsEnding, IsRow, behind_lin
 use Rattle.markdown_blocks.proofs.SubstitutedLemmas.{AllBelong, CutAt, EachPrefixed, NextBelongs, Rest}
 use Rattle.markdown_blocks.proofs.SubstitutedLemmas.{Unwanted, behind-exit, line_after}
 use Rattle.markdown_blocks.proofs.SubstitutedLemmas.{passes, places}
+use Rattle.markdown_blocks.proofs.TablesOff.{headed-off, rows-unheaded}
 use Rattle.markdown_blocks.proofs.ContentFacts.{NoContent, WantsContent, no_content-append, no_content-unwanted}
 use Rattle.markdown_blocks.proofs.ContainerNames.{container-facts}
 use Rattle.md_definition.specs.Rest.{Rest as LineRest, is_blank}
@@ -174,15 +175,15 @@ behind-ended wants row q es after =
     behind-tail wants row es
     (ap (λ (l : List Event). chunks_behind wants (l ++ es)) (ending-is n.LineEnding row q after))
 
-behind-lines : (wants : Content → Bool) (row : Row) (gs : List Group) → EndsBeforeGroups row gs →
-    chunks_behind wants (tail_events n.LineEnding row ++ joined_groups gs) ≡ []
-behind-lines wants row [] h = behind-tail wants row [] (go row.after)
+behind-lines : (bytes : List ℕ) (wants : Content → Bool) (row : Row) (gs : List Group) → EndsBeforeGroups row gs →
+    chunks_behind wants (tail_events n.LineEnding row ++ joined_groups bytes gs) ≡ []
+behind-lines bytes wants row [] h = behind-tail wants row [] (go row.after)
   where
     go : (after : Option Point) →
         chunks_behind wants (elim after [ None ↦ [] | Some q ↦ pair n.LineEnding row.end q ] ++ []) ≡ []
     go None = refl
     go (Some q) = refl
-behind-lines wants row (group ∷ gs) h = behind-ended wants row h.0 (joined_groups (group ∷ gs)) h.1
+behind-lines bytes wants row (group ∷ gs) h = behind-ended wants row h.0 (joined_groups bytes (group ∷ gs)) h.1
 
 -- what stands around the parts of a line is not read later
 pub tail-unwanted : (wants : Content → Bool) (kind : RowKind) (row : Row) →
@@ -407,29 +408,29 @@ text-content options bytes wants reads w unique row rows are front es left out n
 groups-content : (options : ParseOptions) (bytes : List ℕ) (wants : Content → Bool) (reads : Readings) →
     wants content.Content ≡ true → WantsContent wants → ReadsContent options bytes reads →
     (gs : List Group) → AreGroups options bytes gs → (left out : List Event) →
-    Substituted wants reads left 0 (joined_groups gs) out → out ≡ unread_groups options bytes gs
+    Substituted wants reads left 0 (joined_groups bytes gs) out → out ≡ unread_groups options bytes gs
 groups-content options bytes wants reads w other unique [] are left out s = s
 groups-content options bytes wants reads w other unique (Single row ∷ gs) are left out s =
     let one : (rest : List Event) × (is : out ≡ row_events row ++ rest) ×
-    Substituted wants reads left 0 (joined_groups gs) rest =
-    passes wants reads left 0 (row_events row) (joined_groups gs) out
+    Substituted wants reads left 0 (joined_groups bytes gs) rest =
+    passes wants reads left 0 (row_events row) (joined_groups bytes gs) out
     (single-unwanted options bytes wants row are.0 other) s in
     one.1
     ∙ ap (λ (l : List Event). row_events row ++ l)
     (groups-content options bytes wants reads w other unique gs are.1 left one.0 one.2)
 groups-content options bytes wants reads w other unique (Turned row rows under ∷ gs) are left out s =
     let text : List Event = unread_group options bytes (Lines row rows) in
-    let behind : List Event = row_events under ++ joined_groups gs in
+    let behind : List Event = row_events under ++ joined_groups bytes gs in
     let one : Rest wants reads text behind out =
     text-content options bytes wants reads w unique row rows are.0 are.3 behind left out
     (behind-ended wants (last_row row rows) are.1.after behind are.1.after_is)
     (subst (λ (l : List Event). Substituted wants reads left 0 l out)
     (append_assoc
     ((row.front ++ linked_lines n.Content content_link row rows) ++ tail_events n.LineEnding (last_row row rows))
-    (row_events under) (joined_groups gs)) s) in
+    (row_events under) (joined_groups bytes gs)) s) in
     let two : (rest : List Event) × (is : one.0 ≡ row_events under ++ rest) ×
-    Substituted wants reads one.1 0 (joined_groups gs) rest =
-    passes wants reads one.1 0 (row_events under) (joined_groups gs) one.0
+    Substituted wants reads one.1 0 (joined_groups bytes gs) rest =
+    passes wants reads one.1 0 (row_events under) (joined_groups bytes gs) one.0
     (under-unwanted options bytes wants (last_row row rows) under are.1 other) one.3 in
     one.2
     ∙ ap (λ (l : List Event). text ++ l)
@@ -437,19 +438,21 @@ groups-content options bytes wants reads w other unique (Turned row rows under �
     ∙ ap (λ (l : List Event). row_events under ++ l)
     (groups-content options bytes wants reads w other unique gs are.4 one.1 two.0 two.2))
     ∙ sym (append_assoc text (row_events under) (unread_groups options bytes gs))
+groups-content options bytes wants reads w other unique (Headed row next rows ∷ gs) are left out s =
+    absurd (headed-off options bytes row next rows gs are)
 groups-content options bytes wants reads w other unique (Span row rows ∷ gs) are left out s =
     let one : (rest : List Event) × (is : out ≡ rows_events (row ∷ rows) ++ rest) ×
-    Substituted wants reads left 0 (joined_groups gs) rest =
-    passes wants reads left 0 (rows_events (row ∷ rows)) (joined_groups gs) out
+    Substituted wants reads left 0 (joined_groups bytes gs) rest =
+    passes wants reads left 0 (rows_events (row ∷ rows)) (joined_groups bytes gs) out
     (span-unwanted options bytes wants row rows are.0 are.3 other) s in
     one.1
     ∙ ap (λ (l : List Event). rows_events (row ∷ rows) ++ l)
     (groups-content options bytes wants reads w other unique gs are.2 left one.0 one.2)
 groups-content options bytes wants reads w other unique (Lines row rows ∷ gs) are left out s =
     let text : List Event = unread_group options bytes (Lines row rows) in
-    let one : Rest wants reads text (joined_groups gs) out =
-    text-content options bytes wants reads w unique row rows are.0 are.2 (joined_groups gs) left out
-    (behind-lines wants (last_row row rows) gs are.1) s in
+    let one : Rest wants reads text (joined_groups bytes gs) out =
+    text-content options bytes wants reads w unique row rows are.0 are.2 (joined_groups bytes gs) left out
+    (behind-lines bytes wants (last_row row rows) gs are.1) s in
     one.2
     ∙ ap (λ (l : List Event). text ++ l)
     (groups-content options bytes wants reads w other unique gs are.3 one.1 one.0 one.3)
@@ -467,7 +470,8 @@ content-read options bytes open_before still p lines rows shut are quiet wants r
     (groups-are options bytes open_before still p lines rows shut are quiet) [] unread
     (subst (λ (l : List Event). Substituted wants reads [] 0 l unread)
     (joined-rows bytes rows (rows-front options bytes open_before still p lines rows are)
-    (rows-end options bytes open_before still p lines rows are) quiet) s)
+    (rows-end options bytes open_before still p lines rows are) quiet
+    (rows-unheaded options bytes open_before still p lines rows are)) s)
 
 -- The lines of a text, cut at the ends of its lines.
 

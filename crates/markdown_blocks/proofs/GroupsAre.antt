@@ -1,5 +1,6 @@
 -- What the groups of the lines of a text are: lines that are no text, lines of text that belong together, with the line
--- that turns them if one does, and the lines of a leaf of several.
+-- that turns them if one does, a line of text that is the head of a table, with the lines of that, and the lines of a leaf
+-- of several.
 use Rattle.std.proofs.Common.{◌≡◌, ◌≢◌, ℕ, Bool, true, false, cond, ◌&&◌, List, [], ◌∷◌, refl, ap, ap₂, sym, ◌∙◌}
 use Rattle.std.proofs.Common.{subst}
 use Rattle.std.specs.Prelude.{Some}
@@ -21,8 +22,8 @@ use Rattle.markdown_blocks.specs.Change.{Change, is_none}
 use Rattle.markdown_blocks.specs.Fronted.{contained, rest_from, rest_line}
 use Rattle.markdown_blocks.specs.HeldLeaf.{may_go_on, takes_lazy}
 use Rattle.markdown_blocks.specs.Registry.{HeadingSetext, LeafName, further_of, leaf}
-use Rattle.markdown_blocks.specs.Rows.{BlankRow, Group, LeafRow, Lines, Row, RowKind, Single, Span, TextRow, Turned}
-use Rattle.markdown_blocks.specs.Rows.{first_row}
+use Rattle.markdown_blocks.specs.Rows.{BlankRow, Group, Headed, LeafRow, Lines, Row, RowKind, Single, Span, TextRow}
+use Rattle.markdown_blocks.specs.Rows.{Turned, first_row, takes_head}
 use Rattle.markdown_blocks.specs.Rows.{goes_on, groups, is_further, last_row, line_behind, line_kind}
 use Rattle.markdown_blocks.specs.Rows.{is_last, onto_groups, onto_leaf, onto_underline}
 use Rattle.markdown_blocks.proofs.ContainedLemmas.{contained-met, contained-still}
@@ -114,7 +115,22 @@ pub record IsUnder (options : ParseOptions) (bytes : List ℕ) (last under : Row
   pub leaves : last.leaves ≡ []
   pub on : under.on ≡ last.behind
   pub further : is_further under.kind under.on ≡ true
+  pub heads : takes_head under.kind ≡ false
   pub quiet : HasNoContent under
+
+-- a line of text that is a head, in front of the line that takes it: between them no container ends or opens
+pub record IsHead (options : ParseOptions) (bytes : List ℕ) (row next : Row) : Type 0 where
+  pub line : List ℕ
+  pub is : IsRow options bytes line row
+  pub text : row.kind ≡ TextRow
+  pub after : Point
+  pub after_is : row.after ≡ Some after
+  pub ending : IsEnding bytes row.end after
+  pub front : LinePrefix bytes [] after next.first next.front
+  pub leaves : row.leaves ≡ []
+  pub on : next.on ≡ row.behind
+  pub further : is_further next.kind next.on ≡ true
+  pub heads : takes_head next.kind ≡ true
 
 -- a line goes on no leaf
 abbrev pub Begins : Row → Type 0
@@ -135,6 +151,10 @@ AreGroups options bytes (Turned row rows under ∷ gs) =
     (are : AreLines options bytes row rows) × (is : IsUnder options bytes (last_row row rows) under)
     × (ends : EndsBeforeGroups under gs) × (front : HasFront bytes row) × (more : AreGroups options bytes gs)
     × IsLeft options bytes row rows are
+AreGroups options bytes (Headed row next rows ∷ gs) =
+    (head : IsHead options bytes row next) × (are : AreSpan options bytes next rows)
+    × (ends : EndsBeforeGroups (last_row next rows) gs) × (front : HasFront bytes row)
+    × (more : AreGroups options bytes gs) × EachNoContent (next ∷ rows)
 AreGroups options bytes (Lines row rows ∷ gs) =
     AreLines options bytes row rows × EndsBeforeGroups (last_row row rows) gs × HasFront bytes row ×
     AreGroups options bytes gs
@@ -150,6 +170,7 @@ span-first P row false [] h = h
 span-first P row false (Single first ∷ gs) h = h
 span-first P row false (Lines first rows ∷ gs) h = h
 span-first P row false (Turned first rows under ∷ gs) h = h
+span-first P row false (Headed first next rows ∷ gs) h = h
 span-first P row false (Span first rows ∷ gs) h = go (is_further first.kind first.on)
   where
     go : (x : Bool) → FirstIs P (cond x (Span row (first ∷ rows) ∷ gs) (Span row [] ∷ Span first rows ∷ gs))
@@ -162,11 +183,16 @@ onto-first P row BlankRow gs h = h
 onto-first P row (LeafRow l) gs h = span-first P row (leaf l).ends gs h
 onto-first P row TextRow [] h = h
 onto-first P row TextRow (Single first ∷ gs) h = h
-onto-first P row TextRow (Span first rows ∷ gs) h = go (is_further first.kind first.on && is_last rows)
+onto-first P row TextRow (Headed first next rows ∷ gs) h = h
+onto-first P row TextRow (Span first rows ∷ gs) h =
+    go (is_further first.kind first.on && takes_head first.kind) (is_further first.kind first.on && is_last rows)
   where
-    go : (x : Bool) → FirstIs P (cond x (Turned row [] first ∷ gs) (Lines row [] ∷ Span first rows ∷ gs))
-    go true = h
-    go false = h
+    go : (x y : Bool) →
+        FirstIs P
+        (cond x (Headed row first rows ∷ gs) (cond y (Turned row [] first ∷ gs) (Lines row [] ∷ Span first rows ∷ gs)))
+    go true y = h
+    go false true = h
+    go false false = h
 onto-first P row TextRow (Turned first rows under ∷ gs) h = go (goes_on row first)
   where
     go : (x : Bool) →
@@ -256,17 +282,25 @@ further-may options bytes line row is f = go row.kind refl f
     go (LeafRow l) e f =
         (laws l).meets options row.on is.rest (kind-starts options row.on is.rest l (sym is.kind ∙ e)) f
 
--- a line that goes on text is one alone: no line goes on it
+-- whether it takes the line in front of it as its head, its leaf says
+pub line-heads : (options : ParseOptions) (bytes : List ℕ) (row : Row) → (is : IsSpanLine options bytes row) →
+    (x : Bool) → takes_head row.kind ≡ x → (leaf is.name).heads ≡ x
+line-heads options bytes row is x h = ap takes_head (sym is.kind) ∙ h
+
+-- a line that goes on text, and takes no head, is one alone: no line goes on it
 pub turned-alone : (options : ParseOptions) (bytes : List ℕ) (at : OpenText) (row next : Row) (rows : List Row) →
-    row.on ≡ held_leaf.Text at → is_further row.kind row.on ≡ true → AreSpan options bytes row (next ∷ rows) → ⊥
-turned-alone options bytes at row next rows on f are =
+    row.on ≡ held_leaf.Text at → is_further row.kind row.on ≡ true → takes_head row.kind ≡ false →
+    AreSpan options bytes row (next ∷ rows) → ⊥
+turned-alone options bytes at row next rows on f h are =
     let is : IsSpanLine options bytes row = are.0 in
     let below : IsSpanLine options bytes next = span-begins options bytes next rows are.8 in
     let above : IsLineOf options bytes (leaf is.name) row = line-of options bytes row is in
     let further : (leaf is.name).further (held_leaf.Text at) ≡ true =
     ap (leaf is.name).further (sym on) ∙ line-further options bytes row is true f in
     let shut : may_go_on next.on ≡ false =
-    ap may_go_on (are.6 ∙ above.behind ∙ under-shuts at is.name further options row.on above.rest) in
+    ap may_go_on
+    (are.6 ∙ above.behind
+    ∙ under-shuts at is.name further (line-heads options bytes row is false h) options row.on above.rest) in
     let may : may_go_on next.on ≡ true = further-may options bytes below.line next below.is are.7 in
     let bad : true ≡ false = sym may ∙ shut in
     cc
@@ -309,7 +343,7 @@ line-fresh options bytes cs still p line row is fresh =
     go false = refl
 
 -- where it goes on one, no container ends in front of it, and none opens
-line-met : (options : ParseOptions) (bytes : List ℕ) (cs : List Container) (still : HeldLeaf) (p : Point)
+pub line-met : (options : ParseOptions) (bytes : List ℕ) (cs : List Container) (still : HeldLeaf) (p : Point)
     (line : List ℕ) (row : Row) →
     IsLine options bytes cs still p line row → is_further row.kind row.on ≡ true →
     (opens : row.change.opens ≡ []) × (closes : row.change.closes ≡ []) × (row.on ≡ still)
@@ -322,11 +356,11 @@ line-met options bytes cs still p line row is f =
     )
 
 -- the first line, where these containers and this leaf are open
-abbrev FirstLine : ParseOptions → List ℕ → List Container → HeldLeaf → Point → List (List ℕ) → Row → Type 0
+abbrev pub FirstLine : ParseOptions → List ℕ → List Container → HeldLeaf → Point → List (List ℕ) → Row → Type 0
 FirstLine options bytes cs still p [] row = ⊥
 FirstLine options bytes cs still p (line ∷ lines) row = IsLine options bytes cs still p line row
 
-first-line : (options : ParseOptions) (bytes : List ℕ) (cs : List Container) (still : HeldLeaf) (p : Point)
+pub first-line : (options : ParseOptions) (bytes : List ℕ) (cs : List Container) (still : HeldLeaf) (p : Point)
     (lines : List (List ℕ)) (row : Row) (rows : List Row) →
     AreRows options bytes cs still p lines (row ∷ rows) → FirstLine options bytes cs still p lines row
 first-line options bytes cs still p [] row rows h = absurd h
@@ -396,6 +430,7 @@ below-are : (options : ParseOptions) (bytes : List ℕ) (gs : List Group) → Fi
 below-are options bytes [] begins are = are
 below-are options bytes (Single row ∷ gs) begins are = are
 below-are options bytes (Lines row rows ∷ gs) begins are = are
+below-are options bytes (Headed row next rows ∷ gs) begins are = are
 below-are options bytes (Turned row rows under ∷ gs) begins are = (
   are.0,
   are.1,
@@ -410,6 +445,7 @@ first-begin : (gs : List Group) → FirstIs BeginsFresh gs → FirstBegins gs
 first-begin [] h = tt
 first-begin (Single row ∷ gs) h = tt
 first-begin (Lines row rows ∷ gs) h = tt
+first-begin (Headed row next rows ∷ gs) h = tt
 first-begin (Turned row rows under ∷ gs) h = h.1
 first-begin (Span row rows ∷ gs) h = h.0
 
@@ -428,6 +464,7 @@ pub begins-behind : (bytes : List ℕ) (p : Point) (row : Row) (gs : List Group)
 begins-behind bytes p row [] first shut = tt
 begins-behind bytes p row (Single below ∷ gs) first shut = tt
 begins-behind bytes p row (Lines below rows ∷ gs) first shut = tt
+begins-behind bytes p row (Headed below next rows ∷ gs) first shut = tt
 begins-behind bytes p row (Turned below rows under ∷ gs) first shut = behind-fresh bytes p row below first shut.1
 begins-behind bytes p row (Span below rows ∷ gs) first shut = first.begins shut.0
 
@@ -531,6 +568,8 @@ leaf-are options bytes line p row l q (Single below ∷ gs) is e after ending fi
     (span-line options bytes line p row l is e k, (q, after), are, (is.quiet, tt))
 leaf-are options bytes line p row l q (Lines below rows ∷ gs) is e after ending first are false k =
     (span-line options bytes line p row l is e k, (q, after), are, (is.quiet, tt))
+leaf-are options bytes line p row l q (Headed below next rows ∷ gs) is e after ending first are false k =
+    (span-line options bytes line p row l is e k, (q, after), are, (is.quiet, tt))
 leaf-are options bytes line p row l q (Turned below rows under ∷ gs) is e after ending first are false k = (
   span-line options bytes line p row l is e k,
   (q, after),
@@ -576,9 +615,9 @@ text-begins options bytes line p row q gs is e ends are = ((line, is.is, e), end
 -- the line that turns a text
 pub text-under : (options : ParseOptions) (bytes line : List ℕ) (row : Row) (q : Point) (below : Row) →
     row.after ≡ Some q → IsEnding bytes row.end q → IsBehind bytes q row below →
-    is_further below.kind below.on ≡ true → IsSpanLine options bytes below → HasNoContent below →
-    IsUnder options bytes row below
-text-under options bytes line row q below after ending first f is quiet =
+    is_further below.kind below.on ≡ true → takes_head below.kind ≡ false → IsSpanLine options bytes below →
+    HasNoContent below → IsUnder options bytes row below
+text-under options bytes line row q below after ending first f h is quiet =
     let met = first.met f in
     record {
       line = is.line;
@@ -593,7 +632,29 @@ text-under options bytes line row q below after ending first f is quiet =
       leaves = met.0;
       on = met.2;
       further = f;
+      heads = h;
       quiet = quiet;
+    }
+
+-- or the one that takes a line of text as its head
+pub text-head : (options : ParseOptions) (bytes line : List ℕ) (row : Row) (q : Point) (below : Row) →
+    IsRow options bytes line row → row.kind ≡ TextRow → row.after ≡ Some q → IsEnding bytes row.end q →
+    IsBehind bytes q row below → is_further below.kind below.on ≡ true → takes_head below.kind ≡ true →
+    IsHead options bytes row below
+text-head options bytes line row q below is e after ending first f h =
+    let met = first.met f in
+    record {
+      line = line;
+      is = is;
+      text = e;
+      after = q;
+      after_is = after;
+      ending = ending;
+      front = subst (λ (cs : List Container). LinePrefix bytes cs q below.first below.front) met.1 first.front;
+      leaves = met.0;
+      on = met.2;
+      further = f;
+      heads = h;
     }
 
 -- the first line of a text is one
@@ -605,25 +666,28 @@ first-text options bytes row (next ∷ rows) are = are.2
 -- definitions leave something of the line that an underline turns
 pub under-leaves : (options : ParseOptions) (bytes line : List ℕ) (row under : Row) →
     (is : IsRow options bytes line row) → (e : row.kind ≡ TextRow) → IsSpanLine options bytes under →
-    under.on ≡ row.behind → is_further under.kind under.on ≡ true → Leaves options bytes row [] (line, is, e)
+    under.on ≡ row.behind → is_further under.kind under.on ≡ true → takes_head under.kind ≡ false →
+    Leaves options bytes row [] (line, is, e)
 unfolding steps
-under-leaves options bytes line row under is e below on f =
+under-leaves options bytes line row under is e below on f h =
     let at : OpenText = open_text (step (progress_of row.on) (trim_start is.rest.bytes)) (kept is.rest) in
     let text : under.on ≡ held_leaf.Text at = on ∙ is.behind ∙ ap (line_behind options row.on is.rest) e in
     let further : (leaf below.name).further (held_leaf.Text at) ≡ true =
     ap (leaf below.name).further (sym text) ∙ line-further options bytes under below true f in
+    let name : below.name ≡ HeadingSetext =
+    further-text at below.name further (line-heads options bytes under below false h) in
     let of : IsLineOf options bytes (leaf HeadingSetext) under =
-    line-as options bytes under below HeadingSetext (below.kind ∙ ap LeafRow (further-text at below.name further)) in
+    line-as options bytes under below HeadingSetext (below.kind ∙ ap LeafRow name) in
     turn-left options at (ap (may_turn options) (sym text) ∙ setext-may options under.on of.rest of.starts)
 
--- text goes before a leaf of several lines: where its first line goes on text, it is that line alone
+-- text goes before a leaf of several lines: where its first line goes on text, that is its head, or it is one line alone
 text-span : (options : ParseOptions) (bytes line : List ℕ) (p : Point) (row : Row) (q : Point) (below : Row)
     (rows : List Row) (gs : List Group) →
     IsBegun options bytes line p row → row.kind ≡ TextRow → row.after ≡ Some q → IsEnding bytes row.end q →
     IsBehind bytes q row below → AreBelow options bytes (Span below rows ∷ gs) →
     AreBelow options bytes (onto_underline row below rows gs)
 text-span options bytes line p row q below rows gs is e after ending first are =
-    go (is_further below.kind below.on) refl rows are
+    go (is_further below.kind below.on) refl (takes_head below.kind) refl rows are
   where
     at : OpenText
     at = open_text (step (progress_of row.on) (trim_start is.is.rest.bytes)) (kept is.is.rest)
@@ -631,21 +695,30 @@ text-span options bytes line p row q below rows gs is e after ending first are =
     text : row.behind ≡ held_leaf.Text at
     text = is.is.behind ∙ ap (line_behind options row.on is.is.rest) e
 
-    go : (x : Bool) → is_further below.kind below.on ≡ x → (rows : List Row) →
+    go : (x : Bool) → is_further below.kind below.on ≡ x → (y : Bool) → takes_head below.kind ≡ y → (rows : List Row) →
         AreBelow options bytes (Span below rows ∷ gs) →
         AreBelow options bytes
-        (cond (x && is_last rows) (Turned row [] below ∷ gs) (Lines row [] ∷ Span below rows ∷ gs))
-    go true f [] are = (
-      (line, is.is, e),
-      text-under options bytes line row q below after ending first f are.0 are.3.0,
+        (cond (x && y) (Headed row below rows ∷ gs)
+        (cond (x && is_last rows) (Turned row [] below ∷ gs) (Lines row [] ∷ Span below rows ∷ gs)))
+    go true f true h rows are = (
+      text-head options bytes line row q below is.is e after ending first f h,
+      are.0,
       are.1,
       (p, is.front),
       are.2,
-      under-leaves options bytes line row below is.is e are.0 (first.met f).2 f,
+      are.3,
     )
-    go true f (next ∷ rows) are =
-        absurd (turned-alone options bytes at below next rows ((first.met f).2 ∙ text) f are.0)
-    go false f rows are =
+    go true f false h [] are = (
+      (line, is.is, e),
+      text-under options bytes line row q below after ending first f h are.0 are.3.0,
+      are.1,
+      (p, is.front),
+      are.2,
+      under-leaves options bytes line row below is.is e are.0 (first.met f).2 f h,
+    )
+    go true f false h (next ∷ rows) are =
+        absurd (turned-alone options bytes at below next rows ((first.met f).2 ∙ text) f h are.0)
+    go false f y h rows are =
         text-begins options bytes line p row q (Span below rows ∷ gs) is e (q, after)
         (are.0, are.1, are.2, are.3, f)
 
@@ -658,6 +731,8 @@ text-are options bytes line p row q [] is e after ending first are =
     text-begins options bytes line p row q [] is e tt are
 text-are options bytes line p row q (Single below ∷ gs) is e after ending first are =
     text-begins options bytes line p row q (Single below ∷ gs) is e (q, after) are
+text-are options bytes line p row q (Headed below next rows ∷ gs) is e after ending first are =
+    text-begins options bytes line p row q (Headed below next rows ∷ gs) is e (q, after) are
 text-are options bytes line p row q (Span below rows ∷ gs) is e after ending first are =
     text-span options bytes line p row q below rows gs is e after ending first are
 text-are options bytes line p row q (Turned below rows under ∷ gs) is e after ending first are =

@@ -14,7 +14,7 @@ use Rattle.md_seam.specs.Events.Nested.{pair}
 use Rattle.md_seam.specs.Substituted.{Readings, Substituted}
 use Rattle.markdown_blocks.specs.BlockList.{turned_unread}
 use Rattle.markdown_blocks.specs.Registry.{text_leaf}
-use Rattle.markdown_blocks.specs.Rows.{Group, Lines, Row, RowKind, Single, Span, TextRow, Turned, ending_of}
+use Rattle.markdown_blocks.specs.Rows.{Group, Headed, Lines, Row, RowKind, Single, Span, TextRow, Turned, ending_of}
 use Rattle.markdown_blocks.specs.Rows.{defined_done, defined_unread, group_events, group_kind, groups, groups_events}
 use Rattle.markdown_blocks.specs.Rows.{is_further, last_row, leaf_done, leaf_unread, single_events_by, span_by}
 use Rattle.markdown_blocks.specs.Rows.{span_done, tail_events, text_done, turned_done}
@@ -36,6 +36,7 @@ use Rattle.markdown_blocks.proofs.RowFacts.{AreRows}
 use Rattle.markdown_blocks.proofs.RowLeaf.{row-becomes}
 use Rattle.markdown_blocks.proofs.SubstitutedLemmas.{Becomes, Rest, Unwanted, becomes-append, becomes-same}
 use Rattle.markdown_blocks.proofs.SubstitutedLemmas.{no_links-unwanted}
+use Rattle.markdown_blocks.proofs.TablesOff.{headed-off}
 use Rattle.markdown_blocks.proofs.Text.Becomes.{text-becomes}
 use Rattle.markdown_blocks.proofs.Text.Cut.{Defines, Follows, IsCutText, Remains, between}
 use Rattle.markdown_blocks.proofs.Text.Cuts.{cut-is}
@@ -182,6 +183,8 @@ groups-become options bytes wants reads w ws rt rs (Turned row rows under ∷ gs
     (groups_events options bytes gs)
     (turned-become options bytes row rows under wants reads w ws rt rs are.0 are.1 are.5 are.3)
     (groups-become options bytes wants reads w ws rt rs gs are.4)
+groups-become options bytes wants reads w ws rt rs (Headed row next rows ∷ gs) are =
+    absurd (headed-off options bytes row next rows gs are)
 groups-become options bytes wants reads w ws rt rs (Span row rows ∷ gs) are =
     becomes-append wants reads (listed_group options bytes (Span row rows)) (group_events options bytes (Span row rows))
     (listed_groups options bytes gs) (groups_events options bytes gs)

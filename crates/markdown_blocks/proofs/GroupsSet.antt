@@ -9,8 +9,8 @@ use Rattle.md_content.specs.Paragraph.{text_link}
 use Rattle.md_definition.specs.State.{Container}
 use Rattle.markdown_blocks.specs.BlockList.{lines_unread}
 use Rattle.markdown_blocks.specs.Registry.{leaf as line_leaf, LeafName, resolved, text_leaf}
-use Rattle.markdown_blocks.specs.Rows.{Span, Turned, BlankRow, Group, LeafRow, Lines, Row, RowKind, Single, TextRow}
-use Rattle.markdown_blocks.specs.Rows.{blank_line, ending_of, groups, last_row, leaf_events, leaf_unread, row_events}
+use Rattle.markdown_blocks.specs.Rows.{Headed, Span, Turned, BlankRow, Group, LeafRow, Lines, Row, RowKind, Single}
+use Rattle.markdown_blocks.specs.Rows.{TextRow, blank_line, ending_of, groups, last_row, leaf_events, leaf_unread, row_events}
 use Rattle.markdown_blocks.specs.Rows.{row_events_by, rows_events, tail_events, is_blank_by, text_done}
 use Rattle.markdown_blocks.specs.Unread.{listed_row_by, set_groups, text_unread, unread_group, unread_groups}
 use Rattle.markdown_blocks.specs.Unread.{unread_lines}
@@ -25,6 +25,7 @@ use Rattle.markdown_blocks.proofs.OutsideLemmas.{linked-outside, tail-outside}
 use Rattle.markdown_blocks.proofs.PrefixNames.{prefixes-front}
 use Rattle.markdown_blocks.proofs.Registry.{laws, outside-passes}
 use Rattle.markdown_blocks.proofs.RowFacts.{AreRows, IsRow}
+use Rattle.markdown_blocks.proofs.TablesOff.{headed-off}
 use Rattle.markdown_blocks.proofs.Text.Cuts.{cut-is}
 use Rattle.markdown_blocks.proofs.Text.Names.{cut-each, outside-of}
 use Rattle.markdown_blocks.proofs.TextProgress.{IsShut}
@@ -126,6 +127,8 @@ groups-set options bytes (Turned row rows under ∷ gs) are =
     (under-outside options bytes (last_row row rows) under are.1))
     ∙ ap (λ (l : List Event). unread_group options bytes (Turned row rows under) ++ l)
     (groups-set options bytes gs are.4)
+groups-set options bytes (Headed row next rows ∷ gs) are =
+    absurd (headed-off options bytes row next rows gs are)
 groups-set options bytes (Span row rows ∷ gs) are =
     outside-passes (rows_events (row ∷ rows)) (unread_groups options bytes gs)
     (span-outside options bytes row rows are.0)

@@ -4,7 +4,7 @@ use Rattle.std.proofs.Common.{◌≡◌, ◌≢◌, ℕ, zero, suc, Bool, true, 
 use Rattle.std.proofs.Common.{append-nil}
 use Rattle.markdown_blocks.specs.LineFlags.{ending_name}
 use Rattle.markdown_blocks.specs.Registry.{leaf}
-use Rattle.markdown_blocks.specs.Rows.{Span, Turned, is_further, is_last, onto_leaf, onto_underline}
+use Rattle.markdown_blocks.specs.Rows.{Headed, Span, Turned, is_further, is_last, onto_leaf, onto_underline, takes_head}
 use Rattle.markdown_blocks.specs.Rows.{behind_held}
 use Rattle.std.proofs.Common.{◌∙◌, subst, append_assoc}
 use Rattle.std.specs.Prelude.{Option, Some, None}
@@ -28,13 +28,14 @@ use Rattle.markdown_blocks.specs.Rows.{leaf_behind, BlankRow, Group, Held, Lines
 use Rattle.markdown_blocks.specs.Rows.{behind_row, ending_events, ending_of, groups, held_at, inside_of, is_text}
 use Rattle.markdown_blocks.specs.Rows.{last_row, leaf_events, onto_groups, row_events, row_events_by}
 use Rattle.markdown_blocks.specs.Rows.{row_kind, rows_at, rows_by, rows_events, tail_events, LeafRow}
-use Rattle.markdown_blocks.specs.Rows as lines
 use Rattle.markdown_blocks.specs.Unread.{joined_groups, linked_lines}
 use Rattle.markdown_blocks.proofs.FrontNames.{HasFront, ends-are, ends-first, front-content, fronts-are}
 use Rattle.markdown_blocks.proofs.FrontNames.{fronts-prefixes, fronts-stop, prefixes-content}
 pub use Rattle.markdown_blocks.proofs.Span.Cuts.{ending-is}
 use Rattle.markdown_blocks.proofs.SubstitutedLemmas.{no_link-unwanted}
 use Rattle.markdown_blocks.proofs.Registry.{laws}
+use Rattle.markdown_blocks.proofs.TextGroups.{HeadsNone, NoHeads, groups-unheaded, onto_text}
+pub use Rattle.markdown_blocks.proofs.TextGroups.{lines-first, text-onto, text_group}
 use Rattle.markdown_blocks.proofs.ContentFacts.{NoContent, WantsContent, is_told, no_content-append, nothing, nothing-wanted, told-content}
 use Rattle.markdown_blocks.proofs.PrefixNames.{AreFront}
 use Rattle.markdown_blocks.proofs.ContainerNames.{container-facts, end-stops}
@@ -324,11 +325,6 @@ other-behind bytes row rows ends front h kind e other =
     go (LeafRow l) other = inside (LeafRow l)
     go TextRow other = absurd (other refl)
 
--- lines of text, and the line that turns them if one does
-abbrev pub text_group : Option Row → Row → List Row → Group
-text_group None row rows = Lines row rows
-text_group (Some under) row rows = Turned row rows under
-
 -- what such a line adds
 abbrev under_events : Option Row → List Event
 under_events None = []
@@ -339,46 +335,13 @@ abbrev before_lines : Row → List Row → List Event → List Event
 before_lines row rows es =
     ((row.front ++ linked_lines n.Content content_link row rows) ++ tail_events n.LineEnding (last_row row rows)) ++ es
 
-group-text : (o : Option Row) (row : Row) (rows : List Row) (gs : List Group) →
-    joined_groups (text_group o row rows ∷ gs) ≡ before_lines row rows (under_events o ++ joined_groups gs)
-group-text None row rows gs = refl
-group-text (Some under) row rows gs =
+group-text : (bytes : List ℕ) (o : Option Row) (row : Row) (rows : List Row) (gs : List Group) →
+    joined_groups bytes (text_group o row rows ∷ gs) ≡ before_lines row rows (under_events o ++ joined_groups bytes gs)
+group-text bytes None row rows gs = refl
+group-text bytes (Some under) row rows gs =
     append_assoc
     ((row.front ++ linked_lines n.Content content_link row rows) ++ tail_events n.LineEnding (last_row row rows))
-    (row_events under) (joined_groups gs)
-
--- a line of text in front of such
-abbrev pub onto_text : Option Row → Row → Row → List Row → List Group → List Group
-onto_text o row next rows gs =
-    cond (lines.goes_on row next) (text_group o row (next ∷ rows) ∷ gs) (Lines row [] ∷ text_group o next rows ∷ gs)
-
-pub text-onto : (o : Option Row) (row next : Row) (rows : List Row) (gs : List Group) →
-    onto_groups row TextRow (text_group o next rows ∷ gs) ≡ onto_text o row next rows gs
-text-onto None row next rows gs = refl
-text-onto (Some under) row next rows gs = refl
-
--- a line of text begins a text with those behind it
-pub lines-first : (Q : List Group → Type 0) (row : Row) (gs : List Group) →
-    ((o : Option Row) (more : List Row) (rest : List Group) → Q (text_group o row more ∷ rest)) →
-    Q (onto_groups row TextRow gs)
-lines-first Q row [] h = h None [] []
-lines-first Q row (Single first ∷ gs) h = h None [] (Single first ∷ gs)
-lines-first Q row (Turned first rows under ∷ gs) h = go (lines.goes_on row first)
-  where
-    go : (x : Bool) →
-        Q (cond x (Turned row (first ∷ rows) under ∷ gs) (Lines row [] ∷ Turned first rows under ∷ gs))
-    go true = h (Some under) (first ∷ rows) gs
-    go false = h None [] (Turned first rows under ∷ gs)
-lines-first Q row (Span first rows ∷ gs) h = go (is_further first.kind first.on && is_last rows)
-  where
-    go : (x : Bool) → Q (cond x (Turned row [] first ∷ gs) (Lines row [] ∷ Span first rows ∷ gs))
-    go true = h (Some first) [] gs
-    go false = h None [] (Span first rows ∷ gs)
-lines-first Q row (Lines first rows ∷ gs) h = go (lines.goes_on row first)
-  where
-    go : (x : Bool) → Q (cond x (Lines row (first ∷ rows) ∷ gs) (Lines row [] ∷ Lines first rows ∷ gs))
-    go true = h None (first ∷ rows) gs
-    go false = h None [] (Lines first rows ∷ gs)
+    (row_events under) (joined_groups bytes gs)
 
 -- a line that goes on
 line-joins : (front below parts tail rest : List Event) (e f : Event) →
@@ -392,11 +355,11 @@ line-joins front below parts tail rest e f =
 -- a line of text in front of a text
 text-lines : (bytes : List ℕ) (o : Option Row) (row below : Row) (more rows : List Row) (gs : List Group) (q : Point) →
     row.after ≡ Some q → HasFront bytes row → HasFront bytes below → below.kind ≡ TextRow →
-    joined (rows_events (below ∷ rows)) ≡ joined_groups (text_group o below more ∷ gs) →
+    joined (rows_events (below ∷ rows)) ≡ joined_groups bytes (text_group o below more ∷ gs) →
     joined (row_events_by TextRow row ++ rows_events (below ∷ rows)) ≡
-    joined_groups (onto_groups row TextRow (text_group o below more ∷ gs))
+    joined_groups bytes (onto_groups row TextRow (text_group o below more ∷ gs))
 text-lines bytes o row below more rows gs q after front under text same =
-    go row.leaves refl below.change.opens refl ∙ ap joined_groups (sym (text-onto o row below more gs))
+    go row.leaves refl below.change.opens refl ∙ ap (joined_groups bytes) (sym (text-onto o row below more gs))
   where
     es : List Event
     es = rows_events (below ∷ rows)
@@ -405,7 +368,7 @@ text-lines bytes o row below more rows gs q after front under text same =
     goes x = cond x (text_group o row (below ∷ more) ∷ gs) (Lines row [] ∷ text_group o below more ∷ gs)
 
     apart : (is_none row.leaves && content_behind es) ≡ false →
-        joined (row_events_by TextRow row ++ es) ≡ joined_groups (Lines row [] ∷ text_group o below more ∷ gs)
+        joined (row_events_by TextRow row ++ es) ≡ joined_groups bytes (Lines row [] ∷ text_group o below more ∷ gs)
     apart h =
         text-apart bytes row es front (tail-stops row es q after h)
         ∙ ap (λ (l : List Event). row_events_by TextRow row ++ l) same
@@ -417,9 +380,9 @@ text-lines bytes o row below more rows gs q after front under text same =
         (behind_front below (rows_events rows)) k under.1
 
     joins : row.leaves ≡ [] → below.change.opens ≡ [] →
-        joined (row_events_by TextRow row ++ es) ≡ joined_groups (text_group o row (below ∷ more) ∷ gs)
+        joined (row_events_by TextRow row ++ es) ≡ joined_groups bytes (text_group o row (below ∷ more) ∷ gs)
     joins none opens_none =
-        let behind : List Event = under_events o ++ joined_groups gs in
+        let behind : List Event = under_events o ++ joined_groups bytes gs in
         let begin = enter_link n.Content row.first content_link in
         let tail = tail_events n.LineEnding row in
         let goes_behind : content_behind es ≡ true =
@@ -438,21 +401,22 @@ text-lines bytes o row below more rows gs q after front under text same =
         (ap (λ (leaves : List Container). ends_of leaves row.end ++ ending_events n.LineEnding row) none
         ∙ ending-is n.LineEnding row q after)
         ∙ ap (λ (l : List Event). row.front ++ l) (text-goes_on row.first row.end q es goes_behind)
-        ∙ ap (λ (l : List Event). row.front ++ (begin ∷ exit n.Content q ∷ l)) (same ∙ group-text o below more gs)
+        ∙ ap (λ (l : List Event). row.front ++ (begin ∷ exit n.Content q ∷ l)) (same ∙ group-text bytes o below more gs)
         ∙ ap (λ (p : Point). row.front ++ (begin ∷ exit n.Content p ∷ before_lines below more behind))
         (sym (behind-is row q after))
         ∙ line-joins row.front below.front (linked_lines n.Content content_link below more)
         (tail_events n.LineEnding (last_row below more)) behind begin (exit n.Content (behind_row row))
-        ∙ sym (group-text o row (below ∷ more) gs)
+        ∙ sym (group-text bytes o row (below ∷ more) gs)
 
     chosen : (leaves : List Container) → row.leaves ≡ leaves → (opens : List Container) → below.change.opens ≡ opens →
-        joined_groups (onto_text o row below more gs) ≡ joined_groups (goes (is_none leaves && is_none opens))
+        joined_groups bytes (onto_text o row below more gs) ≡
+        joined_groups bytes (goes (is_none leaves && is_none opens))
     chosen leaves e opens k =
-        ap (λ (l : List Container). joined_groups (goes (is_none l && is_none below.change.opens))) e
-        ∙ ap (λ (l : List Container). joined_groups (goes (is_none leaves && is_none l))) k
+        ap (λ (l : List Container). joined_groups bytes (goes (is_none l && is_none below.change.opens))) e
+        ∙ ap (λ (l : List Container). joined_groups bytes (goes (is_none leaves && is_none l))) k
 
     go : (leaves : List Container) → row.leaves ≡ leaves → (opens : List Container) → below.change.opens ≡ opens →
-        joined (row_events_by TextRow row ++ es) ≡ joined_groups (onto_text o row below more gs)
+        joined (row_events_by TextRow row ++ es) ≡ joined_groups bytes (onto_text o row below more gs)
     go [] e [] k = joins e k ∙ sym (chosen [] e [] k)
     go [] e (c ∷ opens) k =
         apart (ap (λ (l : List Container). is_none l && content_behind es) e ∙ behind (ap is_none k))
@@ -463,70 +427,88 @@ text-lines bytes o row below more rows gs q after front under text same =
 -- A line of a leaf.
 
 -- in front of groups, it adds its own events
-leaf-joined : (ends : Bool) (row : Row) (gs : List Group) →
-    joined_groups (onto_leaf ends row gs) ≡ row_events row ++ joined_groups gs
-leaf-joined true row gs = refl
-leaf-joined false row [] = ap (λ (l : List Event). l ++ []) (append-nil (row_events row))
-leaf-joined false row (Single below ∷ gs) =
-    ap (λ (l : List Event). l ++ joined_groups (Single below ∷ gs)) (append-nil (row_events row))
-leaf-joined false row (Lines below rows ∷ gs) =
-    ap (λ (l : List Event). l ++ joined_groups (Lines below rows ∷ gs)) (append-nil (row_events row))
-leaf-joined false row (Turned below rows under ∷ gs) =
-    ap (λ (l : List Event). l ++ joined_groups (Turned below rows under ∷ gs)) (append-nil (row_events row))
-leaf-joined false row (Span below rows ∷ gs) = go (is_further below.kind below.on)
+leaf-joined : (bytes : List ℕ) (ends : Bool) (row : Row) (gs : List Group) →
+    joined_groups bytes (onto_leaf ends row gs) ≡ row_events row ++ joined_groups bytes gs
+leaf-joined bytes true row gs = refl
+leaf-joined bytes false row [] = ap (λ (l : List Event). l ++ []) (append-nil (row_events row))
+leaf-joined bytes false row (Single below ∷ gs) =
+    ap (λ (l : List Event). l ++ joined_groups bytes (Single below ∷ gs)) (append-nil (row_events row))
+leaf-joined bytes false row (Lines below rows ∷ gs) =
+    ap (λ (l : List Event). l ++ joined_groups bytes (Lines below rows ∷ gs)) (append-nil (row_events row))
+leaf-joined bytes false row (Turned below rows under ∷ gs) =
+    ap (λ (l : List Event). l ++ joined_groups bytes (Turned below rows under ∷ gs)) (append-nil (row_events row))
+leaf-joined bytes false row (Headed below next rows ∷ gs) =
+    ap (λ (l : List Event). l ++ joined_groups bytes (Headed below next rows ∷ gs)) (append-nil (row_events row))
+leaf-joined bytes false row (Span below rows ∷ gs) = go (is_further below.kind below.on)
   where
     go : (x : Bool) →
-        joined_groups (cond x (Span row (below ∷ rows) ∷ gs) (Span row [] ∷ Span below rows ∷ gs)) ≡
-        row_events row ++ joined_groups (Span below rows ∷ gs)
-    go true = append_assoc (row_events row) (rows_events (below ∷ rows)) (joined_groups gs)
-    go false = ap (λ (l : List Event). l ++ joined_groups (Span below rows ∷ gs)) (append-nil (row_events row))
+        joined_groups bytes (cond x (Span row (below ∷ rows) ∷ gs) (Span row [] ∷ Span below rows ∷ gs)) ≡
+        row_events row ++ joined_groups bytes (Span below rows ∷ gs)
+    go true = append_assoc (row_events row) (rows_events (below ∷ rows)) (joined_groups bytes gs)
+    go false = ap (λ (l : List Event). l ++ joined_groups bytes (Span below rows ∷ gs)) (append-nil (row_events row))
 
 -- a line of text in front of the lines of a leaf, of which the first may be its underline
-span-first : (row below : Row) (rows : List Row) (gs : List Group) →
-    joined_groups (onto_underline row below rows gs) ≡ row_events_by TextRow row ++ joined_groups (Span below rows ∷ gs)
-span-first row below rows gs = go (is_further below.kind below.on) rows
+span-first : (bytes : List ℕ) (row below : Row) (rows : List Row) (gs : List Group) →
+    (is_further below.kind below.on && takes_head below.kind) ≡ false →
+    joined_groups bytes (onto_underline row below rows gs) ≡
+    row_events_by TextRow row ++ joined_groups bytes (Span below rows ∷ gs)
+span-first bytes row below rows gs none =
+    ap
+    (λ (x : Bool).
+    joined_groups bytes
+    (cond x (Headed row below rows ∷ gs)
+    (cond (is_further below.kind below.on && is_last rows) (Turned row [] below ∷ gs)
+    (Lines row [] ∷ Span below rows ∷ gs))))
+    none
+    ∙ go (is_further below.kind below.on) rows
   where
     go : (x : Bool) (rows : List Row) →
-        joined_groups (cond (x && is_last rows) (Turned row [] below ∷ gs) (Lines row [] ∷ Span below rows ∷ gs)) ≡
-        row_events_by TextRow row ++ joined_groups (Span below rows ∷ gs)
+        joined_groups bytes
+        (cond (x && is_last rows) (Turned row [] below ∷ gs) (Lines row [] ∷ Span below rows ∷ gs)) ≡
+        row_events_by TextRow row ++ joined_groups bytes (Span below rows ∷ gs)
     go true [] =
-        append_assoc (row_events_by TextRow row) (row_events below) (joined_groups gs)
-        ∙ ap (λ (l : List Event). row_events_by TextRow row ++ (l ++ joined_groups gs))
+        append_assoc (row_events_by TextRow row) (row_events below) (joined_groups bytes gs)
+        ∙ ap (λ (l : List Event). row_events_by TextRow row ++ (l ++ joined_groups bytes gs))
         (sym (append-nil (row_events below)))
     go true (next ∷ rows) = refl
     go false rows = refl
 
-pub leaf-first : (ends : Bool) (row below : Row) (gs : List Group) →
-    joined_groups (onto_groups row TextRow (onto_leaf ends below gs)) ≡
-    row_events_by TextRow row ++ joined_groups (onto_leaf ends below gs)
-leaf-first true row below gs = refl
-leaf-first false row below [] = span-first row below [] []
-leaf-first false row below (Single next ∷ gs) = span-first row below [] (Single next ∷ gs)
-leaf-first false row below (Lines next rows ∷ gs) = span-first row below [] (Lines next rows ∷ gs)
-leaf-first false row below (Turned next rows under ∷ gs) = span-first row below [] (Turned next rows under ∷ gs)
-leaf-first false row below (Span next rows ∷ gs) = go (is_further next.kind next.on)
+pub leaf-first : (bytes : List ℕ) (ends : Bool) (row below : Row) (gs : List Group) →
+    (is_further below.kind below.on && takes_head below.kind) ≡ false →
+    joined_groups bytes (onto_groups row TextRow (onto_leaf ends below gs)) ≡
+    row_events_by TextRow row ++ joined_groups bytes (onto_leaf ends below gs)
+leaf-first bytes true row below gs none = refl
+leaf-first bytes false row below [] none = span-first bytes row below [] [] none
+leaf-first bytes false row below (Single next ∷ gs) none = span-first bytes row below [] (Single next ∷ gs) none
+leaf-first bytes false row below (Lines next rows ∷ gs) none = span-first bytes row below [] (Lines next rows ∷ gs) none
+leaf-first bytes false row below (Turned next rows under ∷ gs) none =
+    span-first bytes row below [] (Turned next rows under ∷ gs) none
+leaf-first bytes false row below (Headed next second rows ∷ gs) none =
+    span-first bytes row below [] (Headed next second rows ∷ gs) none
+leaf-first bytes false row below (Span next rows ∷ gs) none = go (is_further next.kind next.on)
   where
     go : (x : Bool) →
         let gs' = cond x (Span below (next ∷ rows) ∷ gs) (Span below [] ∷ Span next rows ∷ gs) in
-        joined_groups (onto_groups row TextRow gs') ≡ row_events_by TextRow row ++ joined_groups gs'
-    go true = span-first row below (next ∷ rows) gs
-    go false = span-first row below [] (Span next rows ∷ gs)
+        joined_groups bytes (onto_groups row TextRow gs') ≡ row_events_by TextRow row ++ joined_groups bytes gs'
+    go true = span-first bytes row below (next ∷ rows) gs none
+    go false = span-first bytes row below [] (Span next rows ∷ gs) none
 
 -- a line of text in front of others
 text-rows : (bytes : List ℕ) (row below : Row) (rows : List Row) (q : Point) → row.after ≡ Some q →
-    EachFront bytes (row ∷ below ∷ rows) → EachEnds (below ∷ rows) → NoContent nothing below.inside → (kind : RowKind) →
+    EachFront bytes (row ∷ below ∷ rows) → EachEnds (below ∷ rows) → NoContent nothing below.inside →
+    (is_further below.kind below.on && takes_head below.kind) ≡ false → NoHeads (below ∷ rows) → (kind : RowKind) →
     below.kind ≡ kind →
-    joined (rows_events (below ∷ rows)) ≡ joined_groups (onto_groups below kind (groups rows)) →
+    joined (rows_events (below ∷ rows)) ≡ joined_groups bytes (onto_groups below kind (groups rows)) →
     joined (row_events_by TextRow row ++ rows_events (below ∷ rows)) ≡
-    joined_groups (onto_groups row TextRow (onto_groups below kind (groups rows)))
-text-rows bytes row below rows q after fronts ends h kind e same = go kind e same
+    joined_groups bytes (onto_groups row TextRow (onto_groups below kind (groups rows)))
+text-rows bytes row below rows q after fronts ends h none heads kind e same = go kind e same
   where
     es : List Event
     es = rows_events (below ∷ rows)
 
     other : (kind : RowKind) → below.kind ≡ kind → kind ≢ TextRow → (gs : List Group) →
-        joined es ≡ joined_groups gs →
-        joined (row_events_by TextRow row ++ es) ≡ row_events_by TextRow row ++ joined_groups gs
+        joined es ≡ joined_groups bytes gs →
+        joined (row_events_by TextRow row ++ es) ≡ row_events_by TextRow row ++ joined_groups bytes gs
     other kind e apart gs same =
         text-apart bytes row es fronts.0
         (tail-stops row es q after
@@ -534,31 +516,38 @@ text-rows bytes row below rows q after fronts ends h kind e same = go kind e sam
         (other-behind bytes below rows ends fronts.1.0 h kind e apart)))
         ∙ ap (λ (l : List Event). row_events_by TextRow row ++ l) same
 
-    go : (kind : RowKind) → below.kind ≡ kind → joined es ≡ joined_groups (onto_groups below kind (groups rows)) →
+    go : (kind : RowKind) → below.kind ≡ kind →
+        joined es ≡ joined_groups bytes (onto_groups below kind (groups rows)) →
         joined (row_events_by TextRow row ++ es) ≡
-        joined_groups (onto_groups row TextRow (onto_groups below kind (groups rows)))
+        joined_groups bytes (onto_groups row TextRow (onto_groups below kind (groups rows)))
     go BlankRow e same = other BlankRow e (λ k. cc) (Single below ∷ groups rows) same
     go (LeafRow l) e same =
         other (LeafRow l) e (λ k. cc) (onto_leaf (leaf l).ends below (groups rows)) same
-        ∙ sym (leaf-first (leaf l).ends row below (groups rows))
+        ∙ sym (leaf-first bytes (leaf l).ends row below (groups rows) none)
     go TextRow e same =
         lines-first
         (λ (gs : List Group).
-        joined es ≡ joined_groups gs →
-        joined (row_events_by TextRow row ++ es) ≡ joined_groups (onto_groups row TextRow gs)) below
+        joined es ≡ joined_groups bytes gs →
+        joined (row_events_by TextRow row ++ es) ≡ joined_groups bytes (onto_groups row TextRow gs)) below
         (groups rows)
-        (λ o more rest same. text-lines bytes o row below more rows rest q after fronts.0 fronts.1.0 e same) same
+        (λ o more rest same. text-lines bytes o row below more rows rest q after fronts.0 fronts.1.0 e same)
+        (λ next more rest is head same. absurd (headless next more rest is head)) same
+      where
+        headless : (next : Row) (more : List Row) (rest : List Group) → groups rows ≡ Span next more ∷ rest →
+            (is_further next.kind next.on && takes_head next.kind) ≡ true → ⊥
+        headless next more rest is head =
+            let bad : true ≡ false = sym head ∙ subst HeadsNone is (groups-unheaded below rows e heads) in cc
 
 -- a line that is not text, and what follows it
-single-rows : (row : Row) (rows : List Row) → NoContent nothing (row_events row) →
-    joined (rows_events rows) ≡ joined_groups (groups rows) →
-    joined (row_events row ++ rows_events rows) ≡ joined_groups (Single row ∷ groups rows)
-single-rows row rows h same =
+single-rows : (bytes : List ℕ) (row : Row) (rows : List Row) → NoContent nothing (row_events row) →
+    joined (rows_events rows) ≡ joined_groups bytes (groups rows) →
+    joined (row_events row ++ rows_events rows) ≡ joined_groups bytes (Single row ∷ groups rows)
+single-rows bytes row rows h same =
     joined-passes (row_events row) (rows_events rows) h ∙ ap (λ (l : List Event). row_events row ++ l) same
 
 -- the last line is text
 text-last : (bytes : List ℕ) (row : Row) → HasFront bytes row →
-    joined (row_events_by TextRow row ++ []) ≡ joined_groups (Lines row [] ∷ [])
+    joined (row_events_by TextRow row ++ []) ≡ joined_groups bytes (Lines row [] ∷ [])
 text-last bytes row front = text-apart bytes row [] front (go row.leaves row.after)
   where
     go : (leaves : List Container) (after : Option Point) →
@@ -573,39 +562,41 @@ text-last bytes row front = text-apart bytes row [] front (go row.leaves row.aft
 -- Joined, the events of lines are those of their groups: lines of text that follow one another in the same containers
 -- are joined.
 pub joined-rows : (bytes : List ℕ) (rows : List Row) → EachFront bytes rows → EachEnds rows → EachNoContent rows →
-    joined (rows_events rows) ≡ joined_groups (groups rows)
-joined-rows bytes [] fronts ends h = refl
-joined-rows bytes (row ∷ []) fronts ends h = go row.kind refl
+    NoHeads rows →
+    joined (rows_events rows) ≡ joined_groups bytes (groups rows)
+joined-rows bytes [] fronts ends h none = refl
+joined-rows bytes (row ∷ []) fronts ends h none = go row.kind refl
   where
     other : (kind : RowKind) → row.kind ≡ kind → kind ≢ TextRow →
-        joined (row_events row ++ []) ≡ joined_groups (Single row ∷ [])
+        joined (row_events row ++ []) ≡ joined_groups bytes (Single row ∷ [])
     other kind e apart =
-        single-rows row []
+        single-rows bytes row []
         (events-no_content nothing row kind e apart (has_front-no_content nothing bytes row fronts.0)
         (h.0 nothing nothing-wanted)) refl
 
-    go : (kind : RowKind) → row.kind ≡ kind → joined (row_events row ++ []) ≡ joined_groups (onto_groups row kind [])
+    go : (kind : RowKind) → row.kind ≡ kind → joined (row_events row ++ []) ≡ joined_groups bytes (onto_groups row kind [])
     go BlankRow e = other BlankRow e (λ k. cc)
-    go (LeafRow l) e = other (LeafRow l) e (λ k. cc) ∙ sym (leaf-joined (leaf l).ends row [])
+    go (LeafRow l) e = other (LeafRow l) e (λ k. cc) ∙ sym (leaf-joined bytes (leaf l).ends row [])
     go TextRow e = ap (λ (kind : RowKind). joined (row_events_by kind row ++ [])) e ∙ text-last bytes row fronts.0
-joined-rows bytes (row ∷ below ∷ rows) fronts ends h =
-    go (joined-rows bytes (below ∷ rows) fronts.1 ends.2 h.1) row.kind refl
+joined-rows bytes (row ∷ below ∷ rows) fronts ends h none =
+    go (joined-rows bytes (below ∷ rows) fronts.1 ends.2 h.1 none.1) row.kind refl
   where
-    other : joined (rows_events (below ∷ rows)) ≡ joined_groups (groups (below ∷ rows)) → (kind : RowKind) →
+    other : joined (rows_events (below ∷ rows)) ≡ joined_groups bytes (groups (below ∷ rows)) → (kind : RowKind) →
         row.kind ≡ kind → kind ≢ TextRow →
-        joined (row_events row ++ rows_events (below ∷ rows)) ≡ joined_groups (Single row ∷ groups (below ∷ rows))
+        joined (row_events row ++ rows_events (below ∷ rows)) ≡ joined_groups bytes (Single row ∷ groups (below ∷ rows))
     other same kind e apart =
-        single-rows row (below ∷ rows)
+        single-rows bytes row (below ∷ rows)
         (events-no_content nothing row kind e apart (has_front-no_content nothing bytes row fronts.0)
         (h.0 nothing nothing-wanted)) same
 
-    go : joined (rows_events (below ∷ rows)) ≡ joined_groups (groups (below ∷ rows)) → (kind : RowKind) →
+    go : joined (rows_events (below ∷ rows)) ≡ joined_groups bytes (groups (below ∷ rows)) → (kind : RowKind) →
         row.kind ≡ kind →
         joined (row_events row ++ rows_events (below ∷ rows)) ≡
-        joined_groups (onto_groups row kind (groups (below ∷ rows)))
+        joined_groups bytes (onto_groups row kind (groups (below ∷ rows)))
     go same BlankRow e = other same BlankRow e (λ k. cc)
     go same (LeafRow l) e =
-        other same (LeafRow l) e (λ k. cc) ∙ sym (leaf-joined (leaf l).ends row (groups (below ∷ rows)))
+        other same (LeafRow l) e (λ k. cc) ∙ sym (leaf-joined bytes (leaf l).ends row (groups (below ∷ rows)))
     go same TextRow e =
         ap (λ (kind : RowKind). joined (row_events_by kind row ++ rows_events (below ∷ rows))) e
-        ∙ text-rows bytes row below rows ends.0 ends.1 fronts ends.2 (h.1.0 nothing nothing-wanted) below.kind refl same
+        ∙ text-rows bytes row below rows ends.0 ends.1 fronts ends.2 (h.1.0 nothing nothing-wanted) (none.0 e) none.1
+        below.kind refl same

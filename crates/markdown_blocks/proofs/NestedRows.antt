@@ -6,7 +6,7 @@ use Rattle.markdown_blocks.proofs.GroupsAre.{AreSpan, Begins, FirstBegins, First
 use Rattle.markdown_blocks.proofs.GroupsAre.{Leaves, behind-fresh, behind-on, first-text, leaf-fresh, leaves-left}
 use Rattle.markdown_blocks.proofs.GroupsAre.{leaves-longer, under-leaves, unjoined-fresh}
 use Rattle.markdown_blocks.proofs.GroupsAre.{begins-behind, blank-ends, first-begins, first-behind, leaf-other}
-use Rattle.markdown_blocks.proofs.GroupsAre.{leaf-row-ends, shut-behind, text-under, turned-alone}
+use Rattle.markdown_blocks.proofs.GroupsAre.{leaf-row-ends, shut-behind, span-begins, text-under, turned-alone}
 use Rattle.std.proofs.Common.{◌≡◌, ◌≢◌, ℕ, Bool, true, false, cond, ◌&&◌, List, [], ◌∷◌, ◌++◌, refl, ap, sym, ◌∙◌}
 use Rattle.std.proofs.Common.{append_assoc, append-nil, subst}
 use Rattle.std.specs.Prelude.{IsTrue, Option, Some, None}
@@ -22,10 +22,10 @@ use Rattle.md_seam.proofs.NestedLemmas.{at_or_before-refl, balanced-none, forwar
 use Rattle.md_seam.proofs.NestedLemmas.{open_after-append}
 use Rattle.markdown_blocks.specs.Change.{Change, ends_of, is_none, open_behind}
 use Rattle.markdown_blocks.specs.Fronted.{contained, rest_from, rest_line}
-use Rattle.markdown_blocks.specs.Rows.{Span, Turned, is_further, is_last, onto_leaf, final_row, first_row, group_done}
+use Rattle.markdown_blocks.specs.Rows.{Headed, Span, Turned, is_further, is_last, onto_leaf, final_row, first_row}
 use Rattle.markdown_blocks.specs.Rows.{LeafRow, BlankRow, Group, Lines, Row, RowKind, Single, TextRow}
 use Rattle.markdown_blocks.specs.Rows.{behind_row, closes_before, ending_events, goes_on, groups, groups_events}
-use Rattle.markdown_blocks.specs.Rows.{last_row, onto_groups, tail_events}
+use Rattle.markdown_blocks.specs.Rows.{group_done, last_row, onto_groups, tail_events, takes_head}
 use Rattle.markdown_blocks.proofs.ContainedLemmas.{contained-shapes, none-nil}
 use Rattle.markdown_blocks.proofs.FrontFacts.{LinePrefix}
 use Rattle.markdown_blocks.proofs.FrontLemmas.{Turns, ends-spans, ends-turn, fronts-spans, fronts-turn, names-append}
@@ -34,6 +34,7 @@ use Rattle.markdown_blocks.proofs.JoinedLemmas.{behind-is, behind-none}
 use Rattle.markdown_blocks.proofs.GroupFacts.{IsGroupLeaf, single-leaf, span-group, text-leaf, turned-leaf}
 use Rattle.markdown_blocks.proofs.GroupLemmas.{AreLines}
 use Rattle.markdown_blocks.proofs.RowLeaf.{EndsOnLine}
+use Rattle.markdown_blocks.proofs.TablesOff.{none-headed}
 use Rattle.markdown_blocks.proofs.Text.Order.{ending-order}
 use Rattle.markdown_blocks.proofs.RowFacts.{AreRows, IsEnding, IsLine, IsRow, behind_line}
 use Rattle.markdown_blocks.proofs.SpanLemmas.{Nested_in, Spans}
@@ -172,6 +173,7 @@ abbrev Begun : ParseOptions → List ℕ → (List Name → Point → List Group
     Type 0
 Begun options bytes P names p [] = Unit {0}
 Begun options bytes P names p (Single row ∷ gs) = Unit {0}
+Begun options bytes P names p (Headed row next rows ∷ gs) = Unit {0}
 Begun options bytes P names p (Lines row rows ∷ gs) = Lined options bytes P names p row rows gs
 Begun options bytes P names p (Turned row rows under ∷ gs) = UnderLined options bytes P names p row rows under gs
 Begun options bytes P names p (Span row rows ∷ gs) = Spanned options bytes P names p row rows gs
@@ -322,6 +324,7 @@ onto-holds options bytes line P by names kept p q row gs begun ended first below
         go [] ended first below h = one [] (h tt)
         go (Single next ∷ gs) ended first below h = one (Single next ∷ gs) (h tt)
         go (Lines next rows ∷ gs) ended first below h = one (Lines next rows ∷ gs) (h tt)
+        go (Headed next below_it rows ∷ gs) ended first below h = one (Headed next below_it rows ∷ gs) (h tt)
         go (Turned next rows under ∷ gs) ended first below h =
             one (Turned next rows under ∷ gs)
             (h (behind-fresh bytes q row next first (leaf-fresh options bytes line row l begun.is e)))
@@ -362,8 +365,8 @@ onto-holds options bytes line P by names kept p q row gs begun ended first below
     -- the line that turns this one
     underline : row.kind ≡ TextRow → (next : Row) (gs : List Group) → Ended bytes row (Span next [] ∷ gs) →
         IsBehind bytes q row next → Spanned options bytes P kept (behind_row row) next [] gs →
-        is_further next.kind next.on ≡ true → Both_of (Turned row [] next ∷ gs)
-    underline e next gs ended first below f =
+        is_further next.kind next.on ≡ true → takes_head next.kind ≡ false → Both_of (Turned row [] next ∷ gs)
+    underline e next gs ended first below f headless =
         let met = first.met f in
         let is : IsSpanLine options bytes next = below.are in
         let text = text-open options bytes row [] (line, begun.is, e) in
@@ -380,9 +383,9 @@ onto-holds options bytes line P by names kept p q row gs begun ended first below
           front = begun.front;
           are = (line, begun.is, e);
           is =
-              text-under options bytes line row ended.0 next ended.1 ended.2 behind f is
-              (further-quiet options bytes is.line next is.name text.0 is.is is.kind (met.2 ∙ text.1) f);
-          leaves = under-leaves options bytes line row next begun.is e is met.2 f;
+              text-under options bytes line row ended.0 next ended.1 ended.2 behind f headless is
+              (further-quiet options bytes is.line next is.name text.0 is.is is.kind (met.2 ∙ text.1) f headless);
+          leaves = under-leaves options bytes line row next begun.is e is met.2 f headless;
           ends = below.ends;
           kept = below.kept;
           keeps = both next next below.kept met.0 met.1 below.keeps;
@@ -394,6 +397,7 @@ onto-holds options bytes line P by names kept p q row gs begun ended first below
         Both_of (onto_groups row TextRow gs)
     lines e [] ended first below h = alone e [] (h tt)
     lines e (Single next ∷ gs) ended first below h = alone e (Single next ∷ gs) (h tt)
+    lines e (Headed next below_it rows ∷ gs) ended first below h = alone e (Headed next below_it rows ∷ gs) (h tt)
     lines e (Turned next rows under ∷ gs) ended first below h = joins (goes_on row next) refl
       where
         joins : (x : Bool) → goes_on row next ≡ x →
@@ -417,18 +421,25 @@ onto-holds options bytes line P by names kept p q row gs begun ended first below
               keeps = both next under below.kept leaves opens below.keeps;
               more = below.more;
             })
-    lines e (Span next rows ∷ gs) ended first below h = joins rows (is_further next.kind next.on) refl below h
+    lines e (Span next rows ∷ gs) ended first below h =
+        joins rows (is_further next.kind next.on) refl (takes_head next.kind) refl below h
       where
-        joins : (rows : List Row) (x : Bool) → is_further next.kind next.on ≡ x →
-            Spanned options bytes P kept (behind_row row) next rows gs →
+        joins : (rows : List Row) (x : Bool) → is_further next.kind next.on ≡ x → (y : Bool) →
+            takes_head next.kind ≡ y → Spanned options bytes P kept (behind_row row) next rows gs →
             (Begins next → P kept (behind_row row) (Span next rows ∷ gs)) →
-            Both_of (cond (x && is_last rows) (Turned row [] next ∷ gs) (Lines row [] ∷ Span next rows ∷ gs))
-        joins rows false f below h = alone e (Span next rows ∷ gs) (h f)
-        joins [] true f below h = underline e next gs ended first below f
-        joins (more ∷ rows) true f below h =
+            Both_of
+            (cond (x && y) (Headed row next rows ∷ gs)
+            (cond (x && is_last rows) (Turned row [] next ∷ gs) (Lines row [] ∷ Span next rows ∷ gs)))
+        joins rows false f y head below h = alone e (Span next rows ∷ gs) (h f)
+        joins rows true f true head below h =
+            absurd
+            (let is : IsSpanLine options bytes next = span-begins options bytes next rows below.are in
+            none-headed options bytes line is.line row next begun.is e is.is (first.met f).2 head)
+        joins [] true f false head below h = underline e next gs ended first below f head
+        joins (more ∷ rows) true f false head below h =
             absurd
             (let text = text-open options bytes row [] (line, begun.is, e) in
-            turned-alone options bytes text.0 next more rows ((first.met f).2 ∙ text.1) f below.are)
+            turned-alone options bytes text.0 next more rows ((first.met f).2 ∙ text.1) f head below.are)
     lines e (Lines next rows ∷ gs) ended first below h = joins (goes_on row next) refl
       where
         joins : (x : Bool) → goes_on row next ≡ x →

@@ -14,7 +14,7 @@ use Rattle.md_engine.specs.World.{World}
 use Rattle.md_containers.specs.ItemsHeld.{ItemsHeld}
 use Rattle.md_containers.specs.ItemsStand.{ItemsStand, root}
 use Rattle.md_containers.specs.Listed.{listed}
-use Rattle.markdown_blocks.specs.FlowReads.{lines_joined}
+use Rattle.markdown_blocks.specs.FlowReads.{lines_joined, tables_set}
 use Rattle.md_containers.proofs.ListedBlocks.{IsUnlisted, listed-blocks, listed-covers}
 use Rattle.md_containers.proofs.ListedFilled.{listed-plain}
 use Rattle.md_containers.proofs.ListedGrammar.{listed-grammar}
@@ -23,6 +23,7 @@ use Rattle.md_containers.proofs.ListedNests.{listed-nested}
 use Rattle.md_containers.proofs.ListedParts.{listed-parts}
 use Rattle.md_containers.proofs.ListedReads.{listed-spelled}
 use Rattle.md_content.specs.ContentReads.{content_readings, wants_content}
+use Rattle.md_content.specs.Joined.{joined}
 use Rattle.md_content.specs.Labels.{labels_in}
 use Rattle.md_definition.specs.Grouped.{grouped}
 use Rattle.md_definition.specs.Label.{labels}
@@ -45,7 +46,7 @@ use Rattle.markdown_blocks.specs.Document.{body_point, mark_events}
 use Rattle.markdown_blocks.specs.FlowReads.{FlowReads, text_cells, text_rows}
 use Rattle.markdown_blocks.specs.Parsed.{IsBuilt, IsSmall, reads_plain}
 use Rattle.markdown_blocks.specs.Registry.{resolved}
-use Rattle.markdown_blocks.specs.Rows.{Row, groups, groups_events}
+use Rattle.markdown_blocks.specs.Rows.{Row, groups, groups_events, rows_events}
 use Rattle.markdown_blocks.specs.Unread.{listed_groups, unread_groups}
 use Rattle.markdown_blocks.proofs.BetweenRows.{rows-between}
 use Rattle.markdown_blocks.proofs.EndingRows.{blocks-endings, events-endings}
@@ -70,6 +71,8 @@ use Rattle.markdown_blocks.proofs.PieceRows.{blocks-pieces, events-pieces}
 use Rattle.markdown_blocks.proofs.PlainEvents.{groups-unlisted}
 use Rattle.markdown_blocks.proofs.RowFacts.{AreRows}
 use Rattle.markdown_blocks.proofs.RowLemmas.{fresh-rows}
+use Rattle.markdown_blocks.proofs.TabledGroups.{tables-set}
+use Rattle.markdown_blocks.proofs.TablesOff.{heads-kept}
 use Rattle.markdown_blocks.proofs.TileCovers.{blocks-cover}
 use Rattle.markdown_blocks.proofs.TileParts.{blocks-chunks, blocks-nested, blocks-stand}
 use Rattle.markdown_blocks.proofs.TileReads.{groups-empty, text-filled}
@@ -96,7 +99,7 @@ text-are : (options : ParseOptions) (bytes : List ℕ) → IsBuilt options → l
 text-are options bytes built small =
     fresh-rows options bytes (body_point bytes) built small (body-index bytes) (body-vs bytes) (body-column bytes)
 
--- The events of a text, once flow and content were read.
+-- The events of a text, once flow and content were read, and heads of tables in front of content.
 content-are : (options : ParseOptions) (bytes : List ℕ) → IsBuilt options → length bytes < 2 ^ 61 →
     (found : Found) (new : World) → (flow : FlowReads bytes options (body_point bytes) found new) →
     flow.content ≡ unread_groups options bytes (groups (rows_of options bytes))
@@ -104,20 +107,26 @@ content-are options bytes built small found new flow =
     content-read options bytes [] held_leaf.None (body_point bytes) (lines_of bytes) (rows_of options bytes)
     (refl, refl) (text-are options bytes built small) (text-quiet options bytes (body_point bytes))
     wants_content (content_readings bytes options) refl content-alone
-    (content-reads options bytes) flow.content flow.content_read
+    (content-reads options bytes) flow.content
+    (subst
+    (λ (l : List Event). Substituted wants_content (content_readings bytes options) [] 0 (joined l) flow.content)
+    (heads-kept options bytes (rows_events (rows_of options bytes)) built.gfm_table) flow.content_read)
 
--- Then the resolvers of leaves ran, setext headings were set, the lines of each leaf of several were joined, and lists
--- were put around items.
+-- Then the resolvers of leaves ran, setext headings were set, the lines of each leaf of several were joined, tables got
+-- their cells, and lists were put around items.
 resolved-are : (options : ParseOptions) (bytes : List ℕ) → IsBuilt options → length bytes < 2 ^ 61 →
     (found : Found) (new : World) → (flow : FlowReads bytes options (body_point bytes) found new) →
     new.events ≡ listed bytes (listed_groups options bytes (groups (rows_of options bytes)))
 resolved-are options bytes built small found new flow =
     flow.events_are
-    ∙ ap (λ (l : List Event). listed bytes (lines_joined options (turned (resolved l))))
+    ∙ ap (λ (l : List Event). listed bytes (tables_set options (lines_joined options (turned (resolved l)))))
     (content-are options bytes built small found new flow)
-    ∙ ap (listed bytes)
+    ∙ ap (λ (l : List Event). listed bytes (tables_set options l))
     (lines-joined options bytes [] held_leaf.None (body_point bytes) (lines_of bytes) (rows_of options bytes)
     (refl, refl) (text-are options bytes built small) (text-quiet options bytes (body_point bytes)))
+    ∙ ap (listed bytes)
+    (tables-set options bytes [] held_leaf.None (body_point bytes) (lines_of bytes) (rows_of options bytes)
+    built.gfm_table (refl, refl) (text-are options bytes built small) (text-quiet options bytes (body_point bytes)))
 
 -- The labels that content found are those of the tree.
 labels-are : (options : ParseOptions) (bytes : List ℕ) → IsBuilt options → length bytes < 2 ^ 61 →

@@ -2,7 +2,7 @@
 use Rattle.md_engine.specs.declared.tokenizer.held_leaf.HeldLeaf.TheVariants as held_leaf
 use Rattle.md_engine.specs.declared.tokenizer.held_leaf.HeldLeaf.{HeldLeaf}
 use Rattle.std.proofs.Common.{◌≡◌, ℕ, Bool, true, false, cond, List, [], ◌∷◌, ◌++◌, slice_range, refl, ap, sym, subst}
-use Rattle.markdown_blocks.specs.Rows.{Span, Turned}
+use Rattle.markdown_blocks.specs.Rows.{Headed, Span, Turned}
 use Rattle.std.proofs.Common.{arith}
 use Rattle.std.specs.Prelude.{Option, Some, None}
 use Rattle.md_engine.specs.declared.configuration.ParseOptions.{ParseOptions}
@@ -104,6 +104,7 @@ final-stands : (bytes : List ℕ) (group : Group) → OfGroup (LineStands bytes)
 final-stands bytes (Single row) h = h
 final-stands bytes (Lines row rows) h = last-each (LineStands bytes) row rows h.0 h.1
 final-stands bytes (Turned row rows under) h = h.2
+final-stands bytes (Headed row next rows) h = last-each (LineStands bytes) next rows h.1 h.2
 final-stands bytes (Span row rows) h = last-each (LineStands bytes) row rows h.0 h.1
 
 -- what stands in front of the first line of a group, in its place, and behind it

@@ -4,7 +4,7 @@ use Rattle.md_engine.specs.declared.tokenizer.held_leaf.HeldLeaf.{HeldLeaf}
 use Rattle.md_outline.specs.Roles.{is_plain, is_told}
 use Rattle.std.proofs.Common.{◌≡◌, ℕ, Bool, true, false, ◌||◌, not, List, [], ◌∷◌, ◌++◌, map, refl, sym, subst}
 use Rattle.markdown_blocks.specs.LineFlags.{ending_name}
-use Rattle.markdown_blocks.specs.Rows.{Span, Turned}
+use Rattle.markdown_blocks.specs.Rows.{Headed, Span, Turned}
 use Rattle.std.specs.Prelude.{Option, Some, None}
 use Rattle.std.specs.List.{list_all}
 use Rattle.std.specs.Str.{IsUtf8}
@@ -107,12 +107,14 @@ first-plain : (bytes : List ℕ) (group : Group) → OfGroup (IsPlainRow bytes) 
 first-plain bytes (Single row) h = h
 first-plain bytes (Lines row rows) h = h.0
 first-plain bytes (Turned row rows under) h = h.0
+first-plain bytes (Headed row next rows) h = h.0
 first-plain bytes (Span row rows) h = h.0
 
 final-plain : (bytes : List ℕ) (group : Group) → OfGroup (IsPlainRow bytes) group → IsPlainRow bytes (final_row group)
 final-plain bytes (Single row) h = h
 final-plain bytes (Lines row rows) h = last-each (IsPlainRow bytes) row rows h.0 h.1
 final-plain bytes (Turned row rows under) h = h.2
+final-plain bytes (Headed row next rows) h = last-each (IsPlainRow bytes) next rows h.1 h.2
 final-plain bytes (Span row rows) h = last-each (IsPlainRow bytes) row rows h.0 h.1
 
 -- groups of such rows

@@ -36,6 +36,7 @@ front-unspanned n.CodeIndented h = cc
 front-unspanned n.CodeFenced h = cc
 front-unspanned n.MathFlow h = cc
 front-unspanned n.HtmlFlow h = cc
+front-unspanned n.GfmTable h = cc
 front-unspanned n.CodeFlowChunk h = cc
 front-unspanned _ h = refl
 

@@ -28,12 +28,13 @@ use Rattle.markdown_blocks.specs.Change.{ends_of}
 use Rattle.markdown_blocks.specs.FlowReads.{lines_joined}
 use Rattle.markdown_blocks.specs.LineFlags.{ending_name}
 use Rattle.markdown_blocks.specs.Registry.{LeafName, further_of, leaf, resolved, text_leaf, turn_leaf, joins_lines}
-use Rattle.markdown_blocks.specs.Rows.{BlankRow, Group, LeafRow, Lines, Row, RowKind, Single, Span, TextRow, Turned}
+use Rattle.markdown_blocks.specs.Rows.{BlankRow, Group, Headed, LeafRow, Lines, Row, RowKind, Single, Span, TextRow}
+use Rattle.markdown_blocks.specs.Rows.{Turned}
 use Rattle.markdown_blocks.specs.Rows.{but_end, but_ends, end_of, ending_events, ending_of, groups, last_row}
 use Rattle.markdown_blocks.specs.Rows.{any_framed, blank_line, is_framed, leaf_events, span_behind}
 use Rattle.markdown_blocks.specs.Rows.{leaf_unread, row_events, rows_events, span_by, span_rest, tail_events}
 use Rattle.markdown_blocks.specs.Rows.{defined_unread, is_blank_by, text_done, turned_done}
-use Rattle.markdown_blocks.specs.Unread.{linked_lines, listed_group, listed_groups, listed_row_by, text_unread}
+use Rattle.markdown_blocks.specs.Unread.{linked_lines, listed_group, listed_row_by, spanned_groups, text_unread}
 use Rattle.markdown_blocks.specs.Unread.{turned_groups, unread_groups, unread_lines}
 use Rattle.markdown_blocks.proofs.EachEvent.{each-append, each-as}
 use Rattle.markdown_blocks.proofs.FrontNames.{HasFront, ends-are, fronts-are, fronts-prefixes}
@@ -51,6 +52,7 @@ use Rattle.markdown_blocks.proofs.SpanLaws.{AreBehind, IsBare, IsLineOf, IsNone,
 use Rattle.markdown_blocks.proofs.SpannedFacts.{AreUnspanned, IsUnspanned, fronts-unspanned, unspanned-lines}
 use Rattle.markdown_blocks.proofs.SpannedFacts.{unspanned-pass}
 use Rattle.markdown_blocks.proofs.SubstitutedLemmas.{EachPrefixed}
+use Rattle.markdown_blocks.proofs.TablesOff.{headed-off}
 use Rattle.markdown_blocks.proofs.Text.Cut.{between}
 use Rattle.markdown_blocks.proofs.Text.Cuts.{cut-is}
 use Rattle.markdown_blocks.proofs.Text.Names.{IsOfDefinition, between-names, cut-each, defined-names, unspanned-of}
@@ -687,6 +689,8 @@ groups-ahead options bytes (Turned row rows under ∷ gs) are =
     (unspanned-lines (listed_group options bytes (Turned row rows under))
     (turned-unspanned options bytes row rows under are.0 are.1 are.5 are.3))
     (groups-ahead options bytes gs are.4)
+groups-ahead options bytes (Headed row next rows ∷ gs) are =
+    absurd (headed-off options bytes row next rows gs are)
 groups-ahead options bytes (Span row rows ∷ gs) are =
     let of_leaf : AreOfLeaf options bytes row rows = span-leaf options bytes row rows are.0 are.4 in
     let kind = together-kind row rows (span-together options bytes row rows are.0) in
@@ -701,7 +705,7 @@ groups-ahead options bytes (Span row rows ∷ gs) are =
 
 -- so each leaf of several lines is joined by itself
 groups-joined : (options : ParseOptions) (bytes : List ℕ) (gs : List Group) → AreGroups options bytes gs →
-    spanned (turned_groups options bytes gs) ≡ listed_groups options bytes gs
+    spanned (turned_groups options bytes gs) ≡ spanned_groups options bytes gs
 groups-joined options bytes [] are = refl
 groups-joined options bytes (Single row ∷ gs) are =
     passed (listed_group options bytes (Single row)) (turned_groups options bytes gs)
@@ -716,6 +720,8 @@ groups-joined options bytes (Turned row rows under ∷ gs) are =
     (turned-unspanned options bytes row rows under are.0 are.1 are.5 are.3)
     ∙ ap (λ (l : List Event). listed_group options bytes (Turned row rows under) ++ l)
     (groups-joined options bytes gs are.4)
+groups-joined options bytes (Headed row next rows ∷ gs) are =
+    absurd (headed-off options bytes row next rows gs are)
 groups-joined options bytes (Span row rows ∷ gs) are =
     span-joined options bytes row rows (turned_groups options bytes gs) are.0 are.4
     (groups-ahead options bytes gs are.2)
@@ -723,7 +729,7 @@ groups-joined options bytes (Span row rows ∷ gs) are =
 
 -- where none is read there is nothing to join
 groups-apart : (options : ParseOptions) (bytes : List ℕ) (gs : List Group) → joins_lines options ≡ false →
-    AreGroups options bytes gs → turned_groups options bytes gs ≡ listed_groups options bytes gs
+    AreGroups options bytes gs → turned_groups options bytes gs ≡ spanned_groups options bytes gs
 groups-apart options bytes [] none are = refl
 groups-apart options bytes (Single row ∷ gs) none are =
     ap (λ (l : List Event). listed_group options bytes (Single row) ++ l) (groups-apart options bytes gs none are.1)
@@ -732,6 +738,8 @@ groups-apart options bytes (Lines row rows ∷ gs) none are =
 groups-apart options bytes (Turned row rows under ∷ gs) none are =
     ap (λ (l : List Event). listed_group options bytes (Turned row rows under) ++ l)
     (groups-apart options bytes gs none are.4)
+groups-apart options bytes (Headed row next rows ∷ gs) none are =
+    absurd (headed-off options bytes row next rows gs are)
 groups-apart options bytes (Span row rows ∷ gs) none are =
     let of_leaf : AreOfLeaf options bytes row rows = span-leaf options bytes row rows are.0 are.4 in
     let joins =
@@ -744,7 +752,7 @@ pub lines-joined : (options : ParseOptions) (bytes : List ℕ) (open_before : Li
     (p : Point) (lines : List (List ℕ)) (rows : List Row) →
     IsShut still → AreRows options bytes open_before still p lines rows → EachNoContent rows →
     lines_joined options (turned (resolved (unread_groups options bytes (groups rows)))) ≡
-    listed_groups options bytes (groups rows)
+    spanned_groups options bytes (groups rows)
 lines-joined options bytes open_before still p lines rows shut are quiet =
     ap (lines_joined options) (headings-set options bytes open_before still p lines rows shut are quiet)
     ∙ go (joins_lines options) refl
@@ -757,6 +765,6 @@ lines-joined options bytes open_before still p lines rows shut are quiet =
 
     go : (x : Bool) → joins_lines options ≡ x →
         cond x (spanned (turned_groups options bytes gs)) (turned_groups options bytes gs) ≡
-        listed_groups options bytes gs
+        spanned_groups options bytes gs
     go true e = groups-joined options bytes gs laid
     go false e = groups-apart options bytes gs e laid

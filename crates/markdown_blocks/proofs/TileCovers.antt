@@ -22,7 +22,8 @@ use Rattle.md_seam.proofs.InlineLemmas.{same-refl}
 use Rattle.markdown_blocks.specs.Registry.{leaf, container_name}
 use Rattle.markdown_blocks.specs.Change.{ends_of}
 use Rattle.markdown_blocks.specs.Document.{body_point, mark_end, mark_events}
-use Rattle.markdown_blocks.specs.Rows.{Span, Turned, final_row, first_row, group_ending, is_further, onto_leaf, LeafRow}
+use Rattle.markdown_blocks.specs.Rows.{Headed, Span, Turned, final_row, first_row, group_ending, is_further, onto_leaf}
+use Rattle.markdown_blocks.specs.Rows.{LeafRow, takes_head}
 use Rattle.markdown_blocks.specs.Rows.{BlankRow, Group, Lines, Row, RowKind, Single, TextRow, behind_row}
 use Rattle.markdown_blocks.specs.Rows.{ending_events, goes_on as joins_on, groups, is_last, last_row, onto_groups}
 use Rattle.markdown_blocks.specs.Rows.{tail_events}
@@ -101,6 +102,7 @@ leaf-behind p row false [] = refl
 leaf-behind p row false (Single below ∷ gs) = refl
 leaf-behind p row false (Lines below rows ∷ gs) = refl
 leaf-behind p row false (Turned below rows under ∷ gs) = refl
+leaf-behind p row false (Headed below next rows ∷ gs) = refl
 leaf-behind p row false (Span below rows ∷ gs) = go (is_further below.kind below.on)
   where
     go : (x : Bool) →
@@ -122,14 +124,18 @@ onto-behind p row TextRow (Turned below rows under ∷ gs) = go (joins_on row be
         behind_groups (behind_row under) gs
     go true = refl
     go false = refl
-onto-behind p row TextRow (Span below rows ∷ gs) = go (is_further below.kind below.on) rows
+onto-behind p row TextRow (Headed below next rows ∷ gs) = refl
+onto-behind p row TextRow (Span below rows ∷ gs) = go (is_further below.kind below.on) (takes_head below.kind) rows
   where
-    go : (x : Bool) (rows : List Row) →
-        behind_groups p (cond (x && is_last rows) (Turned row [] below ∷ gs) (Lines row [] ∷ Span below rows ∷ gs)) ≡
+    go : (x y : Bool) (rows : List Row) →
+        behind_groups p
+        (cond (x && y) (Headed row below rows ∷ gs)
+        (cond (x && is_last rows) (Turned row [] below ∷ gs) (Lines row [] ∷ Span below rows ∷ gs))) ≡
         behind_groups (behind_row (last_row below rows)) gs
-    go true [] = refl
-    go true (next ∷ rows) = refl
-    go false rows = refl
+    go true true rows = refl
+    go true false [] = refl
+    go true false (next ∷ rows) = refl
+    go false y rows = refl
 onto-behind p row TextRow (Lines below rows ∷ gs) = go (joins_on row below)
   where
     go : (x : Bool) →

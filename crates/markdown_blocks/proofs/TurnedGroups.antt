@@ -23,7 +23,8 @@ use Rattle.markdown_blocks.specs.Change.{ends_of}
 use Rattle.markdown_blocks.specs.HeldLeaf.{has_lines, may_go_on, takes_lazy}
 use Rattle.markdown_blocks.specs.LineFlags.{ending_name}
 use Rattle.markdown_blocks.specs.Registry.{LeafName, container_name, leaf, resolved, text_leaf, turn_leaf}
-use Rattle.markdown_blocks.specs.Rows.{BlankRow, Group, LeafRow, Lines, Row, RowKind, Single, Span, TextRow, Turned}
+use Rattle.markdown_blocks.specs.Rows.{BlankRow, Group, Headed, LeafRow, Lines, Row, RowKind, Single, Span, TextRow}
+use Rattle.markdown_blocks.specs.Rows.{Turned}
 use Rattle.markdown_blocks.specs.Rows.{blank_line, ending_events, ending_of, groups, is_blank_by, is_further, last_row}
 use Rattle.markdown_blocks.specs.Rows.{leaf_events, leaf_unread, row_events, rows_events, tail_events, defined_unread}
 use Rattle.markdown_blocks.specs.Rows.{text_done, turned_done}
@@ -48,6 +49,7 @@ use Rattle.markdown_blocks.proofs.RowFacts.{AreRows}
 use Rattle.markdown_blocks.proofs.Span.Cuts.{ending-is}
 use Rattle.markdown_blocks.proofs.SpanLaws.{IsLineOf}
 use Rattle.markdown_blocks.proofs.SubstitutedLemmas.{EachPrefixed}
+use Rattle.markdown_blocks.proofs.TablesOff.{headed-off}
 use Rattle.markdown_blocks.proofs.Text.Cut.{IsCutText, between}
 use Rattle.markdown_blocks.proofs.Text.Cut.IsCutText.{Defines, Follows, Remains}
 use Rattle.markdown_blocks.proofs.Text.Cuts.{cut-is}
@@ -267,6 +269,8 @@ groups-unlined options bytes (Turned row rows under ∷ gs) are =
     subst Unlined
     (sym (append_assoc (unread_group options bytes (Lines row rows)) (row_events under) (set_groups options bytes gs)))
     (text-unlined options bytes row rows (row_events under ++ set_groups options bytes gs) are.0 are.3)
+groups-unlined options bytes (Headed row next rows ∷ gs) are =
+    absurd (headed-off options bytes row next rows gs are)
 groups-unlined options bytes (Span row rows ∷ gs) are =
     unlined-passed (rows_events (row ∷ rows)) (set_groups options bytes gs)
     (span-unturned options bytes row rows are.0 (λ f. let bad : true ≡ false = sym f ∙ are.4 in cc))
@@ -460,6 +464,8 @@ groups-turned options bytes (Turned row rows under ∷ gs) are =
     heading-turned options bytes row rows under (set_groups options bytes gs) are.0 are.1 are.5 are.3
     ∙ ap (λ (l : List Event). listed_group options bytes (Turned row rows under) ++ l)
     (groups-turned options bytes gs are.4)
+groups-turned options bytes (Headed row next rows ∷ gs) are =
+    absurd (headed-off options bytes row next rows gs are)
 groups-turned options bytes (Span row rows ∷ gs) are =
     passed (rows_events (row ∷ rows)) (set_groups options bytes gs)
     (span-unturned options bytes row rows are.0 (λ f. let bad : true ≡ false = sym f ∙ are.4 in cc))

@@ -1,4 +1,5 @@
--- A line that goes on text, and takes no line of it as a head, is the underline of a setext heading.
+-- A line that goes on text is one of a table, if it takes the last line of that as its head, or else the underline of a
+-- setext heading.
 use Rattle.std.proofs.Common.{◌≡◌, true, false, refl, ap}
 use Rattle.md_engine.specs.declared.configuration.ParseOptions.{ParseOptions}
 use Rattle.md_engine.specs.declared.tokenizer.held_leaf.HeldLeaf.{HeldLeaf}
@@ -25,3 +26,16 @@ further-text at GfmTable f h = cc
 pub under-shuts : (at : OpenText) (l : LeafName) → (leaf l).further (held_leaf.Text at) ≡ true → (leaf l).heads ≡ false →
     (options : ParseOptions) (on : HeldLeaf) (r : Rest) → (leaf l).holds options on r ≡ held_leaf.None
 under-shuts at l f h options on r = ap (λ (l : LeafName). (leaf l).holds options on r) (further-text at l f h)
+
+-- a line that takes one as its head is one of a table
+pub heads-table : (l : LeafName) → (leaf l).heads ≡ true → l ≡ GfmTable
+heads-table CodeIndented h = cc
+heads-table CodeFurther h = cc
+heads-table Fence h = cc
+heads-table FenceFurther h = cc
+heads-table HtmlFlow h = cc
+heads-table HtmlFurther h = cc
+heads-table HeadingAtx h = cc
+heads-table HeadingSetext h = cc
+heads-table ThematicBreak h = cc
+heads-table GfmTable h = refl

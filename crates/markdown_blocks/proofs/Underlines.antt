@@ -1,4 +1,5 @@
--- A line that goes on text is an underline: no content stands in it, and something stands on it.
+-- A line that goes on text, and takes no line of it as a head, is an underline: no content stands in it, and something
+-- stands on it.
 use Rattle.std.proofs.Common.{◌≡◌, ℕ, Bool, true, false, List, refl, ap, sym, ◌∙◌, subst}
 use Rattle.std.specs.Prelude.{Some, None}
 use Rattle.md_engine.specs.declared.configuration.ParseOptions.{ParseOptions}
@@ -10,7 +11,7 @@ use Rattle.markdown_blocks.specs.Fronted.{rest_line}
 use Rattle.markdown_blocks.specs.HeldLeaf.{has_lines}
 use Rattle.markdown_blocks.specs.Leaf.HeadingSetext.{setext_leaf, underline_line}
 use Rattle.markdown_blocks.specs.Registry.{HeadingSetext, LeafName, leaf}
-use Rattle.markdown_blocks.specs.Rows.{LeafRow, Row, RowKind, is_blank_by, is_further, last_row}
+use Rattle.markdown_blocks.specs.Rows.{LeafRow, Row, RowKind, is_blank_by, is_further, last_row, takes_head}
 use Rattle.markdown_blocks.proofs.ContentFacts.{NoContent}
 use Rattle.markdown_blocks.proofs.GroupsAre.{AreLines, IsUnder}
 use Rattle.markdown_blocks.proofs.HeadingSetext.Line.{underline-each, underline-unspanned}
@@ -31,13 +32,14 @@ underline-no_content wants line p =
     (underline-each (IsNoContent wants) (λ q. (refl, refl), λ q. (refl, refl)) (λ q. (refl, refl), λ q. (refl, refl))
     (λ q. (refl, refl), λ q. (refl, refl)) line p)
 
--- so none stands in a line that goes on text
+-- so none stands in a line that goes on text, and takes no line of it as a head
 pub further-quiet : (options : ParseOptions) (bytes line : List ℕ) (row : Row) (l : LeafName) (at : OpenText) →
     IsRow options bytes line row → row.kind ≡ LeafRow l → row.on ≡ held_leaf.Text at → is_further row.kind row.on ≡ true →
-    HasNoContent row
-further-quiet options bytes line row l at is kind on further wants w =
+    takes_head row.kind ≡ false → HasNoContent row
+further-quiet options bytes line row l at is kind on further heads wants w =
     let name : l ≡ HeadingSetext = further-text at l
-    (ap (leaf l).further (sym on) ∙ ap (λ (k : RowKind). is_further k row.on) (sym kind) ∙ further) in
+    (ap (leaf l).further (sym on) ∙ ap (λ (k : RowKind). is_further k row.on) (sym kind) ∙ further)
+    (ap takes_head (sym kind) ∙ heads) in
     subst (NoContent wants) (sym (is.leaf_is HeadingSetext (kind ∙ ap LeafRow name)))
     (underline-no_content wants line row.first)
 

@@ -104,7 +104,7 @@ row-turns P of run next p es h =
     each-append P (row.closes run p ++ row.opens next p) es
     (each-append P (row.closes run p) (row.opens next p) (row-closes P of run p) (row-opens P of next p)) h
 
-row-cells : (P : Event → Type 0) → OfRow P → (run : row.Run) (cells : List Cell) (p : Point) →
+pub row-cells : (P : Event → Type 0) → OfRow P → (run : row.Run) (cells : List Cell) (p : Point) →
     Each P (row.runs run cells p)
 row-cells P of run [] p = row-closes P of run p
 row-cells P of run (c ∷ cs) p =
@@ -160,7 +160,7 @@ table-added_each P of options _ line p =
     delimiter-line P of _ p (past_text line p) (delimiter-bytes P of.of delimiter.Apart line p)
 
 -- No part of a line is rewritten,
-of-outside : OfTable IsOutside
+pub of-outside : OfTable IsOutside
 of-outside = record {
   begins = λ q. refl;
   ends = λ q. refl;

@@ -21,7 +21,8 @@ use Rattle.markdown_blocks.specs.BlockList.{lines_unread, text_unread, turned_un
 use Rattle.markdown_blocks.specs.Fed.{close_containers}
 use Rattle.markdown_blocks.specs.LineFlags.{ending_name}
 use Rattle.markdown_blocks.specs.Registry.{further_of, leaf, text_leaf}
-use Rattle.markdown_blocks.specs.Rows.{BlankRow, Group, LeafRow, Lines, Row, RowKind, Single, Span, TextRow, Turned}
+use Rattle.markdown_blocks.specs.Rows.{BlankRow, Group, Headed, LeafRow, Lines, Row, RowKind, Single, Span, TextRow}
+use Rattle.markdown_blocks.specs.Rows.{Turned}
 use Rattle.markdown_blocks.specs.Rows.{defined_done, group_events, is_blank_by, leaf_done, leaf_events, span_done}
 use Rattle.markdown_blocks.specs.Rows.{defined_unread, ending_of, groups_events, last_row, lines_done}
 use Rattle.markdown_blocks.specs.Rows.{heading_done, row_events, rows_events, tail_events, text_done, turned_done}
@@ -50,6 +51,7 @@ use Rattle.markdown_blocks.proofs.SpanLaws.{come_behind}
 use Rattle.markdown_blocks.proofs.SpelledGroups.{read-fronts, read-tail}
 use Rattle.markdown_blocks.proofs.SpelledParagraphs.{fronts-between}
 use Rattle.markdown_blocks.proofs.SpelledPaths.{close_containers-between, enters}
+use Rattle.markdown_blocks.proofs.TablesOff.{headed-off}
 use Rattle.markdown_blocks.proofs.Text.Cut.{IsCutText, between}
 use Rattle.markdown_blocks.proofs.Text.Cut.IsCutText.{Defines, Follows, Remains}
 use Rattle.markdown_blocks.proofs.Text.Cuts.{cut-is}
@@ -379,6 +381,8 @@ groups-labelled options bytes (Turned row rows under ∷ gs) are =
     (group_events options bytes (Turned row rows under)) (unread_groups options bytes gs)
     (groups_events options bytes gs) (turned-labelled options bytes row rows under are.0 are.1 are.5 are.3)
     (groups-labelled options bytes gs are.4)
+groups-labelled options bytes (Headed row next rows ∷ gs) are =
+    absurd (headed-off options bytes row next rows gs are)
 groups-labelled options bytes (Span row rows ∷ gs) are =
     labelled-append bytes (unread_group options bytes (Span row rows)) (group_events options bytes (Span row rows))
     (unread_groups options bytes gs) (groups_events options bytes gs)

@@ -1,5 +1,5 @@
 -- The line that turns a text is an underline, and where it stands.
-use Rattle.std.proofs.Common.{◌≡◌, ℕ, true, List, [], ◌∷◌, sym, ap, ◌∙◌}
+use Rattle.std.proofs.Common.{◌≡◌, ℕ, true, false, List, [], ◌∷◌, sym, ap, ◌∙◌}
 use Rattle.std.specs.Prelude.{Some}
 use Rattle.md_engine.specs.declared.configuration.ParseOptions.{ParseOptions}
 use Rattle.md_engine.specs.declared.event.Point.{Point}
@@ -11,7 +11,7 @@ use Rattle.md_parts.specs.OpenText.{open_text}
 use Rattle.md_parts.specs.Progress.{progress_of, step}
 use Rattle.markdown_blocks.specs.Leaf.HeadingSetext.{setext_leaf}
 use Rattle.markdown_blocks.specs.Registry.{HeadingSetext, leaf}
-use Rattle.markdown_blocks.specs.Rows.{LeafRow, Row, RowKind, is_further, last_row, line_behind}
+use Rattle.markdown_blocks.specs.Rows.{LeafRow, Row, RowKind, is_further, last_row, line_behind, takes_head}
 use Rattle.markdown_blocks.proofs.FrontFacts.{LinePrefix}
 use Rattle.markdown_blocks.proofs.GroupsAre.{AreLines, IsUnder}
 use Rattle.markdown_blocks.proofs.HeadingSetext.Kinds.{setext-starts}
@@ -42,18 +42,19 @@ text-open options bytes row (next ∷ rows) h = text-open options bytes next row
 -- so a line that goes on it goes on text, and is one
 pub under-text : (options : ParseOptions) (bytes : List ℕ) (row : Row) (rows : List Row) (under : Row) →
     AreLines options bytes row rows → (is : IsUnder options bytes (last_row row rows) under) →
-    (at : OpenText) × ((leaf is.name).further (held_leaf.Text at) ≡ true)
+    (at : OpenText) × (further : (leaf is.name).further (held_leaf.Text at) ≡ true) × ((leaf is.name).heads ≡ false)
 under-text options bytes row rows under h is =
     let text = text-open options bytes row rows h in (
       text.0,
       ap (leaf is.name).further (sym (is.on ∙ text.1)) ∙ ap (λ (kind : RowKind). is_further kind under.on) (sym is.kind)
           ∙ is.further,
+      ap takes_head (sym is.kind) ∙ is.heads,
     )
 
 pub under-is : (options : ParseOptions) (bytes : List ℕ) (row : Row) (rows : List Row) (under : Row) →
     AreLines options bytes row rows → (is : IsUnder options bytes (last_row row rows) under) → is.name ≡ HeadingSetext
 under-is options bytes row rows under h is =
-    let text = under-text options bytes row rows under h is in further-text text.0 is.name text.1
+    let text = under-text options bytes row rows under h is in further-text text.0 is.name text.1 text.2
 
 -- and it turns the text
 abbrev pub under-turns : (options : ParseOptions) (bytes : List ℕ) (row : Row) (rows : List Row) (under : Row) →
