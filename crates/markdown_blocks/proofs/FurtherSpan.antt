@@ -12,22 +12,56 @@ use Rattle.md_definition.specs.State.{Leaf, OpenTable, then_leaf}
 use Rattle.md_definition.specs.Step.{is_concrete}
 use Rattle.md_definition.specs.Table.{row_cells}
 use Rattle.md_definition.specs.Tree.{Blocks, Table}
+use Rattle.md_leaves.specs.HeadingSetext.{is_text}
 use Rattle.md_outline.specs.HeadingDepths.{are_shallow}
 use Rattle.markdown_blocks.specs.HeldLeaf.{IsBuiltLeaf, has_lines, kind_of_leaf, left_by}
 use Rattle.markdown_blocks.specs.Leaf.GfmTable.{may_be_table, table_leaf}
-use Rattle.markdown_blocks.specs.Registry.{GfmTable, LeafName, further_of, insider, leaf, shuts_out}
-use Rattle.markdown_blocks.specs.Rows.{BlankRow, LeafRow, RowKind, inside_or, kind_of, line_kind}
+use Rattle.markdown_blocks.specs.Registry.{GfmTable, IsOpenSpan, LeafName, first_of, further_of, insider, leaf, shuts_out}
+use Rattle.markdown_blocks.specs.Rows.{BlankRow, LeafRow, RowKind, inside_or, is_further, kind_of, line_kind}
 use Rattle.markdown_blocks.proofs.GfmTable.Found.{table-goes}
 use Rattle.markdown_blocks.proofs.KindLemmas.{kind-plain}
 use Rattle.markdown_blocks.proofs.OpenSpan.{ComesShallow, OpenSpan}
-use Rattle.markdown_blocks.proofs.Registry.{came_of, insider-open, leaf_at}
+use Rattle.markdown_blocks.proofs.Registry.{came_of, insider-open, leaf_at, open-span}
 use Rattle.markdown_blocks.proofs.ShallowBlocks.{shallow-then}
 use Rattle.markdown_blocks.proofs.TableStarts.{asked-untabled, untabled}
-use Rattle.markdown_blocks.proofs.TablesFound.{or_table, other_at, table-last, untext-found}
+use Rattle.markdown_blocks.proofs.TablesFound.{or_table, other_at, other_trials, table-last, untext-found}
 
 -- the kind of a line that goes on no leaf of several lines
 abbrev pub other_kind : ParseOptions → HeldLeaf → Rest → RowKind
 other_kind options on r = cond (is_blank r.bytes) BlankRow (kind_of (other_at options on r))
+
+-- it goes on none indeed
+abbrev AllApart : List LeafName → Type 0
+AllApart [] = Unit {0}
+AllApart (l ∷ ls) = ((on : HeldLeaf) → has_lines on ≡ true → (leaf l).further on ≡ false) × AllApart ls
+
+others-apart : AllApart other_trials
+others-apart = (
+  λ on h. refl,
+  (λ on h. refl, (λ on h. refl, (λ on h. refl, (setext-apart, (λ on h. refl, tt))))),
+)
+  where
+    setext-apart : (on : HeldLeaf) → has_lines on ≡ true → is_text on ≡ false
+    setext-apart (held_leaf.Text at) h = cc
+    setext-apart _ h = refl
+
+first-apart : (on : HeldLeaf) (test : LeafName → Bool) (ls : List LeafName) → has_lines on ≡ true → AllApart ls →
+    is_further (kind_of (first_of test ls)) on ≡ false
+first-apart on test [] lines all = refl
+first-apart on test (l ∷ ls) lines all = go (test l) (first-apart on test ls lines all.1)
+  where
+    go : (x : Bool) → is_further (kind_of (first_of test ls)) on ≡ false →
+        is_further (kind_of (cond x (Some l) (first_of test ls))) on ≡ false
+    go true below = all.0 on lines
+    go false below = below
+
+pub other-begins : (options : ParseOptions) (on : HeldLeaf) (r : Rest) → has_lines on ≡ true →
+    is_further (other_kind options on r) on ≡ false
+other-begins options on r lines = go (is_blank r.bytes)
+  where
+    go : (x : Bool) → is_further (cond x BlankRow (kind_of (other_at options on r))) on ≡ false
+    go true = refl
+    go false = first-apart on (λ l. (leaf l).starts options on r) other_trials lines others-apart
 
 pub record FurtherSpan (open_leaf : Leaf) : Type 0 where
   pub name : LeafName
@@ -52,7 +86,7 @@ pub record FurtherSpan (open_leaf : Leaf) : Type 0 where
   pub closed : (options : ParseOptions) (bs : Blocks) → are_shallow bs ≡ true →
       are_shallow (then_leaf options bs open_leaf) ≡ true
 
--- Where no line of a table goes on, another leaf takes the line, or none.
+-- Where the line meets no table and no text, no line of a table goes on it.
 pub untabled-at : (options : ParseOptions) (on : HeldLeaf) (r : Rest) → may_be_table on ≡ false →
     leaf_at options on r ≡ other_at options on r
 untabled-at options on r none =
@@ -141,3 +175,7 @@ table-further delimiter rows built = record {
         ap (λ (o : Option Came). cond (is_some o) None (Some (come options r)))
         (untext-found options held_leaf.Table NoText r refl refl e)
         ∙ by options r (other_at options held_leaf.Table r)
+
+-- what may be open in what is built
+pub further-span : (open_leaf : Leaf) → IsOpenSpan open_leaf → FurtherSpan open_leaf
+further-span open_leaf is = asked-further open_leaf (open-span open_leaf is)

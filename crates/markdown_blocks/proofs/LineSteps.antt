@@ -25,20 +25,19 @@ use Rattle.markdown_blocks.specs.Change.{Change, change_by, interrupts, is_none,
 use Rattle.markdown_blocks.specs.Fronted.{Contained, Prefixed, contained, no_prefix, one_more, prefixes_new}
 use Rattle.markdown_blocks.specs.Fronted.{prefixes_behind, prefixes_on}
 use Rattle.markdown_blocks.specs.Parsed.{IsBuilt}
-use Rattle.markdown_blocks.specs.Registry.{LeafName, first_of, insider, leaf, shuts_out, text_leaf, trials}
-use Rattle.markdown_blocks.specs.Rows.{BlankRow, LeafRow, RowKind, TextRow, inside_or, is_further, is_lazy, is_text}
+use Rattle.markdown_blocks.specs.Registry.{LeafName, leaf, shuts_out, text_leaf}
+use Rattle.markdown_blocks.specs.Rows.{BlankRow, LeafRow, RowKind, TextRow, is_further, is_lazy, is_text, takes_head}
 use Rattle.markdown_blocks.specs.Rows.{kind_of, line_kind}
 use Rattle.markdown_blocks.specs.HeldLeaf.{IsBuiltLeaf, kind_of_leaf, met_by}
 use Rattle.markdown_blocks.specs.Stands.{IsPlain, containers_of, still_of}
-use Rattle.markdown_blocks.specs.Leaf.GfmTable.{may_be_table}
-use Rattle.markdown_blocks.specs.Leaf.Paragraph.{held_of, open_lines, then_front}
+use Rattle.markdown_blocks.specs.Leaf.Paragraph.{held_of, open_lines}
 use Rattle.markdown_blocks.proofs.ContainedLemmas.{change-opens, ended-open, lazy-some, lines-unlazy}
 use Rattle.markdown_blocks.proofs.KindLemmas.{kind-plain, kind-starts}
-use Rattle.markdown_blocks.proofs.OpenSpan.{AllBegin, OpenSpan}
-use Rattle.markdown_blocks.proofs.Registry.{IsAgainst, came_of, insider-none, laws, leaf_at, open-span, text-laws}
-use Rattle.markdown_blocks.proofs.Registry.{shuts_out-none, text-starts, trials-begin}
-use Rattle.markdown_blocks.proofs.RegistryFound.{lazy_on, starts-found, text-comes, text_came, text_on}
-use Rattle.markdown_blocks.proofs.TableStarts.{asked-untabled}
+use Rattle.markdown_blocks.proofs.FurtherSpan.{FurtherSpan, further-span, other-begins, other_kind, untabled-at}
+use Rattle.markdown_blocks.proofs.Registry.{IsAgainst, came_of, insider-none, laws, leaf_at, text-laws}
+use Rattle.markdown_blocks.proofs.Registry.{shuts_out-none, text-starts}
+use Rattle.markdown_blocks.proofs.RegistryFound.{lazy_on, starts-found, text_on}
+use Rattle.markdown_blocks.proofs.TablesFound.{front_before, other_at, text-comes, text_came, untext-found}
 
 -- Leaves of several lines.
 
@@ -76,11 +75,13 @@ context-none (held_leaf.Fence marker size indent) unlazy = refl
 context-none (held_leaf.Html kind) unlazy = refl
 context-none held_leaf.Table unlazy = refl
 
--- no definitions stand at the front of what is no text
-pub front-unlazy : (options : ParseOptions) (bs : Blocks) (open_leaf : Leaf) →
-    takes_lazy (kind_of_leaf open_leaf) ≡ false → then_front options bs open_leaf ≡ bs
-front-unlazy options bs (OpenParagraph lines) unlazy = cc
-front-unlazy options bs _ unlazy = refl
+-- nothing stands in front of what is no text
+pub front-unlazy : (heads : Bool) (options : ParseOptions) (bs : Blocks) (open_leaf : Leaf) →
+    takes_lazy (kind_of_leaf open_leaf) ≡ false → front_before heads options bs open_leaf ≡ bs
+front-unlazy true options bs (OpenParagraph lines) unlazy = cc
+front-unlazy true options bs _ unlazy = refl
+front-unlazy false options bs (OpenParagraph lines) unlazy = cc
+front-unlazy false options bs _ unlazy = refl
 
 -- by the line definition one goes on or ends, and takes no lazy line
 span-line : (options : ParseOptions) (s : Spot) (r : Rest) (open_leaf : Leaf) →
@@ -101,7 +102,7 @@ built-concrete : (open_leaf : Leaf) → IsBuiltLeaf open_leaf →
 built-concrete open_leaf plain =
     text-laws.cases (λ (l : Leaf). is_concrete l ≡ shuts_out (kind_of_leaf l))
     (sym (shuts_out-none held_leaf.None refl))
-    (λ k ks. sym (shuts_out-none (text_on (k ∷ ks)) refl)) (λ l is. (open-span l is).concrete) open_leaf plain
+    (λ k ks. sym (shuts_out-none (text_on (k ∷ ks)) refl)) (λ l is. (further-span l is).concrete) open_leaf plain
 
 -- the first of them interrupts what is open if that is text
 text-interrupted : (open_leaf : Leaf) → is_open_text open_leaf ≡ interrupts (kind_of_leaf open_leaf) []
@@ -121,41 +122,11 @@ spot_by options bs held r BlankRow = spot_of (behind_text options bs held)
 spot_by options bs held r (LeafRow l) = came (behind_text options bs held) ((leaf l).comes options NoLeaf r)
 spot_by options bs held r TextRow = with_line bs held r
 
--- the kind of a line that does not go on the leaf that it meets
-abbrev pub plain_kind : ParseOptions → HeldLeaf → Rest → RowKind
-plain_kind options on r = cond (is_blank r.bytes) BlankRow (kind_of (leaf_at options on r))
-
--- where a leaf is asked first, a line goes on it, or is another
-pub asked-kind : (options : ParseOptions) (on : HeldLeaf) (r : Rest) (l : LeafName) → insider on ≡ Some l →
-    line_kind options on r ≡ cond ((leaf l).starts options on r) (LeafRow l) (plain_kind options on r)
-asked-kind options on r l e =
-    ap
-    (λ (o : Option LeafName). inside_or (λ k. (leaf k).starts options on r) o (plain_kind options on r)) e
-
--- and another goes on no leaf of several lines
-found-begins : (on : HeldLeaf) (m : LeafName) (test : LeafName → Bool) (ls : List LeafName) → insider on ≡ Some m →
-    AllBegin ls → is_further (kind_of (first_of test ls)) on ≡ false
-found-begins on m test [] asked all = refl
-found-begins on m test (l ∷ ls) asked all = go (test l) (found-begins on m test ls asked all.1)
-  where
-    go : (x : Bool) → is_further (kind_of (first_of test ls)) on ≡ false →
-        is_further (kind_of (cond x (Some l) (first_of test ls))) on ≡ false
-    go true below = all.0 on m asked
-    go false below = below
-
-pub plain-begins : (options : ParseOptions) (on : HeldLeaf) (r : Rest) (m : LeafName) → insider on ≡ Some m →
-    is_further (plain_kind options on r) on ≡ false
-plain-begins options on r m asked = go (is_blank r.bytes)
-  where
-    go : (x : Bool) → is_further (cond x BlankRow (kind_of (leaf_at options on r))) on ≡ false
-    go true = refl
-    go false = found-begins on m (λ l. (leaf l).starts options on r) trials asked trials-begin
-
 -- a line where nothing is open, or what was open has ended and is no text
 fresh-plain : (options : ParseOptions) (on : HeldLeaf) (bs : Blocks) (r : Rest) → takes_lazy on ≡ false →
-    may_be_table on ≡ false → fresh_line options bs r ≡ spot_by options bs [] r (plain_kind options on r)
+    fresh_line options bs r ≡ spot_by options bs [] r (other_kind options on r)
 unfolding fresh_line
-fresh-plain options on bs r unlazy no_table =
+fresh-plain options on bs r unlazy =
     go (is_blank r.bytes) refl
   where
     by : (o : Option LeafName) → fresh_by bs r (came_of options r o) ≡ spot_by options bs [] r (kind_of o)
@@ -164,17 +135,21 @@ fresh-plain options on bs r unlazy no_table =
 
     go : (x : Bool) → is_blank r.bytes ≡ x →
         cond x (spot_of bs) (fresh_by bs r (starts options NoText r)) ≡
-        spot_by options bs [] r (cond x BlankRow (kind_of (leaf_at options on r)))
+        spot_by options bs [] r (cond x BlankRow (kind_of (other_at options on r)))
     go true e = refl
     go false e =
-        ap (fresh_by bs r) (starts-found options on NoText r (context-none on unlazy) refl no_table e)
-        ∙ by (leaf_at options on r)
+        ap (fresh_by bs r) (untext-found options on NoText r (context-none on unlazy) refl e)
+        ∙ by (other_at options on r)
 
 pub fresh-found : (options : ParseOptions) (bs : Blocks) (r : Rest) → IsBuilt options →
     fresh_line options bs r ≡ spot_by options bs [] r (line_kind options held_leaf.None r)
 fresh-found options bs r built =
-    fresh-plain options held_leaf.None bs r refl refl
-    ∙ ap (spot_by options bs [] r) (sym (kind-plain options held_leaf.None r (insider-none held_leaf.None refl)))
+    fresh-plain options held_leaf.None bs r refl
+    ∙ ap (spot_by options bs [] r)
+    (sym
+    (kind-plain options held_leaf.None r (insider-none held_leaf.None refl)
+    ∙ ap (λ (o : Option LeafName). cond (is_blank r.bytes) BlankRow (kind_of o))
+    (untabled-at options held_leaf.None r refl)))
 
 -- what an open leaf comes to with a line of this kind
 abbrev pub come_by : ParseOptions → Leaf → Rest → RowKind → Came
@@ -185,7 +160,8 @@ come_by options open_leaf r kind = Opened open_leaf
 abbrev text_spot : ParseOptions → Blocks → List Kept → Rest → RowKind → Spot
 text_spot options bs lines r kind =
     cond (is_further kind (text_on lines))
-    (came (then_front options bs (text_leaf.held lines)) (come_by options (text_leaf.held lines) r kind))
+    (came (front_before (takes_head kind) options bs (text_leaf.held lines))
+    (come_by options (text_leaf.held lines) r kind))
     (spot_by options bs lines r kind)
 
 text-found : (options : ParseOptions) (bs : Blocks) (k : Kept) (ks : List Kept) (r : Rest) → IsBuilt options →
@@ -206,7 +182,7 @@ text-found options bs k ks r built =
         (underline_or_text options bs (k ∷ ks) r (underline_depth options r)) ≡
         text_spot options bs (k ∷ ks) r (cond x BlankRow (kind_of (leaf_at options (text_on (k ∷ ks)) r)))
     go true e = ap spot_of (text-laws.shut options bs (k ∷ ks))
-    go false e = text-comes options bs k ks r e built ∙ by (leaf_at options (text_on (k ∷ ks)) r)
+    go false e = text-comes options bs k ks r e ∙ by (leaf_at options (text_on (k ∷ ks)) r)
 
 -- The containers that open.
 
@@ -296,10 +272,11 @@ abbrev pub new_line : ParseOptions → HeldLeaf → List Container → Rest → 
 new_line options on [] r bs = At (spot_by options bs [] r (line_kind options on r))
 new_line options on (c ∷ cs) r bs = Within bs c (new_line options on cs r End)
 
--- with what the innermost leaf came to; of a text, that stands behind the definitions at its front
-abbrev pub with_came : ParseOptions → Path → Came → Path
-with_came options (At s) c = At (came (then_front options s.here s.leaf) c)
-with_came options (Within before container p) c = Within before container (with_came options p c)
+-- with what the innermost leaf came to; of a text, that stands behind the definitions at its front, or, where a line takes
+-- the last line of it as its head, behind what the others come to
+abbrev pub with_came : ParseOptions → Bool → Path → Came → Path
+with_came options heads (At s) c = At (came (front_before heads options s.here s.leaf) c)
+with_came options heads (Within before container p) c = Within before container (with_came options heads p c)
 
 -- What a line does where these containers went on, and these open on it: it goes on the open text, and all containers
 -- stay; or it goes on the open leaf of several lines, or turns the open text; or all else is closed, and it begins in
@@ -310,7 +287,8 @@ stepped options p went new =
     let kind = line_kind options on new.rest in
     cond (is_lazy (still_of p) new.containers kind)
     (longer (renewed (went ++ others_of (containers_of p) went) p) (kept new.rest ∷ []))
-    (cond (is_further kind on) (with_came options (renewed went p) (come_by options (spot p).leaf new.rest kind))
+    (cond (is_further kind on)
+    (with_came options (takes_head kind) (renewed went p) (come_by options (spot p).leaf new.rest kind))
     (behind_path (kept_to options went p) (new_line options on new.containers new.rest)))
 
 renewed-same : (p : Path) → renewed (containers_of p) p ≡ p
@@ -337,7 +315,7 @@ stepped-more options p went c new =
     lazy = longer (renewed (went ++ others_of (containers_of p) went) p) (kept new.rest ∷ [])
 
     further : Path
-    further = with_came options (renewed went p) (come_by options (spot p).leaf new.rest kind)
+    further = with_came options (takes_head kind) (renewed went p) (come_by options (spot p).leaf new.rest kind)
 
     other : Path
     other = behind_path (kept_to options went p) (new_line options held_leaf.None (c ∷ new.containers) new.rest)
@@ -385,7 +363,9 @@ text-stepped options bs r built k ks =
     by kind shut_to =
         cond (is_lazy (text_on (k ∷ ks)) [] kind) (At (with_line bs (k ∷ ks) r))
         (cond (is_further kind (text_on (k ∷ ks)))
-        (At (came (then_front options bs (text_leaf.held (k ∷ ks))) (come_by options (text_leaf.held (k ∷ ks)) r kind)))
+        (At
+        (came (front_before (takes_head kind) options bs (text_leaf.held (k ∷ ks)))
+        (come_by options (text_leaf.held (k ∷ ks)) r kind)))
         (At (spot_by options shut_to [] r kind)))
 
     go : (kind : RowKind) →
@@ -396,7 +376,8 @@ text-stepped options bs r built k ks =
       where
         turned : Spot
         turned =
-            came (then_front options bs (text_leaf.held (k ∷ ks))) ((leaf l).comes options (text_leaf.held (k ∷ ks)) r)
+            came (front_before (leaf l).heads options bs (text_leaf.held (k ∷ ks)))
+            ((leaf l).comes options (text_leaf.held (k ∷ ks)) r)
 
         behind : Spot
         behind = came (text_leaf.behind options bs (texts (k ∷ ks))) ((leaf l).comes options NoLeaf r)
@@ -406,13 +387,14 @@ text-stepped options bs r built k ks =
         to false = refl
 
 span-stepped : (options : ParseOptions) (bs : Blocks) (r : Rest) → IsBuilt options → (open_leaf : Leaf) →
-    OpenSpan open_leaf → IsStepped options bs r open_leaf
+    FurtherSpan open_leaf → IsStepped options bs r open_leaf
 span-stepped options bs r built open_leaf is =
     ap At (span-line options s r open_leaf is.lines)
     ∙ ap (λ (o : Option Came). At (on_or_fresh options s r o)) (is.goes options r)
-    ∙ go ((leaf is.name).starts options still r)
-    ∙ ap (by bs) (sym (asked-kind options still r is.name is.asked))
-    ∙ ap (λ (x : Blocks). by x (line_kind options still r)) (sym (front-unlazy options bs open_leaf unlazy_leaf))
+    ∙ go (is.takes options r)
+    ∙ ap (by bs) (sym (is.kind options r))
+    ∙ ap (λ (x : Blocks). by x (line_kind options still r))
+    (sym (front-unlazy (takes_head (line_kind options still r)) options bs open_leaf unlazy_leaf))
   where
     s : Spot
     s = record { here = bs; leaf = open_leaf }
@@ -447,17 +429,17 @@ span-stepped options bs r built open_leaf is =
 
     go : (x : Bool) →
         At (on_or_fresh options s r (cond x (Some ((leaf is.name).comes options open_leaf r)) None)) ≡
-        by bs (cond x (LeafRow is.name) (plain_kind options still r))
+        by bs (cond x (LeafRow is.name) (other_kind options still r))
     go true = unlazy (LeafRow is.name) true is.further
     go false =
-        ap At (fresh-plain options still (shut options s) r unlazy_leaf (asked-untabled still is.name is.asked))
-        ∙ unlazy (plain_kind options still r) false (plain-begins options still r is.name is.asked)
+        ap At (fresh-plain options still (shut options s) r unlazy_leaf)
+        ∙ unlazy (other_kind options still r) false (other-begins options still r is.lines)
 
 leaf-stepped : (options : ParseOptions) (bs : Blocks) (open_leaf : Leaf) (r : Rest) → IsBuilt options →
     IsBuiltLeaf open_leaf → IsStepped options bs r open_leaf
 leaf-stepped options bs open_leaf r built plain =
     text-laws.cases (IsStepped options bs r) none (text-stepped options bs r built)
-    (λ l is. span-stepped options bs r built l (open-span l is)) open_leaf plain
+    (λ l is. span-stepped options bs r built l (further-span l is)) open_leaf plain
   where
     none : IsStepped options bs r NoLeaf
     none =
@@ -465,7 +447,10 @@ leaf-stepped options bs open_leaf r built plain =
         ∙ sym
         (ap
         (λ (x : Bool).
-        cond x (At (came bs (come_by options NoLeaf r (line_kind options held_leaf.None r))))
+        cond x
+        (At
+        (came (front_before (takes_head (line_kind options held_leaf.None r)) options bs NoLeaf)
+        (come_by options NoLeaf r (line_kind options held_leaf.None r))))
         (At (spot_by options bs [] r (line_kind options held_leaf.None r))))
         (none-further options held_leaf.None r refl))
 
@@ -532,7 +517,7 @@ lazy-stepped : (options : ParseOptions) (before : Blocks) (c : Container) (p : P
     (spot_by options (then_block before (container_block c (closed options p))) [] r
     (line_kind options (met_by false (kind_of_leaf leaf)) r)))
 lazy-stepped options before c p r built leaf e plain =
-    text-laws.cases By (λ e. fresh) text (λ l is. span l (open-span l is)) leaf plain e
+    text-laws.cases By (λ e. fresh) text (λ l is. span l (further-span l is)) leaf plain e
   where
     bs : Blocks
     bs = then_block before (container_block c (closed options p))
@@ -595,7 +580,7 @@ lazy-stepped options before c p r built leaf e plain =
             ∙ by b (leaf_at options (lazy_on (k ∷ ks)) r) refl
             ∙ sym (ap (λ (x : Bool). longer_by (text_on (k ∷ ks)) (kind_by (lazy_on (k ∷ ks)) x)) b)
 
-    span : (l : Leaf) → OpenSpan l → By l
+    span : (l : Leaf) → FurtherSpan l → By l
     span l is e =
         let still : HeldLeaf = kind_of_leaf l in
         let kind : RowKind = line_kind options (met_by false still) r in
@@ -641,7 +626,7 @@ step-stopped options before c p r built plain =
         (sym
         (ap
         (λ (x : Bool).
-        cond x (with_came options (Within before c p) (come_by options (spot p).leaf r kind))
+        cond x (with_came options (takes_head kind) (Within before c p) (come_by options (spot p).leaf r kind))
         (At (spot_by options (then_block before (container_block c (closed options p))) [] r kind)))
         (none-further options on r (ended-open (still_of p)))))
     go (Some t) =
@@ -663,7 +648,7 @@ stepped-within options before c d p went new = go (is_lazy (still_of p) new.cont
     lazy = longer (renewed (went ++ others_of (containers_of p) went) p) (kept new.rest ∷ [])
 
     further : Path
-    further = with_came options (renewed went p) (come_by options (spot p).leaf new.rest kind)
+    further = with_came options (takes_head kind) (renewed went p) (come_by options (spot p).leaf new.rest kind)
 
     other : Path
     other = behind_path (kept_to options went p) (new_line options on new.containers new.rest)
@@ -713,7 +698,8 @@ goes_further options c = is_further (line_kind options c.on c.rest) c.on
 
 abbrev pub further_path : ParseOptions → Path → Contained → Path
 further_path options p c =
-    with_came options (renewed c.change.stays p) (come_by options (spot p).leaf c.rest (line_kind options c.on c.rest))
+    with_came options (takes_head (line_kind options c.on c.rest)) (renewed c.change.stays p)
+    (come_by options (spot p).leaf c.rest (line_kind options c.on c.rest))
 
 -- where it does neither: some containers stay, and behind them it opens others, and begins in the innermost
 abbrev pub new_path : ParseOptions → Path → Contained → Path
@@ -761,12 +747,12 @@ step-contained options p r built plain =
     by x y =
         let change : Change = change_by y on.containers others new.containers in
         cond x (longer (renewed change.stays p) (kept new.rest ∷ []))
-        (cond (is_further kind leaf) (with_came options (renewed change.stays p) come)
+        (cond (is_further kind leaf) (with_came options (takes_head kind) (renewed change.stays p) come)
         (behind_path (kept_to options change.stays p) (new_line options leaf change.opens new.rest)))
 
     go : (x : Bool) →
         cond x (longer (renewed (on.containers ++ others) p) (kept new.rest ∷ []))
-        (cond (is_further kind leaf) (with_came options (renewed on.containers p) come)
+        (cond (is_further kind leaf) (with_came options (takes_head kind) (renewed on.containers p) come)
         (behind_path (kept_to options on.containers p) (new_line options leaf new.containers new.rest))) ≡
         by x x
     go true = refl

@@ -9,10 +9,10 @@ use Rattle.std.proofs.lemmas.Bool.Decides.{nat_tests}
 use Rattle.std.specs.Prelude.{nat_lt}
 use Rattle.md_definition.specs.Leaves.{Finished, Opened}
 use Rattle.markdown_blocks.proofs.TableStarts.{row-no_head}
+use Rattle.markdown_blocks.proofs.TablesFound.{front_before}
 use Rattle.markdown_blocks.proofs.TextProgress.{setext-may, turn-left}
 use Rattle.markdown_blocks.proofs.UnderNames.{further-text}
 use Rattle.markdown_blocks.specs.HeldLeaf.{kind_of_leaf, left_by, may_go_on, takes_lazy}
-use Rattle.markdown_blocks.specs.Leaf.Paragraph.{then_front}
 use Rattle.markdown_blocks.specs.Registry.{further_of}
 use Rattle.markdown_blocks.specs.LineFlags.{ending_name}
 use Rattle.markdown_blocks.specs.Rows.{is_blank_row}
@@ -134,7 +134,7 @@ abbrev pub text_path : (options : ParseOptions) (bytes : List ℕ) (last : Row) 
     IsTurned options bytes last turn → Path → Path
 text_path options bytes last None is p = p
 text_path options bytes last (Some under) is p =
-    with_came options p ((leaf is.name).comes options (spot p).leaf is.is.rest)
+    with_came options (leaf is.name).heads p ((leaf is.name).comes options (spot p).leaf is.is.rest)
 
 -- where one turns them, definitions leave something of the text that is open with them
 abbrev pub IsTurnLeft : ParseOptions → Option Row → Path → Type 0
@@ -184,7 +184,8 @@ pub record ReadsSpan (options : ParseOptions) (bytes : List ℕ) (l : LeafName) 
   pub below : List Group
   pub groups_are : gs ≡ Span row rows ∷ below
   pub are : AreBehind options bytes (leaf l) row rows
-  pub behind : read bytes (reading options (with_came options p (come_behind options bytes (leaf l) row rows are come)))
+  pub behind : read bytes
+      (reading options (with_came options (leaf l).heads p (come_behind options bytes (leaf l) row rows are come)))
       (span_tail row rows ++ groups_events options bytes below) ≡
       last
 
@@ -254,17 +255,19 @@ onto-joined row next rows turn gs e h =
     (Lines row [] ∷ text_group turn next rows ∷ gs)) e h
 
 -- What a line changes of the containers that stay, the events do not tell: not behind what the innermost leaf came to,
-pub reading-came : (options : ParseOptions) (stays closes : List Container) (outer : List Around) (p : Path) (c : Came) →
+pub reading-came : (options : ParseOptions) (heads : Bool) (stays closes : List Container) (outer : List Around) (p : Path)
+    (c : Came) →
     AreShapes stays closes p →
-    reading_on options outer (with_came options (renewed stays p) c) ≡ reading_on options outer (with_came options p c)
-reading-came options [] closes outer p c e = refl
-reading-came options (d ∷ stays) closes outer (At s) c e = refl
-reading-came options (d ∷ stays) closes outer (Within before container p) c e =
+    reading_on options outer (with_came options heads (renewed stays p) c) ≡
+    reading_on options outer (with_came options heads p c)
+reading-came options heads [] closes outer p c e = refl
+reading-came options heads (d ∷ stays) closes outer (At s) c e = refl
+reading-came options heads (d ∷ stays) closes outer (Within before container p) c e =
     let same : shape_of d ≡ shape_of container = cc in
     let more : AreShapes stays closes p = cc in
-    ap (λ (around : Around). reading_on options (around ∷ outer) (with_came options (renewed stays p) c))
+    ap (λ (around : Around). reading_on options (around ∷ outer) (with_came options heads (renewed stays p) c))
     (around-same d container before same)
-    ∙ reading-came options stays closes (around_of container before ∷ outer) p c more
+    ∙ reading-came options heads stays closes (around_of container before ∷ outer) p c more
 
 longer-renewed : (stays : List Container) (p : Path) (lines : List Kept) →
     longer (renewed stays p) lines ≡ renewed stays (longer p lines)
@@ -283,9 +286,11 @@ reading-text options bytes stays closes p lines last None is shapes =
 reading-text options bytes stays closes p lines last (Some under) is shapes =
     let q : Path = longer p lines in
     let comes : Leaf → Came = λ open_leaf. (leaf is.name).comes options open_leaf is.is.rest in
-    ap (λ (x : Path). reading options (with_came options x (comes (spot x).leaf))) (longer-renewed stays p lines)
-    ∙ ap (λ (s : Spot). reading options (with_came options (renewed stays q) (comes s.leaf))) (renewed-spot stays q)
-    ∙ reading-came options stays closes [] q (comes (spot q).leaf)
+    let heads : Bool = (leaf is.name).heads in
+    ap (λ (x : Path). reading options (with_came options heads x (comes (spot x).leaf))) (longer-renewed stays p lines)
+    ∙ ap (λ (s : Spot). reading options (with_came options heads (renewed stays q) (comes s.leaf)))
+    (renewed-spot stays q)
+    ∙ reading-came options heads stays closes [] q (comes (spot q).leaf)
     (shapes ∙ ap (map shape_of) (sym (containers-longer p lines)))
 
 -- what is held of a text does not change with them either
@@ -407,7 +412,8 @@ turn-lines options bytes line p row gs last is text joins =
     go : (rows : List Row) → rows ≡ [] → gs ≡ Span under rows ∷ reads.below →
         (are : AreBehind options bytes (leaf joins.name) under rows) →
         read bytes
-        (reading options (with_came options q (come_behind options bytes (leaf joins.name) under rows are first)))
+        (reading options
+        (with_came options (leaf joins.name).heads q (come_behind options bytes (leaf joins.name) under rows are first)))
         (span_tail under rows ++ groups_events options bytes reads.below) ≡
         last →
         StartsLines options bytes p row (onto_groups row TextRow gs) last
@@ -447,7 +453,7 @@ turn-lines options bytes line p row gs last is text joins =
         behind =
             ap
             (λ (c : Came).
-            read bytes (reading options (with_came options q c))
+            read bytes (reading options (with_came options (leaf joins.name).heads q c))
             (span_tail under [] ++ groups_events options bytes reads.below))
             (sym come)
             ∙ behind;
@@ -606,32 +612,38 @@ no-joins options bytes line p row gs last is none ends (inr (inr joins)) =
 
 -- Leaves of several lines.
 
-pub came-with : (options : ParseOptions) (p : Path) (c : Came) →
-    with_came options p c ≡ with_spot p (λ bs. came (then_front options bs (spot p).leaf) c)
-came-with options (At s) c = refl
-came-with options (Within before container p) c = ap (Within before container) (came-with options p c)
+pub came-with : (options : ParseOptions) (heads : Bool) (p : Path) (c : Came) →
+    with_came options heads p c ≡ with_spot p (λ bs. came (front_before heads options bs (spot p).leaf) c)
+came-with options heads (At s) c = refl
+came-with options heads (Within before container p) c = ap (Within before container) (came-with options heads p c)
 
 -- where no leaf is open
-pub came-none : (options : ParseOptions) (p : Path) (c : Came) → (spot p).leaf ≡ NoLeaf →
-    with_came options p c ≡ with_spot p (λ bs. came bs c)
-came-none options p c none =
-    came-with options p c ∙ ap (λ (x : Leaf). with_spot p (λ bs. came (then_front options bs x) c)) none
+pub came-none : (options : ParseOptions) (heads : Bool) (p : Path) (c : Came) → (spot p).leaf ≡ NoLeaf →
+    with_came options heads p c ≡ with_spot p (λ bs. came bs c)
+came-none options heads p c none =
+    came-with options heads p c
+    ∙ ap (λ (x : Leaf). with_spot p (λ bs. came (front_before heads options bs x) c)) none ∙ go heads
+  where
+    go : (x : Bool) → with_spot p (λ bs. came (front_before x options bs NoLeaf) c) ≡ with_spot p (λ bs. came bs c)
+    go true = refl
+    go false = refl
 
 -- where one is open that is no text, and where it was opened
-pub came-open : (options : ParseOptions) (p : Path) → takes_lazy (still_of p) ≡ false →
-    with_came options p (Opened (spot p).leaf) ≡ p
-came-open options (At s) unlazy =
-    ap (λ (bs : Blocks). At (record { here = bs; leaf = s.leaf })) (front-unlazy options s.here s.leaf unlazy)
-came-open options (Within before container p) unlazy = ap (Within before container) (came-open options p unlazy)
+pub came-open : (options : ParseOptions) (heads : Bool) (p : Path) → takes_lazy (still_of p) ≡ false →
+    with_came options heads p (Opened (spot p).leaf) ≡ p
+came-open options heads (At s) unlazy =
+    ap (λ (bs : Blocks). At (record { here = bs; leaf = s.leaf })) (front-unlazy heads options s.here s.leaf unlazy)
+came-open options heads (Within before container p) unlazy =
+    ap (Within before container) (came-open options heads p unlazy)
 
-pub came-came : (options : ParseOptions) (p : Path) (open_leaf : Leaf) (c : Came) →
+pub came-came : (options : ParseOptions) (heads : Bool) (p : Path) (open_leaf : Leaf) (c : Came) →
     takes_lazy (kind_of_leaf open_leaf) ≡ false →
-    with_came options (with_came options p (Opened open_leaf)) c ≡ with_came options p c
-came-came options (At s) open_leaf c unlazy =
+    with_came options heads (with_came options heads p (Opened open_leaf)) c ≡ with_came options heads p c
+came-came options heads (At s) open_leaf c unlazy =
     ap (λ (bs : Blocks). At (came bs c))
-    (front-unlazy options (then_front options s.here s.leaf) open_leaf unlazy)
-came-came options (Within before container p) open_leaf c unlazy =
-    ap (Within before container) (came-came options p open_leaf c unlazy)
+    (front-unlazy heads options (front_before heads options s.here s.leaf) open_leaf unlazy)
+came-came options heads (Within before container p) open_leaf c unlazy =
+    ap (Within before container) (came-came options heads p open_leaf c unlazy)
 
 -- what may be gone on is open
 pub may-opened : (c : Came) → may_go_on (kind_of_leaf (left_by c)) ≡ true → c ≡ Opened (left_by c)
@@ -640,7 +652,8 @@ may-opened (Finished block) e = cc
 
 pub span-alike : (options : ParseOptions) (bytes : List ℕ) (l : LeafName) (p q : Path) (come : Came) (row : Row)
     (gs : List Group) (last : Reading) →
-    ((c : Came) → reading options (with_came options p c) ≡ reading options (with_came options q c)) →
+    ((c : Came) →
+    reading options (with_came options (leaf l).heads p c) ≡ reading options (with_came options (leaf l).heads q c)) →
     ReadsSpan options bytes l p come row gs last → ReadsSpan options bytes l q come row gs last
 span-alike options bytes l p q come row gs last alike is = record {
   rows = is.rows;
@@ -656,8 +669,8 @@ span-alike options bytes l p q come row gs last alike is = record {
 -- a line of a leaf, where another goes on it
 span-joined : (options : ParseOptions) (bytes : List ℕ) (l : LeafName) (p : Path) (come : Came) (row : Row)
     (gs : List Group) (last : Reading) →
-    (joins : JoinsSpan options bytes (with_came options p come) row gs last) →
-    (next : StartsSpan options bytes l (with_came options p come) joins.after joins.next gs last) →
+    (joins : JoinsSpan options bytes (with_came options (leaf l).heads p come) row gs last) →
+    (next : StartsSpan options bytes l (with_came options (leaf l).heads p come) joins.after joins.next gs last) →
     come ≡ Opened (left_by come) → takes_lazy (kind_of_leaf (left_by come)) ≡ false →
     ReadsSpan options bytes l p come row (onto_span row gs) last
 span-joined options bytes l p come row gs last joins next opened unlazy = record {
@@ -680,7 +693,7 @@ span-joined options bytes l p come row gs last joins next opened unlazy = record
   );
   behind =
       ap (λ (r : Reading). read bytes r (span_tail joins.next rows ++ groups_events options bytes below))
-      (sym (ap (to (with_came options p come)) first ∙ ap (reading options) (twice (come_to other))))
+      (sym (ap (to (with_came options heads p come)) first ∙ ap (reading options) (twice (come_to other))))
       ∙ next.reads.behind;
 }
   where
@@ -693,8 +706,11 @@ span-joined options bytes l p come row gs last joins next opened unlazy = record
     come_to : Came → Came
     come_to c = come_behind options bytes (leaf l) joins.next rows next.reads.are c
 
+    heads : Bool
+    heads = (leaf l).heads
+
     to : Path → Came → Reading
-    to x c = reading options (with_came options x (come_to c))
+    to x c = reading options (with_came options heads x (come_to c))
 
     in_text : Bool
     in_text = nat_lt joins.after.index (length bytes)
@@ -702,21 +718,22 @@ span-joined options bytes l p come row gs last joins next opened unlazy = record
     other : Came
     other = cond in_text ((leaf l).comes options (left_by come) next.is.rest) come
 
-    first : first_come options bytes l (with_came options p come) joins.after next.is.rest ≡ other
+    first : first_come options bytes l (with_came options heads p come) joins.after next.is.rest ≡ other
     first =
-        ap (λ (x : Leaf). cond in_text ((leaf l).comes options x next.is.rest) (Opened x)) (came-spot options p come)
+        ap (λ (x : Leaf). cond in_text ((leaf l).comes options x next.is.rest) (Opened x))
+        (came-spot options heads p come)
         ∙ ap (λ (c : Came). cond in_text ((leaf l).comes options (left_by come) next.is.rest) c) (sym opened)
 
-    twice : (c : Came) → with_came options (with_came options p come) c ≡ with_came options p c
+    twice : (c : Came) → with_came options heads (with_came options heads p come) c ≡ with_came options heads p c
     twice c =
-        ap (λ (d : Came). with_came options (with_came options p d) c) opened
-        ∙ came-came options p (left_by come) c unlazy
+        ap (λ (d : Came). with_came options heads (with_came options heads p d) c) opened
+        ∙ came-came options heads p (left_by come) c unlazy
 
 -- a line of a leaf, and what follows
 pub span-rows : (options : ParseOptions) (bytes : List ℕ) (l m : LeafName) (p : Path) (come : Came) (row : Row)
     (gs : List Group) (last : Reading) →
     is_text row.kind ≡ false → further_of m ≡ l → IsLineOf options bytes (leaf m) row →
-    Follows options bytes (with_came options p come) row gs last →
+    Follows options bytes (with_came options (leaf l).heads p come) row gs last →
     ReadsSpan options bytes l p come row (onto_span row gs) last
 span-rows options bytes l m p come row gs last other same is (inl parts) = record {
   rows = [];
@@ -724,7 +741,7 @@ span-rows options bytes l m p come row gs last other same is (inl parts) = recor
   groups_are = parts.alone;
   are = tt;
   behind =
-      let s : Reading = reading options (with_came options p come) in
+      let s : Reading = reading options (with_came options (leaf l).heads p come) in
       read-from bytes s (close_containers (length row.leaves) s) (span_tail row []) (groups_events options bytes gs)
       (read-tail bytes (ending_of row.kind row) row s (ending-role (is_blank_row row)) refl refl)
       ∙ parts.reads;
@@ -732,12 +749,14 @@ span-rows options bytes l m p come row gs last other same is (inl parts) = recor
 span-rows options bytes l m p come row gs last other same is (inr (inl joins)) = let text = joins.text in cc
 span-rows options bytes l m p come row gs last other same is (inr (inr joins)) =
     let left : kind_of_leaf (left_by come) ≡ row.behind =
-    ap kind_of_leaf (sym (came-spot options p come)) ∙ joins.still in
+    ap kind_of_leaf (sym (came-spot options (leaf l).heads p come)) ∙ joins.still in
     let name : joins.name ≡ l = further-is m joins.name options row.on is.rest
     (ap (leaf joins.name).further (sym (joins.on ∙ is.behind)) ∙ joins.starts.further)
     ∙ same in
     span-joined options bytes l p come row gs last joins
-    (subst (λ (k : LeafName). StartsSpan options bytes k (with_came options p come) joins.after joins.next gs last) name
+    (subst
+    (λ (k : LeafName).
+    StartsSpan options bytes k (with_came options (leaf l).heads p come) joins.after joins.next gs last) name
     joins.starts)
     (may-opened come (ap may_go_on left ∙ joins.may))
     (ap takes_lazy (left ∙ is.behind) ∙ ((laws m).not_lazy options row.on).1 is.rest)
@@ -757,14 +776,15 @@ begun-reads options bytes l o row gs last ends is begins none begin same spans =
     ((leaf l).comes options NoLeaf is.rest) in
     let block : Block = laws.block options bytes row spans.rows is spans.are in
     let whole : List Event = span_done bytes row spans.rows in
-    let new : Reading = reading options (with_came options o come) in
+    let heads : Bool = (leaf (further_of l)).heads in
+    let new : Reading = reading options (with_came options heads o come) in
     read-from bytes begin new whole (span_tail row spans.rows ++ groups_events options bytes spans.below)
     (ap (λ (x : Reading). read bytes x whole) same
     ∙ (laws.facts options bytes row spans.rows is begins spans.are).reads (reading options o) refl refl
     ∙ ap (λ (bs : Blocks). record (reading options o) { here = bs })
     (sym (laws.shuts options bytes row spans.rows is begins spans.are (reading options o).here))
     ∙ sym (reading-with options o (λ bs. came bs come) none)
-    ∙ ap (reading options) (sym (came-none options o come none)))
+    ∙ ap (reading options) (sym (came-none options heads o come none)))
     ∙ spans.behind
 
 -- and with what stands in front of it

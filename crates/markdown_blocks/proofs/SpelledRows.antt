@@ -94,16 +94,20 @@ text-parts options bytes row rows (Some under) gs = refl
 
 -- Where no leaf was open, a text that is turned is the definitions at its front and the block behind the others.
 reading-turned : (options : ParseOptions) (o : Path) (lines : List Kept) (r : Rest) (l : LeafName) → TurnsText l →
-    (spot o).leaf ≡ NoLeaf →
-    reading options (with_came options (longer o lines) ((leaf l).comes options (spot (longer o lines)).leaf r)) ≡
+    (leaf l).heads ≡ false → (spot o).leaf ≡ NoLeaf →
+    reading options
+    (with_came options (leaf l).heads (longer o lines) ((leaf l).comes options (spot (longer o lines)).leaf r)) ≡
     record (reading options o) { here = then_turned options (reading options o).here (texts lines) r }
-reading-turned options o lines r l turns none =
-    ap (λ (x : Path). reading options (with_came options x ((leaf l).comes options (spot x).leaf r)))
+reading-turned options o lines r l turns heads none =
+    ap
+    (λ (x : Bool).
+    reading options (with_came options x (longer o lines) ((leaf l).comes options (spot (longer o lines)).leaf r))) heads
+    ∙ ap (λ (x : Path). reading options (with_came options false x ((leaf l).comes options (spot x).leaf r)))
     (longer-with o lines none)
-    ∙ ap (λ (s : Spot). reading options (with_came options held ((leaf l).comes options s.leaf r))) open_text
-    ∙ ap (λ (come : Came). reading options (with_came options held come)) (turns.comes options lines r)
+    ∙ ap (λ (s : Spot). reading options (with_came options false held ((leaf l).comes options s.leaf r))) open_text
+    ∙ ap (λ (come : Came). reading options (with_came options false held come)) (turns.comes options lines r)
     ∙ ap (reading options)
-    (came-with options held (Finished block)
+    (came-with options false held (Finished block)
     ∙ ap (λ (s : Spot). with_spot held (λ bs. came (then_front options bs s.leaf) (Finished block))) open_text
     ∙ behind-behind o (λ bs. At (record { here = bs; leaf = text_leaf.held lines }))
     (λ bs. came (then_front options bs (text_leaf.held lines)) (Finished block)))
@@ -141,7 +145,7 @@ text-whole options bytes o row rows (Some under) none are turned left =
     (reading options o) refl refl
     ∙ sym
     (reading-turned options o (kept-of options bytes row rows are) turned.is.rest turned.name
-    (text-turns text.0 turned.name text.1 text.2) none)
+    (text-turns text.0 turned.name text.1 text.2) text.2 none)
 
 -- One line, and what follows.
 
@@ -264,9 +268,10 @@ row-means options bytes p a line row gs last over built plain is in_text follows
         Reads options bytes p row.change.closes (onto_span row gs) last
     span-reads l e ends begins further =
         let come : Came = (leaf l).comes options NoLeaf is.is.rest in
-        let on : to row.kind ≡ with_came options o come =
-        ap to e ∙ sym (came-none options o ((leaf l).comes options NoLeaf c.rest) none)
-        ∙ ap (λ (r : Rest). with_came options o ((leaf l).comes options NoLeaf r)) (sym is.rest_is) in
+        let heads : Bool = (leaf (further_of l)).heads in
+        let on : to row.kind ≡ with_came options heads o come =
+        ap to e ∙ sym (came-none options heads o ((leaf l).comes options NoLeaf c.rest) none)
+        ∙ ap (λ (r : Rest). with_came options heads o ((leaf l).comes options NoLeaf r)) (sym is.rest_is) in
         starts-read options bytes l o row (onto_span row gs) last ends (line-is-of l e ends)
         (sym (ap (λ (k : RowKind). is_further k row.on) e) ∙ same-further ∙ begins) none a is.front
         (close_containers (length row.change.closes) (reading options p))
@@ -310,13 +315,14 @@ row-means options bytes p a line row gs last over built plain is in_text follows
         let of : IsLineOf options bytes (leaf l) row = line-is-of l e ends in
         let come : Came = first_come options bytes l p a of.rest in
         let base : Path = renewed c.change.stays p in
-        let stepped_to : step_over options over p (rest_from a line) ≡ with_came options base come =
+        let stepped_to : step_over options over p (rest_from a line) ≡ with_came options (leaf l).heads base come =
         further_by over refl f goes in
         let spans : ReadsSpan options bytes l base come row (onto_span row gs) last = span-rows options bytes l l base come
         row gs last (ap is_text e) goes.is.same of
         (subst (λ (x : Path). Follows options bytes x row gs last) stepped_to follows) in
         let whole : ReadsSpan options bytes l p come row (onto_span row gs) last = span-alike options bytes l base p come
-        row (onto_span row gs) last (λ d. reading-came options c.change.stays c.change.closes [] p d shapes) spans in (
+        row (onto_span row gs) last
+        (λ d. reading-came options (leaf l).heads c.change.stays c.change.closes [] p d shapes) spans in (
           l,
           subst (λ (k : RowKind). StartsSpan options bytes l p a row (onto_groups row k gs) last) (sym e)
               (subst (λ (x : Bool). StartsSpan options bytes l p a row (onto_leaf x row gs) last) (sym ends)
@@ -354,15 +360,16 @@ row-means options bytes p a line row gs last over built plain is in_text follows
 
         further_by : (x : Bool) → over ≡ x → goes_further options c ≡ true → (goes : GoesOn options p c) →
             step_over options over p (rest_from a line) ≡
-            with_came options (renewed c.change.stays p) (first_come options bytes goes.is.name p a is.is.rest)
+            with_came options (leaf goes.is.name).heads (renewed c.change.stays p)
+            (first_come options bytes goes.is.name p a is.is.rest)
         further_by true e f goes =
             ap₂ (λ (x y : Bool). cond (x && y) (renewed c.change.stays p) (step options p (rest_from a line))) e f
-            ∙ sym (came-open options (renewed c.change.stays p) (open-over e goes))
-            ∙ ap (λ (s : Spot). with_came options (renewed c.change.stays p) (Opened s.leaf))
+            ∙ sym (came-open options (leaf goes.is.name).heads (renewed c.change.stays p) (open-over e goes))
+            ∙ ap (λ (s : Spot). with_came options (leaf goes.is.name).heads (renewed c.change.stays p) (Opened s.leaf))
             (renewed-spot c.change.stays p)
             ∙ ap
             (λ (x : Bool).
-            with_came options (renewed c.change.stays p)
+            with_came options (leaf goes.is.name).heads (renewed c.change.stays p)
             (cond x ((leaf goes.is.name).comes options (spot p).leaf is.is.rest) (Opened (spot p).leaf)))
             (sym (in_text ∙ ap not e))
         further_by false e f goes =
@@ -373,15 +380,17 @@ row-means options bytes p a line row gs last over built plain is in_text follows
             ∙ ap₂ (path_by options p c)
             (further-unlazy (still_of p) c.on c.change.opens (line_kind options c.on c.rest) f) f
             ∙ ap
-            (λ (k : RowKind). with_came options (renewed c.change.stays p) (come_by options (spot p).leaf c.rest k))
+            (λ (k : RowKind).
+            with_came options (takes_head k) (renewed c.change.stays p) (come_by options (spot p).leaf c.rest k))
             goes.kind
             ∙ ap
             (λ (r : Rest).
-            with_came options (renewed c.change.stays p) ((leaf goes.is.name).comes options (spot p).leaf r))
+            with_came options (leaf goes.is.name).heads (renewed c.change.stays p)
+            ((leaf goes.is.name).comes options (spot p).leaf r))
             (sym is.rest_is)
             ∙ ap
             (λ (x : Bool).
-            with_came options (renewed c.change.stays p)
+            with_came options (leaf goes.is.name).heads (renewed c.change.stays p)
             (cond x ((leaf goes.is.name).comes options (spot p).leaf is.is.rest) (Opened (spot p).leaf)))
             (sym (in_text ∙ ap not e))
 

@@ -19,24 +19,26 @@ use Rattle.markdown_blocks.proofs.TextProgress.{IsFresh, contained-progress, unl
 use Rattle.markdown_blocks.specs.Change.{is_none, open_behind}
 use Rattle.markdown_blocks.specs.Fronted.{Contained}
 use Rattle.markdown_blocks.specs.HeldLeaf.{IsBuiltLeaf, has_lines, kind_of_leaf, left_by, may_go_on, takes_lazy}
-use Rattle.markdown_blocks.specs.Leaf.Paragraph.{held_of, of_last, open_lines, then_front}
+use Rattle.markdown_blocks.specs.Leaf.Paragraph.{held_of, of_last, open_lines}
 use Rattle.markdown_blocks.specs.Parsed.{IsBuilt}
 use Rattle.markdown_blocks.specs.Registry.{LeafName, further_of, leaf, text_leaf, turn_leaf}
 use Rattle.markdown_blocks.specs.Rows.{BlankRow, LeafRow, RowKind, TextRow, is_further, is_lazy, is_text, line_behind}
-use Rattle.markdown_blocks.specs.Rows.{line_kind}
+use Rattle.markdown_blocks.specs.Rows.{line_kind, takes_head}
 use Rattle.markdown_blocks.specs.Stands.{IsPlain, containers_of, still_of}
 use Rattle.markdown_blocks.proofs.ContainedLemmas.{contained-met, contained-size, contained-still, lazy-opens}
 use Rattle.markdown_blocks.proofs.ContainedLemmas.{lines-open}
 use Rattle.markdown_blocks.proofs.KindLemmas.{kind-starts}
-use Rattle.markdown_blocks.proofs.LineSteps.{asked-kind, behind_path, come_by, contained-lazy, contained_at}
+use Rattle.markdown_blocks.proofs.FurtherSpan.{FurtherSpan, further-span, other-begins, other_kind}
+use Rattle.markdown_blocks.proofs.LineSteps.{behind_path, come_by, contained-lazy, contained_at}
 use Rattle.markdown_blocks.proofs.LineSteps.{further_path}
 use Rattle.markdown_blocks.proofs.LineSteps.{goes_further, goes_lazy, kept_to, longer, new_line, none-further}
-use Rattle.markdown_blocks.proofs.LineSteps.{path_by, plain-begins, plain_kind, renewed, renewed-spot, spot_by}
+use Rattle.markdown_blocks.proofs.LineSteps.{path_by, renewed, renewed-spot, spot_by}
 use Rattle.markdown_blocks.proofs.LineSteps.{step-contained, with_came}
-use Rattle.markdown_blocks.proofs.OpenSpan.{Begun, ComesShallow, OpenSpan, TurnsText}
-use Rattle.markdown_blocks.proofs.Registry.{insider-open, laws, leaf-begun, open-span, text-laws, text-turns}
+use Rattle.markdown_blocks.proofs.OpenSpan.{Begun, ComesShallow, TurnsText}
+use Rattle.markdown_blocks.proofs.Registry.{laws, leaf-begun, text-laws, text-turns}
 use Rattle.markdown_blocks.proofs.ShallowBlocks.{shallow-then}
 use Rattle.markdown_blocks.proofs.TableStarts.{no-head}
+use Rattle.markdown_blocks.proofs.TablesFound.{front_before}
 use Rattle.md_parts.proofs.ProgressLemmas.{progress-snoc}
 use Rattle.md_parts.specs.Head.{head_columns}
 use Rattle.md_parts.specs.OpenText.{open_text, text_behind}
@@ -68,22 +70,22 @@ pub record GoesOn (options : ParseOptions) (p : Path) (c : Contained) : Type 0 w
 
 -- a path in which a leaf of several lines is open
 pub span-open : (open_leaf : Leaf) → IsBuiltLeaf open_leaf → has_lines (kind_of_leaf open_leaf) ≡ true →
-    OpenSpan open_leaf
+    FurtherSpan open_leaf
 span-open open_leaf plain =
-    text-laws.cases (λ (l : Leaf). has_lines (kind_of_leaf l) ≡ true → OpenSpan l) (λ e. cc) (λ k ks e. cc)
-    (λ l is e. open-span l is) open_leaf plain
+    text-laws.cases (λ (l : Leaf). has_lines (kind_of_leaf l) ≡ true → FurtherSpan l) (λ e. cc) (λ k ks e. cc)
+    (λ l is e. further-span l is) open_leaf plain
 
--- a line that goes on a leaf of several lines is one of the leaf that is asked first
-span-takes : (options : ParseOptions) (r : Rest) (open_leaf : Leaf) → OpenSpan open_leaf →
+-- a line that goes on a leaf of several lines is one of the leaf that takes its further lines
+span-takes : (options : ParseOptions) (r : Rest) (open_leaf : Leaf) → FurtherSpan open_leaf →
     is_further (line_kind options (kind_of_leaf open_leaf) r) (kind_of_leaf open_leaf) ≡ true →
     Takes options open_leaf r
 span-takes options r open_leaf is goes = record {
   name = is.name;
-  ends = insider-open on is.name is.asked;
+  ends = is.ends;
   same = is.same;
   may = lines-open on is.lines;
   further = is.further;
-  kind = asked ∙ ap (λ (x : Bool). cond x (LeafRow is.name) (plain_kind options on r)) starts;
+  kind = kind;
   starts = starts;
   built = is.built options r starts;
   shallow = is.shallow options r;
@@ -92,17 +94,18 @@ span-takes options r open_leaf is goes = record {
     on : HeldLeaf
     on = kind_of_leaf open_leaf
 
-    asked : line_kind options on r ≡
-        cond ((leaf is.name).starts options on r) (LeafRow is.name) (plain_kind options on r)
-    asked = asked-kind options on r is.name is.asked
-
-    by : (x : Bool) → is_further (cond x (LeafRow is.name) (plain_kind options on r)) on ≡ true → x ≡ true
+    by : (x : Bool) → is_further (cond x (LeafRow is.name) (other_kind options on r)) on ≡ true → x ≡ true
     by true e = refl
-    by false e = let begins = plain-begins options on r is.name is.asked in cc
+    by false e = let begins = other-begins options on r is.lines in cc
+
+    kind : line_kind options on r ≡ LeafRow is.name
+    kind =
+        is.kind options r
+        ∙ ap (λ (x : Bool). cond x (LeafRow is.name) (other_kind options on r))
+        (by (is.takes options r) (ap (λ (k : RowKind). is_further k on) (sym (is.kind options r)) ∙ goes))
 
     starts : (leaf is.name).starts options on r ≡ true
-    starts =
-        by ((leaf is.name).starts options on r) (ap (λ (kind : RowKind). is_further kind on) (sym asked) ∙ goes)
+    starts = kind-starts options on r is.name kind
 
 -- one that goes on text turns it
 text-takes : (options : ParseOptions) (r : Rest) (lines : List Kept) → IsBuilt options →
@@ -141,7 +144,7 @@ takes options r open_leaf built plain =
     text-laws.cases
     (λ (l : Leaf). is_further (line_kind options (kind_of_leaf l) r) (kind_of_leaf l) ≡ true → Takes options l r)
     (λ e. let none = none-further options held_leaf.None r refl in absurd (cc))
-    (λ k ks e. text-takes options r (k ∷ ks) built e) (λ l is e. span-takes options r l (open-span l is) e) open_leaf
+    (λ k ks e. text-takes options r (k ∷ ks) built e) (λ l is e. span-takes options r l (further-span l is) e) open_leaf
     plain
 
 pub goes-on : (options : ParseOptions) (p : Path) (r : Rest) → IsBuilt options → IsPlain p →
@@ -192,9 +195,10 @@ came-leaf : (bs : Blocks) (c : Came) → (came bs c).leaf ≡ left_by c
 came-leaf bs (Opened open_leaf) = refl
 came-leaf bs (Finished block) = refl
 
-pub came-spot : (options : ParseOptions) (p : Path) (c : Came) → (spot (with_came options p c)).leaf ≡ left_by c
-came-spot options (At s) c = came-leaf (then_front options s.here s.leaf) c
-came-spot options (Within before container p) c = came-spot options p c
+pub came-spot : (options : ParseOptions) (heads : Bool) (p : Path) (c : Came) →
+    (spot (with_came options heads p c)).leaf ≡ left_by c
+came-spot options heads (At s) c = came-leaf (front_before heads options s.here s.leaf) c
+came-spot options heads (Within before container p) c = came-spot options heads p c
 
 -- a line that begins a leaf, where it goes on none
 pub begun-leaf : (options : ParseOptions) (on : HeldLeaf) (r : Rest) → is_further (line_kind options on r) on ≡ false →
@@ -225,7 +229,7 @@ plain-further : (options : ParseOptions) (p : Path) (c : Contained) → GoesOn o
 plain-further options p c goes =
     subst IsBuiltLeaf
     (sym
-    (came-spot options (renewed c.change.stays p)
+    (came-spot options (takes_head (line_kind options c.on c.rest)) (renewed c.change.stays p)
     (come_by options (spot p).leaf c.rest (line_kind options c.on c.rest))))
     (subst (λ (kind : RowKind). IsBuiltLeaf (left_by (come_by options (spot p).leaf c.rest kind))) (sym goes.kind)
     goes.is.built)
@@ -297,11 +301,11 @@ containers-new_line options on [] r bs = refl
 containers-new_line options on (c ∷ cs) r bs =
     ap (λ (l : List Container). c ∷ l) (containers-new_line options on cs r End)
 
-containers-came : (options : ParseOptions) (p : Path) (c : Came) →
-    containers_of (with_came options p c) ≡ containers_of p
-containers-came options (At s) c = refl
-containers-came options (Within before container p) c =
-    ap (λ (cs : List Container). container ∷ cs) (containers-came options p c)
+containers-came : (options : ParseOptions) (heads : Bool) (p : Path) (c : Came) →
+    containers_of (with_came options heads p c) ≡ containers_of p
+containers-came options heads (At s) c = refl
+containers-came options heads (Within before container p) c =
+    ap (λ (cs : List Container). container ∷ cs) (containers-came options heads p c)
 
 -- where none ends, those that stay are all
 pub containers-all : (options : ParseOptions) (p : Path) (r : Rest) →
@@ -338,7 +342,7 @@ containers-step options p r built plain =
         (sym (lazy-opens (still_of p) c.change.opens (line_kind options c.on c.rest) e))
     go false true e f =
         let goes = goes-on options p r built plain f in
-        containers-came options (renewed c.change.stays p)
+        containers-came options (takes_head (line_kind options c.on c.rest)) (renewed c.change.stays p)
         (come_by options (spot p).leaf c.rest (line_kind options c.on c.rest))
         ∙ all goes.closes ∙ sym (append-nil c.change.stays)
         ∙ ap (λ (l : List Container). c.change.stays ++ l) (sym goes.opens)
@@ -418,7 +422,7 @@ still-further : (options : ParseOptions) (p : Path) (c : Contained) → GoesOn o
     still_of (further_path options p c) ≡ line_behind options c.on c.rest (line_kind options c.on c.rest)
 still-further options p c goes =
     ap kind_of_leaf
-    (came-spot options (renewed c.change.stays p)
+    (came-spot options (takes_head (line_kind options c.on c.rest)) (renewed c.change.stays p)
     (come_by options (spot p).leaf c.rest (line_kind options c.on c.rest)))
     ∙ ap (λ (kind : RowKind). kind_of_leaf (left_by (come_by options (spot p).leaf c.rest kind))) goes.kind
     ∙ (laws goes.is.name).holds_is options (spot p).leaf c.rest goes.is.starts

@@ -17,7 +17,7 @@ use Rattle.md_definition.specs.Leaves as definition
 use Rattle.md_definition.specs.Leaves.{Came, ParagraphContext, Text, break_at, code_at, fence_at, heading_at, html_at, is_free}
 use Rattle.md_definition.specs.Leaves.{is_text, starts, table_at, underline_depth, with_line}
 use Rattle.md_definition.specs.Rest.{Rest, has_small_indent, is_blank, trim, trim_start}
-use Rattle.md_definition.specs.State.{Kept, NoLeaf, OpenParagraph, Spot, cut, shut_paragraph, texts}
+use Rattle.md_definition.specs.State.{Kept, Leaf, NoLeaf, OpenParagraph, Spot, cut, shut_paragraph, texts}
 use Rattle.md_definition.specs.Step.{came, row_or_text, text_by, underline_or_text}
 use Rattle.md_definition.specs.Table.{delimiter_columns, is_delimiter, row_cells}
 use Rattle.md_definition.specs.Tree.{Blocks}
@@ -286,15 +286,15 @@ knows-head lines k before e = record {
 -- behind its definitions, or makes its last line a head, behind what the lines in front of that come to, or it begins a
 -- leaf behind the text.
 
-abbrev pub front_by : Bool → ParseOptions → Blocks → List Kept → Blocks
-front_by heads options bs lines =
-    if heads then text_leaf.behind options bs (texts (without_last lines))
-    else then_front options bs (text_leaf.held lines)
+abbrev pub front_before : Bool → ParseOptions → Blocks → Leaf → Blocks
+front_before true options bs (OpenParagraph lines) = text_leaf.behind options bs (texts (without_last lines))
+front_before true options bs open_leaf = bs
+front_before false options bs open_leaf = then_front options bs open_leaf
 
 abbrev pub text_came : ParseOptions → Blocks → List Kept → Rest → Option LeafName → Spot
 text_came options bs lines r None = with_line bs lines r
 text_came options bs lines r (Some l) =
-    if (leaf l).further (text_on lines) then came (front_by (leaf l).heads options bs lines)
+    if (leaf l).further (text_on lines) then came (front_before (leaf l).heads options bs (text_leaf.held lines))
     ((leaf l).comes options (text_leaf.held lines) r)
     else came (text_leaf.behind options bs (texts lines)) ((leaf l).comes options NoLeaf r)
 
@@ -370,7 +370,8 @@ text-comes options bs k ks r dark = go (may_turn options on) refl
         (ap
         (λ (x : Bool).
         cond x
-        (came (front_by (leaf l).heads options bs lines) ((leaf l).comes options (text_leaf.held lines) r))
+        (came (front_before (leaf l).heads options bs (text_leaf.held lines))
+        ((leaf l).comes options (text_leaf.held lines) r))
         (came (text_leaf.behind options bs (texts lines)) ((leaf l).comes options NoLeaf r)))
         (behind l e found ((leaf l).further on) refl))
 

@@ -4,10 +4,9 @@ use Rattle.md_engine.specs.declared.tokenizer.held_leaf.HeldLeaf.TheVariants as 
 use Rattle.md_engine.specs.declared.tokenizer.held_leaf.HeldLeaf.{HeldLeaf}
 use Rattle.std.proofs.Common.{◌≡◌, ℕ, zero, suc, ◌-◌, Bool, true, false, cond, not, ◌==◌, ◌&&◌, ◌||◌, List, [], ◌∷◌}
 use Rattle.md_definition.specs.Leaves.{Came}
-use Rattle.md_definition.specs.State.{spot}
+use Rattle.md_definition.specs.State.{OpenParagraph, spot}
 use Rattle.markdown_blocks.proofs.Registry.{insider-none}
-use Rattle.markdown_blocks.specs.Registry.{leaf}
-use Rattle.markdown_blocks.specs.Rows.{is_further, is_inside}
+use Rattle.markdown_blocks.specs.Rows.{is_further, is_inside, takes_head}
 use Rattle.markdown_blocks.specs.Fronted.{prefixes_behind}
 use Rattle.markdown_blocks.specs.Change.{met}
 use Rattle.std.proofs.Common.{◌++◌, map, length, drop, take, refl, ap, sym, ◌∙◌, subst, inl, inr, ◌⊎◌}
@@ -48,9 +47,9 @@ use Rattle.markdown_blocks.proofs.KindLemmas.{kind-plain}
 use Rattle.markdown_blocks.proofs.LineSteps.{behind_path, come_by, contained_at, further_path, goes_further, goes_lazy}
 use Rattle.markdown_blocks.proofs.LineSteps.{kept_to, longer, new_line, path_by, renewed, spot_by, step-contained}
 use Rattle.markdown_blocks.proofs.LineSteps.{with_came}
-use Rattle.markdown_blocks.proofs.OpenSpan.{ComesShallow, OpenSpan}
+use Rattle.markdown_blocks.proofs.FurtherSpan.{FurtherSpan, further-span, other_kind}
+use Rattle.markdown_blocks.proofs.OpenSpan.{ComesShallow}
 use Rattle.markdown_blocks.proofs.LastLine.{no_bytes, no_rests, step_over, steps_over, told}
-use Rattle.markdown_blocks.proofs.LineSteps.{asked-kind, plain_kind}
 use Rattle.markdown_blocks.proofs.StepBehind.{GoesOn, begun-leaf, further-unlazy, goes-on, plain-step, span-open}
 use Rattle.markdown_blocks.proofs.ContainedLemmas.{contained-still, lines-open}
 use Rattle.markdown_blocks.specs.HeldLeaf.{has_lines, takes_lazy}
@@ -59,13 +58,14 @@ use Rattle.markdown_blocks.specs.Fronted.{contained_behind, contained_of}
 use Rattle.markdown_blocks.proofs.MarkLemmas.{without-mark}
 use Rattle.markdown_blocks.proofs.RowFacts as f
 use Rattle.markdown_blocks.proofs.SpelledRows.{spelled-rows}
-use Rattle.markdown_blocks.proofs.Registry.{open-span, text-laws}
+use Rattle.markdown_blocks.proofs.Registry.{text-laws}
+use Rattle.markdown_blocks.proofs.TablesFound.{front_before}
 use Rattle.markdown_blocks.proofs.ShallowBlocks.{shallow-then}
 use Rattle.markdown_blocks.proofs.Paragraph.Laws.{shallow-front}
-use Rattle.markdown_blocks.specs.Leaf.Paragraph.{then_front}
 use Rattle.markdown_blocks.proofs.RegistryRead.{AreRead, IsRead, IsReadTaken, kinds-read, read-front}
 use Rattle.markdown_blocks.proofs.RegistryContainers.{opens-read, over-empty, read-shallow}
 use Rattle.md_outline.specs.HeadingDepths.{are_shallow}
+use Rattle.md_seam.specs.Events.Spelled.{without_last}
 
 -- Containers that flow reads alone are open: those that stay on a line,
 read-stay : (options : ParseOptions) (p : Path) (r : Rest) → AreRead (containers_of p) →
@@ -131,7 +131,7 @@ shallow-shut : (options : ParseOptions) (s : Spot) → IsBuilt options → IsBui
     are_shallow (shut options s) ≡ true
 shallow-shut options s built plain h =
     text-laws.cases (λ (leaf : Leaf). are_shallow (then_leaf options s.here leaf) ≡ true) h text
-    (λ l is. (open-span l is).closed options s.here h) s.leaf plain
+    (λ l is. (further-span l is).closed options s.here h) s.leaf plain
   where
     text : (k : Kept) (ks : List Kept) → are_shallow (then_leaf options s.here (text_leaf.held (k ∷ ks))) ≡ true
     text k ks =
@@ -167,11 +167,18 @@ shallow-behind : (p : Path) (f : Blocks → Path) → HoldsShallow p →
 shallow-behind (At s) f h each = each s.here h
 shallow-behind (Within before container p) f h each = (h.0, h.1, shallow-behind p f h.2 each)
 
-shallow-came : (options : ParseOptions) (p : Path) (c : Came) → ComesShallow c → HoldsShallow p →
-    HoldsShallow (with_came options p c)
-shallow-came options (At s) c shallow h =
-    shallow (then_front options s.here s.leaf) (shallow-front options s.here s.leaf h)
-shallow-came options (Within before container p) c shallow h = (h.0, h.1, shallow-came options p c shallow h.2)
+shallow-before : (heads : Bool) (options : ParseOptions) (bs : Blocks) (open_leaf : Leaf) → are_shallow bs ≡ true →
+    are_shallow (front_before heads options bs open_leaf) ≡ true
+shallow-before true options bs (OpenParagraph lines) h = text-laws.shallow options bs (texts (without_last lines)) h
+shallow-before true options bs _ h = h
+shallow-before false options bs open_leaf h = shallow-front options bs open_leaf h
+
+shallow-came : (options : ParseOptions) (heads : Bool) (p : Path) (c : Came) → ComesShallow c → HoldsShallow p →
+    HoldsShallow (with_came options heads p c)
+shallow-came options heads (At s) c shallow h =
+    shallow (front_before heads options s.here s.leaf) (shallow-before heads options s.here s.leaf h)
+shallow-came options heads (Within before container p) c shallow h =
+    (h.0, h.1, shallow-came options heads p c shallow h.2)
 
 shallow-line : (options : ParseOptions) (on : HeldLeaf) (bs : Blocks) (r : Rest) →
     is_further (line_kind options on r) on ≡ false → are_shallow bs ≡ true →
@@ -193,7 +200,7 @@ shallow-new_line options on (c ∷ cs) r bs begins read h =
 shallow-further : (options : ParseOptions) (p : Path) (c : Contained) → GoesOn options p c → AreRead c.change.stays →
     HoldsShallow p → HoldsShallow (further_path options p c)
 shallow-further options p c goes stay h =
-    shallow-came options (renewed c.change.stays p)
+    shallow-came options (takes_head (line_kind options c.on c.rest)) (renewed c.change.stays p)
     (come_by options (spot p).leaf c.rest (line_kind options c.on c.rest))
     (subst (λ (kind : RowKind). ComesShallow (come_by options (spot p).leaf c.rest kind)) (sym goes.kind)
     goes.is.shallow) (shallow-renewed c.change.stays p stay h)
@@ -321,20 +328,20 @@ empty-blank options p column plain e = go (has_lines on) refl
     on : HeldLeaf
     on = (contained_at options p r).on
 
-    by : (is : OpenSpan (spot p).leaf) (x : Bool) →
-        is_further (cond x (LeafRow is.name) (plain_kind options (still_of p) r)) (still_of p) ≡ false →
-        cond x (LeafRow is.name) (plain_kind options (still_of p) r) ≡ BlankRow
+    by : (is : FurtherSpan (spot p).leaf) (x : Bool) →
+        is_further (cond x (LeafRow is.name) (other_kind options (still_of p) r)) (still_of p) ≡ false →
+        cond x (LeafRow is.name) (other_kind options (still_of p) r) ≡ BlankRow
     by is true f = let further = is.further in cc
     by is false f = refl
 
     go : (x : Bool) → has_lines on ≡ x → line_kind options on r ≡ BlankRow
     go true lines =
         let same : on ≡ still_of p = contained-still options (containers_of p) (still_of p) r (lines-open on lines) in
-        let is : OpenSpan (spot p).leaf = span-open (spot p).leaf plain (ap has_lines (sym same) ∙ lines) in
-        let asked = asked-kind options (still_of p) r is.name is.asked in
-        ap (λ (x : HeldLeaf). line_kind options x r) same ∙ asked
-        ∙ by is ((leaf is.name).starts options (still_of p) r)
-        (ap (λ (kind : RowKind). is_further kind (still_of p)) (sym asked)
+        let is : FurtherSpan (spot p).leaf = span-open (spot p).leaf plain (ap has_lines (sym same) ∙ lines) in
+        let kind = is.kind options r in
+        ap (λ (x : HeldLeaf). line_kind options x r) same ∙ kind
+        ∙ by is (is.takes options r)
+        (ap (λ (k : RowKind). is_further k (still_of p)) (sym kind)
         ∙ ap (λ (x : HeldLeaf). is_further (line_kind options x r) x) (sym same) ∙ e)
     go false lines = kind-plain options on r (insider-none on lines)
 

@@ -96,7 +96,7 @@ row-adds said text behind r p stop is h k =
     (rest-same (List Event) (λ (l : List Cell). row.runs row.Apart (line_cells l) p) said (λ at cs. refl) r p stop one
     is.cut
     ∙ ap (λ (l : List Cell). row.runs row.Apart l p) (spread-line said (rest_line r) p stop (rest-no_ending r h) k)
-    ∙ by_row.spread-runs row.Apart said (rest_line r) p one)
+    ∙ by_row.row-spread row.Apart said (rest_line r) p one)
     (rest-line_end said r p stop h k one is.cut)
   where
     one : 1 ≤ p.column

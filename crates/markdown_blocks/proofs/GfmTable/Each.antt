@@ -121,9 +121,13 @@ row-bytes P of run (b ∷ bs) p =
 
 delimiter-line : (P : Event → Type 0) → OfTable P → (inside : List Event) (p q : Point) → Each P inside →
     Each P (delimiter.row_opens p ++ inside ++ delimiter.row_closes q)
-delimiter-line P of inside p q h =
-    (of.begins p, (of.of.delimiter_row.0 p,
-    each-append P inside (delimiter.row_closes q) h (of.of.delimiter_row.1 q, (of.ends q, tt))))
+delimiter-line P of inside p q h = (
+  of.begins p,
+  (
+    of.of.delimiter_row.0 p,
+    each-append P inside (delimiter.row_closes q) h (of.of.delimiter_row.1 q, (of.ends q, tt)),
+  ),
+)
 
 row-line : (P : Event → Type 0) → OfTable P → (inside : List Event) (p q : Point) → Each P inside →
     Each P (row.row_opens Body p ++ inside ++ row.row_closes Body q)
