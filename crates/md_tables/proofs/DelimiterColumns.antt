@@ -19,6 +19,7 @@ use Rattle.md_tables.proofs.CellLemmas.{cell-is, dark-next, dark-rest, ends_cell
 use Rattle.md_tables.proofs.CellLemmas.{trimmed-dark, trimmed-whole}
 use Rattle.md_tables.proofs.DelimiterLemmas.{told-as, white-mark}
 use Rattle.md_tables.proofs.RowSteps.{white-apart}
+use Rattle.md_tables.proofs.WhiteEnds.{blank-light}
 
 -- The pieces of a row.
 
@@ -322,10 +323,6 @@ ends-behind : (k : List ℕ) (x : ℕ) (ws : List ℕ) → ends_dark (k ++ x ∷
 ends-behind [] x ws = refl
 ends-behind (y ∷ []) x ws = refl
 ends-behind (y ∷ z ∷ k) x ws = ends-behind (z ∷ k) x ws
-
-blank-light : (x : ℕ) (ws : List ℕ) → is_blank (x ∷ ws) ≡ true → ends_dark (x ∷ ws) ≡ false
-blank-light x [] h = let white = (and_parts (is_white x) true h).0 in rw white refl
-blank-light x (w ∷ ws) h = blank-light w ws (and_parts (is_white x) (is_blank (w ∷ ws)) h).1
 
 no-tail : (k ws : List ℕ) → ends_dark (k ++ ws) ≡ true → is_blank ws ≡ true → ws ≡ []
 no-tail k [] h blank = refl

@@ -1,7 +1,7 @@
 -- What is read of a delimiter row: its line without outer whitespace.
-use Rattle.std.proofs.Common.{◌≡◌, ℕ, zero, suc, ◌+◌, Bool, true, false, cond, List, [], ◌∷◌, ◌++◌, drop, slice_range, refl}
-use Rattle.std.proofs.Common.{sym, ◌∙◌, ap, ap₂, arith}
-use Rattle.std.specs.Prelude.{◌==◌, Option, Some, None, option_map}
+use Rattle.std.proofs.Common.{◌≡◌, ℕ, ◌+◌, Bool, true, false, cond, List, [], ◌∷◌, ◌++◌, drop, slice_range, refl}
+use Rattle.std.proofs.Common.{sym, ◌∙◌, ap}
+use Rattle.std.specs.Prelude.{◌==◌, Option, Some, None}
 use Rattle.md_engine.specs.declared.event.Event.{Event}
 use Rattle.md_engine.specs.declared.event.Name.{Name}
 use Rattle.md_engine.specs.declared.event.Name.TheVariants as n
@@ -11,8 +11,8 @@ use Rattle.md_definition.specs.Lines.{begins_with}
 use Rattle.md_definition.specs.Rest.{is_white, trim, trim_end, trim_start}
 use Rattle.md_seam.specs.Events.Nested.{around, exit}
 use Rattle.md_seam.specs.Events.Places.{past_byte, past_text}
-use Rattle.md_seam.specs.Events.Spelled.{AsDelimiter, IsQuiet, OpenLeaf, Reading, Role, TableLeaf, Text, begun, byte_at}
-use Rattle.md_seam.specs.Events.Spelled.{first_told, read, role, text_to, told_at}
+use Rattle.md_seam.specs.Events.Spelled.{AsDelimiter, IsQuiet, OpenLeaf, Reading, Role, TableLeaf, begun, byte_at}
+use Rattle.md_seam.specs.Events.Spelled.{read, role, told_at}
 use Rattle.md_seam.proofs.FeedLines.{past-next, slice-front}
 use Rattle.md_seam.proofs.InlineLemmas.{past-index}
 use Rattle.md_seam.proofs.RestLines.{trim-white}

@@ -1,35 +1,23 @@
 -- The runs of a delimiter row byte by byte, as the walk that puts cells into rows meets them.
-use Rattle.std.proofs.Common.{◌≡◌, ℕ, Bool, true, false, cond, ◌&&◌, nat_eq, List, [], ◌∷◌, ◌++◌, drop, refl, sym, ◌∙◌, ap}
-use Rattle.std.proofs.Common.{ap₂, append_assoc, subst}
-use Rattle.std.proofs.lemmas.Bool.{and_parts, eqb-true}
+use Rattle.std.proofs.Common.{◌≡◌, ℕ, Bool, true, false, cond, nat_eq, List, [], ◌∷◌, ◌++◌, drop, refl, sym, ◌∙◌, ap}
+use Rattle.std.proofs.Common.{ap₂, append_assoc}
+use Rattle.std.proofs.lemmas.Bool.{and_parts}
 use Rattle.md_engine.specs.declared.event.Event.{Event}
 use Rattle.md_engine.specs.declared.event.Name.TheVariants as n
 use Rattle.md_engine.specs.declared.event.Point.{Point}
-use Rattle.md_engine.specs.declared.tokenizer.Scratch.{Scratch}
-use Rattle.md_definition.specs.Bytes.{begins, is_end}
-use Rattle.md_definition.specs.Lines.{begins_with}
 use Rattle.md_definition.specs.Rest.{is_blank, is_white, trim_end, trim_start}
 use Rattle.md_seam.specs.Events.Nested.{enter, exit}
 use Rattle.md_seam.specs.Events.Places.{past_byte, past_text}
-use Rattle.md_seam.proofs.InlineLemmas.{past_text-append}
 use Rattle.md_seam.proofs.RestLines.{trim-white}
-use Rattle.md_tables.specs.Cells.{celled, ends_row, first_is, is_white as is_white_name, row_ends}
-use Rattle.md_tables.specs.Delimiter.{Aligns, Dash, Divides as Pipes, Mark, Other, Stops, White, mark_of}
-use Rattle.md_tables.specs.DelimiterCells.{delimiter_events, delimiter_runs, value_part}
-use Rattle.md_tables.specs.DelimiterRule.{Apart, Behind as BehindCell, Colon, Dashes, Filler, Front as FrontOfRow, Left, Open}
-use Rattle.md_tables.specs.DelimiterRule.{Pipe, Place, Run, Space, begun, closes, counted, fits, goes_on, led, met, move, opens}
-use Rattle.md_tables.specs.RowCells.{Cells, Divides, Ends, Shut, behind_pipe, cell_by, cells_by, cells_of, line_cells, onto}
+use Rattle.md_tables.specs.Cells.{ends_row, first_is, is_white as is_white_name, row_ends}
+use Rattle.md_tables.specs.DelimiterCells.{delimiter_runs, value_part}
+use Rattle.md_tables.specs.DelimiterRule.{Apart, Colon, Filler}
+use Rattle.md_tables.specs.DelimiterRule.{Pipe, Run, Space, begun, closes, goes_on, opens}
+use Rattle.md_tables.specs.RowCells.{Cells, behind_pipe, cell_by, cells_of, onto}
 use Rattle.md_tables.specs.RowCells.{white_back, white_front, white_part}
-use Rattle.md_tables.specs.declared.cells.RowKind.TheVariants.{Delimiter}
-use Rattle.md_tables.specs.declared.cells.Stage.TheVariants.{Behind, Front, Inner, Within}
-use Rattle.md_tables.proofs.DelimiterLemmas.{Told, told}
-use Rattle.md_tables.proofs.PipeWalk.{dark-looks, pipe-walk, pipe_runs, white-behind}
-use Rattle.md_tables.proofs.RowBytes.{front-whole}
-use Rattle.md_tables.proofs.DelimiterColumns.{colon-slash, dash-slash}
-use Rattle.md_tables.proofs.RowCellLemmas.{cells-none, cells-pipe, cells-plain}
-use Rattle.md_tables.proofs.RowCellLemmas.{behind_first, cells-begin, dark-cell, first-behind, first-onto, first_cell}
-use Rattle.md_tables.proofs.RowCellLemmas.{left_of, onto-left, white-blank, white-ends, white-first, white-more, white_left}
-use Rattle.md_tables.proofs.RowSteps.{white-apart}
+use Rattle.md_tables.proofs.PipeWalk.{dark-looks, pipe_runs}
+use Rattle.md_tables.proofs.RowCellLemmas.{behind_first, dark-cell, first-behind, first_cell}
+use Rattle.md_tables.proofs.RowCellLemmas.{left_of, onto-left, white_left}
 use Rattle.md_tables.proofs.WhiteEnds.{blank-first, dark-first, end-blank, end-more, front-none, front-one, start-none}
 
 -- What a byte does in a run.

@@ -1,41 +1,39 @@
 -- The walk that puts cells into rows gives for the runs of a delimiter row its cells, by the bytes of its line.
-use Rattle.std.proofs.Common.{◌≡◌, ℕ, Bool, true, false, cond, ◌&&◌, nat_eq, List, [], ◌∷◌, ◌++◌, drop, refl, sym, ◌∙◌, ap}
-use Rattle.std.proofs.Common.{ap₂, append_assoc, subst}
-use Rattle.std.proofs.lemmas.Bool.{and_parts, eqb-true}
+use Rattle.std.proofs.Common.{◌≡◌, ℕ, Bool, true, false, cond, nat_eq, List, [], ◌∷◌, ◌++◌, refl, sym, ◌∙◌, ap}
+use Rattle.std.proofs.Common.{append_assoc, subst}
+use Rattle.std.proofs.lemmas.Bool.{eqb-true}
 use Rattle.md_engine.specs.declared.event.Event.{Event}
 use Rattle.md_engine.specs.declared.event.Name.TheVariants as n
 use Rattle.md_engine.specs.declared.event.Point.{Point}
 use Rattle.md_engine.specs.declared.tokenizer.Scratch.{Scratch}
-use Rattle.md_definition.specs.Bytes.{begins, is_end}
 use Rattle.md_definition.specs.Lines.{begins_with}
-use Rattle.md_definition.specs.Rest.{is_blank, is_white, trim_end, trim_start}
+use Rattle.md_definition.specs.Rest.{is_blank, is_white, trim_start}
 use Rattle.md_seam.specs.Events.Nested.{enter, exit}
 use Rattle.md_seam.specs.Events.Places.{past_byte, past_text}
 use Rattle.md_seam.proofs.InlineLemmas.{past_text-append}
-use Rattle.md_seam.proofs.RestLines.{trim-white}
-use Rattle.md_tables.specs.Cells.{celled, ends_row, first_is, is_white as is_white_name, row_ends}
+use Rattle.md_tables.specs.Cells.{celled}
 use Rattle.md_tables.specs.Delimiter.{Aligns, Dash, Divides as Pipes, Mark, Other, Stops, White, mark_of}
 use Rattle.md_tables.specs.DelimiterCells.{delimiter_events, delimiter_runs, value_part}
 use Rattle.md_tables.specs.DelimiterRule.{Apart, Behind as BehindCell, Colon, Dashes, Filler, Front as FrontOfRow, Left, Open}
-use Rattle.md_tables.specs.DelimiterRule.{Pipe, Place, Run, Space, begun, closes, counted, fits, goes_on, led, met, move, opens}
-use Rattle.md_tables.specs.RowCells.{Cells, Divides, Ends, Shut, behind_pipe, cell_by, cells_by, cells_of, line_cells, onto}
-use Rattle.md_tables.specs.RowCells.{white_back, white_front, white_part}
+use Rattle.md_tables.specs.DelimiterRule.{Place, Run, Space, begun, closes, counted, fits, goes_on, led, met, move, opens}
+use Rattle.md_tables.specs.RowCells.{Cells, behind_pipe, cell_by, cells_by, cells_of, line_cells}
+use Rattle.md_tables.specs.RowCells.{white_front, white_part}
 use Rattle.md_tables.specs.declared.cells.RowKind.TheVariants.{Delimiter}
 use Rattle.md_tables.specs.declared.cells.Stage.TheVariants.{Behind, Front, Inner, Within}
 use Rattle.md_tables.proofs.DelimiterLemmas.{Told, told}
-use Rattle.md_tables.proofs.PipeWalk.{dark-looks, pipe-walk, pipe_runs, white-behind}
+use Rattle.md_tables.proofs.PipeWalk.{pipe-walk, white-behind}
 use Rattle.md_tables.proofs.RowBytes.{front-whole}
 use Rattle.md_tables.proofs.DelimiterColumns.{colon-slash, dash-slash}
 use Rattle.md_tables.proofs.RowCellLemmas.{cells-none, cells-pipe, cells-plain}
-use Rattle.md_tables.proofs.RowCellLemmas.{behind_first, cells-begin, dark-cell, first-behind, first-onto, first_cell}
-use Rattle.md_tables.proofs.RowCellLemmas.{left_of, onto-left, white-blank, white-ends, white-first, white-more, white_left}
+use Rattle.md_tables.proofs.RowCellLemmas.{cells-begin, first-behind, first-onto, first_cell}
+use Rattle.md_tables.proofs.RowCellLemmas.{white-blank, white-ends, white-first, white-more, white_left}
 use Rattle.md_tables.proofs.RowSteps.{white-apart}
-use Rattle.md_tables.proofs.WhiteEnds.{blank-first, dark-first, end-blank, end-more, front-none, front-one, start-none}
-use Rattle.md_tables.proofs.DelimiterRuns.{space-opens, space-on, space-ends, space-alone, blank-runs, space-front}
-use Rattle.md_tables.proofs.DelimiterRuns.{front-runs, piped, pipe-alone, pipe-opens, value-pipe, value_left}
-use Rattle.md_tables.proofs.DelimiterRuns.{value-first, value-more, value-turns, value-ends, behind, left_by}
-use Rattle.md_tables.proofs.DelimiterRuns.{cells_left, left_in_space, left_in_value, onto-by, pipe-by, row_end, Begun}
-use Rattle.md_tables.proofs.DelimiterRuns.{run-begun, SpaceRun, space-run, last-pipe}
+use Rattle.md_tables.proofs.WhiteEnds.{blank-first}
+use Rattle.md_tables.proofs.DelimiterRuns.{space-opens, space-on, space-ends, blank-runs}
+use Rattle.md_tables.proofs.DelimiterRuns.{piped, pipe-opens, value-pipe, value_left}
+use Rattle.md_tables.proofs.DelimiterRuns.{value-first, value-more, value-turns, value-ends, behind}
+use Rattle.md_tables.proofs.DelimiterRuns.{cells_left, left_in_space, left_in_value, onto-by, pipe-by, row_end}
+use Rattle.md_tables.proofs.DelimiterRuns.{last-pipe}
 
 -- The walk.
 

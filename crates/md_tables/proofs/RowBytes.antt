@@ -1,6 +1,6 @@
 -- The bytes of a row: its cells with the pipes between them are its line, and each cell is its text with the whitespace
 -- around it.
-use Rattle.std.proofs.Common.{◌≡◌, ℕ, ◌+◌, Bool, true, false, cond, nat_eq, List, [], ◌∷◌, ◌++◌, length, take, drop}
+use Rattle.std.proofs.Common.{◌≡◌, ℕ, Bool, true, false, cond, nat_eq, List, [], ◌∷◌, ◌++◌, drop}
 use Rattle.std.proofs.Common.{slice_range, refl, sym, ◌∙◌, ap, append_assoc}
 use Rattle.std.specs.List.{prefix_len}
 use Rattle.std.proofs.lemmas.Bool.{eqb-true}

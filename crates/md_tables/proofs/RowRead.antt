@@ -1,5 +1,5 @@
 -- What is read of a row of a table: its cells, as the line definition has them.
-use Rattle.std.proofs.Common.{◌≡◌, ℕ, ◌+◌, Bool, true, false, cond, List, [], ◌∷◌, ◌++◌, length, drop, map, refl, sym, ◌∙◌}
+use Rattle.std.proofs.Common.{◌≡◌, ℕ, ◌+◌, Bool, true, false, cond, List, [], ◌∷◌, ◌++◌, drop, map, refl, sym, ◌∙◌}
 use Rattle.std.proofs.Common.{ap, ap₂, append_assoc, append-nil, slice_range, subst}
 use Rattle.std.specs.Prelude.{◌==◌, Option, Some, None, option_map}
 use Rattle.md_engine.specs.declared.event.Event.{Event}
@@ -16,16 +16,13 @@ use Rattle.md_seam.specs.Events.Nested.{around, exit, pair}
 use Rattle.md_seam.specs.Events.Places.{past_byte, past_text, same_place}
 use Rattle.md_seam.specs.Events.Spelled.{AsCell, OpenLeaf, Reading, TableLeaf, Text, at_cell, at_row, begun, byte_at}
 use Rattle.md_seam.specs.Events.Spelled.{first_told, on_last, on_leaf, read, role, text_to, told_at}
-use Rattle.md_seam.proofs.FeedLines.{drop-past}
-use Rattle.md_seam.proofs.InlineLemmas.{past-index, past-vs}
-use Rattle.md_seam.proofs.SpelledLemmas.{Quiet, QuietOrEnding, Roles, read-append, read-from, read-inline, read-quiet}
+use Rattle.md_seam.proofs.SpelledLemmas.{Quiet, QuietOrEnding, Roles, read-from, read-inline, read-quiet}
 use Rattle.md_seam.proofs.SpelledLemmas.{roles-append}
 use Rattle.md_tables.specs.RowCells.{Cells, Divides, Ends, Shut, cell_inside, cells_events, first_pipe, line_cells, past_pipe}
 use Rattle.md_tables.specs.RowCells.{pipe_part, read_text, row_events, text_part, white_back, white_front, white_part}
-use Rattle.md_tables.proofs.RowBytes.{Stands, cell-whole, cells_bytes, front-whole, line-bytes, pipe_bytes, stands-first}
+use Rattle.md_tables.proofs.RowBytes.{Stands, cell-whole, cells_bytes, line-bytes, pipe_bytes, stands-first}
 use Rattle.md_tables.proofs.RowBytes.{stands-line, stands-next}
 use Rattle.md_tables.proofs.RowTexts.{held-cells, held_in}
-use Rattle.md_tables.proofs.WhiteEnds.{front-none, front-one}
 
 -- A table is open, and no text is being read: behind these rows stands one with these cells.
 abbrev pub in_row : Reading → List ℕ → List (List (List ℕ)) → List (List ℕ) → Reading

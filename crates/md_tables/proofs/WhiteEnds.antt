@@ -1,10 +1,8 @@
 -- Bytes in two: up to the last that is no whitespace, and the whitespace behind it.
-use Rattle.std.proofs.Common.{◌≡◌, ℕ, suc, ◌+◌, Bool, true, false, ◌&&◌, cond, List, [], ◌∷◌, ◌++◌, length, take, drop}
+use Rattle.std.proofs.Common.{◌≡◌, ℕ, Bool, true, false, ◌&&◌, List, [], ◌∷◌, ◌++◌, length, take, drop}
 use Rattle.std.proofs.Common.{refl, sym, ◌∙◌, ap, append_assoc}
-use Rattle.std.specs.List.{prefix_len}
 use Rattle.std.proofs.lemmas.Bool.{and_parts}
 use Rattle.std.proofs.lemmas.List.{drop_at}
-use Rattle.std.specs.Prelude.{not, if◌then◌else◌}
 use Rattle.md_definition.specs.Bytes.{is_end}
 use Rattle.md_definition.specs.Rest.{is_blank, is_white, trim_end, trim_start}
 use Rattle.md_definition.specs.Texts.{first_byte}
