@@ -111,9 +111,9 @@ unfolding head_line
 head-last bytes options p q r = last_point-append p (head_row (cells_between bytes options p q) p) _
 
 -- not behind where its chunk does
-pub head-within : (bytes : List ℕ) (options : ParseOptions) (p q : Point) → p.index ≤ q.index →
+pub head-ends : (bytes : List ℕ) (options : ParseOptions) (p q : Point) → p.index ≤ q.index →
     (line_end (cells_between bytes options p q) p).index ≤ q.index
-head-within bytes options p q le =
+head-ends bytes options p q le =
     onward-end q.index p (line_cells (cells_between bytes options p q)) (between-onward bytes options p q le)
 
 all-around : (P : Event → Type 0) (e f : Event) (inside : List Event) → P e → All P inside → P f →
