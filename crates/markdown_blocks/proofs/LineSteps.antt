@@ -18,7 +18,6 @@ use Rattle.md_definition.specs.Step.{is_open_text, lazy_by, leaf_line, leaf_line
 use Rattle.md_definition.specs.Step.{stopped, stopped_by}
 use Rattle.md_definition.specs.Step.{text_line, underline_or_text, with_lazy}
 use Rattle.md_definition.specs.Tree.{Blocks, End}
-use Rattle.md_parts.specs.Progress.{progress}
 use Rattle.md_definition.proofs.ColumnLemmas.{opened_by, step_by}
 use Rattle.md_definition.proofs.ContainerLemmas.{opens-leaves}
 use Rattle.md_definition.proofs.TakenLemmas.{LeavesFewer}
@@ -31,7 +30,7 @@ use Rattle.markdown_blocks.specs.Rows.{BlankRow, LeafRow, RowKind, TextRow, insi
 use Rattle.markdown_blocks.specs.Rows.{kind_of, line_kind}
 use Rattle.markdown_blocks.specs.HeldLeaf.{IsBuiltLeaf, kind_of_leaf, met_by}
 use Rattle.markdown_blocks.specs.Stands.{IsPlain, containers_of, still_of}
-use Rattle.markdown_blocks.specs.Leaf.Paragraph.{held_of, then_front}
+use Rattle.markdown_blocks.specs.Leaf.Paragraph.{held_of, open_lines, then_front}
 use Rattle.markdown_blocks.proofs.ContainedLemmas.{change-opens, ended-open, lazy-some, lines-unlazy}
 use Rattle.markdown_blocks.proofs.KindLemmas.{kind-plain, kind-starts}
 use Rattle.markdown_blocks.proofs.OpenSpan.{AllBegin, OpenSpan}
@@ -574,7 +573,7 @@ lazy-stepped options before c p r built leaf e plain =
             to false (came_of options r o) ≡ longer_by (text_on (k ∷ ks)) (kind_of o)
         by dark (Some l) found =
             plain_line ∙ ap (λ (x : Bool). other (kind_by held_leaf.None x)) dark
-            ∙ ap (λ (o : Option LeafName). other (kind_of o)) (text-starts options (progress (texts (k ∷ ks))) r l found)
+            ∙ ap (λ (o : Option LeafName). other (kind_of o)) (text-starts options (open_lines (k ∷ ks)) r l found)
         by dark None found =
             ap (Within before c)
             (at_spot-longer p (k ∷ ks) (kept r ∷ []) e

@@ -18,10 +18,10 @@ use Rattle.md_definition.specs.Tree.{Blocks, Heading}
 use Rattle.md_definition.specs.State.{then_block}
 use Rattle.md_parts.proofs.ProgressLemmas.{progress-cut}
 use Rattle.md_parts.specs.Progress.{is_none_left}
-use Rattle.markdown_blocks.specs.Leaf.Paragraph.{open_lines}
+use Rattle.md_parts.specs.Progress.{progress}
 use Rattle.markdown_blocks.proofs.HeadingSetext.Found.{none-underlined}
 use Rattle.markdown_blocks.specs.Leaf.HeadingSetext.{depth_of, setext_leaf}
-use Rattle.markdown_blocks.specs.Leaf.Paragraph.{then_front}
+use Rattle.markdown_blocks.specs.Leaf.Paragraph.{open_lines, then_front}
 use Rattle.markdown_blocks.specs.Parsed.{IsBuilt}
 use Rattle.markdown_blocks.specs.Registry.{HeadingSetext, LeafName, leaf, text_leaf, trials}
 use Rattle.markdown_blocks.proofs.HeadingSetext.Found.{setext-found}
@@ -199,7 +199,7 @@ text-comes options bs k ks r dark built = go (may_turn options on) refl
     behind l e found false goes = refl
     behind l e found true goes =
         let starts = first-passes (λ m. (leaf m).starts options on r) trials l found in
-        let name : l ≡ HeadingSetext = further-text (progress (texts lines)) l goes in
+        let name : l ≡ HeadingSetext = further-text (open_lines lines) l goes in
         let bad : true ≡ false = sym starts ∙ ap (λ (m : LeafName). (leaf m).starts options on r) name ∙ e in
         cc
 
@@ -218,7 +218,7 @@ text-comes options bs k ks r dark built = go (may_turn options on) refl
     -- no underline stands here
     other : underline_depth options r ≡ None → setext_leaf.starts options on r ≡ false → Done None
     other none e =
-        ap (text_by options bs lines r) (unturned-starts options (progress (texts lines)) r none e dark)
+        ap (text_by options bs lines r) (unturned-starts options (open_lines lines) r none e dark)
         ∙ by e (leaf_at options on r) refl
 
     -- one may turn the text
@@ -241,7 +241,7 @@ text-comes options bs k ks r dark built = go (may_turn options on) refl
         ap (underline_or_text options bs lines r) none ∙ other none (unturned-setext options on r may)
     turns_none may (Some depth) found =
         ap (underline_or_text options bs lines r) found ∙ turned-none options bs lines r depth (left false may)
-        ∙ ap (text_came options bs lines r) (sym (lost-none options (progress (texts lines)) r depth may found))
+        ∙ ap (text_came options bs lines r) (sym (lost-none options (open_lines lines) r depth may found))
 
     go : (x : Bool) → may_turn options on ≡ x → Done (underline_depth options r)
     go true may = turns may (setext_leaf.starts options on r) refl

@@ -11,7 +11,7 @@ use Rattle.md_definition.proofs.TextsLemmas.{Both, Ending, LineFeed, Return, end
 use Rattle.md_definition.specs.Leaves.{Finished, Opened}
 use Rattle.markdown_blocks.proofs.SpelledGroups.{IsTurnLeft}
 use Rattle.markdown_blocks.specs.HeldLeaf.{kind_of_leaf, may_go_on}
-use Rattle.markdown_blocks.specs.Leaf.Paragraph.{then_front}
+use Rattle.markdown_blocks.specs.Leaf.Paragraph.{open_lines, then_front}
 use Rattle.markdown_blocks.specs.Registry.{further_of}
 use Rattle.markdown_blocks.specs.Rows.{group_done, is_further, is_last, onto_span}
 use Rattle.markdown_blocks.proofs.GroupsAre.{AreLines, kept-of, line-begins, line-of}
@@ -78,7 +78,7 @@ use Rattle.markdown_blocks.proofs.SpelledGroups.{starts-read, came-none, came-op
 use Rattle.markdown_blocks.proofs.SpelledGroups.{kind-name, line-is, no-joins, other-kind, read-fronts, read-open}
 use Rattle.markdown_blocks.proofs.SpelledGroups.{reading-came, shown-leaf, single-reads, span-alike, span-rows}
 use Rattle.markdown_blocks.proofs.SpelledGroups.{starts-alike, starts-lines, still-line, text-kind, turn-inside}
-use Rattle.md_parts.specs.Progress.{progress, progress_of}
+use Rattle.md_parts.specs.Progress.{progress_of}
 
 -- The lines of a text, with the one that turns it if one does.
 
@@ -147,7 +147,7 @@ text-whole options bytes o row rows (Some under) none are turned left =
 -- a leaf that takes lazy lines is text
 lazy-open : (open_leaf : Leaf) → takes_lazy (kind_of_leaf open_leaf) ≡ true →
     (at : OpenText) × (kind_of_leaf open_leaf ≡ held_leaf.Text at)
-lazy-open (OpenParagraph lines) lazy = (progress (texts lines), refl)
+lazy-open (OpenParagraph lines) lazy = (open_lines lines, refl)
 lazy-open _ lazy = cc
 
 abbrev MeansLine : ParseOptions → List ℕ → Path → Point → Row → List Group → Reading → Type 0
