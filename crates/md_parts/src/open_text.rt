@@ -61,8 +61,8 @@ fn with_text(leaf: HeldLeaf, indent: usize, text: &[u8]) -> HeldLeaf
     })
 }
 
-/// What is held of a text behind one more line, which begins at this column, from 0, perhaps within a tab; the line meets
-/// this leaf. Most lines begin with no whitespace.
+/// What is held of a text behind one more line, which begins at this column, from 0, perhaps within a tab; the line
+/// meets this leaf. Most lines begin with no whitespace.
 pub fn text_behind(leaf: HeldLeaf, column: usize, cut: bool, line: &[u8]) -> HeldLeaf
     requires { length line.now < 2 ^ 61 }
     ensures { result ≡ text_behind leaf (begun_rest column cut line.now) }

@@ -32,11 +32,10 @@ pub record Turns (options : ParseOptions) (bytes : List ℕ) (last under : Row) 
 -- behind a line of text, text is open
 pub text-open : (options : ParseOptions) (bytes : List ℕ) (row : Row) (rows : List Row) →
     AreLines options bytes row rows → (at : OpenText) × ((last_row row rows).behind ≡ held_leaf.Text at)
-text-open options bytes row [] h =
-    (
-      open_text (step (progress_of row.on) (trim_start h.1.rest.bytes)) (kept h.1.rest),
-      h.1.behind ∙ ap (line_behind options row.on h.1.rest) h.2,
-    )
+text-open options bytes row [] h = (
+  open_text (step (progress_of row.on) (trim_start h.1.rest.bytes)) (kept h.1.rest),
+  h.1.behind ∙ ap (line_behind options row.on h.1.rest) h.2,
+)
 text-open options bytes row (next ∷ rows) h = text-open options bytes next rows h.7
 
 -- so a line that goes on it goes on text, and is one
