@@ -22,9 +22,9 @@ REQUESTS = 60
 # How many parts of a text must be read within the steps, and how many within the requests.
 MOST: dict[str, tuple[int, int]] = {
     "paragraphs of long lines": (7, 12),
-    "one long line": (99, 130),
+    "one long line": (98, 130),
     "headings of some words": (35, 42),
-    "setext headings": (36, 21),
+    "setext headings": (35, 21),
     "quotes of long lines": (35, 512),
     "quotes in quotes in quotes": (32, 512),
     "fences of some words": (39, 5_492),

@@ -18,11 +18,10 @@ use Rattle.md_definition.specs.Tree.{Blocks, Heading}
 use Rattle.md_definition.specs.State.{then_block}
 use Rattle.md_parts.proofs.ProgressLemmas.{progress-cut}
 use Rattle.md_parts.specs.Progress.{is_none_left, progress}
-use Rattle.markdown_blocks.specs.Leaf.Paragraph.{open_lines}
 use Rattle.markdown_blocks.proofs.HeadingSetext.Found.{none-underlined}
 use Rattle.markdown_blocks.specs.Leaf.GfmTable.{may_be_table}
 use Rattle.markdown_blocks.specs.Leaf.HeadingSetext.{depth_of, setext_leaf}
-use Rattle.markdown_blocks.specs.Leaf.Paragraph.{then_front}
+use Rattle.markdown_blocks.specs.Leaf.Paragraph.{open_lines, then_front}
 use Rattle.markdown_blocks.specs.Parsed.{IsBuilt}
 use Rattle.markdown_blocks.specs.Registry.{HeadingSetext, LeafName, leaf, text_leaf, trials}
 use Rattle.markdown_blocks.proofs.HeadingSetext.Found.{setext-found}

@@ -1,5 +1,5 @@
--- A line by its cells is its rest: of its text a tab counts once, and what is left of a tab that a prefix has cut does not
--- count; where it begins, its point tells.
+-- A line by its cells is its rest: of its text a tab counts once, and what is left of a tab that a prefix has cut does
+-- not count; where it begins, its point tells.
 use Rattle.std.proofs.Common.{◌≡◌, ℕ, zero, suc, ◌+◌, ◌-◌, ◌≤◌, Bool, true, false, cond, nat_eq, nat_lt, List, [], ◌∷◌, ◌++◌}
 use Rattle.std.proofs.Common.{append-nil, refl, ap, ap₂, sym}
 use Rattle.std.proofs.Common.{◌∙◌, arith}

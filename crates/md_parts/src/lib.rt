@@ -1,5 +1,6 @@
 // The parts of a definition, as states: whitespace with at most one line ending, labels, destinations and titles; and
-// the definition that they make. What is kept of an open text from line to line, as definitions and heads of tables need it.
+// the definition that they make. And what is kept of an open text from line to line: how far definitions at its front
+// have come, and its last line as the head of a table.
 #![tactic(auto)]
 
 pub mod definition;

@@ -49,8 +49,8 @@ open_lines lines = record {
   indent = of_last (λ k. k.indent) lines;
 }
 
--- As what an open leaf is held, and whether it may be open: an open text is held with what is kept of its lines, and has
--- a line at least. Of any other leaf it is as this says.
+-- As what an open leaf is held, and whether it may be open: an open text is held with what is kept of its lines, and
+-- has a line at least. Of any other leaf it is as this says.
 abbrev pub held_or : (Leaf → HeldLeaf) → Leaf → HeldLeaf
 held_or other (OpenParagraph lines) = held_leaf.Text (open_lines lines)
 held_or other leaf = other leaf

@@ -12,5 +12,9 @@ returns-clause-value c =
 pub returns-clause-bound : goal.returns-clause-bound
 returns-clause-bound c =
     let t = c.args.tokenizer.now in
-    omega (arith, ap length c.between.ensures, slice-bound t.bytes.now t.scratch.start c.whole_from.result,
-    t.sound.placed.sized)
+    omega (
+      arith,
+      ap length c.between.ensures,
+      slice-bound t.bytes.now t.scratch.start c.whole_from.result,
+      t.sound.placed.sized,
+    )
