@@ -1,10 +1,10 @@
 -- Where the line definition has a table, how it goes on, and what is open behind a line of it.
-use Rattle.std.proofs.Common.{◌≡◌, ℕ, suc, ◌<◌, Bool, true, false, cond, ◌&&◌, ◌||◌, nat_eq, List, [], ◌∷◌}
+use Rattle.std.proofs.Common.{◌≡◌, ℕ, suc, ◌<◌, Bool, true, false, cond, ◌&&◌, ◌||◌, nat_eq, List, [], ◌∷◌, ◌++◌}
 use Rattle.std.proofs.Common.{length, map, reverse, Option, Some, None, refl, ap, ap₂, sym, ◌∙◌, subst, arith}
 use Rattle.std.specs.Prelude.{nat_lt}
 use Rattle.std.specs.Option.{is_some}
 use Rattle.std.proofs.lemmas.Bool.Decides.{nat_tests}
-use Rattle.std.proofs.lemmas.List.{length-map}
+use Rattle.std.proofs.lemmas.List.{length-map, reverse-append, reverse-reverse}
 use Rattle.md_engine.specs.declared.configuration.ParseOptions.{ParseOptions}
 use Rattle.md_engine.specs.declared.tokenizer.held_leaf.HeldLeaf.{HeldLeaf}
 use Rattle.md_engine.specs.declared.tokenizer.held_leaf.HeldLeaf.TheVariants as held_leaf
@@ -49,9 +49,8 @@ pub record KnowsHead (text : OpenText) (k : Kept) : Type 0 where
   pub columns : text.columns ≡ cond (is_head k.text) (length (row_cells k.text)) 0
   pub indent : text.indent ≡ k.indent
 
--- So where a line meets text, it comes to a table where its leaf starts: the last line of the text is the head, and the
--- lines before that are closed.
-pub table-found : (options : ParseOptions) (bs : Blocks) (lines : List Kept) (k : Kept) (before : List Kept)
+-- So it is by the lines of the text, the last one first.
+found-behind : (options : ParseOptions) (bs : Blocks) (lines : List Kept) (k : Kept) (before : List Kept)
     (text : OpenText) (r : Rest) →
     reverse lines ≡ k ∷ before → KnowsHead text k →
     table_at options bs lines r ≡
@@ -60,7 +59,7 @@ pub table-found : (options : ParseOptions) (bs : Blocks) (lines : List Kept) (k 
     (came (shut_paragraph options bs (texts (reverse before)))
     (table_leaf.comes options (OpenParagraph lines) r))) None
 unfolding table_at
-table-found options bs lines k before text r last knows =
+found-behind options bs lines k before text r last knows =
     subst Found (sym last)
     (ap (λ (o : Option Spot). cond (on && small) o None) (as-head (delimiter_columns row))
     ∙ go on small (is_small options k.indent) (is_head k.text) (delimiter_columns row)
@@ -119,6 +118,24 @@ table-found options bs lines k before text r last knows =
     go true true false true (Some m) = rw some refl
     go true true true true None = rw some refl
     go true true true true (Some m) = rw some (ap (λ (x : Bool). cond x here None) (same-either size m))
+
+-- Where a line meets text, that comes to a table where the leaf starts: its last line is the head, and the lines before
+-- that are closed.
+pub table-found : (options : ParseOptions) (bs : Blocks) (before : List Kept) (k : Kept) (text : OpenText) (r : Rest) →
+    KnowsHead text k →
+    table_at options bs (before ++ k ∷ []) r ≡
+    cond (table_leaf.starts options (held_leaf.Text text) r)
+    (Some
+    (came (shut_paragraph options bs (texts before))
+    (table_leaf.comes options (OpenParagraph (before ++ k ∷ [])) r))) None
+table-found options bs before k text r knows =
+    found-behind options bs (before ++ k ∷ []) k (reverse before) text r (reverse-append before (k ∷ [])) knows
+    ∙ ap
+    (λ (ks : List Kept).
+    cond (table_leaf.starts options (held_leaf.Text text) r)
+    (Some
+    (came (shut_paragraph options bs (texts ks)) (table_leaf.comes options (OpenParagraph (before ++ k ∷ [])) r)))
+    None) (reverse-reverse before)
 
 -- It starts on text only where tables are on.
 pub table-enabled : (options : ParseOptions) (text : OpenText) (r : Rest) →
