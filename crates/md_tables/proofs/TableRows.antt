@@ -16,7 +16,8 @@ use Rattle.md_tables.specs.RowRule as text
 use Rattle.md_tables.specs.TableLines.{delimiter_row, row_celled, text_row}
 use Rattle.md_tables.specs.declared.cells.RowKind.TheVariants.{Delimiter, Text}
 use Rattle.md_tables.specs.declared.cells.Stage.TheVariants.{Front}
-use Rattle.md_tables.proofs.DelimiterWalk.{delimiter-celled, front-runs}
+use Rattle.md_tables.proofs.DelimiterRuns.{front-runs}
+use Rattle.md_tables.proofs.DelimiterWalk.{delimiter-celled}
 use Rattle.md_tables.proofs.RowNests.{ArePairs, pairs-append}
 use Rattle.md_tables.proofs.RowWalk.{row-celled}
 use Rattle.md_tables.proofs.TabledLines.{AreFree, free-append}
