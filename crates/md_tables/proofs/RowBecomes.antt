@@ -1,21 +1,25 @@
 -- A row whose texts are not read yet becomes the row with its texts read.
 use Rattle.std.proofs.Common.{◌≡◌, ℕ, Bool, true, false, List, [], ◌∷◌, ◌++◌, drop, refl, sym, ◌∙◌, ap, append_assoc}
-use Rattle.std.proofs.Common.{append-nil, subst}
-use Rattle.std.specs.Prelude.{None}
+use Rattle.std.proofs.Common.{append-nil, subst, ap₂, arith, cond, length, suc, slice_range, ◌+◌, ◌&&◌}
+use Rattle.std.proofs.lemmas.Bool.Decides.{nat_tests}
+use Rattle.std.proofs.lemmas.List.Sums.{take_while-cons}
+use Rattle.std.specs.Prelude.{◌==◌, None, not}
 use Rattle.md_engine.specs.declared.event.Event.{Event}
 use Rattle.md_engine.specs.declared.event.Name.TheVariants as n
 use Rattle.md_engine.specs.declared.event.Point.{Point}
 use Rattle.md_definition.specs.Bytes.{begins}
-use Rattle.md_definition.specs.Lines.{begins_with}
+use Rattle.md_definition.specs.Lines.{begins_with, is_ending, without_ending}
 use Rattle.md_definition.specs.Rest.{is_white, trim, trim_start}
 use Rattle.md_definition.proofs.TextsLemmas.{NoEnding}
-use Rattle.md_seam.specs.Events.Nested.{around, enter, exit}
-use Rattle.md_seam.specs.Events.Places.{past_byte, past_text}
+use Rattle.md_seam.specs.Events.Inline.{pair_unless_empty}
+use Rattle.md_seam.specs.Events.Nested.{around, enter, exit, pair}
+use Rattle.md_seam.specs.Events.Places.{past_byte, past_text, same_place}
+use Rattle.md_seam.proofs.InlineLemmas.{past-index, same-refl}
 use Rattle.md_tables.specs.RowCells.{Cells, Divides, Ends, Shut, cell_inside, cells_events, first_pipe, line_cells, past_pipe}
 use Rattle.md_tables.specs.RowCells.{pipe_part, read_text, row_events, text_part, unread_text, white_back, white_front}
 use Rattle.md_tables.specs.RowCells.{white_part}
 use Rattle.md_tables.proofs.RowBytes.{Stands, cell-whole, cells_bytes, front-whole, line-bytes, pipe_bytes, stands-next}
-use Rattle.md_tables.proofs.RowBytes.{stands-line}
+use Rattle.md_tables.proofs.RowBytes.{stands-first, stands-line}
 
 -- events that are not read later
 abbrev pub AreUnlinked : List Event → Type 0
@@ -213,3 +217,39 @@ row-becomes bytes B is line behind p text none whole =
 
     front : List Event
     front = white_part (white_front line) p
+
+-- What the plain layer reads in a text of a cell is `Data` over it.
+
+without-none : (line : List ℕ) → NoEnding line → without_ending line ≡ line
+without-none [] h = refl
+without-none (b ∷ line) h =
+    take_while-cons (λ (b : ℕ). not (is_ending b)) b line
+    ∙ ap (λ (x : Bool). cond (not x) (b ∷ without_ending line) []) h.0
+    ∙ ap (λ (l : List ℕ). b ∷ l) (without-none line h.1)
+
+-- a text that is not empty ends elsewhere than it begins
+apart : (b : ℕ) (bs : List ℕ) (p : Point) → same_place p (past_text (b ∷ bs) p) ≡ false
+apart b bs p =
+    let q = past_text (b ∷ bs) p in
+    let far : q.index ≡ p.index + suc (length bs) = past-index (b ∷ bs) p in
+    let other : (p.index == q.index) ≡ false = grind (arith, nat_tests) in
+    ap (λ (x : Bool). x && (p.vs == q.vs)) other
+
+pub data-read : (bytes : List ℕ) (b : ℕ) (bs : List ℕ) (p : Point) → Stands bytes p (b ∷ bs) → NoEnding (b ∷ bs) →
+    read_text bytes p (past_text (b ∷ bs) p) ≡ pair n.Data p (past_text (b ∷ bs) p)
+data-read bytes b bs p is none =
+    ap (λ (t : List ℕ). said (past_text (without_ending t) p)) text
+    ∙ ap (λ (t : List ℕ). said (past_text t p)) (without-none (b ∷ bs) none)
+    ∙ ap₂ (λ (x y : Bool). (cond x [] (pair n.Data p q) ++ cond y [] (pair n.LineEnding q q)) ++ []) (apart b bs p)
+    (same-refl q)
+  where
+    q : Point
+    q = past_text (b ∷ bs) p
+
+    said : Point → List Event
+    said end = (pair_unless_empty n.Data p end ++ pair_unless_empty n.LineEnding end q) ++ []
+
+    text : slice_range bytes p.index q.index ≡ b ∷ bs
+    text =
+        stands-first bytes p (b ∷ bs) []
+        (subst (λ (xs : List ℕ). Stands bytes p xs) (sym (append-nil (b ∷ bs))) is)
