@@ -6,3 +6,8 @@ pub mod Found
 pub mod Registers
 pub mod Span
 pub mod Laws
+pub mod RowAt
+pub mod Row
+pub mod DelimiterRow
+pub mod TableForm
+pub mod TableUnread
