@@ -11,3 +11,4 @@ pub mod Row
 pub mod DelimiterRow
 pub mod TableForm
 pub mod TableUnread
+pub mod TableParts
