@@ -12,3 +12,4 @@ pub mod DelimiterRow
 pub mod TableForm
 pub mod TableUnread
 pub mod TableParts
+pub mod TableFacts
