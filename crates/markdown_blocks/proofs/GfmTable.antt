@@ -13,3 +13,4 @@ pub mod TableForm
 pub mod TableUnread
 pub mod TableParts
 pub mod TableFacts
+pub mod TableBecomes
