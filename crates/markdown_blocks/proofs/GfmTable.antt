@@ -14,3 +14,4 @@ pub mod TableUnread
 pub mod TableParts
 pub mod TableFacts
 pub mod TableBecomes
+pub mod TableLaws

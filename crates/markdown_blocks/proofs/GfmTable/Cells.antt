@@ -37,7 +37,7 @@ use Rattle.markdown_blocks.proofs.RestFacts.{rest-line_end, rest-no_ending, rest
 -- Where it stands.
 
 -- text that may be a head has cells
-head-some : (options : ParseOptions) (at : OpenText) → may_head options at ≡ true → 0 < at.columns
+pub head-some : (options : ParseOptions) (at : OpenText) → may_head options at ≡ true → 0 < at.columns
 head-some options at e =
     let some : nat_lt 0 at.columns ≡ true =
     (and_parts options.constructs.gfm_table (nat_lt 0 at.columns)
@@ -96,7 +96,7 @@ row-adds said text behind r p stop is h k =
     (rest-same (List Event) (λ (l : List Cell). row.runs row.Apart (line_cells l) p) said (λ at cs. refl) r p stop one
     is.cut
     ∙ ap (λ (l : List Cell). row.runs row.Apart l p) (spread-line said (rest_line r) p stop (rest-no_ending r h) k)
-    ∙ by_row.spread-runs row.Apart said (rest_line r) p one)
+    ∙ by_row.row-spread row.Apart said (rest_line r) p one)
     (rest-line_end said r p stop h k one is.cut)
   where
     one : 1 ≤ p.column
