@@ -1,7 +1,7 @@
 -- A delimiter row with its cells, by the bytes of its line (GFM 4.10).
 --
 -- It is cut as any row. A cell holds its dashes, with a colon perhaps on either side, and whitespace around them.
-use Rattle.std.specs.Prelude.{ℕ, List, [], ◌∷◌, ◌++◌}
+use Rattle.std.specs.Prelude.{ℕ, List, [], ◌∷◌}
 use Rattle.md_engine.specs.declared.event.Event.{Event}
 use Rattle.md_engine.specs.declared.event.Name.TheVariants as n
 use Rattle.md_engine.specs.declared.event.Point.{Point}

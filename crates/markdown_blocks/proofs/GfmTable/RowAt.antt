@@ -1,12 +1,12 @@
 -- Where the line of a row stands in a text, and the bytes of its cells on it.
-use Rattle.std.proofs.Common.{◌≡◌, ℕ, zero, suc, Bool, true, false, ◌||◌, List, [], ◌∷◌, ◌++◌, drop, refl, sym, ap, ◌∙◌, subst}
+use Rattle.std.proofs.Common.{◌≡◌, ℕ, Bool, true, false, ◌||◌, List, [], ◌∷◌, ◌++◌, drop, refl, sym, ap, ◌∙◌, subst}
 use Rattle.std.proofs.Common.{append_assoc, arith}
 use Rattle.std.specs.Prelude.{◌==◌}
 use Rattle.std.proofs.lemmas.Bool.{and_from, and_parts}
 use Rattle.std.proofs.lemmas.Bool.Decides.{nat_tests}
 use Rattle.md_engine.specs.declared.event.Point.{Point}
 use Rattle.md_definition.specs.Bytes.{begins}
-use Rattle.md_definition.specs.Rest.{Rest, cut_tab, is_blank, is_white}
+use Rattle.md_definition.specs.Rest.{Rest, is_blank, is_white}
 use Rattle.md_definition.proofs.TextsLemmas.{NoEnding}
 use Rattle.md_seam.specs.Events.Places.{past_text}
 use Rattle.md_seam.proofs.FeedLines.{past_text-whole}
@@ -14,7 +14,7 @@ use Rattle.md_seam.proofs.InlineLemmas.{past_text-append}
 use Rattle.md_outline.specs.Between.{is_between}
 use Rattle.md_seam.proofs.PlacesLemmas.{at-next}
 use Rattle.md_tables.specs.RowCells.{white_front}
-use Rattle.md_tables.proofs.RowBytes.{front-whole}
+use Rattle.md_tables.proofs.RowBytes.{front-whole, start-whole}
 use Rattle.markdown_blocks.specs.Fronted.{rest_line}
 use Rattle.markdown_blocks.proofs.BetweenFacts.{between-before, is_low}
 use Rattle.markdown_blocks.proofs.Fence.Walk.{At, past-stands}

@@ -17,7 +17,7 @@ use Rattle.markdown_blocks.proofs.GfmTable.TableForm.{AreBodyRows, IsFilledLine,
 use Rattle.markdown_blocks.proofs.GfmTable.TableForm.{delimiter_part, gap_events, head_events, row_part, rows_behind}
 use Rattle.markdown_blocks.proofs.GfmTable.TableForm.{table_inside}
 use Rattle.markdown_blocks.proofs.GfmTable.TableParts.{line-at}
-use Rattle.markdown_blocks.proofs.GfmTable.TableUnread.{line-end, table-unread}
+use Rattle.markdown_blocks.proofs.GfmTable.TableUnread.{table-unread}
 use Rattle.markdown_blocks.proofs.LeafFacts.{ReadsText}
 use Rattle.markdown_blocks.proofs.PartFacts.{IsUnlinked, NoLinks}
 use Rattle.markdown_blocks.proofs.Span.Cuts.{ending-is}

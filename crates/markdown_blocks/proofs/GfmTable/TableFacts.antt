@@ -31,7 +31,6 @@ use Rattle.markdown_blocks.proofs.GfmTable.TableParts.{line-at, so_far, table-in
 use Rattle.markdown_blocks.proofs.GfmTable.TableUnread.{line-end, table-unread}
 use Rattle.markdown_blocks.proofs.LeafFacts.{LeafFacts}
 use Rattle.markdown_blocks.proofs.PlainFacts.{ArePlain, ArePlainFrom, known-around}
-use Rattle.markdown_blocks.proofs.PartedFacts.{clear}
 use Rattle.markdown_blocks.proofs.Span.Cuts.{ending-is}
 use Rattle.markdown_blocks.proofs.Span.Inside.{InsideFacts}
 use Rattle.markdown_blocks.proofs.Span.Lead.{lead-none}

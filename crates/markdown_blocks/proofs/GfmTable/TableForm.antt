@@ -1,7 +1,7 @@
--- A whole table by its lines (GFM 4.10): the line of text that is its head, the delimiter row, and the rows of its body,
--- each with its cells, and the head and the body around them.
+-- A whole table by its lines (GFM 4.10): the line of text that is its head, the delimiter row, and the rows of its
+-- body, each with its cells, and the head and the body around them.
 use Rattle.std.proofs.Common.{◌≡◌, ℕ, ◌+◌, ◌<◌, true, false, List, [], ◌∷◌, ◌++◌}
-use Rattle.std.specs.Prelude.{Option, Some, None}
+use Rattle.std.specs.Prelude.{Some}
 use Rattle.md_engine.specs.declared.event.Event.{Event}
 use Rattle.md_engine.specs.declared.event.Name.TheVariants as n
 use Rattle.md_engine.specs.declared.event.Point.{Point}

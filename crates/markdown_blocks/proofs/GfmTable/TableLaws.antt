@@ -1,6 +1,6 @@
 -- The laws of a table as the frame asks for them: of a line of text that a line behind it takes as its head, and of the
 -- rows that go on that.
-use Rattle.std.proofs.Common.{◌≡◌, ◌≤◌, ℕ, zero, suc, Bool, true, false, cond, ◌&&◌, List, [], ◌∷◌, ◌++◌, length, refl, sym}
+use Rattle.std.proofs.Common.{◌≡◌, ◌≤◌, ℕ, Bool, true, false, cond, ◌&&◌, List, [], ◌∷◌, ◌++◌, length, refl, sym}
 use Rattle.std.proofs.Common.{ap, ap₂, ◌∙◌, subst, append_assoc, append-nil, arith, map}
 use Rattle.std.specs.Prelude.{nat_lt, Some}
 use Rattle.std.proofs.lemmas.Bool.{and_parts}
@@ -14,14 +14,16 @@ use Rattle.md_engine.specs.declared.tokenizer.held_leaf.OpenText.{OpenText}
 use Rattle.md_definition.specs.Ascii.{pipe}
 use Rattle.md_definition.specs.Bytes.{after_optional}
 use Rattle.md_definition.specs.Leaves.{Came, Opened}
-use Rattle.md_definition.specs.Rest.{Rest, has_small_indent, is_blank, trim, trim_end}
+use Rattle.md_definition.specs.Rest.{has_small_indent, is_blank, is_white, trim, trim_end, trim_start}
 use Rattle.md_definition.specs.State.{OpenTable, shut, then_block}
 use Rattle.md_definition.specs.Step.{came}
 use Rattle.md_definition.specs.Table.{delimiter_columns, pieces, row_cells}
 use Rattle.md_definition.specs.Tree.{Block, Blocks, Table}
+use Rattle.md_rich.proofs.HtmlTags.{trim-none}
 use Rattle.md_seam.specs.Substituted.{Readings}
+use Rattle.md_seam.proofs.RestLines.{trim-white}
 use Rattle.md_tables.specs.GfmTable.{may_head}
-use Rattle.md_tables.specs.GfmTableLine.{are_columns, delimiter_line, table_line}
+use Rattle.md_tables.specs.GfmTableLine.{are_columns, table_line}
 use Rattle.markdown_blocks.specs.Fronted.{rest_line}
 use Rattle.markdown_blocks.specs.Leaf.GfmTable.{table_leaf}
 use Rattle.markdown_blocks.specs.Rows.{Row, headed_done, headed_unread, last_row, row_line}
@@ -46,9 +48,9 @@ AreFilled options bytes row [] are = Unit {0}
 AreFilled options bytes row (next ∷ rows) are =
     (is_blank are.6.rest.bytes ≡ false) × AreFilled options bytes next rows are.7
 
-abbrev filled-line : (options : ParseOptions) (bytes : List ℕ) (row : Row) → (is : IsLineOf options bytes table_leaf row) →
-    is_blank is.rest.bytes ≡ false → IsFilledLine bytes row
-filled-line options bytes row is filled =
+abbrev filled_line : (options : ParseOptions) (bytes : List ℕ) (row : Row) →
+    (is : IsLineOf options bytes table_leaf row) → is_blank is.rest.bytes ≡ false → IsFilledLine bytes row
+filled_line options bytes row is filled =
     record { rest = is.rest; at = is.at; column = is.column; filled = filled }
 
 -- what a line adds, by the leaf that it meets
@@ -67,7 +69,7 @@ rows-of options bytes row [] are filled open_table = tt
 rows-of options bytes row (next ∷ rows) are filled open_table = (
   record {
     gap = record { behind = are.0; after = are.1; ending = are.2; front = are.3 };
-    line = filled-line options bytes next are.6 filled.0;
+    line = filled_line options bytes next are.6 filled.0;
     inside = line-adds options bytes next held_leaf.Table are.6 (are.4 ∙ open_table);
   },
   rows-of options bytes next rows are.7 filled.1 are.6.behind,
@@ -83,6 +85,21 @@ line-cells : (bytes : List ℕ) (row : Row) → (is : IsFilledLine bytes row) �
 unfolding row_cells
 line-cells bytes row is =
     ap (λ (line : List ℕ). map trim (pieces false (after_optional pipe line))) (trim-line bytes row is)
+
+-- so the cells of a line are the same without the whitespace in front of it
+trimmed-twice : (bytes : List ℕ) → trim_start (trim_start bytes) ≡ trim_start bytes
+trimmed-twice [] = refl
+trimmed-twice (b ∷ bs) = go (is_white b) refl (trimmed-twice bs)
+  where
+    go : (x : Bool) → is_white b ≡ x → trim_start (trim_start bs) ≡ trim_start bs →
+        trim_start (trim_start (b ∷ bs)) ≡ trim_start (b ∷ bs)
+    go true e more = ap trim_start (trim-white b bs e) ∙ more ∙ sym (trim-white b bs e)
+    go false e more = ap trim_start (trim-none (b ∷ bs) e)
+
+pub cells-trimmed : (bytes : List ℕ) → row_cells (trim_start bytes) ≡ row_cells bytes
+unfolding row_cells
+cells-trimmed bytes =
+    ap (λ (line : List ℕ). map trim (pieces false (after_optional pipe (trim_end line)))) (trimmed-twice bytes)
 
 -- A line on which something stands, where a line behind it takes it as the head of a table, and rows behind that, are a
 -- table.
@@ -106,7 +123,7 @@ table-of options bytes row next rows text is are filled met = record {
 }
   where
     own : IsFilledLine bytes next
-    own = filled-line options bytes next are.6 filled.0
+    own = filled_line options bytes next are.6 filled.0
 
     asked : Bool
     asked = are_columns (delimiter_columns (trim are.6.rest.bytes)) text.columns
@@ -136,7 +153,7 @@ same-cells : (options : ParseOptions) (bytes : List ℕ) (row : Row) (rows : Lis
 same-cells options bytes row [] are filled = refl
 same-cells options bytes row (next ∷ rows) are filled =
     ap₂ (λ (cells : List (List ℕ)) (more : List (List (List ℕ))). cells ∷ more)
-    (line-cells bytes next (filled-line options bytes next are.6 filled.0))
+    (line-cells bytes next (filled_line options bytes next are.6 filled.0))
     (same-cells options bytes next rows are.7 filled.1)
 
 same-block : (options : ParseOptions) (bytes : List ℕ) (row next : Row) (rows : List Row) →
@@ -144,7 +161,7 @@ same-block : (options : ParseOptions) (bytes : List ℕ) (row next : Row) (rows 
     AreFilled options bytes row (next ∷ rows) are →
     table_block bytes row next rows ≡ table_behind options bytes row next rows (row_cells is.rest.bytes) are
 same-block options bytes row next rows is are filled =
-    ap₂ Table (trim-line bytes next (filled-line options bytes next are.6 filled.0))
+    ap₂ Table (trim-line bytes next (filled_line options bytes next are.6 filled.0))
     (ap₂ (λ (cells : List (List ℕ)) (more : List (List (List ℕ))). cells ∷ more) (line-cells bytes row is)
     (same-cells options bytes next rows are.7 filled.1))
 
@@ -163,7 +180,7 @@ in-text options bytes row next rows are filled = go (nat_lt are.0.index (length 
         line-over bytes are.6.rest next.first next.end (further-at options bytes table_leaf next are.6)
         (omega arith) in
         let dark : is_blank (row_line bytes next) ≡ false =
-        line-dark bytes next (filled-line options bytes next are.6 filled) in
+        line-dark bytes next (filled_line options bytes next are.6 filled) in
         let blank : is_blank (row_line bytes next) ≡ true = ap is_blank (are.6.at.text ∙ empty) in cc
 
     go : (x : Bool) → nat_lt are.0.index (length bytes) ≡ x → x ≡ true

@@ -1,7 +1,7 @@
 -- The parts of a table one behind the other: what is known of its head, and of its body.
-use Rattle.std.proofs.Common.{◌≡◌, ℕ, Bool, true, false, cond, List, [], ◌∷◌, ◌++◌, drop, length, refl, sym, ap, ◌∙◌, subst}
+use Rattle.std.proofs.Common.{◌≡◌, ℕ, Bool, true, false, cond, List, [], ◌∷◌, ◌++◌, drop, length, refl, sym, subst}
 use Rattle.std.proofs.Common.{append_assoc, append-nil, subst₂}
-use Rattle.std.specs.Prelude.{◌==◌, nat_lt}
+use Rattle.std.specs.Prelude.{nat_lt}
 use Rattle.md_engine.specs.declared.event.Event.{Event}
 use Rattle.md_engine.specs.declared.event.Name.{Name}
 use Rattle.md_engine.specs.declared.event.Name.TheVariants as n
@@ -10,17 +10,14 @@ use Rattle.md_definition.specs.Rest.{trim}
 use Rattle.md_definition.specs.Table.{row_cells}
 use Rattle.md_seam.specs.Events.Grammar.{Expression, behind, inside, may_end, plain_text}
 use Rattle.md_seam.specs.Events.Nested.{around, enter, exit, pair}
-use Rattle.md_seam.specs.Events.Places.{past_text}
-use Rattle.md_seam.specs.Events.Spelled.{OfCode, OpenLeaf, TableLeaf, TableSoFar, byte_at, next_line, role}
+use Rattle.md_seam.specs.Events.Spelled.{OfCode, OpenLeaf, TableLeaf, TableSoFar, next_line, role}
 use Rattle.md_seam.proofs.SpelledLemmas.{Between, Quiet, Roles, roles-append}
-use Rattle.md_outline.specs.Between.{is_between}
 use Rattle.md_outline.specs.LinesStand.{AtEnding, InTable, Site}
 use Rattle.md_outline.specs.TableSpots.{AtHead, BehindHead, BehindRow, BodyRow, HeadRow, Spot, behind_row}
 use Rattle.md_outline.specs.TableSpots as spot
 use Rattle.md_outline.proofs.LinesPass.{ended_site, on-ended}
 use Rattle.md_outline.proofs.TablesPass.{IsBetweenRows, passes-between_rows}
 use Rattle.md_tables.specs.RowCells.{read_text, unread_text}
-use Rattle.markdown_blocks.specs.Fronted.{rest_line}
 use Rattle.markdown_blocks.specs.Rows.{Row, ending_events, last_row, row_line}
 use Rattle.markdown_blocks.proofs.BetweenFacts.{ending-before, ending-behind}
 use Rattle.markdown_blocks.proofs.ContainerNames.{TakesPrefixes}
@@ -401,7 +398,8 @@ table-inside bytes row next rows is =
       enters = λ p. refl;
       exits = λ p. refl;
     }) tt refl refl refl (head-inside bytes row next rows is))
-    (body-inside bytes next rows (trim (row_line bytes next)) (row_cells (row_line bytes row) ∷ []) is.delimiter is.body)
+    (body-inside bytes next rows (trim (row_line bytes next)) (row_cells (row_line bytes row) ∷ []) is.delimiter
+    is.body)
   where
     mid : OpenLeaf
     mid = so_far (trim (row_line bytes next)) (row_cells (row_line bytes row) ∷ [])

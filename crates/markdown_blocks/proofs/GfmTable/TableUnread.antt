@@ -1,14 +1,15 @@
 -- The lines of a table as they are joined, with head, body and cells: the table by its lines, with its texts unread.
-use Rattle.std.proofs.Common.{◌≡◌, ℕ, zero, suc, true, false, List, [], ◌∷◌, ◌++◌, refl, sym, ap, ap₂, ◌∙◌, subst, append_assoc, append-nil}
+use Rattle.std.proofs.Common.{◌≡◌, ℕ, zero, suc, true, false, List, [], ◌∷◌, ◌++◌, refl, sym, ap, ap₂, ◌∙◌, subst}
+use Rattle.std.proofs.Common.{append_assoc, append-nil}
 use Rattle.std.specs.Prelude.{None}
 use Rattle.md_engine.specs.declared.event.Event.{Event}
 use Rattle.md_engine.specs.declared.event.Name.{Name}
 use Rattle.md_engine.specs.declared.event.Name.TheVariants as n
 use Rattle.md_engine.specs.declared.event.Point.{Point}
 use Rattle.md_engine.specs.declared.tokenizer.held_leaf.HeldLeaf.TheVariants as held_leaf
-use Rattle.md_definition.specs.Rest.{Rest, cut_tab, is_blank}
+use Rattle.md_definition.specs.Rest.{cut_tab, is_blank}
 use Rattle.md_leaves.specs.Further.{further_link}
-use Rattle.md_seam.specs.Events.Nested.{around, enter, enter_link, exit, pair}
+use Rattle.md_seam.specs.Events.Nested.{around, enter, enter_link, exit}
 use Rattle.md_seam.specs.Events.Places.{past_text}
 use Rattle.md_seam.specs.Events.Prefix.{is_prefix}
 use Rattle.md_tables.specs.DelimiterCells.{delimiter_events, delimiter_runs}
@@ -18,19 +19,18 @@ use Rattle.md_tables.specs.GfmTable.{asking_columns}
 use Rattle.md_tables.specs.GfmTableLine.{delimiter_line, head_line, table_line}
 use Rattle.md_tables.specs.RowCells.{row_events, row_runs, unread_text}
 use Rattle.md_tables.specs.RowRule as text
-use Rattle.md_tables.specs.TableLines.{Table, TableLine, TableRow, body_given, delimiter_row, head_celled, lines_celled}
-use Rattle.md_tables.specs.TableLines.{lines_read, row_celled, row_read, table_begin, table_given, table_read, text_row}
+use Rattle.md_tables.specs.TableLines.{Table, TableLine, body_given, delimiter_row, head_celled, lines_celled}
+use Rattle.md_tables.specs.TableLines.{lines_read, row_celled, row_read, table_given, table_read, text_row}
 use Rattle.md_tables.specs.Tabled.{tabled}
 use Rattle.md_tables.specs.declared.cells.RowKind.TheVariants.{Delimiter, Text}
 use Rattle.md_tables.proofs.DelimiterBytes.{row_of-columns}
 use Rattle.md_tables.proofs.TableRows.{delimiter-parts, delimiter_row-celled, text-celled, text-parts}
 use Rattle.md_tables.proofs.TabledLines.{AreFree, AreFreeLines, IsFreeTable, free-append, of_tables, tabled-table}
-use Rattle.markdown_blocks.specs.Fronted.{rest_line}
 use Rattle.markdown_blocks.specs.Rows.{Row, but_end, but_ends, end_of, headed_row, headed_unread, last_row, row_line}
 use Rattle.markdown_blocks.specs.Rows.{ending_events, is_framed, span_by}
 use Rattle.markdown_blocks.proofs.FrontNames.{fronts-prefixes}
 use Rattle.markdown_blocks.proofs.GfmTable.TableForm.{AreBodyRows, IsBodyRow, IsFilledLine, IsGap, IsTable, body_behind}
-use Rattle.markdown_blocks.proofs.GfmTable.TableForm.{delimiter_part, gap_events, head_events, row_part, rows_behind}
+use Rattle.markdown_blocks.proofs.GfmTable.TableForm.{gap_events, head_events, row_part, rows_behind}
 use Rattle.markdown_blocks.proofs.GfmTable.TableForm.{table_events}
 use Rattle.markdown_blocks.proofs.PrefixNames.{ArePrefixes}
 use Rattle.markdown_blocks.proofs.Span.Cuts.{but_end-is, but_ends-is, end-is, ending-is}
@@ -102,8 +102,8 @@ line-end bytes row is = ap (λ (line : List ℕ). past_text line row.first) is.a
 body-line : (bytes : List ℕ) (row next : Row) → IsBodyRow bytes row next →
     IsLine next (row_read Text (text_row (row_line bytes next) next.first))
 body-line bytes row next is =
-    of-line next (past_text (row_line bytes next) next.first) (row_read Text (text_row (row_line bytes next) next.first))
-    (is.inside ∙ row-is (row_line bytes next) next.first) (line-end bytes next is.line)
+    of-line next (past_text (row_line bytes next) next.first)
+    (row_read Text (text_row (row_line bytes next) next.first)) (is.inside ∙ row-is (row_line bytes next) next.first) (line-end bytes next is.line)
 
 delimiter-line : (bytes : List ℕ) (row next : Row) (rows : List Row) → IsTable bytes row next rows →
     IsLine next (row_read Delimiter (delimiter_row (row_line bytes next) next.first))
