@@ -6,3 +6,17 @@ pub mod Found
 pub mod Registers
 pub mod Span
 pub mod Laws
+pub mod RowAt
+pub mod RowParts
+pub mod RowCells
+pub mod RowWords
+pub mod RowSites
+pub mod Row
+pub mod DelimiterRowCells
+pub mod DelimiterRow
+pub mod TableForm
+pub mod TableUnread
+pub mod TableParts
+pub mod TableFacts
+pub mod TableBecomes
+pub mod TableLaws

@@ -131,7 +131,7 @@ value-quiet (b ∷ bs) p =
     around-roles Quiet n.GfmTableDelimiterCellValue p (past_text (b ∷ bs) p) (delimiter_runs Apart (b ∷ bs) p) tt
     (runs-quiet Apart (b ∷ bs) p)
 
-delimiter-quiet : (line : List ℕ) (p : Point) → Roles Quiet (delimiter_events line p)
+pub delimiter-quiet : (line : List ℕ) (p : Point) → Roles Quiet (delimiter_events line p)
 delimiter-quiet line p =
     row-roles Quiet n.GfmTableDelimiterCell value_part (record { quiet = tt; cell = tt; held = value-quiet }) line p
 

@@ -1,21 +1,15 @@
 -- A delimiter row with its cells, by the bytes of its line (GFM 4.10).
 --
 -- It is cut as any row. A cell holds its dashes, with a colon perhaps on either side, and whitespace around them.
-use Rattle.std.specs.Prelude.{ℕ, if◌then◌else◌, List, [], ◌∷◌, ◌++◌}
+use Rattle.std.specs.Prelude.{ℕ, List, [], ◌∷◌}
 use Rattle.md_engine.specs.declared.event.Event.{Event}
 use Rattle.md_engine.specs.declared.event.Name.TheVariants as n
 use Rattle.md_engine.specs.declared.event.Point.{Point}
 use Rattle.md_seam.specs.Events.Nested.{around}
-use Rattle.md_seam.specs.Events.Places.{past_byte, past_text}
-use Rattle.md_tables.specs.DelimiterRule.{Apart, Run, begun, closes, goes_on, opens}
+use Rattle.md_seam.specs.Events.Places.{past_text}
+use Rattle.md_tables.specs.DelimiterRule.{Apart}
+pub use Rattle.md_tables.specs.GfmTableLine.{delimiter_runs}
 use Rattle.md_tables.specs.RowCells.{row_by}
-
--- the runs that are left of a line: each is one part, as long as it can be
-abbrev pub delimiter_runs : Run → List ℕ → Point → List Event
-delimiter_runs run [] p = closes run p
-delimiter_runs run (b ∷ bs) p =
-    if goes_on run b then delimiter_runs run bs (past_byte b p)
-    else closes run p ++ opens (begun b) p ++ delimiter_runs (begun b) bs (past_byte b p)
 
 -- the dashes and colons of a cell
 abbrev pub value_part : List ℕ → Point → List Event

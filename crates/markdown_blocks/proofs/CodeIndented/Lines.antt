@@ -45,7 +45,6 @@ code_name = record {
   block = refl;
   begin = code_begun;
   begins = λ text. refl;
-  lined = tt;
 }
 
 -- its first line, which is a pair of its own
@@ -84,7 +83,7 @@ pub lines-facts : (options : ParseOptions) (bytes : List ℕ) (row : Row) (rows 
     (last_row row rows).end (framed_by as_line row rows) (framed_by as_line row rows)
 lines-facts options bytes row rows is are =
     let stays = span-inside bytes as_line as_line n.CodeIndented OfCode to row rows code_name line further in
-    span-facts bytes as_line as_line n.CodeIndented OfCode to row rows true code_name line further
+    span-facts bytes as_line as_line n.CodeIndented OfCode to row rows true code_name tt line further
     (ends es stays.unread_stays refl) (ends es stays.stays refl)
   where
     r : Rest

@@ -63,7 +63,7 @@ marks-kind m = by-math (λ x. part_kind x ≡ None) (m == 36) n.MathFlowFenceSeq
 -- One part.
 
 -- it is a line
-one-line : (bytes : List ℕ) (b : ℕ) (bs rest : List ℕ) (p : Point) → At bytes (b ∷ bs) p rest →
+pub one-line : (bytes : List ℕ) (b : ℕ) (bs rest : List ℕ) (p : Point) → At bytes (b ∷ bs) p rest →
     are_lines bytes (past_text (b ∷ bs) p) (record { first = p; after = past_text (b ∷ bs) p } ∷ []) ≡ true
 one-line bytes b bs rest p at =
     let q = past_text (b ∷ bs) p in
@@ -74,7 +74,7 @@ one-line bytes b bs rest p at =
     refl
 
 -- that ends between two bytes
-one-whole : (bytes : List ℕ) (b : ℕ) (bs rest : List ℕ) (p : Point) → At bytes (b ∷ bs) p rest →
+pub one-whole : (bytes : List ℕ) (b : ℕ) (bs rest : List ℕ) (p : Point) → At bytes (b ∷ bs) p rest →
     list_all (λ (chunk : Chunk). chunk.after.vs == 0) (record { first = p; after = past_text (b ∷ bs) p } ∷ []) ≡ true
 one-whole bytes b bs rest p at =
     let q = past_text (b ∷ bs) p in

@@ -36,7 +36,7 @@ use Rattle.markdown_blocks.proofs.FenceFurther.Joined.{block-lines, further-begi
 use Rattle.markdown_blocks.proofs.FenceFurther.Parts.{further-lines}
 use Rattle.markdown_blocks.proofs.FenceFurther.Places.{further-at}
 use Rattle.markdown_blocks.proofs.FenceSpan.First.{first-becomes, first-others, first_inside, marks_of}
-use Rattle.markdown_blocks.proofs.FenceSpan.Open.{fence-begin, fence-name, kind_of, leaf_of}
+use Rattle.markdown_blocks.proofs.FenceSpan.Open.{fence-begin, fence-lined, fence-name, kind_of, leaf_of}
 use Rattle.markdown_blocks.proofs.FenceSpan.Opening.{begin-is, done-is, line-ends, line-fence, line-full, line-held}
 use Rattle.markdown_blocks.proofs.FenceSpan.Opening.{line-inside, line-laid, line-lead, line-marks, name_of}
 use Rattle.markdown_blocks.proofs.FenceSpan.Opening.{opening-same}
@@ -149,7 +149,8 @@ span-of : (options : ParseOptions) (bytes : List ℕ) (row : Row) (rows : List R
     (framed_by (row_done bytes) row rows)
 span-of options bytes row rows is are =
     rest-facts bytes (name_of is.rest) (kind_of m) row rows
-    (come_behind options bytes fence_further row rows are (Opened (OpenFence (opening_at is.rest) []))) named first
+    (come_behind options bytes fence_further row rows are (Opened (OpenFence (opening_at is.rest) []))) named
+    (fence-lined m) first
     (rest-of options bytes row rows is are) others.0 others.1 (line-full options bytes row is)
   where
     r : Rest

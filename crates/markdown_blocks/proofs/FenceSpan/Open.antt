@@ -46,7 +46,6 @@ fence-name m = record {
   block = by-marker (λ x. behind (cond x n.MathFlow n.CodeFenced) blocks ≡ behind_block) m refl refl;
   begin = begin_of m;
   begins = λ text. begin-same text m;
-  lined = by-marker (λ x. HasLines (cond x OfMath OfFence)) m tt tt;
 }
   where
     begin-same : (text : Expression) (m : ℕ) → inside text (block_name m) ≡ begin_of m
@@ -54,6 +53,10 @@ fence-name m = record {
         by-marker
         (λ x. inside text (cond x n.MathFlow n.CodeFenced) ≡ inside plain_text (cond x n.MathFlow n.CodeFenced)) m refl
         refl
+
+-- an outline shows it by its lines
+pub fence-lined : (m : ℕ) → HasLines (kind_of m)
+fence-lined m = by-marker (λ x. HasLines (cond x OfMath OfFence)) m tt tt
 
 pub fence-begin : (m : ℕ) → (fence-name m).begin ≡ begin_of m
 unfolding fence-name

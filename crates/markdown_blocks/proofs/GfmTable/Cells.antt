@@ -37,7 +37,7 @@ use Rattle.markdown_blocks.proofs.RestFacts.{rest-line_end, rest-no_ending, rest
 -- Where it stands.
 
 -- text that may be a head has cells
-head-some : (options : ParseOptions) (at : OpenText) → may_head options at ≡ true → 0 < at.columns
+pub head-some : (options : ParseOptions) (at : OpenText) → may_head options at ≡ true → 0 < at.columns
 head-some options at e =
     let some : nat_lt 0 at.columns ≡ true =
     (and_parts options.constructs.gfm_table (nat_lt 0 at.columns)

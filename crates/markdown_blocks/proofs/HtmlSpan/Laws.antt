@@ -130,7 +130,7 @@ all-facts : (options : ParseOptions) (bytes : List ℕ) (row : Row) (rows : List
     (last_row row rows).end (span_by row_unread row rows) (framed_by (row_done bytes) row rows)
 all-facts options bytes row rows is are =
     let others = inside-others (html_parts is.rest row.first row.end) (html-inside is.rest row.first row.end) in
-    rest-facts bytes n.HtmlFlow OfHtml row rows (all_came options bytes row rows is are) html_name
+    rest-facts bytes n.HtmlFlow OfHtml row rows (all_came options bytes row rows is are) html_name tt
     (first-line options bytes row is) (rest-of options bytes row rows is are) others others
     (first-full options bytes row is)
 

@@ -77,7 +77,6 @@ html_name = record {
   block = refl;
   begin = html_begun;
   begins = λ text. refl;
-  lined = tt;
 }
 
 -- How it is read: as the last line of the HTML.

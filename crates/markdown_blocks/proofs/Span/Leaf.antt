@@ -52,8 +52,6 @@ pub record IsLeafName (name : Name) (kind : LeafKind) : Type 0 where
   pub block : behind name blocks ≡ behind_block
   pub begin : Expression
   pub begins : (text : Expression) → inside text name ≡ begin
-  -- an outline shows it by its lines
-  pub lined : HasLines kind
 
 -- where its line ends, by whether anything stands on the last line of the leaf
 around-leads : (name : Name) (p q : Point) (es : List Event) (filled : Bool) → on_line name ≡ IsLeaf →
@@ -111,7 +109,7 @@ quiets-between (e ∷ es) h = (one (role e.name) h.0, quiets-between es h.1)
     one IsQuiet h = tt
     one _ h = absurd h
 
--- an outline shows it
+-- an outline shows it by its lines
 lined-known : (kind : LeafKind) → HasLines kind → is_unlisted (Opens kind) ≡ true
 lined-known OfCode lined = refl
 lined-known OfFence lined = refl
@@ -119,7 +117,7 @@ lined-known OfMath lined = refl
 lined-known OfHtml lined = refl
 lined-known _ lined = absurd lined
 
-around-plain : (bytes : List ℕ) (name : Name) (kind : LeafKind) (p q : Point) (end : Site) (es : List Event) →
+pub around-plain : (bytes : List ℕ) (name : Name) (kind : LeafKind) (p q : Point) (end : Site) (es : List Event) →
     role name ≡ Opens kind → HasLines kind → MayLeave end → ArePlainFrom bytes (begun_site kind) end es →
     ArePlain bytes (around name p q es)
 around-plain bytes name kind p q end es is lined leave h = record {
@@ -131,14 +129,16 @@ around-plain bytes name kind p q end es is lined leave h = record {
     untold : (x : Point) → (not (is_told (role name)) || clear bytes x) ≡ true
     untold x = ap (λ (y : Role). not (is_told y) || clear bytes x) is
 
--- The leaf, by whether anything stands on its last line. Behind an empty one its ending is that of a blank line.
+-- The leaf, by whether anything stands on its last line, and that an outline shows it. Behind an empty line its ending
+-- is that of a blank line.
 pub inside-leaf : (bytes : List ℕ) (name : Name) (kind : LeafKind) (p a q : Point) (left : Expression) (to : OpenLeaf)
     (end : Site) (filled : Bool) (lead unread done : List Event) →
     (named : IsLeafName name kind) → LeadFacts bytes p a lead → Starts unread → Starts done →
     (h : InsideFacts bytes a q named.begin left (fresh kind) to (begun_site kind) end unread done) →
-    (h.unread_stays true).0 ≡ filled → (h.stays true).0 ≡ filled → may_end left ≡ true → MayLeave end →
+    (h.unread_stays true).0 ≡ filled → (h.stays true).0 ≡ filled → may_end left ≡ true →
+    (clear bytes a ≡ true → ArePlain bytes (around name a q done)) →
     LeafFacts bytes (Some (block_of to)) filled p q (lead ++ around name a q unread) (lead ++ around name a q done)
-inside-leaf bytes name kind p a q left to end full lead unread done named front us starts h us_is is ends leave = record {
+inside-leaf bytes name kind p a q left to end full lead unread done named front us starts h us_is is ends plain = record {
   unread_nested =
       nested_in-append p a q lead (around name a q unread) front.nested
       (around-nested name a q unread h.unread_nested);
@@ -187,7 +187,7 @@ inside-leaf bytes name kind p a q left to end full lead unread done named front 
       (around-sits bytes name a q done (subst (λ (x : Role). Still x) (sym named.is) tt) h.parted);
   plain =
       λ first. plain-append bytes lead (around name a q done) (plain-quiet bytes lead front.quiet)
-      (around-plain bytes name kind a q end done named.is named.lined leave (h.plain (front.clear first)));
+      (plain (front.clear first));
   reads =
       λ r text shut. read-from bytes r r lead (around name a q done) (read-quiet bytes r lead front.quiet)
       ∙ around-reads bytes name kind a q to done r named.is shut

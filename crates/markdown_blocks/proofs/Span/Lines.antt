@@ -9,7 +9,7 @@ use Rattle.md_seam.specs.Events.Grammar.{Expression, behind, may_end}
 use Rattle.md_seam.specs.Events.Nested.{around, enter, exit, pair}
 use Rattle.md_seam.specs.Events.Spelled.{LeafKind, OpenLeaf, block_of, byte_at, fresh}
 use Rattle.md_outline.specs.Between.{is_between}
-use Rattle.md_outline.specs.LinesStand.{Site, begun_site}
+use Rattle.md_outline.specs.LinesStand.{HasLines, Site, begun_site}
 use Rattle.md_outline.proofs.LinesPass.{IsOnLine, MayLeave, ended_site, on-ended}
 use Rattle.markdown_blocks.specs.Rows.{Row, last_row}
 use Rattle.markdown_blocks.specs.Rows.{but_end, but_ends, end_of}
@@ -26,7 +26,7 @@ use Rattle.markdown_blocks.proofs.Span.Framed.{framed_by, framed_rest}
 use Rattle.markdown_blocks.proofs.Span.Inside.{InsideFacts, Meets, behind_ending, ending-inside, front-inside}
 use Rattle.markdown_blocks.proofs.Span.Inside.{inside-append, inside-none}
 use Rattle.markdown_blocks.proofs.Span.Lead.{LeadFacts}
-use Rattle.markdown_blocks.proofs.Span.Leaf.{IsLeafName, inside-leaf}
+use Rattle.markdown_blocks.proofs.Span.Leaf.{IsLeafName, around-plain, inside-leaf}
 
 -- A line.
 
@@ -240,14 +240,14 @@ span-inside bytes unread done name kind to row rows named first are =
 -- All that the frame asks of the lines of a leaf, joined, by whether anything stands on the last of them.
 pub span-facts : (bytes : List ℕ) (unread done : Row → List Event) (name : Name) (kind : LeafKind) (to : OpenLeaf)
     (row : Row) (rows : List Row) (filled : Bool) →
-    (named : IsLeafName name kind) →
+    (named : IsLeafName name kind) → HasLines kind →
     (first : SpanFirst bytes unread done name named.begin (fresh kind) (begun_site kind) row) →
     (are : AreFurther bytes unread done name first.left first.leaf to first.site row rows) →
     ((span-inside bytes unread done name kind to row rows named first are).unread_stays true).0 ≡ filled →
     ((span-inside bytes unread done name kind to row rows named first are).stays true).0 ≡ filled →
     LeafFacts bytes (Some (block_of to)) filled row.first (last_row row rows).end (framed_by unread row rows)
     (framed_by done row rows)
-span-facts bytes unread done name kind to row rows filled named first are unread_is is =
+span-facts bytes unread done name kind to row rows filled named lined first are unread_is is =
     subst
     (λ (es : List Event).
     LeafFacts bytes (Some (block_of to)) filled row.first last es (framed_by done row rows))
@@ -261,7 +261,9 @@ span-facts bytes unread done name kind to row rows filled named first are unread
     (first.unread_inside ++ framed_rest unread row rows) (first.inside ++ framed_rest done row rows) named first.lead_is
     (starts-append first.unread_inside (framed_rest unread row rows) first.unread_starts)
     (starts-append first.inside (framed_rest done row rows) first.starts)
-    (span-inside bytes unread done name kind to row rows named first are) unread_is is rest.end rest.leave))
+    inside unread_is is rest.end
+    (λ whole. around-plain bytes name kind first.at last rest.site (first.inside ++ framed_rest done row rows) named.is
+    lined rest.leave (inside.plain whole))))
   where
     last : Point
     last = (last_row row rows).end
@@ -273,3 +275,8 @@ span-facts bytes unread done name kind to row rows filled named first are unread
         RestInside bytes row.end (last_row row rows).end first.left first.leaf to first.site
         (framed_rest unread row rows) (framed_rest done row rows)
     rest = rest-inside bytes unread done name first.left first.leaf to first.site row rows first.ends.whole are
+
+    inside :
+        InsideFacts bytes first.at last named.begin rest.left (fresh kind) to (begun_site kind) rest.site
+        (first.unread_inside ++ framed_rest unread row rows) (first.inside ++ framed_rest done row rows)
+    inside = span-inside bytes unread done name kind to row rows named first are

@@ -7,7 +7,7 @@ use Rattle.md_engine.specs.declared.event.Name.{Name}
 use Rattle.md_engine.specs.declared.event.Name.TheVariants as n
 use Rattle.md_definition.specs.Leaves.{Came}
 use Rattle.md_definition.specs.Tree.{Block}
-use Rattle.md_outline.specs.LinesStand.{Site, begun_site}
+use Rattle.md_outline.specs.LinesStand.{HasLines, Site, begun_site}
 use Rattle.md_seam.specs.Events.Endings.{endings_stand_from}
 use Rattle.md_seam.specs.Events.Grammar.{Expression}
 use Rattle.md_seam.specs.Events.Nested.{enter, exit}
@@ -41,18 +41,18 @@ stays-same es h full leads = told (h true).0 full (sym ((h true).1 ending) ∙ l
 
 -- All that the frame asks of the lines of such a leaf, on the first of which something stands.
 pub rest-facts : (bytes : List ℕ) (name : Name) (kind : LeafKind) (row : Row) (rows : List Row) (c : Came) →
-    (named : IsLeafName name kind) →
+    (named : IsLeafName name kind) → HasLines kind →
     (first : SpanFirst bytes row_unread (row_done bytes) name named.begin (fresh kind) (begun_site kind) row) →
     HasRest bytes name first.left first.leaf first.site row rows c → AreOthers first.unread_inside →
     AreOthers first.inside → not row.empty ≡ true →
     LeafFacts bytes (Some (block_by c)) (not (last_row row rows).empty) row.first (last_row row rows).end
     (span_by row_unread row rows) (framed_by (row_done bytes) row rows)
-rest-facts bytes name kind row rows c named first rest unread_others others some =
+rest-facts bytes name kind row rows c named lined first rest unread_others others some =
     subst₂
     (λ (b : Block) (joined : List Event).
     LeafFacts bytes (Some b) full row.first (last_row row rows).end joined (framed_by (row_done bytes) row rows))
     rest.block (sym (span-framed row_unread row rows rest.framed))
-    (span-facts bytes row_unread (row_done bytes) name kind rest.to row rows full named first rest.further
+    (span-facts bytes row_unread (row_done bytes) name kind rest.to row rows full named lined first rest.further
     (stays-same (us ++ framed_rest row_unread row rows)
     (span-inside bytes row_unread (row_done bytes) name kind rest.to row rows named first rest.further).unread_stays
     full (filled us (framed_rest row_unread row rows) unread_others rest.fills))
