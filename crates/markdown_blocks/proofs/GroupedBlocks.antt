@@ -1,4 +1,4 @@
--- Events of no underline, of no leaf of several lines (no table either) and of no item: setting headings, joining lines,
+-- Events of no underline, of no leaf of several lines (so of no table) and of no item: setting headings, joining lines,
 -- giving tables their cells and putting lists around items leaves them as they are.
 use Rattle.std.proofs.Common.{◌≡◌, ℕ, ◌+◌, Bool, true, false, cond, ◌&&◌, List, [], ◌∷◌, length, refl, ap}
 use Rattle.std.proofs.Common.{◌∙◌, arith}

@@ -1,6 +1,6 @@
 -- What the groups of the lines of a text are: lines that are no text, lines of text that belong together, with the line
--- that turns them if one does, a line of text that is the head of a table, with the lines of that, and the lines of a leaf
--- of several.
+-- that turns them if one does, a line of text that is the head of a table, with the other lines of that, and the lines of
+-- a leaf of several.
 use Rattle.std.proofs.Common.{◌≡◌, ◌≢◌, ℕ, Bool, true, false, cond, ◌&&◌, List, [], ◌∷◌, refl, ap, ap₂, sym, ◌∙◌}
 use Rattle.std.proofs.Common.{subst}
 use Rattle.std.specs.Prelude.{Some}
@@ -680,7 +680,7 @@ under-leaves options bytes line row under is e below on f h =
     line-as options bytes under below HeadingSetext (below.kind ∙ ap LeafRow name) in
     turn-left options at (ap (may_turn options) (sym text) ∙ setext-may options under.on of.rest of.starts)
 
--- text goes before a leaf of several lines: where its first line goes on text, that is its head, or it is one line alone
+-- text goes before a leaf of several lines: where its first line goes on text, it takes that as its head, or is one alone
 text-span : (options : ParseOptions) (bytes line : List ℕ) (p : Point) (row : Row) (q : Point) (below : Row)
     (rows : List Row) (gs : List Group) →
     IsBegun options bytes line p row → row.kind ≡ TextRow → row.after ≡ Some q → IsEnding bytes row.end q →

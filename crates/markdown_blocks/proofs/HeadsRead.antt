@@ -1,5 +1,5 @@
--- Lines of text that are heads of tables, read again in front of content: there are none where no content stands, and no
--- part of them is rewritten by a resolver of the registry.
+-- Lines of text that are heads of tables, read again in front of content: there are none where no content stands, and
+-- no part of them is rewritten by a resolver of the registry.
 use Rattle.std.proofs.Common.{◌≡◌, ℕ, Bool, true, false, cond, List, [], ◌∷◌, ◌++◌, refl, ap, sym, ◌∙◌, append-nil}
 use Rattle.std.specs.List.{list_any}
 use Rattle.std.proofs.lemmas.Bool.{and_right, or_from}

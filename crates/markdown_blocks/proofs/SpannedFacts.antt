@@ -38,7 +38,6 @@ front-unspanned n.MathFlow h = cc
 front-unspanned n.HtmlFlow h = cc
 front-unspanned n.GfmTable h = cc
 front-unspanned n.CodeFlowChunk h = cc
-front-unspanned n.GfmTable h = cc
 front-unspanned _ h = refl
 
 pub fronts-unspanned : (es : List Event) → AreFront es → AreUnspanned es

@@ -1,5 +1,5 @@
--- What holds of each event of a line of a table: no part of it is rewritten by a resolver of the registry, none is a text
--- or an underline, and no content stands in it.
+-- What holds of each event of a line of a table: no part of it is rewritten by a resolver of the registry, none is a
+-- text or an underline, and no content stands in it.
 use Rattle.std.proofs.Common.{◌≡◌, ℕ, Bool, true, false, cond, List, [], ◌∷◌, ◌++◌, refl, ap}
 use Rattle.std.specs.Prelude.{Some, None}
 use Rattle.md_engine.specs.declared.configuration.ParseOptions.{ParseOptions}
