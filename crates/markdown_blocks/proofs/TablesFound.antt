@@ -1,12 +1,11 @@
 -- What a line comes to where tables may be on: where text is open it may be a delimiter row, which makes the last line of
 -- the text the head of a table.
-use Rattle.std.proofs.Common.{◌≡◌, ℕ, Bool, true, false, cond, ◌&&◌, ◌||◌, List, [], ◌∷◌, ◌++◌, length, reverse, refl, ap}
-use Rattle.std.proofs.Common.{ap₂, sym, ◌∙◌, arith}
+use Rattle.std.proofs.Common.{◌≡◌, ℕ, Bool, true, false, cond, ◌&&◌, ◌||◌, List, [], ◌∷◌, ◌++◌, length, refl, ap}
+use Rattle.std.proofs.Common.{ap₂, sym, ◌∙◌, subst}
 use Rattle.std.specs.Prelude.{◌==◌, not, if◌then◌else◌, Option, Some, None}
 use Rattle.std.specs.List.{list_all, list_any}
 use Rattle.std.specs.Option.{option_or}
 use Rattle.std.proofs.lemmas.Bool.{and_parts, eqb-true}
-use Rattle.std.proofs.lemmas.List.{length-reverse, reverse-append, reverse-reverse}
 use Rattle.md_engine.specs.Progress.{is_whole}
 use Rattle.md_engine.specs.declared.configuration.ParseOptions.{ParseOptions}
 use Rattle.md_engine.specs.declared.tokenizer.held_leaf.HeldLeaf.{HeldLeaf}
@@ -244,25 +243,17 @@ underlined-untabled options at r depth e =
 -- Of lines of text, the last, and those in front of it.
 
 record Ended (lines : List Kept) : Type 0 where
+  front : List Kept
   last : Kept
-  before : List Kept
-  is : reverse lines ≡ last ∷ before
+  is : lines ≡ front ++ last ∷ []
 
 ended : (k : Kept) (ks : List Kept) → Ended (k ∷ ks)
-ended k ks = go (reverse (k ∷ ks)) refl
-  where
-    go : (l : List Kept) → reverse (k ∷ ks) ≡ l → Ended (k ∷ ks)
-    go [] e =
-        let size : length (reverse (k ∷ ks)) ≡ length (k ∷ ks) = length-reverse (k ∷ ks) in
-        let none : length (reverse (k ∷ ks)) ≡ 0 = ap length e in
-        absurd (omega (arith, size, none))
-    go (last ∷ before) e = record { last = last; before = before; is = e }
+ended k [] = record { front = []; last = k; is = refl }
+ended k (next ∷ ks) =
+    let more : Ended (next ∷ ks) = ended next ks in
+    record { front = k ∷ more.front; last = more.last; is = ap (λ (l : List Kept). k ∷ l) more.is }
 
-lines-are : (lines : List Kept) (k : Kept) (before : List Kept) → reverse lines ≡ k ∷ before →
-    lines ≡ reverse before ++ k ∷ []
-lines-are lines k before e = sym (reverse-reverse lines) ∙ ap reverse e ∙ reverse-append (k ∷ []) before
-
-last-is : (number : Kept → ℕ) (lines : List Kept) (k : Kept) → of_last number (lines ++ k ∷ []) ≡ number k
+pub last-is : (number : Kept → ℕ) (lines : List Kept) (k : Kept) → of_last number (lines ++ k ∷ []) ≡ number k
 last-is number [] k = refl
 last-is number (first ∷ []) k = refl
 last-is number (first ∷ next ∷ lines) k = last-is number (next ∷ lines) k
@@ -273,13 +264,10 @@ front-is (first ∷ []) k = refl
 front-is (first ∷ next ∷ lines) k = ap (λ (l : List Kept). first ∷ l) (front-is (next ∷ lines) k)
 
 -- what is held of them is right of the last
-knows-head : (lines : List Kept) (k : Kept) (before : List Kept) → reverse lines ≡ k ∷ before →
-    KnowsHead (open_lines lines) k
-knows-head lines k before e = record {
-  columns =
-      ap (of_last (λ k. head_columns k.text)) (lines-are lines k before e)
-      ∙ last-is (λ k. head_columns k.text) (reverse before) k;
-  indent = ap (of_last (λ k. k.indent)) (lines-are lines k before e) ∙ last-is (λ k. k.indent) (reverse before) k;
+knows-head : (lines : List Kept) (k : Kept) → KnowsHead (open_lines (lines ++ k ∷ [])) k
+knows-head lines k = record {
+  columns = last-is (λ k. head_columns k.text) lines k;
+  indent = last-is (λ k. k.indent) lines k;
 }
 
 -- What a line that is not blank comes to where text is open, by the leaf that takes it: it turns what is left of the text
@@ -303,33 +291,33 @@ table-came : (options : ParseOptions) (bs : Blocks) (k : Kept) (ks : List Kept) 
     row_or_text bs (k ∷ ks) r (table_at options bs (k ∷ ks) r) ≡
     text_came options bs (k ∷ ks) r
     (cond (table_leaf.starts options (text_on (k ∷ ks)) r) (Some GfmTable) None)
-table-came options bs k ks r =
-    ap (row_or_text bs lines r)
-    (table-found options bs lines is.last is.before (open_lines lines) r is.is
-    (knows-head lines is.last is.before is.is))
-    ∙ go (table_leaf.starts options (text_on lines) r)
+table-came options bs k ks r = subst Done (sym is.is) (at_end is.front is.last)
   where
-    lines : List Kept
-    lines = k ∷ ks
-
-    is : Ended lines
+    is : Ended (k ∷ ks)
     is = ended k ks
 
-    come : Came
-    come = table_leaf.comes options (OpenParagraph lines) r
+    Done : List Kept → Type 0
+    Done lines =
+        row_or_text bs lines r (table_at options bs lines r) ≡
+        text_came options bs lines r (cond (table_leaf.starts options (text_on lines) r) (Some GfmTable) None)
 
-    fronts : reverse is.before ≡ without_last lines
-    fronts =
-        sym
-        (ap (λ (l : List Kept). without_last l) (lines-are lines is.last is.before is.is)
-        ∙ front-is (reverse is.before) is.last)
+    at_end : (front : List Kept) (last : Kept) → Done (front ++ last ∷ [])
+    at_end front last =
+        ap (row_or_text bs lines r)
+        (table-found options bs front last (open_lines lines) r (knows-head front last))
+        ∙ go (table_leaf.starts options (text_on lines) r)
+      where
+        lines : List Kept
+        lines = front ++ last ∷ []
 
-    go : (x : Bool) →
-        row_or_text bs lines r
-        (cond x (Some (came (shut_paragraph options bs (texts (reverse is.before))) come)) None) ≡
-        text_came options bs lines r (cond x (Some GfmTable) None)
-    go true = ap (λ (l : List Kept). came (shut_paragraph options bs (texts l)) come) fronts
-    go false = refl
+        come : Came
+        come = table_leaf.comes options (OpenParagraph lines) r
+
+        go : (x : Bool) →
+            row_or_text bs lines r (cond x (Some (came (shut_paragraph options bs (texts front)) come)) None) ≡
+            text_came options bs lines r (cond x (Some GfmTable) None)
+        go true = ap (λ (l : List Kept). came (shut_paragraph options bs (texts l)) come) (sym (front-is front last))
+        go false = refl
 
 pub text-comes : (options : ParseOptions) (bs : Blocks) (k : Kept) (ks : List Kept) (r : Rest) →
     is_blank r.bytes ≡ false →
