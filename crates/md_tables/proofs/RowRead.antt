@@ -42,7 +42,7 @@ pub white-quiet : (w : List ℕ) (p : Point) → Roles Quiet (white_part w p)
 white-quiet [] p = tt
 white-quiet (b ∷ w) p = (tt, (tt, tt))
 
-pipe-quiet : (piped : Bool) (p : Point) → Roles Quiet (first_pipe piped p)
+pub pipe-quiet : (piped : Bool) (p : Point) → Roles Quiet (first_pipe piped p)
 pipe-quiet true p = (tt, (tt, tt))
 pipe-quiet false p = tt
 

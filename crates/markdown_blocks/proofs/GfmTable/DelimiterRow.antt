@@ -1,11 +1,11 @@
 -- The delimiter row of a table: what is known of its events.
-use Rattle.std.proofs.Common.{◌≡◌, ℕ, Bool, true, false, List, [], ◌∷◌, ◌++◌, refl, sym, ap, ◌∙◌, subst, append_assoc}
-use Rattle.std.specs.Prelude.{Option, Some, None}
+use Rattle.std.proofs.Common.{◌≡◌, ℕ, false, List, [], ◌∷◌, refl, sym, ap, ◌∙◌, subst, append_assoc}
+use Rattle.std.specs.Prelude.{Option, Some}
 use Rattle.md_engine.specs.declared.event.Event.{Event}
 use Rattle.md_engine.specs.declared.event.Name.TheVariants as n
 use Rattle.md_engine.specs.declared.event.Point.{Point}
 use Rattle.md_containers.specs.ItemsStand.{IsPart}
-use Rattle.md_definition.specs.Rest.{trim, trim_start}
+use Rattle.md_definition.specs.Rest.{trim}
 use Rattle.md_outline.specs.LinesStand.{InTable}
 use Rattle.md_outline.specs.Outlined.{TextSpan as Span, are_parted}
 use Rattle.md_outline.specs.TableSpots.{BehindHead, BehindRow}
@@ -18,20 +18,18 @@ use Rattle.md_seam.proofs.EndingsLemmas.{AreOthers, stays-others}
 use Rattle.md_seam.proofs.GrammarLemmas.{Leads, leads-around}
 use Rattle.md_seam.proofs.SpelledLemmas.{Quiet, QuietOrEnding, Roles, roles-append}
 use Rattle.md_tables.specs.DelimiterCells.{delimiter_events, value_part}
-use Rattle.md_tables.specs.RowCells.{line_cells}
 use Rattle.md_tables.proofs.DelimiterRead.{delimiter-quiet, delimiter-read}
 use Rattle.markdown_blocks.proofs.BetweenFacts.{around-between}
 use Rattle.markdown_blocks.proofs.ChunkFacts.{starts-tiled}
 use Rattle.markdown_blocks.proofs.EachEvent.{each-append}
 use Rattle.markdown_blocks.proofs.Fence.Kept.{others-around}
 use Rattle.markdown_blocks.proofs.FillFacts.{fill-around}
-use Rattle.markdown_blocks.proofs.GfmTable.Row.{row-later}
-use Rattle.markdown_blocks.proofs.GfmTable.RowAt.{RowAt, row-whole}
+use Rattle.markdown_blocks.proofs.GfmTable.RowAt.{RowAt, row-later, row-whole}
 use Rattle.markdown_blocks.proofs.GfmTable.RowCells.{row-facts}
 use Rattle.markdown_blocks.proofs.GfmTable.RowParts.{RowFacts}
 use Rattle.markdown_blocks.proofs.GfmTable.RowWords.{row-word}
 use Rattle.markdown_blocks.proofs.PartFacts.{IsUnlinked, NoLinks}
-use Rattle.markdown_blocks.proofs.PartedFacts.{Sits, clear, passes}
+use Rattle.markdown_blocks.proofs.PartedFacts.{Sits, passes}
 use Rattle.markdown_blocks.proofs.PartsStand.{stands-around}
 use Rattle.markdown_blocks.proofs.PieceFacts.{Starts, stood-around}
 use Rattle.markdown_blocks.proofs.PiecesLemmas.{tiled-around}

@@ -1,29 +1,29 @@
 -- A cell of a delimiter row holds dashes, with a colon perhaps on either side: its bytes, its events, and what is known of
 -- them.
-use Rattle.std.proofs.Common.{◌≡◌, ℕ, ◌+◌, Bool, true, false, cond, nat_eq, List, [], ◌∷◌, ◌++◌, take, drop, map, refl, sym}
+use Rattle.std.proofs.Common.{◌≡◌, ℕ, ◌+◌, Bool, true, false, cond, List, [], ◌∷◌, ◌++◌, take, drop, map, refl, sym}
 use Rattle.std.proofs.Common.{ap, ◌∙◌, subst, append-nil, length, arith}
 use Rattle.std.specs.Prelude.{◌==◌, ◌&&◌, ◌||◌, Some, None}
 use Rattle.std.specs.List.{list_all, list_any, prefix_len}
-use Rattle.std.proofs.lemmas.Bool.{and_from, and_parts, eqb-true}
+use Rattle.std.proofs.lemmas.Bool.{and_parts, eqb-true}
 use Rattle.std.proofs.lemmas.Bool.Decides.{nat_tests}
 use Rattle.std.proofs.lemmas.List.{take-append-drop}
 use Rattle.std.proofs.lemmas.List.Sums.{list_all-from_AllPass}
 use Rattle.md_engine.specs.declared.event.Event.{Event}
 use Rattle.md_engine.specs.declared.event.Name.TheVariants as n
 use Rattle.md_engine.specs.declared.event.Point.{Point}
-use Rattle.md_definition.specs.Bytes.{after, after_optional, begins, is_end}
+use Rattle.md_definition.specs.Bytes.{after, after_optional, is_end}
 use Rattle.md_definition.specs.Lines.{begins_with}
-use Rattle.md_definition.specs.Rest.{is_blank, is_white, trim, trim_end, trim_start}
+use Rattle.md_definition.specs.Rest.{is_blank, trim, trim_end, trim_start}
 use Rattle.md_definition.specs.Table.{delimiter_columns, is_delimiter, pieces, row_cells}
 use Rattle.md_leaves.proofs.TitleTexts.{front-passes}
-use Rattle.md_outline.specs.Between.{is_between}
+use Rattle.md_outline.proofs.TextCuts.{trim-blank}
 use Rattle.md_seam.specs.Events.Grammar.{Expression, behind, inside, may_end, plain_text}
-use Rattle.md_seam.specs.Events.Nested.{around, enter, exit, pair}
+use Rattle.md_seam.specs.Events.Nested.{enter, exit, pair}
 use Rattle.md_seam.specs.Events.Pieces.{is_run}
 use Rattle.md_seam.specs.Events.Places.{past_byte, past_text}
 use Rattle.md_seam.proofs.GrammarLemmas.{IsWord, Leads, leads-append, leads-around, maybe}
 use Rattle.md_seam.proofs.InlineLemmas.{before-text, past-index, past_text-append}
-use Rattle.md_seam.proofs.RestLines.{count-one, trim-white}
+use Rattle.md_seam.proofs.RestLines.{count-one}
 use Rattle.md_tables.specs.DelimiterCells.{delimiter_runs, value_part}
 use Rattle.md_tables.specs.DelimiterRule.{Apart, Filler}
 use Rattle.md_tables.specs.GfmTableLine.{are_columns}
@@ -407,15 +407,11 @@ columns-cells line columns h =
     ap (list_all is_delimiter) (sym (same-cells line)) ∙ columns-are (trim line) columns h
 
 -- and then it is not blank
-blank-start : (line : List ℕ) → is_blank line ≡ true → trim_start line ≡ []
-blank-start [] h = refl
-blank-start (b ∷ bs) h =
-    let both = and_parts (is_white b) (is_blank bs) h in trim-white b bs both.0 ∙ blank-start bs both.1
-
 blank-cells : (line : List ℕ) → is_blank line ≡ true → row_cells line ≡ [] ∷ []
 unfolding row_cells pieces
 blank-cells line h =
-    ap (λ (t : List ℕ). map trim (pieces false (after_optional 124 (trim_end t)))) (blank-start line h)
+    ap (λ (t : List ℕ). map trim (pieces false (after_optional 124 (trim_end t))))
+    (ap trim_start (sym (append-nil line)) ∙ trim-blank line [] h)
 
 pub delimiter-some : (line : List ℕ) → AreDelimiters line → is_blank line ≡ false
 delimiter-some line h = go (is_blank line) refl

@@ -1,16 +1,16 @@
 -- A row of a table: what is known of its events, as they are read and once its texts are.
-use Rattle.std.proofs.Common.{◌≡◌, ℕ, ◌+◌, ◌<◌, Bool, true, false, List, [], ◌∷◌, ◌++◌, length, refl, sym, ap, ◌∙◌, subst, arith}
-use Rattle.std.specs.Prelude.{Option, Some, None}
+use Rattle.std.proofs.Common.{◌≡◌, ℕ, ◌+◌, Bool, true, List, [], ◌∷◌, ◌++◌, refl, sym, ap, ◌∙◌, subst}
+use Rattle.std.specs.Prelude.{Option, Some}
 use Rattle.md_engine.specs.declared.event.Content.{Content}
 use Rattle.md_engine.specs.declared.event.Content.TheVariants as content
 use Rattle.md_engine.specs.declared.event.Event.{Event}
 use Rattle.md_engine.specs.declared.event.Name.TheVariants as n
 use Rattle.md_engine.specs.declared.event.Point.{Point}
-use Rattle.md_definition.specs.Rest.{is_blank, trim_start}
+use Rattle.md_definition.specs.Rest.{trim_start}
 use Rattle.md_definition.specs.Table.{row_cells}
 use Rattle.md_definition.proofs.TextsLemmas.{NoEnding}
 use Rattle.md_outline.specs.LinesStand.{InTable}
-use Rattle.md_outline.specs.TableSpots.{AtHead, BehindRow, BodyRow, HeadRow, InRow, Row, Spot, behind_row}
+use Rattle.md_outline.specs.TableSpots.{AtHead, BehindRow, BodyRow, HeadRow, Row, Spot, behind_row}
 use Rattle.md_outline.proofs.TablesPass.{PassesIn, passes-body_row, passes-head}
 use Rattle.md_seam.specs.declared.inline.Chunk.{Chunk}
 use Rattle.md_seam.specs.declared.inline.PartKind.TheVariants.{Text}
@@ -18,11 +18,10 @@ use Rattle.md_seam.specs.Events.Grammar.{Expression, behind, plain_text, unread_
 use Rattle.md_seam.specs.Events.Inline.{plain_events}
 use Rattle.md_seam.specs.Events.Nested.{around}
 use Rattle.md_seam.specs.Events.Places.{past_text}
-use Rattle.md_seam.specs.Events.Spelled.{OpenLeaf, Reading, TableLeaf, Text as OpenText}
+use Rattle.md_seam.specs.Events.Spelled.{OpenLeaf, TableLeaf, Text as OpenText}
 use Rattle.md_seam.specs.Substituted.{Readings}
 use Rattle.md_seam.proofs.EndingsLemmas.{AreOthers, stays-others}
 use Rattle.md_seam.proofs.GrammarLemmas.{leads-around}
-use Rattle.md_seam.proofs.InlineLemmas.{past-index}
 use Rattle.md_tables.specs.Row.{text_link}
 use Rattle.md_tables.specs.RowCells.{Cells, Divides, Ends, Shut, line_cells, read_text, row_events, text_part}
 use Rattle.md_tables.specs.RowCells as cells
@@ -31,7 +30,7 @@ use Rattle.md_tables.proofs.RowBytes.{Stands}
 use Rattle.md_tables.proofs.RowRead.{row-read}
 use Rattle.markdown_blocks.proofs.Fence.Texts.{one-line, one-whole}
 use Rattle.markdown_blocks.proofs.Fence.Walk.{At}
-use Rattle.markdown_blocks.proofs.GfmTable.RowAt.{RowAt, row-whole}
+use Rattle.markdown_blocks.proofs.GfmTable.RowAt.{RowAt, row-later, row-whole}
 use Rattle.markdown_blocks.proofs.GfmTable.RowCells.{EachFits, IsCellKind, row-facts}
 use Rattle.markdown_blocks.proofs.GfmTable.RowParts.{RowFacts, row-around, row-none, row-text}
 use Rattle.markdown_blocks.proofs.GfmTable.RowSites.{row-passes}
@@ -67,12 +66,6 @@ text-kind bytes = record {
         RowFacts bytes p (past_text xs p) (text_part cells.unread_text xs p) (text_part (read_text bytes) xs p)
     held [] rest p at fits = row-none bytes p
     held (b ∷ bs) rest p at fits = row-text bytes b bs rest p at
-
--- a line that is not blank has some bytes
-pub row-later : (line : List ℕ) (p : Point) → is_blank line ≡ false → p.index < (past_text line p).index
-row-later [] p some = cc
-row-later (b ∷ bs) p some =
-    let e : (past_text (b ∷ bs) p).index ≡ p.index + length (b ∷ bs) = past-index (b ∷ bs) p in omega (arith, e)
 
 -- A row.
 whole-row : (bytes line rest : List ℕ) (p : Point) → RowAt bytes line rest p →

@@ -1,5 +1,5 @@
 -- Where the line of a row stands in a text, and bytes of it one behind the other.
-use Rattle.std.proofs.Common.{◌≡◌, ℕ, zero, suc, Bool, true, false, ◌||◌, List, [], ◌∷◌, ◌++◌, drop, refl, sym, ap, ◌∙◌}
+use Rattle.std.proofs.Common.{◌≡◌, ℕ, ◌+◌, ◌<◌, zero, suc, true, false, ◌||◌, List, [], ◌∷◌, ◌++◌, length, drop, ap, ◌∙◌}
 use Rattle.std.proofs.Common.{subst, append_assoc, arith}
 use Rattle.std.specs.Prelude.{◌==◌}
 use Rattle.std.proofs.lemmas.Bool.Decides.{nat_tests}
@@ -9,6 +9,7 @@ use Rattle.md_definition.specs.Rest.{Rest, is_blank, is_white, trim_start}
 use Rattle.md_definition.proofs.TextsLemmas.{NoEnding}
 use Rattle.md_seam.specs.Events.Places.{past_text}
 use Rattle.md_seam.proofs.FeedLines.{past_text-whole}
+use Rattle.md_seam.proofs.InlineLemmas.{past-index}
 use Rattle.md_tables.specs.RowCells.{white_front}
 use Rattle.md_tables.proofs.RowBytes.{front-whole, stands-line}
 use Rattle.markdown_blocks.specs.Fronted.{cut_tab, rest_line}
@@ -46,6 +47,12 @@ row-whole (b ∷ bs) p cut some dark = here cut dark
   where
     here : ((p.vs == 0) || (b == 9)) ≡ true → is_white b ≡ false → p.vs ≡ 0
     here cut dark = grind (arith, nat_tests)
+
+-- it has some bytes
+pub row-later : (line : List ℕ) (p : Point) → is_blank line ≡ false → p.index < (past_text line p).index
+row-later [] p some = cc
+row-later (b ∷ bs) p some =
+    let e : (past_text (b ∷ bs) p).index ≡ p.index + length (b ∷ bs) = past-index (b ∷ bs) p in omega (arith, e)
 
 -- Bytes one behind the other.
 

@@ -2,18 +2,15 @@
 --
 -- This goes for rows of texts and for delimiter rows: cells are told by their name, by what they hold before texts are
 -- read and once they are, and by what is asked of their bytes.
-use Rattle.std.proofs.Common.{◌≡◌, ℕ, suc, ◌+◌, ◌<◌, Bool, true, false, cond, nat_eq, List, [], ◌∷◌, ◌++◌, length, drop}
-use Rattle.std.proofs.Common.{refl, sym, ap, ◌∙◌, subst, subst₂, append_assoc, append-nil, arith, length-append}
+use Rattle.std.proofs.Common.{◌≡◌, ℕ, ◌+◌, ◌<◌, Bool, true, false, cond, nat_eq, List, [], ◌∷◌, ◌++◌, length, drop}
+use Rattle.std.proofs.Common.{refl, sym, ap, ◌∙◌, subst, subst₂, append_assoc, arith}
 use Rattle.std.specs.List.{list_all}
 use Rattle.std.proofs.lemmas.Bool.{and_parts}
 use Rattle.md_engine.specs.declared.event.Event.{Event}
 use Rattle.md_engine.specs.declared.event.Name.{Name}
 use Rattle.md_engine.specs.declared.event.Point.{Point}
-use Rattle.md_definition.specs.Bytes.{begins}
 use Rattle.md_definition.specs.Lines.{begins_with}
 use Rattle.md_definition.specs.Rest.{is_blank, is_white, trim, trim_start}
-use Rattle.md_leaves.proofs.TitleTexts.{front-stops}
-use Rattle.md_outline.specs.Between.{is_between}
 use Rattle.md_seam.specs.Events.Nested.{around}
 use Rattle.md_seam.specs.Events.Places.{past_byte, past_text}
 use Rattle.md_seam.proofs.InlineLemmas.{past-index, past_text-append}
@@ -23,11 +20,11 @@ use Rattle.md_tables.specs.RowCells.{line_cells, onto, past_pipe, pipe_part, row
 use Rattle.md_tables.proofs.RowBytes.{cell-whole, cells_bytes, front-blank, front-whole, line-bytes, pipe_bytes}
 use Rattle.md_seam.proofs.RestLines.{trim-white}
 use Rattle.md_tables.proofs.WhiteEnds.{back-blank, blank-first, front-none, front-one, start-none}
-use Rattle.markdown_blocks.proofs.BetweenFacts.{between-before, blank-low, is_low, white-low}
-use Rattle.markdown_blocks.proofs.Fence.Between.{low-behind}
-use Rattle.markdown_blocks.proofs.Fence.Walk.{At, past-stands}
+use Rattle.markdown_blocks.proofs.BetweenFacts.{between-before, blank-low, is_low}
+use Rattle.markdown_blocks.proofs.Fence.Between.{IsPlace, low-behind}
+use Rattle.markdown_blocks.proofs.Fence.Walk.{At}
 use Rattle.markdown_blocks.proofs.GfmTable.RowAt.{RowAt, at-behind, at-first, row-start}
-use Rattle.markdown_blocks.proofs.GfmTable.RowParts.{IsMiddle, IsRowGroup, RowFacts, row-append, row-around, row-none}
+use Rattle.markdown_blocks.proofs.GfmTable.RowParts.{IsRowGroup, RowFacts, row-append, row-around, row-none}
 use Rattle.markdown_blocks.proofs.GfmTable.RowParts.{row-pipe, row-white}
 use Rattle.markdown_blocks.proofs.PieceFacts.{CutsFirst, whole-first}
 
@@ -46,9 +43,6 @@ EachFits Fits (Shut cell white) = Fits (trim cell)
 EachFits Fits (Divides cell cells) = Fits (trim cell) × EachFits Fits cells
 
 -- Places between characters.
-
-abbrev IsPlace : List ℕ → Point → Type 0
-IsPlace bytes p = is_between bytes p.index ≡ true
 
 -- in front of a byte of ASCII
 pub low-front : (bytes : List ℕ) (b : ℕ) (rest : List ℕ) (p : Point) → drop p.index bytes ≡ b ∷ rest → is_low b ≡ true →

@@ -2,10 +2,9 @@
 --
 -- It is what is asked of the events of a leaf, but for their grammar, how they are read and where an outline goes, which
 -- are told of whole cells.
-use Rattle.std.proofs.Common.{◌≡◌, ℕ, ◌<◌, Bool, true, false, cond, ◌&&◌, ◌||◌, not, List, [], ◌∷◌, ◌++◌, length, drop, refl, sym}
-use Rattle.std.proofs.Common.{ap, ◌∙◌, subst, append-nil, arith}
-use Rattle.std.specs.Prelude.{◌==◌, IsTrue, Some, None}
-use Rattle.std.specs.List.{list_all}
+use Rattle.std.proofs.Common.{◌≡◌, ℕ, ◌<◌, Bool, true, false, ◌&&◌, ◌||◌, not, List, [], ◌∷◌, ◌++◌, drop, refl, sym}
+use Rattle.std.proofs.Common.{ap, subst, append-nil, arith}
+use Rattle.std.specs.Prelude.{IsTrue, None}
 use Rattle.std.proofs.lemmas.Bool.{and_from}
 use Rattle.md_engine.specs.declared.event.Event.{Event}
 use Rattle.md_engine.specs.declared.event.Name.{Name}
@@ -19,7 +18,7 @@ use Rattle.md_seam.specs.declared.inline.Chunk.{Chunk}
 use Rattle.md_seam.specs.declared.inline.PartKind.TheVariants.{Text}
 use Rattle.md_seam.specs.Events.Endings.{on_line}
 use Rattle.md_seam.specs.Events.Inline.{in_order, plain_chunk, plain_chunks, together}
-use Rattle.md_seam.specs.Events.Nested.{around, enter, enter_link, exit, pair}
+use Rattle.md_seam.specs.Events.Nested.{around, enter_link, exit, pair}
 use Rattle.md_seam.specs.Events.Pieces.{piece_stands}
 use Rattle.md_seam.specs.Events.Places.{at_or_before, past_byte, past_text}
 use Rattle.md_seam.specs.Events.Spelled.{role}

@@ -1,5 +1,5 @@
 -- Where an outline goes in a row of a table: cell by cell, and in a cell over its text, if it has one.
-use Rattle.std.proofs.Common.{◌≡◌, ℕ, Bool, true, false, List, [], ◌∷◌, ◌++◌, refl, sym, ap, ◌∙◌, subst, append_assoc}
+use Rattle.std.proofs.Common.{ℕ, Bool, true, List, [], ◌∷◌, ◌++◌, refl, sym, subst, append_assoc}
 use Rattle.std.proofs.Common.{append-nil}
 use Rattle.md_engine.specs.declared.event.Event.{Event}
 use Rattle.md_engine.specs.declared.event.Name.TheVariants as n
@@ -10,21 +10,17 @@ use Rattle.md_outline.specs.LinesStand.{InTable}
 use Rattle.md_outline.specs.TableSpots.{AtCell, BehindCell, InRow, Row}
 use Rattle.md_outline.proofs.LinesPass.{passes-append}
 use Rattle.md_outline.proofs.TablesPass.{PassesIn, passes-cell, passes-cell_text, passes-empty_cell, passes-unshown}
-use Rattle.md_seam.specs.Events.Nested.{around, exit, pair}
+use Rattle.md_seam.specs.Events.Nested.{around}
 use Rattle.md_seam.specs.Events.Places.{past_byte, past_text}
 use Rattle.md_seam.proofs.SpelledLemmas.{Quiet, Roles, roles-append}
 use Rattle.md_tables.specs.RowCells.{Cells, Divides, Ends, Shut, cell_inside, cells_events, first_pipe, line_cells, past_pipe}
 use Rattle.md_tables.specs.RowCells.{pipe_part, read_text, row_events, text_part, white_back, white_front, white_part}
 use Rattle.md_tables.proofs.RowBecomes.{data-read}
 use Rattle.md_tables.proofs.RowBytes.{cell-whole, cells_bytes, line-bytes, pipe_bytes}
-use Rattle.md_tables.proofs.RowRead.{white-quiet}
+use Rattle.md_tables.proofs.RowRead.{pipe-quiet, white-quiet}
 use Rattle.markdown_blocks.proofs.Fence.Walk.{At}
 use Rattle.markdown_blocks.proofs.GfmTable.RowAt.{RowAt, at-behind, at-first, row-start}
 use Rattle.markdown_blocks.proofs.GfmTable.RowCells.{at-pipe, past-pipe}
-
-pipe-quiet : (piped : Bool) (p : Point) → Roles Quiet (first_pipe piped p)
-pipe-quiet true p = (tt, (tt, tt))
-pipe-quiet false p = tt
 
 -- A cell, with what the tree does not show behind what it holds.
 cell-passes : (bytes : List ℕ) (row : Row) (piped : Bool) (cell rest : List ℕ) (p end : Point) (more : List Event) →

@@ -1,5 +1,5 @@
 -- A row of a table keeps the grammar: its cells one behind the other, with whitespace around them.
-use Rattle.std.proofs.Common.{◌≡◌, ℕ, Bool, true, false, cond, not, List, [], ◌∷◌, ◌++◌, refl, sym, ap, ◌∙◌, subst}
+use Rattle.std.proofs.Common.{◌≡◌, ℕ, Bool, true, false, not, List, [], ◌∷◌, ◌++◌, refl, sym, ap, ◌∙◌, subst}
 use Rattle.std.proofs.Common.{append_assoc, append-nil}
 use Rattle.std.proofs.lemmas.Bool.{and_parts}
 use Rattle.md_engine.specs.declared.event.Event.{Event}
@@ -19,7 +19,7 @@ use Rattle.md_seam.specs.Events.Places.{past_byte, past_text}
 use Rattle.md_seam.proofs.GrammarLemmas.{IsWord, Leads, leads-append, leads-around, leads-pair, maybe, word-behind}
 use Rattle.md_tables.specs.RowCells as row
 use Rattle.md_tables.specs.RowCells.{Cells, Divides, Ends, Shut, cell_by, cells_by, first_pipe, line_cells, past_pipe}
-use Rattle.md_tables.specs.RowCells.{pipe_part, read_text, row_by, row_events, text_part, white_back, white_front}
+use Rattle.md_tables.specs.RowCells.{pipe_part, read_text, row_by, text_part, white_back, white_front}
 use Rattle.md_tables.specs.RowCells.{white_part}
 use Rattle.md_tables.proofs.WhiteEnds.{back-blank, end-whole}
 use Rattle.markdown_blocks.proofs.ChunkFacts.{chunk-word}

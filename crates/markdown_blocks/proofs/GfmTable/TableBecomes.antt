@@ -10,7 +10,7 @@ use Rattle.md_tables.specs.RowCells.{read_text, unread_text}
 use Rattle.markdown_blocks.specs.Rows.{Row, ending_events, headed_done, headed_unread, last_row, row_line}
 use Rattle.markdown_blocks.proofs.EachEvent.{each-append}
 use Rattle.markdown_blocks.proofs.FrontNames.{fronts-unlinked}
-use Rattle.markdown_blocks.proofs.GfmTable.DelimiterRow.{delimiter-unlinked}
+use Rattle.markdown_blocks.proofs.GfmTable.DelimiterRow.{columns-cells, delimiter-unlinked}
 use Rattle.markdown_blocks.proofs.GfmTable.Row.{row-reads}
 use Rattle.markdown_blocks.proofs.GfmTable.TableFacts.{table-done}
 use Rattle.markdown_blocks.proofs.GfmTable.TableForm.{AreBodyRows, IsFilledLine, IsGap, IsTable, body_behind}
@@ -85,7 +85,8 @@ becomes-head wants reads bytes row next rows text texts is =
     (delimiter_part bytes next) (becomes-gap wants reads bytes row next is.gap)
     (becomes-same wants reads (delimiter_part bytes next)
     (no_links-unwanted wants (delimiter_part bytes next)
-    (delimiter-unlinked (row_line bytes next) next.first next.end))))
+    (delimiter-unlinked bytes (row_line bytes next) (drop next.end.index bytes) next.first next.end
+    (line-at bytes next is.delimiter) (columns-cells (row_line bytes next) is.columns is.asked)))))
 
 -- The table.
 pub table-reads : (wants : Content → Bool) (reads : Readings) (bytes : List ℕ) (row next : Row) (rows : List Row) →

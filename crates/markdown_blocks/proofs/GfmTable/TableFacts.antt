@@ -85,7 +85,8 @@ head-fills said bytes row next rows each is =
     (filling-stays (row_part said bytes row) (part-fills said bytes row each is.head))
     (filling-append (gap_events row next) (delimiter_part bytes next) (gap-stays bytes row next is.gap)
     (delimiter-fills next.first next.end (delimiter_events (row_line bytes next) next.first)
-    (delimiter-others (row_line bytes next) next.first next.end
+    (delimiter-others bytes (row_line bytes next) (drop next.end.index bytes) next.first next.end
+    (line-at bytes next is.delimiter)
     (columns-cells (row_line bytes next) is.columns is.asked))))
 
 table-fills : (said : Point → Point → List Event) (bytes : List ℕ) (row next : Row) (rows : List Row) →
