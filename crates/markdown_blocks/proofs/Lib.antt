@@ -90,6 +90,7 @@ pub mod ShallowBlocks
 pub mod RegistryFound
 pub mod Paragraph
 pub mod LineSteps
+pub mod LastKept
 pub mod StepBehind
 pub mod LastLine
 pub mod PlainRoles

@@ -19,7 +19,7 @@ use Rattle.markdown_blocks.proofs.TextProgress.{IsFresh, contained-progress, unl
 use Rattle.markdown_blocks.specs.Change.{is_none, open_behind}
 use Rattle.markdown_blocks.specs.Fronted.{Contained}
 use Rattle.markdown_blocks.specs.HeldLeaf.{IsBuiltLeaf, has_lines, kind_of_leaf, left_by, may_go_on, takes_lazy}
-use Rattle.markdown_blocks.specs.Leaf.Paragraph.{held_of, of_last, open_lines, then_front}
+use Rattle.markdown_blocks.specs.Leaf.Paragraph.{held_of, open_lines, then_front}
 use Rattle.markdown_blocks.specs.Parsed.{IsBuilt}
 use Rattle.markdown_blocks.specs.Registry.{LeafName, further_of, leaf, text_leaf, turn_leaf}
 use Rattle.markdown_blocks.specs.Rows.{BlankRow, LeafRow, RowKind, TextRow, is_further, is_lazy, is_text, line_behind}
@@ -28,6 +28,7 @@ use Rattle.markdown_blocks.specs.Stands.{IsPlain, containers_of, still_of}
 use Rattle.markdown_blocks.proofs.ContainedLemmas.{contained-met, contained-size, contained-still, lazy-opens}
 use Rattle.markdown_blocks.proofs.ContainedLemmas.{lines-open}
 use Rattle.markdown_blocks.proofs.KindLemmas.{kind-starts}
+use Rattle.markdown_blocks.proofs.LastKept.{last-is}
 use Rattle.markdown_blocks.proofs.LineSteps.{asked-kind, behind_path, come_by, contained-lazy, contained_at}
 use Rattle.markdown_blocks.proofs.LineSteps.{further_path}
 use Rattle.markdown_blocks.proofs.LineSteps.{goes_further, goes_lazy, kept_to, longer, new_line, none-further}
@@ -357,12 +358,6 @@ held-progress : (open_leaf : Leaf) → progress_of (kind_of_leaf open_leaf) ≡ 
 unfolding steps
 held-progress (OpenParagraph lines) = refl
 held-progress _ = refl
-
--- and of the last of them its numbers
-last-is : (number : Kept → ℕ) (lines : List Kept) (k : Kept) → of_last number (lines ++ k ∷ []) ≡ number k
-last-is number [] k = refl
-last-is number (first ∷ []) k = refl
-last-is number (first ∷ next ∷ lines) k = last-is number (next ∷ lines) k
 
 -- with one line more
 one-longer : (open_leaf : Leaf) (r : Rest) →
