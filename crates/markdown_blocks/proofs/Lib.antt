@@ -97,6 +97,7 @@ pub mod TablesFound
 pub mod FurtherSpan
 pub mod Paragraph
 pub mod LineSteps
+pub mod LastKept
 pub mod StepBehind
 pub mod LastLine
 pub mod PlainRoles

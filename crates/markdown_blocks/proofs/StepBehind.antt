@@ -29,6 +29,7 @@ use Rattle.markdown_blocks.proofs.ContainedLemmas.{contained-met, contained-size
 use Rattle.markdown_blocks.proofs.ContainedLemmas.{lines-open}
 use Rattle.markdown_blocks.proofs.KindLemmas.{kind-starts}
 use Rattle.markdown_blocks.proofs.FurtherSpan.{FurtherSpan, further-span, other-begins, other_kind}
+use Rattle.markdown_blocks.proofs.LastKept.{last-is}
 use Rattle.markdown_blocks.proofs.LineSteps.{behind_path, come_by, contained-lazy, contained_at}
 use Rattle.markdown_blocks.proofs.LineSteps.{further_path}
 use Rattle.markdown_blocks.proofs.LineSteps.{goes_further, goes_lazy, kept_to, longer, new_line, none-further}
@@ -365,12 +366,6 @@ held-progress : (open_leaf : Leaf) → progress_of (kind_of_leaf open_leaf) ≡ 
 unfolding steps
 held-progress (OpenParagraph lines) = refl
 held-progress _ = refl
-
--- and of the last of them its numbers
-last-is : (number : Kept → ℕ) (lines : List Kept) (k : Kept) → of_last number (lines ++ k ∷ []) ≡ number k
-last-is number [] k = refl
-last-is number (first ∷ []) k = refl
-last-is number (first ∷ next ∷ lines) k = last-is number (next ∷ lines) k
 
 -- with one line more
 one-longer : (open_leaf : Leaf) (r : Rest) →

@@ -1,8 +1,9 @@
 -- How many cells a line has as the head of a table, byte by byte; and one where it has no pipe.
-use Rattle.std.proofs.Common.{◌≡◌, ℕ, suc, ◌+◌, ◌-◌, Bool, true, false, cond, ◌&&◌, nat_eq, List, [], ◌∷◌, length, refl}
+use Rattle.std.proofs.Common.{◌≡◌, ℕ, suc, ◌+◌, ◌-◌, ◌≤◌, Bool, true, false, cond, ◌&&◌, nat_eq, List, [], ◌∷◌, length, refl}
 use Rattle.std.proofs.Common.{sym, ◌∙◌, ap, arith, get_or}
 use Rattle.std.specs.Prelude.{not}
 use Rattle.std.specs.List.{All, onto_first, prefix_len, suffix_len}
+use Rattle.std.proofs.lemmas.Bool.Decides.{nat_tests}
 use Rattle.std.proofs.lemmas.List.{length-map}
 use Rattle.std.proofs.lemmas.List.Elements.{All-drop, All-from_get_or, All-take}
 use Rattle.memchr.specs.Find.{Nowhere, Passes, is_byte}
@@ -100,3 +101,24 @@ head-alone line nowhere =
         pipeless-trimmed line
         (All-from_get_or IsNoPipe line 0
         (λ i lt. plain (nat_eq (get_or line i 0) 124) (nowhere i (omega arith) lt)))
+
+-- A row has a cell at least,
+pub cells-some : (line : List ℕ) → 1 ≤ length (row_cells line)
+unfolding row_cells
+cells-some line =
+    let row = after_optional 124 (trim line) in
+    let p = pieces-parted false row in
+    omega (arith, length-map (pieces false row) trim, ap length p.is)
+
+-- so a line is a head of so many cells just where they are counted so.
+pub head-fits : (line : List ℕ) (columns : ℕ) → 1 ≤ columns →
+    (is_head line && nat_eq (length (row_cells line)) columns) ≡ nat_eq (head_columns line) columns
+head-fits line columns some = go (is_head line)
+  where
+    none : nat_eq 0 columns ≡ false
+    none = grind (arith, nat_tests)
+
+    go : (x : Bool) →
+        (x && nat_eq (length (row_cells line)) columns) ≡ nat_eq (cond x (length (row_cells line)) 0) columns
+    go true = refl
+    go false = sym none
