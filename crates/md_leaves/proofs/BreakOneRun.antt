@@ -2,7 +2,7 @@
 use Rattle.std.proofs.Common.{◌≡◌, ℕ, ◌+◌, Bool, true, false, cond, nat_eq, List, [], ◌∷◌, ◌++◌, refl, sym, ◌∙◌, ap}
 use Rattle.std.proofs.Common.{ap₂, arith}
 use Rattle.std.specs.Prelude.{◌&&◌, ◌==◌}
-use Rattle.std.proofs.lemmas.Bool.{and_from, and_right, eqb-true}
+use Rattle.std.proofs.lemmas.Bool.{and_from, and_right}
 use Rattle.std.proofs.lemmas.Bool.Decides.{nat_tests}
 use Rattle.md_engine.specs.declared.configuration.ParseOptions.{ParseOptions}
 use Rattle.md_engine.specs.declared.event.Name.TheVariants.{SpaceOrTab, ThematicBreakSequence}
@@ -14,7 +14,7 @@ use Rattle.md_leaves.specs.HeadingSetext.{turns_nothing}
 use Rattle.md_leaves.specs.HeadingSetext as setext
 use Rattle.md_leaves.specs.HeadingSetextRule.{is_run, is_underline}
 use Rattle.md_leaves.proofs.BreakLemmas.{apart-mark, before-mark, before-underline, in_break-mark, marker-no_ending}
-use Rattle.md_leaves.proofs.BreakLemmas.{marks-end, marks-white, takes-white, white-apart}
+use Rattle.md_leaves.proofs.BreakLemmas.{marks-end, marks-white, takes-white}
 use Rattle.md_leaves.proofs.LeafSteps.{TakesWhite}
 use Rattle.md_leaves.proofs.SetextLemmas.{is_run-one, is_run-other}
 use Rattle.md_seam.specs.Ahead.{line_bytes}

@@ -31,11 +31,7 @@ fn has_lines(name: Name) -> bool
 {
     matches!(
         name,
-        Name::CodeIndented
-            | Name::CodeFenced
-            | Name::MathFlow
-            | Name::HtmlFlow
-            | Name::GfmTable
+        Name::CodeIndented | Name::CodeFenced | Name::MathFlow | Name::HtmlFlow | Name::GfmTable
     )
 }
 
