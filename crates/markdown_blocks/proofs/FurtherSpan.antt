@@ -15,16 +15,16 @@ use Rattle.md_definition.specs.Tree.{Blocks, Table}
 use Rattle.md_leaves.specs.HeadingSetext.{is_text}
 use Rattle.md_outline.specs.HeadingDepths.{are_shallow}
 use Rattle.markdown_blocks.specs.HeldLeaf.{IsBuiltLeaf, has_lines, kind_of_leaf, left_by}
-use Rattle.markdown_blocks.specs.Leaf.GfmTable.{may_be_table, table_leaf}
+use Rattle.markdown_blocks.specs.Leaf.GfmTable.{table_leaf}
 use Rattle.markdown_blocks.specs.Registry.{GfmTable, IsOpenSpan, LeafName, first_of, further_of, insider, leaf, shuts_out}
 use Rattle.markdown_blocks.specs.Rows.{BlankRow, LeafRow, RowKind, inside_or, is_further, kind_of, line_kind}
 use Rattle.markdown_blocks.proofs.GfmTable.Found.{table-goes}
 use Rattle.markdown_blocks.proofs.KindLemmas.{kind-plain}
 use Rattle.markdown_blocks.proofs.OpenSpan.{ComesShallow, OpenSpan}
 use Rattle.markdown_blocks.proofs.Registry.{came_of, insider-open, leaf_at, open-span}
+use Rattle.markdown_blocks.proofs.RegistryFound.{or_table, other_at, other_trials, table-last, untabled-at, untext-found}
 use Rattle.markdown_blocks.proofs.ShallowBlocks.{shallow-then}
-use Rattle.markdown_blocks.proofs.TableStarts.{asked-untabled, untabled}
-use Rattle.markdown_blocks.proofs.TablesFound.{or_table, other_at, other_trials, table-last, untext-found}
+use Rattle.markdown_blocks.proofs.TableStarts.{asked-untabled}
 
 -- the kind of a line that goes on no leaf of several lines
 abbrev pub other_kind : ParseOptions → HeldLeaf → Rest → RowKind
@@ -85,17 +85,6 @@ pub record FurtherSpan (open_leaf : Leaf) : Type 0 where
   -- so can it where it is closed
   pub closed : (options : ParseOptions) (bs : Blocks) → are_shallow bs ≡ true →
       are_shallow (then_leaf options bs open_leaf) ≡ true
-
--- Where the line meets no table and no text, no line of a table goes on it.
-pub untabled-at : (options : ParseOptions) (on : HeldLeaf) (r : Rest) → may_be_table on ≡ false →
-    leaf_at options on r ≡ other_at options on r
-untabled-at options on r none =
-    table-last options on r ∙ ap (λ (t : Bool). or_table t (other_at options on r)) (untabled options on r none)
-    ∙ go (other_at options on r)
-  where
-    go : (o : Option LeafName) → or_table false o ≡ o
-    go None = refl
-    go (Some l) = refl
 
 -- One that is asked first: its line is tried in front of all others.
 pub asked-further : (open_leaf : Leaf) → OpenSpan open_leaf → FurtherSpan open_leaf

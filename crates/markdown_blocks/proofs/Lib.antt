@@ -87,13 +87,14 @@ pub mod GroupsAre
 pub mod TablesOff
 pub mod TurnedGroups
 pub mod SpannedGroups
+pub mod HeadedTable
 pub mod TabledGroups
 pub mod Text
 pub mod Turned
 pub mod Span
 pub mod ShallowBlocks
 pub mod RegistryFound
-pub mod TablesFound
+pub mod TextFound
 pub mod FurtherSpan
 pub mod Paragraph
 pub mod LineSteps

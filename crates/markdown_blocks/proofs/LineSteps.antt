@@ -33,11 +33,11 @@ use Rattle.markdown_blocks.specs.Stands.{IsPlain, containers_of, still_of}
 use Rattle.markdown_blocks.specs.Leaf.Paragraph.{held_of, open_lines}
 use Rattle.markdown_blocks.proofs.ContainedLemmas.{change-opens, ended-open, lazy-some, lines-unlazy}
 use Rattle.markdown_blocks.proofs.KindLemmas.{kind-plain, kind-starts}
-use Rattle.markdown_blocks.proofs.FurtherSpan.{FurtherSpan, further-span, other-begins, other_kind, untabled-at}
+use Rattle.markdown_blocks.proofs.FurtherSpan.{FurtherSpan, further-span, other-begins, other_kind}
 use Rattle.markdown_blocks.proofs.Registry.{IsAgainst, came_of, insider-none, laws, leaf_at, text-laws}
 use Rattle.markdown_blocks.proofs.Registry.{shuts_out-none, text-starts}
-use Rattle.markdown_blocks.proofs.RegistryFound.{lazy_on, starts-found, text_on}
-use Rattle.markdown_blocks.proofs.TablesFound.{front_before, other_at, text-comes, text_came, untext-found}
+use Rattle.markdown_blocks.proofs.RegistryFound.{other_at, untabled-at, untext-found}
+use Rattle.markdown_blocks.proofs.TextFound.{front_before, lazy_on, text-comes, text_came, text_on}
 
 -- Leaves of several lines.
 
@@ -576,7 +576,9 @@ lazy-stepped options before c p r built leaf e plain =
             ∙ sym (ap (λ (x : Bool). longer_by (text_on (k ∷ ks)) (kind_by (lazy_on (k ∷ ks)) x)) b)
         go false b =
             ap (λ (x : Bool). to x (starts options LazyText r)) b
-            ∙ ap (to false) (starts-found options (lazy_on (k ∷ ks)) LazyText r refl refl refl b)
+            ∙ ap (to false)
+            (untext-found options (lazy_on (k ∷ ks)) LazyText r refl refl b
+            ∙ ap (came_of options r) (sym (untabled-at options (lazy_on (k ∷ ks)) r refl)))
             ∙ by b (leaf_at options (lazy_on (k ∷ ks)) r) refl
             ∙ sym (ap (λ (x : Bool). longer_by (text_on (k ∷ ks)) (kind_by (lazy_on (k ∷ ks)) x)) b)
 

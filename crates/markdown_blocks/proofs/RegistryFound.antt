@@ -1,50 +1,160 @@
 -- Which leaves of the line definition start on a line: of those that are built the first of the registry, and no other.
-use Rattle.std.proofs.Common.{◌≡◌, Bool, true, false, cond, List, [], ◌∷◌, refl, ap, sym, ◌∙◌}
-use Rattle.md_engine.specs.Progress.{is_whole}
+use Rattle.std.proofs.Common.{◌≡◌, Bool, true, false, cond, List, [], ◌∷◌, refl, ap, ap₂, sym, ◌∙◌}
+use Rattle.std.specs.Prelude.{◌&&◌, Option, None, Some}
+use Rattle.std.specs.Option.{option_or}
+use Rattle.md_engine.specs.declared.configuration.ParseOptions.{ParseOptions}
 use Rattle.md_engine.specs.declared.tokenizer.held_leaf.HeldLeaf.{HeldLeaf}
 use Rattle.md_engine.specs.declared.tokenizer.held_leaf.HeldLeaf.TheVariants as held_leaf
-use Rattle.std.specs.Prelude.{not}
-use Rattle.std.specs.Prelude.{ℕ, ◌&&◌, if◌then◌else◌, Option, None, Some}
-use Rattle.md_engine.specs.declared.configuration.ParseOptions.{ParseOptions}
-use Rattle.md_engine.specs.declared.tokenizer.held_leaf.OpenText.{OpenText}
-use Rattle.md_definition.specs.Leaves.{ParagraphContext, Text, is_text, starts, table_at, underline_depth, underlined}
-use Rattle.md_definition.specs.Leaves.{underlined_by, with_line}
-use Rattle.md_definition.specs.Definition.{cut_definitions}
-use Rattle.md_definition.specs.Rest.{Rest, is_blank}
-use Rattle.md_definition.specs.Rest.{has_small_indent, trim_start}
-use Rattle.md_definition.specs.State.{Kept, NoLeaf, Spot, cut, texts}
-use Rattle.md_definition.specs.Step.{came, spot_of, text_by, underline_or_text}
-use Rattle.md_definition.specs.Tree.{Blocks, Heading}
-use Rattle.md_definition.specs.State.{then_block}
-use Rattle.md_parts.proofs.ProgressLemmas.{progress-cut}
-use Rattle.md_parts.specs.Progress.{is_none_left, progress}
-use Rattle.markdown_blocks.proofs.HeadingSetext.Found.{none-underlined}
-use Rattle.markdown_blocks.specs.Leaf.GfmTable.{may_be_table}
-use Rattle.markdown_blocks.specs.Leaf.HeadingSetext.{depth_of, setext_leaf}
-use Rattle.markdown_blocks.specs.Leaf.Paragraph.{open_lines, then_front}
-use Rattle.markdown_blocks.specs.Parsed.{IsBuilt}
-use Rattle.markdown_blocks.specs.Registry.{HeadingSetext, LeafName, leaf, text_leaf, trials}
-use Rattle.markdown_blocks.proofs.HeadingSetext.Found.{setext-found}
-use Rattle.markdown_blocks.proofs.KindLemmas.{first-passes}
-use Rattle.markdown_blocks.proofs.Registry.{IsAgainst, came_of, leaf_at, leaves-found, lost-none, setext-taken}
-use Rattle.markdown_blocks.proofs.Registry.{text-laws}
-use Rattle.markdown_blocks.proofs.TableStarts.{no-head, text-untabled, untabled}
-use Rattle.markdown_blocks.proofs.UnderNames.{further-text}
-use Rattle.md_leaves.specs.HeadingSetext.{may_turn, turns_nothing}
+use Rattle.md_definition.specs.Leaves.{Came, ParagraphContext, is_free, is_text, starts}
+use Rattle.md_definition.specs.Rest.{Rest, has_small_indent, is_blank, trim_start}
+use Rattle.md_definition.specs.State.{NoLeaf}
+use Rattle.md_leaves.specs.HeadingSetext.{turns_nothing}
 use Rattle.md_leaves.specs.HeadingSetextRule.{is_underline}
+use Rattle.md_lines.specs.Code.{may_open}
+use Rattle.markdown_blocks.specs.Context.{context_of}
+use Rattle.markdown_blocks.specs.Leaf.CodeIndented.{code_leaf}
+use Rattle.markdown_blocks.specs.Leaf.Fence.{fence_leaf}
+use Rattle.markdown_blocks.specs.Leaf.GfmTable.{may_be_table, table_leaf}
+use Rattle.markdown_blocks.specs.Leaf.HeadingAtx.{heading_leaf}
+use Rattle.markdown_blocks.specs.Leaf.HeadingSetext.{setext_leaf}
+use Rattle.markdown_blocks.specs.Leaf.HtmlFlow.{html_leaf}
+use Rattle.markdown_blocks.specs.Leaf.ThematicBreak.{break_leaf}
+use Rattle.markdown_blocks.specs.Registry.{CodeIndented, Fence, GfmTable, HeadingAtx, HeadingSetext, HtmlFlow, LeafName}
+use Rattle.markdown_blocks.specs.Registry.{ThematicBreak, first_of, leaf}
+use Rattle.markdown_blocks.proofs.CodeIndented.Found.{code-found}
+use Rattle.markdown_blocks.proofs.Fence.Found.{fence-found}
+use Rattle.markdown_blocks.proofs.HeadingAtx.Found.{heading-found}
+use Rattle.markdown_blocks.proofs.HtmlFlow.Found.{html-found}
+use Rattle.markdown_blocks.proofs.Registry.{IsAgainst, came_of, leaf_at}
+use Rattle.markdown_blocks.proofs.TableStarts.{untabled}
+use Rattle.markdown_blocks.proofs.ThematicBreak.Found.{break-found}
 
--- What is not built.
+-- Leaves that are tried in front of tables.
 
--- no row of a table begins behind open text
-table-off : (options : ParseOptions) (bs : Blocks) (lines : List Kept) (r : Rest) → IsBuilt options →
-    table_at options bs lines r ≡ None
-unfolding table_at
-table-off options bs lines r built = rw built.gfm_table refl
+abbrev pub other_trials : List LeafName
+other_trials = CodeIndented ∷ Fence ∷ HtmlFlow ∷ HeadingAtx ∷ HeadingSetext ∷ ThematicBreak ∷ []
 
--- Lines.
+-- the first of them that takes the rest of a line
+abbrev pub other_at : ParseOptions → HeldLeaf → Rest → Option LeafName
+other_at options on r = first_of (λ l. (leaf l).starts options on r) other_trials
+
+-- where none of them does, a line of a table may be one
+abbrev pub or_table : Bool → Option LeafName → Option LeafName
+or_table t None = cond t (Some GfmTable) None
+or_table t (Some l) = Some l
+
+pub table-last : (options : ParseOptions) (on : HeldLeaf) (r : Rest) →
+    leaf_at options on r ≡ or_table (table_leaf.starts options on r) (other_at options on r)
+table-last options on r =
+    go (code_leaf.starts options on r) (fence_leaf.starts options on r) (html_leaf.starts options on r)
+    (heading_leaf.starts options on r) (setext_leaf.starts options on r) (break_leaf.starts options on r)
+    (table_leaf.starts options on r)
+  where
+    to : Bool → Bool → Bool → Bool → Bool → Bool → Option LeafName → Option LeafName
+    to c x h y s z last =
+        cond c (Some CodeIndented)
+        (cond x (Some Fence)
+        (cond h (Some HtmlFlow)
+        (cond y (Some HeadingAtx) (cond s (Some HeadingSetext) (cond z (Some ThematicBreak) last)))))
+
+    go : (c x h y s z t : Bool) →
+        to c x h y s z (cond t (Some GfmTable) None) ≡ or_table t (to c x h y s z None)
+    go true x h y s z t = refl
+    go false true h y s z t = refl
+    go false false true y s z t = refl
+    go false false false true s z t = refl
+    go false false false false true z t = refl
+    go false false false false false true t = refl
+    go false false false false false false t = refl
+
+-- none of them takes a line of text as its head
+abbrev AllHeadless : List LeafName → Type 0
+AllHeadless [] = Unit {0}
+AllHeadless (l ∷ ls) = ((leaf l).heads ≡ false) × AllHeadless ls
+
+first-headless : (test : LeafName → Bool) (ls : List LeafName) (l : LeafName) → AllHeadless ls →
+    first_of test ls ≡ Some l → (leaf l).heads ≡ false
+first-headless test [] l all e = cc
+first-headless test (k ∷ ls) l all e = go (test k) e (first-headless test ls l all.1)
+  where
+    go : (x : Bool) → cond x (Some k) (first_of test ls) ≡ Some l →
+        (first_of test ls ≡ Some l → (leaf l).heads ≡ false) → (leaf l).heads ≡ false
+    go true e more = let same : k ≡ l = cc in ap (λ (m : LeafName). (leaf m).heads) (sym same) ∙ all.0
+    go false e more = more e
+
+pub other-headless : (options : ParseOptions) (on : HeldLeaf) (r : Rest) (l : LeafName) →
+    other_at options on r ≡ Some l → (leaf l).heads ≡ false
+other-headless options on r l found =
+    first-headless (λ m. (leaf m).starts options on r) other_trials l
+    (refl, (refl, (refl, (refl, (refl, (refl, tt)))))) found
+
+-- where the line meets neither text nor a table, they are all
+pub untabled-at : (options : ParseOptions) (on : HeldLeaf) (r : Rest) → may_be_table on ≡ false →
+    leaf_at options on r ≡ other_at options on r
+untabled-at options on r none =
+    table-last options on r ∙ ap (λ (t : Bool). or_table t (other_at options on r)) (untabled options on r none)
+    ∙ go (other_at options on r)
+  where
+    go : (o : Option LeafName) → or_table false o ≡ o
+    go None = refl
+    go (Some l) = refl
+
+-- What starts on a line that is not blank.
+
+-- indented code may begin by the leaf that the line meets, and by what the line stands against, or by neither
+free-open : (on : HeldLeaf) → may_open on ≡ is_free (context_of on)
+free-open held_leaf.None = refl
+free-open (held_leaf.Text at) = refl
+free-open (held_leaf.LazyText at) = refl
+free-open held_leaf.Code = refl
+free-open (held_leaf.Fence m size indent) = refl
+free-open (held_leaf.Html kind) = refl
+free-open held_leaf.Table = refl
+
+-- where no underline starts, of the leaves of the line definition these alone are built, in this order
+pub others-found : (options : ParseOptions) (on : HeldLeaf) (against : ParagraphContext) (r : Rest) →
+    IsAgainst against on → setext_leaf.starts options on r ≡ false →
+    (has_small_indent options r && turns_nothing options on && is_underline (trim_start r.bytes)) ≡ false →
+    is_blank r.bytes ≡ false → starts options against r ≡ came_of options r (other_at options on r)
+unfolding starts
+others-found options on against r same unturned no_underline dark =
+    ap₂ (λ (x y : Option Came). option_or x y)
+    (code-found options on against r (free-open on ∙ sym (ap is_free same)) dark)
+    (ap₂ (λ (x y : Option Came). option_or x y) (fence-found options r)
+    (ap₂ (λ (x y : Option Came). option_or x y) (html-found options on against r same)
+    (ap₂ (λ (x y : Option Came). option_or x y) (heading-found options r) (break-found options on r no_underline))))
+    ∙ go (code_leaf.starts options on r) (fence_leaf.starts options on r) (html_leaf.starts options on r)
+    (heading_leaf.starts options on r) (break_leaf.starts options on r)
+    ∙ ap
+    (λ (s : Bool).
+    came_of options r
+    (to (code_leaf.starts options on r) (fence_leaf.starts options on r) (html_leaf.starts options on r)
+    (heading_leaf.starts options on r) s (break_leaf.starts options on r))) (sym unturned)
+  where
+    -- a leaf, if it starts
+    one : Bool → LeafName → Option Came
+    one x l = cond x (Some ((leaf l).comes options NoLeaf r)) None
+
+    to : Bool → Bool → Bool → Bool → Bool → Bool → Option LeafName
+    to c x h y s z =
+        cond c (Some CodeIndented)
+        (cond x (Some Fence)
+        (cond h (Some HtmlFlow)
+        (cond y (Some HeadingAtx) (cond s (Some HeadingSetext) (cond z (Some ThematicBreak) None)))))
+
+    go : (c x h y z : Bool) →
+        option_or (one c CodeIndented)
+        (option_or (one x Fence) (option_or (one h HtmlFlow) (option_or (one y HeadingAtx) (one z ThematicBreak)))) ≡
+        came_of options r (to c x h y false z)
+    go true x h y z = refl
+    go false true h y z = refl
+    go false false true y z = refl
+    go false false false true z = refl
+    go false false false false true = refl
+    go false false false false false = refl
 
 -- an underline stands where text is open that the line is not lazy for
-pub not-text : (options : ParseOptions) (on : HeldLeaf) (against : ParagraphContext) (r : Rest) → IsAgainst against on →
+not-text : (options : ParseOptions) (on : HeldLeaf) (against : ParagraphContext) (r : Rest) → IsAgainst against on →
     is_text against ≡ false → setext_leaf.starts options on r ≡ false
 not-text options (held_leaf.Text at) against r same free = let bad : true ≡ false = sym (ap is_text same) ∙ free in cc
 not-text options held_leaf.None against r same free = refl
@@ -55,7 +165,7 @@ not-text options (held_leaf.Html kind) against r same free = refl
 not-text options held_leaf.Table against r same free = refl
 
 -- so does one that has nothing to turn
-pub not-lost : (options : ParseOptions) (on : HeldLeaf) (against : ParagraphContext) (r : Rest) → IsAgainst against on →
+not-lost : (options : ParseOptions) (on : HeldLeaf) (against : ParagraphContext) (r : Rest) → IsAgainst against on →
     is_text against ≡ false →
     (has_small_indent options r && turns_nothing options on && is_underline (trim_start r.bytes)) ≡ false
 not-lost options on against r same free = go (has_small_indent options r) (turns_nothing options on) (by on same)
@@ -74,181 +184,10 @@ not-lost options on against r same free = go (has_small_indent options r) (turns
     go true false e = refl
     go false y e = refl
 
--- The first leaf that starts on a line that is not blank, other than text, is the first of the registry that does, where
--- the line meets neither text nor a table.
-pub starts-found : (options : ParseOptions) (on : HeldLeaf) (against : ParagraphContext) (r : Rest) →
-    IsAgainst against on → is_text against ≡ false → may_be_table on ≡ false → is_blank r.bytes ≡ false →
-    starts options against r ≡ came_of options r (leaf_at options on r)
-unfolding starts
-starts-found options on against r same free no_table dark =
-    leaves-found options on against r same (not-text options on against r same free) (untabled options on r no_table)
+-- The first leaf that starts where the line meets no text is the first of them that does.
+pub untext-found : (options : ParseOptions) (on : HeldLeaf) (against : ParagraphContext) (r : Rest) →
+    IsAgainst against on → is_text against ≡ false → is_blank r.bytes ≡ false →
+    starts options against r ≡ came_of options r (other_at options on r)
+untext-found options on against r same free dark =
+    others-found options on against r same (not-text options on against r same free)
     (not-lost options on against r same free) dark
-
--- Where text is open.
-
--- what is held of these lines, and as what a lazy line meets it
-abbrev pub text_on : List Kept → HeldLeaf
-text_on lines = held_leaf.Text (open_lines lines)
-
-abbrev pub lazy_on : List Kept → HeldLeaf
-lazy_on lines = held_leaf.LazyText (open_lines lines)
-
--- where no underline stands, so it is there
-unturned-starts : (options : ParseOptions) (at : OpenText) (r : Rest) → underline_depth options r ≡ None →
-    setext_leaf.starts options (held_leaf.Text at) r ≡ false → is_blank r.bytes ≡ false → IsBuilt options →
-    starts options Text r ≡ came_of options r (leaf_at options (held_leaf.Text at) r)
-unfolding starts
-unturned-starts options at r none unturned dark built =
-    leaves-found options (held_leaf.Text at) Text r refl unturned (text-untabled options at r built.gfm_table)
-    (go options.constructs.heading_setext (has_small_indent options r) (is_underline (trim_start r.bytes))
-    (options.constructs.definition && is_whole at.progress) (none-underlined options r none)) dark
-  where
-    go : (x s u w : Bool) → (x && s && u) ≡ false → (s && (x && w) && u) ≡ false
-    go true true true true e = cc
-    go true true true false e = refl
-    go true true false true e = refl
-    go true true false false e = refl
-    go true false u w e = refl
-    go false true u w e = refl
-    go false false u w e = refl
-
--- where it may turn nothing no underline starts
-pub unturned-setext : (options : ParseOptions) (on : HeldLeaf) (r : Rest) → may_turn options on ≡ false →
-    setext_leaf.starts options on r ≡ false
-unturned-setext options on r may =
-    ap
-    (λ (x : Bool).
-    x && options.constructs.heading_setext && has_small_indent options r && is_underline (trim_start r.bytes)) may
-
--- An underline turns what is left of the text behind the definitions at its front, where something is.
-pub turned-all : (options : ParseOptions) (bs : Blocks) (lines : List Kept) (r : Rest) (depth : ℕ) →
-    is_none_left (cut options (texts lines)).1 ≡ false →
-    underlined options bs lines r depth ≡
-    spot_of (then_block (then_front options bs (text_leaf.held lines)) (Heading depth (cut options (texts lines)).1))
-unfolding underlined
-turned-all options bs lines r depth = go (cut options (texts lines)).1
-  where
-    defined : Blocks
-    defined = then_front options bs (text_leaf.held lines)
-
-    go : (left : List (List ℕ)) → is_none_left left ≡ false →
-        underlined_by bs lines r depth defined left ≡ spot_of (then_block defined (Heading depth left))
-    go [] some = cc
-    go (line ∷ left) some = refl
-
--- Whether something is, how far the definitions have come tells.
-pub may-left : (options : ParseOptions) (k : Kept) (ks : List Kept) →
-    may_turn options (text_on (k ∷ ks)) ≡ not (is_none_left (cut options (texts (k ∷ ks))).1)
-may-left options k ks = go options.constructs.definition
-  where
-    lines : List (List ℕ)
-    lines = texts (k ∷ ks)
-
-    go : (x : Bool) →
-        not (x && is_whole (progress lines)) ≡
-        not (is_none_left (if x then cut_definitions lines else ([], lines)).1)
-    go true = ap not (progress-cut lines)
-    go false = refl
-
-pub not-not : (x y : Bool) → x ≡ not y → (z : Bool) → x ≡ z → y ≡ not z
-not-not x true e true k = cc
-not-not x true e false k = refl
-not-not x false e true k = refl
-not-not x false e false k = cc
-
--- An underline with nothing to turn is one more line of the text.
-pub turned-none : (options : ParseOptions) (bs : Blocks) (lines : List Kept) (r : Rest) (depth : ℕ) →
-    is_none_left (cut options (texts lines)).1 ≡ true → underlined options bs lines r depth ≡ with_line bs lines r
-unfolding underlined
-turned-none options bs lines r depth = go (cut options (texts lines)).1
-  where
-    go : (left : List (List ℕ)) → is_none_left left ≡ true →
-        underlined_by bs lines r depth (then_front options bs (text_leaf.held lines)) left ≡ with_line bs lines r
-    go [] none = refl
-    go (line ∷ left) none = cc
-
--- what a line that is not blank comes to there, by the leaf that takes it: it turns what is left of the text, or begins
--- a leaf behind it
-abbrev pub text_came : ParseOptions → Blocks → List Kept → Rest → Option LeafName → Spot
-text_came options bs lines r None = with_line bs lines r
-text_came options bs lines r (Some l) =
-    if (leaf l).further (text_on lines) then came (then_front options bs (text_leaf.held lines))
-    ((leaf l).comes options (text_leaf.held lines) r)
-    else came (text_leaf.behind options bs (texts lines)) ((leaf l).comes options NoLeaf r)
-
-pub text-comes : (options : ParseOptions) (bs : Blocks) (k : Kept) (ks : List Kept) (r : Rest) →
-    is_blank r.bytes ≡ false → IsBuilt options →
-    underline_or_text options bs (k ∷ ks) r (underline_depth options r) ≡
-    text_came options bs (k ∷ ks) r (leaf_at options (text_on (k ∷ ks)) r)
-text-comes options bs k ks r dark built = go (may_turn options on) refl
-  where
-    lines : List Kept
-    lines = k ∷ ks
-
-    on : HeldLeaf
-    on = text_on lines
-
-    Done : Option ℕ → Type 0
-    Done o = underline_or_text options bs lines r o ≡ text_came options bs lines r (leaf_at options on r)
-
-    -- whether something is left
-    left : (x : Bool) → may_turn options on ≡ x → is_none_left (cut options (texts lines)).1 ≡ not x
-    left x e = not-not (may_turn options on) (is_none_left (cut options (texts lines)).1) (may-left options k ks) x e
-
-    -- a leaf begins behind the text
-    behind : (l : LeafName) → setext_leaf.starts options on r ≡ false → leaf_at options on r ≡ Some l → (x : Bool) →
-        (leaf l).further on ≡ x → x ≡ false
-    behind l e found false goes = refl
-    behind l e found true goes =
-        let starts = first-passes (λ m. (leaf m).starts options on r) trials l found in
-        let heads = no-head options (open_lines lines) r l built.gfm_table starts in
-        let name : l ≡ HeadingSetext = further-text (open_lines lines) l goes heads in
-        let bad : true ≡ false = sym starts ∙ ap (λ (m : LeafName). (leaf m).starts options on r) name ∙ e in
-        cc
-
-    by : setext_leaf.starts options on r ≡ false → (o : Option LeafName) → leaf_at options on r ≡ o →
-        text_by options bs lines r (came_of options r o) ≡ text_came options bs lines r o
-    by e None found = rw (table-off options bs lines r built) refl
-    by e (Some l) found =
-        ap (λ (x : Blocks). came x ((leaf l).comes options NoLeaf r)) (text-laws.shut options bs lines)
-        ∙ sym
-        (ap
-        (λ (x : Bool).
-        cond x (came (then_front options bs (text_leaf.held lines)) ((leaf l).comes options (text_leaf.held lines) r))
-        (came (text_leaf.behind options bs (texts lines)) ((leaf l).comes options NoLeaf r)))
-        (behind l e found ((leaf l).further on) refl))
-
-    -- no underline stands here
-    other : underline_depth options r ≡ None → setext_leaf.starts options on r ≡ false → Done None
-    other none e =
-        ap (text_by options bs lines r) (unturned-starts options (open_lines lines) r none e dark built)
-        ∙ by e (leaf_at options on r) refl
-
-    -- one may turn the text
-    turns : may_turn options on ≡ true → (x : Bool) → setext_leaf.starts options on r ≡ x →
-        Done (underline_depth options r)
-    turns may true e =
-        ap (underline_or_text options bs lines r)
-        (setext-found options on r may ∙ ap (λ (t : Bool). cond t (Some (depth_of r)) None) e)
-        ∙ turned-all options bs lines r (depth_of r) (left true may)
-        ∙ ap (text_came options bs lines r) (sym (setext-taken options on r e))
-    turns may false e =
-        let none : underline_depth options r ≡ None =
-        setext-found options on r may ∙ ap (λ (t : Bool). cond t (Some (depth_of r)) None) e in
-        ap (underline_or_text options bs lines r) none ∙ other none e
-
-    -- nothing is left to turn
-    turns_none : may_turn options on ≡ false → (o : Option ℕ) → underline_depth options r ≡ o →
-        Done (underline_depth options r)
-    turns_none may None none =
-        ap (underline_or_text options bs lines r) none ∙ other none (unturned-setext options on r may)
-    turns_none may (Some depth) found =
-        ap (underline_or_text options bs lines r) found ∙ turned-none options bs lines r depth (left false may)
-        ∙ ap (text_came options bs lines r)
-        (sym
-        (lost-none options (open_lines lines) r depth may found
-        (text-untabled options (open_lines lines) r built.gfm_table)))
-
-    go : (x : Bool) → may_turn options on ≡ x → Done (underline_depth options r)
-    go true may = turns may (setext_leaf.starts options on r) refl
-    go false may = turns_none may (underline_depth options r) refl

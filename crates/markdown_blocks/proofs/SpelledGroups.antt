@@ -9,7 +9,7 @@ use Rattle.std.proofs.lemmas.Bool.Decides.{nat_tests}
 use Rattle.std.specs.Prelude.{nat_lt}
 use Rattle.md_definition.specs.Leaves.{Finished, Opened}
 use Rattle.markdown_blocks.proofs.TableStarts.{row-no_head}
-use Rattle.markdown_blocks.proofs.TablesFound.{front_before}
+use Rattle.markdown_blocks.proofs.TextFound.{front_before}
 use Rattle.markdown_blocks.proofs.TextProgress.{setext-may, turn-left}
 use Rattle.markdown_blocks.proofs.UnderNames.{further-text}
 use Rattle.markdown_blocks.specs.HeldLeaf.{kind_of_leaf, left_by, may_go_on, takes_lazy}

@@ -14,7 +14,6 @@ use Rattle.md_definition.specs.Rest.{trim_start}
 use Rattle.md_definition.specs.State.{At, Container, Kept, Leaf, NoLeaf, OpenParagraph, Path, Spot, Within, cut, kept, spot, texts}
 use Rattle.md_definition.specs.Step.{came, step}
 use Rattle.md_definition.specs.Tree.{Blocks, End}
-use Rattle.markdown_blocks.proofs.RegistryFound.{text_on}
 use Rattle.markdown_blocks.proofs.TextProgress.{IsFresh, contained-progress, unlazy-fresh}
 use Rattle.markdown_blocks.specs.Change.{is_none, open_behind}
 use Rattle.markdown_blocks.specs.Fronted.{Contained}
@@ -39,7 +38,7 @@ use Rattle.markdown_blocks.proofs.OpenSpan.{Begun, ComesShallow, TurnsText}
 use Rattle.markdown_blocks.proofs.Registry.{laws, leaf-begun, text-laws, text-turns}
 use Rattle.markdown_blocks.proofs.ShallowBlocks.{shallow-then}
 use Rattle.markdown_blocks.proofs.TableStarts.{no-head}
-use Rattle.markdown_blocks.proofs.TablesFound.{front_before}
+use Rattle.markdown_blocks.proofs.TextFound.{front_before, text_on}
 use Rattle.md_parts.proofs.ProgressLemmas.{progress-snoc}
 use Rattle.md_parts.specs.Head.{head_columns}
 use Rattle.md_parts.specs.OpenText.{open_text, text_behind}

@@ -59,7 +59,7 @@ use Rattle.markdown_blocks.proofs.MarkLemmas.{without-mark}
 use Rattle.markdown_blocks.proofs.RowFacts as f
 use Rattle.markdown_blocks.proofs.SpelledRows.{spelled-rows}
 use Rattle.markdown_blocks.proofs.Registry.{text-laws}
-use Rattle.markdown_blocks.proofs.TablesFound.{front_before}
+use Rattle.markdown_blocks.proofs.TextFound.{front_before}
 use Rattle.markdown_blocks.proofs.ShallowBlocks.{shallow-then}
 use Rattle.markdown_blocks.proofs.Paragraph.Laws.{shallow-front}
 use Rattle.markdown_blocks.proofs.RegistryRead.{AreRead, IsRead, IsReadTaken, kinds-read, read-front}

@@ -1,10 +1,9 @@
--- What a line comes to where tables may be on: where text is open it may be a delimiter row, which makes the last line of
--- the text the head of a table.
+-- What a line comes to where text is open: it may turn what is left of the text behind its definitions, make its last line
+-- the head of a table, go on it, or begin a leaf behind it.
 use Rattle.std.proofs.Common.{◌≡◌, ℕ, Bool, true, false, cond, ◌&&◌, ◌||◌, List, [], ◌∷◌, ◌++◌, length, refl, ap}
 use Rattle.std.proofs.Common.{ap₂, sym, ◌∙◌, subst}
 use Rattle.std.specs.Prelude.{◌==◌, not, if◌then◌else◌, Option, Some, None}
 use Rattle.std.specs.List.{list_all, list_any}
-use Rattle.std.specs.Option.{option_or}
 use Rattle.std.proofs.lemmas.Bool.{and_parts, eqb-true}
 use Rattle.md_engine.specs.Progress.{is_whole}
 use Rattle.md_engine.specs.declared.configuration.ParseOptions.{ParseOptions}
@@ -12,145 +11,42 @@ use Rattle.md_engine.specs.declared.tokenizer.held_leaf.HeldLeaf.{HeldLeaf}
 use Rattle.md_engine.specs.declared.tokenizer.held_leaf.HeldLeaf.TheVariants as held_leaf
 use Rattle.md_engine.specs.declared.tokenizer.held_leaf.OpenText.{OpenText}
 use Rattle.md_definition.specs.Ascii.{colon, equals_sign, hyphen, pipe}
+use Rattle.md_definition.specs.Definition.{cut_definitions}
 use Rattle.md_definition.specs.Leaves as definition
-use Rattle.md_definition.specs.Leaves.{Came, ParagraphContext, Text, break_at, code_at, fence_at, heading_at, html_at, is_free}
-use Rattle.md_definition.specs.Leaves.{is_text, starts, table_at, underline_depth, with_line}
+use Rattle.md_definition.specs.Leaves.{Came, Text, starts, table_at, underline_depth, underlined, underlined_by, with_line}
 use Rattle.md_definition.specs.Rest.{Rest, has_small_indent, is_blank, trim, trim_start}
-use Rattle.md_definition.specs.State.{Kept, Leaf, NoLeaf, OpenParagraph, Spot, cut, shut_paragraph, texts}
-use Rattle.md_definition.specs.Step.{came, row_or_text, text_by, underline_or_text}
+use Rattle.md_definition.specs.State.{Kept, Leaf, NoLeaf, OpenParagraph, Spot, cut, shut_paragraph, texts, then_block}
+use Rattle.md_definition.specs.Step.{came, row_or_text, spot_of, text_by, underline_or_text}
 use Rattle.md_definition.specs.Table.{delimiter_columns, is_delimiter, row_cells}
-use Rattle.md_definition.specs.Tree.{Blocks}
-use Rattle.md_leaves.specs.HeadingSetext.{may_turn, turns_nothing}
+use Rattle.md_definition.specs.Tree.{Blocks, Heading}
+use Rattle.md_leaves.specs.HeadingSetext.{may_turn}
 use Rattle.md_leaves.specs.HeadingSetextRule.{is_underline}
-use Rattle.md_lines.specs.Code.{may_open}
 use Rattle.md_parts.specs.Head.{head_columns}
-use Rattle.md_parts.specs.Progress.{is_none_left}
+use Rattle.md_parts.specs.Progress.{is_none_left, progress}
+use Rattle.md_parts.proofs.ProgressLemmas.{progress-cut}
 use Rattle.md_seam.specs.Events.Spelled.{without_last}
 use Rattle.md_tables.specs.GfmTable.{may_head}
 use Rattle.md_tables.specs.GfmTableLine.{are_columns}
-use Rattle.markdown_blocks.specs.Context.{context_of}
-use Rattle.markdown_blocks.specs.Leaf.CodeIndented.{code_leaf}
-use Rattle.markdown_blocks.specs.Leaf.Fence.{fence_leaf}
 use Rattle.markdown_blocks.specs.Leaf.GfmTable.{table_leaf}
-use Rattle.markdown_blocks.specs.Leaf.HeadingAtx.{heading_leaf}
 use Rattle.markdown_blocks.specs.Leaf.HeadingSetext.{depth_of, setext_leaf}
-use Rattle.markdown_blocks.specs.Leaf.HtmlFlow.{html_leaf}
-use Rattle.markdown_blocks.specs.Leaf.Paragraph.{of_last, open_lines, then_front}
-use Rattle.markdown_blocks.specs.Leaf.ThematicBreak.{break_leaf}
-use Rattle.markdown_blocks.specs.Registry.{CodeIndented, Fence, GfmTable, HeadingAtx, HeadingSetext, HtmlFlow, LeafName}
-use Rattle.markdown_blocks.specs.Registry.{ThematicBreak, first_of, leaf, text_leaf}
-use Rattle.markdown_blocks.proofs.CodeIndented.Found.{code-found}
-use Rattle.markdown_blocks.proofs.Fence.Found.{fence-found}
+use Rattle.markdown_blocks.specs.Leaf.Paragraph.{open_lines, then_front}
+use Rattle.markdown_blocks.specs.Registry.{GfmTable, HeadingSetext, LeafName, leaf, text_leaf}
 use Rattle.markdown_blocks.proofs.GfmTable.Found.{KnowsHead, table-found}
-use Rattle.markdown_blocks.proofs.HeadingAtx.Found.{heading-found}
 use Rattle.markdown_blocks.proofs.HeadingSetext.Found.{none-underlined, setext-found}
-use Rattle.markdown_blocks.proofs.HtmlFlow.Found.{html-found}
 use Rattle.markdown_blocks.proofs.KindLemmas.{first-passes}
-use Rattle.markdown_blocks.proofs.Registry.{IsAgainst, came_of, leaf_at, lost-none, setext-taken, text-laws}
-use Rattle.markdown_blocks.proofs.RegistryFound.{may-left, not-lost, not-not, not-text, text_on, turned-all, turned-none}
-use Rattle.markdown_blocks.proofs.RegistryFound.{unturned-setext}
-use Rattle.markdown_blocks.proofs.ThematicBreak.Found.{break-found}
+use Rattle.markdown_blocks.proofs.LastKept.{last-is}
+use Rattle.markdown_blocks.proofs.Registry.{came_of, leaf_at, lost-none, setext-taken, text-laws}
+use Rattle.markdown_blocks.proofs.RegistryFound.{or_table, other-headless, other_at, other_trials, others-found, table-last}
 use Rattle.markdown_blocks.proofs.UnderNames.{further-text}
 
--- Leaves that are tried in front of tables.
+-- what is held of these lines, and as what a lazy line meets it
+abbrev pub text_on : List Kept → HeldLeaf
+text_on lines = held_leaf.Text (open_lines lines)
 
-abbrev pub other_trials : List LeafName
-other_trials = CodeIndented ∷ Fence ∷ HtmlFlow ∷ HeadingAtx ∷ HeadingSetext ∷ ThematicBreak ∷ []
+abbrev pub lazy_on : List Kept → HeldLeaf
+lazy_on lines = held_leaf.LazyText (open_lines lines)
 
--- the first of them that takes the rest of a line
-abbrev pub other_at : ParseOptions → HeldLeaf → Rest → Option LeafName
-other_at options on r = first_of (λ l. (leaf l).starts options on r) other_trials
-
--- where none of them does, a line of a table may be one
-abbrev pub or_table : Bool → Option LeafName → Option LeafName
-or_table t None = cond t (Some GfmTable) None
-or_table t (Some l) = Some l
-
-pub table-last : (options : ParseOptions) (on : HeldLeaf) (r : Rest) →
-    leaf_at options on r ≡ or_table (table_leaf.starts options on r) (other_at options on r)
-table-last options on r =
-    go (code_leaf.starts options on r) (fence_leaf.starts options on r) (html_leaf.starts options on r)
-    (heading_leaf.starts options on r) (setext_leaf.starts options on r) (break_leaf.starts options on r)
-    (table_leaf.starts options on r)
-  where
-    to : Bool → Bool → Bool → Bool → Bool → Bool → Option LeafName → Option LeafName
-    to c x h y s z last =
-        cond c (Some CodeIndented)
-        (cond x (Some Fence)
-        (cond h (Some HtmlFlow)
-        (cond y (Some HeadingAtx) (cond s (Some HeadingSetext) (cond z (Some ThematicBreak) last)))))
-
-    go : (c x h y s z t : Bool) →
-        to c x h y s z (cond t (Some GfmTable) None) ≡ or_table t (to c x h y s z None)
-    go true x h y s z t = refl
-    go false true h y s z t = refl
-    go false false true y s z t = refl
-    go false false false true s z t = refl
-    go false false false false true z t = refl
-    go false false false false false true t = refl
-    go false false false false false false t = refl
-
--- indented code may begin by the leaf that the line meets, and by what the line stands against, or by neither
-free-open : (on : HeldLeaf) → may_open on ≡ is_free (context_of on)
-free-open held_leaf.None = refl
-free-open (held_leaf.Text at) = refl
-free-open (held_leaf.LazyText at) = refl
-free-open held_leaf.Code = refl
-free-open (held_leaf.Fence m size indent) = refl
-free-open (held_leaf.Html kind) = refl
-free-open held_leaf.Table = refl
-
--- Where no underline starts, of the leaves of the line definition these alone are built, in this order.
-pub others-found : (options : ParseOptions) (on : HeldLeaf) (against : ParagraphContext) (r : Rest) →
-    IsAgainst against on → setext_leaf.starts options on r ≡ false →
-    (has_small_indent options r && turns_nothing options on && is_underline (trim_start r.bytes)) ≡ false →
-    is_blank r.bytes ≡ false → starts options against r ≡ came_of options r (other_at options on r)
-unfolding starts
-others-found options on against r same unturned no_underline dark =
-    ap₂ (λ (x y : Option Came). option_or x y)
-    (code-found options on against r (free-open on ∙ sym (ap is_free same)) dark)
-    (ap₂ (λ (x y : Option Came). option_or x y) (fence-found options r)
-    (ap₂ (λ (x y : Option Came). option_or x y) (html-found options on against r same)
-    (ap₂ (λ (x y : Option Came). option_or x y) (heading-found options r) (break-found options on r no_underline))))
-    ∙ go (code_leaf.starts options on r) (fence_leaf.starts options on r) (html_leaf.starts options on r)
-    (heading_leaf.starts options on r) (break_leaf.starts options on r)
-    ∙ ap
-    (λ (s : Bool).
-    came_of options r
-    (to (code_leaf.starts options on r) (fence_leaf.starts options on r) (html_leaf.starts options on r)
-    (heading_leaf.starts options on r) s (break_leaf.starts options on r))) (sym unturned)
-  where
-    -- a leaf, if it starts
-    one : Bool → LeafName → Option Came
-    one x l = cond x (Some ((leaf l).comes options NoLeaf r)) None
-
-    to : Bool → Bool → Bool → Bool → Bool → Bool → Option LeafName
-    to c x h y s z =
-        cond c (Some CodeIndented)
-        (cond x (Some Fence)
-        (cond h (Some HtmlFlow)
-        (cond y (Some HeadingAtx) (cond s (Some HeadingSetext) (cond z (Some ThematicBreak) None)))))
-
-    go : (c x h y z : Bool) →
-        option_or (one c CodeIndented)
-        (option_or (one x Fence) (option_or (one h HtmlFlow) (option_or (one y HeadingAtx) (one z ThematicBreak)))) ≡
-        came_of options r (to c x h y false z)
-    go true x h y z = refl
-    go false true h y z = refl
-    go false false true y z = refl
-    go false false false true z = refl
-    go false false false false true = refl
-    go false false false false false = refl
-
--- so it is where the line meets no text,
-pub untext-found : (options : ParseOptions) (on : HeldLeaf) (against : ParagraphContext) (r : Rest) →
-    IsAgainst against on → is_text against ≡ false → is_blank r.bytes ≡ false →
-    starts options against r ≡ came_of options r (other_at options on r)
-untext-found options on against r same free dark =
-    others-found options on against r same (not-text options on against r same free)
-    (not-lost options on against r same free) dark
-
--- and where it meets text, and is no underline
+-- The first leaf that starts where a line meets text and is no underline.
 text-others : (options : ParseOptions) (at : OpenText) (r : Rest) → underline_depth options r ≡ None →
     setext_leaf.starts options (held_leaf.Text at) r ≡ false → is_blank r.bytes ≡ false →
     starts options Text r ≡ came_of options r (other_at options (held_leaf.Text at) r)
@@ -168,26 +64,60 @@ text-others options at r none unturned dark =
     go false true u w e = refl
     go false false u w e = refl
 
--- none of them takes a line of text as its head
-abbrev AllHeadless : List LeafName → Type 0
-AllHeadless [] = Unit {0}
-AllHeadless (l ∷ ls) = ((leaf l).heads ≡ false) × AllHeadless ls
+-- where it may turn nothing no underline starts
+unturned-setext : (options : ParseOptions) (on : HeldLeaf) (r : Rest) → may_turn options on ≡ false →
+    setext_leaf.starts options on r ≡ false
+unturned-setext options on r may =
+    ap
+    (λ (x : Bool).
+    x && options.constructs.heading_setext && has_small_indent options r && is_underline (trim_start r.bytes)) may
 
-first-headless : (test : LeafName → Bool) (ls : List LeafName) (l : LeafName) → AllHeadless ls →
-    first_of test ls ≡ Some l → (leaf l).heads ≡ false
-first-headless test [] l all e = cc
-first-headless test (k ∷ ls) l all e = go (test k) e (first-headless test ls l all.1)
+-- An underline turns what is left of the text behind the definitions at its front, where something is.
+turned-all : (options : ParseOptions) (bs : Blocks) (lines : List Kept) (r : Rest) (depth : ℕ) →
+    is_none_left (cut options (texts lines)).1 ≡ false →
+    underlined options bs lines r depth ≡
+    spot_of (then_block (then_front options bs (text_leaf.held lines)) (Heading depth (cut options (texts lines)).1))
+unfolding underlined
+turned-all options bs lines r depth = go (cut options (texts lines)).1
   where
-    go : (x : Bool) → cond x (Some k) (first_of test ls) ≡ Some l →
-        (first_of test ls ≡ Some l → (leaf l).heads ≡ false) → (leaf l).heads ≡ false
-    go true e more = let same : k ≡ l = cc in ap (λ (m : LeafName). (leaf m).heads) (sym same) ∙ all.0
-    go false e more = more e
+    defined : Blocks
+    defined = then_front options bs (text_leaf.held lines)
 
-other-headless : (options : ParseOptions) (on : HeldLeaf) (r : Rest) (l : LeafName) →
-    other_at options on r ≡ Some l → (leaf l).heads ≡ false
-other-headless options on r l found =
-    first-headless (λ m. (leaf m).starts options on r) other_trials l
-    (refl, (refl, (refl, (refl, (refl, (refl, tt)))))) found
+    go : (left : List (List ℕ)) → is_none_left left ≡ false →
+        underlined_by bs lines r depth defined left ≡ spot_of (then_block defined (Heading depth left))
+    go [] some = cc
+    go (line ∷ left) some = refl
+
+-- Whether something is, how far the definitions have come tells.
+may-left : (options : ParseOptions) (k : Kept) (ks : List Kept) →
+    may_turn options (text_on (k ∷ ks)) ≡ not (is_none_left (cut options (texts (k ∷ ks))).1)
+may-left options k ks = go options.constructs.definition
+  where
+    lines : List (List ℕ)
+    lines = texts (k ∷ ks)
+
+    go : (x : Bool) →
+        not (x && is_whole (progress lines)) ≡
+        not (is_none_left (if x then cut_definitions lines else ([], lines)).1)
+    go true = ap not (progress-cut lines)
+    go false = refl
+
+not-not : (x y : Bool) → x ≡ not y → (z : Bool) → x ≡ z → y ≡ not z
+not-not x true e true k = cc
+not-not x true e false k = refl
+not-not x false e true k = refl
+not-not x false e false k = cc
+
+-- An underline with nothing to turn is one more line of the text.
+turned-none : (options : ParseOptions) (bs : Blocks) (lines : List Kept) (r : Rest) (depth : ℕ) →
+    is_none_left (cut options (texts lines)).1 ≡ true → underlined options bs lines r depth ≡ with_line bs lines r
+unfolding underlined
+turned-none options bs lines r depth = go (cut options (texts lines)).1
+  where
+    go : (left : List (List ℕ)) → is_none_left left ≡ true →
+        underlined_by bs lines r depth (then_front options bs (text_leaf.held lines)) left ≡ with_line bs lines r
+    go [] none = refl
+    go (line ∷ left) none = cc
 
 -- An underline is no delimiter row: neither a colon nor a pipe stands in it.
 
@@ -252,11 +182,6 @@ ended k [] = record { front = []; last = k; is = refl }
 ended k (next ∷ ks) =
     let more : Ended (next ∷ ks) = ended next ks in
     record { front = k ∷ more.front; last = more.last; is = ap (λ (l : List Kept). k ∷ l) more.is }
-
-pub last-is : (number : Kept → ℕ) (lines : List Kept) (k : Kept) → of_last number (lines ++ k ∷ []) ≡ number k
-last-is number [] k = refl
-last-is number (first ∷ []) k = refl
-last-is number (first ∷ next ∷ lines) k = last-is number (next ∷ lines) k
 
 front-is : (lines : List Kept) (k : Kept) → without_last (lines ++ k ∷ []) ≡ lines
 front-is [] k = refl
