@@ -5,6 +5,7 @@ pub mod Each
 pub mod Found
 pub mod Registers
 pub mod Span
+pub mod Head
 pub mod Laws
 pub mod RowAt
 pub mod RowParts

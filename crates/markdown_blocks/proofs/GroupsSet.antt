@@ -10,10 +10,12 @@ use Rattle.md_definition.specs.State.{Container}
 use Rattle.markdown_blocks.specs.BlockList.{lines_unread}
 use Rattle.markdown_blocks.specs.Registry.{leaf as line_leaf, LeafName, resolved, text_leaf}
 use Rattle.markdown_blocks.specs.Rows.{Headed, Span, Turned, BlankRow, Group, LeafRow, Lines, Row, RowKind, Single}
-use Rattle.markdown_blocks.specs.Rows.{TextRow, blank_line, ending_of, groups, last_row, leaf_events, leaf_unread, row_events}
+use Rattle.markdown_blocks.specs.Rows.{TextRow, blank_line, ending_of, groups, headed_row, last_row, leaf_events, leaf_unread}
+use Rattle.markdown_blocks.specs.Rows.{row_events, row_line}
 use Rattle.markdown_blocks.specs.Rows.{row_events_by, rows_events, tail_events, is_blank_by, text_done}
-use Rattle.markdown_blocks.specs.Unread.{listed_row_by, set_groups, text_unread, unread_group, unread_groups}
+use Rattle.markdown_blocks.specs.Unread.{headed_lines, listed_row_by, set_groups, text_unread, unread_group, unread_groups}
 use Rattle.markdown_blocks.specs.Unread.{unread_lines}
+use Rattle.markdown_blocks.proofs.GfmTable.Head.{head-outside}
 use Rattle.markdown_blocks.proofs.GroupLemmas.{lines-prefixed, under-prefixed}
 use Rattle.markdown_blocks.proofs.GroupsAre.{AreGroups, AreLines, AreSpan, HasFront, IsSingle, IsSpanLine, groups-are}
 use Rattle.markdown_blocks.proofs.GroupsAre.{IsUnder}
@@ -25,7 +27,6 @@ use Rattle.markdown_blocks.proofs.OutsideLemmas.{linked-outside, tail-outside}
 use Rattle.markdown_blocks.proofs.PrefixNames.{prefixes-front}
 use Rattle.markdown_blocks.proofs.Registry.{laws, outside-passes}
 use Rattle.markdown_blocks.proofs.RowFacts.{AreRows, IsRow}
-use Rattle.markdown_blocks.proofs.TablesOff.{headed-off}
 use Rattle.markdown_blocks.proofs.Text.Cuts.{cut-is}
 use Rattle.markdown_blocks.proofs.Text.Names.{cut-each, outside-of}
 use Rattle.markdown_blocks.proofs.TextProgress.{IsShut}
@@ -93,6 +94,19 @@ span-outside options bytes row (next ∷ rows) are =
     outside-append (row_events row) (rows_events (next ∷ rows))
     (span_line-outside options bytes row are.0) (span-outside options bytes next rows are.8)
 
+-- a line of text that is a head, and the lines of its table
+headed-outside : (options : ParseOptions) (bytes : List ℕ) (row next : Row) (rows : List Row) →
+    AreSpan options bytes next rows → HasFront bytes row → AreOutside (headed_lines bytes row next rows)
+headed-outside options bytes row next rows are front =
+    let head : List Event = (headed_row bytes row).inside in
+    let tail : List Event = tail_events n.LineEnding row in
+    outside-append (row.front ++ head ++ tail) (rows_events (next ∷ rows))
+    (outside-append (row.front ++ head) tail
+    (outside-append row.front head (has_front-outside bytes row front)
+    (head-outside (row_line bytes row) row.first))
+    (tail-outside n.LineEnding row refl))
+    (span-outside options bytes next rows are)
+
 -- lines of a text that is not read yet
 lines-outside : (options : ParseOptions) (bytes : List ℕ) (row : Row) (rows : List Row) →
     AreLines options bytes row rows → AreOutside (lines_unread row rows)
@@ -128,7 +142,9 @@ groups-set options bytes (Turned row rows under ∷ gs) are =
     ∙ ap (λ (l : List Event). unread_group options bytes (Turned row rows under) ++ l)
     (groups-set options bytes gs are.4)
 groups-set options bytes (Headed row next rows ∷ gs) are =
-    absurd (headed-off options bytes row next rows gs are)
+    outside-passes (headed_lines bytes row next rows) (unread_groups options bytes gs)
+    (headed-outside options bytes row next rows are.1 are.3)
+    ∙ ap (λ (l : List Event). headed_lines bytes row next rows ++ l) (groups-set options bytes gs are.4)
 groups-set options bytes (Span row rows ∷ gs) are =
     outside-passes (rows_events (row ∷ rows)) (unread_groups options bytes gs)
     (span-outside options bytes row rows are.0)

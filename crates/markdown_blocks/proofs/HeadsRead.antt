@@ -27,7 +27,7 @@ told-chunk : (name : Name) → is_told name ≡ false → is_chunk name ≡ fals
 told-chunk n.Content h = cc
 told-chunk _ h = refl
 
-no-chunk : (es : List Event) → NoContent nothing es → list_any begins_chunk es ≡ false
+pub no-chunk : (es : List Event) → NoContent nothing es → list_any begins_chunk es ≡ false
 no-chunk [] h = refl
 no-chunk (e ∷ es) h =
     or_from (begins_chunk e) (list_any begins_chunk es)

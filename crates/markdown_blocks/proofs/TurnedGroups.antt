@@ -20,15 +20,18 @@ use Rattle.md_seam.specs.Events.Places.{past_text, same_place}
 use Rattle.md_seam.specs.Events.Prefix.{is_prefix}
 use Rattle.markdown_blocks.specs.BlockList.{heading_unread, lines_unread, turned_unread}
 use Rattle.markdown_blocks.specs.Change.{ends_of}
+use Rattle.markdown_blocks.specs.Fronted.{rest_line}
 use Rattle.markdown_blocks.specs.HeldLeaf.{has_lines, may_go_on, takes_lazy}
+use Rattle.markdown_blocks.specs.Leaf.GfmTable.{table_leaf}
 use Rattle.markdown_blocks.specs.LineFlags.{ending_name}
 use Rattle.markdown_blocks.specs.Registry.{LeafName, container_name, leaf, resolved, text_leaf, turn_leaf}
 use Rattle.markdown_blocks.specs.Rows.{BlankRow, Group, Headed, LeafRow, Lines, Row, RowKind, Single, Span, TextRow}
 use Rattle.markdown_blocks.specs.Rows.{Turned}
 use Rattle.markdown_blocks.specs.Rows.{blank_line, ending_events, ending_of, groups, is_blank_by, is_further, last_row}
 use Rattle.markdown_blocks.specs.Rows.{leaf_events, leaf_unread, row_events, rows_events, tail_events, defined_unread}
+use Rattle.markdown_blocks.specs.Rows.{headed_row, row_line}
 use Rattle.markdown_blocks.specs.Rows.{text_done, turned_done}
-use Rattle.markdown_blocks.specs.Unread.{linked_lines, listed_group, listed_row_by, set_groups, text_unread}
+use Rattle.markdown_blocks.specs.Unread.{headed_lines, linked_lines, listed_group, listed_row_by, set_groups, text_unread}
 use Rattle.markdown_blocks.specs.Unread.{turned_groups, unread_group, unread_groups, unread_lines}
 use Rattle.markdown_blocks.proofs.ContainerNames.{container-facts}
 use Rattle.markdown_blocks.proofs.Defined.Form.{Form, form_unread, inside_by, strand_unread, string_unread}
@@ -36,10 +39,13 @@ use Rattle.markdown_blocks.proofs.Defined.Is.{IsDefined}
 use Rattle.markdown_blocks.proofs.EachEvent.{each-append, each-as}
 use Rattle.markdown_blocks.proofs.FrontFacts.{LinePrefix}
 use Rattle.markdown_blocks.proofs.FrontNames.{HasFront, ends-are, ends-first, fronts-are}
+use Rattle.markdown_blocks.proofs.GfmTable.Each.{table-unturned}
+use Rattle.markdown_blocks.proofs.GfmTable.Head.{head-unturned}
 use Rattle.markdown_blocks.proofs.GroupLemmas.{lines-prefixed, under-prefixed}
 use Rattle.markdown_blocks.proofs.GroupsAre.{AreGroups, AreLines, AreSpan, EndsBeforeGroups, IsLeft, IsSingle, IsSpanLine}
-use Rattle.markdown_blocks.proofs.GroupsAre.{IsUnder, further-may, groups-are, line-of, span-begins}
+use Rattle.markdown_blocks.proofs.GroupsAre.{IsHead, IsUnder, further-may, groups-are, line-of, span-begins}
 use Rattle.markdown_blocks.proofs.GroupsSet.{leaves-set}
+use Rattle.markdown_blocks.proofs.HeadedTable.{headed-is}
 use Rattle.markdown_blocks.proofs.HeadingSetext.Line.{underline-unturned, underline_parts}
 use Rattle.markdown_blocks.proofs.JoinedLemmas.{EachNoContent}
 use Rattle.markdown_blocks.proofs.KindLemmas.{kind-starts}
@@ -47,9 +53,8 @@ use Rattle.markdown_blocks.proofs.PrefixNames.{ArePrefixes, prefixes-front}
 use Rattle.markdown_blocks.proofs.Registry.{laws}
 use Rattle.markdown_blocks.proofs.RowFacts.{AreRows}
 use Rattle.markdown_blocks.proofs.Span.Cuts.{ending-is}
-use Rattle.markdown_blocks.proofs.SpanLaws.{IsLineOf}
+use Rattle.markdown_blocks.proofs.SpanLaws.{AreBehind, IsLineOf}
 use Rattle.markdown_blocks.proofs.SubstitutedLemmas.{EachPrefixed}
-use Rattle.markdown_blocks.proofs.TablesOff.{headed-off}
 use Rattle.markdown_blocks.proofs.Text.Cut.{IsCutText, between}
 use Rattle.markdown_blocks.proofs.Text.Cut.IsCutText.{Defines, Follows, Remains}
 use Rattle.markdown_blocks.proofs.Text.Cuts.{cut-is}
@@ -128,17 +133,23 @@ single-unturned options bytes row is kind e =
         (kind-starts options row.on is.is.rest l (sym is.is.kind ∙ e)))
     unread TextRow e = absurd (is.other e)
 
--- a line of a leaf of several, which goes on no text
+-- a line of a leaf of several, by what it adds
+span_line-adds : (options : ParseOptions) (bytes : List ℕ) (row : Row) (is : IsSpanLine options bytes row) →
+    AreUnturned row.inside → AreUnturned (row_events row)
+span_line-adds options bytes row is inside =
+    each-append IsUnturned (row.front ++ leaf_events row.kind row) (tail_events (ending_of row.kind row) row)
+    (each-append IsUnturned row.front (leaf_events row.kind row) (front-unturned bytes row is.front)
+    (subst (λ (kind : RowKind). AreUnturned (leaf_events kind row)) (sym is.kind) inside))
+    (tail-unturned (is_blank_by row.kind row) row)
+
+-- one that goes on no text
 span_line-unturned : (options : ParseOptions) (bytes : List ℕ) (row : Row) (is : IsSpanLine options bytes row) →
     (is_further row.kind row.on ≡ true → has_lines row.on ≡ true) → AreUnturned (row_events row)
 span_line-unturned options bytes row is lines =
-    each-append IsUnturned (row.front ++ leaf_events row.kind row) (tail_events (ending_of row.kind row) row)
-    (each-append IsUnturned row.front (leaf_events row.kind row) (front-unturned bytes row is.front)
-    (subst (λ (kind : RowKind). AreUnturned (leaf_events kind row)) (sym is.kind)
+    span_line-adds options bytes row is
     (subst AreUnturned (sym of_leaf.inside)
     ((laws is.name).unturned_line is.open_leaf options row.on of_leaf.rest row.first of_leaf.starts
-    (λ further. lines (ap (λ (kind : RowKind). is_further kind row.on) is.kind ∙ further))))))
-    (tail-unturned (is_blank_by row.kind row) row)
+    (λ further. lines (ap (λ (kind : RowKind). is_further kind row.on) is.kind ∙ further))))
   where
     of_leaf : IsLineOf options bytes (leaf is.name) row
     of_leaf = line-of options bytes row is
@@ -164,6 +175,36 @@ span-unturned options bytes row (next ∷ rows) are lines =
     (span_line-unturned options bytes row are.0 lines)
     (span-unturned options bytes next rows are.8
     (λ f. lines-of next.on (further-may options bytes below.line next below.is f) unlazy))
+
+-- lines of a table, and the line of text in front of them that is its head
+table_line-unturned : (options : ParseOptions) (bytes : List ℕ) (row : Row) → IsSpanLine options bytes row →
+    IsLineOf options bytes table_leaf row → AreUnturned (row_events row)
+table_line-unturned options bytes row is line =
+    span_line-adds options bytes row is
+    (subst AreUnturned (sym line.inside) (table-unturned options row.on (rest_line line.rest) row.first))
+
+table_lines-unturned : (options : ParseOptions) (bytes : List ℕ) (above row : Row) (rows : List Row) →
+    AreSpan options bytes row rows → AreBehind options bytes table_leaf above (row ∷ rows) →
+    AreUnturned (rows_events (row ∷ rows))
+table_lines-unturned options bytes above row [] are behind =
+    each-append IsUnturned (row_events row) [] (table_line-unturned options bytes row are behind.6) tt
+table_lines-unturned options bytes above row (next ∷ rows) are behind =
+    each-append IsUnturned (row_events row) (rows_events (next ∷ rows))
+    (table_line-unturned options bytes row are.0 behind.6)
+    (table_lines-unturned options bytes row next rows are.8 behind.7)
+
+headed-unturned : (options : ParseOptions) (bytes : List ℕ) (row next : Row) (rows : List Row) →
+    IsHead options bytes row next → AreSpan options bytes next rows → HasFront bytes row →
+    AreUnturned (headed_lines bytes row next rows)
+headed-unturned options bytes row next rows head are front =
+    let inside : List Event = (headed_row bytes row).inside in
+    let tail : List Event = tail_events n.LineEnding row in
+    each-append IsUnturned (row.front ++ inside ++ tail) (rows_events (next ∷ rows))
+    (each-append IsUnturned (row.front ++ inside) tail
+    (each-append IsUnturned row.front inside (front-unturned bytes row front)
+    (head-unturned (row_line bytes row) row.first))
+    (tail-unturned false row))
+    (table_lines-unturned options bytes row next rows are (headed-is options bytes row next rows head are).are)
 
 -- Texts.
 
@@ -270,7 +311,8 @@ groups-unlined options bytes (Turned row rows under ∷ gs) are =
     (sym (append_assoc (unread_group options bytes (Lines row rows)) (row_events under) (set_groups options bytes gs)))
     (text-unlined options bytes row rows (row_events under ++ set_groups options bytes gs) are.0 are.3)
 groups-unlined options bytes (Headed row next rows ∷ gs) are =
-    absurd (headed-off options bytes row next rows gs are)
+    unlined-passed (headed_lines bytes row next rows) (set_groups options bytes gs)
+    (headed-unturned options bytes row next rows are.0 are.1 are.3) (groups-unlined options bytes gs are.4)
 groups-unlined options bytes (Span row rows ∷ gs) are =
     unlined-passed (rows_events (row ∷ rows)) (set_groups options bytes gs)
     (span-unturned options bytes row rows are.0 (λ f. let bad : true ≡ false = sym f ∙ are.4 in cc))
@@ -465,7 +507,9 @@ groups-turned options bytes (Turned row rows under ∷ gs) are =
     ∙ ap (λ (l : List Event). listed_group options bytes (Turned row rows under) ++ l)
     (groups-turned options bytes gs are.4)
 groups-turned options bytes (Headed row next rows ∷ gs) are =
-    absurd (headed-off options bytes row next rows gs are)
+    passed (headed_lines bytes row next rows) (set_groups options bytes gs)
+    (headed-unturned options bytes row next rows are.0 are.1 are.3)
+    ∙ ap (λ (l : List Event). headed_lines bytes row next rows ++ l) (groups-turned options bytes gs are.4)
 groups-turned options bytes (Span row rows ∷ gs) are =
     passed (rows_events (row ∷ rows)) (set_groups options bytes gs)
     (span-unturned options bytes row rows are.0 (λ f. let bad : true ≡ false = sym f ∙ are.4 in cc))

@@ -89,11 +89,11 @@ rest-feed x behind (suc n) text p small said e none le cut one =
     ∙ sym (append_assoc (tab_cells no_line n 32 p) (spread no_line text q) (text_feed x (past_text text q)))
     ∙ ap (λ (r : Point). cells_by no_line (suc n) text p ++ text_feed x (past_text text r)) same
 
-uncut-no_ending : (n : ℕ) (text : List ℕ) → NoEnding (cut_tab n ++ text) → NoEnding text
+pub uncut-no_ending : (n : ℕ) (text : List ℕ) → NoEnding (cut_tab n ++ text) → NoEnding text
 uncut-no_ending zero text none = none
 uncut-no_ending (suc n) text none = none.1
 
-row-feed : (options : ParseOptions) (bytes line : List ℕ) (x : Setting) (row : Row) →
+pub row-feed : (options : ParseOptions) (bytes line : List ℕ) (x : Setting) (row : Row) →
     (is : IsRow options bytes line row) → x.limit < 2 ^ 61 → x.bytes ≡ bytes → x.line ≡ no_line →
     row.end.index ≤ x.limit →
     text_feed x row.first ≡ rest_cells no_line is.rest row.first ++ text_feed x row.end

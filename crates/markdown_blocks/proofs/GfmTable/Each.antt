@@ -189,7 +189,7 @@ pub table-outside : (options : ParseOptions) (on : HeldLeaf) (line : List ℕ) (
 table-outside options on line p = table-added_each IsOutside of-outside options on line p
 
 -- none is a text or an underline,
-of-unturned : OfTable IsUnturned
+pub of-unturned : OfTable IsUnturned
 of-unturned = record {
   begins = λ q. refl;
   ends = λ q. refl;
@@ -210,7 +210,7 @@ pub table-unturned : (options : ParseOptions) (on : HeldLeaf) (line : List ℕ) 
 table-unturned options on line p = table-added_each IsUnturned of-unturned options on line p
 
 -- and no content stands in it: its words are texts, and it is linked to the line in front.
-of-no_content : (wants : Content → Bool) → WantsContent wants → OfTable (IsNoContent wants)
+pub of-no_content : (wants : Content → Bool) → WantsContent wants → OfTable (IsNoContent wants)
 of-no_content wants only = record {
   begins = λ q. (ap (λ (x : Bool). cond x (Some content.Flow) None) only.flow, refl);
   ends = λ q. (refl, refl);

@@ -32,10 +32,10 @@ table-begins options _ r starts begins = cc
 
 -- No line of a leaf of several begins inside of it.
 
-abbrev IsNoLine : Event → Type 0
+abbrev pub IsNoLine : Event → Type 0
 IsNoLine e = has_lines (role e.name) ≡ false
 
-of-no_line : OfRow IsNoLine
+pub of-no_line : OfRow IsNoLine
 of-no_line = record {
   word = λ q. refl;
   word_ends = λ q. refl;
@@ -47,7 +47,7 @@ of-no_line = record {
   space = (λ q. refl, λ q. refl);
 }
 
-each-no_lines : (es : List Event) → Each IsNoLine es → NoLines es
+pub each-no_lines : (es : List Event) → Each IsNoLine es → NoLines es
 each-no_lines [] h = tt
 each-no_lines (e ∷ es) h = (h.0, each-no_lines es h.1)
 
