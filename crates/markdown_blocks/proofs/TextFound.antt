@@ -183,7 +183,7 @@ ended k (next ∷ ks) =
     let more : Ended (next ∷ ks) = ended next ks in
     record { front = k ∷ more.front; last = more.last; is = ap (λ (l : List Kept). k ∷ l) more.is }
 
-front-is : (lines : List Kept) (k : Kept) → without_last (lines ++ k ∷ []) ≡ lines
+pub front-is : (lines : List Kept) (k : Kept) → without_last (lines ++ k ∷ []) ≡ lines
 front-is [] k = refl
 front-is (first ∷ []) k = refl
 front-is (first ∷ next ∷ lines) k = ap (λ (l : List Kept). first ∷ l) (front-is (next ∷ lines) k)

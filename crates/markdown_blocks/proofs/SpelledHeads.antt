@@ -1,0 +1,212 @@
+-- What a line of text is read as that is the head of a table, with the lines that go on it: the table to which the line
+-- definition comes with them, behind what the lines of text in front of the head come to.
+use Rattle.std.proofs.Common.{◌≡◌, ℕ, Bool, true, false, cond, List, [], ◌∷◌, ◌++◌, reverse, refl, ap, sym, ◌∙◌}
+use Rattle.std.specs.Prelude.{Some, None}
+use Rattle.std.proofs.lemmas.List.{reverse-append}
+use Rattle.md_engine.specs.declared.configuration.ParseOptions.{ParseOptions}
+use Rattle.md_engine.specs.declared.event.Event.{Event}
+use Rattle.md_engine.specs.declared.tokenizer.held_leaf.HeldLeaf.{HeldLeaf}
+use Rattle.md_engine.specs.declared.tokenizer.held_leaf.HeldLeaf.TheVariants as held_leaf
+use Rattle.md_engine.specs.declared.tokenizer.held_leaf.OpenText.{OpenText}
+use Rattle.md_definition.specs.Definition.{Defined, cut_at_most, cut_definitions}
+use Rattle.md_definition.specs.Leaves.{Came, Opened}
+use Rattle.md_definition.specs.Rest.{Rest, is_blank, trim}
+use Rattle.md_definition.specs.State.{At, Kept, Leaf, NoLeaf, OpenTable, Path, Spot, Within, kept, shut, shut_paragraph, spot}
+use Rattle.md_definition.specs.State.{texts, then_definitions, then_leaf, then_paragraph}
+use Rattle.md_definition.specs.Step.{came}
+use Rattle.md_definition.specs.Table.{row_cells}
+use Rattle.md_definition.specs.Tree.{Blocks}
+use Rattle.md_seam.specs.Events.Spelled.{Around, Reading, read}
+use Rattle.markdown_blocks.specs.HeldLeaf.{has_lines}
+use Rattle.markdown_blocks.specs.Leaf.GfmTable.{first_cells, table_leaf}
+use Rattle.markdown_blocks.specs.Leaf.Paragraph.{held_of}
+use Rattle.markdown_blocks.specs.LineFlags.{ending_name}
+use Rattle.markdown_blocks.specs.Registry.{CodeFurther, FenceFurther, GfmTable, HtmlFurther, LeafName, insider, leaf, text_leaf}
+use Rattle.markdown_blocks.specs.Leaf.CodeIndented.{is_code}
+use Rattle.markdown_blocks.specs.Leaf.FenceFurther.{is_fence}
+use Rattle.md_rich.specs.Html.{is_html}
+use Rattle.markdown_blocks.specs.Rows.{BlankRow, Group, Headed, LeafRow, Row, RowKind, TextRow, groups_events, headed_done}
+use Rattle.markdown_blocks.specs.Rows.{is_blank_row, last_row, tail_events}
+use Rattle.markdown_blocks.specs.Stands.{around_of, reading, reading_on}
+use Rattle.markdown_blocks.proofs.GfmTable.TableForm.{IsFilledLine}
+use Rattle.markdown_blocks.proofs.GfmTable.TableLaws.{AreFilled, cells-trimmed, table-facts, table-shuts}
+use Rattle.markdown_blocks.proofs.KindLemmas.{kind-filled, kind-text}
+use Rattle.markdown_blocks.proofs.LineSteps.{longer, with_came}
+use Rattle.markdown_blocks.proofs.Registry.{insider-none, text-laws}
+use Rattle.markdown_blocks.proofs.RowFacts as f
+use Rattle.markdown_blocks.proofs.RowLeaf.{leaf-at}
+use Rattle.markdown_blocks.proofs.SpanLaws.{AreBehind, come_behind}
+use Rattle.markdown_blocks.proofs.TextFound.{front-is}
+use Rattle.markdown_blocks.proofs.UnderNames.{heads-table}
+
+-- Lines on which something stands.
+
+-- a line of text
+text-dark : (options : ParseOptions) (bytes line : List ℕ) (row : Row) → (is : f.IsRow options bytes line row) →
+    row.kind ≡ TextRow → is_blank is.rest.bytes ≡ false
+text-dark options bytes line row is text =
+    go (is_blank is.rest.bytes) _ (kind-text options row.on is.rest (sym is.kind ∙ text))
+  where
+    go : (x : Bool) (kind : RowKind) → cond x BlankRow kind ≡ TextRow → x ≡ false
+    go true kind e = cc
+    go false kind e = refl
+
+-- one of a leaf, where it meets text
+pub met-dark : (options : ParseOptions) (bytes line : List ℕ) (row : Row) (l : LeafName) (at : OpenText) →
+    (is : f.IsRow options bytes line row) → row.kind ≡ LeafRow l → row.on ≡ held_leaf.Text at →
+    is_blank is.rest.bytes ≡ false
+met-dark options bytes line row l at is kind on =
+    kind-filled options row.on is.rest l (sym is.kind ∙ kind)
+    (λ i. let bad : None ≡ Some l = sym (insider-none row.on (ap has_lines on)) ∙ i in cc)
+
+-- one of a table, which is never asked first
+not-first : (on : HeldLeaf) → insider on ≡ Some GfmTable → ⊥
+unfolding insider
+not-first on e = go (is_fence on) (is_html on) (is_code on) e
+  where
+    go : (x y z : Bool) →
+        cond x (Some FenceFurther) (cond y (Some HtmlFurther) (cond z (Some CodeFurther) None)) ≡ Some GfmTable → ⊥
+    go true y z e = cc
+    go false true z e = cc
+    go false false true e = cc
+    go false false false e = cc
+
+pub heads-dark : (options : ParseOptions) (bytes line : List ℕ) (row : Row) (l : LeafName) →
+    (is : f.IsRow options bytes line row) → row.kind ≡ LeafRow l → (leaf l).heads ≡ true →
+    is_blank is.rest.bytes ≡ false
+heads-dark options bytes line row l is kind heads =
+    kind-filled options row.on is.rest l (sym is.kind ∙ kind)
+    (λ i. not-first row.on (i ∙ ap (λ (m : LeafName). Some m) (heads-table l heads)))
+
+-- the lines of a leaf behind one: on those of a table something stands
+abbrev pub AreDark : (options : ParseOptions) (bytes : List ℕ) (l : LeafName) (row : Row) (rows : List Row) →
+    AreBehind options bytes (leaf l) row rows → Type 0
+AreDark options bytes l row [] are = Unit {0}
+AreDark options bytes l row (next ∷ rows) are =
+    ((leaf l).heads ≡ true → is_blank are.6.rest.bytes ≡ false) × AreDark options bytes l next rows are.7
+
+pub dark-filled : (options : ParseOptions) (bytes : List ℕ) (row : Row) (rows : List Row) →
+    (are : AreBehind options bytes table_leaf row rows) → AreDark options bytes GfmTable row rows are →
+    AreFilled options bytes row rows are
+dark-filled options bytes row [] are dark = tt
+dark-filled options bytes row (next ∷ rows) are dark =
+    (dark.0 refl, dark-filled options bytes next rows are.7 dark.1)
+
+-- What the line definition comes to.
+
+-- with the lines of a table, behind its head
+abbrev pub head_come : (options : ParseOptions) (bytes : List ℕ) (row next : Row) (rows : List Row) →
+    AreBehind options bytes table_leaf row (next ∷ rows) → Leaf → Came
+head_come options bytes row next rows are open_leaf =
+    come_behind options bytes table_leaf next rows are.7 (table_leaf.comes options open_leaf are.6.rest)
+
+-- where this text, which goes on the open one, is the head
+abbrev pub head_path : (options : ParseOptions) (bytes : List ℕ) (row next : Row) (rows : List Row) →
+    AreBehind options bytes table_leaf row (next ∷ rows) → Path → Path
+head_path options bytes row next rows are q =
+    with_came options true q (head_come options bytes row next rows are (spot q).leaf)
+
+-- what stands behind the last line of a leaf of several
+abbrev pub span_tail : Row → List Row → List Event
+span_tail row rows = tail_events (ending_name (is_blank_row (last_row row rows))) (last_row row rows)
+
+-- A line of text is the head of a table, and with the lines of that and what follows is read as this, where this path is
+-- open.
+pub record StartsHead (options : ParseOptions) (bytes : List ℕ) (p : Path) (row : Row) (gs : List Group)
+    (last : Reading) : Type 0 where
+  pub line : List ℕ
+  pub is : f.IsRow options bytes line row
+  pub text : row.kind ≡ TextRow
+  pub next : Row
+  pub rows : List Row
+  pub below : List Group
+  pub groups_are : gs ≡ Headed row next rows ∷ below
+  pub are : AreBehind options bytes table_leaf row (next ∷ rows)
+  pub filled : AreFilled options bytes row (next ∷ rows) are
+  pub at : OpenText
+  pub on : next.on ≡ held_leaf.Text at
+  pub behind : read bytes
+      (reading options (head_path options bytes row next rows are (longer p (kept is.rest ∷ []))))
+      (span_tail next rows ++ groups_events options bytes below) ≡
+      last
+
+-- a leaf that is shut as its lines of text: it is text, or none
+abbrev pub IsOfText : ParseOptions → Leaf → Type 0
+IsOfText options open_leaf =
+    (bs : Blocks) → then_leaf options bs open_leaf ≡ text_leaf.behind options bs (texts (held_of open_leaf))
+
+-- no lines come to nothing
+pub none-of_text : (options : ParseOptions) → IsOfText options NoLeaf
+unfolding shut_paragraph cut_definitions cut_at_most
+none-of_text options bs = go options.constructs.definition
+  where
+    by : List Defined × List (List ℕ) → Blocks
+    by c = then_paragraph (then_definitions bs c.0) c.1
+
+    go : (x : Bool) → bs ≡ by (cond x (cut_definitions []) ([], []))
+    go true = refl
+    go false = refl
+
+pub text-of_text : (options : ParseOptions) (lines : List Kept) → IsOfText options (text_leaf.held lines)
+text-of_text options lines bs = text-laws.shut options bs lines
+
+pub longer-spot : (p : Path) (lines : List Kept) →
+    (spot (longer p lines)).leaf ≡ text_leaf.held (held_of (spot p).leaf ++ lines)
+longer-spot (At s) lines = refl
+longer-spot (Within before container p) lines = longer-spot p lines
+
+-- what is read where the head has been turned: all in front of it is shut
+reading-head : (options : ParseOptions) (outer : List Around) (p : Path) (k : Kept) (c : Came) →
+    IsOfText options (spot p).leaf →
+    reading_on options outer (with_came options true (longer p (k ∷ [])) c) ≡
+    record (reading_on options outer p) { here = shut options (came (reading_on options outer p).here c) }
+reading-head options outer (At s) k c text =
+    ap
+    (λ (bs : Blocks). record { outer = outer; here = shut options (came bs c); leaf = None; text = None })
+    (ap (λ (l : List Kept). text_leaf.behind options s.here (texts l)) (front-is (held_of s.leaf) k)
+    ∙ sym (text s.here))
+reading-head options outer (Within before container p) k c text =
+    reading-head options (around_of container before ∷ outer) p k c text
+
+-- The table is read so.
+pub head-read : (options : ParseOptions) (bytes line : List ℕ) (p : Path) (row next : Row) (rows : List Row)
+    (at : OpenText) →
+    (is : f.IsRow options bytes line row) → row.kind ≡ TextRow →
+    (are : AreBehind options bytes table_leaf row (next ∷ rows)) → AreFilled options bytes row (next ∷ rows) are →
+    next.on ≡ held_leaf.Text at → IsOfText options (spot p).leaf →
+    read bytes (reading options p) (headed_done bytes row next rows) ≡
+    reading options (head_path options bytes row next rows are (longer p (kept is.rest ∷ [])))
+head-read options bytes line p row next rows at is text are filled on of_text =
+    (table-facts options bytes row next rows at head are filled on).reads s refl refl
+    ∙ ap (λ (bs : Blocks). record s { here = bs })
+    (sym (table-shuts options bytes row next rows (row_cells is.rest.bytes) s.here are filled))
+    ∙ ap (λ (c : Came). record s { here = shut options (came s.here c) }) (sym comes)
+    ∙ sym
+    (reading-head options [] p (kept is.rest) (head_come options bytes row next rows are (spot q).leaf) of_text)
+  where
+    s : Reading
+    s = reading options p
+
+    q : Path
+    q = longer p (kept is.rest ∷ [])
+
+    head : IsFilledLine bytes row
+    head = record {
+      rest = is.rest;
+      at = leaf-at options bytes line row is;
+      column = is.column;
+      filled = text-dark options bytes line row is text;
+    }
+
+    held : List Kept
+    held = held_of (spot p).leaf
+
+    open_table : List (List ℕ) → Came
+    open_table cells =
+        come_behind options bytes table_leaf next rows are.7 (Opened (OpenTable (trim are.6.rest.bytes) (cells ∷ [])))
+
+    comes : head_come options bytes row next rows are (spot q).leaf ≡ open_table (row_cells is.rest.bytes)
+    comes =
+        ap (head_come options bytes row next rows are) (longer-spot p (kept is.rest ∷ []))
+        ∙ ap open_table
+        (ap first_cells (reverse-append held (kept is.rest ∷ [])) ∙ cells-trimmed is.rest.bytes)
