@@ -31,9 +31,10 @@ use Rattle.markdown_blocks.proofs.GroupLemmas.{AreGroups, EndsBeforeGroups, HasF
 use Rattle.markdown_blocks.proofs.JoinedLemmas.{EachEnds, EachNoContent, ending-is}
 use Rattle.markdown_blocks.proofs.RowFacts.{AreRows}
 use Rattle.markdown_blocks.proofs.FrontStands.{container-others, fronts-others}
-use Rattle.markdown_blocks.proofs.GroupFacts.{group-front, more-groups, single-stands, span-stands, turned-stands}
+use Rattle.markdown_blocks.proofs.GroupFacts.{group-front, headed-stands, more-groups, single-stands, span-stands}
+use Rattle.markdown_blocks.proofs.GroupFacts.{turned-stands}
+use Rattle.markdown_blocks.proofs.HeadedTable.{headed-is}
 use Rattle.markdown_blocks.proofs.LeafFacts.{StandFacts, spot_behind}
-use Rattle.markdown_blocks.proofs.TablesOff.{headed-off}
 use Rattle.markdown_blocks.proofs.Text.Stands.{text-stands}
 use Rattle.markdown_blocks.proofs.Underlines.{under-filled}
 
@@ -210,7 +211,13 @@ group-ends options bytes (Turned row rows under) gs are =
     (group_done options bytes (Turned row rows under)))
     (sym (under-filled options bytes row rows under are.0 are.1))
     (turned-stands options bytes row rows under are.0 are.1 are.5)
-group-ends options bytes (Headed row next rows) gs are = absurd (headed-off options bytes row next rows gs are)
+group-ends options bytes (Headed row next rows) gs are =
+    subst
+    (λ (blank : Bool).
+    StandFacts bytes (not blank) row.first (last_row next rows).end (group_unread options bytes (Headed row next rows))
+    (group_done options bytes (Headed row next rows)))
+    (sym (headed-is options bytes row next rows are.0 are.1).ends)
+    (headed-stands options bytes row next rows are.0 are.1)
 group-ends options bytes (Span row rows) gs are =
     subst
     (λ (blank : Bool).

@@ -9,11 +9,11 @@ use Rattle.markdown_blocks.specs.Rows.{Headed, Span, Turned, last_row, Group, Li
 use Rattle.markdown_blocks.specs.Rows.{TextRow, group_done, is_blank_row, leaf_done, leaf_unread}
 use Rattle.markdown_blocks.specs.Unread.{group_unread}
 use Rattle.markdown_blocks.proofs.GroupLemmas.{AreGroups, AreLines, HasFront}
-use Rattle.markdown_blocks.proofs.GroupsAre.{IsLeft}
+use Rattle.markdown_blocks.proofs.GroupsAre.{IsHead, IsLeft}
+use Rattle.markdown_blocks.proofs.HeadedTable.{IsHeaded, headed-facts, headed-is, headed_block}
 use Rattle.markdown_blocks.proofs.LeafFacts.{StandFacts, stand-of}
 use Rattle.markdown_blocks.proofs.RowFacts.{IsRow}
 use Rattle.markdown_blocks.proofs.RowLeaf.{EndsOnLine, block_of, row-facts}
-use Rattle.markdown_blocks.proofs.TablesOff.{headed-off}
 use Rattle.markdown_blocks.proofs.Text.Stands.{text-stands}
 use Rattle.markdown_blocks.proofs.Turned.Stands as turned
 
@@ -78,6 +78,21 @@ pub span-group : (options : ParseOptions) (bytes : List ℕ) (row : Row) (rows :
 span-group options bytes row rows are begins =
     (not (last_row row rows).empty, span-stands options bytes row rows are begins)
 
+-- the lines of a table, from its head on
+pub headed-stands : (options : ParseOptions) (bytes : List ℕ) (row next : Row) (rows : List Row) →
+    IsHead options bytes row next → AreSpan options bytes next rows →
+    StandFacts bytes true row.first (last_row next rows).end (group_unread options bytes (Headed row next rows))
+    (group_done options bytes (Headed row next rows))
+headed-stands options bytes row next rows head are =
+    let is : IsHeaded options bytes row next rows = headed-is options bytes row next rows head are in
+    stand-of bytes (Some (headed_block options bytes row next rows is)) true row.first (last_row next rows).end
+    (group_unread options bytes (Headed row next rows)) (group_done options bytes (Headed row next rows))
+    (headed-facts options bytes row next rows is)
+
+pub headed-leaf : (options : ParseOptions) (bytes : List ℕ) (row next : Row) (rows : List Row) →
+    IsHead options bytes row next → AreSpan options bytes next rows → IsGroupLeaf options bytes (Headed row next rows)
+headed-leaf options bytes row next rows head are = (true, headed-stands options bytes row next rows head are)
+
 -- that of the first of groups, what stands in front of it, and the others
 pub group-leaf : (options : ParseOptions) (bytes : List ℕ) (group : Group) (gs : List Group) →
     AreGroups options bytes (group ∷ gs) → IsGroupLeaf options bytes group
@@ -86,7 +101,7 @@ group-leaf options bytes (Single row) gs are =
 group-leaf options bytes (Lines row rows) gs are = text-leaf options bytes row rows are.0
 group-leaf options bytes (Turned row rows under) gs are =
     turned-leaf options bytes row rows under are.0 are.1 are.5
-group-leaf options bytes (Headed row next rows) gs are = absurd (headed-off options bytes row next rows gs are)
+group-leaf options bytes (Headed row next rows) gs are = headed-leaf options bytes row next rows are.0 are.1
 group-leaf options bytes (Span row rows) gs are = span-group options bytes row rows are.0 are.4
 
 pub group-front : (options : ParseOptions) (bytes : List ℕ) (group : Group) (gs : List Group) →

@@ -2,11 +2,11 @@
 use Rattle.md_engine.specs.declared.tokenizer.held_leaf.HeldLeaf.TheVariants as held_leaf
 use Rattle.md_engine.specs.declared.tokenizer.held_leaf.HeldLeaf.{HeldLeaf}
 use Rattle.markdown_blocks.specs.Registry.{LeafName, leaf}
-use Rattle.markdown_blocks.proofs.GroupsAre.{AreSpan, Begins, FirstBegins, FirstIs, IsBehind, IsSpanLine, IsUnder}
+use Rattle.markdown_blocks.proofs.GroupsAre.{AreSpan, Begins, FirstBegins, FirstIs, IsBehind, IsHead, IsSpanLine, IsUnder}
 use Rattle.markdown_blocks.proofs.GroupsAre.{Leaves, behind-fresh, behind-on, first-text, leaf-fresh, leaves-left}
 use Rattle.markdown_blocks.proofs.GroupsAre.{leaves-longer, under-leaves, unjoined-fresh}
 use Rattle.markdown_blocks.proofs.GroupsAre.{begins-behind, blank-ends, first-begins, first-behind, leaf-other}
-use Rattle.markdown_blocks.proofs.GroupsAre.{leaf-row-ends, shut-behind, span-begins, text-under, turned-alone}
+use Rattle.markdown_blocks.proofs.GroupsAre.{leaf-row-ends, shut-behind, text-head, text-under, turned-alone}
 use Rattle.std.proofs.Common.{◌≡◌, ◌≢◌, ℕ, Bool, true, false, cond, ◌&&◌, List, [], ◌∷◌, ◌++◌, refl, ap, sym, ◌∙◌}
 use Rattle.std.proofs.Common.{append_assoc, append-nil, subst}
 use Rattle.std.specs.Prelude.{IsTrue, Option, Some, None}
@@ -31,10 +31,9 @@ use Rattle.markdown_blocks.proofs.FrontFacts.{LinePrefix}
 use Rattle.markdown_blocks.proofs.FrontLemmas.{Turns, ends-spans, ends-turn, fronts-spans, fronts-turn, names-append}
 use Rattle.markdown_blocks.proofs.FrontLemmas.{shapes-names, turns-balanced}
 use Rattle.markdown_blocks.proofs.JoinedLemmas.{behind-is, behind-none}
-use Rattle.markdown_blocks.proofs.GroupFacts.{IsGroupLeaf, single-leaf, span-group, text-leaf, turned-leaf}
+use Rattle.markdown_blocks.proofs.GroupFacts.{IsGroupLeaf, headed-leaf, single-leaf, span-group, text-leaf, turned-leaf}
 use Rattle.markdown_blocks.proofs.GroupLemmas.{AreLines}
 use Rattle.markdown_blocks.proofs.RowLeaf.{EndsOnLine}
-use Rattle.markdown_blocks.proofs.TablesOff.{none-headed}
 use Rattle.markdown_blocks.proofs.Text.Order.{ending-order}
 use Rattle.markdown_blocks.proofs.RowFacts.{AreRows, IsEnding, IsLine, IsRow, behind_line}
 use Rattle.markdown_blocks.proofs.SpanLemmas.{Nested_in, Spans}
@@ -362,6 +361,20 @@ onto-holds options bytes line P by names kept p q row gs begun ended first below
     longer e next rows gs ended opens front are =
         (line, begun.is, e, ended.0, ended.1, ended.2, prefixes next ended.0 ended.1 opens front, are)
 
+    -- where a line that goes on this one stands, behind the ending of this
+    below_ending : (next : Row) (to : Point) → row.after ≡ Some to →
+        LinePrefix bytes next.change.opens (behind_row row) next.first next.front → IsBehind bytes q row next →
+        IsBehind bytes to row next
+    below_ending next to after front first = record {
+      front =
+          subst (λ (r : Point). LinePrefix bytes next.change.opens r next.first next.front) (behind-is row to after)
+          front;
+      met = first.met;
+      begins = first.begins;
+      on = first.on;
+      closed = first.closed;
+    }
+
     -- the line that turns this one
     underline : row.kind ≡ TextRow → (next : Row) (gs : List Group) → Ended bytes row (Span next [] ∷ gs) →
         IsBehind bytes q row next → Spanned options bytes P kept (behind_row row) next [] gs →
@@ -370,15 +383,7 @@ onto-holds options bytes line P by names kept p q row gs begun ended first below
         let met = first.met f in
         let is : IsSpanLine options bytes next = below.are in
         let text = text-open options bytes row [] (line, begun.is, e) in
-        let behind : IsBehind bytes ended.0 row next = record {
-          front =
-              subst (λ (r : Point). LinePrefix bytes next.change.opens r next.first next.front)
-              (behind-is row ended.0 ended.1) below.front;
-          met = first.met;
-          begins = first.begins;
-          on = first.on;
-          closed = first.closed;
-        } in
+        let behind : IsBehind bytes ended.0 row next = below_ending next ended.0 ended.1 below.front first in
         turned [] next gs (record {
           front = begun.front;
           are = (line, begun.is, e);
@@ -391,6 +396,26 @@ onto-holds options bytes line P by names kept p q row gs begun ended first below
           keeps = both next next below.kept met.0 met.1 below.keeps;
           more = below.more;
         })
+
+    -- the line that takes this one as its head, with those that go on that
+    headed : row.kind ≡ TextRow → (next : Row) (rows : List Row) (gs : List Group) →
+        Ended bytes row (Span next rows ∷ gs) → IsBehind bytes q row next →
+        Spanned options bytes P kept (behind_row row) next rows gs → is_further next.kind next.on ≡ true →
+        takes_head next.kind ≡ true → Both_of (Headed row next rows ∷ gs)
+    headed e next rows gs ended first below f heads =
+        let met = first.met f in
+        let behind : IsBehind bytes ended.0 row next = below_ending next ended.0 ended.1 below.front first in
+        let head : IsHead options bytes row next =
+        text-head options bytes line row ended.0 next begun.is e ended.1 ended.2 behind f heads in (
+          λ begins. by.group names below.kept p (Headed row next rows) gs
+              (record {
+                front = begun.front;
+                leaf = headed-leaf options bytes row next rows head below.are;
+                ends = below.ends;
+              })
+              (both next (last_row next rows) below.kept met.0 met.1 below.keeps) below.more,
+          tt,
+        )
 
     lines : row.kind ≡ TextRow → (gs : List Group) → Ended bytes row gs → FirstIs (IsBehind bytes q row) gs →
         Begun options bytes P kept (behind_row row) gs → (FirstBegins gs → P kept (behind_row row) gs) →
@@ -431,10 +456,7 @@ onto-holds options bytes line P by names kept p q row gs begun ended first below
             (cond (x && y) (Headed row next rows ∷ gs)
             (cond (x && is_last rows) (Turned row [] next ∷ gs) (Lines row [] ∷ Span next rows ∷ gs)))
         joins rows false f y head below h = alone e (Span next rows ∷ gs) (h f)
-        joins rows true f true head below h =
-            absurd
-            (let is : IsSpanLine options bytes next = span-begins options bytes next rows below.are in
-            none-headed options bytes line is.line row next begun.is e is.is (first.met f).2 head)
+        joins rows true f true head below h = headed e next rows gs ended first below f head
         joins [] true f false head below h = underline e next gs ended first below f head
         joins (more ∷ rows) true f false head below h =
             absurd

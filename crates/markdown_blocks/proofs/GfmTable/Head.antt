@@ -1,6 +1,7 @@
 -- The line of text that is the head of a table (GFM 4.10), as its states leave it in front of the rows behind it: what
 -- holds of each of its events, and that it begins a leaf of several lines.
-use Rattle.std.proofs.Common.{◌≡◌, ℕ, List, [], ◌∷◌, ◌++◌, refl}
+use Rattle.std.proofs.Common.{◌≡◌, ℕ, Bool, List, [], ◌∷◌, ◌++◌, refl}
+use Rattle.md_engine.specs.declared.event.Content.{Content}
 use Rattle.md_engine.specs.declared.event.Event.{Event}
 use Rattle.md_engine.specs.declared.event.Name.TheVariants as n
 use Rattle.md_engine.specs.declared.event.Point.{Point}
@@ -10,8 +11,10 @@ use Rattle.md_seam.specs.Events.Places.{past_text}
 use Rattle.md_tables.specs.GfmTableLine.{head_line, row_runs}
 use Rattle.md_tables.specs.RowRule.{Apart}
 use Rattle.markdown_blocks.proofs.EachEvent.{Each, each-append}
-use Rattle.markdown_blocks.proofs.GfmTable.Each.{OfRow, of-outside, of-unturned, row-bytes}
+use Rattle.markdown_blocks.proofs.ContentFacts.{NoContent, WantsContent}
+use Rattle.markdown_blocks.proofs.GfmTable.Each.{OfRow, of-no_content, of-outside, of-unturned, row-bytes}
 use Rattle.markdown_blocks.proofs.GfmTable.Span.{IsNoLine, each-no_lines, of-no_line}
+use Rattle.markdown_blocks.proofs.MarkRuns.Each.{IsNoContent, each-no_content}
 use Rattle.markdown_blocks.proofs.OutsideFacts.{AreOutside, IsOutside}
 use Rattle.markdown_blocks.proofs.SpanLaws.{IsSpanned}
 use Rattle.markdown_blocks.proofs.SpannedFacts.{AreUnspanned}
@@ -46,6 +49,13 @@ head-outside line p = head-each IsOutside of-outside.of (λ q. refl) (λ q. refl
 
 pub head-unturned : (line : List ℕ) (p : Point) → AreUnturned (head_line line p)
 head-unturned line p = head-each IsUnturned of-unturned.of (λ q. refl) (λ q. refl) line p
+
+-- Nor does content stand in it.
+pub head-no_content : (wants : Content → Bool) → WantsContent wants → (line : List ℕ) (p : Point) →
+    NoContent wants (head_line line p)
+head-no_content wants only line p =
+    each-no_content wants (head_line line p)
+    (head-each (IsNoContent wants) (of-no_content wants only).of (λ q. (refl, refl)) (λ q. (refl, refl)) line p)
 
 -- It begins the leaf.
 pub head-spanned : (line : List ℕ) (p : Point) → IsSpanned AreUnspanned IsBegin (head_line line p)
