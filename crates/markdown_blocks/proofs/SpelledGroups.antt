@@ -8,15 +8,19 @@ use Rattle.std.proofs.Common.{◌≡◌, ◌≢◌, ℕ, ◌<◌, Bool, true, fa
 use Rattle.std.proofs.lemmas.Bool.Decides.{nat_tests}
 use Rattle.std.specs.Prelude.{nat_lt}
 use Rattle.md_definition.specs.Leaves.{Finished, Opened}
-use Rattle.markdown_blocks.proofs.TableStarts.{row-no_head}
+use Rattle.markdown_blocks.proofs.SpelledHeads.{AreDark, IsOfText, StartsHead, dark-filled, head-read, head_come, head_path}
+use Rattle.markdown_blocks.proofs.SpelledHeads.{heads-dark}
+use Rattle.markdown_blocks.proofs.SpelledHeads.{longer-spot, met-dark, span_tail, text-of_text}
 use Rattle.markdown_blocks.proofs.TextFound.{front_before}
 use Rattle.markdown_blocks.proofs.TextProgress.{setext-may, turn-left}
-use Rattle.markdown_blocks.proofs.UnderNames.{further-text}
+use Rattle.markdown_blocks.proofs.UnderNames.{further-text, heads-table}
 use Rattle.markdown_blocks.specs.HeldLeaf.{kind_of_leaf, left_by, may_go_on, takes_lazy}
 use Rattle.markdown_blocks.specs.Registry.{further_of}
 use Rattle.markdown_blocks.specs.LineFlags.{ending_name}
 use Rattle.markdown_blocks.specs.Rows.{is_blank_row}
-use Rattle.markdown_blocks.specs.Rows.{Headed, is_further, onto_span, span_done, takes_head}
+use Rattle.markdown_blocks.specs.Rows.{Headed, headed_done, is_further, is_last, onto_span, span_done, takes_head}
+use Rattle.markdown_blocks.specs.Leaf.GfmTable.{table_leaf}
+use Rattle.markdown_blocks.specs.Leaf.Paragraph.{held_of}
 use Rattle.markdown_blocks.proofs.GroupsAre.{AreLines, IsUnder, shut-behind}
 use Rattle.markdown_blocks.proofs.Text.Facts.{kept-of}
 use Rattle.markdown_blocks.proofs.LineSteps.{front-unlazy, with_came}
@@ -24,7 +28,7 @@ use Rattle.markdown_blocks.proofs.Registry.{further-is, span-laws, text-turns}
 use Rattle.markdown_blocks.proofs.RowLeaf.{EndsOnLine, row-as}
 use Rattle.markdown_blocks.proofs.SpanLaws.{AreBehind, IsLineOf, SpanLaws, come_behind}
 use Rattle.markdown_blocks.proofs.StepBehind.{came-spot, containers-longer}
-use Rattle.markdown_blocks.specs.Registry.{LeafName, leaf}
+use Rattle.markdown_blocks.specs.Registry.{GfmTable, LeafName, leaf}
 use Rattle.md_definition.specs.Leaves.{Came}
 use Rattle.md_definition.specs.Rest.{trim_start}
 use Rattle.md_definition.specs.Step.{came}
@@ -172,10 +176,6 @@ abbrev pub first_come : ParseOptions → List ℕ → LeafName → Path → Poin
 first_come options bytes l p a r =
     cond (nat_lt a.index (length bytes)) ((leaf l).comes options (spot p).leaf r) (Opened (spot p).leaf)
 
--- what stands behind the last line of such a leaf
-abbrev pub span_tail : Row → List Row → List Event
-span_tail row rows = tail_events (ending_name (is_blank_row (last_row row rows))) (last_row row rows)
-
 -- A line of it and those that go on it are with what follows read as this, where this leaf takes those behind the line,
 -- and the open leaf came to this with it.
 pub record ReadsSpan (options : ParseOptions) (bytes : List ℕ) (l : LeafName) (p : Path) (come : Came) (row : Row)
@@ -184,6 +184,7 @@ pub record ReadsSpan (options : ParseOptions) (bytes : List ℕ) (l : LeafName) 
   pub below : List Group
   pub groups_are : gs ≡ Span row rows ∷ below
   pub are : AreBehind options bytes (leaf l) row rows
+  pub dark : AreDark options bytes l row rows are
   pub behind : read bytes
       (reading options (with_came options (leaf l).heads p (come_behind options bytes (leaf l) row rows are come)))
       (span_tail row rows ++ groups_events options bytes below) ≡
@@ -198,9 +199,14 @@ pub record StartsSpan (options : ParseOptions) (bytes : List ℕ) (l : LeafName)
   pub further : (leaf l).further row.on ≡ true
   pub reads : ReadsSpan options bytes l p (first_come options bytes l p a is.rest) row gs last
 
+-- a line of text is one of a text, or the head of a table
+abbrev pub StartsText : ParseOptions → List ℕ → Path → Row → List Group → Reading → Type 0
+StartsText options bytes p row gs last =
+    StartsLines options bytes p row gs last ⊎ StartsHead options bytes p row gs last
+
 -- by whether the first line goes on the open text, or on an open leaf of several lines
 abbrev pub Means : ParseOptions → List ℕ → Path → Point → Bool → Bool → Row → List Group → Reading → Type 0
-Means options bytes p a true further row gs last = StartsLines options bytes p row gs last
+Means options bytes p a true further row gs last = StartsText options bytes p row gs last
 Means options bytes p a false true row gs last = (l : LeafName) × StartsSpan options bytes l p a row gs last
 Means options bytes p a false false row gs last = Reads options bytes p row.change.closes gs last
 
@@ -224,7 +230,17 @@ pub record Joins (options : ParseOptions) (bytes : List ℕ) (p : Path) (row : R
   pub ending : f.IsEnding bytes row.end after
   pub fronts : LinePrefix bytes [] after next.first next.front
 
--- or on a leaf of several lines, or it turns a text
+-- where it is the head of a table,
+pub record JoinsHead (options : ParseOptions) (bytes : List ℕ) (p : Path) (row : Row) (gs : List Group)
+    (last : Reading) : Type 0 where
+  pub text : is_text row.kind ≡ true
+  pub next : Row
+  pub starts : StartsHead options bytes p next gs last
+  pub leaves : row.leaves ≡ []
+  pub after : Point
+  pub fronts : LinePrefix bytes [] after next.first next.front
+
+-- or on a leaf of several lines, or it turns a text, or takes the last line of one as its head
 pub record JoinsSpan (options : ParseOptions) (bytes : List ℕ) (p : Path) (row : Row) (gs : List Group)
     (last : Reading) : Type 0 where
   pub name : LeafName
@@ -242,7 +258,8 @@ pub record JoinsSpan (options : ParseOptions) (bytes : List ℕ) (p : Path) (row
 
 abbrev pub Follows : ParseOptions → List ℕ → Path → Row → List Group → Reading → Type 0
 Follows options bytes p row gs last =
-    Parts options bytes p row gs last ⊎ (Joins options bytes p row gs last ⊎ JoinsSpan options bytes p row gs last)
+    Parts options bytes p row gs last
+    ⊎ (Joins options bytes p row gs last ⊎ (JoinsSpan options bytes p row gs last ⊎ JoinsHead options bytes p row gs last))
 
 onto-joined : (row next : Row) (rows : List Row) (turn : Option Row) (gs : List Group) → row.leaves ≡ [] →
     next.change.opens ≡ [] →
@@ -303,12 +320,53 @@ left-alike options (Some under) stays p lines left =
     (sym (ap spot (longer-renewed stays p lines) ∙ renewed-spot stays (longer p lines)))
     ∙ left on
 
--- so a line of text goes on a text there as well.
-pub starts-alike : (options : ParseOptions) (bytes : List ℕ) (stays closes : List Container) (p : Path) (row : Row)
+-- so a line of text goes on a text there as well, or is a head.
+head-alike : (options : ParseOptions) (bytes : List ℕ) (stays closes : List Container) (p : Path) (row : Row)
+    (gs : List Group) (last : Reading) →
+    AreShapes stays closes p → StartsHead options bytes (renewed stays p) row gs last →
+    StartsHead options bytes p row gs last
+head-alike options bytes stays closes p row gs last shapes starts = record {
+  line = starts.line;
+  is = starts.is;
+  text = starts.text;
+  next = starts.next;
+  rows = starts.rows;
+  below = starts.below;
+  groups_are = starts.groups_are;
+  are = starts.are;
+  filled = starts.filled;
+  at = starts.at;
+  on = starts.on;
+  behind =
+      ap
+      (λ (r : Reading). read bytes r (span_tail starts.next starts.rows ++ groups_events options bytes starts.below))
+      (sym alike)
+      ∙ starts.behind;
+}
+  where
+    lines : List Kept
+    lines = kept starts.is.rest ∷ []
+
+    q : Path
+    q = longer p lines
+
+    comes : Leaf → Came
+    comes = head_come options bytes row starts.next starts.rows starts.are
+
+    alike : reading options (head_path options bytes row starts.next starts.rows starts.are (longer (renewed stays p) lines)) ≡
+        reading options (head_path options bytes row starts.next starts.rows starts.are q)
+    alike =
+        ap (λ (x : Path). reading options (with_came options true x (comes (spot x).leaf))) (longer-renewed stays p lines)
+        ∙ ap (λ (s : Spot). reading options (with_came options true (renewed stays q) (comes s.leaf)))
+        (renewed-spot stays q)
+        ∙ reading-came options true stays closes [] q (comes (spot q).leaf)
+        (shapes ∙ ap (map shape_of) (sym (containers-longer p lines)))
+
+lines-alike : (options : ParseOptions) (bytes : List ℕ) (stays closes : List Container) (p : Path) (row : Row)
     (gs : List Group) (last : Reading) →
     AreShapes stays closes p → StartsLines options bytes (renewed stays p) row gs last →
     StartsLines options bytes p row gs last
-starts-alike options bytes stays closes p row gs last shapes starts =
+lines-alike options bytes stays closes p row gs last shapes starts =
     let reads = starts.reads in
     let final : Row = last_row row starts.rows in
     record {
@@ -332,6 +390,15 @@ starts-alike options bytes stays closes p row gs last shapes starts =
       };
     }
 
+pub starts-alike : (options : ParseOptions) (bytes : List ℕ) (stays closes : List Container) (p : Path) (row : Row)
+    (gs : List Group) (last : Reading) →
+    AreShapes stays closes p → StartsText options bytes (renewed stays p) row gs last →
+    StartsText options bytes p row gs last
+starts-alike options bytes stays closes p row gs last shapes (inl starts) =
+    inl (lines-alike options bytes stays closes p row gs last shapes starts)
+starts-alike options bytes stays closes p row gs last shapes (inr starts) =
+    inr (head-alike options bytes stays closes p row gs last shapes starts)
+
 -- behind what turns a text no leaf is open, so no line goes on it
 turn-alone : (options : ParseOptions) (bytes : List ℕ) (at : OpenText) (l : LeafName) (under : Row) (rows : List Row) →
     (leaf l).further (held_leaf.Text at) ≡ true → (leaf l).heads ≡ false → IsLineOf options bytes (leaf l) under →
@@ -343,22 +410,21 @@ turn-alone options bytes at l under (next ∷ rows) further heads is are =
     let bad : true ≡ false = sym may ∙ ap may_go_on left in
     absurd (cc)
 
--- it is a line of the text, not one behind its end
-pub turn-inside : (options : ParseOptions) (bytes : List ℕ) (at : OpenText) (l : LeafName) (p : Point) (under : Row) →
-    (leaf l).further (held_leaf.Text at) ≡ true → (leaf l).heads ≡ false → IsLineOf options bytes (leaf l) under →
-    LinePrefix bytes [] p under.first under.front → nat_lt p.index (length bytes) ≡ true
-turn-inside options bytes at l p under further heads is front =
-    let dark : is_blank is.rest.bytes ≡ false = (text-turns at l further heads).filled options under.on is.rest is.starts in
-    let inside = text-behind bytes is.rest under.first under.end is.at (some-text is.rest dark) in
-    let grow = fronts-grow bytes [] p under.first under.front front in
+-- a line on which something stands is one of the text, not one behind its end
+pub line-inside : (options : ParseOptions) (bytes : List ℕ) (l : LeafName) (p : Point) (row : Row) →
+    (is : IsLineOf options bytes (leaf l) row) → is_blank is.rest.bytes ≡ false →
+    LinePrefix bytes [] p row.first row.front → nat_lt p.index (length bytes) ≡ true
+line-inside options bytes l p row is dark front =
+    let inside = text-behind bytes is.rest row.first row.end is.at (some-text is.rest dark) in
+    let grow = fronts-grow bytes [] p row.first row.front front in
     let less : p.index < length bytes = omega (arith, inside, grow) in grind (arith, nat_tests)
 
 -- a line of text with the one that turns it
 turn-lines : (options : ParseOptions) (bytes line : List ℕ) (p : Path) (row : Row) (gs : List Group) (last : Reading) →
     (is : f.IsRow options bytes line row) → row.kind ≡ TextRow →
-    JoinsSpan options bytes (longer p (kept is.rest ∷ [])) row gs last →
+    (joins : JoinsSpan options bytes (longer p (kept is.rest ∷ [])) row gs last) → (leaf joins.name).heads ≡ false →
     StartsLines options bytes p row (onto_groups row TextRow gs) last
-turn-lines options bytes line p row gs last is text joins =
+turn-lines options bytes line p row gs last is text joins heads =
     go reads.rows (turn-alone options bytes at joins.name under reads.rows further heads of reads.are) reads.groups_are
     reads.are reads.behind
   where
@@ -389,14 +455,11 @@ turn-lines options bytes line p row gs last is text joins =
     further : (leaf joins.name).further (held_leaf.Text at) ≡ true
     further = ap (leaf joins.name).further (sym on) ∙ joins.starts.further
 
-    -- no line of the text is a head
-    heads : (leaf joins.name).heads ≡ false
-    heads = row-no_head options bytes joins.starts.line under joins.name at joins.starts.is joins.starts.kind on
-
     come : first ≡ (leaf joins.name).comes options (spot q).leaf rest
     come =
         ap (λ (x : Bool). cond x ((leaf joins.name).comes options (spot q).leaf rest) (Opened (spot q).leaf))
-        (turn-inside options bytes at joins.name joins.after under further heads of joins.fronts)
+        (line-inside options bytes joins.name joins.after under of
+        (met-dark options bytes joins.starts.line under joins.name at joins.starts.is joins.starts.kind on) joins.fronts)
 
     may : may_turn options under.on ≡ true
     may =
@@ -460,13 +523,109 @@ turn-lines options bytes line p row gs last is text joins =
       };
     }
 
+-- a line of text that is the head of a table
+head-lines : (options : ParseOptions) (bytes line : List ℕ) (p : Path) (row : Row) (gs : List Group) (last : Reading) →
+    (is : f.IsRow options bytes line row) → row.kind ≡ TextRow →
+    (joins : JoinsSpan options bytes (longer p (kept is.rest ∷ [])) row gs last) → joins.name ≡ GfmTable →
+    StartsHead options bytes p row (onto_groups row TextRow gs) last
+head-lines options bytes line p row gs last is text joins name = record {
+  line = line;
+  is = is;
+  text = text;
+  next = next;
+  rows = reads.rows;
+  below = reads.below;
+  groups_are =
+      ap (onto_groups row TextRow) reads.groups_are
+      ∙ ap₂
+      (λ (x y : Bool).
+      cond (x && y) (Headed row next reads.rows ∷ reads.below)
+      (cond (is_further next.kind next.on && is_last reads.rows) (Turned row [] next ∷ reads.below)
+      (Lines row [] ∷ Span next reads.rows ∷ reads.below)))
+      joins.further (ap takes_head starts.kind);
+  are = (
+    joins.after,
+    joins.after_is,
+    joins.ending,
+    joins.fronts,
+    joins.on,
+    starts.further,
+    of,
+    reads.are,
+  );
+  filled = (dark, dark-filled options bytes next reads.rows reads.are reads.dark);
+  at = open_text (further (progress_of row.on) (trim_start is.rest.bytes)) (kept is.rest);
+  on = joins.on ∙ is.behind ∙ ap (line_behind options row.on is.rest) text;
+  behind =
+      ap
+      (λ (c : Came).
+      read bytes
+      (reading options (with_came options true q (come_behind options bytes table_leaf next reads.rows reads.are c)))
+      (span_tail next reads.rows ++ groups_events options bytes reads.below))
+      (sym come)
+      ∙ reads.behind;
+}
+  where
+    next : Row
+    next = joins.next
+
+    q : Path
+    q = longer p (kept is.rest ∷ [])
+
+    starts : StartsSpan options bytes GfmTable q joins.after next gs last
+    starts = subst (λ (l : LeafName). StartsSpan options bytes l q joins.after next gs last) name joins.starts
+
+    reads : ReadsSpan options bytes GfmTable q (first_come options bytes GfmTable q joins.after starts.is.rest) next gs last
+    reads = starts.reads
+
+    of : IsLineOf options bytes table_leaf next
+    of = row-as options bytes starts.line next starts.is GfmTable starts.kind
+
+    dark : is_blank starts.is.rest.bytes ≡ false
+    dark = heads-dark options bytes starts.line next GfmTable starts.is starts.kind refl
+
+    come : first_come options bytes GfmTable q joins.after starts.is.rest ≡
+        table_leaf.comes options (spot q).leaf starts.is.rest
+    come =
+        ap (λ (x : Bool). cond x (table_leaf.comes options (spot q).leaf starts.is.rest) (Opened (spot q).leaf))
+        (line-inside options bytes GfmTable joins.after next of dark joins.fronts)
+
+-- in front of a table another text ends
+apart-head : (options : ParseOptions) (bytes : List ℕ) (p : Path) (row next : Row) (gs : List Group) (last : Reading) →
+    StartsHead options bytes p next gs last → onto_groups row TextRow gs ≡ Lines row [] ∷ gs
+apart-head options bytes p row next gs last starts =
+    ap (onto_groups row TextRow) starts.groups_are
+    ∙ ap (λ (l : List Group). Lines row [] ∷ l) (sym starts.groups_are)
+
+-- a table is read, with what stands in front of it
+pub heads-read : (options : ParseOptions) (bytes : List ℕ) (o : Path) (row : Row) (gs : List Group) (last : Reading) →
+    StartsHead options bytes o row gs last → IsOfText options (spot o).leaf →
+    (opens : List Container) (a : Point) → LinePrefix bytes opens a row.first row.front →
+    (start : Reading) → start.text ≡ None → enters opens start ≡ reading options o →
+    read bytes start (groups_events options bytes gs) ≡ last
+heads-read options bytes o row gs last starts of_text opens a front start text same =
+    let whole : List Event = headed_done bytes row starts.next starts.rows in
+    let tail : List Event = span_tail starts.next starts.rows in
+    let more : List Event = groups_events options bytes starts.below in
+    let new : Reading = reading options
+    (head_path options bytes row starts.next starts.rows starts.are (longer o (kept starts.is.rest ∷ []))) in
+    ap (λ (gs : List Group). read bytes start (groups_events options bytes gs)) starts.groups_are
+    ∙ ap (read bytes start) (append_assoc (row.front ++ whole) tail more ∙ append_assoc row.front whole (tail ++ more))
+    ∙ read-from bytes start (enters opens start) row.front (whole ++ (tail ++ more))
+    (read-fronts bytes opens a row.first row.front start front text)
+    ∙ ap (λ (r : Reading). read bytes r (whole ++ (tail ++ more))) same
+    ∙ read-from bytes (reading options o) new whole (tail ++ more)
+    (head-read options bytes starts.line o row starts.next starts.rows starts.at starts.is starts.text starts.are
+    starts.filled starts.on of_text)
+    ∙ starts.behind
+
 -- a line of text, and what follows
 pub starts-lines : (options : ParseOptions) (bytes line : List ℕ) (p : Path) (row : Row) (gs : List Group)
     (last : Reading) →
     (is : f.IsRow options bytes line row) → row.kind ≡ TextRow →
     Follows options bytes (longer p (kept is.rest ∷ [])) row gs last →
-    StartsLines options bytes p row (onto_groups row TextRow gs) last
-starts-lines options bytes line p row gs last is text (inl parts) = record {
+    StartsText options bytes p row (onto_groups row TextRow gs) last
+starts-lines options bytes line p row gs last is text (inl parts) = inl (record {
   rows = [];
   turn = None;
   below = gs;
@@ -481,14 +640,37 @@ starts-lines options bytes line p row gs last is text (inl parts) = record {
         (groups_events options bytes gs) (read-tail bytes n.LineEnding row s tt refl refl)
         ∙ parts.reads;
   };
-}
-starts-lines options bytes line p row gs last is text (inr (inr joins)) =
-    turn-lines options bytes line p row gs last is text joins
+})
+starts-lines options bytes line p row gs last is text (inr (inr (inl joins))) = go (leaf joins.name).heads refl
+  where
+    go : (x : Bool) → (leaf joins.name).heads ≡ x → StartsText options bytes p row (onto_groups row TextRow gs) last
+    go true heads = inr (head-lines options bytes line p row gs last is text joins (heads-table joins.name heads))
+    go false heads = inl (turn-lines options bytes line p row gs last is text joins heads)
+starts-lines options bytes line p row gs last is text (inr (inr (inr joins))) = inl (record {
+  rows = [];
+  turn = None;
+  below = gs;
+  groups_are = apart-head options bytes (longer p (kept is.rest ∷ [])) row joins.next gs last joins.starts;
+  reads = record {
+    are = (line, is, text);
+    turned = tt;
+    left = tt;
+    behind =
+        let q : Path = longer p (kept is.rest ∷ []) in
+        let s : Reading = reading options q in
+        read-from bytes s s (tail_events n.LineEnding row) (groups_events options bytes gs)
+        (read-tail bytes n.LineEnding row s tt refl refl
+        ∙ ap (λ (cs : List Container). close_containers (length cs) s) joins.leaves)
+        ∙ heads-read options bytes q joins.next gs last joins.starts
+        (subst (IsOfText options) (sym (longer-spot p (kept is.rest ∷ [])))
+        (text-of_text options (held_of (spot p).leaf ++ kept is.rest ∷ []))) [] joins.after joins.fronts s refl refl;
+  };
+})
 starts-lines options bytes line p row gs last is text (inr (inl joins)) =
     let below = joins.starts in
     let reads = below.reads in
     let final : Row = last_row joins.next below.rows in
-    record {
+    inl (record {
       rows = joins.next ∷ below.rows;
       turn = below.turn;
       below = below.below;
@@ -510,7 +692,7 @@ starts-lines options bytes line p row gs last is text (inr (inl joins)) =
             (longer-longer p (kept is.rest ∷ []) (kept-of options bytes joins.next below.rows reads.are))
             reads.behind;
       };
-    }
+    })
 
 -- Lines.
 
@@ -604,7 +786,8 @@ pub no-joins : (options : ParseOptions) (bytes line : List ℕ) (p : Path) (row 
     Follows options bytes p row gs last → Reads options bytes p row.leaves gs last
 no-joins options bytes line p row gs last is none ends (inl parts) = parts.reads
 no-joins options bytes line p row gs last is none ends (inr (inl joins)) = let text = joins.text in cc
-no-joins options bytes line p row gs last is none ends (inr (inr joins)) =
+no-joins options bytes line p row gs last is none ends (inr (inr (inr joins))) = let text = joins.text in cc
+no-joins options bytes line p row gs last is none ends (inr (inr (inl joins))) =
     let may = joins.may in
     let shut = (shut-behind options bytes line row is ends
     (λ (text : row.kind ≡ TextRow). let bad : true ≡ false = sym (ap is_text text) ∙ none in cc)).0 in
@@ -660,6 +843,7 @@ span-alike options bytes l p q come row gs last alike is = record {
   below = is.below;
   groups_are = is.groups_are;
   are = is.are;
+  dark = is.dark;
   behind =
       ap (λ (r : Reading). read bytes r (span_tail row is.rows ++ groups_events options bytes is.below))
       (sym (alike (come_behind options bytes (leaf l) row is.rows is.are come)))
@@ -691,6 +875,7 @@ span-joined options bytes l p come row gs last joins next opened unlazy = record
     row-as options bytes next.line joins.next next.is l next.kind,
     next.reads.are,
   );
+  dark = (heads-dark options bytes next.line joins.next l next.is next.kind, next.reads.dark);
   behind =
       ap (λ (r : Reading). read bytes r (span_tail joins.next rows ++ groups_events options bytes below))
       (sym (ap (to (with_came options heads p come)) first ∙ ap (reading options) (twice (come_to other))))
@@ -740,6 +925,7 @@ span-rows options bytes l m p come row gs last other same is (inl parts) = recor
   below = gs;
   groups_are = parts.alone;
   are = tt;
+  dark = tt;
   behind =
       let s : Reading = reading options (with_came options (leaf l).heads p come) in
       read-from bytes s (close_containers (length row.leaves) s) (span_tail row []) (groups_events options bytes gs)
@@ -747,7 +933,8 @@ span-rows options bytes l m p come row gs last other same is (inl parts) = recor
       ∙ parts.reads;
 }
 span-rows options bytes l m p come row gs last other same is (inr (inl joins)) = let text = joins.text in cc
-span-rows options bytes l m p come row gs last other same is (inr (inr joins)) =
+span-rows options bytes l m p come row gs last other same is (inr (inr (inr joins))) = let text = joins.text in cc
+span-rows options bytes l m p come row gs last other same is (inr (inr (inl joins))) =
     let left : kind_of_leaf (left_by come) ≡ row.behind =
     ap kind_of_leaf (sym (came-spot options (leaf l).heads p come)) ∙ joins.still in
     let name : joins.name ≡ l = further-is m joins.name options row.on is.rest

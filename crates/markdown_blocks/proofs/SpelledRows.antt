@@ -21,7 +21,7 @@ use Rattle.markdown_blocks.proofs.Registry.{text-turns}
 use Rattle.markdown_blocks.proofs.RowLeaf.{EndsOnLine}
 use Rattle.markdown_blocks.proofs.SpanLaws.{IsLineOf}
 use Rattle.markdown_blocks.proofs.StepBehind.{GoesOn, further-unlazy}
-use Rattle.markdown_blocks.proofs.TableStarts.{row-no_head}
+use Rattle.markdown_blocks.proofs.SpelledHeads.{IsOfText, met-dark, none-of_text}
 use Rattle.markdown_blocks.specs.Registry.{LeafName, leaf}
 use Rattle.md_definition.specs.Leaves.{Came}
 use Rattle.markdown_blocks.proofs.JoinedLemmas.{lines-first, text-onto, text_group}
@@ -73,12 +73,13 @@ use Rattle.markdown_blocks.specs.Rows.{is_blank_row}
 use Rattle.markdown_blocks.proofs.SpelledPaths.{AreShapes, close_containers-all, close_containers-between, enters}
 use Rattle.markdown_blocks.proofs.SpelledPaths.{behind-behind, longer-with, new-path, open-none, open_path}
 use Rattle.markdown_blocks.proofs.SpelledPaths.{reading-longer, reading-with, spot-with, with_spot}
-use Rattle.markdown_blocks.proofs.SpelledGroups.{Follows, IsTurned, Means, Reads, ReadsSpan, StartsLines}
+use Rattle.markdown_blocks.proofs.SpelledGroups.{Follows, IsTurned, Means, Reads, ReadsSpan}
 use Rattle.markdown_blocks.proofs.SpelledGroups.{StartsSpan, text_path, text_tail}
 use Rattle.markdown_blocks.proofs.SpelledGroups.{starts-read, came-none, came-open, came-with, ending-role, first_come}
 use Rattle.markdown_blocks.proofs.SpelledGroups.{kind-name, line-is, no-joins, other-kind, read-fronts, read-open}
 use Rattle.markdown_blocks.proofs.SpelledGroups.{reading-came, shown-leaf, single-reads, span-alike, span-rows}
-use Rattle.markdown_blocks.proofs.SpelledGroups.{starts-alike, starts-lines, still-line, text-kind, turn-inside}
+use Rattle.markdown_blocks.proofs.SpelledGroups.{StartsText, heads-read, line-inside, starts-alike, starts-lines, still-line}
+use Rattle.markdown_blocks.proofs.SpelledGroups.{text-kind}
 use Rattle.md_parts.specs.Progress.{progress_of}
 
 -- The lines of a text, with the one that turns it if one does.
@@ -232,9 +233,15 @@ row-means options bytes p a line row gs last over built plain is in_text follows
         (other-kind row.kind other) ends further)
 
     -- text is read with the lines that go on it, and with the one that turns it
-    text-reads : StartsLines options bytes o row (onto_groups row TextRow gs) last →
+    text-reads : StartsText options bytes o row (onto_groups row TextRow gs) last →
         Reads options bytes p row.change.closes (onto_groups row TextRow gs) last
-    text-reads starts =
+    text-reads (inr starts) =
+        let start : Reading = close_containers (length row.change.closes) (reading options p) in
+        heads-read options bytes o row (onto_groups row TextRow gs) last starts
+        (subst (IsOfText options) (sym none) (none-of_text options)) row.change.opens a is.front start
+        (close_containers-between (length row.change.closes) (reading options p) refl refl).0
+        (read-open options p c row shapes is.change)
+    text-reads (inl starts) =
         let start : Reading = close_containers (length row.change.closes) (reading options p) in
         let begin : Reading = enters row.change.opens start in
         let text = close_containers-between (length row.change.closes) (reading options p) refl refl in
@@ -345,10 +352,10 @@ row-means options bytes p a line row gs last over built plain is in_text follows
             let front : LinePrefix bytes [] a row.first row.front =
             subst (λ (cs : List Container). LinePrefix bytes cs a row.first row.front)
             (ap (λ (x : Change). x.opens) is.change ∙ goes.opens) is.front in
-            let heads : (leaf goes.is.name).heads ≡ false = row-no_head options bytes (rest_line c.rest) row goes.is.name
-            text.0 is.is (kind-is ∙ goes.kind) (is.on ∙ goes.on ∙ text.1) in
-            let inside : nat_lt a.index (length bytes) ≡ true = turn-inside options bytes text.0 goes.is.name a row further
-            heads (line-is-of goes.is.name (kind-is ∙ goes.kind) goes.is.ends) front in
+            let inside : nat_lt a.index (length bytes) ≡ true = line-inside options bytes goes.is.name a row
+            (line-is-of goes.is.name (kind-is ∙ goes.kind) goes.is.ends)
+            (met-dark options bytes (rest_line c.rest) row goes.is.name text.0 is.is (kind-is ∙ goes.kind)
+            (is.on ∙ goes.on ∙ text.1)) front in
             let bad : true ≡ false = sym inside ∙ in_text ∙ ap not e in
             cc
 
@@ -418,7 +425,7 @@ row-means options bytes p a line row gs last over built plain is in_text follows
         let is_row : row.kind ≡ TextRow = text-kind row.kind text in
         let begins : goes_further options c ≡ false = f ∙ begins-text e y f in
         means true y e f
-        (subst (λ (k : RowKind). StartsLines options bytes p row (onto_groups row k gs) last) (sym is_row)
+        (subst (λ (k : RowKind). StartsText options bytes p row (onto_groups row k gs) last) (sym is_row)
         (starts-alike options bytes c.change.stays c.change.closes p row (onto_groups row TextRow gs) last shapes
         (starts-lines options bytes (rest_line c.rest) (renewed c.change.stays p) row gs last is.is is_row
         (subst (λ (x : Path). Follows options bytes x row gs last)
@@ -583,29 +590,55 @@ follows-below : (options : ParseOptions) (bytes : List ℕ) (p : Path) (row belo
     Means options bytes p q x y below (onto_groups below below.kind gs) last →
     Follows options bytes p row (onto_groups below below.kind gs) last
 follows-below options bytes p row below gs q line last built plain lazily still leaves after ending is true y lazy far
-    means =
-    let c : Contained = contained_at options p (rest_from q line) in
-    let kind_is = line-is options bytes (containers_of p) (still_of p) q line below is in
-    let goes : goes_lazy options p c ≡ true =
-    ap (is_lazy (still_of p) c.change.opens) (sym kind_is)
-    ∙ ap (λ (x : Change). is_lazy (still_of p) x.opens below.kind) (sym is.change) ∙ lazy in
-    let none : below.change.opens ≡ [] = lazy-opens (still_of p) below.change.opens below.kind lazy in
-    inr
-    (inl
-    (record {
-      text =
-          sym lazily ∙ ap takes_lazy (sym still)
-          ∙ (and_parts (takes_lazy (still_of p)) (is_none below.change.opens)
-          (and_parts (takes_lazy (still_of p) && is_none below.change.opens) (is_text below.kind) lazy).0).0;
-      next = below;
-      starts = means;
-      leaves = leaves ∙ ap (λ (x : Change). x.closes) is.change ∙ contained-lazy options p (rest_from q line) goes;
-      opens = none;
-      after = q;
-      after_is = after;
-      ending = ending;
-      fronts = subst (λ (cs : List Container). LinePrefix bytes cs q below.first below.front) none is.front;
-    }))
+    means = by means
+  where
+    c : Contained
+    c = contained_at options p (rest_from q line)
+
+    kind_is : below.kind ≡ line_kind options c.on c.rest
+    kind_is = line-is options bytes (containers_of p) (still_of p) q line below is
+
+    goes : goes_lazy options p c ≡ true
+    goes =
+        ap (is_lazy (still_of p) c.change.opens) (sym kind_is)
+        ∙ ap (λ (x : Change). is_lazy (still_of p) x.opens below.kind) (sym is.change) ∙ lazy
+
+    none : below.change.opens ≡ []
+    none = lazy-opens (still_of p) below.change.opens below.kind lazy
+
+    text : is_text row.kind ≡ true
+    text =
+        sym lazily ∙ ap takes_lazy (sym still)
+        ∙ (and_parts (takes_lazy (still_of p)) (is_none below.change.opens)
+        (and_parts (takes_lazy (still_of p) && is_none below.change.opens) (is_text below.kind) lazy).0).0
+
+    no_leaves : row.leaves ≡ []
+    no_leaves = leaves ∙ ap (λ (x : Change). x.closes) is.change ∙ contained-lazy options p (rest_from q line) goes
+
+    fronts : LinePrefix bytes [] q below.first below.front
+    fronts = subst (λ (cs : List Container). LinePrefix bytes cs q below.first below.front) none is.front
+
+    by : StartsText options bytes p below (onto_groups below below.kind gs) last →
+        Follows options bytes p row (onto_groups below below.kind gs) last
+    by (inl starts) =
+        inr
+        (inl
+        (record {
+          text = text;
+          next = below;
+          starts = starts;
+          leaves = no_leaves;
+          opens = none;
+          after = q;
+          after_is = after;
+          ending = ending;
+          fronts = fronts;
+        }))
+    by (inr starts) =
+        inr
+        (inr
+        (inr
+        (record { text = text; next = below; starts = starts; leaves = no_leaves; after = q; fronts = fronts })))
 follows-below options bytes p row below gs q line last built plain lazily still leaves after ending is false true lazy
     far means =
     let c : Contained = contained_at options p (rest_from q line) in
@@ -615,6 +648,7 @@ follows-below options bytes p row below gs q line last built plain lazily still 
     let none : below.change.opens ≡ [] = ap (λ (x : Change). x.opens) is.change ∙ goes.opens in
     inr
     (inr
+    (inl
     (record {
       name = means.0;
       next = below;
@@ -628,7 +662,7 @@ follows-below options bytes p row below gs q line last built plain lazily still 
       still = still;
       may = ap may_go_on (sym still) ∙ goes.is.may;
       starts = means.1;
-    }))
+    })))
 follows-below options bytes p row below gs q line last built plain lazily still leaves after ending is false false lazy
     far means =
     inl (record {
