@@ -109,6 +109,7 @@ pub mod SpelledRows
 pub mod StandsLemmas
 pub mod EachRow
 pub mod Underlines
+pub mod NestedEvents
 pub mod NestedRows
 pub mod GrammarFronts
 pub mod GrammarRows

@@ -2,24 +2,22 @@
 use Rattle.md_engine.specs.declared.tokenizer.held_leaf.HeldLeaf.TheVariants as held_leaf
 use Rattle.md_engine.specs.declared.tokenizer.held_leaf.HeldLeaf.{HeldLeaf}
 use Rattle.markdown_blocks.specs.Registry.{LeafName, leaf}
-use Rattle.markdown_blocks.proofs.GroupsAre.{AreSpan, Begins, FirstBegins, FirstIs, IsBehind, IsHead, IsSpanLine, IsUnder}
-use Rattle.markdown_blocks.proofs.GroupsAre.{Leaves, behind-fresh, behind-on, first-text, leaf-fresh, leaves-left}
+use Rattle.markdown_blocks.proofs.GroupsAre.{AreSpan, Begins, FirstBegins, FirstIs, IsBehind, IsHead, IsSpanLine}
+use Rattle.markdown_blocks.proofs.GroupsAre.{IsUnder, Leaves, behind-fresh, behind-on, first-text, leaf-fresh, leaves-left}
 use Rattle.markdown_blocks.proofs.GroupsAre.{leaves-longer, under-leaves, unjoined-fresh}
 use Rattle.markdown_blocks.proofs.GroupsAre.{begins-behind, blank-ends, first-begins, first-behind, leaf-other}
 use Rattle.markdown_blocks.proofs.GroupsAre.{leaf-row-ends, shut-behind, text-head, text-under, turned-alone}
 use Rattle.std.proofs.Common.{◌≡◌, ◌≢◌, ℕ, Bool, true, false, cond, ◌&&◌, List, [], ◌∷◌, ◌++◌, refl, ap, sym, ◌∙◌}
 use Rattle.std.proofs.Common.{append_assoc, append-nil, subst}
-use Rattle.std.specs.Prelude.{IsTrue, Option, Some, None}
+use Rattle.std.specs.Prelude.{IsTrue, Some, None}
 use Rattle.std.proofs.lemmas.Bool.{and_parts}
 use Rattle.md_engine.specs.declared.configuration.ParseOptions.{ParseOptions}
 use Rattle.md_engine.specs.declared.event.Event.{Event}
 use Rattle.md_engine.specs.declared.event.Name.{Name}
 use Rattle.md_engine.specs.declared.event.Point.{Point}
-use Rattle.md_seam.specs.Events.Nested.{Balanced, Forward, Matches, last_point, open_after}
 use Rattle.md_seam.specs.Events.Places.{at_or_before}
 use Rattle.md_definition.specs.State.{Container}
-use Rattle.md_seam.proofs.NestedLemmas.{at_or_before-refl, balanced-none, forward-append, forward-from, matches-append}
-use Rattle.md_seam.proofs.NestedLemmas.{open_after-append}
+use Rattle.md_seam.proofs.NestedLemmas.{at_or_before-refl}
 use Rattle.markdown_blocks.specs.Change.{Change, ends_of, is_none, open_behind}
 use Rattle.markdown_blocks.specs.Fronted.{contained, rest_from, rest_line}
 use Rattle.markdown_blocks.specs.Rows.{Headed, Span, Turned, is_further, is_last, onto_leaf, final_row, first_row}
@@ -29,20 +27,21 @@ use Rattle.markdown_blocks.specs.Rows.{group_done, last_row, onto_groups, tail_e
 use Rattle.markdown_blocks.proofs.ContainedLemmas.{contained-shapes, none-nil}
 use Rattle.markdown_blocks.proofs.FrontFacts.{LinePrefix}
 use Rattle.markdown_blocks.proofs.FrontLemmas.{Turns, ends-spans, ends-turn, fronts-spans, fronts-turn, names-append}
-use Rattle.markdown_blocks.proofs.FrontLemmas.{shapes-names, turns-balanced}
+use Rattle.markdown_blocks.proofs.FrontLemmas.{shapes-names}
 use Rattle.markdown_blocks.proofs.JoinedLemmas.{behind-is, behind-none}
 use Rattle.markdown_blocks.proofs.GroupFacts.{IsGroupLeaf, headed-leaf, single-leaf, span-group, text-leaf, turned-leaf}
 use Rattle.markdown_blocks.proofs.GroupLemmas.{AreLines}
 use Rattle.markdown_blocks.proofs.RowLeaf.{EndsOnLine}
 use Rattle.markdown_blocks.proofs.Text.Order.{ending-order}
 use Rattle.markdown_blocks.proofs.RowFacts.{AreRows, IsEnding, IsLine, IsRow, behind_line}
-use Rattle.markdown_blocks.proofs.SpanLemmas.{Nested_in, Spans}
+use Rattle.markdown_blocks.proofs.NestedEvents.{Onward, Under, ending-nested, under-before, under-none, under-turn}
+use Rattle.markdown_blocks.proofs.SpanLemmas.{Nested_in}
 use Rattle.markdown_blocks.proofs.ContainerNames.{open_names}
 use Rattle.markdown_blocks.specs.Rows.{group_ending}
 use Rattle.markdown_blocks.proofs.Turned.Under.{text-open}
 use Rattle.markdown_blocks.proofs.Underlines.{further-quiet}
 
--- Lines.
+-- Groups.
 
 -- What stands in a group whose first line begins at a point, and its ending: the points never go back.
 pub record Ordered (options : ParseOptions) (bytes : List ℕ) (p : Point) (group : Group) : Type 0 where
@@ -50,56 +49,12 @@ pub record Ordered (options : ParseOptions) (bytes : List ℕ) (p : Point) (grou
   pub leaf : IsGroupLeaf options bytes group
   pub ends : IsTrue (at_or_before (final_row group).end (behind_row (final_row group)))
 
-ending-nested : (name : Name) (row : Row) → IsTrue (at_or_before row.end (behind_row row)) →
-    Nested_in row.end (behind_row row) (ending_events name row)
-ending-nested name row = go row.after
-  where
-    go : (after : Option Point) → IsTrue (at_or_before row.end (behind_row (record row { after = after }))) →
-        Nested_in row.end (behind_row (record row { after = after }))
-        (ending_events name (record row { after = after }))
-    go None h = (balanced-none, (tt, h))
-    go (Some q) h = (
-      record { matches = (tt, (refl, tt)); closed = refl },
-      ((at_or_before-refl row.end, (h, tt)), at_or_before-refl q),
-    )
-
--- Groups.
-
--- events that nest, and go forward from a point
-pub record Onward (p : Point) (events : List Event) : Type 0 where
-  pub balanced : Balanced events
-  pub forward : Forward p events
-
--- events that end what has these names, nest otherwise, and go forward from a point
-pub record Under (names : List Name) (p : Point) (events : List Event) : Type 0 where
-  pub matches : Matches names events
-  pub closed : open_after names events ≡ []
-  pub forward : Forward p events
-
-pub under-none : (p : Point) (events : List Event) → Under [] p events → Onward p events
-under-none p events h = record { balanced = record { matches = h.matches; closed = h.closed }; forward = h.forward }
-
--- events that begin or end containers, in front of such
-pub under-turn : (from to : List Name) (p q : Point) (xs events : List Event) → Turns from to xs → Spans p q xs →
-    Under to q events → Under from p (xs ++ events)
-under-turn from to p q xs events h spans on = record {
-  matches =
-      matches-append from xs events h.matches (subst (λ (l : List Name). Matches l events) (sym h.opened) on.matches);
-  closed = open_after-append from xs events ∙ ap (λ (l : List Name). open_after l events) h.opened ∙ on.closed;
-  forward = forward-append p xs events spans.0 (forward-from (last_point p xs) q events spans.1 on.forward);
-}
-
--- nested events in front of such
-pub under-before : (names : List Name) (p q : Point) (xs events : List Event) → Nested_in p q xs →
-    Under names q events → Under names p (xs ++ events)
-under-before names p q xs events h on = under-turn names names p q xs events (turns-balanced names xs h.0) h.1 on
-
 -- what is open in a group, if these are open in front of it, is what ends behind it and what is kept
 abbrev pub Keeps : List Name → Group → List Name → Type 0
 Keeps names group kept =
     open_names (first_row group).change.opens ++ names ≡ open_names (final_row group).leaves ++ kept
 
--- a group in front of such events, with what stands in its place
+-- a group in front of events that end what it keeps open, with what stands in its place
 pub under-group : (options : ParseOptions) (bytes : List ℕ) (names kept : List Name) (p : Point) (group : Group)
     (inside events : List Event) →
     Ordered options bytes p group →

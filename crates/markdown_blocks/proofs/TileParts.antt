@@ -22,7 +22,8 @@ use Rattle.markdown_blocks.specs.Unread.{group_unread, listed_group, listed_grou
 use Rattle.markdown_blocks.proofs.GroupLemmas.{AreGroups, HasFront, groups-are}
 use Rattle.markdown_blocks.proofs.JoinedLemmas.{EachNoContent}
 use Rattle.markdown_blocks.proofs.MarkLemmas.{mark-nested}
-use Rattle.markdown_blocks.proofs.NestedRows.{ByGroups, Onward, Under, rows-hold, under-group, under-none}
+use Rattle.markdown_blocks.proofs.NestedEvents.{Onward, Under, under-none}
+use Rattle.markdown_blocks.proofs.NestedRows.{ByGroups, rows-hold, under-group}
 use Rattle.markdown_blocks.proofs.GroupFacts.{group-front, group-leaf, more-groups}
 use Rattle.markdown_blocks.proofs.RowFacts.{AreRows}
 use Rattle.markdown_blocks.proofs.PartsStand.{Stands, stands-append, stands-outside}

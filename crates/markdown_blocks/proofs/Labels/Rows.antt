@@ -26,7 +26,8 @@ use Rattle.markdown_blocks.specs.Rows.{BlankRow, Group, Headed, LeafRow, Lines, 
 use Rattle.markdown_blocks.specs.Rows.{Turned}
 use Rattle.markdown_blocks.specs.Rows.{defined_done, group_events, is_blank_by, leaf_done, leaf_events, span_done}
 use Rattle.markdown_blocks.specs.Rows.{defined_unread, ending_of, groups_events, last_row, lines_done}
-use Rattle.markdown_blocks.specs.Rows.{headed_done, heading_done, row_events, row_line, rows_events, tail_events, text_done, turned_done}
+use Rattle.markdown_blocks.specs.Rows.{headed_done, heading_done, row_events, row_line, rows_events, tail_events}
+use Rattle.markdown_blocks.specs.Rows.{text_done, turned_done}
 use Rattle.markdown_blocks.specs.Unread.{headed_lines, unread_group, unread_groups, unread_lines}
 use Rattle.markdown_blocks.proofs.ContentFacts.{content-alone, no_content-append, no_content-label}
 use Rattle.markdown_blocks.proofs.Defined.Facts.{defined-facts}
