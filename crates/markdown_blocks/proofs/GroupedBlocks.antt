@@ -52,7 +52,7 @@ alone e h =
     record { unspanned = two.0; unlisted = two.1; free = parts.1 }
 
 -- so no table begins with it
-no-table : (kind : Kind) (name : Name) → (not (has_lines (role name)) && not (is_renamed Outside name)) ≡ true →
+pub no-table : (kind : Kind) (name : Name) → (not (has_lines (role name)) && not (is_renamed Outside name)) ≡ true →
     not (begins_table (bound_by kind name)) ≡ true
 no-table Enter n.GfmTable h = cc
 no-table Enter n.GfmTableRow h = refl

@@ -16,7 +16,8 @@ use Rattle.markdown_blocks.specs.BlockList.{turned_unread}
 use Rattle.markdown_blocks.specs.Registry.{text_leaf}
 use Rattle.markdown_blocks.specs.Rows.{Group, Headed, Lines, Row, RowKind, Single, Span, TextRow, Turned, ending_of}
 use Rattle.markdown_blocks.specs.Rows.{defined_done, defined_unread, group_events, group_kind, groups, groups_events}
-use Rattle.markdown_blocks.specs.Rows.{is_further, last_row, leaf_done, leaf_unread, single_events_by, span_by}
+use Rattle.markdown_blocks.specs.Rows.{headed_done, headed_unread, is_further, last_row, leaf_done, leaf_unread}
+use Rattle.markdown_blocks.specs.Rows.{single_events_by, span_by}
 use Rattle.markdown_blocks.specs.Rows.{span_done, tail_events, text_done, turned_done}
 use Rattle.markdown_blocks.specs.Unread.{listed_group, listed_groups, listed_row_by, text_unread}
 use Rattle.markdown_blocks.proofs.Defined.Facts.{defined-becomes}
@@ -25,9 +26,11 @@ use Rattle.markdown_blocks.proofs.EachEvent.{each-append}
 use Rattle.markdown_blocks.proofs.EndingFacts.{ending-unlinked}
 use Rattle.markdown_blocks.proofs.FrontFacts.{LinePrefix}
 use Rattle.markdown_blocks.proofs.FrontNames.{fronts-unlinked}
+use Rattle.markdown_blocks.proofs.GfmTable.TableLaws.{table-becomes}
 use Rattle.markdown_blocks.proofs.GroupLemmas.{front-unwanted, tail-unwanted}
 use Rattle.markdown_blocks.proofs.GroupsAre.{AreGroups, AreLines, AreSpan, HasFront, IsLeft, IsSingle, IsSpanLine, IsUnder}
-use Rattle.markdown_blocks.proofs.GroupsAre.{behind-first, groups-are, line-further, line-of, span-begins}
+use Rattle.markdown_blocks.proofs.GroupsAre.{IsHead, behind-first, groups-are, line-further, line-of, span-begins}
+use Rattle.markdown_blocks.proofs.HeadedTable.{IsHeaded, headed-is}
 use Rattle.markdown_blocks.proofs.JoinedLemmas.{EachNoContent}
 use Rattle.markdown_blocks.proofs.LeafFacts.{ReadsString, ReadsText}
 use Rattle.markdown_blocks.proofs.PartFacts.{IsUnlinked}
@@ -36,7 +39,6 @@ use Rattle.markdown_blocks.proofs.RowFacts.{AreRows}
 use Rattle.markdown_blocks.proofs.RowLeaf.{row-becomes}
 use Rattle.markdown_blocks.proofs.SubstitutedLemmas.{Becomes, Rest, Unwanted, becomes-append, becomes-same}
 use Rattle.markdown_blocks.proofs.SubstitutedLemmas.{no_links-unwanted}
-use Rattle.markdown_blocks.proofs.TablesOff.{headed-off}
 use Rattle.markdown_blocks.proofs.Text.Becomes.{text-becomes}
 use Rattle.markdown_blocks.proofs.Text.Cut.{Defines, Follows, IsCutText, Remains, between}
 use Rattle.markdown_blocks.proofs.Text.Cuts.{cut-is}
@@ -167,6 +169,21 @@ span-becomes options bytes row rows wants reads w ws rt rs are begins =
     ((span-laws is.name is.open_leaf).becomes options bytes row rows (line-of options bytes row is)
     (line-further options bytes row is false begins) (behind-first options bytes row rows are) wants reads w ws rt rs)
 
+-- a line of text that is a head, and the lines of its table
+headed-becomes : (options : ParseOptions) (bytes : List ℕ) (row next : Row) (rows : List Row)
+    (wants : Content → Bool) (reads : Readings) →
+    wants content.Text ≡ true → ReadsText bytes reads → IsHead options bytes row next → AreSpan options bytes next rows →
+    HasFront bytes row →
+    Becomes wants reads (listed_group options bytes (Headed row next rows))
+    (group_events options bytes (Headed row next rows))
+headed-becomes options bytes row next rows wants reads w rt head are front =
+    let is : IsHeaded options bytes row next rows = headed-is options bytes row next rows head are in
+    let last : Row = last_row next rows in
+    leaf-becomes wants reads row.front (headed_unread bytes row next rows) (headed_done bytes row next rows)
+    (tail_events (ending_of last.kind last) last) (front-unwanted wants bytes row front)
+    (tail-unwanted wants last.kind last)
+    (table-becomes options bytes row next rows is.text is.head is.are is.filled is.on wants reads w rt)
+
 groups-become : (options : ParseOptions) (bytes : List ℕ) (wants : Content → Bool) (reads : Readings) →
     wants content.Text ≡ true → wants content.String ≡ true → ReadsText bytes reads → ReadsString bytes reads →
     (gs : List Group) → AreGroups options bytes gs →
@@ -184,7 +201,11 @@ groups-become options bytes wants reads w ws rt rs (Turned row rows under ∷ gs
     (turned-become options bytes row rows under wants reads w ws rt rs are.0 are.1 are.5 are.3)
     (groups-become options bytes wants reads w ws rt rs gs are.4)
 groups-become options bytes wants reads w ws rt rs (Headed row next rows ∷ gs) are =
-    absurd (headed-off options bytes row next rows gs are)
+    becomes-append wants reads (listed_group options bytes (Headed row next rows))
+    (group_events options bytes (Headed row next rows)) (listed_groups options bytes gs)
+    (groups_events options bytes gs)
+    (headed-becomes options bytes row next rows wants reads w rt are.0 are.1 are.3)
+    (groups-become options bytes wants reads w ws rt rs gs are.4)
 groups-become options bytes wants reads w ws rt rs (Span row rows ∷ gs) are =
     becomes-append wants reads (listed_group options bytes (Span row rows)) (group_events options bytes (Span row rows))
     (listed_groups options bytes gs) (groups_events options bytes gs)

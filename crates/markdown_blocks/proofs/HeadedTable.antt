@@ -1,6 +1,7 @@
 -- A group that begins with a line of text which the line behind it takes as its head: it is a table, with that line as
 -- its delimiter row, and the others as the rows of its body (GFM 4.10).
-use Rattle.std.proofs.Common.{◌≡◌, ℕ, Bool, true, false, cond, List, [], ◌∷◌, refl, ap, sym, ◌∙◌, subst}
+use Rattle.std.proofs.Common.{◌≡◌, ℕ, Bool, true, false, cond, ◌||◌, List, [], ◌∷◌, refl, ap, sym, ◌∙◌, subst}
+use Rattle.std.proofs.lemmas.Bool.{or_right}
 use Rattle.std.specs.Prelude.{Some}
 use Rattle.md_engine.specs.declared.configuration.ParseOptions.{ParseOptions}
 use Rattle.md_engine.specs.declared.tokenizer.held_leaf.HeldLeaf.{HeldLeaf}
@@ -13,7 +14,7 @@ use Rattle.md_definition.specs.Tree.{Block}
 use Rattle.md_parts.specs.OpenText.{open_text}
 use Rattle.md_parts.specs.Progress.{progress_of, step}
 use Rattle.markdown_blocks.specs.Leaf.GfmTable.{may_be_table, table_leaf}
-use Rattle.markdown_blocks.specs.Registry.{GfmTable, LeafName, further_of, insider, leaf}
+use Rattle.markdown_blocks.specs.Registry.{GfmTable, LeafName, further_of, insider, joins_lines, leaf}
 use Rattle.markdown_blocks.specs.Rows.{BlankRow, Headed, LeafRow, Row, RowKind, TextRow, headed_done, headed_unread}
 use Rattle.markdown_blocks.specs.Rows.{is_blank_by, is_blank_group, last_row, line_behind}
 use Rattle.markdown_blocks.proofs.GfmTable.Found.{table-enabled}
@@ -127,6 +128,15 @@ headed-on options bytes row next rows is =
     let line : IsLineOf options bytes table_leaf next = is.are.6 in
     table-enabled options is.text line.rest
     (subst (λ (on : HeldLeaf). table_leaf.starts options on line.rest ≡ true) is.on line.starts)
+
+-- so lines of leaves are joined
+pub headed-joins : (options : ParseOptions) (bytes : List ℕ) (row next : Row) (rows : List Row) →
+    IsHeaded options bytes row next rows → joins_lines options ≡ true
+unfolding joins_lines
+headed-joins options bytes row next rows is =
+    let c = options.constructs in
+    or_right (c.code_fenced || c.math_flow || c.code_indented || c.html_flow) c.gfm_table
+    (headed-on options bytes row next rows is)
 
 -- As a table: what the line definition comes to with them, and what is known of their events.
 

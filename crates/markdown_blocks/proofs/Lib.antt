@@ -86,8 +86,10 @@ pub mod TableStarts
 pub mod GroupsAre
 pub mod TablesOff
 pub mod TurnedGroups
+pub mod SpanJoined
 pub mod SpannedGroups
 pub mod HeadedTable
+pub mod UntabledLines
 pub mod TabledGroups
 pub mod Text
 pub mod Turned

@@ -23,7 +23,6 @@ use Rattle.md_containers.proofs.ListedNests.{listed-nested}
 use Rattle.md_containers.proofs.ListedParts.{listed-parts}
 use Rattle.md_containers.proofs.ListedReads.{listed-spelled}
 use Rattle.md_content.specs.ContentReads.{content_readings, wants_content}
-use Rattle.md_content.specs.Joined.{joined}
 use Rattle.md_content.specs.Labels.{labels_in}
 use Rattle.md_definition.specs.Grouped.{grouped}
 use Rattle.md_definition.specs.Label.{labels}
@@ -46,7 +45,7 @@ use Rattle.markdown_blocks.specs.Document.{body_point, mark_events}
 use Rattle.markdown_blocks.specs.FlowReads.{FlowReads, text_cells, text_rows}
 use Rattle.markdown_blocks.specs.Parsed.{IsBuilt, IsSmall, reads_plain}
 use Rattle.markdown_blocks.specs.Registry.{resolved}
-use Rattle.markdown_blocks.specs.Rows.{Row, groups, groups_events, rows_events}
+use Rattle.markdown_blocks.specs.Rows.{Row, groups, groups_events}
 use Rattle.markdown_blocks.specs.Unread.{listed_groups, unread_groups}
 use Rattle.markdown_blocks.proofs.BetweenRows.{rows-between}
 use Rattle.markdown_blocks.proofs.EndingRows.{blocks-endings, events-endings}
@@ -58,6 +57,7 @@ use Rattle.markdown_blocks.proofs.ContentCut.{content-reads}
 use Rattle.markdown_blocks.proofs.GroupLemmas.{content-read}
 use Rattle.markdown_blocks.proofs.GroupsAre.{groups-are}
 use Rattle.markdown_blocks.proofs.GroupsBecome.{text-read}
+use Rattle.markdown_blocks.proofs.HeadJoined.{heads-joined}
 use Rattle.markdown_blocks.proofs.Labels.Rows.{rows-labels}
 use Rattle.markdown_blocks.proofs.Labels.Trees.{defined_in, grouped-defined}
 use Rattle.markdown_blocks.proofs.SpannedGroups.{lines-joined}
@@ -72,7 +72,6 @@ use Rattle.markdown_blocks.proofs.PlainEvents.{groups-unlisted}
 use Rattle.markdown_blocks.proofs.RowFacts.{AreRows}
 use Rattle.markdown_blocks.proofs.RowLemmas.{fresh-rows}
 use Rattle.markdown_blocks.proofs.TabledGroups.{tables-set}
-use Rattle.markdown_blocks.proofs.TablesOff.{heads-kept}
 use Rattle.markdown_blocks.proofs.TileCovers.{blocks-cover}
 use Rattle.markdown_blocks.proofs.TileParts.{blocks-chunks, blocks-nested, blocks-stand}
 use Rattle.markdown_blocks.proofs.TileReads.{groups-empty, text-filled}
@@ -108,9 +107,9 @@ content-are options bytes built small found new flow =
     (refl, refl) (text-are options bytes built small) (text-quiet options bytes (body_point bytes))
     wants_content (content_readings bytes options) refl content-alone
     (content-reads options bytes) flow.content
-    (subst
-    (λ (l : List Event). Substituted wants_content (content_readings bytes options) [] 0 (joined l) flow.content)
-    (heads-kept options bytes (rows_events (rows_of options bytes)) built.gfm_table) flow.content_read)
+    (subst (λ (l : List Event). Substituted wants_content (content_readings bytes options) [] 0 l flow.content)
+    (heads-joined options bytes [] held_leaf.None (body_point bytes) (lines_of bytes) (rows_of options bytes)
+    (text-are options bytes built small) (text-quiet options bytes (body_point bytes))) flow.content_read)
 
 -- Then the resolvers of leaves ran, setext headings were set, the lines of each leaf of several were joined, tables got
 -- their cells, and lists were put around items.
@@ -126,7 +125,7 @@ resolved-are options bytes built small found new flow =
     (refl, refl) (text-are options bytes built small) (text-quiet options bytes (body_point bytes)))
     ∙ ap (listed bytes)
     (tables-set options bytes [] held_leaf.None (body_point bytes) (lines_of bytes) (rows_of options bytes)
-    built.gfm_table (refl, refl) (text-are options bytes built small) (text-quiet options bytes (body_point bytes)))
+    (refl, refl) (text-are options bytes built small) (text-quiet options bytes (body_point bytes)))
 
 -- The labels that content found are those of the tree.
 labels-are : (options : ParseOptions) (bytes : List ℕ) → IsBuilt options → length bytes < 2 ^ 61 →

@@ -1,6 +1,7 @@
 -- The lines of one leaf that are joined: what is known of their events.
 pub mod Cuts
 pub mod Framed
+pub mod Each
 pub mod Bare
 pub mod Inside
 pub mod Lead

@@ -164,7 +164,7 @@ table-joined bytes row next rows is =
 
 -- No table and no row begins between two lines.
 
-prefix-free : (name : Name) → is_prefix name ≡ true → of_tables name ≡ false
+pub prefix-free : (name : Name) → is_prefix name ≡ true → of_tables name ≡ false
 prefix-free n.GfmTable h = cc
 prefix-free n.GfmTableRow h = cc
 prefix-free n.GfmTableDelimiterRow h = cc
@@ -261,10 +261,24 @@ table-given bytes row next rows is =
     (sym (append_assoc head (body_behind unread_text bytes next rows) end))
 
 -- What the last resolver makes of the lines of a table.
-pub table-unread : (bytes : List ℕ) (row next : Row) (rows : List Row) → IsTable bytes row next rows →
-    headed_unread bytes row next rows ≡ table_events unread_text bytes row next rows
-table-unread bytes row next rows is =
+
+table-read : (bytes : List ℕ) (row next : Row) (rows : List Row) → IsTable bytes row next rows →
+    headed_unread bytes row next rows ≡ table_given (table_of bytes row next rows)
+table-read bytes row next rows is =
     let t : Table = table_of bytes row next rows in
     ap tabled (table-joined bytes row next rows is ∙ sym (append-nil (table_read t)))
     ∙ tabled-table t [] (table-free bytes row next rows is) ∙ append-nil (table_given t)
-    ∙ table-given bytes row next rows is
+
+pub table-unread : (bytes : List ℕ) (row next : Row) (rows : List Row) → IsTable bytes row next rows →
+    headed_unread bytes row next rows ≡ table_events unread_text bytes row next rows
+table-unread bytes row next rows is =
+    table-read bytes row next rows is ∙ table-given bytes row next rows is
+
+-- It makes the same of them in front of any others.
+pub table-apart : (bytes : List ℕ) (row next : Row) (rows : List Row) (es : List Event) → IsTable bytes row next rows →
+    tabled (span_by inside_of (headed_row bytes row) (next ∷ rows) ++ es) ≡
+    headed_unread bytes row next rows ++ tabled es
+table-apart bytes row next rows es is =
+    ap (λ (l : List Event). tabled (l ++ es)) (table-joined bytes row next rows is)
+    ∙ tabled-table (table_of bytes row next rows) es (table-free bytes row next rows is)
+    ∙ ap (λ (l : List Event). l ++ tabled es) (sym (table-read bytes row next rows is))
