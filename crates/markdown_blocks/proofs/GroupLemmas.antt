@@ -1,4 +1,4 @@
--- The events of the lines of a text, joined, with their content read, are those of its groups.
+-- Once the content in the events of the groups of a text is read, texts stand there that are not read yet.
 use Rattle.md_engine.specs.declared.tokenizer.held_leaf.HeldLeaf.{HeldLeaf}
 use Rattle.std.proofs.Common.{◌≡◌, ◌≢◌, ℕ, ◌<◌, ◌≤◌, Bool, true, false, cond, ◌&&◌, List, [], ◌∷◌, ◌++◌, length, drop}
 use Rattle.markdown_blocks.specs.BlockList.{lines_unread}
@@ -17,7 +17,6 @@ use Rattle.md_engine.specs.declared.event.Name.{Name}
 use Rattle.md_engine.specs.declared.event.Name.TheVariants as n
 use Rattle.md_engine.specs.declared.event.Point.{Point}
 use Rattle.md_content.specs.Chunks.{content_link}
-use Rattle.md_content.specs.Joined.{joined}
 use Rattle.md_content.specs.Paragraph.{text_link}
 use Rattle.md_seam.specs.declared.inline.Chunk.{Chunk}
 use Rattle.md_seam.specs.declared.inline.PartKind.TheVariants.{Text}
@@ -36,9 +35,9 @@ use Rattle.markdown_blocks.specs.Rows.{BlankRow, Group, LeafRow, Lines, Row, Row
 use Rattle.markdown_blocks.specs.Rows.{behind_row, chunks_of, ending_events, ending_of}
 use Rattle.markdown_blocks.specs.Rows.{groups, kind_of, last_row}
 use Rattle.markdown_blocks.specs.Rows.{line_kind, read_lines, row_events}
-use Rattle.markdown_blocks.specs.Rows.{rows_events, tail_events}
+use Rattle.markdown_blocks.specs.Rows.{headed_row, row_line, rows_events, tail_events}
 use Rattle.markdown_blocks.specs.Fronted.{cut_tab}
-use Rattle.markdown_blocks.specs.Unread.{joined_groups, linked, linked_lines}
+use Rattle.markdown_blocks.specs.Unread.{headed_lines, joined_groups, linked, linked_lines}
 use Rattle.markdown_blocks.specs.Unread.{text_unread, unread_group, unread_groups}
 use Rattle.markdown_blocks.specs.Unread.{unread_lines}
 use Rattle.md_seam.proofs.FeedLines.{ending-some}
@@ -47,14 +46,14 @@ pub use Rattle.markdown_blocks.proofs.GroupsAre.{IsSpanLine, groups-are}
 use Rattle.markdown_blocks.proofs.GroupsAre.{IsUnder}
 use Rattle.markdown_blocks.proofs.FrontNames.{ends-first, fronts-prefixes}
 use Rattle.markdown_blocks.proofs.FrontPlaces.{fronts-grow}
+use Rattle.markdown_blocks.proofs.HeadRows.{head-no_content}
 use Rattle.markdown_blocks.proofs.JoinedLemmas.{EachEnds, EachFront, EachNoContent, HasNoContent, behind-is, ending-is}
-use Rattle.markdown_blocks.proofs.JoinedLemmas.{ending-other, events-no_content, has_front-no_content, joined-rows}
+use Rattle.markdown_blocks.proofs.JoinedLemmas.{ending-other, events-no_content, has_front-no_content}
 use Rattle.markdown_blocks.proofs.JoinedLemmas.{front-no_content, tail-no_content}
 use Rattle.markdown_blocks.proofs.RowFacts.{AreRows, IsEnding, IsRow, behind_line, line-text}
 use Rattle.markdown_blocks.proofs.SubstitutedLemmas.{AllBelong, CutAt, EachPrefixed, NextBelongs, Rest}
 use Rattle.markdown_blocks.proofs.SubstitutedLemmas.{Unwanted, behind-exit, line_after}
 use Rattle.markdown_blocks.proofs.SubstitutedLemmas.{passes, places}
-use Rattle.markdown_blocks.proofs.TablesOff.{headed-off, rows-unheaded}
 use Rattle.markdown_blocks.proofs.ContentFacts.{NoContent, WantsContent, no_content-append, no_content-unwanted}
 use Rattle.markdown_blocks.proofs.ContainerNames.{container-facts}
 use Rattle.md_definition.specs.Rest.{Rest as LineRest, is_blank}
@@ -224,6 +223,22 @@ span-unwanted : (options : ParseOptions) (bytes : List ℕ) (wants : Content →
     Unwanted wants (rows_events (row ∷ rows))
 span-unwanted options bytes wants row rows are quiet w =
     no_content-unwanted wants (rows_events (row ∷ rows)) (spans-quiet options bytes wants row rows are quiet w)
+
+-- a head that was read again, with the lines that go on it
+headed-unwanted : (options : ParseOptions) (bytes : List ℕ) (wants : Content → Bool) (row next : Row)
+    (rows : List Row) →
+    AreSpan options bytes next rows → HasFront bytes row → EachNoContent (next ∷ rows) → WantsContent wants →
+    Unwanted wants (headed_lines bytes row next rows)
+headed-unwanted options bytes wants row next rows are front quiet w =
+    let head : List Event = (headed_row bytes row).inside in
+    let tail : List Event = tail_events n.LineEnding row in
+    no_content-unwanted wants (headed_lines bytes row next rows)
+    (no_content-append wants (row.front ++ head ++ tail) (rows_events (next ∷ rows))
+    (no_content-append wants (row.front ++ head) tail
+    (no_content-append wants row.front head (has_front-no_content wants bytes row front)
+    (head-no_content wants w (row_line bytes row) row.first))
+    (tail-no_content wants n.LineEnding row refl))
+    (spans-quiet options bytes wants next rows are quiet w))
 
 -- nor the line that turns a text
 pub under-other : (options : ParseOptions) (bytes : List ℕ) (last under : Row) → IsUnder options bytes last under →
@@ -439,7 +454,14 @@ groups-content options bytes wants reads w other unique (Turned row rows under �
     (groups-content options bytes wants reads w other unique gs are.4 one.1 two.0 two.2))
     ∙ sym (append_assoc text (row_events under) (unread_groups options bytes gs))
 groups-content options bytes wants reads w other unique (Headed row next rows ∷ gs) are left out s =
-    absurd (headed-off options bytes row next rows gs are)
+    let lines : List Event = headed_lines bytes row next rows in
+    let one : (rest : List Event) × (is : out ≡ lines ++ rest) ×
+    Substituted wants reads left 0 (joined_groups bytes gs) rest =
+    passes wants reads left 0 lines (joined_groups bytes gs) out
+    (headed-unwanted options bytes wants row next rows are.1 are.3 are.5 other) s in
+    one.1
+    ∙ ap (λ (l : List Event). lines ++ l)
+    (groups-content options bytes wants reads w other unique gs are.4 left one.0 one.2)
 groups-content options bytes wants reads w other unique (Span row rows ∷ gs) are left out s =
     let one : (rest : List Event) × (is : out ≡ rows_events (row ∷ rows) ++ rest) ×
     Substituted wants reads left 0 (joined_groups bytes gs) rest =
@@ -463,15 +485,11 @@ pub content-read : (options : ParseOptions) (bytes : List ℕ) (open_before : Li
     IsShut still → AreRows options bytes open_before still p lines rows → EachNoContent rows →
     (wants : Content → Bool) (reads : Readings) → wants content.Content ≡ true → WantsContent wants →
     ReadsContent options bytes reads →
-    (unread : List Event) → Substituted wants reads [] 0 (joined (rows_events rows)) unread →
+    (unread : List Event) → Substituted wants reads [] 0 (joined_groups bytes (groups rows)) unread →
     unread ≡ unread_groups options bytes (groups rows)
 content-read options bytes open_before still p lines rows shut are quiet wants reads w other unique unread s =
     groups-content options bytes wants reads w other unique (groups rows)
-    (groups-are options bytes open_before still p lines rows shut are quiet) [] unread
-    (subst (λ (l : List Event). Substituted wants reads [] 0 l unread)
-    (joined-rows bytes rows (rows-front options bytes open_before still p lines rows are)
-    (rows-end options bytes open_before still p lines rows are) quiet
-    (rows-unheaded options bytes open_before still p lines rows are)) s)
+    (groups-are options bytes open_before still p lines rows shut are quiet) [] unread s
 
 -- The lines of a text, cut at the ends of its lines.
 

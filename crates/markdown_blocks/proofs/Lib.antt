@@ -89,6 +89,10 @@ pub mod TurnedGroups
 pub mod SpanJoined
 pub mod SpannedGroups
 pub mod HeadedTable
+pub mod HeadLine
+pub mod HeadMet
+pub mod HeadRows
+pub mod HeadJoined
 pub mod UntabledLines
 pub mod TabledGroups
 pub mod Text

@@ -51,8 +51,9 @@ no-head options at r l off starts = go (leaf l).heads refl
     go false heads = refl
 
 pub row-no_head : (options : ParseOptions) (bytes line : List ℕ) (row : Row) (l : LeafName) (at : OpenText) →
-    IsRow options bytes line row → row.kind ≡ LeafRow l → row.on ≡ held_leaf.Text at → (leaf l).heads ≡ false
-row-no_head options bytes line row l at is kind on =
-    no-head options at is.rest l is.off
+    options.constructs.gfm_table ≡ false → IsRow options bytes line row → row.kind ≡ LeafRow l →
+    row.on ≡ held_leaf.Text at → (leaf l).heads ≡ false
+row-no_head options bytes line row l at off is kind on =
+    no-head options at is.rest l off
     (subst (λ (met : HeldLeaf). (leaf l).starts options met is.rest ≡ true) on
     (kind-starts options row.on is.rest l (sym is.kind ∙ kind)))

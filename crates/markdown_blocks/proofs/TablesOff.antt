@@ -1,7 +1,6 @@
--- Tables are not read yet: no line of text is the head of one.
-use Rattle.std.proofs.Common.{◌≡◌, ℕ, Bool, true, false, ◌&&◌, List, [], ◌∷◌, refl, ap, sym, ◌∙◌, cond}
+-- Where tables are off no line of text is the head of one.
+use Rattle.std.proofs.Common.{◌≡◌, ℕ, Bool, true, false, ◌&&◌, List, [], ◌∷◌, refl, ap, sym, ◌∙◌}
 use Rattle.md_engine.specs.declared.configuration.ParseOptions.{ParseOptions}
-use Rattle.md_engine.specs.declared.event.Event.{Event}
 use Rattle.md_engine.specs.declared.event.Point.{Point}
 use Rattle.md_engine.specs.declared.tokenizer.held_leaf.HeldLeaf.{HeldLeaf}
 use Rattle.md_engine.specs.declared.tokenizer.held_leaf.HeldLeaf.TheVariants as held_leaf
@@ -10,23 +9,17 @@ use Rattle.md_definition.specs.Rest.{trim_start}
 use Rattle.md_definition.specs.State.{Container, kept}
 use Rattle.md_parts.specs.OpenText.{open_text}
 use Rattle.md_parts.specs.Progress.{progress_of, step}
-use Rattle.md_tables.specs.Heads.{headed}
-use Rattle.md_tables.specs.Tabled.{tabled}
-use Rattle.markdown_blocks.specs.Registry.{heads_read}
-use Rattle.markdown_blocks.specs.Rows.{BlankRow, Group, Headed, LeafRow, Row, RowKind, TextRow, is_further, line_behind}
-use Rattle.markdown_blocks.specs.Rows.{takes_head}
-use Rattle.markdown_blocks.specs.FlowReads.{tables_set}
-use Rattle.markdown_blocks.proofs.GroupsAre.{AreGroups, FirstLine, IsHead, IsSpanLine, first-line, line-met}
-use Rattle.markdown_blocks.proofs.GroupsAre.{span-begins}
+use Rattle.markdown_blocks.specs.Rows.{BlankRow, LeafRow, Row, RowKind, TextRow, is_further, line_behind, takes_head}
+use Rattle.markdown_blocks.proofs.GroupsAre.{FirstLine, first-line, line-met}
 use Rattle.markdown_blocks.proofs.RowFacts.{AreRows, IsRow, behind_line}
 use Rattle.markdown_blocks.proofs.TableStarts.{row-no_head}
 use Rattle.markdown_blocks.proofs.TextGroups.{NoHead, NoHeads}
 
 -- a line that goes on text does not take that as its head
-pub none-headed : (options : ParseOptions) (bytes line below_line : List ℕ) (row below : Row) →
-    (is : IsRow options bytes line row) → row.kind ≡ TextRow → IsRow options bytes below_line below →
-    below.on ≡ row.behind → takes_head below.kind ≡ true → ⊥
-none-headed options bytes line below_line row below is e under on h = go below.kind refl h
+none-headed : (options : ParseOptions) (bytes line below_line : List ℕ) (row below : Row) →
+    options.constructs.gfm_table ≡ false → (is : IsRow options bytes line row) → row.kind ≡ TextRow →
+    IsRow options bytes below_line below → below.on ≡ row.behind → takes_head below.kind ≡ true → ⊥
+none-headed options bytes line below_line row below off is e under on h = go below.kind refl h
   where
     at : OpenText
     at = open_text (step (progress_of row.on) (trim_start is.rest.bytes)) (kept is.rest)
@@ -38,51 +31,35 @@ none-headed options bytes line below_line row below is e under on h = go below.k
     go BlankRow k h = cc
     go TextRow k h = cc
     go (LeafRow l) k h =
-        let bad : true ≡ false = sym h ∙ row-no_head options bytes below_line below l at under k text in cc
-
--- so no group is a table
-pub headed-off : (options : ParseOptions) (bytes : List ℕ) (row next : Row) (rows : List Row) (gs : List Group) →
-    AreGroups options bytes (Headed row next rows ∷ gs) → ⊥
-headed-off options bytes row next rows gs are =
-    let head : IsHead options bytes row next = are.0 in
-    let below : IsSpanLine options bytes next = span-begins options bytes next rows are.1 in
-    none-headed options bytes head.line below.line row next head.is head.text below.is head.on head.heads
+        let bad : true ≡ false = sym h ∙ row-no_head options bytes below_line below l at off under k text in cc
 
 -- so it is with the lines of a text
 first-none : (options : ParseOptions) (bytes : List ℕ) (cs : List Container) (p : Point) (lines : List (List ℕ))
     (line : List ℕ) (row below : Row) →
-    IsRow options bytes line row → FirstLine options bytes cs row.behind p lines below → NoHead row below
-first-none options bytes cs p [] line row below is first e = absurd first
-first-none options bytes cs p (next ∷ lines) line row below is first e =
+    options.constructs.gfm_table ≡ false → IsRow options bytes line row →
+    FirstLine options bytes cs row.behind p lines below → NoHead row below
+first-none options bytes cs p [] line row below off is first e = absurd first
+first-none options bytes cs p (next ∷ lines) line row below off is first e =
     go (is_further below.kind below.on) refl (takes_head below.kind) refl
   where
     go : (x : Bool) → is_further below.kind below.on ≡ x → (y : Bool) → takes_head below.kind ≡ y → (x && y) ≡ false
     go true f true h =
         absurd
-        (none-headed options bytes line _ row below is e first.is
+        (none-headed options bytes line _ row below off is e first.is
         (line-met options bytes cs row.behind p next below first f).2 h)
     go true f false h = refl
     go false f y h = refl
 
 pub rows-unheaded : (options : ParseOptions) (bytes : List ℕ) (open_before : List Container) (still : HeldLeaf)
     (p : Point) (lines : List (List ℕ)) (rows : List Row) →
-    AreRows options bytes open_before still p lines rows → NoHeads rows
-rows-unheaded options bytes open_before still p lines [] h = tt
-rows-unheaded options bytes open_before still p lines (row ∷ []) h = tt
-rows-unheaded options bytes open_before still p [] (row ∷ below ∷ rows) h = absurd h
-rows-unheaded options bytes open_before still p (line ∷ []) (row ∷ below ∷ rows) h = absurd h
-rows-unheaded options bytes open_before still p (line ∷ next ∷ lines) (row ∷ below ∷ rows) h =
+    options.constructs.gfm_table ≡ false → AreRows options bytes open_before still p lines rows → NoHeads rows
+rows-unheaded options bytes open_before still p lines [] off h = tt
+rows-unheaded options bytes open_before still p lines (row ∷ []) off h = tt
+rows-unheaded options bytes open_before still p [] (row ∷ below ∷ rows) off h = absurd h
+rows-unheaded options bytes open_before still p (line ∷ []) (row ∷ below ∷ rows) off h = absurd h
+rows-unheaded options bytes open_before still p (line ∷ next ∷ lines) (row ∷ below ∷ rows) off h =
     let open_next = behind_line options open_before still p line in (
-      first-none options bytes open_next h.2 (next ∷ lines) _ row below h.0.is
+      first-none options bytes open_next h.2 (next ∷ lines) _ row below off h.0.is
           (first-line options bytes open_next row.behind h.2 (next ∷ lines) below rows h.5),
-      rows-unheaded options bytes open_next row.behind h.2 (next ∷ lines) (below ∷ rows) h.5,
+      rows-unheaded options bytes open_next row.behind h.2 (next ∷ lines) (below ∷ rows) off h.5,
     )
-
--- no head is read again, and nothing is put into tables
-pub heads-kept : (options : ParseOptions) (bytes : List ℕ) (es : List Event) → options.constructs.gfm_table ≡ false →
-    heads_read options bytes es ≡ es
-heads-kept options bytes es off = ap (λ (x : Bool). cond x (headed bytes options es) es) off
-
-pub tables-kept : (options : ParseOptions) (es : List Event) → options.constructs.gfm_table ≡ false →
-    tables_set options es ≡ es
-tables-kept options es off = ap (λ (x : Bool). cond x (tabled es) es) off

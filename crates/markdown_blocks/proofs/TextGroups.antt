@@ -80,7 +80,7 @@ leaf-unheaded false row (Span below rows ∷ gs) none = go (is_further below.kin
     go true = none
     go false = none
 
-onto-unheaded : (row : Row) (kind : RowKind) (gs : List Group) →
+pub onto-unheaded : (row : Row) (kind : RowKind) (gs : List Group) →
     (is_further row.kind row.on && takes_head row.kind) ≡ false → HeadsNone (onto_groups row kind gs)
 onto-unheaded row BlankRow gs none = tt
 onto-unheaded row (LeafRow l) gs none = leaf-unheaded (leaf l).ends row gs none
