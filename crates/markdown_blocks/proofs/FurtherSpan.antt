@@ -8,9 +8,8 @@ use Rattle.md_engine.specs.declared.tokenizer.held_leaf.HeldLeaf.{HeldLeaf}
 use Rattle.md_engine.specs.declared.tokenizer.held_leaf.HeldLeaf.TheVariants as held_leaf
 use Rattle.md_definition.specs.Leaves.{Came, NoText, goes_on, starts}
 use Rattle.md_definition.specs.Rest.{Rest, is_blank}
-use Rattle.md_definition.specs.State.{Leaf, OpenTable, then_leaf}
+use Rattle.md_definition.specs.State.{Leaf, NoLeaf, OpenCode, OpenFence, OpenHtml, OpenParagraph, OpenTable, then_leaf}
 use Rattle.md_definition.specs.Step.{is_concrete}
-use Rattle.md_definition.specs.Table.{row_cells}
 use Rattle.md_definition.specs.Tree.{Blocks, Table}
 use Rattle.md_leaves.specs.HeadingSetext.{is_text}
 use Rattle.md_outline.specs.HeadingDepths.{are_shallow}
@@ -21,7 +20,7 @@ use Rattle.markdown_blocks.specs.Rows.{BlankRow, LeafRow, RowKind, inside_or, is
 use Rattle.markdown_blocks.proofs.GfmTable.Found.{table-goes}
 use Rattle.markdown_blocks.proofs.KindLemmas.{kind-plain}
 use Rattle.markdown_blocks.proofs.OpenSpan.{ComesShallow, OpenSpan}
-use Rattle.markdown_blocks.proofs.Registry.{came_of, insider-open, leaf_at, open-span}
+use Rattle.markdown_blocks.proofs.Registry.{came_of, code-open, fence-open, html-open, insider-open, leaf_at}
 use Rattle.markdown_blocks.proofs.RegistryFound.{or_table, other_at, other_trials, table-last, untabled-at, untext-found}
 use Rattle.markdown_blocks.proofs.ShallowBlocks.{shallow-then}
 use Rattle.markdown_blocks.proofs.TableStarts.{asked-untabled}
@@ -87,7 +86,7 @@ pub record FurtherSpan (open_leaf : Leaf) : Type 0 where
       are_shallow (then_leaf options bs open_leaf) ≡ true
 
 -- One that is asked first: its line is tried in front of all others.
-pub asked-further : (open_leaf : Leaf) → OpenSpan open_leaf → FurtherSpan open_leaf
+asked-further : (open_leaf : Leaf) → OpenSpan open_leaf → FurtherSpan open_leaf
 asked-further open_leaf is = record {
   name = is.name;
   ends = insider-open on is.name is.asked;
@@ -115,10 +114,9 @@ asked-further open_leaf is = record {
     on = kind_of_leaf open_leaf
 
 -- A table goes on up to a blank line and to one that starts another leaf.
-pub table-further : (delimiter : List ℕ) (rows : List (List (List ℕ))) →
-    ((more : List (List (List ℕ))) → IsBuiltLeaf (OpenTable delimiter more)) → FurtherSpan (OpenTable delimiter rows)
-unfolding insider shuts_out
-table-further delimiter rows built = record {
+table-further : (delimiter : List ℕ) (rows : List (List (List ℕ))) → FurtherSpan (OpenTable delimiter rows)
+unfolding insider shuts_out IsOpenSpan
+table-further delimiter rows = record {
   name = GfmTable;
   ends = refl;
   same = refl;
@@ -132,7 +130,7 @@ table-further delimiter rows built = record {
       (table-last options held_leaf.Table r)
       ∙ kind (is_blank r.bytes) (other_at options held_leaf.Table r);
   goes = λ options r. table-goes options delimiter rows r ∙ goes options r (is_blank r.bytes) refl;
-  built = λ options r starts. built (rows ++ row_cells r.bytes ∷ []);
+  built = λ options r starts. tt;
   shallow = λ options r bs h. h;
   closed = λ options bs h. shallow-then bs (Table delimiter rows) h refl;
 }
@@ -165,6 +163,12 @@ table-further delimiter rows built = record {
         (untext-found options held_leaf.Table NoText r refl refl e)
         ∙ by options r (other_at options held_leaf.Table r)
 
--- what may be open in what is built
+-- So it is with each of those that may be open.
 pub further-span : (open_leaf : Leaf) → IsOpenSpan open_leaf → FurtherSpan open_leaf
-further-span open_leaf is = asked-further open_leaf (open-span open_leaf is)
+unfolding IsOpenSpan
+further-span NoLeaf is = absurd is
+further-span (OpenParagraph lines) is = absurd is
+further-span (OpenCode lines) is = asked-further (OpenCode lines) (code-open lines)
+further-span (OpenFence o lines) is = asked-further (OpenFence o lines) (fence-open o lines is)
+further-span (OpenHtml kind lines) is = asked-further (OpenHtml kind lines) (html-open kind lines)
+further-span (OpenTable delimiter rows) is = table-further delimiter rows

@@ -71,7 +71,7 @@ containers-over options over p r built plain = go over (goes_further options c) 
     go : (x y : Bool) → goes_further options c ≡ y →
         containers_of (cond (x && y) (renewed c.change.stays p) (step options p r)) ≡ open_behind c.change
     go true true e =
-        let goes : GoesOn options p c = goes-on options p r built plain e in
+        let goes : GoesOn options p c = goes-on options p r plain e in
         containers-all options p r goes.closes ∙ sym (append-nil c.change.stays)
         ∙ ap (λ (l : List Container). c.change.stays ++ l) (sym goes.opens)
     go true false e = containers-step options p r built plain

@@ -56,7 +56,7 @@ use Rattle.md_definition.specs.Leaves.{fence_goes_on, heading_at, html_at, html_
 use Rattle.md_leaves.specs.HeadingRule.{is_heading}
 use Rattle.md_lines.specs.Code.{may_open}
 use Rattle.md_definition.specs.Rest.{Rest, has_small_indent, indent, is_blank, line_of, lose, trim_start}
-use Rattle.md_definition.specs.State.{Leaf, NoLeaf, OpenCode, OpenFence, OpenHtml, OpenParagraph, OpenTable, Opening}
+use Rattle.md_definition.specs.State.{Leaf, NoLeaf, OpenCode, OpenFence, OpenHtml, Opening}
 use Rattle.md_definition.specs.State.{fence_block, without_trailing_blank}
 use Rattle.md_definition.specs.Ascii.{equals_sign}
 use Rattle.md_definition.specs.Texts.{first_byte}
@@ -817,7 +817,7 @@ pub insider-asked : (on : HeldLeaf) (l : LeafName) → insider on ≡ Some l →
 insider-asked on l e = (insider-is on l e).asked
 
 -- fenced code and math that is open
-fence-open : (o : Opening) (lines : List Line) → is_fence (kind_of_leaf (OpenFence o lines)) ≡ true →
+pub fence-open : (o : Opening) (lines : List Line) → is_fence (kind_of_leaf (OpenFence o lines)) ≡ true →
     OpenSpan (OpenFence o lines)
 unfolding insider shuts_out IsOpenSpan fence_goes_on
 fence-open o lines is = record {
@@ -845,7 +845,7 @@ fence-open o lines is = record {
     shallow false more bs h = h
 
 -- indented code that is open
-code-open : (lines : List Line) → OpenSpan (OpenCode lines)
+pub code-open : (lines : List Line) → OpenSpan (OpenCode lines)
 unfolding insider shuts_out IsOpenSpan
 code-open lines = record {
   name = CodeFurther;
@@ -861,7 +861,7 @@ code-open lines = record {
 }
 
 -- HTML that is open
-html-open : (kind : HtmlKind) (lines : List Line) → OpenSpan (OpenHtml kind lines)
+pub html-open : (kind : HtmlKind) (lines : List Line) → OpenSpan (OpenHtml kind lines)
 unfolding insider shuts_out
 html-open kind lines = record {
   name = HtmlFurther;
@@ -875,16 +875,6 @@ html-open kind lines = record {
   shallow = λ options r. html-shallow kind lines r;
   closed = λ options bs h. shallow-then bs (Html lines) h refl;
 }
-
--- what may be open of several lines is as the frame asks
-pub open-span : (open_leaf : Leaf) → IsOpenSpan open_leaf → OpenSpan open_leaf
-unfolding IsOpenSpan
-open-span (OpenFence o lines) is = fence-open o lines is
-open-span NoLeaf is = absurd is
-open-span (OpenParagraph lines) is = absurd is
-open-span (OpenCode lines) is = code-open lines
-open-span (OpenHtml kind lines) is = html-open kind lines
-open-span (OpenTable delimiter rows) is = absurd is
 
 -- Lines of text.
 

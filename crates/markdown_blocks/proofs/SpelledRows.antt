@@ -315,7 +315,7 @@ row-means options bytes p a line row gs last over built plain is in_text follows
     further_means : goes_further options c ≡ true →
         (l : LeafName) × StartsSpan options bytes l p a row (onto_groups row row.kind gs) last
     further_means f =
-        let goes : GoesOn options p c = goes-on options p (rest_from a line) built plain f in
+        let goes : GoesOn options p c = goes-on options p (rest_from a line) plain f in
         let l : LeafName = goes.is.name in
         let e : row.kind ≡ LeafRow l = kind-is ∙ goes.kind in
         let ends : (leaf l).ends ≡ false = goes.is.ends in
@@ -643,7 +643,7 @@ follows-below options bytes p row below gs q line last built plain lazily still 
     far means =
     let c : Contained = contained_at options p (rest_from q line) in
     let kind_is = line-is options bytes (containers_of p) (still_of p) q line below is in
-    let goes : GoesOn options p c = goes-on options p (rest_from q line) built plain
+    let goes : GoesOn options p c = goes-on options p (rest_from q line) plain
     (sym (ap₂ is_further kind_is is.on) ∙ far) in
     let none : below.change.opens ≡ [] = ap (λ (x : Change). x.opens) is.change ∙ goes.opens in
     inr

@@ -20,7 +20,7 @@ use Rattle.markdown_blocks.specs.Fronted.{Contained}
 use Rattle.markdown_blocks.specs.HeldLeaf.{IsBuiltLeaf, has_lines, kind_of_leaf, left_by, may_go_on, takes_lazy}
 use Rattle.markdown_blocks.specs.Leaf.Paragraph.{held_of, of_last, open_lines}
 use Rattle.markdown_blocks.specs.Parsed.{IsBuilt}
-use Rattle.markdown_blocks.specs.Registry.{LeafName, further_of, leaf, text_leaf, turn_leaf}
+use Rattle.markdown_blocks.specs.Registry.{GfmTable, IsOpenSpan, LeafName, further_of, leaf, text_leaf, turn_leaf}
 use Rattle.markdown_blocks.specs.Rows.{BlankRow, LeafRow, RowKind, TextRow, is_further, is_lazy, is_text, line_behind}
 use Rattle.markdown_blocks.specs.Rows.{line_kind, takes_head}
 use Rattle.markdown_blocks.specs.Stands.{IsPlain, containers_of, still_of}
@@ -37,7 +37,7 @@ use Rattle.markdown_blocks.proofs.LineSteps.{step-contained, with_came}
 use Rattle.markdown_blocks.proofs.OpenSpan.{Begun, ComesShallow, TurnsText}
 use Rattle.markdown_blocks.proofs.Registry.{laws, leaf-begun, text-laws, text-turns}
 use Rattle.markdown_blocks.proofs.ShallowBlocks.{shallow-then}
-use Rattle.markdown_blocks.proofs.TableStarts.{no-head}
+use Rattle.markdown_blocks.proofs.UnderNames.{heads-table}
 use Rattle.markdown_blocks.proofs.TextFound.{front_before, text_on}
 use Rattle.md_parts.proofs.ProgressLemmas.{progress-snoc}
 use Rattle.md_parts.specs.Head.{head_columns}
@@ -107,51 +107,75 @@ span-takes options r open_leaf is goes = record {
     starts : (leaf is.name).starts options on r ≡ true
     starts = kind-starts options on r is.name kind
 
--- one that goes on text turns it
-text-takes : (options : ParseOptions) (r : Rest) (lines : List Kept) → IsBuilt options →
+-- one that goes on text turns it, or makes its last line the head of a table
+turn-takes : (options : ParseOptions) (r : Rest) (lines : List Kept) (l : LeafName) →
+    line_kind options (text_on lines) r ≡ LeafRow l → (leaf l).further (text_on lines) ≡ true →
+    (leaf l).heads ≡ false → Takes options (text_leaf.held lines) r
+turn-takes options r lines l e further heads =
+    let turns : TurnsText l = text-turns (open_lines lines) l further heads in
+    let left : List (List ℕ) = (cut options (texts lines)).1 in
+    let comes : (leaf l).comes options (text_leaf.held lines) r ≡
+    Finished (turn_leaf.block left r) = turns.comes options lines r in
+    record {
+      name = l;
+      ends = turns.ends;
+      same = turns.same;
+      may = refl;
+      further = further;
+      kind = e;
+      starts = kind-starts options (text_on lines) r l e;
+      built = subst (λ (c : Came). IsBuiltLeaf (left_by c)) (sym comes) tt;
+      shallow =
+          subst ComesShallow (sym comes)
+          (λ bs h. shallow-then bs (turn_leaf.block left r) h (turns.shallow left r));
+    }
+
+head-takes : (options : ParseOptions) (r : Rest) (lines : List Kept) (l : LeafName) →
+    line_kind options (text_on lines) r ≡ LeafRow l → l ≡ GfmTable → Takes options (text_leaf.held lines) r
+unfolding IsOpenSpan
+head-takes options r lines l e name =
+    let kind : line_kind options (text_on lines) r ≡ LeafRow GfmTable = e ∙ ap LeafRow name in
+    record {
+      name = GfmTable;
+      ends = refl;
+      same = refl;
+      may = refl;
+      further = refl;
+      kind = kind;
+      starts = kind-starts options (text_on lines) r GfmTable kind;
+      built = tt;
+      shallow = λ bs h. h;
+    }
+
+text-takes : (options : ParseOptions) (r : Rest) (lines : List Kept) →
     is_further (line_kind options (text_on lines) r) (text_on lines) ≡ true → Takes options (text_leaf.held lines) r
-text-takes options r lines built goes = go (line_kind options (text_on lines) r) refl goes
+text-takes options r lines goes = go (line_kind options (text_on lines) r) refl goes
   where
+    by : (l : LeafName) → line_kind options (text_on lines) r ≡ LeafRow l → (leaf l).further (text_on lines) ≡ true →
+        (x : Bool) → (leaf l).heads ≡ x → Takes options (text_leaf.held lines) r
+    by l e f true heads = head-takes options r lines l e (heads-table l heads)
+    by l e f false heads = turn-takes options r lines l e f heads
+
     go : (kind : RowKind) → line_kind options (text_on lines) r ≡ kind → is_further kind (text_on lines) ≡ true →
         Takes options (text_leaf.held lines) r
     go BlankRow e f = absurd (cc)
     go TextRow e f = absurd (cc)
-    go (LeafRow l) e f =
-        let starts : (leaf l).starts options (text_on lines) r ≡ true = kind-starts options (text_on lines) r l e in
-        let turns : TurnsText l = text-turns (open_lines lines) l f
-        (no-head options (open_lines lines) r l built.gfm_table starts) in
-        let left : List (List ℕ) = (cut options (texts lines)).1 in
-        let comes : (leaf l).comes options (text_leaf.held lines) r ≡
-        Finished (turn_leaf.block left r) = turns.comes options lines r in
-        record {
-          name = l;
-          ends = turns.ends;
-          same = turns.same;
-          may = refl;
-          further = f;
-          kind = e;
-          starts = starts;
-          built = subst (λ (c : Came). IsBuiltLeaf (left_by c)) (sym comes) tt;
-          shallow =
-              subst ComesShallow (sym comes)
-              (λ bs h. shallow-then bs (turn_leaf.block left r) h (turns.shallow left r));
-        }
+    go (LeafRow l) e f = by l e f (leaf l).heads refl
 
-takes : (options : ParseOptions) (r : Rest) (open_leaf : Leaf) → IsBuilt options → IsBuiltLeaf open_leaf →
+takes : (options : ParseOptions) (r : Rest) (open_leaf : Leaf) → IsBuiltLeaf open_leaf →
     is_further (line_kind options (kind_of_leaf open_leaf) r) (kind_of_leaf open_leaf) ≡ true →
     Takes options open_leaf r
-takes options r open_leaf built plain =
+takes options r open_leaf plain =
     text-laws.cases
     (λ (l : Leaf). is_further (line_kind options (kind_of_leaf l) r) (kind_of_leaf l) ≡ true → Takes options l r)
     (λ e. let none = none-further options held_leaf.None r refl in absurd (cc))
-    (λ k ks e. text-takes options r (k ∷ ks) built e) (λ l is e. span-takes options r l (further-span l is) e) open_leaf
-    plain
+    (λ k ks e. text-takes options r (k ∷ ks) e) (λ l is e. span-takes options r l (further-span l is) e) open_leaf plain
 
-pub goes-on : (options : ParseOptions) (p : Path) (r : Rest) → IsBuilt options → IsPlain p →
+pub goes-on : (options : ParseOptions) (p : Path) (r : Rest) → IsPlain p →
     goes_further options (contained_at options p r) ≡ true → GoesOn options p (contained_at options p r)
-goes-on options p r built plain goes =
+goes-on options p r plain goes =
     let met = contained-met options (containers_of p) (still_of p) r may in
-    let is : Takes options (spot p).leaf c.rest = takes options c.rest (spot p).leaf built plain
+    let is : Takes options (spot p).leaf c.rest = takes options c.rest (spot p).leaf plain
     (ap (λ (on : HeldLeaf). is_further (line_kind options on c.rest) on) (sym on) ∙ goes) in
     record {
       is = is;
@@ -245,7 +269,7 @@ plain-step options p r built plain =
 
     go : (x y : Bool) → goes_further options c ≡ y → IsPlain (path_by options p c x y)
     go true y e = plain-longer (renewed c.change.stays p) (kept c.rest) [] (plain-renewed c.change.stays p plain)
-    go false true e = plain-further options p c (goes-on options p r built plain e)
+    go false true e = plain-further options p c (goes-on options p r plain e)
     go false false e =
         plain-behind (kept_to options c.change.stays p) (new_line options c.on c.change.opens c.rest)
         (λ bs. plain-new_line options c.on c.change.opens c.rest bs e)
@@ -341,7 +365,7 @@ containers-step options p r built plain =
         ∙ ap (λ (l : List Container). c.change.stays ++ l)
         (sym (lazy-opens (still_of p) c.change.opens (line_kind options c.on c.rest) e))
     go false true e f =
-        let goes = goes-on options p r built plain f in
+        let goes = goes-on options p r plain f in
         containers-came options (takes_head (line_kind options c.on c.rest)) (renewed c.change.stays p)
         (come_by options (spot p).leaf c.rest (line_kind options c.on c.rest))
         ∙ all goes.closes ∙ sym (append-nil c.change.stays)
@@ -466,7 +490,7 @@ still-step options p r built plain =
         ∙ ap (λ (s : Spot). text_behind (kind_of_leaf s.leaf) c.rest) (renewed-spot c.change.stays p)
         ∙ ap (λ (at : Progress). held_leaf.Text (open_text (stepped.step at (trim_start c.rest.bytes)) (kept c.rest))) (sym (lazy-on e))
         ∙ sym (text-left options c.on c.rest kind (lazy-text (still_of p) c.change.opens kind e))
-    go false true e f = still-further options p c (goes-on options p r built plain f)
+    go false true e f = still-further options p c (goes-on options p r plain f)
     go false false e f =
         still-behind (kept_to options c.change.stays p) (new_line options c.on c.change.opens c.rest)
         (line_behind options c.on c.rest kind) (λ bs. still-new_line options c.on c.change.opens c.rest bs f (λ text. unlazy-on text e))

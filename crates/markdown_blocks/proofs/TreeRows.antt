@@ -223,7 +223,7 @@ shallow-step options p r built plain h =
     go : (x y : Bool) → goes_further options c ≡ y → HoldsShallow (path_by options p c x y)
     go true y e =
         shallow-longer (renewed c.change.stays p) (kept c.rest ∷ []) (shallow-renewed c.change.stays p stay h)
-    go false true e = shallow-further options p c (goes-on options p r built plain e) stay h
+    go false true e = shallow-further options p c (goes-on options p r plain e) stay h
     go false false e =
         shallow-behind (kept_to options c.change.stays p) (new_line options c.on c.change.opens c.rest)
         (shallow-kept options c.change.stays p built plain stay h)

@@ -42,6 +42,7 @@ use Rattle.md_leaves.specs.Turned.{is_no_underline, turned}
 use Rattle.md_leaves.specs.declared.spans.Place.TheVariants.{Outside}
 use Rattle.md_seam.specs.Events.Spelled.{FootnoteShape, ItemShape, OrderedShape, QuoteShape, Shape, UnorderedShape}
 use Rattle.md_definition.specs.State.{Container, InFootnote, InItem, InQuote, Leaf, OpenCode, OpenFence, OpenHtml}
+use Rattle.md_definition.specs.State.{OpenTable}
 use Rattle.md_lines.specs.Code.{code_scheme, code_transition}
 use Rattle.md_lines.specs.CodeRule.{code_behaves}
 use Rattle.md_lines.specs.Fence.{fence_scheme, fence_transition}
@@ -131,12 +132,13 @@ further_of Fence = FenceFurther
 further_of HtmlFlow = HtmlFurther
 further_of l = l
 
--- The leaves of several lines that may be open between two lines, but for text: indented code, HTML, and fenced code and
--- math that a fence of enough markers has opened.
+-- The leaves of several lines that may be open between two lines, but for text: indented code, HTML, tables, and fenced
+-- code and math that a fence of enough markers has opened.
 unfoldable pub IsOpenSpan : Leaf → Type 0
 IsOpenSpan (OpenCode lines) = Unit {0}
 IsOpenSpan (OpenFence o lines) = is_fence (held_leaf.Fence o.marker o.size o.indent) ≡ true
 IsOpenSpan (OpenHtml kind lines) = Unit {0}
+IsOpenSpan (OpenTable delimiter rows) = Unit {0}
 IsOpenSpan open_leaf = ⊥
 
 -- the first of them that passes a test
