@@ -1,7 +1,6 @@
 -- What the lines of a text are, as flow reads them: facts that the lemmas on the tree rest on.
 use Rattle.md_engine.specs.declared.tokenizer.held_leaf.HeldLeaf.{HeldLeaf}
 use Rattle.std.proofs.Common.{◌≡◌, ℕ, ◌+◌, ◌^◌, ◌<◌, ◌≤◌, List, [], ◌∷◌, ◌++◌, length, slice_range, ap, ◌∙◌, arith}
-use Rattle.std.proofs.Common.{false}
 use Rattle.std.specs.Prelude.{◌&&◌, ◌||◌, ◌==◌, Some, None}
 use Rattle.md_engine.specs.declared.configuration.ParseOptions.{ParseOptions}
 use Rattle.md_engine.specs.declared.event.Point.{Point}
@@ -25,8 +24,6 @@ pub record IsRow (options : ParseOptions) (bytes line : List ℕ) (row : Row) : 
   pub rest : Rest
   -- the text is small enough for points to have room
   pub small : length bytes < 2 ^ 61
-  -- tables are not read yet
-  pub off : options.constructs.gfm_table ≡ false
   pub line_is : line ≡ rest_line rest
   pub kind : row.kind ≡ line_kind options row.on rest
   pub behind : row.behind ≡ line_behind options row.on rest row.kind

@@ -46,11 +46,11 @@ IsRowOf options bytes r row = (is : IsRow options bytes (rest_line r) row) × (i
 
 -- The row of what is left of a line behind its prefixes, also where it begins within a tab.
 held-row : (options : ParseOptions) (bytes behind : List ℕ) (said : Line) (r : Rest) (stop : List Cell) (h : Held)
-    (below : List Row) → options.constructs.gfm_table ≡ false → length bytes < 2 ^ 61 →
+    (below : List Row) → length bytes < 2 ^ 61 →
     h.cells ≡ rest_cells said r h.point ++ stop → length h.cells < 2 ^ 63 → RestAt bytes behind r h.point →
     NoEnding r.bytes → Stops stop →
     IsRowOf options bytes r (row_of options h below)
-held-row options bytes behind said r stop h below off small fed short is none k =
+held-row options bytes behind said r stop h below small fed short is none k =
     let p = h.point in
     let one : 1 ≤ p.column = let column = is.column in omega (arith, column) in
     let size = ap length fed in
@@ -67,7 +67,6 @@ held-row options bytes behind said r stop h below off small fed short is none k 
     let row : IsRow options bytes (rest_line r) (row_of options h below) = record {
       rest = r;
       small = small;
-      off = off;
       line_is = refl;
       kind = kind;
       behind =
@@ -227,8 +226,7 @@ has-row options bytes behind said open_before still line p stop built room read 
     let row : (below : List Row) →
     IsRowOf options bytes c.rest
     (row_of options h below) =
-    λ below. held-row options bytes behind said c.rest stop h below built.gfm_table room held.fed few held.stands
-    held.no_ending k in
+    λ below. held-row options bytes behind said c.rest stop h below room held.fed few held.stands held.no_ending k in
     let first : 1 ≤ h.point.column = let column = held.stands.column in omega (arith, column) in
     record {
       is =

@@ -58,21 +58,21 @@ each-free [] h = tt
 each-free (e ∷ es) h = (h.0, each-free es h.1)
 
 -- what may stand in a line of code, of math or of HTML
-inside-name : (name : Name) → is_inside name ≡ true → of_tables name ≡ false
-inside-name n.GfmTable e = cc
-inside-name n.GfmTableRow e = cc
-inside-name n.GfmTableDelimiterRow e = cc
-inside-name _ e = refl
+inside_name-free : (name : Name) → is_inside name ≡ true → of_tables name ≡ false
+inside_name-free n.GfmTable e = cc
+inside_name-free n.GfmTableRow e = cc
+inside_name-free n.GfmTableDelimiterRow e = cc
+inside_name-free _ e = refl
 
 inside-free : (es : List Event) → AreInside es → Each IsFree es
-inside-free es all = all (Each IsFree) tt (λ kind name x es e k. (inside-name name e, k))
+inside-free es all = all (Each IsFree) tt (λ kind name x es e k. (inside_name-free name e, k))
 
 -- and in a line that begins code or math
-fence-name : (name : Name) → is_fence_name name ≡ true → of_tables name ≡ false
-fence-name n.GfmTable e = cc
-fence-name n.GfmTableRow e = cc
-fence-name n.GfmTableDelimiterRow e = cc
-fence-name _ e = refl
+fence_name-free : (name : Name) → is_fence_name name ≡ true → of_tables name ≡ false
+fence_name-free n.GfmTable e = cc
+fence_name-free n.GfmTableRow e = cc
+fence_name-free n.GfmTableDelimiterRow e = cc
+fence_name-free _ e = refl
 
 block_name-free : (name : Name) → is_block_name name ≡ true → of_tables name ≡ false
 block_name-free n.GfmTable e = cc
@@ -130,7 +130,7 @@ added-free registry.CodeIndented e h options on line p =
     code-free (enter n.CodeIndented p) (rest_of p line) p (past_text line p) refl
 added-free registry.CodeFurther e h options on line p = code_further-free options on line p
 added-free registry.Fence e h options on line p =
-    line-each IsFree (λ name is q. (fence-name name is, fence-name name is))
+    line-each IsFree (λ name is q. (fence_name-free name is, fence_name-free name is))
     (λ name is q. (block_name-free name is, block_name-free name is)) linked (λ p q. (refl, (refl, tt))) line p
 added-free registry.FenceFurther e h options on line p = fence_further-free options on line p
 added-free registry.HtmlFlow e h options on line p = (refl, (refl, (refl, (refl, tt))))
