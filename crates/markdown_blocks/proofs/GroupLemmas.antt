@@ -46,7 +46,7 @@ pub use Rattle.markdown_blocks.proofs.GroupsAre.{IsSpanLine, groups-are}
 use Rattle.markdown_blocks.proofs.GroupsAre.{IsUnder}
 use Rattle.markdown_blocks.proofs.FrontNames.{ends-first, fronts-prefixes}
 use Rattle.markdown_blocks.proofs.FrontPlaces.{fronts-grow}
-use Rattle.markdown_blocks.proofs.HeadRows.{head-no_content}
+use Rattle.markdown_blocks.proofs.GfmTable.Head.{head-no_content}
 use Rattle.markdown_blocks.proofs.JoinedLemmas.{EachEnds, EachFront, EachNoContent, HasNoContent, behind-is, ending-is}
 use Rattle.markdown_blocks.proofs.JoinedLemmas.{ending-other, events-no_content, has_front-no_content}
 use Rattle.markdown_blocks.proofs.JoinedLemmas.{front-no_content, tail-no_content}
@@ -225,20 +225,27 @@ span-unwanted options bytes wants row rows are quiet w =
     no_content-unwanted wants (rows_events (row ∷ rows)) (spans-quiet options bytes wants row rows are quiet w)
 
 -- a head that was read again, with the lines that go on it
+pub headed-quiet : (options : ParseOptions) (bytes : List ℕ) (wants : Content → Bool) (row next : Row)
+    (rows : List Row) →
+    AreSpan options bytes next rows → HasFront bytes row → EachNoContent (next ∷ rows) → WantsContent wants →
+    NoContent wants (headed_lines bytes row next rows)
+headed-quiet options bytes wants row next rows are front quiet w =
+    let head : List Event = (headed_row bytes row).inside in
+    let tail : List Event = tail_events n.LineEnding row in
+    no_content-append wants (row.front ++ head ++ tail) (rows_events (next ∷ rows))
+    (no_content-append wants (row.front ++ head) tail
+    (no_content-append wants row.front head (has_front-no_content wants bytes row front)
+    (head-no_content wants w (row_line bytes row) row.first))
+    (tail-no_content wants n.LineEnding row refl))
+    (spans-quiet options bytes wants next rows are quiet w)
+
 headed-unwanted : (options : ParseOptions) (bytes : List ℕ) (wants : Content → Bool) (row next : Row)
     (rows : List Row) →
     AreSpan options bytes next rows → HasFront bytes row → EachNoContent (next ∷ rows) → WantsContent wants →
     Unwanted wants (headed_lines bytes row next rows)
 headed-unwanted options bytes wants row next rows are front quiet w =
-    let head : List Event = (headed_row bytes row).inside in
-    let tail : List Event = tail_events n.LineEnding row in
     no_content-unwanted wants (headed_lines bytes row next rows)
-    (no_content-append wants (row.front ++ head ++ tail) (rows_events (next ∷ rows))
-    (no_content-append wants (row.front ++ head) tail
-    (no_content-append wants row.front head (has_front-no_content wants bytes row front)
-    (head-no_content wants w (row_line bytes row) row.first))
-    (tail-no_content wants n.LineEnding row refl))
-    (spans-quiet options bytes wants next rows are quiet w))
+    (headed-quiet options bytes wants row next rows are front quiet w)
 
 -- nor the line that turns a text
 pub under-other : (options : ParseOptions) (bytes : List ℕ) (last under : Row) → IsUnder options bytes last under →

@@ -1,30 +1,21 @@
--- The lines of a text, with each line of text that is the head of a table read again: it is the first line of that table,
--- and those that go on it are further ones. So the groups are as before, but each head and its lines are one leaf.
+-- The lines of a text, with each line of text that is the head of a table read again: it is the first line of that
+-- table, and those that go on it are further ones. So the groups are as before, but each head and its lines are those of
+-- one leaf.
 use Rattle.std.proofs.Common.{◌≡◌, ℕ, Bool, true, false, cond, ◌&&◌, List, [], ◌∷◌, ◌++◌, refl, ap, sym, ◌∙◌}
 use Rattle.std.specs.Prelude.{Some}
 use Rattle.std.proofs.lemmas.Bool.{and_parts}
-use Rattle.md_engine.specs.declared.event.Content.{Content}
 use Rattle.md_engine.specs.declared.event.Event.{Event}
-use Rattle.md_engine.specs.declared.event.Name.TheVariants as n
-use Rattle.md_engine.specs.declared.event.Point.{Point}
 use Rattle.md_engine.specs.declared.tokenizer.held_leaf.HeldLeaf.TheVariants as held_leaf
 use Rattle.md_content.specs.Joined.{joined}
-use Rattle.md_seam.specs.Events.Nested.{exit}
-use Rattle.md_seam.specs.Events.Places.{past_text}
-use Rattle.md_tables.specs.GfmTableLine.{head_line, row_runs}
-use Rattle.md_tables.specs.RowRule.{Apart}
 use Rattle.markdown_blocks.specs.Registry.{GfmTable, LeafName, leaf}
 use Rattle.markdown_blocks.specs.Rows.{BlankRow, Group, Headed, LeafRow, Lines, Row, RowKind, Single, Span, TextRow}
 use Rattle.markdown_blocks.specs.Rows.{Turned, goes_on, groups, headed_row, is_further, is_last, is_text, onto_groups}
 use Rattle.markdown_blocks.specs.Rows.{onto_leaf, onto_span, onto_underline, row_line, takes_head}
 use Rattle.markdown_blocks.specs.Rows.{rows_events}
 use Rattle.markdown_blocks.specs.Unread.{joined_group, joined_groups}
-use Rattle.markdown_blocks.proofs.ContentFacts.{NoContent, WantsContent}
-use Rattle.markdown_blocks.proofs.EachEvent.{each-append}
 use Rattle.markdown_blocks.proofs.FrontNames.{HasFront}
-use Rattle.markdown_blocks.proofs.GfmTable.Each.{OfTable, of-no_content, row-bytes}
+use Rattle.markdown_blocks.proofs.GfmTable.Head.{head-no_content}
 use Rattle.markdown_blocks.proofs.JoinedLemmas.{EachEnds, EachFront, EachNoContent, HasNoContent, joined-rows}
-use Rattle.markdown_blocks.proofs.MarkRuns.Each.{IsNoContent, each-no_content}
 use Rattle.markdown_blocks.proofs.TextGroups.{HeadsNone, NoHead, NoHeads, onto-unheaded}
 use Rattle.markdown_blocks.proofs.UnderNames.{heads-table}
 
@@ -71,25 +62,6 @@ again-ends bytes (row ∷ below ∷ rows) h = (
 )
 
 -- and no content stands in a head.
-pub head-no_content : (wants : Content → Bool) → WantsContent wants → (line : List ℕ) (p : Point) →
-    NoContent wants (head_line line p)
-head-no_content wants w line p =
-    each-no_content wants (head_line line p) (
-      (refl, refl),
-      (
-        of.of.row.0 p,
-        each-append (IsNoContent wants) (row_runs Apart line p ++ exit n.GfmTableRow q ∷ []) (exit n.GfmTable q ∷ [])
-            (each-append (IsNoContent wants) (row_runs Apart line p) (exit n.GfmTableRow q ∷ [])
-            (row-bytes (IsNoContent wants) of.of Apart line p) (of.of.row.1 q, tt)) (of.ends q, tt),
-      ),
-    )
-  where
-    q : Point
-    q = past_text line p
-
-    of : OfTable (IsNoContent wants)
-    of = of-no_content wants w
-
 again-quiet : (bytes : List ℕ) (rows : List Row) → EachNoContent rows → EachNoContent (head_rows bytes rows)
 again-quiet bytes [] h = tt
 again-quiet bytes (row ∷ rows) h = (

@@ -1,6 +1,6 @@
 -- A group that begins with a line of text which the line behind it takes as its head: it is a table, with that line as
 -- its delimiter row, and the others as the rows of its body (GFM 4.10).
-use Rattle.std.proofs.Common.{◌≡◌, ℕ, Bool, true, false, cond, ◌||◌, List, [], ◌∷◌, refl, ap, sym, ◌∙◌, subst}
+use Rattle.std.proofs.Common.{◌≡◌, ℕ, true, false, ◌||◌, List, [], ◌∷◌, refl, ap, sym, ◌∙◌, subst}
 use Rattle.std.proofs.lemmas.Bool.{or_right}
 use Rattle.std.specs.Prelude.{Some}
 use Rattle.md_engine.specs.declared.configuration.ParseOptions.{ParseOptions}
@@ -15,41 +15,33 @@ use Rattle.md_parts.specs.OpenText.{open_text}
 use Rattle.md_parts.specs.Progress.{progress_of, step}
 use Rattle.markdown_blocks.specs.Leaf.GfmTable.{may_be_table, table_leaf}
 use Rattle.markdown_blocks.specs.Registry.{GfmTable, LeafName, further_of, insider, joins_lines, leaf}
-use Rattle.markdown_blocks.specs.Rows.{BlankRow, Headed, LeafRow, Row, RowKind, TextRow, headed_done, headed_unread}
+use Rattle.markdown_blocks.specs.Rows.{Headed, LeafRow, Row, RowKind, headed_done, headed_unread}
 use Rattle.markdown_blocks.specs.Rows.{is_blank_by, is_blank_group, last_row, line_behind}
 use Rattle.markdown_blocks.proofs.GfmTable.Found.{table-enabled}
 use Rattle.markdown_blocks.proofs.GfmTable.TableForm.{IsFilledLine, IsTable}
 use Rattle.markdown_blocks.proofs.GfmTable.TableLaws.{AreFilled, table-facts, table-of, table_behind}
 use Rattle.markdown_blocks.proofs.GroupsAre.{AreSpan, IsHead, IsSpanLine, line-as, line-further, line-heads}
 use Rattle.markdown_blocks.proofs.GroupsAre.{span-begins, span-behind}
-use Rattle.markdown_blocks.proofs.KindLemmas.{kind-filled, kind-text}
+use Rattle.markdown_blocks.proofs.KindLemmas.{kind-filled}
 use Rattle.markdown_blocks.proofs.LeafFacts.{LeafFacts}
 use Rattle.markdown_blocks.proofs.RowFacts.{IsRow}
 use Rattle.markdown_blocks.proofs.RowLeaf.{leaf-at, leaf-filled}
 use Rattle.markdown_blocks.proofs.SpanLaws.{AreBehind, IsLineOf}
+use Rattle.markdown_blocks.proofs.SpelledParagraphs.{text-filled}
 use Rattle.markdown_blocks.proofs.TableStarts.{asked-untabled}
 use Rattle.markdown_blocks.proofs.UnderNames.{heads-table}
 
--- something stands on a line of text
-text-filled : (options : ParseOptions) (bytes line : List ℕ) (row : Row) → (is : IsRow options bytes line row) →
-    row.kind ≡ TextRow → is_blank is.rest.bytes ≡ false
-text-filled options bytes line row is text =
-    go (is_blank is.rest.bytes) _ (kind-text options row.on is.rest (sym is.kind ∙ text))
-  where
-    go : (x : Bool) (kind : RowKind) → cond x BlankRow kind ≡ TextRow → x ≡ false
-    go true kind e = cc
-    go false kind e = refl
-
--- and on one that goes on a text or on a table: no leaf is asked there in front of blank lines
+-- something stands on a line that goes on a text or on a table: no leaf is asked there in front of blank lines
 not-asked : (on : HeldLeaf) (l : LeafName) → may_be_table on ≡ true → insider on ≡ Some l → ⊥
 not-asked on l goes asked =
     let bad : true ≡ false = sym goes ∙ asked-untabled on l asked in
     cc
 
-line-filled : (options : ParseOptions) (bytes : List ℕ) (row : Row) → (is : IsSpanLine options bytes row) →
-    may_be_table row.on ≡ true → is_blank is.is.rest.bytes ≡ false
-line-filled options bytes row is goes =
-    kind-filled options row.on is.is.rest is.name (sym is.is.kind ∙ is.kind) (not-asked row.on is.name goes)
+pub line-filled : (options : ParseOptions) (bytes line : List ℕ) (row : Row) (l : LeafName) →
+    (is : IsRow options bytes line row) → row.kind ≡ LeafRow l → may_be_table row.on ≡ true →
+    is_blank is.rest.bytes ≡ false
+line-filled options bytes line row l is kind goes =
+    kind-filled options row.on is.rest l (sym is.kind ∙ kind) (not-asked row.on l goes)
 
 rows-filled : (options : ParseOptions) (bytes : List ℕ) (row : Row) (rows : List Row) →
     (are : AreSpan options bytes row rows) →
@@ -58,7 +50,8 @@ rows-filled : (options : ParseOptions) (bytes : List ℕ) (row : Row) (rows : Li
 rows-filled options bytes row [] are e = tt
 rows-filled options bytes row (next ∷ rows) are e =
     let below : IsSpanLine options bytes next = span-begins options bytes next rows are.8 in (
-      line-filled options bytes next below (span-behind options bytes GfmTable row (next ∷ rows) refl are e).5,
+      line-filled options bytes below.line next below.name below.is below.kind
+          (span-behind options bytes GfmTable row (next ∷ rows) refl are e).5,
       rows-filled options bytes next rows are.8 _,
     )
 
@@ -89,7 +82,7 @@ headed-is options bytes row next rows head are = record {
     rest = head.is.rest;
     at = leaf-at options bytes head.line row head.is;
     column = head.is.column;
-    filled = text-filled options bytes head.line row head.is head.text;
+    filled = (text-filled options bytes head.line row head.is head.text).filled;
   };
   are = (
     head.after,
@@ -101,7 +94,10 @@ headed-is options bytes row next rows head are = record {
     line-as options bytes next below GfmTable (below.kind ∙ ap LeafRow name),
     behind,
   );
-  filled = (line-filled options bytes next below goes, rows-filled options bytes next rows are (ap further_of name));
+  filled = (
+    line-filled options bytes below.line next below.name below.is below.kind goes,
+    rows-filled options bytes next rows are (ap further_of name),
+  );
   text = open_text (step (progress_of row.on) (trim_start head.is.rest.bytes)) (kept head.is.rest);
   on = head.on ∙ head.is.behind ∙ ap (line_behind options row.on head.is.rest) head.text;
   ends = last-filled options bytes next rows are goes behind;

@@ -110,6 +110,7 @@ pub mod LastLine
 pub mod PlainRoles
 pub mod SpelledParagraphs
 pub mod SpelledPaths
+pub mod SpelledHeads
 pub mod SpelledGroups
 pub mod SpelledRows
 pub mod StandsLemmas

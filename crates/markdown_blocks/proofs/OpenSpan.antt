@@ -1,6 +1,6 @@
 -- What the frame asks of a leaf of several lines that is open between two lines, of what a line begins, and of a line
 -- that goes on text.
-use Rattle.std.proofs.Common.{◌≡◌, ℕ, true, false, cond, List, [], ◌∷◌}
+use Rattle.std.proofs.Common.{◌≡◌, ℕ, true, false, cond, List}
 use Rattle.std.specs.Prelude.{Some, None}
 use Rattle.md_engine.specs.declared.configuration.ParseOptions.{ParseOptions}
 use Rattle.md_engine.specs.declared.tokenizer.held_leaf.HeldLeaf.{HeldLeaf}
@@ -56,8 +56,3 @@ pub record TurnsText (l : LeafName) : Type 0 where
   pub filled : (options : ParseOptions) (on : HeldLeaf) (r : Rest) → (leaf l).starts options on r ≡ true →
       is_blank r.bytes ≡ false
   pub shallow : (lines : List (List ℕ)) (r : Rest) → is_shallow (turn_leaf.block lines r) ≡ true
-
--- these leaves go on none of several lines of which another leaf is asked first
-abbrev pub AllBegin : List LeafName → Type 0
-AllBegin [] = Unit {0}
-AllBegin (l ∷ ls) = ((on : HeldLeaf) (m : LeafName) → insider on ≡ Some m → (leaf l).further on ≡ false) × AllBegin ls

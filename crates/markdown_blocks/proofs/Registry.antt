@@ -51,12 +51,11 @@ use Rattle.md_leaves.proofs.SetextSteps.{setext_steps}
 use Rattle.md_seam.specs.Ahead.{HasWhite}
 use Rattle.md_seam.specs.Spaces.{rest_ready}
 use Rattle.md_definition.specs.Containers.{Taken, opens, opens_footnote, opens_item, opens_quote}
-use Rattle.md_definition.specs.Leaves.{Came, Finished, Opened, ParagraphContext, break_at, closes, code_at, fence_at}
-use Rattle.md_definition.specs.Leaves.{fence_goes_on, heading_at, html_at, html_line, is_free, is_rule, underline_depth}
+use Rattle.md_definition.specs.Leaves.{Came, Finished, Opened, ParagraphContext, closes, fence_at}
+use Rattle.md_definition.specs.Leaves.{fence_goes_on, html_line, is_rule, underline_depth}
 use Rattle.md_leaves.specs.HeadingRule.{is_heading}
-use Rattle.md_lines.specs.Code.{may_open}
 use Rattle.md_definition.specs.Rest.{Rest, has_small_indent, indent, is_blank, line_of, lose, trim_start}
-use Rattle.md_definition.specs.State.{Leaf, NoLeaf, OpenCode, OpenFence, OpenHtml, Opening}
+use Rattle.md_definition.specs.State.{NoLeaf, OpenCode, OpenFence, OpenHtml, Opening}
 use Rattle.md_definition.specs.State.{fence_block, without_trailing_blank}
 use Rattle.md_definition.specs.Ascii.{equals_sign}
 use Rattle.md_definition.specs.Texts.{first_byte}
@@ -98,11 +97,11 @@ use Rattle.markdown_blocks.proofs.BlockQuote.Registers.{quote-registers}
 use Rattle.markdown_blocks.proofs.ContainerLaws.{ContainerLaws}
 use Rattle.markdown_blocks.proofs.ContainerNames.{is_front}
 use Rattle.markdown_blocks.proofs.CodeIndented.Cells.{code-rest}
-use Rattle.markdown_blocks.proofs.CodeIndented.Found.{code-found, code-goes}
+use Rattle.markdown_blocks.proofs.CodeIndented.Found.{code-goes}
 use Rattle.markdown_blocks.proofs.CodeIndented.Laws.{code-laws, code_further-laws}
 use Rattle.markdown_blocks.proofs.CodeIndented.Registers.{code-registers}
 use Rattle.markdown_blocks.proofs.CodeIndented.Span.{code-span}
-use Rattle.markdown_blocks.proofs.Fence.Found.{fence-found, fence-off, fence-shallow}
+use Rattle.markdown_blocks.proofs.Fence.Found.{fence-off, fence-shallow}
 use Rattle.markdown_blocks.proofs.Fence.Laws.{fence-laws}
 use Rattle.markdown_blocks.proofs.Fence.Opened.{fence-starts}
 use Rattle.markdown_blocks.proofs.Fence.Registers.{fence-registers}
@@ -113,7 +112,7 @@ use Rattle.markdown_blocks.proofs.GfmTable.Laws.{table-laws}
 use Rattle.markdown_blocks.proofs.GfmTable.Registers.{table-registers}
 use Rattle.markdown_blocks.proofs.GfmTable.Span.{table-begins, table-span}
 use Rattle.markdown_blocks.proofs.Goods.{Anywhere, ContainerFits, IsWithin}
-use Rattle.markdown_blocks.proofs.HtmlFlow.Found.{html-enabled, html-found, html-goes, html-held, html-indented, html-lazy}
+use Rattle.markdown_blocks.proofs.HtmlFlow.Found.{html-enabled, html-goes, html-held, html-indented, html-lazy}
 use Rattle.markdown_blocks.proofs.HtmlFlow.Laws.{html-laws, html_further-laws}
 use Rattle.markdown_blocks.proofs.HtmlFlow.Registers.{html-registers}
 use Rattle.markdown_blocks.proofs.HtmlSpan.Laws.{html-span}
@@ -126,7 +125,7 @@ use Rattle.md_tables.proofs.GfmTableSteps.{table_steps}
 use Rattle.md_rich.proofs.HtmlGoods.{HtmlFits, html_does}
 use Rattle.md_rich.proofs.HtmlSteps.{html_steps}
 use Rattle.markdown_blocks.specs.Leaf.HtmlFlow.{begins_as, html_further, html_leaf, kind_begun}
-use Rattle.markdown_blocks.proofs.HeadingAtx.Found.{heading-found, heading-shallow}
+use Rattle.markdown_blocks.proofs.HeadingAtx.Found.{heading-shallow}
 use Rattle.markdown_blocks.proofs.HeadingAtx.Laws.{heading-laws}
 use Rattle.markdown_blocks.proofs.HeadingAtx.Outside.{front-heading}
 use Rattle.markdown_blocks.proofs.HeadingAtx.Registers.{heading-registers}
@@ -140,14 +139,13 @@ use Rattle.markdown_blocks.proofs.ListItem.Laws.{item-laws}
 use Rattle.markdown_blocks.proofs.ListItem.Plain.{item-plain}
 use Rattle.markdown_blocks.proofs.ListItem.Registers.{item-registers}
 use Rattle.markdown_blocks.proofs.OutsideFacts.{AreOutside, resolved-outside}
-use Rattle.markdown_blocks.proofs.OpenSpan.{AllBegin, Begun, ComesShallow, OpenSpan, TurnsText}
+use Rattle.markdown_blocks.proofs.OpenSpan.{Begun, ComesShallow, OpenSpan, TurnsText}
 use Rattle.markdown_blocks.proofs.Paragraph.Laws.{paragraph-laws}
 use Rattle.markdown_blocks.proofs.PlainLaws.{PlainLaws}
 use Rattle.markdown_blocks.proofs.Registers.{Registers}
 use Rattle.markdown_blocks.proofs.ShallowBlocks.{shallow-then}
 use Rattle.markdown_blocks.proofs.SpanLaws.{SpanLaws}
 use Rattle.markdown_blocks.proofs.TextLaws.{TextLaws}
-use Rattle.markdown_blocks.proofs.ThematicBreak.Found.{break-found}
 use Rattle.markdown_blocks.proofs.ThematicBreak.Laws.{break-laws}
 use Rattle.markdown_blocks.proofs.ThematicBreak.Registers.{break-registers}
 use Rattle.markdown_blocks.proofs.UnderNames.{further-text}
@@ -178,16 +176,6 @@ came_of options r (Some l) = Some ((leaf l).comes options NoLeaf r)
 -- The leaf that a line meets is what the line stands against: no text, text, or text that it is lazy for.
 abbrev pub IsAgainst : ParagraphContext → HeldLeaf → Type 0
 IsAgainst against on = against ≡ context_of on
-
--- so indented code may begin by both, or by neither
-free-open : (on : HeldLeaf) → may_open on ≡ is_free (context_of on)
-free-open held_leaf.None = refl
-free-open (held_leaf.Text at) = refl
-free-open (held_leaf.LazyText at) = refl
-free-open held_leaf.Code = refl
-free-open (held_leaf.Fence m size indent) = refl
-free-open (held_leaf.Html kind) = refl
-free-open held_leaf.Table = refl
 
 -- The underline of a setext heading: something stands on it,
 setext-filled : (options : ParseOptions) (on : HeldLeaf) (r : Rest) → setext_leaf.starts options on r ≡ true →
@@ -288,52 +276,6 @@ lost-none options at r depth may some no_table =
         (cond h (Some HtmlFlow)
         (cond y (Some HeadingAtx)
         (cond s (Some HeadingSetext) (cond z (Some ThematicBreak) (cond t (Some GfmTable) None))))))
-
--- where none does, and no line of a table, of the leaves of the line definition these alone are built, in this order
-pub leaves-found : (options : ParseOptions) (on : HeldLeaf) (against : ParagraphContext) (r : Rest) →
-    IsAgainst against on → setext_leaf.starts options on r ≡ false → table_leaf.starts options on r ≡ false →
-    (has_small_indent options r && turns_nothing options on && is_underline (trim_start r.bytes)) ≡ false →
-    is_blank r.bytes ≡ false →
-    option_or (code_at options against r)
-    (option_or (fence_at options r)
-    (option_or (html_at options against r) (option_or (heading_at options r) (break_at options r)))) ≡
-    came_of options r (leaf_at options on r)
-leaves-found options on against r same unturned no_table no_underline dark =
-    ap₂ (λ (x y : Option Came). option_or x y)
-    (code-found options on against r (free-open on ∙ sym (ap is_free same)) dark)
-    (ap₂ (λ (x y : Option Came). option_or x y) (fence-found options r)
-    (ap₂ (λ (x y : Option Came). option_or x y) (html-found options on against r same)
-    (ap₂ (λ (x y : Option Came). option_or x y) (heading-found options r) (break-found options on r no_underline))))
-    ∙ go (code_leaf.starts options on r) (fence_leaf.starts options on r) (html_leaf.starts options on r)
-    (heading_leaf.starts options on r) (break_leaf.starts options on r)
-    ∙ ap₂
-    (λ (s t : Bool).
-    came_of options r
-    (to (code_leaf.starts options on r) (fence_leaf.starts options on r) (html_leaf.starts options on r)
-    (heading_leaf.starts options on r) s (break_leaf.starts options on r) t)) (sym unturned) (sym no_table)
-  where
-    -- a leaf, if it starts
-    one : Bool → LeafName → Option Came
-    one x l = cond x (Some ((leaf l).comes options NoLeaf r)) None
-
-    to : Bool → Bool → Bool → Bool → Bool → Bool → Bool → Option LeafName
-    to c x h y s z t =
-        cond c (Some CodeIndented)
-        (cond x (Some Fence)
-        (cond h (Some HtmlFlow)
-        (cond y (Some HeadingAtx)
-        (cond s (Some HeadingSetext) (cond z (Some ThematicBreak) (cond t (Some GfmTable) None))))))
-
-    go : (c x h y z : Bool) →
-        option_or (one c CodeIndented)
-        (option_or (one x Fence) (option_or (one h HtmlFlow) (option_or (one y HeadingAtx) (one z ThematicBreak)))) ≡
-        came_of options r (to c x h y false z false)
-    go true x h y z = refl
-    go false true h y z = refl
-    go false false true y z = refl
-    go false false false true z = refl
-    go false false false false true = refl
-    go false false false false false = refl
 
 -- no leaf with a small indent starts where code does
 not-small : (options : ParseOptions) (r : Rest) → options.constructs.code_indented ≡ true → nat_le 4 (indent r) ≡ true →
@@ -463,23 +405,6 @@ leaf-begun HeadingSetext options on r h begins = absurd (setext-begins options o
 leaf-begun ThematicBreak options on r h begins =
     record { holds = refl; built = tt; shallow = λ bs shallow. shallow-then bs Break shallow refl }
 leaf-begun GfmTable options on r h begins = absurd (table-begins options on r h begins)
-
--- those that are tried go on none of several lines of which another is asked first
-pub trials-begin : AllBegin trials
-unfolding insider
-trials-begin = (
-  λ on m h. refl,
-  (λ on m h. refl, (λ on m h. refl, (λ on m h. refl, (setext-lines, (λ on m h. refl, (table-lines, tt)))))),
-)
-  where
-    setext-lines : (on : HeldLeaf) (m : LeafName) → insider on ≡ Some m → is_text on ≡ false
-    setext-lines (held_leaf.Text at) m h = cc
-    setext-lines _ m h = refl
-
-    table-lines : (on : HeldLeaf) (m : LeafName) → insider on ≡ Some m → may_be_table on ≡ false
-    table-lines (held_leaf.Text at) m h = cc
-    table-lines held_leaf.Table m h = cc
-    table-lines _ m h = refl
 
 -- behind a line of a fence no other leaf of several lines is open,
 fence-left : (t : HeldLeaf → Bool) (options : ParseOptions) (on : HeldLeaf) (r : Rest) → t held_leaf.None ≡ false →

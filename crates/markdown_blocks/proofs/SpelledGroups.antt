@@ -582,7 +582,7 @@ head-lines options bytes line p row gs last is text joins name = record {
     of = row-as options bytes starts.line next starts.is GfmTable starts.kind
 
     dark : is_blank starts.is.rest.bytes ≡ false
-    dark = heads-dark options bytes starts.line next GfmTable starts.is starts.kind refl
+    dark = heads-dark options bytes starts.line next GfmTable starts.is starts.kind starts.further refl
 
     come : first_come options bytes GfmTable q joins.after starts.is.rest ≡
         table_leaf.comes options (spot q).leaf starts.is.rest
@@ -875,7 +875,7 @@ span-joined options bytes l p come row gs last joins next opened unlazy = record
     row-as options bytes next.line joins.next next.is l next.kind,
     next.reads.are,
   );
-  dark = (heads-dark options bytes next.line joins.next l next.is next.kind, next.reads.dark);
+  dark = (heads-dark options bytes next.line joins.next l next.is next.kind next.further, next.reads.dark);
   behind =
       ap (λ (r : Reading). read bytes r (span_tail joins.next rows ++ groups_events options bytes below))
       (sym (ap (to (with_came options heads p come)) first ∙ ap (reading options) (twice (come_to other))))

@@ -1,82 +1,57 @@
 -- What a line of text is read as that is the head of a table, with the lines that go on it: the table to which the line
 -- definition comes with them, behind what the lines of text in front of the head come to.
-use Rattle.std.proofs.Common.{◌≡◌, ℕ, Bool, true, false, cond, List, [], ◌∷◌, ◌++◌, reverse, refl, ap, sym, ◌∙◌}
-use Rattle.std.specs.Prelude.{Some, None}
+use Rattle.std.proofs.Common.{◌≡◌, ℕ, Bool, true, false, cond, List, [], ◌∷◌, ◌++◌, refl, ap, sym, ◌∙◌}
+use Rattle.std.proofs.Common.{subst}
+use Rattle.std.specs.Prelude.{None}
 use Rattle.std.proofs.lemmas.List.{reverse-append}
 use Rattle.md_engine.specs.declared.configuration.ParseOptions.{ParseOptions}
 use Rattle.md_engine.specs.declared.event.Event.{Event}
-use Rattle.md_engine.specs.declared.tokenizer.held_leaf.HeldLeaf.{HeldLeaf}
 use Rattle.md_engine.specs.declared.tokenizer.held_leaf.HeldLeaf.TheVariants as held_leaf
 use Rattle.md_engine.specs.declared.tokenizer.held_leaf.OpenText.{OpenText}
 use Rattle.md_definition.specs.Definition.{Defined, cut_at_most, cut_definitions}
 use Rattle.md_definition.specs.Leaves.{Came, Opened}
-use Rattle.md_definition.specs.Rest.{Rest, is_blank, trim}
-use Rattle.md_definition.specs.State.{At, Kept, Leaf, NoLeaf, OpenTable, Path, Spot, Within, kept, shut, shut_paragraph, spot}
+use Rattle.md_definition.specs.Rest.{is_blank, trim}
+use Rattle.md_definition.specs.State.{At, Kept, Leaf, NoLeaf, OpenTable, Path, Within, kept, shut, shut_paragraph, spot}
 use Rattle.md_definition.specs.State.{texts, then_definitions, then_leaf, then_paragraph}
 use Rattle.md_definition.specs.Step.{came}
 use Rattle.md_definition.specs.Table.{row_cells}
 use Rattle.md_definition.specs.Tree.{Blocks}
 use Rattle.md_seam.specs.Events.Spelled.{Around, Reading, read}
-use Rattle.markdown_blocks.specs.HeldLeaf.{has_lines}
-use Rattle.markdown_blocks.specs.Leaf.GfmTable.{first_cells, table_leaf}
+use Rattle.markdown_blocks.specs.Leaf.GfmTable.{first_cells, may_be_table, table_leaf}
 use Rattle.markdown_blocks.specs.Leaf.Paragraph.{held_of}
 use Rattle.markdown_blocks.specs.LineFlags.{ending_name}
-use Rattle.markdown_blocks.specs.Registry.{CodeFurther, FenceFurther, GfmTable, HtmlFurther, LeafName, insider, leaf, text_leaf}
-use Rattle.markdown_blocks.specs.Leaf.CodeIndented.{is_code}
-use Rattle.markdown_blocks.specs.Leaf.FenceFurther.{is_fence}
-use Rattle.md_rich.specs.Html.{is_html}
-use Rattle.markdown_blocks.specs.Rows.{BlankRow, Group, Headed, LeafRow, Row, RowKind, TextRow, groups_events, headed_done}
+use Rattle.markdown_blocks.specs.Registry.{GfmTable, LeafName, leaf, text_leaf}
+use Rattle.markdown_blocks.specs.Rows.{Group, Headed, LeafRow, Row, TextRow, groups_events, headed_done}
 use Rattle.markdown_blocks.specs.Rows.{is_blank_row, last_row, tail_events}
 use Rattle.markdown_blocks.specs.Stands.{around_of, reading, reading_on}
 use Rattle.markdown_blocks.proofs.GfmTable.TableForm.{IsFilledLine}
 use Rattle.markdown_blocks.proofs.GfmTable.TableLaws.{AreFilled, cells-trimmed, table-facts, table-shuts}
-use Rattle.markdown_blocks.proofs.KindLemmas.{kind-filled, kind-text}
+use Rattle.markdown_blocks.proofs.HeadedTable.{line-filled}
 use Rattle.markdown_blocks.proofs.LineSteps.{longer, with_came}
-use Rattle.markdown_blocks.proofs.Registry.{insider-none, text-laws}
+use Rattle.markdown_blocks.proofs.Registry.{text-laws}
 use Rattle.markdown_blocks.proofs.RowFacts as f
 use Rattle.markdown_blocks.proofs.RowLeaf.{leaf-at}
 use Rattle.markdown_blocks.proofs.SpanLaws.{AreBehind, come_behind}
+use Rattle.markdown_blocks.proofs.SpelledParagraphs.{text-filled}
 use Rattle.markdown_blocks.proofs.TextFound.{front-is}
 use Rattle.markdown_blocks.proofs.UnderNames.{heads-table}
 
 -- Lines on which something stands.
-
--- a line of text
-text-dark : (options : ParseOptions) (bytes line : List ℕ) (row : Row) → (is : f.IsRow options bytes line row) →
-    row.kind ≡ TextRow → is_blank is.rest.bytes ≡ false
-text-dark options bytes line row is text =
-    go (is_blank is.rest.bytes) _ (kind-text options row.on is.rest (sym is.kind ∙ text))
-  where
-    go : (x : Bool) (kind : RowKind) → cond x BlankRow kind ≡ TextRow → x ≡ false
-    go true kind e = cc
-    go false kind e = refl
 
 -- one of a leaf, where it meets text
 pub met-dark : (options : ParseOptions) (bytes line : List ℕ) (row : Row) (l : LeafName) (at : OpenText) →
     (is : f.IsRow options bytes line row) → row.kind ≡ LeafRow l → row.on ≡ held_leaf.Text at →
     is_blank is.rest.bytes ≡ false
 met-dark options bytes line row l at is kind on =
-    kind-filled options row.on is.rest l (sym is.kind ∙ kind)
-    (λ i. let bad : None ≡ Some l = sym (insider-none row.on (ap has_lines on)) ∙ i in cc)
+    line-filled options bytes line row l is kind (ap may_be_table on)
 
--- one of a table, which is never asked first
-not-first : (on : HeldLeaf) → insider on ≡ Some GfmTable → ⊥
-unfolding insider
-not-first on e = go (is_fence on) (is_html on) (is_code on) e
-  where
-    go : (x y z : Bool) →
-        cond x (Some FenceFurther) (cond y (Some HtmlFurther) (cond z (Some CodeFurther) None)) ≡ Some GfmTable → ⊥
-    go true y z e = cc
-    go false true z e = cc
-    go false false true e = cc
-    go false false false e = cc
-
+-- one of a table
 pub heads-dark : (options : ParseOptions) (bytes line : List ℕ) (row : Row) (l : LeafName) →
-    (is : f.IsRow options bytes line row) → row.kind ≡ LeafRow l → (leaf l).heads ≡ true →
-    is_blank is.rest.bytes ≡ false
-heads-dark options bytes line row l is kind heads =
-    kind-filled options row.on is.rest l (sym is.kind ∙ kind)
-    (λ i. not-first row.on (i ∙ ap (λ (m : LeafName). Some m) (heads-table l heads)))
+    (is : f.IsRow options bytes line row) → row.kind ≡ LeafRow l → (leaf l).further row.on ≡ true →
+    (leaf l).heads ≡ true → is_blank is.rest.bytes ≡ false
+heads-dark options bytes line row l is kind further heads =
+    line-filled options bytes line row l is kind
+    (subst (λ (m : LeafName). (leaf m).further row.on ≡ true) (heads-table l heads) further)
 
 -- the lines of a leaf behind one: on those of a table something stands
 abbrev pub AreDark : (options : ParseOptions) (bytes : List ℕ) (l : LeafName) (row : Row) (rows : List Row) →
@@ -195,7 +170,7 @@ head-read options bytes line p row next rows at is text are filled on of_text =
       rest = is.rest;
       at = leaf-at options bytes line row is;
       column = is.column;
-      filled = text-dark options bytes line row is text;
+      filled = (text-filled options bytes line row is text).filled;
     }
 
     held : List Kept

@@ -18,7 +18,7 @@ use Rattle.markdown_blocks.proofs.TextProgress.{IsFresh, contained-progress, unl
 use Rattle.markdown_blocks.specs.Change.{is_none, open_behind}
 use Rattle.markdown_blocks.specs.Fronted.{Contained}
 use Rattle.markdown_blocks.specs.HeldLeaf.{IsBuiltLeaf, has_lines, kind_of_leaf, left_by, may_go_on, takes_lazy}
-use Rattle.markdown_blocks.specs.Leaf.Paragraph.{held_of, of_last, open_lines}
+use Rattle.markdown_blocks.specs.Leaf.Paragraph.{held_of, open_lines}
 use Rattle.markdown_blocks.specs.Parsed.{IsBuilt}
 use Rattle.markdown_blocks.specs.Registry.{GfmTable, IsOpenSpan, LeafName, further_of, leaf, text_leaf, turn_leaf}
 use Rattle.markdown_blocks.specs.Rows.{BlankRow, LeafRow, RowKind, TextRow, is_further, is_lazy, is_text, line_behind}

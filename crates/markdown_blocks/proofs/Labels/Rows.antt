@@ -15,7 +15,6 @@ use Rattle.md_definition.specs.Tree.{Block, End}
 use Rattle.md_parts.specs.DefinitionRule.{DefinitionParts}
 use Rattle.md_seam.specs.Events.Nested.{exit, pair}
 use Rattle.md_seam.specs.Events.Spelled.{Around, Reading, add_block, read, role, spelled, unread}
-use Rattle.md_tables.specs.GfmTableLine.{head_line}
 use Rattle.md_seam.proofs.PlacesLemmas.{all-append}
 use Rattle.md_seam.proofs.SpelledLemmas.{Between, read-between, read-from, roles-append}
 use Rattle.markdown_blocks.specs.BlockList.{lines_unread, text_unread, turned_unread}
@@ -26,18 +25,17 @@ use Rattle.markdown_blocks.specs.Rows.{BlankRow, Group, Headed, LeafRow, Lines, 
 use Rattle.markdown_blocks.specs.Rows.{Turned}
 use Rattle.markdown_blocks.specs.Rows.{defined_done, group_events, is_blank_by, leaf_done, leaf_events, span_done}
 use Rattle.markdown_blocks.specs.Rows.{defined_unread, ending_of, groups_events, last_row, lines_done}
-use Rattle.markdown_blocks.specs.Rows.{headed_done, heading_done, row_events, row_line, rows_events, tail_events}
+use Rattle.markdown_blocks.specs.Rows.{headed_done, heading_done, row_events, rows_events, tail_events}
 use Rattle.markdown_blocks.specs.Rows.{text_done, turned_done}
 use Rattle.markdown_blocks.specs.Unread.{headed_lines, unread_group, unread_groups, unread_lines}
-use Rattle.markdown_blocks.proofs.ContentFacts.{content-alone, no_content-append, no_content-label}
+use Rattle.markdown_blocks.proofs.ContentFacts.{content-alone, no_content-label}
 use Rattle.markdown_blocks.proofs.Defined.Facts.{defined-facts}
 use Rattle.markdown_blocks.proofs.Defined.Form.{form_block, form_done}
 use Rattle.markdown_blocks.proofs.Defined.Is.{IsDefined}
 use Rattle.markdown_blocks.proofs.FrontFacts.{LinePrefix}
 use Rattle.markdown_blocks.proofs.FrontNames.{HasFront}
-use Rattle.markdown_blocks.proofs.GfmTable.Head.{head-no_content}
 use Rattle.markdown_blocks.proofs.GroupFacts.{span-block}
-use Rattle.markdown_blocks.proofs.GroupLemmas.{AreGroups, AreLines, spans-quiet, under-quiet}
+use Rattle.markdown_blocks.proofs.GroupLemmas.{AreGroups, AreLines, headed-quiet, spans-quiet, under-quiet}
 use Rattle.markdown_blocks.proofs.GroupsAre.{AreSpan, Begins, IsHead, IsLeft, IsSingle, IsUnder, behind-first}
 use Rattle.markdown_blocks.proofs.GroupsAre.{line-further, line-of, span-begins}
 use Rattle.markdown_blocks.proofs.HeadedTable.{IsHeaded, headed-facts, headed-is, headed_block}
@@ -369,18 +367,11 @@ headed-labelled : (options : ParseOptions) (bytes : List ℕ) (row next : Row) (
 headed-labelled options bytes row next rows head are front quiet =
     let is : IsHeaded options bytes row next rows = headed-is options bytes row next rows head are in
     let last : Row = last_row next rows in
-    let own : List Event = head_line (row_line bytes row) row.first in
-    let line : List Event = tail_events n.LineEnding row in
     let ds : List Event = headed_done bytes row next rows in
     let tail : List Event = tail_events (ending_of last.kind last) last in
     none-labelled bytes (headed_lines bytes row next rows) ((row.front ++ ds) ++ tail)
     (no_content-label wants_content (headed_lines bytes row next rows)
-    (no_content-append wants_content ((row.front ++ own) ++ line) (rows_events (next ∷ rows))
-    (no_content-append wants_content (row.front ++ own) line
-    (no_content-append wants_content row.front own (has_front-no_content wants_content bytes row front)
-    (head-no_content wants_content content-alone (row_line bytes row) row.first))
-    (tail-no_content wants_content n.LineEnding row refl))
-    (spans-quiet options bytes wants_content next rows are quiet content-alone)))
+    (headed-quiet options bytes wants_content row next rows are front quiet content-alone))
     (quiet-append bytes (row.front ++ ds) tail
     (quiet-append bytes row.front ds (front-quiet bytes row front)
     (leaf-quiet bytes ds (Some (headed_block options bytes row next rows is)) refl
