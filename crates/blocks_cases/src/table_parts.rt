@@ -100,7 +100,7 @@ paragraph
   | :-
 
 GFM 4.10 | gfm | gfm_table
-"a|b\n-|-|-\n-|-|-\n-"
+"a|b\n-|-|-\n-|-|-\n-:"
 paragraph
   | a|b
 table 3
@@ -110,7 +110,7 @@ table 3
     cell | -
   delimiter | -|-|-
   row
-    cell | -
+    cell | -:
 
 GFM 4.10 | gfm | gfm_table
 "a\n:-\nb\n\nc\n:-\n:-"
