@@ -1,7 +1,7 @@
 #!/usr/bin/env bash
 # Refuses requests for memory of the programs `blocks` and `events`, as `rt ci` or `rt run` has built them (`out`): on the texts of
-# their stored runs, and on each begin of a text with a byte order mark, headings of both kinds, quotes, a break, nested lists, a fence,
-# HTML, and definitions, in a quote and in front of an underline.
+# their stored runs, and with the argument `gfm` on each begin of a text with a byte order mark, headings of both kinds, quotes, a break,
+# nested lists, a fence, HTML, definitions, in a quote and in front of an underline, and a table.
 #
 # Each text has a run in which nothing is refused, which must end with status 0 and print what is given, or anything where nothing is;
 # and for each request of that run one in which this request is refused (`scripts/refuse.c`). Such a run must end with status 3, say so
@@ -18,7 +18,7 @@ python3 - "$work/refuse.so" blocks 2000 events 2000 <<'PYTHON'
 import os, subprocess, sys
 
 library, *programs = sys.argv[1:]
-WHOLE = b"\xef\xbb\xbf# # a #\nb\n> > c\n> d\ne\n### ##\n***\n- f\n\n  1. g\n     > h\n- i\n> ~~~ j k\n>  l\n>\nm\n<p\nn\n\no\n=\n\n> [P\n> Q]: r 's'\n\n[P]: u\nv\n=\n"
+WHOLE = b"\xef\xbb\xbf# # a #\nb\n> > c\n> d\ne\n### ##\n***\n- f\n\n  1. g\n     > h\n- i\n> ~~~ j k\n>  l\n>\nm\n<p\nn\n\no\n=\n\n> [P\n> Q]: r 's'\n\n[P]: u\nv\n=\nw|x\n-|-\n|y\n"
 OUTLINE = b"""heading 1
   | # a
 paragraph
@@ -69,6 +69,13 @@ definition
   destination | u
 heading 1
   | v
+table 2
+  row
+    cell | w
+    cell | x
+  delimiter | -|-
+  row
+    cell | y
 
 definitions 2
 = p q
@@ -77,11 +84,11 @@ footnotes 0
 """
 
 
-def run(program, text, number):
+def run(command, text, number):
     """The status of a run, what it printed and what it complained of, and whether the request of this number was refused."""
     told, tell = os.pipe()
     named = {"LD_PRELOAD": library, "REFUSE": str(number), "REFUSED_TO": str(tell)}
-    ran = subprocess.run([program], input=text, capture_output=True, env=named, pass_fds=[tell], timeout=60)
+    ran = subprocess.run(command, input=text, capture_output=True, env=named, pass_fds=[tell], timeout=60)
     os.close(tell)
     is_refused = os.read(told, 1) == b"r"
     os.close(told)
@@ -96,12 +103,13 @@ def refused(name):
     if name == "blocks":
         given[WHOLE] = OUTLINE
     for text in [stored, *(WHOLE[:length] for length in range(3, len(WHOLE) + 1))]:
-        right, _ = run(f"{folder}/out/{name}", text, 0)
+        command = [f"{folder}/out/{name}", *([] if text == stored else ["gfm"])]
+        right, _ = run(command, text, 0)
         if right != (0, given.get(text, right[1]), b"") or not right[1]:
             sys.exit(f"{name}, text {text}, nothing refused: status, output and complaint {right}")
         number = 1
         while True:
-            ended, is_refused = run(f"{folder}/out/{name}", text, number)
+            ended, is_refused = run(command, text, number)
             if not is_refused:
                 break
             if ended not in (right, (3, b"", f"{name}: out of memory\n".encode())):

@@ -149,6 +149,11 @@ def fences(count: int, first: str = "", further: str = "") -> str:
     return f"{first}```\n{further}a\n{further}```\n" * count
 
 
+def table(rows: int, columns: int) -> str:
+    """A table of so many columns, with so many rows behind its head."""
+    return "\n".join(part * columns for part in ["|a", "|-", *["|b"] * rows]) + "\n"
+
+
 def code(blank: int, behind: str, first: str = "", empty: str = "", further: str = "") -> str:
     """A line of indented code, so many blank lines and one line more, in containers with these prefixes."""
     return f"{first}    a\n" + f"{empty}\n" * blank + f"{further}{behind}\n"
@@ -209,6 +214,24 @@ GROWING: dict[str, Callable[[int], str]] = {
     "a title of 100,000 lines that is not closed": lambda n: '[a]: b\n"' + "c\n" * 100_000 * n,
 }
 
+# The same, of tables and of lines that are almost some.
+TABLES: dict[str, Callable[[int], str]] = {
+    "a table of 100,000 rows": lambda n: table(100_000 * n, 1),
+    "such a table in a quote": lambda n: "".join(f"> {line}\n" for line in table(100_000 * n, 1).splitlines()),
+    "a table with a row of 100,000 cells": lambda n: "a\n:-\n" + "|b" * 100_000 * n + "\n",
+    "a table of 100,000 columns": lambda n: table(1, 100_000 * n),
+    "400 rows of 400 columns, twice the rows": lambda n: table(400 * n, 400),
+    "400 rows of 400 columns, twice the columns": lambda n: table(400, 400 * n),
+    "a cell of 100,000 words": lambda n: "a\n:-\n" + "b " * 100_000 * n + "\n",
+    "a cell of 100,000 pairs": lambda n: "a\n:-\n" + "\\|" * 100_000 * n + "\n",
+    "100,000 tables without a body": lambda n: "a\n:-\n\n" * 100_000 * n,
+    "100,000 lines of text with a pipe": lambda n: "|a\n" * 100_000 * n,
+    "a table behind 100,000 lines of text": lambda n: "a\n" * 100_000 * n + ":-\n",
+    "100,000 delimiter rows of one cell too many": lambda n: "a|b\n-|-|-\n" * 100_000 * n,
+    "100,000 lines, each a head that the next one refuses": lambda n: "-|-|-\n-|-\n" * 50_000 * n,
+    "a head of 100,000 cells and a delimiter row of one fewer": lambda n: "|a" * 100_000 * n + "\n" + "|-" * (100_000 * n - 1) + "\n",
+}
+
 # What is timed: a part, and how many times it stands.
 TIMED: list[tuple[str, str, list[int]]] = [
     ("MB of paragraphs", PARTS["paragraphs of long lines"] * 8 + "* * *\n\n", [1, 2, 4, 8]),
@@ -217,6 +240,11 @@ TIMED: list[tuple[str, str, list[int]]] = [
     ("headings", "## A heading of a few # words ##\n", [10_000, 20_000, 40_000, 80_000]),
     ("lines in 1,000 quotes", DEEP, [500, 1_000, 2_000, 4_000]),
 ]
+
+
+def arguments(name: str) -> list[str]:
+    """What the program is told of the text of this name: to read tables, where it is about them."""
+    return ["gfm"] if name in TABLES or name == "tables" else []
 
 
 def filled(part: str, size: int) -> str:
@@ -233,11 +261,11 @@ class Program:
         self.path = path
         self.counts: dict[int, int] = {}
 
-    def instructions(self, text: str) -> int:
+    def instructions(self, text: str, told: list[str]) -> int:
         """The instructions from the start of the process to its end."""
-        key = hash(text)
+        key = hash((text, *told))
         if key not in self.counts:
-            command = ["valgrind", "--tool=callgrind", "--callgrind-out-file=/dev/null", self.path]
+            command = ["valgrind", "--tool=callgrind", "--callgrind-out-file=/dev/null", self.path, *told]
             done = subprocess.run(command, input=text.encode(), stdout=subprocess.DEVNULL, stderr=subprocess.PIPE)
             found = re.search(rb"Collected : (\d+)", done.stderr)
             if done.returncode != 0 or not found:
@@ -245,11 +273,11 @@ class Program:
             self.counts[key] = int(found[1])
         return self.counts[key]
 
-    def by_byte(self, text: str) -> float:
+    def by_byte(self, text: str, told: list[str]) -> float:
         """The instructions by byte of text, less those of an empty one."""
-        return (self.instructions(text) - self.instructions("")) / len(text.encode())
+        return (self.instructions(text, told) - self.instructions("", told)) / len(text.encode())
 
-    def run(self, part: str, size: int) -> tuple[float, int]:
+    def run(self, part: str, size: int, told: list[str]) -> tuple[float, int]:
         """The seconds and the most bytes that a run takes on a part again and again, up to this size.
 
         What this script holds when it starts the process counts too, so it keeps no text of that size.
@@ -261,7 +289,7 @@ class Program:
             source.write(block[: size % len(block)])
             source.seek(0)
             start = time.perf_counter()
-            process = subprocess.Popen([self.path], stdin=source, stdout=subprocess.DEVNULL)
+            process = subprocess.Popen([self.path, *told], stdin=source, stdout=subprocess.DEVNULL)
             _, status, usage = os.wait4(process.pid, 0)
             seconds = time.perf_counter() - start
         process.returncode = os.waitstatus_to_exitcode(status)
@@ -283,12 +311,13 @@ def print_cost(program: Program, size: int) -> None:
     """What a byte of text costs, where the text is so long already: of a text less its first half."""
     head("Text", "Instructions a byte", "Memory a byte")
     for name, part in PARTS.items():
+        told = arguments(name)
         half, whole = filled(part, size // 2), filled(part, size // 2) * 2
-        cost = (program.instructions(whole) - program.instructions(half)) / (len(whole) - len(half))
+        cost = (program.instructions(whole, told) - program.instructions(half, told)) / (len(whole) - len(half))
         least = 8 * size
-        while program.run(part, least)[1] < 40 * MEGABYTE and least < 60 * MEGABYTE:
+        while program.run(part, least, told)[1] < 40 * MEGABYTE and least < 60 * MEGABYTE:
             least *= 2
-        memory = (program.run(part, 2 * least)[1] - program.run(part, least)[1]) / least
+        memory = (program.run(part, 2 * least, told)[1] - program.run(part, least, told)[1]) / least
         row(name, f"{cost:.1f}", f"{memory:.1f}")
 
 
@@ -299,11 +328,12 @@ def print_growth(program: Program, size: int) -> None:
     """
     head("Text", "Bytes", "Instructions a byte", "Twice the text")
     texts = {name: (filled(part, size // 4), filled(part, size // 4) * 4, 2) for name, part in PARTS.items()}
-    texts |= {name: (make(1), make(2), 1) for name, make in GROWING.items()}
+    texts |= {name: (make(1), make(2), 1) for name, make in (GROWING | TABLES).items()}
     for name, (once, more, doublings) in texts.items():
-        growth = 2 * (program.by_byte(more) / program.by_byte(once)) ** (1 / doublings)
+        first, last = (program.by_byte(text, arguments(name)) for text in (once, more))
+        growth = 2 * (last / first) ** (1 / doublings)
         mark = "" if growth <= WANTED else " (!)"
-        row(name, f"{len(once):,}", f"{program.by_byte(once):,.1f}", f"{growth:.2f} times{mark}")
+        row(name, f"{len(once):,}", f"{first:,.1f}", f"{growth:.2f} times{mark}")
 
 
 def print_times(program: Program, runs: int) -> None:
@@ -312,7 +342,7 @@ def print_times(program: Program, runs: int) -> None:
     for name, part, counts in TIMED:
         for count in counts:
             size = count * (MEGABYTE if name.startswith("MB") else len(part))
-            ran = [program.run(part, size) for _ in range(runs)]
+            ran = [program.run(part, size, arguments(name)) for _ in range(runs)]
             seconds, held = min(ran)[0], max(held for _, held in ran)
             speed = size / MEGABYTE / seconds
             row(f"{count:,} {name}", f"{seconds:.3f} s", f"{speed:.1f} MB/s", f"{held / 2**20:.0f} MiB")

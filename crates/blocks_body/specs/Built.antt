@@ -7,7 +7,7 @@ use Rattle.md_definition.specs.Meaning.{tree}
 use Rattle.md_definition.specs.Outline.{outline}
 
 -- what is asked for, as far as it is there: block quotes, list items, indented and fenced code, math, HTML,
--- headings, breaks and definitions alone
+-- headings, breaks, tables and definitions alone
 abbrev pub built_from : ParseOptions → ParseOptions
 built_from options = record {
   constructs = record {
@@ -17,7 +17,7 @@ built_from options = record {
     definition = options.constructs.definition;
     frontmatter = false;
     gfm_footnote_definition = false;
-    gfm_table = false;
+    gfm_table = options.constructs.gfm_table;
     heading_atx = options.constructs.heading_atx;
     heading_setext = options.constructs.heading_setext;
     html_flow = options.constructs.html_flow;

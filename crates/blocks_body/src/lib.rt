@@ -13,7 +13,7 @@ use md_program::body::{Body, Outlined};
 use std::alloc::Global;
 
 /// The parser of blocks. Of the constructs it has block quotes, list items, indented and fenced code, math, HTML, headings,
-/// thematic breaks and definitions, and turns the others off.
+/// thematic breaks, tables and definitions, and turns the others off.
 pub struct Blocks;
 
 impl Body for Blocks {
@@ -32,6 +32,7 @@ impl Body for Blocks {
                 code_fenced: options.constructs.code_fenced,
                 code_indented: options.constructs.code_indented,
                 definition: options.constructs.definition,
+                gfm_table: options.constructs.gfm_table,
                 heading_atx: options.constructs.heading_atx,
                 heading_setext: options.constructs.heading_setext,
                 html_flow: options.constructs.html_flow,

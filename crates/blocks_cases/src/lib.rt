@@ -27,13 +27,14 @@ pub mod items;
 pub mod lines;
 pub mod lists;
 pub mod quotes;
+pub mod table_parts;
 pub mod tables;
 pub mod underlines;
 pub mod wrap;
 pub mod wraps;
 
 /// The rows of all modules.
-pub fn all() -> [&'static str; 13] {
+pub fn all() -> [&'static str; 14] {
     [
         lines::rows(),
         breaks::rows(),
@@ -47,6 +48,7 @@ pub fn all() -> [&'static str; 13] {
         items::rows(),
         lists::rows(),
         tables::rows(),
+        table_parts::rows(),
         extensions::rows(),
     ]
 }

@@ -32,6 +32,9 @@ const UNDERLINES: [&str; 6] = ["a", "=", "-", ">", " ", "\n"];
 /// Letters of which definitions and underlines are made, quotes, and lines.
 const DEFINITIONS: [&str; 7] = ["[", "]", ":", "a", "=", "\n", ">"];
 
+/// Letters of which rows and delimiter rows are made, quotes, and lines.
+const TABLES: [&str; 7] = ["a", "|", "-", ":", ">", " ", "\n"];
+
 /// Letters that stand behind a label: marks of destinations and titles, whitespace, and lines.
 const PARTS: [&str; 9] = ["[a]:", "\"", "\\", "(", ")", "<", ">", " ", "\n"];
 
@@ -70,6 +73,7 @@ pub fn try_agree<A: Body, B: Body>(
     try_letters::<A, B>(alloc, &MATH, most, report)?;
     try_letters::<A, B>(alloc, &UNDERLINES, most, report)?;
     try_letters::<A, B>(alloc, &DEFINITIONS, most, report)?;
+    try_letters::<A, B>(alloc, &TABLES, most, report)?;
     try_letters::<A, B>(alloc, &HTML, most.saturating_sub(1), report)?;
     try_letters::<A, B>(alloc, &PARTS, most.saturating_sub(1), report)?;
     try_letters::<A, B>(alloc, &KINDS, most.saturating_sub(2), report)

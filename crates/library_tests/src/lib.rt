@@ -19,3 +19,5 @@ mod runs;
 mod streams;
 #[cfg(test)]
 mod system;
+#[cfg(test)]
+mod tables;

@@ -33,11 +33,10 @@ abbrev pub IsSmall : List ℕ → Type 0
 IsSmall text = length text ≤ (2 ^ 64 - 1) / 8
 
 -- the constructs that are asked for are there: block quotes, list items, indented and fenced code, math, HTML, headings,
--- breaks and definitions alone
+-- breaks, tables and definitions alone
 pub record IsBuilt (options : ParseOptions) : Type 0 where
   pub frontmatter : options.constructs.frontmatter ≡ false
   pub gfm_footnote_definition : options.constructs.gfm_footnote_definition ≡ false
-  pub gfm_table : options.constructs.gfm_table ≡ false
   pub mdx_esm : options.constructs.mdx_esm ≡ false
   pub mdx_expression_flow : options.constructs.mdx_expression_flow ≡ false
   pub mdx_expression_text : options.constructs.mdx_expression_text ≡ false

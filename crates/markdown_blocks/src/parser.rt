@@ -248,8 +248,8 @@ fn behind_mark(mut mark: Vec<Event>, mut body: Vec<Event>) -> Result<Vec<Event>,
 /// Reads a text: its events, and what else is known of it.
 ///
 /// The text has at most `usize::MAX / 8` bytes, and of the constructs block quotes, list items, indented and fenced code,
-/// math, HTML, headings, breaks and definitions alone may be on. A byte order mark in front of the text is taken as such.
-/// An `Err` says that memory ran out; then nothing is handed out.
+/// math, HTML, headings, breaks, tables and definitions alone may be on. A byte order mark in front of the text is taken
+/// as such. An `Err` says that memory ran out; then nothing is handed out.
 pub fn parse<'a>(
     alloc: Global,
     value: &'a str,
