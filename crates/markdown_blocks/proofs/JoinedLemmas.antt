@@ -24,8 +24,8 @@ use Rattle.md_seam.specs.Events.Nested.{enter_link, exit, pair, is_enter, is_exi
 use Rattle.md_definition.specs.State.{Container}
 use Rattle.md_seam.specs.Events.Prefix.{is_prefix}
 use Rattle.markdown_blocks.specs.Change.{ends_of, is_none, open_behind}
-use Rattle.markdown_blocks.specs.Rows.{leaf_behind, BlankRow, Group, Held, Lines, Row, RowKind, Single, TextRow}
-use Rattle.markdown_blocks.specs.Rows.{behind_row, ending_events, ending_of, groups, held_at, inside_of, is_text}
+use Rattle.markdown_blocks.specs.Rows.{BlankRow, Group, Held, Lines, Row, RowKind, Single, TextRow}
+use Rattle.markdown_blocks.specs.Rows.{behind_row, ending_events, ending_of, groups, held_at, inside_of}
 use Rattle.markdown_blocks.specs.Rows.{last_row, leaf_events, onto_groups, row_events, row_events_by}
 use Rattle.markdown_blocks.specs.Rows.{row_kind, rows_at, rows_by, rows_events, tail_events, LeafRow}
 use Rattle.markdown_blocks.specs.Unread.{joined_groups, linked_lines}

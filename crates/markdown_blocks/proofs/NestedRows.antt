@@ -9,7 +9,7 @@ use Rattle.markdown_blocks.proofs.GroupsAre.{begins-behind, blank-ends, first-be
 use Rattle.markdown_blocks.proofs.GroupsAre.{leaf-row-ends, shut-behind, text-head, text-under, turned-alone}
 use Rattle.std.proofs.Common.{◌≡◌, ◌≢◌, ℕ, Bool, true, false, cond, ◌&&◌, List, [], ◌∷◌, ◌++◌, refl, ap, sym, ◌∙◌}
 use Rattle.std.proofs.Common.{append_assoc, append-nil, subst}
-use Rattle.std.specs.Prelude.{IsTrue, Some, None}
+use Rattle.std.specs.Prelude.{IsTrue, Some}
 use Rattle.std.proofs.lemmas.Bool.{and_parts}
 use Rattle.md_engine.specs.declared.configuration.ParseOptions.{ParseOptions}
 use Rattle.md_engine.specs.declared.event.Event.{Event}

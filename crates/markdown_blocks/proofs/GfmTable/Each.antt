@@ -1,6 +1,6 @@
 -- What holds of each event of a line of a table: no part of it is rewritten by a resolver of the registry, none is a
 -- text or an underline, and no content stands in it.
-use Rattle.std.proofs.Common.{◌≡◌, ℕ, Bool, true, false, cond, List, [], ◌∷◌, ◌++◌, refl, ap}
+use Rattle.std.proofs.Common.{ℕ, Bool, cond, List, [], ◌∷◌, ◌++◌, refl, ap}
 use Rattle.std.specs.Prelude.{Some, None}
 use Rattle.md_engine.specs.declared.configuration.ParseOptions.{ParseOptions}
 use Rattle.md_engine.specs.declared.event.Content.{Content}
@@ -17,7 +17,7 @@ use Rattle.md_seam.specs.Events.Nested.{enter_link, exit, pair}
 use Rattle.md_seam.specs.Events.Places.{past_byte, past_text}
 use Rattle.md_seam.specs.Spaces.{small_indent}
 use Rattle.md_tables.specs.DelimiterRule as delimiter
-use Rattle.md_tables.specs.GfmTableLine.{delimiter_adds, delimiter_line, delimiter_runs, row_adds, row_line, row_runs}
+use Rattle.md_tables.specs.GfmTableLine.{delimiter_adds, delimiter_runs, row_adds, row_runs}
 use Rattle.md_tables.specs.Row.{text_link}
 use Rattle.md_tables.specs.RowRule as row
 use Rattle.md_tables.specs.declared.row.Row.TheVariants.{Body}

@@ -1,5 +1,5 @@
 -- A line of a table as a line of a leaf of several: it goes on the text or the table that it meets, and so begins none.
-use Rattle.std.proofs.Common.{◌≡◌, ℕ, true, false, List, [], ◌∷◌, ◌++◌, refl, sym, ap, ◌∙◌, subst, inl, append_assoc}
+use Rattle.std.proofs.Common.{◌≡◌, ℕ, true, false, List, [], ◌∷◌, ◌++◌, refl, sym, ap, subst, inl, append_assoc}
 use Rattle.md_engine.specs.declared.configuration.ParseOptions.{ParseOptions}
 use Rattle.md_engine.specs.declared.event.Event.{Event}
 use Rattle.md_engine.specs.declared.event.Name.TheVariants as n
@@ -18,7 +18,7 @@ use Rattle.md_tables.specs.DelimiterRule as delimiter
 use Rattle.md_tables.specs.GfmTableLine.{delimiter_runs, row_runs}
 use Rattle.md_tables.specs.RowRule as row
 use Rattle.markdown_blocks.specs.Fronted.{rest_line}
-use Rattle.markdown_blocks.specs.Leaf.GfmTable.{may_be_table, table_leaf}
+use Rattle.markdown_blocks.specs.Leaf.GfmTable.{table_leaf}
 use Rattle.markdown_blocks.proofs.EachEvent.{Each, each-append}
 use Rattle.markdown_blocks.proofs.GfmTable.Each.{OfRow, delimiter-bytes, row-bytes}
 use Rattle.markdown_blocks.proofs.SpanLaws.{IsNone, IsSpanned, SpanLaws}
