@@ -1,7 +1,7 @@
 #!/usr/bin/env bash
-# Refuses requests for memory of the programs `blocks` and `events`, as `rt ci` or `rt run` has built them (`out`): on the texts of
-# their stored runs, and with the argument `gfm` on each begin of a text with a byte order mark, headings of both kinds, quotes, a break,
-# nested lists, a fence, HTML, definitions, in a quote and in front of an underline, and a table.
+# Refuses requests for memory of the programs `blocks` and `events`, as `rt ci` or `rt run` has built them (`out`): on the
+# texts of their stored runs, and with the argument `gfm` on each begin of a text with a byte order mark, headings of both
+# kinds, quotes, a break, nested lists, a fence, HTML, definitions, in a quote and in front of an underline, and a table.
 #
 # Each text has a run in which nothing is refused, which must end with status 0 and print what is given, or anything where nothing is;
 # and for each request of that run one in which this request is refused (`scripts/refuse.c`). Such a run must end with status 3, say so
