@@ -25,7 +25,7 @@ MOST: dict[str, tuple[int, int]] = {
     "one long line": (98, 130),
     "headings of some words": (35, 42),
     "setext headings": (35, 21),
-    "quotes of long lines": (35, 512),
+    "quotes of long lines": (34, 512),
     "quotes in quotes in quotes": (32, 512),
     "fences of some words": (39, 5_492),
     "lines of an open fence": (74, 5_492),
