@@ -145,15 +145,15 @@ fn push_head(
 fn begins_chunk(event: &Event) -> bool
     ensures { result ≡ begins_chunk event.now }
 {
-    matches!(event.kind, Kind::Enter) && matches!(event.name, Name::Content)
+    matches!(event.name, Name::Content) && matches!(event.kind, Kind::Enter)
 }
 
 /// Whether a line of a table begins here that goes on the line in front of it.
 fn begins_further_row(event: &Event) -> bool
     ensures { result ≡ begins_further_row event.now }
 {
-    matches!(event.kind, Kind::Enter)
-        && matches!(event.name, Name::GfmTable)
+    matches!(event.name, Name::GfmTable)
+        && matches!(event.kind, Kind::Enter)
         && matches!(event.link, Some(link) if link.previous)
 }
 
