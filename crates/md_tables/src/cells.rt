@@ -44,6 +44,7 @@ pub enum Stage {
 }
 
 /// Which row begins here, if one does.
+#[inline(always)]
 fn begins_row(event: &Event) -> Option<RowKind>
     ensures { result ≡ begins_row event.now }
 {
@@ -55,6 +56,7 @@ fn begins_row(event: &Event) -> Option<RowKind>
 }
 
 /// Whether a row ends here.
+#[inline(always)]
 fn ends_row(event: &Event) -> bool
     ensures { result ≡ ends_row event.now }
 {
@@ -63,6 +65,7 @@ fn ends_row(event: &Event) -> bool
 }
 
 /// Whether a pipe begins here.
+#[inline(always)]
 fn begins_divider(event: &Event) -> bool
     ensures { result ≡ begins_divider event.now }
 {
@@ -70,6 +73,7 @@ fn begins_divider(event: &Event) -> bool
 }
 
 /// Whether a pipe ends here.
+#[inline(always)]
 fn ends_divider(event: &Event) -> bool
     ensures { result ≡ ends_divider event.now }
 {
@@ -77,6 +81,7 @@ fn ends_divider(event: &Event) -> bool
 }
 
 /// Whether these events are of what the cells of a row hold.
+#[inline(always)]
 fn is_inner(kind: RowKind, name: Name) -> bool
     ensures { result ≡ is_inner kind name }
 {
@@ -92,6 +97,7 @@ fn is_inner(kind: RowKind, name: Name) -> bool
 }
 
 /// Whether a piece of what a cell holds begins here.
+#[inline(always)]
 fn begins_inner(kind: RowKind, event: &Event) -> bool
     ensures { result ≡ begins_inner kind event.now }
 {
@@ -99,6 +105,7 @@ fn begins_inner(kind: RowKind, event: &Event) -> bool
 }
 
 /// Whether such a piece ends here.
+#[inline(always)]
 fn ends_inner(kind: RowKind, event: &Event) -> bool
     ensures { result ≡ ends_inner kind event.now }
 {
