@@ -69,6 +69,7 @@ fn next(section: Section, bound: Bound) -> Section
     ensures { result ≡ next section bound }
 {
     match (section, bound) {
+        (_, Bound::Other) => section,
         (Section::Outside, Bound::BeginsTable) => Section::Head,
         (_, Bound::EndsTable) => Section::Outside,
         (Section::Head, Bound::EndsDelimiter) => Section::Between,
@@ -123,6 +124,7 @@ impl Walk {
         ensures stage { self.new.rows.stage ≡ self.old.rows.stage }
     {
         match (self.section, bound) {
+            (_, Bound::Other) => Ok(()),
             (Section::Between, Bound::BeginsRow) => push(
                 &mut self.rows.given,
                 plain(Kind::Enter, Name::GfmTableBody, point),
@@ -143,6 +145,7 @@ impl Walk {
         ensures stage { self.new.rows.stage ≡ self.old.rows.stage }
     {
         match (self.section, bound) {
+            (_, Bound::Other) => Ok(()),
             (Section::Outside, Bound::BeginsTable) => push(
                 &mut self.rows.given,
                 plain(Kind::Enter, Name::GfmTableHead, point),
