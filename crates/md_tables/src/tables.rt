@@ -69,6 +69,7 @@ fn next(section: Section, bound: Bound) -> Section
     ensures { result ≡ next section bound }
 {
     match (section, bound) {
+        (_, Bound::Other) => section,
         (Section::Outside, Bound::BeginsTable) => Section::Head,
         (_, Bound::EndsTable) => Section::Outside,
         (Section::Head, Bound::EndsDelimiter) => Section::Between,
@@ -123,6 +124,7 @@ impl Walk {
         ensures stage { self.new.rows.stage ≡ self.old.rows.stage }
     {
         match (self.section, bound) {
+            (_, Bound::Other) => Ok(()),
             (Section::Between, Bound::BeginsRow) => push(
                 &mut self.rows.given,
                 plain(Kind::Enter, Name::GfmTableBody, point),
@@ -143,6 +145,7 @@ impl Walk {
         ensures stage { self.new.rows.stage ≡ self.old.rows.stage }
     {
         match (self.section, bound) {
+            (_, Bound::Other) => Ok(()),
             (Section::Outside, Bound::BeginsTable) => push(
                 &mut self.rows.given,
                 plain(Kind::Enter, Name::GfmTableHead, point),
@@ -156,14 +159,14 @@ impl Walk {
     }
 
     /// Gives an event itself: in a table, with the cells of its row.
-    fn put(&mut self, event: Event, behind: &[Event]) -> Result<(), Message>
+    fn put(&mut self, event: &Event, behind: &[Event]) -> Result<(), Message>
         ensures given { OnOk result
             (self.new.rows.given.items ≡
             self.old.rows.given.items
-            ++ (with_cells self.old.section self.old.rows.stage event behind.now).given) }
+            ++ (with_cells self.old.section self.old.rows.stage event.now behind.now).given) }
         ensures section { self.new.section ≡ self.old.section }
         ensures stage { OnOk result
-            (self.new.rows.stage ≡ (with_cells self.old.section self.old.rows.stage event behind.now).stage) }
+            (self.new.rows.stage ≡ (with_cells self.old.section self.old.rows.stage event.now behind.now).stage) }
     {
         match self.section {
             Section::Outside => self.rows.pass(event, Stage::Outside),
@@ -172,15 +175,15 @@ impl Walk {
     }
 
     /// Goes on with an event, in front of these.
-    fn step(&mut self, event: Event, behind: &[Event]) -> Result<(), Message>
+    fn step(&mut self, event: &Event, behind: &[Event]) -> Result<(), Message>
         ensures given { OnOk result
             (self.new.rows.given.items ≡
-            self.old.rows.given.items ++ given self.old.section self.old.rows.stage event behind.now) }
-        ensures section { OnOk result (self.new.section ≡ next self.old.section (bound_of event)) }
+            self.old.rows.given.items ++ given self.old.section self.old.rows.stage event.now behind.now) }
+        ensures section { OnOk result (self.new.section ≡ next self.old.section (bound_of event.now)) }
         ensures stage { OnOk result
-            (self.new.rows.stage ≡ (with_cells self.old.section self.old.rows.stage event behind.now).stage) }
+            (self.new.rows.stage ≡ (with_cells self.old.section self.old.rows.stage event.now behind.now).stage) }
     {
-        let bound = bound_of(&event);
+        let bound = bound_of(event);
         self.put_in_front(bound, event.point)?;
         self.put(event, behind)?;
         self.put_behind(bound, event.point)?;
@@ -209,7 +212,7 @@ pub fn put_tables(events: &[Event], spare: Vec<Event>) -> Result<Vec<Event>, Mes
         walk.copy(&events[at..][..many])?;
         at += many;
         if at < events.len() {
-            walk.step(events[at], &events[at + 1..])?;
+            walk.step(&events[at], &events[at + 1..])?;
             at += 1;
         }
     }
