@@ -14,10 +14,10 @@ use Rattle.md_definition.specs.Ascii.{pipe}
 use Rattle.md_seam.specs.Events.Nested.{exit}
 use Rattle.md_seam.specs.OneSpace.{IsOneSpace, spaced}
 use Rattle.md_seam.specs.Spaces.{any_size, sees_white, white_then, white_transition}
-use Rattle.md_seam.specs.Transition.{Transition, exited}
+use Rattle.md_seam.specs.Transition.{Transition, entered_link, exited}
 use Rattle.md_seam.proofs.OneSpace.{HasWhite, space-run}
 use Rattle.md_tables.specs.Row.{Piece, at_break_code, at_break_transition, behind_part, cell_before_transition}
-use Rattle.md_tables.specs.Row.{data_code, data_transition, piece}
+use Rattle.md_tables.specs.Row.{data_code, data_transition, is_text, piece, text_link}
 use Rattle.md_tables.specs.Row.Piece.{Ends, White, Divides, Escapes, Other}
 use Rattle.md_tables.specs.RowWords.{BodyStep, divided}
 use Rattle.md_tables.specs.declared.row.Row.TheVariants.{Body}
@@ -80,6 +80,25 @@ word-ends is_end s v w came seen within one =
     (ap (λ (o : Option ℕ). data_code Body w (piece o)) here)) refl within refl seen) seen
     (within-more w.frames w.events (exit Data w.point ∷ []) within)
     (record { here = one.here; next = one.next; behind = one.behind })
+
+-- A word begins.
+pub word-begins : (is_end : Bool) (s : State) (v w : World) →
+    CameTo BodyStep is_end s v (n.GfmTable its.BodyRowBreak) w → w.current ≡ looks w → Within w →
+    is_text (piece w.current) ≡ true →
+    CameTo BodyStep is_end s v (n.GfmTable its.BodyRowData) (entered_link w Data text_link)
+word-begins is_end s v w came seen within text =
+    then-stays BodyStep is_end s v (n.GfmTable its.BodyRowBreak) (n.GfmTable its.BodyRowData) w
+    (entered_link w Data text_link) came
+    (stepped (at_break_transition Body w) (Retry (n.GfmTable its.BodyRowData)) (entered_link w Data text_link)
+    (begins (piece w.current) text)) refl within refl seen
+  where
+    begins : (p : Piece) → is_text p ≡ true →
+        at_break_code Body w p ≡ record { to = Retry (n.GfmTable its.BodyRowData); world = entered_link w Data text_link }
+    begins Ends e = cc
+    begins White e = cc
+    begins Divides e = cc
+    begins Escapes e = refl
+    begins Other e = refl
 
 -- What a single call leaves.
 part-remains : (w x : World) (y : Bool) → x.point ≡ w.point → x.current ≡ w.current → x.setting ≡ w.setting →

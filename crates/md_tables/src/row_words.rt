@@ -14,9 +14,10 @@ ghost use Rattle.md_engine.specs.declared.state.State.{State};
 ghost use Rattle.md_engine.specs.declared.state.gfm_table.State.{State as TableState};
 ghost use Rattle.md_definition.specs.Ascii.{pipe};
 ghost use Rattle.md_seam.specs.Transition.{IsAt, NeedsNothing};
+ghost use Rattle.md_tables.specs.Row.{is_text, piece};
 ghost use Rattle.md_tables.specs.RowWords.{BodyStep, divided};
 
-use crate::row::{Row, at_break, cell_before, data};
+use crate::row::{Row, TEXT_LINK, at_break, cell_before, data};
 use md_engine::event::Name;
 use md_engine::message::Message;
 use md_engine::or_error;
@@ -44,6 +45,40 @@ fn take_pipe(tokenizer: &mut Tokenizer) -> Result<(), Message>
     tokenizer.exit(Name::GfmTableCellDivider)
 }
 
+/// Whether text stands here.
+fn sees_text(current: Option<u8>) -> bool
+    ensures { result ≡ true → is_text (piece current) ≡ true }
+{
+    match current {
+        None => false,
+        Some(byte) => !matches!(byte, b'\n' | b' ' | b'\t' | b'|'),
+    }
+}
+
+/// Between two parts of a row, or at its end: where a word begins, takes what stands first in it.
+///
+/// ```markdown
+///   | | a |
+///   | | - |
+/// > | | b |
+///     ^ ^ ^
+/// ```
+#[inline(always)]
+fn begin(tokenizer: &mut Tokenizer) -> State
+    requires { IsAt NeedsNothing (StateName.GfmTable TableState.BodyRowBreak) (world tokenizer.old) }
+    ensures runs { result ≢ State.Error →
+        RunsHere BodyStep (StateName.GfmTable TableState.BodyRowBreak) (world tokenizer.old) result
+        (world tokenizer.new) }
+    ensures sees { result ≢ State.Error → SeesOn result (world tokenizer.old) (world tokenizer.new) }
+{
+    if sees_text(tokenizer.current) {
+        or_error!(tokenizer.enter_link(Name::Data, TEXT_LINK));
+        data(tokenizer, Row::Body)
+    } else {
+        at_break(tokenizer, Row::Body)
+    }
+}
+
 /// Behind a pipe: goes on at once behind one space.
 ///
 /// ```markdown
@@ -62,7 +97,7 @@ pub fn cell(tokenizer: &mut Tokenizer) -> State
 {
     if is_one_space(tokenizer) {
         or_error!(take_one_space(tokenizer));
-        at_break(tokenizer, Row::Body)
+        begin(tokenizer)
     } else {
         cell_before(tokenizer, Row::Body)
     }
@@ -91,7 +126,7 @@ pub fn part(tokenizer: &mut Tokenizer) -> State
         }
         cell(tokenizer)
     } else {
-        at_break(tokenizer, Row::Body)
+        begin(tokenizer)
     }
 }
 

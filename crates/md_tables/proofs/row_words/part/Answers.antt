@@ -8,13 +8,12 @@ use Rattle.md_engine.specs.declared.state.State.TheVariants.{Next}
 use Rattle.md_engine.specs.Run.{Runs, reading}
 use Rattle.md_engine.specs.World.{World, looks, world}
 use Rattle.md_engine.proofs.Keeps.{runs-setting}
-use Rattle.md_engine.proofs.Loops.{Came, CameTo, call-runs, came-first, came-runs, reading-same}
+use Rattle.md_engine.proofs.Loops.{Came, CameTo, came-first, came-runs, reading-same}
 use Rattle.md_engine.proofs.StayLemmas.{within-world}
 use Rattle.md_definition.specs.Ascii.{pipe}
 use Rattle.md_leaves.proofs.HeadingWords.{sees-from}
-use Rattle.md_tables.specs.Row.{piece}
 use Rattle.md_tables.specs.RowWords.{BodyStep, divided}
-use Rattle.md_tables.proofs.RowWords.{at_break-remains, pipe-taken, pipe-waits}
+use Rattle.md_tables.proofs.RowWords.{pipe-taken, pipe-waits}
 use Rattle.md_tables.proofs.row_words.part.Goals as goal
 
 on-ok : {T E : Type 0} → (x : Result T E) (P : Type 0) → is_ok x ≡ true → OnOk x P → P
@@ -72,11 +71,3 @@ returns-else-see_or_wait-clause-sees c = λ fine.
     runs-setting BodyStep true (Next (n.GfmTable its.BodyRowCellBefore)) x c.cell.result last
     (c.cell.ensures.runs fine true (Next (n.GfmTable its.BodyRowCellBefore)) x refl (reading-same x seen) (inl refl)) in
     sees-from c.cell.result w x last (c.cell.ensures.sees fine) same (inr next)
-
-pub returns-else-is_pipe-clause-runs : goal.returns-else-is_pipe-clause-runs
-returns-else-is_pipe-clause-runs c = λ fine.
-    let w = world c.args.tokenizer.now in
-    call-runs BodyStep (n.GfmTable its.BodyRowBreak) w c.at_break.result (world c.at_break.new.tokenizer)
-    (c.at_break.ensures.to fine, c.at_break.ensures.world fine) fine
-    (ap (λ (x : World). x.setting) (c.at_break.ensures.world fine) ∙ (at_break-remains w (piece w.current)).1)
-    (within-world c.args.tokenizer.now)
