@@ -66,7 +66,16 @@ cell-begins is_end s v w came seen within one =
     (stepped (cell_before_transition Body w) (Retry (n.SpaceOrTab white.Start)) u
     (ap (λ (o : Option ℕ). behind_part Body w (sees_white o)) here)) refl within refl seen) seen within one
 
--- or behind a word
+-- or none does
+pub cell-stays : (is_end : Bool) (s : State) (v w : World) →
+    CameTo BodyStep is_end s v (n.GfmTable its.BodyRowCellBefore) w → w.current ≡ looks w → Within w →
+    sees_white w.current ≡ false → CameTo BodyStep is_end s v (n.GfmTable its.BodyRowBreak) w
+cell-stays is_end s v w came seen within none =
+    then-stays BodyStep is_end s v (n.GfmTable its.BodyRowCellBefore) (n.GfmTable its.BodyRowBreak) w w came
+    (stepped (cell_before_transition Body w) (Retry (n.GfmTable its.BodyRowBreak)) w
+    (ap (λ (x : Bool). behind_part Body w x) none)) refl within refl seen
+
+-- One space stands behind a word, and the next part of the row begins.
 pub word-ends : (is_end : Bool) (s : State) (v w : World) →
     CameTo BodyStep is_end s v (n.GfmTable its.BodyRowData) w → w.current ≡ looks w → Within w → IsOneSpace w →
     CameTo BodyStep is_end s v (n.GfmTable its.BodyRowBreak) (spaced (exited w Data))

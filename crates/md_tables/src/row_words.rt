@@ -24,7 +24,7 @@ use md_engine::or_error;
 use md_engine::state::gfm_table::State as TableState;
 use md_engine::state::{Name as StateName, State};
 use md_engine::tokenizer::Tokenizer;
-use md_seam::space_or_tab::{is_one_space, take_one_space};
+use md_seam::space_or_tab::{is_one_space, is_space_or_tab, take_one_space};
 
 /// Whether a pipe stands here.
 fn is_pipe(current: Option<u8>) -> bool
@@ -79,7 +79,7 @@ fn begin(tokenizer: &mut Tokenizer) -> State
     }
 }
 
-/// Behind a pipe: goes on at once behind one space.
+/// Behind a pipe: goes on at once behind one space or none.
 ///
 /// ```markdown
 ///   | | a |
@@ -98,8 +98,10 @@ pub fn cell(tokenizer: &mut Tokenizer) -> State
     if is_one_space(tokenizer) {
         or_error!(take_one_space(tokenizer));
         begin(tokenizer)
-    } else {
+    } else if is_space_or_tab(tokenizer.current) {
         cell_before(tokenizer, Row::Body)
+    } else {
+        begin(tokenizer)
     }
 }
 
