@@ -70,8 +70,8 @@ fn add_line(all: &mut String, word: Word, text: &str) -> Result<(), AllocError> 
     }
 }
 
-// The events and the outline of a text, with quotes and tables.
-fn read(alloc: Global, text: &str) -> Result<(String, String), Message>
+// Whether a text has these events and this outline, with quotes and tables.
+fn gives(alloc: Global, text: &str, events_want: &str, lines_want: &str) -> Result<bool, Message>
     requires { IsSmall text.now }
 {
     let options = ParseOptions {
@@ -95,20 +95,20 @@ fn read(alloc: Global, text: &str) -> Result<(String, String), Message>
             return Err(Message);
         }
     }
-    Ok((told, shown))
+    Ok(told.trim_end() == events_want && shown.as_str() == lines_want)
 }
 
 // A run that is refused memory answers so, and the next run is given it.
 fn check(rt: &impl Abort, alloc: Global, text: &str, events: &str, lines: &str) {
     assert!(rt; text.len() <= usize::MAX / 8);
-    let both = match read(alloc, text) {
-        Ok(both) => Ok(both),
-        Err(Message) => read(alloc, text),
+    let same = match gives(alloc, text, events, lines) {
+        Ok(same) => Ok(same),
+        Err(Message) => gives(alloc, text, events, lines),
     };
-    assert!(rt;
-        matches!(both, Ok((ref told, ref shown)) if told.trim_end() == events && shown.as_str() == lines),
-        "of {text:?}"
-    );
+    match same {
+        Ok(same) => assert!(rt; same, "of {text:?}"),
+        Err(Message) => panic!(rt; "no memory for {text:?}"),
+    }
 }
 
 // GFM 4.10
