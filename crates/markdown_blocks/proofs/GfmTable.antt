@@ -1,5 +1,6 @@
 -- Tables: a delimiter row, which turns the text in front of it, and further rows: what they come to, and their laws.
 pub mod Trial
+pub mod Calls
 pub mod Cells
 pub mod Each
 pub mod Found

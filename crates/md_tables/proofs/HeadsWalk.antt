@@ -1,10 +1,14 @@
 -- The walk that puts heads in the places of their chunks.
-use Rattle.std.proofs.Common.{◌≡◌, ℕ, ◌+◌, ◌<◌, ◌≤◌, true, false, List, [], ◌∷◌, ◌++◌, drop, get_or, length}
-use Rattle.std.proofs.Common.{sym, ◌∙◌, ap, arith, append-nil, append_assoc, refl}
-use Rattle.std.proofs.lemmas.List.{drop_all, drop_more, length-drop}
+use Rattle.std.proofs.Common.{◌≡◌, ℕ, suc, ◌+◌, ◌<◌, ◌≤◌, Bool, true, false, cond, not, List, [], ◌∷◌, ◌++◌}
+use Rattle.std.proofs.Common.{take, drop, get_or, length, refl, sym, ◌∙◌, ap, subst, arith, append-nil, append_assoc}
+use Rattle.std.specs.List.{prefix_len}
+use Rattle.std.proofs.lemmas.List.{drop-drop, drop_all, drop_more, length-drop}
+use Rattle.std.proofs.lemmas.List.Elements.{All-append, All-drop, All-take}
 use Rattle.md_engine.specs.declared.configuration.ParseOptions.{ParseOptions}
 use Rattle.md_engine.specs.declared.event.Event.{Event}
-use Rattle.md_tables.specs.Heads.{head_line, headed, is_head}
+use Rattle.md_engine.specs.Place.{IsPlaced}
+use Rattle.md_seam.specs.Parts.{ArePlaced}
+use Rattle.md_tables.specs.Heads.{begins_chunk, head_line, headed, is_head}
 
 -- the first event passes where no head begins with it
 pub headed-passes : (bytes : List ℕ) (options : ParseOptions) (e : Event) (es : List Event) → is_head (e ∷ es) ≡ false →
@@ -27,6 +31,53 @@ head-two (e ∷ x ∷ es) is = omega arith
 pub head-within : (events : List Event) (at : ℕ) → is_head (drop at events) ≡ true → at + 1 < length events
 head-within events at is =
     let two = head-two (drop at events) is in omega (arith, two, length-drop at events)
+
+-- no head begins with an event that begins no line of text
+apart-none : (e : Event) (es : List Event) → begins_chunk e ≡ false → is_head (e ∷ es) ≡ false
+apart-none e [] apart = refl
+apart-none e (x ∷ es) apart = rw apart refl
+
+-- so all in front of the next line of text pass
+headed-run : (bytes : List ℕ) (options : ParseOptions) (es : List Event) →
+    headed bytes options es
+    ≡ take (prefix_len (λ e. not (begins_chunk e)) es) es
+    ++ headed bytes options (drop (prefix_len (λ e. not (begins_chunk e)) es) es)
+headed-run bytes options [] = refl
+headed-run bytes options (e ∷ es) = go (begins_chunk e) refl (headed-run bytes options es)
+  where
+    go : (x : Bool) → begins_chunk e ≡ x →
+        headed bytes options es
+        ≡ take (prefix_len (λ e. not (begins_chunk e)) es) es
+        ++ headed bytes options (drop (prefix_len (λ e. not (begins_chunk e)) es) es) →
+        headed bytes options (e ∷ es)
+        ≡ take (cond (not x) (1 + prefix_len (λ e. not (begins_chunk e)) es) 0) (e ∷ es)
+        ++ headed bytes options (drop (cond (not x) (1 + prefix_len (λ e. not (begins_chunk e)) es) 0) (e ∷ es))
+    go true h k = refl
+    go false h k =
+        headed-passes bytes options e es (apart-none e es h) ∙ ap (λ (l : List Event). e ∷ l) k
+        ∙ ap (λ (n : ℕ). take n (e ∷ es) ++ headed bytes options (drop n (e ∷ es)))
+        (let n : ℕ = prefix_len (λ e. not (begins_chunk e)) es in let one : suc n ≡ 1 + n = omega arith in one)
+
+-- behind them
+pub walk-copied : (bytes : List ℕ) (options : ParseOptions) (events given new all : List Event) (at many : ℕ) →
+    new ≡ given ++ take many (drop at events) → many ≡ prefix_len (λ e. not (begins_chunk e)) (drop at events) →
+    given ++ headed bytes options (drop at events) ≡ all → new ++ headed bytes options (drop (at + many) events) ≡ all
+walk-copied bytes options events given new all at many is count so_far =
+    rw is
+    (append_assoc given (take many (drop at events)) (headed bytes options (drop (at + many) events))
+    ∙ ap (λ (l : List Event). given ++ (take many (drop at events) ++ headed bytes options l))
+    (sym (drop-drop many at events))
+    ∙ ap (λ (n : ℕ). given ++ (take n (drop at events) ++ headed bytes options (drop n (drop at events)))) count
+    ∙ ap (λ (l : List Event). given ++ l) (sym (headed-run bytes options (drop at events))) ∙ so_far)
+
+-- where all stand in the text
+pub copied-placed : (bytes : List ℕ) (events given new : List Event) (at many : ℕ) →
+    new ≡ given ++ take many (drop at events) → ArePlaced bytes events → ArePlaced bytes given → ArePlaced bytes new
+copied-placed bytes events given new at many is placed so_far =
+    subst (ArePlaced bytes) (sym is)
+    (All-append (λ (e : Event). IsPlaced bytes e.point) given (take many (drop at events)) so_far
+    (All-take (λ (e : Event). IsPlaced bytes e.point) many (drop at events)
+    (All-drop (λ (e : Event). IsPlaced bytes e.point) at events placed)))
 
 -- behind an event that passes
 pub walk-passed : (bytes : List ℕ) (options : ParseOptions) (events given new all : List Event) (at : ℕ) (d : Event) →

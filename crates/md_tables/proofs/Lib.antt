@@ -1,6 +1,7 @@
 pub mod RowLemmas
 pub mod RowGoods
 pub mod RowSteps
+pub mod RowWords
 pub mod DelimiterGoods
 pub mod DelimiterLemmas
 pub mod DelimiterSteps

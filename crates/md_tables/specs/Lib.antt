@@ -1,5 +1,6 @@
 pub mod Row
 pub mod RowRule
+pub mod RowWords
 pub mod Delimiter
 pub mod DelimiterRule
 pub mod GfmTable

@@ -44,6 +44,7 @@ pub enum Stage {
 }
 
 /// Which row begins here, if one does.
+#[inline(always)]
 fn begins_row(event: &Event) -> Option<RowKind>
     ensures { result ≡ begins_row event.now }
 {
@@ -55,6 +56,7 @@ fn begins_row(event: &Event) -> Option<RowKind>
 }
 
 /// Whether a row ends here.
+#[inline(always)]
 fn ends_row(event: &Event) -> bool
     ensures { result ≡ ends_row event.now }
 {
@@ -63,6 +65,7 @@ fn ends_row(event: &Event) -> bool
 }
 
 /// Whether a pipe begins here.
+#[inline(always)]
 fn begins_divider(event: &Event) -> bool
     ensures { result ≡ begins_divider event.now }
 {
@@ -70,6 +73,7 @@ fn begins_divider(event: &Event) -> bool
 }
 
 /// Whether a pipe ends here.
+#[inline(always)]
 fn ends_divider(event: &Event) -> bool
     ensures { result ≡ ends_divider event.now }
 {
@@ -77,6 +81,7 @@ fn ends_divider(event: &Event) -> bool
 }
 
 /// Whether these events are of what the cells of a row hold.
+#[inline(always)]
 fn is_inner(kind: RowKind, name: Name) -> bool
     ensures { result ≡ is_inner kind name }
 {
@@ -92,6 +97,7 @@ fn is_inner(kind: RowKind, name: Name) -> bool
 }
 
 /// Whether a piece of what a cell holds begins here.
+#[inline(always)]
 fn begins_inner(kind: RowKind, event: &Event) -> bool
     ensures { result ≡ begins_inner kind event.now }
 {
@@ -99,6 +105,7 @@ fn begins_inner(kind: RowKind, event: &Event) -> bool
 }
 
 /// Whether such a piece ends here.
+#[inline(always)]
 fn ends_inner(kind: RowKind, event: &Event) -> bool
     ensures { result ≡ ends_inner kind event.now }
 {
@@ -182,12 +189,12 @@ pub(crate) struct Walk {
 
 impl Walk {
     /// Passes an event as it is.
-    pub(crate) fn pass(&mut self, event: Event, stage: Stage) -> Result<(), Message>
-        ensures given { OnOk result (self.new.given.items ≡ self.old.given.items ++ event ∷ []) }
+    pub(crate) fn pass(&mut self, event: &Event, stage: Stage) -> Result<(), Message>
+        ensures given { OnOk result (self.new.given.items ≡ self.old.given.items ++ event.now ∷ []) }
         ensures stage { self.new.stage ≡ stage }
     {
         self.stage = stage;
-        push(&mut self.given, event)
+        push(&mut self.given, *event)
     }
 
     /// Begins a cell.
@@ -209,9 +216,9 @@ impl Walk {
     }
 
     /// Begins what a cell holds, with this event.
-    fn enter_inner(&mut self, kind: RowKind, event: Event) -> Result<(), Message>
+    fn enter_inner(&mut self, kind: RowKind, event: &Event) -> Result<(), Message>
         ensures given { OnOk result
-            (self.new.given.items ≡ self.old.given.items ++ enter (inner_name kind) event.point ∷ event ∷ []) }
+            (self.new.given.items ≡ self.old.given.items ++ enter (inner_name kind) event.now.point ∷ event.now ∷ []) }
         ensures stage { OnOk result (self.new.stage ≡ Stage.Inner kind) }
     {
         push(
@@ -222,9 +229,9 @@ impl Walk {
     }
 
     /// Ends it, behind this event.
-    fn exit_inner(&mut self, kind: RowKind, event: Event) -> Result<(), Message>
+    fn exit_inner(&mut self, kind: RowKind, event: &Event) -> Result<(), Message>
         ensures given { OnOk result
-            (self.new.given.items ≡ self.old.given.items ++ event ∷ exit (inner_name kind) event.point ∷ []) }
+            (self.new.given.items ≡ self.old.given.items ++ event.now ∷ exit (inner_name kind) event.now.point ∷ []) }
         ensures stage { OnOk result (self.new.stage ≡ Stage.Within kind) }
     {
         self.pass(event, Stage::Within(kind))?;
@@ -235,16 +242,16 @@ impl Walk {
     }
 
     /// Goes on in front of the first cell of a row.
-    fn front(&mut self, kind: RowKind, event: Event) -> Result<(), Message>
+    fn front(&mut self, kind: RowKind, event: &Event) -> Result<(), Message>
         ensures given { OnOk result
-            (self.new.given.items ≡ self.old.given.items ++ (front_step kind event).given) }
-        ensures stage { OnOk result (self.new.stage ≡ (front_step kind event).stage) }
+            (self.new.given.items ≡ self.old.given.items ++ (front_step kind event.now).given) }
+        ensures stage { OnOk result (self.new.stage ≡ (front_step kind event.now).stage) }
     {
-        if begins_divider(&event) {
+        if begins_divider(event) {
             self.enter_cell(kind, event.point)?;
             return self.pass(event, Stage::Within(kind));
         }
-        if begins_inner(kind, &event) {
+        if begins_inner(kind, event) {
             self.enter_cell(kind, event.point)?;
             return self.enter_inner(kind, event);
         }
@@ -252,10 +259,10 @@ impl Walk {
     }
 
     /// Goes on at a pipe in a cell.
-    fn divide(&mut self, kind: RowKind, event: Event, is_last: bool) -> Result<(), Message>
+    fn divide(&mut self, kind: RowKind, event: &Event, is_last: bool) -> Result<(), Message>
         ensures given { OnOk result
-            (self.new.given.items ≡ self.old.given.items ++ (divider_step kind event is_last).given) }
-        ensures stage { OnOk result (self.new.stage ≡ (divider_step kind event is_last).stage) }
+            (self.new.given.items ≡ self.old.given.items ++ (divider_step kind event.now is_last).given) }
+        ensures stage { OnOk result (self.new.stage ≡ (divider_step kind event.now is_last).stage) }
     {
         if is_last {
             return self.pass(event, Stage::Last(kind));
@@ -266,25 +273,25 @@ impl Walk {
     }
 
     /// Goes on in a cell.
-    fn within(&mut self, kind: RowKind, event: Event, behind: &[Event]) -> Result<(), Message>
+    fn within(&mut self, kind: RowKind, event: &Event, behind: &[Event]) -> Result<(), Message>
         ensures given { OnOk result
-            (self.new.given.items ≡ self.old.given.items ++ (within_step kind event behind.now).given) }
-        ensures stage { OnOk result (self.new.stage ≡ (within_step kind event behind.now).stage) }
+            (self.new.given.items ≡ self.old.given.items ++ (within_step kind event.now behind.now).given) }
+        ensures stage { OnOk result (self.new.stage ≡ (within_step kind event.now behind.now).stage) }
     {
-        if begins_divider(&event) {
+        if begins_divider(event) {
             return self.divide(kind, event, is_last(behind));
         }
-        if begins_inner(kind, &event) {
+        if begins_inner(kind, event) {
             return self.enter_inner(kind, event);
         }
         self.pass(event, Stage::Within(kind))
     }
 
     /// Goes on behind a piece of what a cell holds, by whether that goes on.
-    fn piece(&mut self, kind: RowKind, event: Event, goes_on: bool) -> Result<(), Message>
+    fn piece(&mut self, kind: RowKind, event: &Event, goes_on: bool) -> Result<(), Message>
         ensures given { OnOk result
-            (self.new.given.items ≡ self.old.given.items ++ (piece_step kind event goes_on).given) }
-        ensures stage { OnOk result (self.new.stage ≡ (piece_step kind event goes_on).stage) }
+            (self.new.given.items ≡ self.old.given.items ++ (piece_step kind event.now goes_on).given) }
+        ensures stage { OnOk result (self.new.stage ≡ (piece_step kind event.now goes_on).stage) }
     {
         if !goes_on {
             return self.exit_inner(kind, event);
@@ -299,12 +306,12 @@ impl Walk {
     }
 
     /// Goes on in what a cell holds.
-    fn inner(&mut self, kind: RowKind, event: Event, behind: &[Event]) -> Result<(), Message>
+    fn inner(&mut self, kind: RowKind, event: &Event, behind: &[Event]) -> Result<(), Message>
         ensures given { OnOk result
-            (self.new.given.items ≡ self.old.given.items ++ (inner_step kind event behind.now).given) }
-        ensures stage { OnOk result (self.new.stage ≡ (inner_step kind event behind.now).stage) }
+            (self.new.given.items ≡ self.old.given.items ++ (inner_step kind event.now behind.now).given) }
+        ensures stage { OnOk result (self.new.stage ≡ (inner_step kind event.now behind.now).stage) }
     {
-        if ends_inner(kind, &event) {
+        if ends_inner(kind, event) {
             self.piece(kind, event, goes_on(kind, behind))
         } else {
             self.pass(event, Stage::Inner(kind))
@@ -312,11 +319,11 @@ impl Walk {
     }
 
     /// Goes on between two words, of which nothing is given.
-    fn gap(&mut self, event: Event)
+    fn gap(&mut self, event: &Event)
         ensures given { self.new.given.items ≡ self.old.given.items }
-        ensures stage { self.new.stage ≡ (gap_step event).stage }
+        ensures stage { self.new.stage ≡ (gap_step event.now).stage }
     {
-        self.stage = if begins_inner(RowKind::Text, &event) {
+        self.stage = if begins_inner(RowKind::Text, event) {
             Stage::Inner(RowKind::Text)
         } else {
             Stage::Gap
@@ -324,12 +331,12 @@ impl Walk {
     }
 
     /// Goes on in the last pipe of a row.
-    fn last(&mut self, kind: RowKind, event: Event) -> Result<(), Message>
+    fn last(&mut self, kind: RowKind, event: &Event) -> Result<(), Message>
         ensures given { OnOk result
-            (self.new.given.items ≡ self.old.given.items ++ (last_step kind event).given) }
-        ensures stage { OnOk result (self.new.stage ≡ (last_step kind event).stage) }
+            (self.new.given.items ≡ self.old.given.items ++ (last_step kind event.now).given) }
+        ensures stage { OnOk result (self.new.stage ≡ (last_step kind event.now).stage) }
     {
-        if ends_divider(&event) {
+        if ends_divider(event) {
             self.pass(event, Stage::Behind)?;
             self.exit_cell(kind, event.point)
         } else {
@@ -338,23 +345,23 @@ impl Walk {
     }
 
     /// Goes on outside of rows.
-    fn outside(&mut self, event: Event) -> Result<(), Message>
+    fn outside(&mut self, event: &Event) -> Result<(), Message>
         ensures given { OnOk result
-            (self.new.given.items ≡ self.old.given.items ++ (outside_step event (begins_row event)).given) }
-        ensures stage { OnOk result (self.new.stage ≡ (outside_step event (begins_row event)).stage) }
+            (self.new.given.items ≡ self.old.given.items ++ (outside_step event.now (begins_row event.now)).given) }
+        ensures stage { OnOk result (self.new.stage ≡ (outside_step event.now (begins_row event.now)).stage) }
     {
-        match begins_row(&event) {
+        match begins_row(event) {
             Some(kind) => self.pass(event, Stage::Front(kind)),
             None => self.pass(event, Stage::Outside),
         }
     }
 
     /// Goes on in a row, or outside.
-    fn inside(&mut self, event: Event, behind: &[Event]) -> Result<(), Message>
+    fn inside(&mut self, event: &Event, behind: &[Event]) -> Result<(), Message>
         ensures given { OnOk result
             (self.new.given.items ≡
-            self.old.given.items ++ (inside_step self.old.stage event behind.now).given) }
-        ensures stage { OnOk result (self.new.stage ≡ (inside_step self.old.stage event behind.now).stage) }
+            self.old.given.items ++ (inside_step self.old.stage event.now behind.now).given) }
+        ensures stage { OnOk result (self.new.stage ≡ (inside_step self.old.stage event.now behind.now).stage) }
     {
         match self.stage {
             Stage::Outside => self.outside(event),
@@ -371,9 +378,9 @@ impl Walk {
     }
 
     /// Goes on at the end of a row.
-    fn end_row(&mut self, event: Event) -> Result<(), Message>
+    fn end_row(&mut self, event: &Event) -> Result<(), Message>
         ensures given { OnOk result
-            (self.new.given.items ≡ self.old.given.items ++ ends_with self.old.stage event) }
+            (self.new.given.items ≡ self.old.given.items ++ ends_with self.old.stage event.now) }
         ensures stage { OnOk result (self.new.stage ≡ Stage.Outside) }
     {
         if let Stage::Within(kind) = self.stage {
@@ -383,12 +390,12 @@ impl Walk {
     }
 
     /// Goes on with an event, in front of these.
-    pub(crate) fn step(&mut self, event: Event, behind: &[Event]) -> Result<(), Message>
+    pub(crate) fn step(&mut self, event: &Event, behind: &[Event]) -> Result<(), Message>
         ensures given { OnOk result
-            (self.new.given.items ≡ self.old.given.items ++ (step self.old.stage event behind.now).given) }
-        ensures stage { OnOk result (self.new.stage ≡ (step self.old.stage event behind.now).stage) }
+            (self.new.given.items ≡ self.old.given.items ++ (step self.old.stage event.now behind.now).given) }
+        ensures stage { OnOk result (self.new.stage ≡ (step self.old.stage event.now behind.now).stage) }
     {
-        if ends_row(&event) {
+        if ends_row(event) {
             self.end_row(event)
         } else {
             self.inside(event, behind)

@@ -4,7 +4,8 @@
 // the states of a head row. The walk looks at each event as it passes it, and else at most once from the line of text
 // in front of it. So it is linear.
 
-ghost use Rattle.std.specs.Prelude.{◌≡◌, ◌≢◌, ◌++◌, IfOk, IfSome, None, []};
+ghost use Rattle.std.specs.Prelude.{◌≡◌, ◌≢◌, ◌≤◌, ◌++◌, IfOk, IfSome, None, [], length, not};
+ghost use Rattle.std.specs.List.{prefix_len};
 ghost use Rattle.std.specs.Option.{option_map};
 ghost use Rattle.md_engine.specs.Found.{found_in};
 ghost use Rattle.md_engine.specs.Place.{IsPlaced};
@@ -30,6 +31,7 @@ use md_engine::stay::Stay;
 use md_engine::subtokenize::Subresult;
 use md_engine::table::{Table, flush, push as feed};
 use md_engine::tokenizer::Tokenizer;
+use md_seam::moving::append;
 use md_seam::names::is_block;
 use md_seam::space_or_tab;
 use plain_grammars::memory::push;
@@ -143,15 +145,15 @@ fn push_head(
 fn begins_chunk(event: &Event) -> bool
     ensures { result ≡ begins_chunk event.now }
 {
-    matches!(event.kind, Kind::Enter) && matches!(event.name, Name::Content)
+    matches!(event.name, Name::Content) && matches!(event.kind, Kind::Enter)
 }
 
 /// Whether a line of a table begins here that goes on the line in front of it.
 fn begins_further_row(event: &Event) -> bool
     ensures { result ≡ begins_further_row event.now }
 {
-    matches!(event.kind, Kind::Enter)
-        && matches!(event.name, Name::GfmTable)
+    matches!(event.name, Name::GfmTable)
+        && matches!(event.kind, Kind::Enter)
         && matches!(event.link, Some(link) if link.previous)
 }
 
@@ -191,6 +193,19 @@ pub fn has_delimiter(events: &[Event]) -> bool
     events.iter().any(begins_further_row)
 }
 
+/// How many events stand in front of the first line of text.
+fn until_chunk(events: &[Event]) -> usize
+    ensures value { result ≡ prefix_len (λ e. not (begins_chunk e)) events.now }
+    ensures within { result ≤ length events.now }
+{
+    for (at, event) in events.iter().enumerate() {
+        if begins_chunk(event) {
+            return at;
+        }
+    }
+    events.len()
+}
+
 /// The events with each head in the place of its chunk, written into `spare`, which is empty.
 pub fn put_heads(
     alloc: Global,
@@ -207,11 +222,14 @@ pub fn put_heads(
     let mut given = spare;
     let mut at = 0;
     while at < events.len() {
+        let many = until_chunk(&events[at..]);
+        append(&mut given, &events[at..][..many])?;
+        at += many;
         if is_head(&events[at..]) {
             let (first, after) = (events[at].point, events[at + 1].point);
             given = push_head(alloc, bytes, options, first, after, given)?;
             at += 2;
-        } else {
+        } else if at < events.len() {
             push(&mut given, events[at])?;
             at += 1;
         }

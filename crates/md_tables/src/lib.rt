@@ -6,4 +6,5 @@ pub mod delimiter;
 pub mod gfm_table;
 pub mod heads;
 pub mod row;
+pub mod row_words;
 pub mod tables;

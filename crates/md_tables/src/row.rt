@@ -29,7 +29,7 @@ use md_leaves::further::FURTHER;
 use md_seam::space_or_tab::{is_space_or_tab, space_or_tab};
 
 /// What is text of a cell is read later.
-const TEXT_LINK: Link = Link {
+pub(crate) const TEXT_LINK: Link = Link {
     previous: false,
     next: false,
     content: Content::Text,

@@ -20,7 +20,7 @@ ghost use Rattle.md_tables.specs.Tabled.{behind, given, in_front, bound_of, next
 
 use crate::cells;
 use crate::cells::{Stage, plain};
-use md_engine::event::{Event, Kind, Name, Point};
+use md_engine::event::{Event, Kind, Name};
 use md_engine::message::Message;
 use md_engine::subtokenize::Subresult;
 use md_engine::tokenizer::Tokenizer;
@@ -55,11 +55,11 @@ pub enum Section {
 fn bound_of(event: &Event) -> Bound
     ensures { result ≡ bound_of event.now }
 {
-    match (event.kind, event.name) {
-        (Kind::Enter, Name::GfmTable) => Bound::BeginsTable,
-        (Kind::Exit, Name::GfmTable) => Bound::EndsTable,
-        (Kind::Enter, Name::GfmTableRow) => Bound::BeginsRow,
-        (Kind::Exit, Name::GfmTableDelimiterRow) => Bound::EndsDelimiter,
+    match (event.name, event.kind) {
+        (Name::GfmTable, Kind::Enter) => Bound::BeginsTable,
+        (Name::GfmTable, Kind::Exit) => Bound::EndsTable,
+        (Name::GfmTableRow, Kind::Enter) => Bound::BeginsRow,
+        (Name::GfmTableDelimiterRow, Kind::Exit) => Bound::EndsDelimiter,
         _ => Bound::Other,
     }
 }
@@ -69,6 +69,7 @@ fn next(section: Section, bound: Bound) -> Section
     ensures { result ≡ next section bound }
 {
     match (section, bound) {
+        (_, Bound::Other) => section,
         (Section::Outside, Bound::BeginsTable) => Section::Head,
         (_, Bound::EndsTable) => Section::Outside,
         (Section::Head, Bound::EndsDelimiter) => Section::Between,
@@ -116,54 +117,56 @@ impl Walk {
     }
 
     /// Begins or ends the body in front of an event.
-    fn put_in_front(&mut self, bound: Bound, point: Point) -> Result<(), Message>
+    fn put_in_front(&mut self, bound: Bound, event: &Event) -> Result<(), Message>
         ensures given { OnOk result
-            (self.new.rows.given.items ≡ self.old.rows.given.items ++ in_front self.old.section bound point) }
+            (self.new.rows.given.items ≡ self.old.rows.given.items ++ in_front self.old.section bound event.now.point) }
         ensures section { self.new.section ≡ self.old.section }
         ensures stage { self.new.rows.stage ≡ self.old.rows.stage }
     {
         match (self.section, bound) {
+            (_, Bound::Other) => Ok(()),
             (Section::Between, Bound::BeginsRow) => push(
                 &mut self.rows.given,
-                plain(Kind::Enter, Name::GfmTableBody, point),
+                plain(Kind::Enter, Name::GfmTableBody, event.point),
             ),
             (Section::Body, Bound::EndsTable) => push(
                 &mut self.rows.given,
-                plain(Kind::Exit, Name::GfmTableBody, point),
+                plain(Kind::Exit, Name::GfmTableBody, event.point),
             ),
             _ => Ok(()),
         }
     }
 
     /// Begins or ends the head behind an event.
-    fn put_behind(&mut self, bound: Bound, point: Point) -> Result<(), Message>
+    fn put_behind(&mut self, bound: Bound, event: &Event) -> Result<(), Message>
         ensures given { OnOk result
-            (self.new.rows.given.items ≡ self.old.rows.given.items ++ behind self.old.section bound point) }
+            (self.new.rows.given.items ≡ self.old.rows.given.items ++ behind self.old.section bound event.now.point) }
         ensures section { self.new.section ≡ self.old.section }
         ensures stage { self.new.rows.stage ≡ self.old.rows.stage }
     {
         match (self.section, bound) {
+            (_, Bound::Other) => Ok(()),
             (Section::Outside, Bound::BeginsTable) => push(
                 &mut self.rows.given,
-                plain(Kind::Enter, Name::GfmTableHead, point),
+                plain(Kind::Enter, Name::GfmTableHead, event.point),
             ),
             (Section::Head, Bound::EndsDelimiter) => push(
                 &mut self.rows.given,
-                plain(Kind::Exit, Name::GfmTableHead, point),
+                plain(Kind::Exit, Name::GfmTableHead, event.point),
             ),
             _ => Ok(()),
         }
     }
 
     /// Gives an event itself: in a table, with the cells of its row.
-    fn put(&mut self, event: Event, behind: &[Event]) -> Result<(), Message>
+    fn put(&mut self, event: &Event, behind: &[Event]) -> Result<(), Message>
         ensures given { OnOk result
             (self.new.rows.given.items ≡
             self.old.rows.given.items
-            ++ (with_cells self.old.section self.old.rows.stage event behind.now).given) }
+            ++ (with_cells self.old.section self.old.rows.stage event.now behind.now).given) }
         ensures section { self.new.section ≡ self.old.section }
         ensures stage { OnOk result
-            (self.new.rows.stage ≡ (with_cells self.old.section self.old.rows.stage event behind.now).stage) }
+            (self.new.rows.stage ≡ (with_cells self.old.section self.old.rows.stage event.now behind.now).stage) }
     {
         match self.section {
             Section::Outside => self.rows.pass(event, Stage::Outside),
@@ -172,18 +175,18 @@ impl Walk {
     }
 
     /// Goes on with an event, in front of these.
-    fn step(&mut self, event: Event, behind: &[Event]) -> Result<(), Message>
+    fn step(&mut self, event: &Event, behind: &[Event]) -> Result<(), Message>
         ensures given { OnOk result
             (self.new.rows.given.items ≡
-            self.old.rows.given.items ++ given self.old.section self.old.rows.stage event behind.now) }
-        ensures section { OnOk result (self.new.section ≡ next self.old.section (bound_of event)) }
+            self.old.rows.given.items ++ given self.old.section self.old.rows.stage event.now behind.now) }
+        ensures section { OnOk result (self.new.section ≡ next self.old.section (bound_of event.now)) }
         ensures stage { OnOk result
-            (self.new.rows.stage ≡ (with_cells self.old.section self.old.rows.stage event behind.now).stage) }
+            (self.new.rows.stage ≡ (with_cells self.old.section self.old.rows.stage event.now behind.now).stage) }
     {
-        let bound = bound_of(&event);
-        self.put_in_front(bound, event.point)?;
+        let bound = bound_of(event);
+        self.put_in_front(bound, event)?;
         self.put(event, behind)?;
-        self.put_behind(bound, event.point)?;
+        self.put_behind(bound, event)?;
         self.section = next(self.section, bound);
         Ok(())
     }
@@ -209,7 +212,7 @@ pub fn put_tables(events: &[Event], spare: Vec<Event>) -> Result<Vec<Event>, Mes
         walk.copy(&events[at..][..many])?;
         at += many;
         if at < events.len() {
-            walk.step(events[at], &events[at + 1..])?;
+            walk.step(&events[at], &events[at + 1..])?;
             at += 1;
         }
     }

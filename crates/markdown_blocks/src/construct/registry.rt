@@ -63,7 +63,7 @@ use md_leaves::{heading_atx, heading_setext, thematic_break, underlines};
 use md_lines::{code_indented, raw_flow};
 use md_rich::html_flow;
 use md_seam::space_or_tab::look_behind;
-use md_tables::{gfm_table, heads, tables};
+use md_tables::{gfm_table, heads, row_words, tables};
 
 /// The state of the document in front of the first container that may open.
 #[inline(always)]
@@ -633,6 +633,23 @@ fn call_heading(tokenizer: &mut Tokenizer, state: HeadingState) -> State
     }
 }
 
+/// Calls a state of a table; parts of its body are taken at once.
+#[inline(always)]
+fn call_table(tokenizer: &mut Tokenizer, state: TableState) -> State
+    requires current { (world tokenizer.old).current ≡ looks (world tokenizer.old) }
+    requires stands { stands flow_table_scheme (world tokenizer.old) (State.Next (StateName.GfmTable state)) }
+    ensures runs { result ≢ State.Error →
+        RunsHere (FlowStep (λ target other. ⟦<ResolveName as PartialEq>⟧.eq other target)) (StateName.GfmTable state)
+        (world tokenizer.old) result (world tokenizer.new) }
+    ensures sees { result ≢ State.Error → SeesOn result (world tokenizer.old) (world tokenizer.new) }
+{
+    match state {
+        TableState::BodyRowBreak => row_words::part(tokenizer),
+        TableState::BodyRowData => row_words::word(tokenizer),
+        _ => call(tokenizer, StateName::GfmTable(state)),
+    }
+}
+
 /// The same, where a construct may take several states in one call.
 #[inline(always)]
 pub fn call_at_once(tokenizer: &mut Tokenizer, name: StateName) -> State
@@ -646,6 +663,7 @@ pub fn call_at_once(tokenizer: &mut Tokenizer, name: StateName) -> State
 {
     match name {
         StateName::HeadingAtx(state) => call_heading(tokenizer, state),
+        StateName::GfmTable(state) => call_table(tokenizer, state),
         _ => call(tokenizer, name),
     }
 }

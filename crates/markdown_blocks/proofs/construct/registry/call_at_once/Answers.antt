@@ -27,6 +27,17 @@ returns-in-HeadingAtx c =
       sees = c.call_heading.ensures.sees;
     }
 
+pub returns-in-GfmTable : goal.returns-in-GfmTable
+returns-in-GfmTable c =
+    let w = world c.args.tokenizer.now in
+    let w' = world c.call_table.new.tokenizer in
+    record {
+      runs = λ fine.
+          subst (λ (x : StateName). RunsHere (FlowStep is_name) x w c.call_table.result w') (sym c.in-GfmTable.is)
+          (c.call_table.ensures.runs fine);
+      sees = c.call_table.ensures.sees;
+    }
+
 pub returns-in_default : goal.returns-in_default
 returns-in_default c =
     let w = world c.args.tokenizer.now in
